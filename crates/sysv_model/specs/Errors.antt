@@ -1,0 +1,31 @@
+-- The refusals of this profile, by the names of POSIX.1-2017, errno.h; the numbers are those that
+-- stand on the wire.
+use Rattle.std.specs.Prelude.{ℕ, List, codes}
+use Rattle.sysv_model.specs.declared.errno.Errno.{Errno}
+use Rattle.sysv_model.specs.declared.errno.Errno.TheVariants.{EPERM, ENOENT, E2BIG, EAGAIN, EACCES, EEXIST, EINVAL, ENOSPC, ENOMSG, EIDRM, EOVERFLOW}
+
+abbrev pub number_of : Errno → ℕ
+number_of EPERM = 1
+number_of ENOENT = 2
+number_of E2BIG = 7
+number_of EAGAIN = 11
+number_of EACCES = 13
+number_of EEXIST = 17
+number_of EINVAL = 22
+number_of ENOSPC = 28
+number_of ENOMSG = 42
+number_of EIDRM = 43
+number_of EOVERFLOW = 75
+
+abbrev pub name_of : Errno → List ℕ
+name_of EPERM = codes "EPERM"
+name_of ENOENT = codes "ENOENT"
+name_of E2BIG = codes "E2BIG"
+name_of EAGAIN = codes "EAGAIN"
+name_of EACCES = codes "EACCES"
+name_of EEXIST = codes "EEXIST"
+name_of EINVAL = codes "EINVAL"
+name_of ENOSPC = codes "ENOSPC"
+name_of ENOMSG = codes "ENOMSG"
+name_of EIDRM = codes "EIDRM"
+name_of EOVERFLOW = codes "EOVERFLOW"

@@ -1,0 +1,85 @@
+-- The history of a slot: an entry for each turn at it, in order. An entry says who made the turn,
+-- the call with its arguments and moment, and the reply. This profile's nine calls serve msgget,
+-- msgsnd, msgrcv and msgctl of POSIX.1-2017.
+use Rattle.std.specs.Prelude.{ℕ, ℤ, Bool, true, false, List, [], ◌∷◌, ◌++◌, Option, count_by}
+use Rattle.sysv_model.specs.declared.errno.Errno.{Errno}
+use Rattle.sysv_model.specs.declared.cred.Cred.{Cred}
+use Rattle.sysv_model.specs.declared.flags.Flags.{Flags}
+use Rattle.sysv_model.specs.declared.attributes.Stat.{Stat}
+use Rattle.sysv_model.specs.declared.attributes.SetTo.{SetTo}
+use Rattle.sysv_model.specs.declared.attributes.Row.{Row}
+use Rattle.sysv_model.specs.Message.{Message}
+use Rattle.sysv_model.specs.Selector.{Selector}
+
+-- who makes a turn: the start-th call of an actor of a world, or the seat with that number of a
+-- pass on threads
+pub data Who : Type 0 where
+  Actor : (actor start : ℕ) → Who
+  Seat : (number : ℕ) → Who
+
+-- the calls, with what they are given
+pub data Call : Type 0 where
+  Install : (id key : ℤ) (cred : Cred) (mode now : ℕ) → Call
+  Probe : (id : ℤ) (cred : Cred) (flags : Flags) → Call
+  Look : (id : ℤ) (cred : Cred) (size : ℕ) → Call
+  Place : (id : ℤ) (cred : Cred) (mtype : ℤ) (bytes : List ℕ) (now : ℕ) → Call
+  Take : (id : ℤ) (cred : Cred) (selector : Selector) (size : ℕ) (noerror : Bool) (now : ℕ) → Call
+  ReadStat : (id : ℤ) (cred : Cred) → Call
+  Set : (id : ℤ) (cred : Cred) (to : SetTo) (now : ℕ) → Call
+  Remove : (id : ℤ) (cred : Cred) → Call
+  ReadRow : Call
+
+-- the replies of all calls; which of them a call may have is for the legal reply to say
+pub data Reply : Type 0 where
+  Installed : (made : Bool) → Reply
+  Gone : Reply
+  Denied : Reply
+  Granted : Reply
+  Full : (freed : ℕ) → Reply
+  Fits : Reply
+  Accepted : (number : ℕ) → Reply
+  NoMatch : (arrived : ℕ) → Reply
+  TooLong : Reply
+  Taken : (message : Message) → Reply
+  Told : (stat : Stat) → Reply
+  Done : Reply
+  Discarded : (messages : List Message) → Reply
+  Refused : (why : Errno) → Reply
+  Shown : (row : Option Row) → Reply
+
+-- one turn
+pub record Entry : Type 0 where
+  pub who : Who
+  pub call : Call
+  pub reply : Reply
+
+abbrev pub History : Type 0
+History = List Entry
+
+-- h with one more turn
+abbrev pub then_turn : History → Who → Call → Reply → History
+then_turn h who call reply = h ++ record { who = who; call = call; reply = reply } ∷ []
+
+-- a turn that what waits for a message has to hear of: a message was accepted, or the queue was
+-- changed or removed
+abbrev pub announces_arrival : Call → Reply → Bool
+announces_arrival (Place id cred mtype bytes now) (Accepted number) = true
+announces_arrival (Set id cred to now) Done = true
+announces_arrival (Remove id cred) (Discarded messages) = true
+announces_arrival call reply = false
+
+-- a turn that what waits for room has to hear of: a message was taken, or the queue was changed or
+-- removed
+abbrev pub announces_room : Call → Reply → Bool
+announces_room (Take id cred selector size noerror now) (Taken message) = true
+announces_room (Set id cred to now) Done = true
+announces_room (Remove id cred) (Discarded messages) = true
+announces_room call reply = false
+
+-- the arrived count and the freed count: how many such turns there were, over all the queues that
+-- the slot has held
+abbrev pub arrived : History → ℕ
+arrived h = count_by (λ (e : Entry). announces_arrival e.call e.reply) h
+
+abbrev pub freed : History → ℕ
+freed h = count_by (λ (e : Entry). announces_room e.call e.reply) h

@@ -1,0 +1,6 @@
+pub mod Errors
+pub mod Message
+pub mod Selector
+pub mod History
+pub mod Live
+pub mod Waiting

@@ -1,0 +1,58 @@
+-- The live queue of a history: the identifier under which it lives and its attributes, which are
+-- what the last install that made one and the later granted sets, places and takes left
+-- (POSIX.1-2017, msgget, msgsnd, msgrcv and msgctl, each DESCRIPTION).
+use Rattle.std.specs.Prelude.{◌≡◌, ℕ, ℤ, pos, ◌%◌, true, List, [], ◌∷◌, Option, Some, None, option_map, fold, IfSome}
+use Rattle.sysv_model.specs.declared.cred.Cred.{Cred}
+use Rattle.sysv_model.specs.declared.attributes.Attributes.{Attributes}
+use Rattle.sysv_model.specs.declared.attributes.SetTo.{SetTo}
+use Rattle.sysv_model.specs.History.{Call, Install, Probe, Look, Place, Take, ReadStat, Set, Remove, ReadRow, Reply, Installed, Gone, Denied, Granted, Full, Fits, Accepted, NoMatch, TooLong, Taken, Told, Done, Discarded, Refused, Shown, Entry, History}
+
+-- a new queue: owner and creator are the caller, no one has sent or received, ctime is now, and the
+-- limit is this profile's 16,384 bytes
+abbrev pub created : ℤ → ℤ → Cred → ℕ → ℕ → Attributes
+created id key cred mode now = record {
+  id = id;
+  key = key;
+  perm = record { uid = cred.uid; gid = cred.gid; cuid = cred.uid; cgid = cred.gid; mode = mode % 512 };
+  qbytes = 16384;
+  lspid = 0;
+  lrpid = 0;
+  stime = 0;
+  rtime = 0;
+  ctime = now;
+}
+
+-- the queue after a send by this process, after a receive by this process, and after a set
+abbrev pub sent_to : Cred → ℕ → Attributes → Attributes
+sent_to cred now a = record a { lspid = cred.pid; stime = now }
+
+abbrev pub received_from : Cred → ℕ → Attributes → Attributes
+received_from cred now a = record a { lrpid = cred.pid; rtime = now }
+
+abbrev pub changed_to : SetTo → ℕ → Attributes → Attributes
+changed_to to now a = record a {
+  perm = record { uid = to.uid; gid = to.gid; cuid = a.perm.cuid; cgid = a.perm.cgid; mode = to.mode % 512 };
+  qbytes = to.qbytes;
+  ctime = now;
+}
+
+-- the live queue after one more turn
+abbrev pub live_after : Option Attributes → Call → Reply → Option Attributes
+live_after live (Install id key cred mode now) (Installed true) = Some (created id key cred mode now)
+live_after live (Place id cred mtype bytes now) (Accepted number) = option_map (sent_to cred now) live
+live_after live (Take id cred selector size noerror now) (Taken message) = option_map (received_from cred now) live
+live_after live (Set id cred to now) Done = option_map (changed_to to now) live
+live_after live (Remove id cred) (Discarded messages) = None
+live_after live call reply = live
+
+-- the live queue of a history
+abbrev pub live : History → Option Attributes
+live h = fold (λ (old : Option Attributes) (e : Entry). live_after old e.call e.reply) None h
+
+-- the identifier names the live queue
+abbrev pub HasId : Option Attributes → ℤ → Type 0
+HasId None id = ⊥
+HasId (Some a) id = a.id ≡ id
+
+abbrev pub IsLive : History → ℤ → Type 0
+IsLive h id = HasId (live h) id

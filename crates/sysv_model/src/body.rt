@@ -1,0 +1,70 @@
+ghost use Rattle.std.specs.Prelude.{◌≡◌, ◌+◌, ◌<◌, ◌≤◌, [], ◌++◌, length, slice_get, Some, IfOk, true, false, if◌then◌else◌};
+
+use crate::limits::BODY_ROOM;
+use crate::no_memory::NoMemory;
+use std::alloc::Global;
+use std::marker::Model;
+
+/// The text of one message: a list of at most 8,256 bytes, with room for all of them from the
+/// start, so that nothing but `open` takes memory.
+#[derive(Drop)]
+pub struct Body {
+    bytes: Vec<u8>,
+}
+
+impl Model for Body {
+    ghost use Rattle.std.specs.Prelude.{List, ℕ, ◌≤◌, vec_len, vec_capacity};
+    ghost use Rattle.std.specs.Coded.{coded_list, coded_ℕ};
+
+    ghost Value = { List ℕ };
+
+    ghost view = { λ b. b.bytes.items };
+
+    ghost invariant = { λ b. (vec_len b.bytes ≤ 8256) × (8256 ≤ vec_capacity b.bytes) };
+}
+
+impl Body {
+    /// An empty body with room for 8,256 bytes. `NoMemory` where the memory for it is refused.
+    pub fn open(alloc: Global) -> Result<Body, NoMemory>
+        ensures { IfOk result (λ body. body ≡ []) }
+    {
+        let bytes = Vec::with_capacity(alloc, BODY_ROOM).map_err(|_| NoMemory)?;
+        Ok(Body { bytes })
+    }
+
+    /// Forgets every byte, and keeps the room.
+    pub fn clear(&mut self)
+        ensures { self.new ≡ [] }
+    {
+        self.bytes.clear();
+    }
+
+    /// Adds a piece at the end if there is room for all of it; `false`, with nothing changed, where
+    /// the bytes would be more than 8,256.
+    pub fn push_piece(&mut self, piece: &[u8]) -> bool
+        ensures fits { length self.old + length piece.now ≤ 8256 → result ≡ true }
+        ensures refused { 8256 < length self.old + length piece.now → result ≡ false }
+        ensures after { self.new ≡ (if result then self.old ++ piece.now else self.old) }
+    {
+        if piece.len() > BODY_ROOM - self.bytes.len() {
+            return false;
+        }
+        self.bytes.extend_from_slice(piece).is_ok()
+    }
+
+    /// The number of bytes, 0 to 8,256.
+    pub fn len(&self) -> usize
+        ensures value { result ≡ length self.now }
+        ensures room { result ≤ 8256 }
+    {
+        self.bytes.len()
+    }
+
+    /// The byte at `i`, counted from 0.
+    pub fn byte(&self, i: usize) -> u8
+        requires { i < length self.now }
+        ensures { slice_get self.now i ≡ Some result }
+    {
+        self.bytes[i]
+    }
+}

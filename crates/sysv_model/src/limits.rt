@@ -1,0 +1,22 @@
+//! The limits of this profile. The standard leaves each of them to the system.
+
+/// The key with which every `msgget` makes a queue of its own (`sys/ipc.h`).
+pub const IPC_PRIVATE: i32 = 0;
+
+/// The most bytes of text that a message may have.
+pub const MESSAGE_BYTES: usize = 8192;
+
+/// The bytes for which a `Body` has room: what the longest request can carry.
+pub const BODY_ROOM: usize = 8256;
+
+/// The most messages that wait on one queue.
+pub const QUEUE_MESSAGES: usize = 256;
+
+/// `msg_qbytes` of a new queue.
+pub const QBYTES_AT_CREATION: u32 = 16384;
+
+/// The greatest `msg_qbytes` that `IPC_SET` may give a queue.
+pub const QBYTES_MOST: u32 = 65536;
+
+/// The number of steps, turns or advances at which a count is worn out.
+pub const WORN: u64 = 1 << 62;

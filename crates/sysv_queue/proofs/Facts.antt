@@ -1,0 +1,203 @@
+-- What holds of every legal history, by which one more turn is understood.
+use Rattle.std.proofs.Common.{◌≡◌, ℕ, zero, suc, ℤ, ◌+◌, ◌<◌, Bool, true, false, cond, List, [], ◌∷◌, ◌++◌, Option, None, Some, refl, sym, ap, subst, ◌∙◌, arith, length, slice_get, remove, option_map, add-zero}
+use Rattle.std.specs.Ordering.{int_eq}
+use Rattle.std.specs.List.{AllByRecursion, filter}
+use Rattle.std.proofs.lemmas.List.{append-nil}
+use Rattle.sysv_model.specs.declared.cred.Cred.{Cred}
+use Rattle.sysv_model.specs.declared.attributes.Attributes.{Attributes}
+use Rattle.sysv_model.specs.Message.{Message}
+use Rattle.sysv_model.specs.Selector.{Any}
+use Rattle.sysv_model.specs.History.{Who, Call, Install, Place, Take, Reply, Installed, Accepted, Taken, Entry, History, then_turn, arrived}
+use Rattle.sysv_model.specs.Live.{live, HasId, IsLive, sent_to, received_from}
+use Rattle.sysv_model.specs.Waiting.{accepted, delivered, discarded, waiting, held, waiting_on, has_number}
+use Rattle.sysv_queue.specs.Slot.{slot_of}
+use Rattle.sysv_queue.specs.LegalReply.{IsLegalReply, IsLegalHistory, LegalTake, Names}
+use Rattle.sysv_queue.proofs.Snoc.{from_end}
+use Rattle.sysv_queue.proofs.Legality.{legal_front, legal_last}
+use Rattle.sysv_queue.proofs.Filters.{Rises, AreBelow, weaker, pushed, filtered, rises_push, rises_filter, waiting_from, is_new, waiting-accepted, waiting-delivered, filter-remove}
+use Rattle.sysv_queue.proofs.Turns.{Kind, Quiet, Makes, Accepts, Takes, IsStill, accepted-more, delivered-more, discarded-more, live-more, arrived-more, accepted-still, delivered-still, discarded-still, waiting-still, arrived-still, still_install, kind_of}
+use Rattle.sysv_queue.proofs.Ids.{same_id, other_id, one_id, waiting_on-id, keeps_id}
+
+pub record Facts (h : History) : Type 0 where
+  -- acceptance numbers are below the arrived count, and rise
+  pub low : (id : ℤ) → AreBelow (arrived h) (accepted id h)
+  pub rises : (id : ℤ) → Rises (accepted id h)
+  -- so are those of what was delivered below it
+  pub gone_low : (id : ℤ) → AreBelow (arrived h) (delivered id h)
+  -- nothing is discarded yet
+  pub kept : (id : ℤ) → discarded id h ≡ []
+  -- nothing waits under an identifier that is not live
+  pub others : (id : ℤ) → ¬ IsLive h id → waiting id h ≡ []
+
+pub facts_empty : Facts []
+facts_empty = record { low = λ id. tt; rises = λ id. tt; gone_low = λ id. tt; kept = λ id. refl; others = λ id f. refl }
+
+pub at_place : {X : Type 0} (P : X → Type 0) (xs : List X) (place : ℕ) (x : X) → AllByRecursion P xs → slice_get xs place ≡ Some x → P x
+at_place P [] place x a e = absurd cc
+at_place P (y ∷ xs) zero x a e = let same : y ≡ x = cc in subst P same a.0
+at_place P (y ∷ xs) (suc place) x a e = at_place P xs place x a.1 e
+
+pub later : (m n : ℕ) (xs : List Message) → m < n + 1 → AreBelow m xs → AreBelow n xs
+later m n xs le a = weaker (λ (x : Message). x.number < m) (λ (x : Message). x.number < n) (λ x p. omega arith) xs a
+
+-- what waits on the live queue has numbers below the arrived count, that rise
+pub waiting_low : (h : History) (id : ℤ) → Facts h → AreBelow (arrived h) (waiting id h)
+waiting_low h id f = filtered _ (λ (x : Message). x.number < arrived h) (accepted id h) (f.low id)
+
+pub waiting_rises : (h : History) (id : ℤ) → Facts h → Rises (waiting id h)
+waiting_rises h id f = rises_filter _ (accepted id h) (f.rises id)
+
+module _ (h : History) (who : Who) (f : Facts h) where
+  still_facts : (call : Call) (reply : Reply) → IsStill call reply → ((id : ℤ) → ¬ IsLive (then_turn h who call reply) id → waiting id h ≡ []) → Facts (then_turn h who call reply)
+  still_facts call reply s others =
+      let e : Entry = record { who = who; call = call; reply = reply } in
+      let k : History = h ++ e ∷ [] in
+      record {
+        low = λ id. subst (λ n. AreBelow n (accepted id k)) (sym (arrived-still h e s)) (subst (λ ms. AreBelow (arrived h) ms) (sym (accepted-still h e s id)) (f.low id));
+        rises = λ id. subst Rises (sym (accepted-still h e s id)) (f.rises id);
+        gone_low = λ id. subst (λ n. AreBelow n (delivered id k)) (sym (arrived-still h e s)) (subst (λ ms. AreBelow (arrived h) ms) (sym (delivered-still h e s id)) (f.gone_low id));
+        kept = λ id. discarded-still h e s id ∙ f.kept id;
+        others = λ id g. waiting-still h e s id ∙ others id g;
+      }
+
+  made_facts : (id key : ℤ) (cred : Cred) (mode now : ℕ) → live h ≡ None → Facts (then_turn h who (Install id key cred mode now) (Installed true))
+  made_facts id key cred mode now vacant =
+      still_facts (Install id key cred mode now) (Installed true) (still_install id key cred mode now true)
+      (λ i g. f.others i (λ lives. subst (λ l. HasId l i) vacant lives))
+
+low_with : (b : Bool) (n : ℕ) (xs : List Message) (m : Message) → AreBelow n xs → m.number ≡ n → AreBelow (n + 1) (xs ++ cond b (m ∷ []) [])
+low_with true n xs m a e = pushed (λ (x : Message). x.number < n + 1) xs m (later n (n + 1) xs (omega arith) a) (omega (arith, e))
+low_with false n xs m a e = subst (λ ys. AreBelow (n + 1) ys) (sym (append-nil xs)) (later n (n + 1) xs (omega arith) a)
+
+rises_with : (b : Bool) (xs : List Message) (m : Message) → Rises xs → AreBelow m.number xs → Rises (xs ++ cond b (m ∷ []) [])
+rises_with true xs m r a = rises_push xs m r a
+rises_with false xs m r a = subst Rises (sym (append-nil xs)) r
+
+below_with : (b : Bool) (n : ℕ) (xs : List Message) (m : Message) → AreBelow n xs → m.number < n → AreBelow n (xs ++ cond b (m ∷ []) [])
+below_with true n xs m a l = pushed (λ (x : Message). x.number < n) xs m a l
+below_with false n xs m a l = subst (λ ys. AreBelow n ys) (sym (append-nil xs)) a
+
+none_with : (b : Bool) (xs : List Message) (m : Message) → b ≡ false → xs ++ cond b (m ∷ []) [] ≡ xs
+none_with b xs m e = ap (λ t. xs ++ cond t (m ∷ []) []) e ∙ append-nil xs
+
+-- a turn that accepts a message
+module _ (h : History) (who : Who) (f : Facts h) (at : ℤ) (cred : Cred) (mtype : ℤ) (bytes : List ℕ) (now number : ℕ) (live_at : HasId (live h) at) (numbered : number ≡ arrived h) where
+  abbrev pub sent_message : Message
+  sent_message = record { number = number; sender = cred.pid; mtype = mtype; bytes = bytes }
+
+  abbrev pub sent_turn : Entry
+  sent_turn = record { who = who; call = Place at cred mtype bytes now; reply = Accepted number }
+
+  pub delivered-sent : (id : ℤ) → delivered id (h ++ sent_turn ∷ []) ≡ delivered id h
+  delivered-sent id = delivered-more id h sent_turn ∙ append-nil _
+
+  pub discarded-sent : (id : ℤ) → discarded id (h ++ sent_turn ∷ []) ≡ discarded id h
+  discarded-sent id = discarded-more id h sent_turn ∙ append-nil _
+
+  low_number : (id : ℤ) → AreBelow number (accepted id h)
+  low_number id = subst (λ n. AreBelow n (accepted id h)) (sym numbered) (f.low id)
+
+  waiting_else : (id : ℤ) → ¬ (at ≡ id) → waiting id (h ++ sent_turn ∷ []) ≡ waiting id h
+  waiting_else id other =
+      let e = sent_turn in
+      ap (λ ms. waiting_from ms (delivered id (h ++ e ∷ []) ++ discarded id (h ++ e ∷ []))) (accepted-more id h e ∙ none_with (int_eq at id) (accepted id h) sent_message (other_id at id other))
+      ∙ (ap (λ ms. waiting_from (accepted id h) (ms ++ discarded id (h ++ e ∷ []))) (delivered-sent id)
+      ∙ ap (λ ms. waiting_from (accepted id h) (delivered id h ++ ms)) (discarded-sent id))
+
+  pub waiting-sent : waiting at (h ++ sent_turn ∷ []) ≡ waiting at h ++ sent_message ∷ []
+  waiting-sent =
+      let e = sent_turn in
+      let gone : List Message = delivered at h ++ discarded at h in
+      let all : accepted at (h ++ e ∷ []) ≡ accepted at h ++ sent_message ∷ [] = accepted-more at h e ∙ ap (λ t. accepted at h ++ cond t (sent_message ∷ []) []) (same_id at at refl) in
+      let gone_is : gone ≡ delivered at h = ap (λ ms. delivered at h ++ ms) (f.kept at) ∙ append-nil _ in
+      let new : has_number number gone ≡ false = ap (has_number number) gone_is ∙ is_new number (delivered at h) (subst (λ n. AreBelow n (delivered at h)) (sym numbered) (f.gone_low at)) in
+      ap (λ ms. waiting_from ms (delivered at (h ++ e ∷ []) ++ discarded at (h ++ e ∷ []))) all
+      ∙ (ap (λ ms. waiting_from (accepted at h ++ sent_message ∷ []) (ms ++ discarded at (h ++ e ∷ []))) (delivered-sent at)
+      ∙ (ap (λ ms. waiting_from (accepted at h ++ sent_message ∷ []) (delivered at h ++ ms)) (discarded-sent at)
+      ∙ waiting-accepted (accepted at h) gone sent_message new))
+
+  pub arrived-sent : arrived (h ++ sent_turn ∷ []) ≡ arrived h + 1
+  arrived-sent = arrived-more h sent_turn
+
+  sent_facts : Facts (h ++ sent_turn ∷ [])
+  sent_facts =
+      let e = sent_turn in
+      let k : History = h ++ e ∷ [] in
+      record {
+        low = λ id. subst (λ n. AreBelow n (accepted id k)) (sym arrived-sent)
+            (subst (λ ms. AreBelow (arrived h + 1) ms) (sym (accepted-more id h e)) (low_with (int_eq at id) (arrived h) (accepted id h) sent_message (f.low id) numbered));
+        rises = λ id. subst Rises (sym (accepted-more id h e)) (rises_with (int_eq at id) (accepted id h) sent_message (f.rises id) (low_number id));
+        gone_low = λ id. subst (λ n. AreBelow n (delivered id k)) (sym arrived-sent)
+            (subst (λ ms. AreBelow (arrived h + 1) ms) (sym (delivered-sent id)) (later (arrived h) (arrived h + 1) (delivered id h) (omega arith) (f.gone_low id)));
+        kept = λ id. discarded-sent id ∙ f.kept id;
+        others = λ id g.
+            let still_live : HasId (live h) id → HasId (live k) id = λ l. subst (λ q. HasId q id) (sym (live-more h e)) (keeps_id (sent_to cred now) (λ a. refl) (live h) id l) in
+            waiting_else id (λ same. g (still_live (subst (λ i. HasId (live h) i) same live_at))) ∙ f.others id (λ l. g (still_live l));
+      }
+
+-- a turn that delivers the message at a place
+module _ (h : History) (who : Who) (f : Facts h) (at : ℤ) (cred : Cred) (size : ℕ) (noerror : Bool) (now : ℕ) (m : Message) (place : ℕ) (live_at : HasId (live h) at) (there : slice_get (held h) place ≡ Some m) where
+  abbrev pub taken_turn : Entry
+  taken_turn = record { who = who; call = Take at cred Any size noerror now; reply = Taken m }
+
+  pub accepted-taken : (id : ℤ) → accepted id (h ++ taken_turn ∷ []) ≡ accepted id h
+  accepted-taken id = accepted-more id h taken_turn ∙ append-nil _
+
+  pub discarded-taken : (id : ℤ) → discarded id (h ++ taken_turn ∷ []) ≡ discarded id h
+  discarded-taken id = discarded-more id h taken_turn ∙ append-nil _
+
+  pub arrived-taken : arrived (h ++ taken_turn ∷ []) ≡ arrived h
+  arrived-taken = arrived-more h taken_turn ∙ add-zero _
+
+  pub there_at : slice_get (waiting at h) place ≡ Some m
+  there_at = subst (λ ms. slice_get ms place ≡ Some m) (waiting_on-id (live h) at h live_at) there
+
+  pub taken_low : m.number < arrived h
+  taken_low = at_place (λ (x : Message). x.number < arrived h) (waiting at h) place m (waiting_low h at f) there_at
+
+  untouched : (id : ℤ) → ¬ (at ≡ id) → waiting id (h ++ taken_turn ∷ []) ≡ waiting id h
+  untouched id other =
+      let e = taken_turn in
+      ap (λ ms. waiting_from ms (delivered id (h ++ e ∷ []) ++ discarded id (h ++ e ∷ []))) (accepted-taken id)
+      ∙ (ap (λ ms. waiting_from (accepted id h) (ms ++ discarded id (h ++ e ∷ []))) (delivered-more id h e ∙ none_with (int_eq at id) (delivered id h) m (other_id at id other))
+      ∙ ap (λ ms. waiting_from (accepted id h) (delivered id h ++ ms)) (discarded-taken id))
+
+  taken_facts : Facts (h ++ taken_turn ∷ [])
+  taken_facts =
+      let e = taken_turn in
+      let k : History = h ++ e ∷ [] in
+      record {
+        low = λ id. subst (λ n. AreBelow n (accepted id k)) (sym arrived-taken) (subst (λ ms. AreBelow (arrived h) ms) (sym (accepted-taken id)) (f.low id));
+        rises = λ id. subst Rises (sym (accepted-taken id)) (f.rises id);
+        gone_low = λ id. subst (λ n. AreBelow n (delivered id k)) (sym arrived-taken)
+            (subst (λ ms. AreBelow (arrived h) ms) (sym (delivered-more id h e)) (below_with (int_eq at id) (arrived h) (delivered id h) m (f.gone_low id) taken_low));
+        kept = λ id. discarded-taken id ∙ f.kept id;
+        others = λ id g.
+            let still_live : HasId (live h) id → HasId (live k) id = λ l. subst (λ q. HasId q id) (sym (live-more h e)) (keeps_id (received_from cred now) (λ a. refl) (live h) id l) in
+            untouched id (λ same. g (still_live (subst (λ i. HasId (live h) i) same live_at))) ∙ f.others id (λ l. g (still_live l));
+      }
+
+  pub waiting-taken : waiting at (h ++ taken_turn ∷ []) ≡ remove (waiting at h) place
+  waiting-taken =
+      let e = taken_turn in
+      let gone_after : delivered at (h ++ e ∷ []) ++ discarded at (h ++ e ∷ []) ≡ (delivered at h ++ discarded at h) ++ m ∷ [] =
+      ap (λ ms. delivered at (h ++ e ∷ []) ++ ms) (discarded-taken at ∙ f.kept at)
+      ∙ (append-nil _
+      ∙ (delivered-more at h e
+      ∙ (ap (λ t. delivered at h ++ cond t (m ∷ []) []) (same_id at at refl)
+      ∙ ap (λ ms. ms ++ m ∷ []) (sym (append-nil (delivered at h)) ∙ ap (λ ms. delivered at h ++ ms) (sym (f.kept at)))))) in
+      ap (λ ms. waiting_from ms (delivered at (h ++ e ∷ []) ++ discarded at (h ++ e ∷ []))) (accepted-taken at)
+      ∙ (ap (waiting_from (accepted at h)) gone_after
+      ∙ (waiting-delivered (accepted at h) (delivered at h ++ discarded at h) m
+      ∙ filter-remove (waiting at h) place m (waiting_rises h at f) there_at))
+
+kind_facts : (h : History) (who : Who) (call : Call) (reply : Reply) → Kind call reply → Facts h → IsLegalReply h call reply → Facts (then_turn h who call reply)
+kind_facts h who call reply (Quiet q) f l =
+    still_facts h who f call reply q.still (λ id g. f.others id (λ lives. g (subst (λ (a : Option Attributes). HasId a id) (sym (live-more h (record { who = who; call = call; reply = reply }) ∙ q.live (live h))) lives)))
+kind_facts h who call reply (Makes id key cred mode now) f l = made_facts h who f id key cred mode now l
+kind_facts h who call reply (Accepts id cred mtype bytes now number) f l = sent_facts h who f id cred mtype bytes now number l.0 l.3
+kind_facts h who call reply (Takes id cred size noerror now m) f l = taken_facts h who f id cred size noerror now m l.2.0 l.0 l.2.2
+
+pub facts : (h : History) → IsLegalHistory h → Facts h
+facts = from_end (λ (h : History). IsLegalHistory h → Facts h) (λ _. facts_empty)
+    (λ h e before legal. kind_facts h e.who e.call e.reply (kind_of (slot_of h) e.call e.reply (legal_last h e legal)) (before (legal_front h e legal)) (legal_last h e legal))

@@ -1,0 +1,110 @@
+-- Lists of messages whose numbers rise, and what waits of them once one more was accepted or
+-- delivered.
+use Rattle.std.proofs.Common.{◌≡◌, ℕ, zero, suc, ◌+◌, ◌<◌, ◌==◌, Bool, true, false, not, cond, ◌&&◌, ◌||◌, List, [], ◌∷◌, ◌++◌, Option, None, Some, length, refl, sym, ap, subst, ◌∙◌, arith, take, drop, remove, slice_get, rules}
+use Rattle.std.specs.List.{filter, list_any, AllByRecursion}
+use Rattle.std.proofs.lemmas.List.Elements.{filter-append}
+use Rattle.std.proofs.lemmas.List.Folds.{list_any-append}
+use Rattle.std.proofs.lemmas.Bool.Decides.{nat_tests}
+use Rattle.sysv_model.specs.Message.{Message}
+use Rattle.sysv_model.specs.Waiting.{has_number}
+
+-- each number is below all later ones
+abbrev pub Rises : List Message → Type 0
+Rises [] = Unit {0}
+Rises (x ∷ xs) = AllByRecursion (λ (m : Message). x.number < m.number) xs × Rises xs
+
+-- each number is below n
+abbrev pub AreBelow : ℕ → List Message → Type 0
+AreBelow n xs = AllByRecursion (λ (m : Message). m.number < n) xs
+
+pub weaker : {X : Type 0} (P Q : X → Type 0) → ((x : X) → P x → Q x) → (xs : List X) → AllByRecursion P xs → AllByRecursion Q xs
+weaker P Q f [] a = tt
+weaker P Q f (x ∷ xs) a = (f x a.0, weaker P Q f xs a.1)
+
+pub pushed : {X : Type 0} (P : X → Type 0) (xs : List X) (x : X) → AllByRecursion P xs → P x → AllByRecursion P (xs ++ x ∷ [])
+pushed P [] x a p = (p, tt)
+pushed P (y ∷ xs) x a p = (a.0, pushed P xs x a.1 p)
+
+filtered_at : {X : Type 0} (b : Bool) (P : X → Type 0) (x : X) (ys : List X) → P x → AllByRecursion P ys → AllByRecursion P (cond b (x ∷ ys) ys)
+filtered_at true P x ys p a = (p, a)
+filtered_at false P x ys p a = a
+
+pub filtered : {X : Type 0} (p : X → Bool) (P : X → Type 0) (xs : List X) → AllByRecursion P xs → AllByRecursion P (filter p xs)
+filtered p P [] a = tt
+filtered p P (x ∷ xs) a = filtered_at (p x) P x (filter p xs) a.0 (filtered p P xs a.1)
+
+pub rises_push : (xs : List Message) (x : Message) → Rises xs → AreBelow x.number xs → Rises (xs ++ x ∷ [])
+rises_push [] x r b = (tt, tt)
+rises_push (y ∷ xs) x r b = (pushed (λ (m : Message). y.number < m.number) xs x r.0 b.0, rises_push xs x r.1 b.1)
+
+rises_at : (b : Bool) (x : Message) (ys : List Message) → AllByRecursion (λ (m : Message). x.number < m.number) ys → Rises ys → Rises (cond b (x ∷ ys) ys)
+rises_at true x ys a r = (a, r)
+rises_at false x ys a r = r
+
+pub rises_filter : (p : Message → Bool) (xs : List Message) → Rises xs → Rises (filter p xs)
+rises_filter p [] r = tt
+rises_filter p (x ∷ xs) r = rises_at (p x) x (filter p xs) (filtered p (λ (m : Message). x.number < m.number) xs r.0) (rises_filter p xs r.1)
+
+-- what waits of the accepted messages once the others are gone
+abbrev pub waiting_from : List Message → List Message → List Message
+waiting_from all gone = filter (λ (m : Message). not (has_number m.number gone)) all
+
+-- no number from n on is among messages whose numbers are below n
+pub is_new : (n : ℕ) (xs : List Message) → AreBelow n xs → has_number n xs ≡ false
+is_new n [] b = refl
+is_new n (x ∷ xs) b = let other : (x.number == n) ≡ false = grind (arith, nat_tests, b.0) in let rest = is_new n xs b.1 in ap (λ t. t || has_number n xs) other ∙ rest
+
+pub waiting-accepted : (all gone : List Message) (m : Message) → has_number m.number gone ≡ false → waiting_from (all ++ m ∷ []) gone ≡ waiting_from all gone ++ m ∷ []
+waiting-accepted all gone m new =
+    filter-append (λ (x : Message). not (has_number x.number gone)) all (m ∷ []) ∙ ap (λ t. waiting_from all gone ++ cond (not t) (m ∷ []) []) new
+
+both_tests : (a b : Bool) (x : Message) (kept : List Message) →
+    cond (not (a || (b || false))) (x ∷ kept) kept ≡ cond (not a) (cond (not b) (x ∷ kept) kept) kept
+both_tests true b x kept = refl
+both_tests false true x kept = refl
+both_tests false false x kept = refl
+
+pull_in : (a : Bool) (q : Message → Bool) (x : Message) (ys : List Message) →
+    cond (not a) (cond (q x) (x ∷ filter q ys) (filter q ys)) (filter q ys) ≡ filter q (cond (not a) (x ∷ ys) ys)
+pull_in true q x ys = refl
+pull_in false q x ys = refl
+
+pub waiting-delivered : (all gone : List Message) (m : Message) →
+    waiting_from all (gone ++ m ∷ []) ≡ filter (λ (x : Message). not (m.number == x.number)) (waiting_from all gone)
+waiting-delivered [] gone m = refl
+waiting-delivered (x ∷ all) gone m =
+    let rest = waiting-delivered all gone m in
+    let other : Message → Bool = λ (y : Message). not (m.number == y.number) in
+    let split : has_number x.number (gone ++ m ∷ []) ≡ (has_number x.number gone || ((m.number == x.number) || false))
+    = list_any-append (λ (y : Message). y.number == x.number) gone (m ∷ []) in
+    ap (λ ys. cond (not (has_number x.number (gone ++ m ∷ []))) (x ∷ ys) ys) rest
+    ∙ (ap (λ t. cond (not t) (x ∷ filter other (waiting_from all gone)) (filter other (waiting_from all gone))) split
+    ∙ (both_tests (has_number x.number gone) (m.number == x.number) x (filter other (waiting_from all gone))
+    ∙ pull_in (has_number x.number gone) other x (waiting_from all gone)))
+
+all_kept : (n : ℕ) (xs : List Message) → AllByRecursion (λ (m : Message). n < m.number) xs → filter (λ (x : Message). not (n == x.number)) xs ≡ xs
+all_kept n [] a = refl
+all_kept n (x ∷ xs) a =
+    let other : (n == x.number) ≡ false = grind (arith, nat_tests, a.0) in
+    ap (λ t. cond (not t) (x ∷ filter (λ (y : Message). not (n == y.number)) xs) (filter (λ (y : Message). not (n == y.number)) xs)) other
+    ∙ ap (λ ys. x ∷ ys) (all_kept n xs a.1)
+
+above_first : (n : ℕ) (xs : List Message) (place : ℕ) (m : Message) → AllByRecursion (λ (y : Message). n < y.number) xs → slice_get xs place ≡ Some m → n < m.number
+above_first n [] place m a e = absurd cc
+above_first n (x ∷ xs) zero m a e = let same : x ≡ m = cc in subst (λ (y : Message). n < y.number) same a.0
+above_first n (x ∷ xs) (suc place) m a e = above_first n xs place m a.1 e
+
+-- where numbers rise, to leave out a message's number is to remove its place
+pub filter-remove : (xs : List Message) (place : ℕ) (m : Message) → Rises xs → slice_get xs place ≡ Some m →
+    filter (λ (x : Message). not (m.number == x.number)) xs ≡ remove xs place
+filter-remove [] place m r e = absurd cc
+filter-remove (x ∷ xs) zero m r e =
+    let same : x ≡ m = cc in
+    let gone : (m.number == x.number) ≡ true = subst (λ (y : Message). (y.number == x.number) ≡ true) same (search (rules, nat_tests)) in
+    ap (λ t. cond (not t) (x ∷ filter (λ (y : Message). not (m.number == y.number)) xs) (filter (λ (y : Message). not (m.number == y.number)) xs)) gone
+    ∙ all_kept m.number xs (subst (λ (y : Message). AllByRecursion (λ (z : Message). y.number < z.number) xs) same r.0)
+filter-remove (x ∷ xs) (suc place) m r e =
+    let below : x.number < m.number = above_first x.number xs place m r.0 e in
+    let stays : (m.number == x.number) ≡ false = grind (arith, nat_tests, below) in
+    ap (λ t. cond (not t) (x ∷ filter (λ (y : Message). not (m.number == y.number)) xs) (filter (λ (y : Message). not (m.number == y.number)) xs)) stays
+    ∙ ap (λ ys. x ∷ ys) (filter-remove xs place m r.1 e)

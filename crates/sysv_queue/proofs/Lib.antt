@@ -1,0 +1,9 @@
+pub mod Snoc
+pub mod Filters
+pub mod Legality
+pub mod Turns
+pub mod Ids
+pub mod Facts
+pub mod Stands
+pub mod Removal
+pub mod Naming

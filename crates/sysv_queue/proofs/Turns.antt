@@ -1,0 +1,122 @@
+-- What one more turn does to each part of a history, and the four kinds of legal turn.
+use Rattle.std.proofs.Common.{◌≡◌, ℕ, ℤ, ◌+◌, Bool, true, false, cond, List, [], ◌∷◌, ◌++◌, Option, None, Some, ◌⊎◌, inl, inr, refl, sym, ap, ◌∙◌, length, zero-add, add-zero}
+use Rattle.std.proofs.lemmas.List.{append-nil}
+use Rattle.std.proofs.lemmas.List.Sums.{fold-append, sum_by-append}
+use Rattle.std.proofs.lemmas.Grind.{flat_map-append}
+use Rattle.sysv_model.specs.declared.cred.Cred.{Cred}
+use Rattle.sysv_model.specs.declared.attributes.Attributes.{Attributes}
+use Rattle.sysv_model.specs.Message.{Message}
+use Rattle.sysv_model.specs.Selector.{Selector, Any, Exactly, UpTo}
+use Rattle.sysv_model.specs.History.{Call, Install, Probe, Look, Place, Take, ReadStat, Set, Remove, ReadRow, Reply, Installed, Gone, Denied, Granted, Full, Fits, Accepted, NoMatch, TooLong, Taken, Told, Done, Discarded, Refused, Shown, Entry, History, announces_arrival, announces_room, arrived, freed}
+use Rattle.sysv_model.specs.Live.{live, live_after}
+use Rattle.sysv_model.specs.Waiting.{accepted, delivered, discarded, waiting, accepted_by, delivered_by, discarded_by}
+use Rattle.sysv_queue.specs.Slot.{Slot}
+use Rattle.sysv_queue.proofs.Filters.{waiting_from}
+use Rattle.sysv_queue.specs.LegalReply.{Legal, LegalInstall, LegalLook, LegalPlace, LegalTake}
+
+pub accepted-more : (id : ℤ) (h : History) (e : Entry) → accepted id (h ++ e ∷ []) ≡ accepted id h ++ accepted_by id e.call e.reply
+accepted-more id h e = flat_map-append (λ (e : Entry). accepted_by id e.call e.reply) h (e ∷ []) ∙ ap (λ ms. accepted id h ++ ms) (append-nil _)
+
+pub delivered-more : (id : ℤ) (h : History) (e : Entry) → delivered id (h ++ e ∷ []) ≡ delivered id h ++ delivered_by id e.call e.reply
+delivered-more id h e = flat_map-append (λ (e : Entry). delivered_by id e.call e.reply) h (e ∷ []) ∙ ap (λ ms. delivered id h ++ ms) (append-nil _)
+
+pub discarded-more : (id : ℤ) (h : History) (e : Entry) → discarded id (h ++ e ∷ []) ≡ discarded id h ++ discarded_by id e.call e.reply
+discarded-more id h e = flat_map-append (λ (e : Entry). discarded_by id e.call e.reply) h (e ∷ []) ∙ ap (λ ms. discarded id h ++ ms) (append-nil _)
+
+pub live-more : (h : History) (e : Entry) → live (h ++ e ∷ []) ≡ live_after (live h) e.call e.reply
+live-more h e = fold-append (λ (old : Option Attributes) (e : Entry). live_after old e.call e.reply) None h (e ∷ [])
+
+pub arrived-more : (h : History) (e : Entry) → arrived (h ++ e ∷ []) ≡ arrived h + cond (announces_arrival e.call e.reply) 1 0
+arrived-more h e = sum_by-append (λ (e : Entry). cond (announces_arrival e.call e.reply) 1 0) h (e ∷ []) ∙ ap (λ n. arrived h + n) (zero-add _)
+
+pub freed-more : (h : History) (e : Entry) → freed (h ++ e ∷ []) ≡ freed h + cond (announces_room e.call e.reply) 1 0
+freed-more h e = sum_by-append (λ (e : Entry). cond (announces_room e.call e.reply) 1 0) h (e ∷ []) ∙ ap (λ n. freed h + n) (zero-add _)
+
+-- a turn that accepts, delivers and discards nothing
+pub record IsStill (call : Call) (reply : Reply) : Type 0 where
+  pub accepted : (id : ℤ) → accepted_by id call reply ≡ []
+  pub delivered : (id : ℤ) → delivered_by id call reply ≡ []
+  pub discarded : (id : ℤ) → discarded_by id call reply ≡ []
+  pub arrival : announces_arrival call reply ≡ false
+  pub room : announces_room call reply ≡ false
+
+-- a turn that changes nothing at all
+pub record IsQuiet (call : Call) (reply : Reply) : Type 0 where
+  pub still : IsStill call reply
+  pub live : (old : Option Attributes) → live_after old call reply ≡ old
+
+-- the kinds of turn that have a legal reply
+pub data Kind : Call → Reply → Type 0 where
+  Quiet : {call : Call} {reply : Reply} → IsQuiet call reply → Kind call reply
+  Makes : (id key : ℤ) (cred : Cred) (mode now : ℕ) → Kind (Install id key cred mode now) (Installed true)
+  Accepts : (id : ℤ) (cred : Cred) (mtype : ℤ) (bytes : List ℕ) (now number : ℕ) → Kind (Place id cred mtype bytes now) (Accepted number)
+  Takes : (id : ℤ) (cred : Cred) (size : ℕ) (noerror : Bool) (now : ℕ) (m : Message) → Kind (Take id cred Any size noerror now) (Taken m)
+
+pub still_install : (id key : ℤ) (cred : Cred) (mode now : ℕ) (made : Bool) → IsStill (Install id key cred mode now) (Installed made)
+still_install id key cred mode now made = record { accepted = λ i. refl; delivered = λ i. refl; discarded = λ i. refl; arrival = refl; room = refl }
+
+pub quiet_install : (id key : ℤ) (cred : Cred) (mode now : ℕ) → IsQuiet (Install id key cred mode now) (Installed false)
+quiet_install id key cred mode now = record { still = still_install id key cred mode now false; live = λ old. refl }
+
+kind_install : (s : Slot) (id key : ℤ) (cred : Cred) (mode now : ℕ) (reply : Reply) → LegalInstall s reply → Kind (Install id key cred mode now) reply
+kind_install s id key cred mode now (Installed true) l = Makes id key cred mode now
+kind_install s id key cred mode now (Installed false) l = Quiet (quiet_install id key cred mode now)
+kind_install s id key cred mode now reply l = absurd l
+
+pub quiet_look : (id : ℤ) (cred : Cred) (size : ℕ) (reply : Reply) → IsQuiet (Look id cred size) reply
+quiet_look id cred size reply = record { still = record { accepted = λ i. refl; delivered = λ i. refl; discarded = λ i. refl; arrival = refl; room = refl }; live = λ old. refl }
+
+pub quiet_place_gone : (id : ℤ) (cred : Cred) (mtype : ℤ) (bytes : List ℕ) (now : ℕ) → IsQuiet (Place id cred mtype bytes now) Gone
+quiet_place_gone id cred mtype bytes now = record { still = record { accepted = λ i. refl; delivered = λ i. refl; discarded = λ i. refl; arrival = refl; room = refl }; live = λ old. refl }
+
+pub quiet_place_denied : (id : ℤ) (cred : Cred) (mtype : ℤ) (bytes : List ℕ) (now : ℕ) → IsQuiet (Place id cred mtype bytes now) Denied
+quiet_place_denied id cred mtype bytes now = record { still = record { accepted = λ i. refl; delivered = λ i. refl; discarded = λ i. refl; arrival = refl; room = refl }; live = λ old. refl }
+
+pub quiet_place_full : (id : ℤ) (cred : Cred) (mtype : ℤ) (bytes : List ℕ) (now freed : ℕ) → IsQuiet (Place id cred mtype bytes now) (Full freed)
+quiet_place_full id cred mtype bytes now freed = record { still = record { accepted = λ i. refl; delivered = λ i. refl; discarded = λ i. refl; arrival = refl; room = refl }; live = λ old. refl }
+
+kind_place : (s : Slot) (id : ℤ) (cred : Cred) (mtype : ℤ) (bytes : List ℕ) (now : ℕ) (reply : Reply) → LegalPlace s id cred (length bytes) reply → Kind (Place id cred mtype bytes now) reply
+kind_place s id cred mtype bytes now (Accepted number) l = Accepts id cred mtype bytes now number
+kind_place s id cred mtype bytes now reply l = Quiet record { still = record { accepted = λ i. refl; delivered = λ i. refl; discarded = λ i. refl; arrival = refl; room = refl }; live = λ old. refl }
+
+pub quiet_take_gone : (id : ℤ) (cred : Cred) (size : ℕ) (noerror : Bool) (now : ℕ) → IsQuiet (Take id cred Any size noerror now) Gone
+quiet_take_gone id cred size noerror now = record { still = record { accepted = λ i. refl; delivered = λ i. refl; discarded = λ i. refl; arrival = refl; room = refl }; live = λ old. refl }
+
+pub quiet_take_no_match : (id : ℤ) (cred : Cred) (size : ℕ) (noerror : Bool) (now arrived : ℕ) → IsQuiet (Take id cred Any size noerror now) (NoMatch arrived)
+quiet_take_no_match id cred size noerror now arrived = record { still = record { accepted = λ i. refl; delivered = λ i. refl; discarded = λ i. refl; arrival = refl; room = refl }; live = λ old. refl }
+
+pub quiet_take_too_long : (id : ℤ) (cred : Cred) (size : ℕ) (noerror : Bool) (now : ℕ) → IsQuiet (Take id cred Any size noerror now) TooLong
+quiet_take_too_long id cred size noerror now = record { still = record { accepted = λ i. refl; delivered = λ i. refl; discarded = λ i. refl; arrival = refl; room = refl }; live = λ old. refl }
+
+kind_take : (s : Slot) (id : ℤ) (cred : Cred) (size : ℕ) (noerror : Bool) (now : ℕ) (reply : Reply) → LegalTake s id cred Any size noerror reply → Kind (Take id cred Any size noerror now) reply
+kind_take s id cred size noerror now (Taken m) l = Takes id cred size noerror now m
+kind_take s id cred size noerror now reply l = Quiet record { still = record { accepted = λ i. refl; delivered = λ i. refl; discarded = λ i. refl; arrival = refl; room = refl }; live = λ old. refl }
+
+pub kind_of : (s : Slot) (call : Call) (reply : Reply) → Legal s call reply → Kind call reply
+kind_of s (Install id key cred mode now) reply l = kind_install s id key cred mode now reply l
+kind_of s (Look id cred size) reply l = Quiet (quiet_look id cred size reply)
+kind_of s (Place id cred mtype bytes now) reply l = kind_place s id cred mtype bytes now reply l
+kind_of s (Take id cred Any size noerror now) reply l = kind_take s id cred size noerror now reply l
+kind_of s call reply l = absurd l
+
+module _ (h : History) (e : Entry) (still : IsStill e.call e.reply) where
+  pub accepted-still : (id : ℤ) → accepted id (h ++ e ∷ []) ≡ accepted id h
+  accepted-still id = accepted-more id h e ∙ (ap (λ ms. accepted id h ++ ms) (still.accepted id) ∙ append-nil _)
+
+  pub delivered-still : (id : ℤ) → delivered id (h ++ e ∷ []) ≡ delivered id h
+  delivered-still id = delivered-more id h e ∙ (ap (λ ms. delivered id h ++ ms) (still.delivered id) ∙ append-nil _)
+
+  pub discarded-still : (id : ℤ) → discarded id (h ++ e ∷ []) ≡ discarded id h
+  discarded-still id = discarded-more id h e ∙ (ap (λ ms. discarded id h ++ ms) (still.discarded id) ∙ append-nil _)
+
+  pub waiting-still : (id : ℤ) → waiting id (h ++ e ∷ []) ≡ waiting id h
+  waiting-still id =
+      ap (λ ms. waiting_from ms (delivered id (h ++ e ∷ []) ++ discarded id (h ++ e ∷ []))) (accepted-still id)
+      ∙ (ap (λ ms. waiting_from (accepted id h) (ms ++ discarded id (h ++ e ∷ []))) (delivered-still id)
+      ∙ ap (λ ms. waiting_from (accepted id h) (delivered id h ++ ms)) (discarded-still id))
+
+  pub arrived-still : arrived (h ++ e ∷ []) ≡ arrived h
+  arrived-still = arrived-more h e ∙ (ap (λ b. arrived h + cond b 1 0) still.arrival ∙ add-zero _)
+
+  pub freed-still : freed (h ++ e ∷ []) ≡ freed h
+  freed-still = freed-more h e ∙ (ap (λ b. freed h + cond b 1 0) still.room ∙ add-zero _)

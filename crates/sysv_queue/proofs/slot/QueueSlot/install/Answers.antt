@@ -1,0 +1,16 @@
+use Rattle.std.proofs.Common.{◌≡◌, sym, ap, subst, rules, true, false, IsSome, w32}
+use Rattle.std.proofs.lemmas.Int.{to_z-of_z}
+use Rattle.sysv_model.specs.History.{Install, Installed}
+use Rattle.sysv_queue.specs.StandsFor.{MakesTurn}
+use Rattle.sysv_queue.proofs.Turns.{quiet_install}
+use Rattle.sysv_queue.proofs.Stands.{turn_quiet, turn_made}
+use Rattle.sysv_queue.proofs.slot.QueueSlot.install.Goals as goal
+
+pub returns-then-is_some : goal.returns-then-is_some
+returns-then-is_some c =
+    let taken : IsSome c.self.inside.live = search rules in
+    record { turn = rw (← c.self.view_is) (turn_quiet _ _ _ (quiet_install c.args.id c.args.key c.args.cred c.args.mode c.args.now) taken) }
+
+pub returns : goal.returns
+returns c =
+    record { turn = rw (to_z-of_z w32 c.args.id c.ranges.id, to_z-of_z w32 c.args.key c.ranges.key, ← c.self.view_is) (turn_made _ c.args.id c.args.key c.args.cred c.args.mode c.args.now (search rules)) }

@@ -1,0 +1,10 @@
+use Rattle.std.proofs.Common.{◌≡◌, [], sym, ap, subst, rules}
+use Rattle.sysv_queue.specs.StandsFor.{StandsFor}
+use Rattle.sysv_queue.specs.Kept.{messages_of}
+use Rattle.sysv_queue.proofs.Stands.{stands_empty}
+use Rattle.sysv_queue.proofs.slot.QueueSlot.open.Goals as goal
+
+pub returns : goal.returns
+returns c =
+    let none : c.in_ok-messages.messages.items ≡ [] = search rules in
+    rw none stands_empty

@@ -1,0 +1,10 @@
+-- What the slot keeps stands for what it is seen as.
+use Rattle.std.specs.Prelude.{ℕ, List, map}
+use Rattle.sysv_model.specs.Message.{Message}
+use Rattle.sysv_queue.specs.declared.slot.Waiting.{Waiting}
+
+abbrev pub message_of : Waiting → Message
+message_of w = record { number = w.number; sender = w.sender; mtype = w.mtype; bytes = w.body }
+
+abbrev pub messages_of : List Waiting → List Message
+messages_of ws = map message_of ws

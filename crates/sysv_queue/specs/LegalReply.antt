@@ -1,0 +1,83 @@
+-- The legal reply to a call at a slot that is seen so. The causes of a call's replies stand in one
+-- order, and a reply is given exactly where its cause is the first that stands
+-- (POSIX.1-2017, msgget, msgsnd, msgrcv, msgctl, each ERRORS; the order is this profile's). A
+-- reply that is not listed is never given; a call that has no list yet has no legal reply.
+use Rattle.std.specs.Prelude.{◌≡◌, ℕ, ℤ, ◌<◌, ◌≤◌, ◌⊎◌, Bool, true, false, List, [], ◌∷◌, ◌++◌, length, Option, None, Some, IfSome, IsSome, slice_get}
+use Rattle.sysv_model.specs.declared.cred.Cred.{Cred}
+use Rattle.sysv_model.specs.declared.attributes.Attributes.{Attributes}
+use Rattle.sysv_model.specs.Message.{Message}
+use Rattle.sysv_model.specs.Selector.{Selector, Any, Exactly, UpTo}
+use Rattle.sysv_model.specs.History.{Call, Install, Probe, Look, Place, Take, ReadStat, Set, Remove, ReadRow, Reply, Installed, Gone, Denied, Granted, Full, Fits, Accepted, NoMatch, TooLong, Taken, Told, Done, Discarded, Refused, Shown, Entry, History}
+use Rattle.sysv_model.specs.Live.{HasId}
+use Rattle.sysv_queue.specs.Slot.{Slot, slot_of}
+use Rattle.sysv_queue.specs.Fits.{Fits as FitsOn}
+use Rattle.sysv_queue.specs.Granted.{MayRead, MayWrite}
+use Rattle.sysv_queue.specs.Named.{IsNamed}
+
+-- the live queue has room for that many bytes
+abbrev pub HasRoom : Slot → ℕ → Type 0
+HasRoom s size = IfSome s.live (λ a. FitsOn a.qbytes s.messages size)
+
+-- install: false where a queue is live, else true
+abbrev pub LegalInstall : Slot → Reply → Type 0
+LegalInstall s (Installed false) = IsSome s.live
+LegalInstall s (Installed true) = s.live ≡ None
+LegalInstall s reply = ⊥
+
+-- look: Gone, Denied, Full, else Fits
+abbrev pub LegalLook : Slot → ℤ → Cred → ℕ → Reply → Type 0
+LegalLook s id cred size Gone = ¬ HasId s.live id
+LegalLook s id cred size Denied = HasId s.live id × ¬ MayWrite cred s.live
+LegalLook s id cred size (Full freed) = HasId s.live id × MayWrite cred s.live × ¬ HasRoom s size × (freed ≡ s.freed)
+LegalLook s id cred size Fits = HasId s.live id × MayWrite cred s.live × HasRoom s size
+LegalLook s id cred size reply = ⊥
+
+-- place: Gone, Denied, Full, else accepted under the arrived count
+abbrev pub LegalPlace : Slot → ℤ → Cred → ℕ → Reply → Type 0
+LegalPlace s id cred size Gone = ¬ HasId s.live id
+LegalPlace s id cred size Denied = HasId s.live id × ¬ MayWrite cred s.live
+LegalPlace s id cred size (Full freed) = HasId s.live id × MayWrite cred s.live × ¬ HasRoom s size × (freed ≡ s.freed)
+LegalPlace s id cred size (Accepted number) = HasId s.live id × MayWrite cred s.live × HasRoom s size × (number ≡ s.arrived)
+LegalPlace s id cred size reply = ⊥
+
+-- the message at the place that the selector names
+abbrev pub Names : Slot → Selector → Message → Type 0
+Names s selector m = (place : ℕ) × IsNamed selector s.messages place × (slice_get s.messages place ≡ Some m)
+
+-- a text that a receive of that size can give
+abbrev pub IsGivable : ℕ → Bool → Message → Type 0
+IsGivable size noerror m = (length m.bytes ≤ size) ⊎ (noerror ≡ true)
+
+-- take: Gone, Denied, NoMatch, TooLong, else the message at the place that the selector names
+abbrev pub LegalTake : Slot → ℤ → Cred → Selector → ℕ → Bool → Reply → Type 0
+LegalTake s id cred selector size noerror Gone = ¬ HasId s.live id
+LegalTake s id cred selector size noerror Denied = HasId s.live id × ¬ MayRead cred s.live
+LegalTake s id cred selector size noerror (NoMatch arrived) =
+    HasId s.live id × MayRead cred s.live × ((place : ℕ) → ¬ IsNamed selector s.messages place) × (arrived ≡ s.arrived)
+LegalTake s id cred selector size noerror TooLong =
+    HasId s.live id × MayRead cred s.live × ((m : Message) × Names s selector m × ¬ IsGivable size noerror m)
+LegalTake s id cred selector size noerror (Taken m) =
+    HasId s.live id × MayRead cred s.live × Names s selector m × IsGivable size noerror m
+LegalTake s id cred selector size noerror reply = ⊥
+
+abbrev pub Legal : Slot → Call → Reply → Type 0
+Legal s (Install id key cred mode now) reply = LegalInstall s reply
+Legal s (Look id cred size) reply = LegalLook s id cred size reply
+Legal s (Place id cred mtype bytes now) reply = LegalPlace s id cred (length bytes) reply
+Legal s (Take id cred Any size noerror now) reply = LegalTake s id cred Any size noerror reply
+-- these calls are not there yet
+Legal s (Take id cred (Exactly mtype) size noerror now) reply = ⊥
+Legal s (Take id cred (UpTo bound) size noerror now) reply = ⊥
+Legal s (Probe id cred flags) reply = ⊥
+Legal s (ReadStat id cred) reply = ⊥
+Legal s (Set id cred to now) reply = ⊥
+Legal s (Remove id cred) reply = ⊥
+Legal s ReadRow reply = ⊥
+
+-- the legal reply to a call after a history
+abbrev pub IsLegalReply : History → Call → Reply → Type 0
+IsLegalReply h call reply = Legal (slot_of h) call reply
+
+-- every reply of the history is legal after the entries before it
+abbrev pub IsLegalHistory : History → Type 0
+IsLegalHistory h = (before : History) (e : Entry) (after : History) → h ≡ before ++ e ∷ after → IsLegalReply before e.call e.reply

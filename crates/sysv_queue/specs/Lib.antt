@@ -1,0 +1,14 @@
+pub use Rattle.sysv_model.specs.Errors
+pub use Rattle.sysv_model.specs.Message
+pub use Rattle.sysv_model.specs.Selector
+pub use Rattle.sysv_model.specs.History
+pub use Rattle.sysv_model.specs.Live
+pub use Rattle.sysv_model.specs.Waiting
+pub mod Slot
+pub mod Fits
+pub mod Granted
+pub mod Named
+pub mod LegalReply
+pub mod StandsFor
+pub mod Replies
+pub mod Kept

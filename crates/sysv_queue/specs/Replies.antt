@@ -1,0 +1,41 @@
+-- The answers of the slot's calls as replies of its history.
+use Rattle.std.specs.Prelude.{◌≡◌, ℕ, List, length, take, Result, Ok, Err}
+use Rattle.sysv_model.specs.Message.{Message}
+use Rattle.sysv_model.specs.History.{Reply, Gone, Denied, Full, Fits, Accepted, NoMatch, TooLong}
+use Rattle.sysv_queue.specs.declared.slot.Look.{Look}
+use Rattle.sysv_queue.specs.declared.slot.Look.TheVariants as look
+use Rattle.sysv_queue.specs.declared.slot.Unplaced.{Unplaced}
+use Rattle.sysv_queue.specs.declared.slot.Unplaced.TheVariants as unplaced
+use Rattle.sysv_queue.specs.declared.slot.PlaceRefused.{PlaceRefused}
+use Rattle.sysv_queue.specs.declared.slot.TakeRefused.{TakeRefused}
+use Rattle.sysv_queue.specs.declared.slot.TakeRefused.TheVariants as untaken
+use Rattle.sysv_queue.specs.declared.slot.Delivery.{Delivery}
+
+abbrev pub look_reply : Look → Reply
+look_reply look.Gone = Gone
+look_reply look.Denied = Denied
+look_reply (look.Full freed) = Full freed
+look_reply look.Fits = Fits
+
+abbrev pub unplaced_reply : Unplaced → Reply
+unplaced_reply unplaced.Gone = Gone
+unplaced_reply unplaced.Denied = Denied
+unplaced_reply (unplaced.Full freed) = Full freed
+
+abbrev pub place_reply : Result ℕ PlaceRefused → Reply
+place_reply (Ok number) = Accepted number
+place_reply (Err refused) = unplaced_reply refused.why
+
+abbrev pub untaken_reply : TakeRefused → Reply
+untaken_reply untaken.Gone = Gone
+untaken_reply untaken.Denied = Denied
+untaken_reply (untaken.NoMatch arrived) = NoMatch arrived
+untaken_reply untaken.TooLong = TooLong
+
+-- the delivery gives the message, of whose text the first size bytes are in out
+pub record Gives (delivery : Delivery) (m : Message) (size : ℕ) (out : List ℕ) : Type 0 where
+  pub mtype : delivery.mtype ≡ m.mtype
+  pub sender : delivery.sender ≡ m.sender
+  pub number : delivery.number ≡ m.number
+  pub text : out ≡ take size m.bytes
+  pub len : delivery.len ≡ length out

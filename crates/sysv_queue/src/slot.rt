@@ -1,0 +1,353 @@
+ghost use Rattle.std.specs.Prelude.{◌≡◌, ◌+◌, ◌^◌, ◌<◌, ◌≤◌, ◌↔◌, [], ◌∷◌, ◌++◌, length, take, slice_get, IfOk, IfErr, Some, IsSome, IsTrue, remove, option_map};
+ghost use Rattle.sysv_model.specs.Message.{Message};
+ghost use Rattle.sysv_model.specs.Selector.{Any};
+ghost use Rattle.sysv_model.specs.History.{Install, Place, Take, Installed, Taken};
+ghost use Rattle.sysv_model.specs.History.{Look as LookCall};
+ghost use Rattle.sysv_model.specs.Live.{HasId, sent_to, received_from};
+ghost use Rattle.sysv_queue.specs.Fits.{bytes_of};
+ghost use Rattle.sysv_queue.specs.LegalReply.{HasRoom};
+ghost use Rattle.sysv_queue.specs.StandsFor.{StandsFor, MakesTurn};
+ghost use Rattle.sysv_queue.specs.Replies.{look_reply, unplaced_reply, place_reply, untaken_reply, Gives};
+
+use std::alloc::Global;
+use std::marker::Model;
+use sysv_model::attributes::{Attributes, Perm};
+use sysv_model::body::Body;
+use sysv_model::cred::Cred;
+use sysv_model::limits::{QBYTES_AT_CREATION, QUEUE_MESSAGES};
+use sysv_model::no_memory::NoMemory;
+
+/// What `look` finds.
+#[derive(Clone, Copy, PartialEq, Eq, Debug)]
+pub enum Look {
+    /// The identifier is not live.
+    Gone,
+    /// Write permission is not granted.
+    Denied,
+    /// The message does not fit; room may come once the freed count is above this one.
+    Full { freed: u64 },
+    /// The message fits.
+    Fits,
+}
+
+/// Why `place` refuses a message.
+#[derive(Clone, Copy, PartialEq, Eq, Debug)]
+pub enum Unplaced {
+    /// The identifier is not live.
+    Gone,
+    /// Write permission is not granted.
+    Denied,
+    /// The message does not fit; room may come once the freed count is above this one.
+    Full { freed: u64 },
+}
+
+/// A refused `place`, with the body that was handed in, as it was.
+#[derive(Drop)]
+pub struct PlaceRefused {
+    /// The cause.
+    pub why: Unplaced,
+    /// The body that was handed in.
+    pub body: Body,
+}
+
+/// What `take` gave.
+#[derive(Clone, Copy, PartialEq, Eq, Debug)]
+pub struct Delivery {
+    /// The message's type.
+    pub mtype: i64,
+    /// The bytes that were given, 0 to 8,256.
+    pub len: usize,
+    /// The process that sent it.
+    pub sender: u32,
+    /// Its acceptance number.
+    pub number: u64,
+}
+
+/// Why `take` gives no message.
+#[derive(Clone, Copy, PartialEq, Eq, Debug)]
+pub enum TakeRefused {
+    /// The identifier is not live.
+    Gone,
+    /// Read permission is not granted.
+    Denied,
+    /// No message is named; one may come once the arrived count is above this one.
+    NoMatch { arrived: u64 },
+    /// The message that is named is longer than the size, and stays.
+    TooLong,
+}
+
+/// A message that waits.
+#[derive(Drop)]
+struct Waiting {
+    number: u64,
+    sender: u32,
+    mtype: i64,
+    body: Body,
+}
+
+/// The place of one queue.
+#[derive(Drop)]
+pub struct QueueSlot {
+    live: Option<Attributes>,
+    messages: Vec<Waiting>,
+    cbytes: u32,
+    arrived: u64,
+    freed: u64,
+}
+
+impl Model for QueueSlot {
+    ghost use Rattle.std.specs.Prelude.{◌≡◌, ◌*◌, ◌≤◌, length, vec_len, vec_capacity};
+    ghost use Rattle.sysv_queue.specs.Slot.{Slot};
+
+    ghost Value = { Slot };
+
+    ghost use Rattle.sysv_queue.specs.Fits.{bytes_of};
+    ghost use Rattle.sysv_queue.specs.Kept.{messages_of};
+
+    ghost view = { λ s. record { live = s.live; messages = messages_of s.messages.items; arrived = s.arrived; freed = s.freed } };
+
+    ghost invariant = { λ s. (vec_len s.messages ≤ 256) × (256 ≤ vec_capacity s.messages)
+        × (s.cbytes ≡ bytes_of (messages_of s.messages.items)) };
+}
+
+impl QueueSlot {
+    /// A vacant slot with room for 256 messages. `NoMemory` where that room is refused.
+    pub fn open(alloc: Global) -> Result<QueueSlot, NoMemory>
+        ensures { IfOk result (λ slot. StandsFor [] slot) }
+    {
+        let messages = Vec::with_capacity(alloc, QUEUE_MESSAGES).map_err(|_| NoMemory)?;
+        Ok(QueueSlot {
+            live: None,
+            messages,
+            cbytes: 0,
+            arrived: 0,
+            freed: 0,
+        })
+    }
+
+    /// Makes a queue of `cred` under this identifier and key, with the low nine bits of `mode`
+    /// (POSIX.1-2017, `msgget`). `false`, with nothing changed, where a queue is live.
+    pub fn install(&mut self, id: i32, key: i32, cred: Cred, mode: u32, now: u64) -> bool
+        ensures turn { MakesTurn self.old (Install id key cred mode now) (Installed result) self.new }
+    {
+        if self.live.is_some() {
+            return false;
+        }
+        self.live = Some(Attributes {
+            id,
+            key,
+            perm: Perm {
+                uid: cred.uid,
+                gid: cred.gid,
+                cuid: cred.uid,
+                cgid: cred.gid,
+                mode: (mode % 512) as u16,
+            },
+            qbytes: QBYTES_AT_CREATION,
+            lspid: 0,
+            lrpid: 0,
+            stime: 0,
+            rtime: 0,
+            ctime: now,
+        });
+        true
+    }
+
+    /// Whether a message of `size` bytes could be placed now (POSIX.1-2017, `msgsnd`). The slot
+    /// stays as it is.
+    pub fn look(&self, id: i32, cred: Cred, size: usize) -> Look
+        ensures turn { MakesTurn self.now (LookCall id cred size) (look_reply result) self.now }
+    {
+        self.find(id, cred, size)
+    }
+
+    fn find(&self, id: i32, cred: Cred, size: usize) -> Look
+        ensures turn { MakesTurn self.now (LookCall id cred size) (look_reply result) self.now }
+        ensures small { result ≡ Look.Fits → bytes_of self.now.messages + size < 2 ^ 32 }
+    {
+        if !self.is_live(id) {
+            return Look::Gone;
+        }
+        if self.fits(size) {
+            Look::Fits
+        } else {
+            Look::Full { freed: self.freed }
+        }
+    }
+
+    /// Whether the live queue has this identifier.
+    fn is_live(&self, id: i32) -> bool
+        ensures { IsTrue result ↔ HasId self.now.live id }
+    {
+        match &self.live {
+            Some(queue) => queue.id == id,
+            None => false,
+        }
+    }
+
+    /// Whether the live queue has room for a message of `size` bytes.
+    fn fits(&self, size: usize) -> bool
+        ensures room { IsTrue result ↔ HasRoom self.now size }
+        ensures small { IsTrue result → IsSome self.now.live → bytes_of self.now.messages + size < 2 ^ 32 }
+    {
+        match &self.live {
+            Some(queue) => {
+                let room = queue.qbytes.checked_sub(self.cbytes);
+                room.is_some_and(|room| size <= room as usize)
+                    && self.messages.len() < QUEUE_MESSAGES
+            }
+            None => true,
+        }
+    }
+
+    /// Puts a message that fits at the end.
+    fn accept(&mut self, cred: Cred, mtype: i64, body: Body, now: u64) -> u64
+        requires few { length self.old.messages < 256 }
+        requires small { bytes_of self.old.messages + length body < 2 ^ 32 }
+        requires count { self.old.arrived < 2 ^ 63 }
+        ensures number { result ≡ self.old.arrived }
+        ensures after { self.new ≡ record {
+          live = option_map (sent_to cred now) self.old.live;
+          messages = self.old.messages ++ record { number = self.old.arrived; sender = cred.pid; mtype = mtype; bytes = body } ∷ [];
+          arrived = self.old.arrived + 1;
+          freed = self.old.freed;
+        } }
+    {
+        let number = self.arrived;
+        self.cbytes += body.len() as u32;
+        self.messages
+            .push(Waiting {
+                number,
+                sender: cred.pid,
+                mtype,
+                body,
+            })
+            .unwrap();
+        self.arrived += 1;
+        self.live = self.live.map(|queue| Attributes {
+            lspid: cred.pid,
+            stime: now,
+            ..queue
+        });
+        number
+    }
+
+    /// Takes the message at `place` into `out`, as many of its bytes as `size` allows.
+    fn release(&mut self, place: usize, cred: Cred, size: u32, now: u64, out: &mut Body) -> Delivery
+        requires there { place < length self.old.messages }
+        requires count { self.old.freed < 2 ^ 63 }
+        ensures given { (m : Message) × (slice_get self.old.messages place ≡ Some m) × Gives result m size out.new }
+        ensures after { self.new ≡ record {
+          live = option_map (received_from cred now) self.old.live;
+          messages = remove self.old.messages place;
+          arrived = self.old.arrived;
+          freed = self.old.freed + 1;
+        } }
+    {
+        let Waiting {
+            number,
+            sender,
+            mtype,
+            body,
+        } = self.messages.remove(place);
+        self.cbytes -= body.len() as u32;
+        self.freed += 1;
+        self.live = self.live.map(|queue| Attributes {
+            lrpid: cred.pid,
+            rtime: now,
+            ..queue
+        });
+        give(body, size as usize, out);
+        Delivery {
+            mtype,
+            len: out.len(),
+            sender,
+            number,
+        }
+    }
+
+    /// Accepts a message of type `mtype`, and answers its acceptance number (POSIX.1-2017,
+    /// `msgsnd`). A refusal hands the body back and leaves the slot as it was.
+    pub fn place(
+        &mut self,
+        id: i32,
+        cred: Cred,
+        mtype: i64,
+        body: Body,
+        now: u64,
+    ) -> Result<u64, PlaceRefused>
+        requires { self.old.arrived < 2 ^ 63 }
+        ensures turn { MakesTurn self.old (Place id cred mtype body now) (place_reply result) self.new }
+        ensures refused { IfErr result (λ e. (e.body ≡ body) × (self.new ≡ self.old)) }
+    {
+        match self.find(id, cred, body.len()) {
+            Look::Gone => Err(PlaceRefused {
+                why: Unplaced::Gone,
+                body,
+            }),
+            Look::Denied => Err(PlaceRefused {
+                why: Unplaced::Denied,
+                body,
+            }),
+            Look::Full { freed } => Err(PlaceRefused {
+                why: Unplaced::Full { freed },
+                body,
+            }),
+            Look::Fits => Ok(self.accept(cred, mtype, body, now)),
+        }
+    }
+
+    /// Takes the first message into `out`: its text, or with `noerror` the first `size` bytes of a
+    /// longer one, whose rest is lost (POSIX.1-2017, `msgrcv`). A refusal leaves the slot and `out`
+    /// as they were.
+    pub fn take(
+        &mut self,
+        id: i32,
+        cred: Cred,
+        size: u32,
+        noerror: bool,
+        now: u64,
+        out: &mut Body,
+    ) -> Result<Delivery, TakeRefused>
+        requires { self.old.freed < 2 ^ 63 }
+        ensures taken { IfOk result (λ given. (m : Message) × Gives given m size out.new
+            × MakesTurn self.old (Take id cred Any size noerror now) (Taken m) self.new) }
+        ensures refused { IfErr result (λ why. MakesTurn self.old (Take id cred Any size noerror now) (untaken_reply why) self.new
+            × (self.new ≡ self.old) × (out.new ≡ out.old)) }
+    {
+        if !self.is_live(id) {
+            return Err(TakeRefused::Gone);
+        }
+        if self.messages.is_empty() {
+            return Err(TakeRefused::NoMatch {
+                arrived: self.arrived,
+            });
+        }
+        if self.messages[0].body.len() > size as usize && !noerror {
+            return Err(TakeRefused::TooLong);
+        }
+        Ok(self.release(0, cred, size, now, out))
+    }
+
+    /// The arrived count and the freed count, each of which only rises.
+    pub fn counts(&self) -> (u64, u64)
+        ensures arrived { result.0 ≡ self.now.arrived }
+        ensures freed { result.1 ≡ self.now.freed }
+    {
+        (self.arrived, self.freed)
+    }
+}
+
+/// Puts the first `size` bytes of `body` into `out`, in the place of what was there.
+fn give(body: Body, size: usize, out: &mut Body)
+    ensures { out.new ≡ take size body }
+{
+    if body.len() <= size {
+        *out = body;
+        return;
+    }
+    out.clear();
+    for i in 0..size {
+        let _fits = out.push_piece(&[body.byte(i)]);
+    }
+}
