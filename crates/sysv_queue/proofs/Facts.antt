@@ -77,7 +77,7 @@ below_with : (b : Bool) (n : ℕ) (xs : List Message) (m : Message) → AreBelow
 below_with true n xs m a l = pushed (λ (x : Message). x.number < n) xs m a l
 below_with false n xs m a l = subst (λ ys. AreBelow n ys) (sym (append-nil xs)) a
 
-none_with : (b : Bool) (xs : List Message) (m : Message) → b ≡ false → xs ++ cond b (m ∷ []) [] ≡ xs
+pub none_with : (b : Bool) (xs : List Message) (m : Message) → b ≡ false → xs ++ cond b (m ∷ []) [] ≡ xs
 none_with b xs m e = ap (λ t. xs ++ cond t (m ∷ []) []) e ∙ append-nil xs
 
 -- a turn that accepts a message
@@ -97,7 +97,7 @@ module _ (h : History) (who : Who) (f : Facts h) (at : ℤ) (cred : Cred) (mtype
   low_number : (id : ℤ) → AreBelow number (accepted id h)
   low_number id = subst (λ n. AreBelow n (accepted id h)) (sym numbered) (f.low id)
 
-  waiting_else : (id : ℤ) → ¬ (at ≡ id) → waiting id (h ++ sent_turn ∷ []) ≡ waiting id h
+  pub waiting_else : (id : ℤ) → ¬ (at ≡ id) → waiting id (h ++ sent_turn ∷ []) ≡ waiting id h
   waiting_else id other =
       let e = sent_turn in
       ap (λ ms. waiting_from ms (delivered id (h ++ e ∷ []) ++ discarded id (h ++ e ∷ []))) (accepted-more id h e ∙ none_with (int_eq at id) (accepted id h) sent_message (other_id at id other))
@@ -155,7 +155,7 @@ module _ (h : History) (who : Who) (f : Facts h) (at : ℤ) (cred : Cred) (size 
   pub taken_low : m.number < arrived h
   taken_low = at_place (λ (x : Message). x.number < arrived h) (waiting at h) place m (waiting_low h at f) there_at
 
-  untouched : (id : ℤ) → ¬ (at ≡ id) → waiting id (h ++ taken_turn ∷ []) ≡ waiting id h
+  pub untouched : (id : ℤ) → ¬ (at ≡ id) → waiting id (h ++ taken_turn ∷ []) ≡ waiting id h
   untouched id other =
       let e = taken_turn in
       ap (λ ms. waiting_from ms (delivered id (h ++ e ∷ []) ++ discarded id (h ++ e ∷ []))) (accepted-taken id)

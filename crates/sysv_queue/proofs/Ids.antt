@@ -1,5 +1,5 @@
 -- Identifiers: when two are one, and what the live queue's identifier says of its messages.
-use Rattle.std.proofs.Common.{◌≡◌, ℕ, ℤ, Bool, true, false, List, Option, None, Some, refl, sym, ap, ◌∙◌, option_map}
+use Rattle.std.proofs.Common.{◌≡◌, ℕ, ℤ, Bool, true, false, List, Option, None, Some, refl, sym, ap, ◌∙◌, option_map, ◌⊎◌, inl, inr}
 use Rattle.std.specs.Ordering.{int_eq}
 use Rattle.std.proofs.lemmas.Bool.Decides.{Decides-int_eq}
 use Rattle.sysv_model.specs.declared.attributes.Attributes.{Attributes}
@@ -31,3 +31,11 @@ waiting_on-id (Some q) id h live = ap (λ i. waiting i h) live
 pub keeps_id : (f : Attributes → Attributes) → ((a : Attributes) → (f a).id ≡ a.id) → (l : Option Attributes) (id : ℤ) → HasId l id → HasId (option_map f l) id
 keeps_id f same None id live = live
 keeps_id f same (Some q) id live = same q ∙ live
+
+same_or_not : (t : Bool) (a b : ℤ) → int_eq a b ≡ t → (a ≡ b) ⊎ ¬ (a ≡ b)
+same_or_not true a b e = inl ((Decides-int_eq a b).0 e)
+same_or_not false a b e = inr (λ same. let t = (Decides-int_eq a b).1 same in let bad : true ≡ false = sym t ∙ e in cc)
+
+-- two identifiers are one, or they are not
+pub decided : (a b : ℤ) → (a ≡ b) ⊎ ¬ (a ≡ b)
+decided a b = same_or_not (int_eq a b) a b refl

@@ -7,3 +7,6 @@ pub mod Facts
 pub mod Stands
 pub mod Removal
 pub mod Naming
+pub mod Order
+pub mod Law
+pub mod OneLegalReply

@@ -12,3 +12,5 @@ pub mod LegalReply
 pub mod StandsFor
 pub mod Replies
 pub mod Kept
+pub mod OneReply
+pub mod QueueLaw

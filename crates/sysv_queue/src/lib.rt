@@ -3,4 +3,5 @@
 //! reply to each call and the law that every history of legal replies obeys.
 #![tactic(auto)]
 
+pub mod laws;
 pub mod slot;

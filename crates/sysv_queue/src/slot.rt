@@ -1,4 +1,4 @@
-ghost use Rattle.std.specs.Prelude.{◌≡◌, ◌+◌, ◌^◌, ◌<◌, ◌≤◌, ◌↔◌, [], ◌∷◌, ◌++◌, length, take, slice_get, IfOk, IfErr, Some, IsSome, IsTrue, remove, option_map};
+ghost use Rattle.std.specs.Prelude.{false, ◌≡◌, ◌+◌, ◌^◌, ◌<◌, ◌≤◌, ◌↔◌, [], ◌∷◌, ◌++◌, length, take, slice_get, IfOk, IfErr, Some, IsSome, IsTrue, remove, option_map};
 ghost use Rattle.sysv_model.specs.Message.{Message};
 ghost use Rattle.sysv_model.specs.Selector.{Any};
 ghost use Rattle.sysv_model.specs.History.{Install, Place, Take, Installed, Taken};
@@ -129,6 +129,7 @@ impl QueueSlot {
     /// (POSIX.1-2017, `msgget`). `false`, with nothing changed, where a queue is live.
     pub fn install(&mut self, id: i32, key: i32, cred: Cred, mode: u32, now: u64) -> bool
         ensures turn { MakesTurn self.old (Install id key cred mode now) (Installed result) self.new }
+        ensures refused { result ≡ false → self.new ≡ self.old }
     {
         if self.live.is_some() {
             return false;

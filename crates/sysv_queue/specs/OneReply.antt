@@ -1,0 +1,19 @@
+-- The calls that are there so far, and that such a call has exactly one legal reply after each
+-- history.
+use Rattle.std.specs.Prelude.{◌≡◌, ⊤}
+use Rattle.sysv_model.specs.Selector.{Any}
+use Rattle.sysv_model.specs.History.{Call, Install, Probe, Look, Place, Take, ReadStat, Set, Remove, ReadRow, Reply, History}
+use Rattle.sysv_queue.specs.LegalReply.{IsLegalReply}
+
+abbrev pub IsThere : Call → Type 0
+IsThere (Install id key cred mode now) = ⊤
+IsThere (Look id cred size) = ⊤
+IsThere (Place id cred mtype bytes now) = ⊤
+IsThere (Take id cred Any size noerror now) = ⊤
+IsThere call = ⊥
+
+abbrev pub SomeReplyIsLegal : Type 0
+SomeReplyIsLegal = (h : History) (call : Call) → IsThere call → (reply : Reply) × IsLegalReply h call reply
+
+abbrev pub NoTwoRepliesAreLegal : Type 0
+NoTwoRepliesAreLegal = (h : History) (call : Call) (a b : Reply) → IsLegalReply h call a → IsLegalReply h call b → a ≡ b

@@ -1,0 +1,17 @@
+//! Laws over the definitions alone.
+
+ghost use Rattle.sysv_model.specs.History.{History};
+ghost use Rattle.sysv_queue.specs.LegalReply.{IsLegalHistory};
+ghost use Rattle.sysv_queue.specs.OneReply.{SomeReplyIsLegal, NoTwoRepliesAreLegal};
+ghost use Rattle.sysv_queue.specs.QueueLaw.{QueueLaw};
+
+/// After each history each call that is there has one legal reply, and no two.
+pub fn one_legal_reply()
+    ensures some { SomeReplyIsLegal }
+    ensures one { NoTwoRepliesAreLegal }
+{}
+
+/// Each history of legal replies obeys the queue law.
+pub fn queue_law()
+    ensures { (h : History) → IsLegalHistory h → QueueLaw h }
+{}
