@@ -1,0 +1,21 @@
+-- Places in lists, and what is kept of each element.
+use Rattle.std.proofs.Common.{◌≡◌, ℕ, zero, suc, ◌+◌, ◌<◌, ◌≤◌, List, [], ◌∷◌, ◌++◌, Option, None, Some, refl, sym, ap, subst, ◌∙◌, arith, length, map, slice_get, slice_set, replicate, option_map}
+
+pub map-slice_set : {X Y : Type 0} (f : X → Y) (xs : List X) (i : ℕ) (x : X) → map f (slice_set xs i x) ≡ slice_set (map f xs) i (f x)
+map-slice_set f [] i x = refl
+map-slice_set f (y ∷ xs) zero x = refl
+map-slice_set f (y ∷ xs) (suc i) x = ap (λ ys. f y ∷ ys) (map-slice_set f xs i x)
+
+pub slice_set-same : {X : Type 0} (xs : List X) (i : ℕ) (x : X) → slice_get xs i ≡ Some x → slice_set xs i x ≡ xs
+slice_set-same [] i x e = refl
+slice_set-same (y ∷ xs) zero x e = let same : y ≡ x = cc in ap (λ z. z ∷ xs) (sym same)
+slice_set-same (y ∷ xs) (suc i) x e = ap (λ ys. y ∷ ys) (slice_set-same xs i x e)
+
+pub map-replicate : {X Y : Type 0} (f : X → Y) (n : ℕ) (x : X) → map f (replicate n x) ≡ replicate n (f x)
+map-replicate f zero x = refl
+map-replicate f (suc n) x = ap (λ ys. f x ∷ ys) (map-replicate f n x)
+
+pub slice_set-twice : {X : Type 0} (xs : List X) (i : ℕ) (x y : X) → slice_set (slice_set xs i x) i y ≡ slice_set xs i y
+slice_set-twice [] i x y = refl
+slice_set-twice (z ∷ xs) zero x y = refl
+slice_set-twice (z ∷ xs) (suc i) x y = ap (λ ys. z ∷ ys) (slice_set-twice xs i x y)

@@ -1,0 +1,5 @@
+use Rattle.std.proofs.Common.{◌≡◌, ◌≤◌, ◌+◌, ◌-◌, None, replicate, vec_len, vec_capacity}
+use Rattle.sysv_core.proofs.world.idle.Given as goal
+
+abbrev pub invariant-loop : goal.invariant-loop
+invariant-loop l = l.phases.items ≡ replicate l.counter None

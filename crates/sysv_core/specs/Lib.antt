@@ -1,0 +1,17 @@
+pub use Rattle.sysv_model.specs.Errors
+pub use Rattle.sysv_model.specs.Message
+pub use Rattle.sysv_model.specs.Selector
+pub use Rattle.sysv_model.specs.History
+pub use Rattle.sysv_model.specs.Live
+pub use Rattle.sysv_model.specs.Waiting
+pub use Rattle.sysv_queue.specs.Slot
+pub use Rattle.sysv_queue.specs.LegalReply
+pub use Rattle.sysv_queue.specs.StandsFor
+pub use Rattle.sysv_queue.specs.QueueLaw
+pub mod Phase
+pub mod Begin
+pub mod PhaseOf
+pub mod Turn
+pub mod World
+pub mod Seen
+pub mod Kept

@@ -1,0 +1,8 @@
+//! A world of queues and actors in which every call is made of atomic steps, one turn at one object
+//! each, and the script that drives it.
+#![tactic(auto)]
+
+pub mod event;
+mod phase;
+mod turn;
+pub mod world;

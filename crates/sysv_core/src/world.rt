@@ -1,0 +1,174 @@
+ghost use Rattle.std.specs.Prelude.{◌≡◌, ◌≢◌, ◌+◌, ◌^◌, ◌<◌, ◌≤◌, ◌⊎◌, ◌↔◌, ◌++◌, ◌∷◌, [], length, IfOk, IfErr, MatchResult, Err, OnErr, MatchOption, Some, None, slice_set, slice_get, replicate};
+ghost use Rattle.sysv_core.specs.Seen.{Seen, IsSeenAs};
+ghost use Rattle.sysv_core.specs.World.{World as Model, opening, Steps, Makes, Presets};
+ghost use Rattle.sysv_core.specs.declared.event.Event.TheVariants.{Start, Step};
+
+use crate::event::{Answer, Call, Event, Outcome, Stepped};
+use crate::phase::{Phase, begin};
+use crate::turn::advance;
+use std::alloc::Global;
+use std::marker::Model;
+use sysv_model::cred::Cred;
+use sysv_model::errno::Errno;
+use sysv_model::limits::{IPC_PRIVATE, WORN};
+use sysv_queue::slot::QueueSlot;
+use thiserror::Error;
+
+/// Why a world is not opened.
+#[derive(Clone, Copy, PartialEq, Eq, Debug, Error)]
+pub enum OpenRefused {
+    /// Memory was refused.
+    #[error("no memory")]
+    NoMemory,
+    /// The number of actors is not 1 to 1,024, or that of blocks not 128 to 65,536.
+    #[error("a size out of range")]
+    BadSize,
+}
+
+const ACTORS_MOST: u32 = 1024;
+
+const BLOCKS_LEAST: u32 = 128;
+
+const BLOCKS_MOST: u32 = 65536;
+
+/// The credentials with which the preset queue is made.
+const PRESET: Cred = Cred {
+    uid: 1000,
+    gid: 1000,
+    pid: 0,
+};
+
+const PRESET_MODE: u32 = 0o600;
+
+/// One queue slot and its actors, which make their calls step by step. Actors count from 1.
+#[derive(Drop)]
+pub struct World {
+    slot: QueueSlot,
+    actors: Vec<Option<Phase>>,
+    steps: u64,
+}
+
+impl Model for World {
+    ghost use Rattle.std.specs.Prelude.{◌≤◌, ◌^◌};
+    ghost use Rattle.sysv_core.specs.Seen.{Seen};
+
+    ghost Value = { Seen };
+
+    ghost use Rattle.sysv_core.specs.Kept.{kept_phases};
+    ghost use Rattle.sysv_model.specs.History.{History};
+    ghost use Rattle.sysv_queue.specs.StandsFor.{StandsFor};
+
+    ghost view = { λ w. record { slot = w.slot; phases = kept_phases w.actors.items; steps = w.steps } };
+
+    // The step number bounds the slot's counts.
+    ghost invariant = { λ w. (w.steps ≤ 2 ^ 62) × (w.slot.arrived ≤ w.steps) × (w.slot.freed ≤ w.steps) × ((h : History) × StandsFor h w.slot) };
+}
+
+impl World {
+    /// A world of 1 to 1,024 idle actors and a vacant slot. `blocks`, 128 to 65,536, is checked and
+    /// has no other effect yet. `BadSize` where one of them is out of its range, `NoMemory` where
+    /// memory was refused.
+    pub fn open(alloc: Global, actors: u32, blocks: u32) -> Result<World, OpenRefused>
+        ensures opened { IfOk result (λ world. IsSeenAs (opening actors) world) }
+        ensures bad_size { (result ≡ Err OpenRefused.BadSize) ↔ ((actors < 1) ⊎ (1024 < actors) ⊎ (blocks < 128) ⊎ (65536 < blocks)) }
+    {
+        if actors < 1 || actors > ACTORS_MOST || blocks < BLOCKS_LEAST || blocks > BLOCKS_MOST {
+            return Err(OpenRefused::BadSize);
+        }
+        let Ok(slot) = QueueSlot::open(alloc) else {
+            return Err(OpenRefused::NoMemory);
+        };
+        let actors = idle(alloc, actors as usize)?;
+        Ok(World {
+            slot,
+            actors,
+            steps: 0,
+        })
+    }
+
+    /// Makes a live private queue 0 of user and group 1000 and mode 0600. `false`, with nothing
+    /// changed, where a queue is live.
+    pub fn preset(&mut self) -> bool
+        ensures { (w : Model) → IsSeenAs w self.old → (after : Model) × Presets w result after × IsSeenAs after self.new }
+    {
+        self.slot.install(0, IPC_PRIVATE, PRESET, PRESET_MODE, 0)
+    }
+
+    /// Lets one event happen. It takes no memory.
+    pub fn step(&mut self, event: Event) -> Stepped
+        ensures { (w : Model) → IsSeenAs w self.old → (after : Model) × Steps w event result after × IsSeenAs after self.new }
+    {
+        if self.steps >= WORN {
+            return Stepped::Worn;
+        }
+        match event {
+            Event::Start { actor, cred, call } => self.start(actor, cred, call),
+            Event::Step { actor, now } => self.turn(actor, now),
+        }
+    }
+
+    /// Starts a call of an idle actor.
+    fn start(&mut self, actor: u32, cred: Cred, call: Call) -> Stepped
+        requires { self.old.steps < 2 ^ 62 }
+        ensures { (w : Model) → IsSeenAs w self.old → (after : Model) × Makes w (Start actor cred call) result after × IsSeenAs after self.new }
+    {
+        let Some(place) = self.place_of(actor) else {
+            return Stepped::Nothing;
+        };
+        if self.actors[place].is_some() {
+            return Stepped::Nothing;
+        }
+        self.steps += 1;
+        match begin(cred, call) {
+            Ok(phase) => {
+                self.actors[place] = Some(phase);
+                Stepped::Nothing
+            }
+            Err(body) => {
+                let outcome = Outcome::Refused(Errno::EINVAL);
+                Stepped::Answer(Answer {
+                    actor,
+                    outcome,
+                    body,
+                })
+            }
+        }
+    }
+
+    /// Makes one step of the actor's call.
+    fn turn(&mut self, actor: u32, now: u64) -> Stepped
+        requires { self.old.steps < 2 ^ 62 }
+        ensures { (w : Model) → IsSeenAs w self.old → (after : Model) × Makes w (Step actor now) result after × IsSeenAs after self.new }
+    {
+        let Some(place) = self.place_of(actor) else {
+            return Stepped::Nothing;
+        };
+        let Some(phase) = self.actors[place].take() else {
+            return Stepped::Nothing;
+        };
+        self.steps += 1;
+        let (next, stepped) = advance(&mut self.slot, actor, phase, now);
+        self.actors[place] = next;
+        stepped
+    }
+
+    /// Where the actor stands in the list, if there is such an actor.
+    fn place_of(&self, actor: u32) -> Option<usize>
+        ensures { MatchOption result ((actor ≡ 0) ⊎ (length self.now.phases < actor))
+            (λ place. (actor ≡ place + 1) × (place < length self.now.phases)) }
+    {
+        let place = (actor as usize).checked_sub(1)?;
+        (place < self.actors.len()).then_some(place)
+    }
+}
+
+/// That many idle actors.
+fn idle(alloc: Global, actors: usize) -> Result<Vec<Option<Phase>>, OpenRefused>
+    ensures { MatchResult result (λ phases. phases.items ≡ replicate actors None) (λ e. e ≡ OpenRefused.NoMemory) }
+{
+    let mut phases = Vec::with_capacity(alloc, actors).map_err(|_| OpenRefused::NoMemory)?;
+    for _ in 0..actors {
+        phases.push(None).map_err(|_| OpenRefused::NoMemory)?;
+    }
+    Ok(phases)
+}
