@@ -1,3 +1,4 @@
 pub mod Lists
 pub mod SeenSteps
 pub mod KeptActors
+pub mod Runs

@@ -19,3 +19,7 @@ pub slice_set-twice : {X : Type 0} (xs : List X) (i : ℕ) (x y : X) → slice_s
 slice_set-twice [] i x y = refl
 slice_set-twice (z ∷ xs) zero x y = refl
 slice_set-twice (z ∷ xs) (suc i) x y = ap (λ ys. z ∷ ys) (slice_set-twice xs i x y)
+
+pub none_in : {X : Type 0} (xs : List X) → length xs ≡ 0 → xs ≡ []
+none_in [] h = refl
+none_in (x ∷ xs) h = absurd (omega arith)

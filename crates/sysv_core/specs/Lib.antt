@@ -15,3 +15,4 @@ pub mod Turn
 pub mod World
 pub mod Seen
 pub mod Kept
+pub mod Run

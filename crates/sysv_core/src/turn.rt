@@ -1,4 +1,4 @@
-ghost use Rattle.std.specs.Prelude.{◌≡◌, ◌<◌, ◌^◌, option_map};
+ghost use Rattle.std.specs.Prelude.{◌≢◌, ◌≡◌, ◌<◌, ◌^◌, option_map};
 ghost use Rattle.sysv_model.specs.History.{Reply};
 ghost use Rattle.sysv_queue.specs.StandsFor.{MakesTurn};
 ghost use Rattle.sysv_core.specs.Phase.{Phase as Stage};
@@ -17,8 +17,9 @@ use sysv_queue::slot::{Delivery, Look, PlaceRefused, QueueSlot, TakeRefused, Unp
 pub fn advance(slot: &mut QueueSlot, actor: u32, phase: Phase, now: u64) -> (Option<Phase>, Stepped)
     requires arrived { slot.old.arrived < 2 ^ 63 }
     requires freed { slot.old.freed < 2 ^ 63 }
-    ensures { (reply : Reply) × MakesTurn slot.old (turn_call (phase_of phase) now) reply slot.new
+    ensures turn { (reply : Reply) × MakesTurn slot.old (turn_call (phase_of phase) now) reply slot.new
         × ((option_map phase_of result.0, result.1) ≡ after_turn actor (phase_of phase) reply) }
+    ensures not_worn { result.1 ≢ Stepped.Worn }
 {
     match phase {
         Phase::Look(send) => look(slot, actor, send),
@@ -28,8 +29,9 @@ pub fn advance(slot: &mut QueueSlot, actor: u32, phase: Phase, now: u64) -> (Opt
 }
 
 fn look(slot: &QueueSlot, actor: u32, mut send: Send) -> (Option<Phase>, Stepped)
-    ensures { (reply : Reply) × MakesTurn slot.now (turn_call (AtLook (sending send)) 0) reply slot.now
+    ensures turn { (reply : Reply) × MakesTurn slot.now (turn_call (AtLook (sending send)) 0) reply slot.now
         × ((option_map phase_of result.0, result.1) ≡ after_turn actor (AtLook (sending send)) reply) }
+    ensures not_worn { result.1 ≢ Stepped.Worn }
 {
     match slot.look(send.id, send.cred, send.body.len()) {
         Look::Fits => {
@@ -44,8 +46,9 @@ fn look(slot: &QueueSlot, actor: u32, mut send: Send) -> (Option<Phase>, Stepped
 
 fn place(slot: &mut QueueSlot, actor: u32, send: Send, now: u64) -> (Option<Phase>, Stepped)
     requires { slot.old.arrived < 2 ^ 63 }
-    ensures { (reply : Reply) × MakesTurn slot.old (turn_call (AtPlace (sending send)) now) reply slot.new
+    ensures turn { (reply : Reply) × MakesTurn slot.old (turn_call (AtPlace (sending send)) now) reply slot.new
         × ((option_map phase_of result.0, result.1) ≡ after_turn actor (AtPlace (sending send)) reply) }
+    ensures not_worn { result.1 ≢ Stepped.Worn }
 {
     let Send {
         cred,
@@ -66,8 +69,9 @@ fn place(slot: &mut QueueSlot, actor: u32, send: Send, now: u64) -> (Option<Phas
 
 fn take(slot: &mut QueueSlot, actor: u32, receive: Receive, now: u64) -> (Option<Phase>, Stepped)
     requires { slot.old.freed < 2 ^ 63 }
-    ensures { (reply : Reply) × MakesTurn slot.old (turn_call (AtTake (receiving receive)) now) reply slot.new
+    ensures turn { (reply : Reply) × MakesTurn slot.old (turn_call (AtTake (receiving receive)) now) reply slot.new
         × ((option_map phase_of result.0, result.1) ≡ after_turn actor (AtTake (receiving receive)) reply) }
+    ensures not_worn { result.1 ≢ Stepped.Worn }
 {
     let Receive {
         cred,
@@ -106,14 +110,16 @@ fn gone(live_seen: bool) -> Errno
 }
 
 fn refused(actor: u32, errno: Errno, body: Option<Body>) -> (Option<Phase>, Stepped)
-    ensures { (option_map phase_of result.0, result.1) ≡ call_answered actor (Outcome.Refused errno) body }
+    ensures answer { (option_map phase_of result.0, result.1) ≡ call_answered actor (Outcome.Refused errno) body }
+    ensures not_worn { result.1 ≢ Stepped.Worn }
 {
     answered(actor, Outcome::Refused(errno), body)
 }
 
 /// The call is over.
 fn answered(actor: u32, outcome: Outcome, body: Option<Body>) -> (Option<Phase>, Stepped)
-    ensures { (option_map phase_of result.0, result.1) ≡ call_answered actor outcome body }
+    ensures answer { (option_map phase_of result.0, result.1) ≡ call_answered actor outcome body }
+    ensures not_worn { result.1 ≢ Stepped.Worn }
 {
     let answer = Answer {
         actor,

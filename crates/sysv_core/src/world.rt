@@ -1,5 +1,6 @@
-ghost use Rattle.std.specs.Prelude.{◌≡◌, ◌≢◌, ◌+◌, ◌^◌, ◌<◌, ◌≤◌, ◌⊎◌, ◌↔◌, ◌++◌, ◌∷◌, [], length, IfOk, IfErr, MatchResult, Err, OnErr, MatchOption, Some, None, slice_set, slice_get, replicate};
-ghost use Rattle.sysv_core.specs.Seen.{Seen, IsSeenAs};
+ghost use Rattle.std.specs.Prelude.{ℕ, List, false, IsTrue, ◌≡◌, ◌≢◌, ◌+◌, ◌^◌, ◌<◌, ◌≤◌, ◌⊎◌, ◌↔◌, ◌++◌, ◌∷◌, [], length, IfOk, IfErr, MatchResult, Err, OnErr, MatchOption, Some, None, slice_set, slice_get, replicate};
+ghost use Rattle.sysv_core.specs.Run.{Happening, Preset, Happens, Given, StandsFor, RunsOn, answers_in, answers_of};
+ghost use Rattle.sysv_core.specs.Seen.{IsSeenAs};
 ghost use Rattle.sysv_core.specs.World.{World as Model, opening, Steps, Makes, Presets};
 ghost use Rattle.sysv_core.specs.declared.event.Event.TheVariants.{Start, Step};
 
@@ -69,7 +70,7 @@ impl World {
     /// has no other effect yet. `BadSize` where one of them is out of its range, `NoMemory` where
     /// memory was refused.
     pub fn open(alloc: Global, actors: u32, blocks: u32) -> Result<World, OpenRefused>
-        ensures opened { IfOk result (λ world. IsSeenAs (opening actors) world) }
+        ensures opened { IfOk result (λ world. StandsFor actors [] [] world) }
         ensures bad_size { (result ≡ Err OpenRefused.BadSize) ↔ ((actors < 1) ⊎ (1024 < actors) ⊎ (blocks < 128) ⊎ (65536 < blocks)) }
     {
         if actors < 1 || actors > ACTORS_MOST || blocks < BLOCKS_LEAST || blocks > BLOCKS_MOST {
@@ -87,20 +88,70 @@ impl World {
     }
 
     /// Makes a live private queue 0 of user and group 1000 and mode 0600. `false`, with nothing
-    /// changed, where a queue is live.
+    /// changed, where a queue is live. It is not counted, and takes no memory.
     pub fn preset(&mut self) -> bool
-        ensures { (w : Model) → IsSeenAs w self.old → (after : Model) × Presets w result after × IsSeenAs after self.new }
+        // For every list of events that the world stands for, it then stands for that list and a preset.
+        ensures stands { (n : ℕ) (es : List Happening) (given : List Given) →
+            StandsFor n es given self.old → StandsFor n (es ++ Preset ∷ []) given self.new }
+        // What the preset makes of the world that the list leads to.
+        ensures single { (w : Model) → IsSeenAs w self.old →
+            (after : Model) × Presets w result after × IsSeenAs after self.new }
+        ensures live { IsTrue result ↔ (self.old.slot.live ≡ None) }
+        ensures refused { result ≡ false → self.new ≡ self.old }
     {
         self.slot.install(0, IPC_PRIVATE, PRESET, PRESET_MODE, 0)
     }
 
-    /// Lets one event happen. It takes no memory.
+    /// Lets one event happen, and says what it gave. An event that is not possible in its actor's
+    /// phase gives nothing and changes nothing. Once 2^62 events were counted the world is worn, and
+    /// nothing changes any more. It takes no memory.
     pub fn step(&mut self, event: Event) -> Stepped
-        ensures { (w : Model) → IsSeenAs w self.old → (after : Model) × Steps w event result after × IsSeenAs after self.new }
+        // For every list of events that the world stands for, it then stands for that list and the
+        // event, and gives what the run gives.
+        ensures stands { (n : ℕ) (es : List Happening) (given : List Given) → StandsFor n es given self.old →
+            (more : List Given) × (answers_of more ≡ answers_in result) × StandsFor n (es ++ Happens event ∷ []) (given ++ more) self.new }
+        // What the event makes of the world that the list leads to.
+        ensures single { (w : Model) → IsSeenAs w self.old →
+            (after : Model) × Steps w event result after × IsSeenAs after self.new }
+        ensures worn { (result ≡ Stepped.Worn) ↔ (2 ^ 62 ≤ self.old.steps) }
+        ensures unchanged { result ≡ Stepped.Worn → self.new ≡ self.old }
     {
         if self.steps >= WORN {
             return Stepped::Worn;
         }
+        self.make(event)
+    }
+
+    /// Lets the events happen in order, and answers what they gave, up to the end or to the first
+    /// that finds the world worn; those after it are dropped. Where there is no room for all answers
+    /// the events come back, and nothing has happened.
+    pub fn run(&mut self, alloc: Global, events: Vec<Event>) -> Result<Vec<Answer>, Vec<Event>>
+        // For every list of events that the world stands for, it then stands for that list and the
+        // events done, and the answers are those of that run.
+        ensures stands { IfOk result (λ answers. (n : ℕ) (es : List Happening) (given : List Given) → StandsFor n es given self.old →
+            RunsOn n es given events.items answers.items self.new) }
+        ensures refused { IfErr result (λ back. (back.items ≡ events.items) × (self.new ≡ self.old)) }
+    {
+        let Ok(mut answers) = Vec::with_capacity(alloc, events.len()) else {
+            return Err(events);
+        };
+        for event in events {
+            match self.step(event) {
+                Stepped::Nothing => {}
+                Stepped::Answer(answer) => answers.push(answer).unwrap(),
+                Stepped::Worn => break,
+            }
+        }
+        Ok(answers)
+    }
+
+    /// An event of a world that is not worn.
+    fn make(&mut self, event: Event) -> Stepped
+        requires { self.old.steps < 2 ^ 62 }
+        ensures single { (w : Model) → IsSeenAs w self.old →
+            (after : Model) × Makes w event result after × IsSeenAs after self.new }
+        ensures not_worn { result ≢ Stepped.Worn }
+    {
         match event {
             Event::Start { actor, cred, call } => self.start(actor, cred, call),
             Event::Step { actor, now } => self.turn(actor, now),
@@ -110,7 +161,9 @@ impl World {
     /// Starts a call of an idle actor.
     fn start(&mut self, actor: u32, cred: Cred, call: Call) -> Stepped
         requires { self.old.steps < 2 ^ 62 }
-        ensures { (w : Model) → IsSeenAs w self.old → (after : Model) × Makes w (Start actor cred call) result after × IsSeenAs after self.new }
+        ensures single { (w : Model) → IsSeenAs w self.old →
+            (after : Model) × Makes w (Start actor cred call) result after × IsSeenAs after self.new }
+        ensures not_worn { result ≢ Stepped.Worn }
     {
         let Some(place) = self.place_of(actor) else {
             return Stepped::Nothing;
@@ -138,7 +191,9 @@ impl World {
     /// Makes one step of the actor's call.
     fn turn(&mut self, actor: u32, now: u64) -> Stepped
         requires { self.old.steps < 2 ^ 62 }
-        ensures { (w : Model) → IsSeenAs w self.old → (after : Model) × Makes w (Step actor now) result after × IsSeenAs after self.new }
+        ensures single { (w : Model) → IsSeenAs w self.old →
+            (after : Model) × Makes w (Step actor now) result after × IsSeenAs after self.new }
+        ensures not_worn { result ≢ Stepped.Worn }
     {
         let Some(place) = self.place_of(actor) else {
             return Stepped::Nothing;

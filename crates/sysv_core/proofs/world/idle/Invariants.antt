@@ -1,4 +1,4 @@
-use Rattle.std.proofs.Common.{◌≡◌, ◌≤◌, ◌+◌, ◌-◌, None, replicate, vec_len, vec_capacity}
+use Rattle.std.proofs.Common.{◌≡◌, None, replicate}
 use Rattle.sysv_core.proofs.world.idle.Given as goal
 
 abbrev pub invariant-loop : goal.invariant-loop

@@ -10,7 +10,11 @@ pub returns-clause-opened : goal.returns-clause-opened
 returns-clause-opened c =
     let slot : StandsFor [] c.in-Ok.slot = search rules in
     record {
-      slot = slot;
-      phases = map-replicate phase_in c.args.actors None ∙ sym (ap kept_phases c.in_ok-actors.ensures ∙ map-replicate kept_phase c.args.actors None);
-      steps = refl;
+      world = opening c.args.actors;
+      led = (refl, refl);
+      sight = record {
+        slot = slot;
+        phases = map-replicate phase_in c.args.actors None ∙ sym (ap kept_phases c.in_ok-actors.ensures ∙ map-replicate kept_phase c.args.actors None);
+        steps = refl;
+      };
     }

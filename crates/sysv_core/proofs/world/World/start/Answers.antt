@@ -1,23 +1,20 @@
-use Rattle.std.proofs.Common.{◌≡◌, ◌+◌, Some, None, sym, ap, subst, ◌∙◌, rules, slice_set}
-use Rattle.sysv_core.specs.World.{World, Makes}
-use Rattle.sysv_core.specs.declared.event.Event.TheVariants.{Start}
-use Rattle.sysv_core.specs.declared.event.Stepped.TheVariants as stepped
+use Rattle.std.proofs.Common.{Some, sym, ap, ◌∙◌}
 use Rattle.sysv_core.specs.Begin.{begun}
-use Rattle.sysv_core.specs.Seen.{Seen, IsSeenAs}
+use Rattle.sysv_core.specs.Seen.{Seen}
 use Rattle.sysv_core.proofs.SeenSteps.{start_busy, start_begun, start_refused}
 use Rattle.sysv_core.proofs.KeptActors.{kept_some, kept_none, seen_at, seen_set}
 use Rattle.sysv_core.proofs.world.World.start.Goals as goal
 
-pub returns-then-is_some : goal.returns-then-is_some
-returns-then-is_some c = λ w s.
+pub returns-then-is_some-clause-single : goal.returns-then-is_some-clause-single
+returns-then-is_some-clause-single c = λ w s.
     let view = ap (λ (v : Seen). v.phases) c.self.view_is in
     let x = c.index.result.now in
     let busy = kept_some x (sym c.is_some.ensures ∙ c.if-is_some.true) in
     let there = seen_at c.self.inside.actors.items c.args.self.now.phases view c.in-Some.place c.in-Some.ensures.1 x c.index.ensures ∙ ap Some busy.1 in
     start_busy w c.args.self.now s c.args.actor c.in-Some.place c.args.cred c.args.call busy.0 c.in-Some.ensures.0 there
 
-pub returns-in-Ok : goal.returns-in-Ok
-returns-in-Ok c = λ w s.
+pub returns-in-Ok-clause-single : goal.returns-in-Ok-clause-single
+returns-in-Ok-clause-single c = λ w s.
     let view = ap (λ (v : Seen). v.phases) c.self.view_is in
     let x = c.index.result.now in
     let idle = kept_none x (sym c.is_some.ensures ∙ c.if-is_some.false) in
@@ -26,8 +23,8 @@ returns-in-Ok c = λ w s.
     let begins = start_begun w c.args.self.now s c.args.actor c.in-Some.place c.args.cred c.args.call c.in-Some.ensures.0 there c.in-Ok.ensures.0 in
     rw phases (rw (ap (λ (v : Seen). v.slot) c.self.view_is, ap (λ (v : Seen). v.steps) c.self.view_is) begins)
 
-pub returns-in-Err : goal.returns-in-Err
-returns-in-Err c = λ w s.
+pub returns-in-Err-clause-single : goal.returns-in-Err-clause-single
+returns-in-Err-clause-single c = λ w s.
     let view = ap (λ (v : Seen). v.phases) c.self.view_is in
     let x = c.index.result.now in
     let idle = kept_none x (sym c.is_some.ensures ∙ c.if-is_some.false) in

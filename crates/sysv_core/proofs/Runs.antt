@@ -1,0 +1,96 @@
+-- A list that leads somewhere goes on by one more happening.
+use Rattle.std.proofs.Common.{◌≡◌, ℕ, ◌≤◌, ◌<◌, ◌^◌, ◌⊎◌, inl, inr, Bool, List, [], ◌∷◌, ◌++◌, refl, sym, ap, subst, ◌∙◌, append_assoc, map}
+use Rattle.std.proofs.lemmas.List.{append-nil, map-append}
+use Rattle.sysv_core.specs.declared.event.Event.{Event}
+use Rattle.sysv_core.specs.declared.event.Answer.{Answer}
+use Rattle.sysv_core.specs.declared.event.Stepped.{Stepped}
+use Rattle.sysv_core.specs.declared.event.Stepped.TheVariants as stepped
+use Rattle.sysv_model.specs.History.{Who}
+use Rattle.sysv_core.specs.World.{World, opening, Steps, Makes, Presets}
+use Rattle.sysv_core.specs.Seen.{Seen, IsSeenAs}
+use Rattle.sysv_core.specs.Run.{Happening, Preset, Happens, Given, Goes, Leads, StandsFor, RunsOn, call_of, given_in, answers_in, answers_of}
+
+pub leads_more : (w : World) (xs : List Happening) (x : Happening) (given more : List Given) (mid after : World) →
+    Leads w xs given mid → Goes mid x more after → Leads w (xs ++ x ∷ []) (given ++ more) after
+leads_more w [] x given more mid after l g =
+    let none : given ≡ [] = l.0 in
+    let here = subst (λ (v : World). Goes v x more after) l.1 g in
+    (after, more, [], here, (refl, refl), ap (λ gs. gs ++ more) none ∙ sym (append-nil more))
+leads_more w (y ∷ xs) x given more mid after l g =
+    let rest = leads_more l.0 xs x l.2 more mid after l.4 g in
+    (l.0, l.1, l.2 ++ more, l.3, rest, ap (λ gs. gs ++ more) l.5 ∙ append_assoc l.1 l.2 more)
+
+pub answers_given : (who : Who) (s : Stepped) → answers_of (given_in who s) ≡ answers_in s
+answers_given who (stepped.Answer a) = refl
+answers_given who stepped.Nothing = refl
+answers_given who stepped.Worn = refl
+
+pub stands_preset : (n : ℕ) (es : List Happening) (given : List Given) (old new : Seen) (made : Bool) → StandsFor n es given old →
+    ((w : World) → IsSeenAs w old → (after : World) × Presets w made after × IsSeenAs after new) → StandsFor n (es ++ Preset ∷ []) given new
+stands_preset n es given old new made s goes =
+    let g = goes s.world s.sight in
+    record {
+      world = g.0;
+      led = subst (λ gs. Leads (opening n) (es ++ Preset ∷ []) gs g.0) (append-nil given) (leads_more (opening n) es Preset given [] s.world g.0 s.led (refl, (made, g.1)));
+      sight = g.2;
+    }
+
+pub stands_step : (n : ℕ) (es : List Happening) (given : List Given) (old new : Seen) (event : Event) (result : Stepped) → StandsFor n es given old →
+    ((w : World) → IsSeenAs w old → (after : World) × Steps w event result after × IsSeenAs after new) →
+    (more : List Given) × (answers_of more ≡ answers_in result) × StandsFor n (es ++ Happens event ∷ []) (given ++ more) new
+stands_step n es given old new event result s goes =
+    let g = goes s.world s.sight in
+    let more = given_in (call_of s.world event) result in (
+      more,
+      answers_given (call_of s.world event) result,
+      record {
+        world = g.0;
+        led = leads_more (opening n) es (Happens event) given more s.world g.0 s.led (result, g.1, refl);
+        sight = g.2;
+      },
+    )
+
+-- an event that finds the world worn, and one that does not
+pub worn_step : (seen : Seen) (event : Event) → 2 ^ 62 ≤ seen.steps → (w : World) → IsSeenAs w seen → (after : World) × Steps w event stepped.Worn after × IsSeenAs after seen
+worn_step seen event worn w s = (w, inl (subst (λ n. 2 ^ 62 ≤ n) (sym s.steps) worn, refl, refl), s)
+
+pub makes_step : (old new : Seen) (event : Event) (result : Stepped) → old.steps < 2 ^ 62 →
+    ((w : World) → IsSeenAs w old → (after : World) × Makes w event result after × IsSeenAs after new) →
+    (w : World) → IsSeenAs w old → (after : World) × Steps w event result after × IsSeenAs after new
+makes_step old new event result fresh makes w s =
+    let m = makes w s in
+    (m.0, inr (subst (λ n. n < 2 ^ 62) (sym s.steps) fresh, m.1), m.2)
+
+-- from one list that a world stood for to that list and the events done since, with their answers
+pub record UnderWay (start now : Seen) (done : List Event) (answers : List Answer) : Type 0 where
+  pub goes : (n : ℕ) (es : List Happening) (given : List Given) → StandsFor n es given start →
+      (more : List Given) × (answers_of more ≡ answers) × StandsFor n (es ++ map Happens done) (given ++ more) now
+
+pub under_way : (start : Seen) → UnderWay start start [] []
+under_way start = record {
+  goes = λ n es given s. (
+    [],
+    refl,
+    subst (λ gs. StandsFor n (es ++ []) gs start) (sym (append-nil given)) (subst (λ xs. StandsFor n xs given start) (sym (append-nil es)) s),
+  );
+}
+
+pub goes_on : (start now new : Seen) (done : List Event) (answers : List Answer) (event : Event) (told : List Answer) → UnderWay start now done answers →
+    ((n : ℕ) (es : List Happening) (given : List Given) → StandsFor n es given now → (more : List Given) × (answers_of more ≡ told) × StandsFor n (es ++ Happens event ∷ []) (given ++ more) new) →
+    UnderWay start new (done ++ event ∷ []) (answers ++ told)
+goes_on start now new done answers event told u step = record {
+  goes = λ n es given s.
+      let one = u.goes n es given s in
+      let two = step n (es ++ map Happens done) (given ++ one.0) one.2 in (
+        one.0 ++ two.0,
+        map-append (λ (g : Given). g.answer) one.0 two.0 ∙ (ap (λ xs. xs ++ answers_of two.0) one.1 ∙ ap (λ xs. answers ++ xs) two.1),
+        subst (λ gs. StandsFor n (es ++ map Happens (done ++ event ∷ [])) gs new) (append_assoc given one.0 two.0)
+            (subst (λ xs. StandsFor n xs ((given ++ one.0) ++ two.0) new) (append_assoc es (map Happens done) (Happens event ∷ []) ∙ ap (λ xs. es ++ xs) (sym (map-append Happens done (event ∷ [])))) two.2),
+      );
+}
+
+pub runs_on : (start new : Seen) (events done left : List Event) (answers : List Answer) → UnderWay start new done answers → events ≡ done ++ left → (left ≡ []) ⊎ (2 ^ 62 ≤ new.steps) →
+    (n : ℕ) (es : List Happening) (given : List Given) → StandsFor n es given start → RunsOn n es given events answers new
+runs_on start new events done left answers u split worn n es given s =
+    let g = u.goes n es given s in
+    record { done = done; left = left; more = g.0; split = split; worn = worn; told = g.1; stands = g.2 }

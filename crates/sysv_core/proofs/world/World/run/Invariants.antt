@@ -1,0 +1,12 @@
+use Rattle.std.proofs.Common.{◌≡◌, ◌+◌, ◌≤◌, ◌++◌, length, vec_len, vec_capacity}
+use Rattle.sysv_core.proofs.Runs.{UnderWay}
+use Rattle.sysv_core.proofs.world.World.run.Given as goal
+
+-- the events so far are done, and there is room for the answers to those that are left
+abbrev pub invariant-loop-event : goal.invariant-loop-event
+invariant-loop-event l = record {
+  split : l.fn.events.items ≡ l.yielded ++ l.event-iterator.rest.items;
+  few : vec_len l.answers ≤ length l.yielded;
+  room : length l.fn.events.items ≤ vec_capacity l.answers;
+  going : UnderWay l.fn.self l.self l.yielded l.answers.items;
+}

@@ -1,0 +1,13 @@
+use Rattle.std.proofs.Common.{◌≡◌, ◌+◌, ◌≤◌, ◌<◌, ◌^◌, Some, None, sym, ap, subst, ◌∙◌, rules, arith, refl, inl, inr}
+use Rattle.sysv_core.specs.Seen.{Seen, IsSeenAs}
+use Rattle.sysv_core.specs.World.{World, Steps}
+use Rattle.sysv_core.proofs.Runs.{stands_step, worn_step, makes_step}
+use Rattle.sysv_core.proofs.world.World.step.Goals as goal
+
+pub returns-then-self-ge-WORN-clause-stands : goal.returns-then-self-ge-WORN-clause-stands
+returns-then-self-ge-WORN-clause-stands c = λ n es given s.
+    stands_step n es given c.args.self.now c.args.self.now c.args.event _ s (worn_step c.args.self.now c.args.event (search rules))
+
+pub returns-clause-stands : goal.returns-clause-stands
+returns-clause-stands c = λ n es given s.
+    stands_step n es given c.args.self.now c.make.new.self c.args.event c.make.result s (makes_step c.args.self.now c.make.new.self c.args.event c.make.result (search rules) c.make.ensures.single)

@@ -1,0 +1,72 @@
+-- The run of a world: the worlds that a list of events gives from the opening world, with the answers
+-- that were given on the way. A world of the code stands for such a list when it is seen as the world
+-- to which the list leads.
+use Rattle.std.specs.Prelude.{◌≡◌, ◌⊎◌, ◌≤◌, ◌^◌, ℕ, Bool, List, [], ◌∷◌, ◌++◌, Option, Some, None, map}
+use Rattle.sysv_model.specs.History.{Who, Actor}
+use Rattle.sysv_core.specs.declared.event.Event.{Event}
+use Rattle.sysv_core.specs.declared.event.Event.TheVariants.{Start, Step}
+use Rattle.sysv_core.specs.declared.event.Answer.{Answer}
+use Rattle.sysv_core.specs.declared.event.Stepped.{Stepped}
+use Rattle.sysv_core.specs.declared.event.Stepped.TheVariants as stepped
+use Rattle.sysv_core.specs.World.{World, Doing, opening, actor_at, Steps, Presets}
+use Rattle.sysv_core.specs.Seen.{Seen, IsSeenAs}
+
+-- what can happen: a preset, or an event
+pub data Happening : Type 0 where
+  Preset : Happening
+  Happens : (event : Event) → Happening
+
+-- an answer, and the call that it is the answer of
+pub record Given : Type 0 where
+  pub who : Who
+  pub answer : Answer
+
+-- the call that an event is about: the one that a start begins, or the one that the actor is in
+abbrev pub started_at : Option (Option Doing) → ℕ
+started_at None = 0
+started_at (Some None) = 0
+started_at (Some (Some doing)) = doing.start
+
+abbrev pub call_of : World → Event → Who
+call_of w (Start actor cred call) = Actor actor w.steps
+call_of w (Step actor now) = Actor actor (started_at (actor_at w.actors actor))
+
+abbrev pub answers_in : Stepped → List Answer
+answers_in (stepped.Answer answer) = answer ∷ []
+answers_in stepped.Nothing = []
+answers_in stepped.Worn = []
+
+abbrev pub given_in : Who → Stepped → List Given
+given_in who (stepped.Answer answer) = record { who = who; answer = answer } ∷ []
+given_in who stepped.Nothing = []
+given_in who stepped.Worn = []
+
+abbrev pub answers_of : List Given → List Answer
+answers_of given = map (λ (g : Given). g.answer) given
+
+-- what a happening makes of a world, and the answers that it gives
+abbrev pub Goes : World → Happening → List Given → World → Type 0
+Goes w Preset given after = (given ≡ []) × ((made : Bool) × Presets w made after)
+Goes w (Happens event) given after = (result : Stepped) × Steps w event result after × (given ≡ given_in (call_of w event) result)
+
+-- a list of happenings leads from one world to another, and gives these answers in order
+abbrev pub Leads : World → List Happening → List Given → World → Type 0
+Leads w [] given after = (given ≡ []) × (after ≡ w)
+Leads w (x ∷ xs) given after = (mid : World) × (one : List Given) × (rest : List Given) × Goes w x one mid × Leads mid xs rest after × (given ≡ one ++ rest)
+
+-- a world of that many actors stands for the list, which gave these answers
+pub record StandsFor (actors : ℕ) (list : List Happening) (given : List Given) (seen : Seen) : Type 0 where
+  pub world : World
+  pub led : Leads (opening actors) list given world
+  pub sight : IsSeenAs world seen
+
+-- The world goes on from that list by the events, all of them or up to the first that finds it worn
+-- out at step number 2^62, and the answers are those that they give, in order.
+pub record RunsOn (actors : ℕ) (list : List Happening) (given : List Given) (events : List Event) (answers : List Answer) (new : Seen) : Type 0 where
+  pub done : List Event
+  pub left : List Event
+  pub more : List Given
+  pub split : events ≡ done ++ left
+  pub worn : (left ≡ []) ⊎ (2 ^ 62 ≤ new.steps)
+  pub told : answers_of more ≡ answers
+  pub stands : StandsFor actors (list ++ map Happens done) (given ++ more) new
