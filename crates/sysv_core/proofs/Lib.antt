@@ -1,4 +1,5 @@
 pub mod Lists
 pub mod SeenSteps
 pub mod KeptActors
+pub mod Answering
 pub mod Runs

@@ -5,10 +5,14 @@ use Rattle.sysv_core.specs.declared.event.Event.{Event}
 use Rattle.sysv_core.specs.declared.event.Answer.{Answer}
 use Rattle.sysv_core.specs.declared.event.Stepped.{Stepped}
 use Rattle.sysv_core.specs.declared.event.Stepped.TheVariants as stepped
-use Rattle.sysv_model.specs.History.{Who}
+use Rattle.sysv_model.specs.History.{Who, History}
 use Rattle.sysv_core.specs.World.{World, opening, Steps, Makes, Presets}
 use Rattle.sysv_core.specs.Seen.{Seen, IsSeenAs}
-use Rattle.sysv_core.specs.Run.{Happening, Preset, Happens, Given, Goes, Leads, StandsFor, RunsOn, call_of, given_in, answers_in, answers_of}
+use Rattle.sysv_queue.specs.LegalReply.{IsLegalHistory}
+use Rattle.sysv_queue.specs.QueueLaw.{QueueLaw}
+use Rattle.sysv_core.specs.Headline.{RunsOn, Obeys, LawsHold}
+use Rattle.sysv_core.proofs.Answering.{answers_decided}
+use Rattle.sysv_core.specs.Run.{Happening, Preset, Happens, Given, Goes, Leads, StandsFor, call_of, given_in, answers_in, answers_of}
 
 pub leads_more : (w : World) (xs : List Happening) (x : Happening) (given more : List Given) (mid after : World) →
     Leads w xs given mid → Goes mid x more after → Leads w (xs ++ x ∷ []) (given ++ more) after
@@ -94,3 +98,9 @@ pub runs_on : (start new : Seen) (events done left : List Event) (answers : List
 runs_on start new events done left answers u split worn n es given s =
     let g = u.goes n es given s in
     record { done = done; left = left; more = g.0; split = split; worn = worn; told = g.1; stands = g.2 }
+
+-- each world of a list obeys the laws, the queue's law among them
+pub laws_hold : ((h : History) → IsLegalHistory h → QueueLaw h) → (seen : Seen) → LawsHold seen
+laws_hold law seen = λ n es given s.
+    let decided = answers_decided n es given s.world s.led in
+    record { queue = law s.world.history s.sight.slot.legal; answers = decided.0; once = decided.1 }

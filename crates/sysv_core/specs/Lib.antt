@@ -16,3 +16,5 @@ pub mod World
 pub mod Seen
 pub mod Kept
 pub mod Run
+pub mod AnswerLaw
+pub mod Headline

@@ -1,7 +1,7 @@
 -- The run of a world: the worlds that a list of events gives from the opening world, with the answers
 -- that were given on the way. A world of the code stands for such a list when it is seen as the world
 -- to which the list leads.
-use Rattle.std.specs.Prelude.{◌≡◌, ◌⊎◌, ◌≤◌, ◌^◌, ℕ, Bool, List, [], ◌∷◌, ◌++◌, Option, Some, None, map}
+use Rattle.std.specs.Prelude.{◌≡◌, ℕ, Bool, List, [], ◌∷◌, ◌++◌, Option, Some, None, map}
 use Rattle.sysv_model.specs.History.{Who, Actor}
 use Rattle.sysv_core.specs.declared.event.Event.{Event}
 use Rattle.sysv_core.specs.declared.event.Event.TheVariants.{Start, Step}
@@ -59,14 +59,3 @@ pub record StandsFor (actors : ℕ) (list : List Happening) (given : List Given)
   pub world : World
   pub led : Leads (opening actors) list given world
   pub sight : IsSeenAs world seen
-
--- The world goes on from that list by the events, all of them or up to the first that finds it worn
--- out at step number 2^62, and the answers are those that they give, in order.
-pub record RunsOn (actors : ℕ) (list : List Happening) (given : List Given) (events : List Event) (answers : List Answer) (new : Seen) : Type 0 where
-  pub done : List Event
-  pub left : List Event
-  pub more : List Given
-  pub split : events ≡ done ++ left
-  pub worn : (left ≡ []) ⊎ (2 ^ 62 ≤ new.steps)
-  pub told : answers_of more ≡ answers
-  pub stands : StandsFor actors (list ++ map Happens done) (given ++ more) new

@@ -1,5 +1,6 @@
 ghost use Rattle.std.specs.Prelude.{ℕ, List, false, IsTrue, ◌≡◌, ◌≢◌, ◌+◌, ◌^◌, ◌<◌, ◌≤◌, ◌⊎◌, ◌↔◌, ◌++◌, ◌∷◌, [], length, IfOk, IfErr, MatchResult, Err, OnErr, MatchOption, Some, None, slice_set, slice_get, replicate};
-ghost use Rattle.sysv_core.specs.Run.{Happening, Preset, Happens, Given, StandsFor, RunsOn, answers_in, answers_of};
+ghost use Rattle.sysv_core.specs.Headline.{StandsWithPreset, StandsWithEvent, StandsWithEvents, LawsHold};
+ghost use Rattle.sysv_core.specs.Run.{StandsFor};
 ghost use Rattle.sysv_core.specs.Seen.{IsSeenAs};
 ghost use Rattle.sysv_core.specs.World.{World as Model, opening, Steps, Makes, Presets};
 ghost use Rattle.sysv_core.specs.declared.event.Event.TheVariants.{Start, Step};
@@ -12,6 +13,7 @@ use std::marker::Model;
 use sysv_model::cred::Cred;
 use sysv_model::errno::Errno;
 use sysv_model::limits::{IPC_PRIVATE, WORN};
+use sysv_queue::laws::queue_law;
 use sysv_queue::slot::QueueSlot;
 use thiserror::Error;
 
@@ -91,14 +93,15 @@ impl World {
     /// changed, where a queue is live. It is not counted, and takes no memory.
     pub fn preset(&mut self) -> bool
         // For every list of events that the world stands for, it then stands for that list and a preset.
-        ensures stands { (n : ℕ) (es : List Happening) (given : List Given) →
-            StandsFor n es given self.old → StandsFor n (es ++ Preset ∷ []) given self.new }
+        ensures stands { StandsWithPreset self.old self.new }
+        ensures law { LawsHold self.new }
         // What the preset makes of the world that the list leads to.
         ensures single { (w : Model) → IsSeenAs w self.old →
             (after : Model) × Presets w result after × IsSeenAs after self.new }
         ensures live { IsTrue result ↔ (self.old.slot.live ≡ None) }
         ensures refused { result ≡ false → self.new ≡ self.old }
     {
+        queue_law();
         self.slot.install(0, IPC_PRIVATE, PRESET, PRESET_MODE, 0)
     }
 
@@ -108,14 +111,15 @@ impl World {
     pub fn step(&mut self, event: Event) -> Stepped
         // For every list of events that the world stands for, it then stands for that list and the
         // event, and gives what the run gives.
-        ensures stands { (n : ℕ) (es : List Happening) (given : List Given) → StandsFor n es given self.old →
-            (more : List Given) × (answers_of more ≡ answers_in result) × StandsFor n (es ++ Happens event ∷ []) (given ++ more) self.new }
+        ensures stands { StandsWithEvent self.old event result self.new }
+        ensures law { LawsHold self.new }
         // What the event makes of the world that the list leads to.
         ensures single { (w : Model) → IsSeenAs w self.old →
             (after : Model) × Steps w event result after × IsSeenAs after self.new }
         ensures worn { (result ≡ Stepped.Worn) ↔ (2 ^ 62 ≤ self.old.steps) }
         ensures unchanged { result ≡ Stepped.Worn → self.new ≡ self.old }
     {
+        queue_law();
         if self.steps >= WORN {
             return Stepped::Worn;
         }
@@ -128,10 +132,11 @@ impl World {
     pub fn run(&mut self, alloc: Global, events: Vec<Event>) -> Result<Vec<Answer>, Vec<Event>>
         // For every list of events that the world stands for, it then stands for that list and the
         // events done, and the answers are those of that run.
-        ensures stands { IfOk result (λ answers. (n : ℕ) (es : List Happening) (given : List Given) → StandsFor n es given self.old →
-            RunsOn n es given events.items answers.items self.new) }
+        ensures stands { IfOk result (λ answers. StandsWithEvents self.old events.items answers.items self.new) }
+        ensures law { LawsHold self.new }
         ensures refused { IfErr result (λ back. (back.items ≡ events.items) × (self.new ≡ self.old)) }
     {
+        queue_law();
         let Ok(mut answers) = Vec::with_capacity(alloc, events.len()) else {
             return Err(events);
         };

@@ -1,4 +1,4 @@
-use Rattle.std.proofs.Common.{◌≡◌, [], None, sym, ap, subst, ◌∙◌, rules, refl, replicate}
+use Rattle.std.proofs.Common.{[], None, sym, ap, ◌∙◌, rules, refl}
 use Rattle.sysv_queue.specs.StandsFor.{StandsFor}
 use Rattle.sysv_core.specs.Kept.{kept_phase, kept_phases}
 use Rattle.sysv_core.specs.Seen.{phase_in}

@@ -1,10 +1,10 @@
-use Rattle.std.proofs.Common.{◌≡◌, ◌+◌, Some, None, sym, ap, subst, ◌∙◌, rules, arith, refl}
+use Rattle.std.proofs.Common.{ap, subst, ◌∙◌, arith}
 use Rattle.sysv_model.specs.History.{Installed}
 use Rattle.sysv_queue.specs.StandsFor.{MakesTurn}
-use Rattle.sysv_core.specs.World.{World, Presets, preset_call}
-use Rattle.sysv_core.specs.Seen.{Seen, IsSeenAs}
+use Rattle.sysv_core.specs.World.{preset_call}
+use Rattle.sysv_core.specs.Seen.{Seen}
 use Rattle.sysv_core.proofs.SeenSteps.{presets}
-use Rattle.sysv_core.proofs.Runs.{stands_preset}
+use Rattle.sysv_core.proofs.Runs.{laws_hold, stands_preset}
 use Rattle.sysv_core.proofs.KeptActors.{install_keeps_counts}
 use Rattle.sysv_core.proofs.world.World.preset.Goals as goal
 
@@ -22,3 +22,6 @@ returns-clause-single c = λ w s.
 
 pub returns-clause-stands : goal.returns-clause-stands
 returns-clause-stands c = λ n es given s. stands_preset n es given c.args.self.now _ c.install.result s (returns-clause-single c)
+
+pub returns-clause-law : goal.returns-clause-law
+returns-clause-law c = laws_hold c.queue_law.ensures _

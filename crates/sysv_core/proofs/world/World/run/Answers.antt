@@ -2,7 +2,7 @@ use Rattle.std.proofs.Common.{◌≡◌, ◌+◌, ◌≤◌, ◌<◌, ◌++◌, 
 use Rattle.std.proofs.lemmas.List.{append-nil, length_push}
 use Rattle.std.proofs.lemmas.Grind.{common_steps}
 use Rattle.sysv_core.proofs.Lists.{none_in}
-use Rattle.sysv_core.proofs.Runs.{UnderWay, under_way, goes_on, runs_on}
+use Rattle.sysv_core.proofs.Runs.{laws_hold, UnderWay, under_way, goes_on, runs_on}
 use Rattle.sysv_core.proofs.world.World.run.Goals as goal
 use Rattle.sysv_core.proofs.world.World.run.Goals.{in-None, in-Some+in-Worn}
 
@@ -63,3 +63,9 @@ returns-clause-stands c =
           let worn = w.in-Worn.ensures.worn.0 refl in
           rw w.self-is (rw same (runs_on c.args.self.now c.loop-event.self c.args.events.items c.loop-event.yielded c.loop-event.event-iterator.rest.items c.loop-event.answers.items i.going i.split (inr worn)))
     ]
+
+pub returns-in_default-clause-law : goal.returns-in_default-clause-law
+returns-in_default-clause-law c = laws_hold c.queue_law.ensures _
+
+pub returns-clause-law : goal.returns-clause-law
+returns-clause-law c = laws_hold c.queue_law.ensures _

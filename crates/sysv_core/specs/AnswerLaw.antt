@@ -1,0 +1,54 @@
+-- The law of the answers: a call's answer is decided by its own turns. It answers with the turn that
+-- ends it, by the reply of that turn; a send answers zero exactly where a place of it was accepted,
+-- and a receive a message exactly where a take of it was given that message. No call is answered
+-- twice. (POSIX.1-2017, msgsnd and msgrcv, RETURN VALUE and ERRORS; which refusal comes first is this
+-- profile's.)
+use Rattle.std.specs.Prelude.{◌≡◌, ◌≢◌, ◌⊎◌, ℕ, ◌==◌, ◌&&◌, Bool, true, false, not, List, [], ◌∷◌, ◌++◌, length, take, Option, Some, None, All, AllPairs, filter, if◌then◌else◌}
+use Rattle.std.specs.List.{list_any}
+use Rattle.sysv_model.specs.declared.errno.Errno.TheVariants.{EINVAL, EIDRM, EACCES, EAGAIN, ENOMSG, E2BIG}
+use Rattle.sysv_model.specs.Message.{Message}
+use Rattle.sysv_model.specs.History.{Who, Actor, Seat, Call, Look, Place, Take, Reply, Gone, Denied, Full, Fits, Accepted, NoMatch, TooLong, Taken, Entry, History}
+use Rattle.sysv_queue.specs.QueueLaw.{QueueLaw}
+use Rattle.sysv_core.specs.declared.event.Outcome.{Outcome}
+use Rattle.sysv_core.specs.declared.event.Outcome.TheVariants as outcome
+use Rattle.sysv_core.specs.declared.event.Answer.{Answer}
+use Rattle.sysv_core.specs.World.{World}
+use Rattle.sysv_core.specs.Run.{Given}
+
+-- it is the same call
+abbrev pub is_call : Who → Who → Bool
+is_call (Actor actor start) (Actor other when) = (actor == other) && (start == when)
+is_call (Seat number) (Seat other) = number == other
+is_call call other = false
+
+-- the turns of a call, in order
+abbrev pub turns_of : Who → History → List Entry
+turns_of call h = filter (λ (e : Entry). is_call call e.who) h
+
+-- some of these turns found the identifier live
+abbrev pub found_live : Reply → Bool
+found_live Gone = false
+found_live reply = true
+
+abbrev pub live_seen : List Entry → Bool
+live_seen turns = list_any (λ (e : Entry). found_live e.reply) turns
+
+-- the turn with this reply ends its call with this answer
+abbrev pub Ends : Bool → Call → Reply → Answer → Type 0
+Ends seen call Gone a = a.outcome ≡ outcome.Refused (if seen then EIDRM else EINVAL)
+Ends seen call Denied a = a.outcome ≡ outcome.Refused EACCES
+Ends seen call (Full freed) a = a.outcome ≡ outcome.Refused EAGAIN
+Ends seen call (NoMatch arrived) a = a.outcome ≡ outcome.Refused ENOMSG
+Ends seen call TooLong a = a.outcome ≡ outcome.Refused E2BIG
+Ends seen call (Accepted number) a = a.outcome ≡ outcome.Zero
+Ends seen (Take id cred selector size noerror now) (Taken m) a =
+    (a.outcome ≡ outcome.Got m.mtype (length (take size m.bytes))) × (a.body ≡ Some (take size m.bytes))
+Ends seen call reply a = ⊥
+
+-- A call without a turn was refused at its start. Any other answers with its last turn; after each
+-- earlier one, a look that found room, it went on.
+abbrev pub IsAnsweredBy : List Entry → Answer → Type 0
+IsAnsweredBy turns a =
+    ((turns ≡ []) × (a.outcome ≡ outcome.Refused EINVAL))
+    ⊎ ((earlier : List Entry) × (last : Entry) × (turns ≡ earlier ++ last ∷ [])
+    × All (λ (e : Entry). e.reply ≡ Fits) earlier × Ends (live_seen earlier) last.call last.reply a)
