@@ -12,7 +12,7 @@ use std::alloc::Global;
 use std::marker::Model;
 use sysv_model::cred::Cred;
 use sysv_model::errno::Errno;
-use sysv_model::limits::{IPC_PRIVATE, WORN};
+use sysv_model::limits::{ACTORS_MOST, BLOCKS_LEAST, BLOCKS_MOST, IPC_PRIVATE, WORN};
 use sysv_queue::laws::queue_law;
 use sysv_queue::slot::QueueSlot;
 use thiserror::Error;

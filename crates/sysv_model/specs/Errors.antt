@@ -1,5 +1,4 @@
--- The refusals of this profile, by the names of POSIX.1-2017, errno.h; the numbers are those that
--- stand on the wire.
+-- The refusals of this profile, by the names of POSIX.1-2017, errno.h, with this profile's numbers.
 use Rattle.std.specs.Prelude.{ℕ, List, codes}
 use Rattle.sysv_model.specs.declared.errno.Errno.{Errno}
 use Rattle.sysv_model.specs.declared.errno.Errno.TheVariants.{EPERM, ENOENT, E2BIG, EAGAIN, EACCES, EEXIST, EINVAL, ENOSPC, ENOMSG, EIDRM, EOVERFLOW}

@@ -11,8 +11,8 @@ use Rattle.sysv_model.specs.declared.attributes.Row.{Row}
 use Rattle.sysv_model.specs.Message.{Message}
 use Rattle.sysv_model.specs.Selector.{Selector}
 
--- who makes a turn: the start-th call of an actor of a world, or the seat with that number of a
--- pass on threads
+-- Who makes a turn: an actor of a world in the call that it started at that step number, or a seat
+-- with that number on threads. Actors count from 1; the preset queue is made by actor 0 at start 0.
 pub data Who : Type 0 where
   Actor : (actor start : ℕ) → Who
   Seat : (number : ℕ) → Who
@@ -60,15 +60,15 @@ History = List Entry
 abbrev pub then_turn : History → Who → Call → Reply → History
 then_turn h who call reply = h ++ record { who = who; call = call; reply = reply } ∷ []
 
--- a turn that what waits for a message has to hear of: a message was accepted, or the queue was
--- changed or removed
+-- a turn that a waiting receive has to hear of: a message was accepted, or the queue was changed or
+-- removed
 abbrev pub announces_arrival : Call → Reply → Bool
 announces_arrival (Place id cred mtype bytes now) (Accepted number) = true
 announces_arrival (Set id cred to now) Done = true
 announces_arrival (Remove id cred) (Discarded messages) = true
 announces_arrival call reply = false
 
--- a turn that what waits for room has to hear of: a message was taken, or the queue was changed or
+-- a turn that a waiting send has to hear of: a message was taken, or the queue was changed or
 -- removed
 abbrev pub announces_room : Call → Reply → Bool
 announces_room (Take id cred selector size noerror now) (Taken message) = true

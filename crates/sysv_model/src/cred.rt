@@ -1,5 +1,5 @@
-/// Who makes a call: the effective user and group and the process, as a session's hello or a
-/// script says them (POSIX.1-2017, 2.7 XSI Interprocess Communication).
+/// Who makes a call: the effective user and group and the process (POSIX.1-2017, 2.7 XSI
+/// Interprocess Communication). They are believed as they are given.
 #[derive(Clone, Copy, PartialEq, Eq, Debug)]
 pub struct Cred {
     /// The effective user.

@@ -3,8 +3,8 @@ ghost use Rattle.sysv_model.specs.Errors.{number_of, name_of};
 
 use std::fmt;
 
-/// The refusals of this profile, by the standard's names (POSIX.1-2017, `errno.h`), with the
-/// numbers that stand on the wire.
+/// The refusals of this profile, by the standard's names (POSIX.1-2017, `errno.h`). The standard
+/// fixes no numbers; those here are this profile's.
 #[derive(Clone, Copy, PartialEq, Eq, Debug)]
 pub enum Errno {
     /// The caller is neither user 0 nor the owner nor the creator, or asks for a raise.
@@ -27,12 +27,12 @@ pub enum Errno {
     ENOMSG,
     /// The queue was removed while the call was under way.
     EIDRM,
-    /// A count of the service is worn out.
+    /// A count is worn out.
     EOVERFLOW,
 }
 
 impl Errno {
-    /// The error's number, 1 to 75.
+    /// The error's number in this profile, 1 to 75.
     pub fn number(self) -> u8
         ensures { result ≡ number_of self }
     {

@@ -1,6 +1,6 @@
-//! The words of System V message queues: errors, credentials, flags, message bodies, what a queue
-//! is told and tells, and the limits of this profile. `specs/` has the history of a queue and what
-//! a history has accepted, delivered, discarded and still holds.
+//! The words of System V message queues: errors, credentials, flags, message bodies, the attributes
+//! of a queue, what IPC_SET gives and IPC_STAT shows, and the limits of this profile. `specs/` has
+//! the history of a slot and what a history has accepted, delivered, discarded and still holds.
 #![tactic(auto)]
 
 pub mod attributes;

@@ -6,7 +6,8 @@ pub const IPC_PRIVATE: i32 = 0;
 /// The most bytes of text that a message may have.
 pub const MESSAGE_BYTES: usize = 8192;
 
-/// The bytes for which a `Body` has room: what the longest request can carry.
+/// The bytes for which a `Body` has room. It is more than a message may have, so that a text that is
+/// too long can be read, and refused.
 pub const BODY_ROOM: usize = 8256;
 
 /// The most messages that wait on one queue.
@@ -18,5 +19,14 @@ pub const QBYTES_AT_CREATION: u32 = 16384;
 /// The greatest `msg_qbytes` that `IPC_SET` may give a queue.
 pub const QBYTES_MOST: u32 = 65536;
 
-/// The number of steps, turns or advances at which a count is worn out.
+/// The most actors of a world; it has at least one.
+pub const ACTORS_MOST: u32 = 1024;
+
+/// The fewest blocks of a pool of message text.
+pub const BLOCKS_LEAST: u32 = 128;
+
+/// The most blocks of a pool of message text.
+pub const BLOCKS_MOST: u32 = 65536;
+
+/// The number of counted steps at which a world is worn out, 2^62.
 pub const WORN: u64 = 1 << 62;

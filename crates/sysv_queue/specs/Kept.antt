@@ -1,4 +1,4 @@
--- What the slot keeps stands for what it is seen as.
+-- The messages that the slot keeps, as the messages that it is seen to hold.
 use Rattle.std.specs.Prelude.{ℕ, List, map}
 use Rattle.sysv_model.specs.Message.{Message}
 use Rattle.sysv_queue.specs.declared.slot.Waiting.{Waiting}

@@ -1,4 +1,4 @@
--- The answers of the slot's calls as replies of its history.
+-- The answers of the slot's calls, as replies of its history (this profile's).
 use Rattle.std.specs.Prelude.{◌≡◌, ℕ, List, length, take, Result, Ok, Err}
 use Rattle.sysv_model.specs.Message.{Message}
 use Rattle.sysv_model.specs.History.{Reply, Gone, Denied, Full, Fits, Accepted, NoMatch, TooLong}

@@ -1,5 +1,6 @@
--- What a slot is seen as: the attributes of the live queue or none, the messages that wait on it in
--- the order of acceptance, and the two counts. A history leaves a slot that is seen so.
+-- What a slot is seen as (this profile's): the attributes of the live queue or none, the messages that
+-- wait on it in the order of acceptance, and the two counts. A history leaves a slot that is seen as
+-- slot_of of it.
 use Rattle.std.specs.Prelude.{ℕ, List, Option}
 use Rattle.sysv_model.specs.declared.attributes.Attributes.{Attributes}
 use Rattle.sysv_model.specs.Message.{Message}

@@ -16,6 +16,7 @@ use sysv_model::body::Body;
 use sysv_model::cred::Cred;
 use sysv_model::limits::{QBYTES_AT_CREATION, QUEUE_MESSAGES};
 use sysv_model::no_memory::NoMemory;
+use thiserror::Error;
 
 /// What `look` finds.
 #[derive(Clone, Copy, PartialEq, Eq, Debug)]
@@ -31,13 +32,16 @@ pub enum Look {
 }
 
 /// Why `place` refuses a message.
-#[derive(Clone, Copy, PartialEq, Eq, Debug)]
+#[derive(Clone, Copy, PartialEq, Eq, Debug, Error)]
 pub enum Unplaced {
     /// The identifier is not live.
+    #[error("the identifier is not live")]
     Gone,
     /// Write permission is not granted.
+    #[error("write permission is not granted")]
     Denied,
     /// The message does not fit; room may come once the freed count is above this one.
+    #[error("the message does not fit")]
     Full { freed: u64 },
 }
 
@@ -64,15 +68,19 @@ pub struct Delivery {
 }
 
 /// Why `take` gives no message.
-#[derive(Clone, Copy, PartialEq, Eq, Debug)]
+#[derive(Clone, Copy, PartialEq, Eq, Debug, Error)]
 pub enum TakeRefused {
     /// The identifier is not live.
+    #[error("the identifier is not live")]
     Gone,
     /// Read permission is not granted.
+    #[error("read permission is not granted")]
     Denied,
     /// No message is named; one may come once the arrived count is above this one.
+    #[error("no message is named")]
     NoMatch { arrived: u64 },
     /// The message that is named is longer than the size, and stays.
+    #[error("the message is longer than the size")]
     TooLong,
 }
 
@@ -125,8 +133,9 @@ impl QueueSlot {
         })
     }
 
-    /// Makes a queue of `cred` under this identifier and key, with the low nine bits of `mode`
-    /// (POSIX.1-2017, `msgget`). `false`, with nothing changed, where a queue is live.
+    /// Makes a queue of `cred` under this identifier and key, with the low nine bits of `mode`, at
+    /// the moment `now` in seconds (POSIX.1-2017, `msgget`). `false`, with nothing changed, where a
+    /// queue is live.
     pub fn install(&mut self, id: i32, key: i32, cred: Cred, mode: u32, now: u64) -> bool
         ensures turn { MakesTurn self.old (Install id key cred mode now) (Installed result) self.new }
         ensures refused { result ≡ false → self.new ≡ self.old }
@@ -154,8 +163,8 @@ impl QueueSlot {
         true
     }
 
-    /// Whether a message of `size` bytes could be placed now (POSIX.1-2017, `msgsnd`). The slot
-    /// stays as it is.
+    /// Whether a message of `size` bytes could be placed now (POSIX.1-2017, `msgsnd`). The first
+    /// cause of `Look` that stands is the answer. The slot stays as it is.
     pub fn look(&self, id: i32, cred: Cred, size: usize) -> Look
         ensures turn { MakesTurn self.now (LookCall id cred size) (look_reply result) self.now }
     {
@@ -267,8 +276,11 @@ impl QueueSlot {
         }
     }
 
-    /// Accepts a message of type `mtype`, and answers its acceptance number (POSIX.1-2017,
-    /// `msgsnd`). A refusal hands the body back and leaves the slot as it was.
+    /// Accepts a message of type `mtype` with the text in `body`, at the moment `now` in seconds,
+    /// and answers its acceptance number, which is the arrived count before it (POSIX.1-2017,
+    /// `msgsnd`). Any type and any body is accepted; the caller refuses those that a send may not
+    /// have. A refusal, the first cause of `Unplaced` that stands, hands the body back and leaves
+    /// the slot as it was. The arrived count has to be below 2^63.
     pub fn place(
         &mut self,
         id: i32,
@@ -298,9 +310,10 @@ impl QueueSlot {
         }
     }
 
-    /// Takes the first message into `out`: its text, or with `noerror` the first `size` bytes of a
-    /// longer one, whose rest is lost (POSIX.1-2017, `msgrcv`). A refusal leaves the slot and `out`
-    /// as they were.
+    /// Takes the first message into `out` at the moment `now` in seconds: its text, or with
+    /// `noerror` the first `size` bytes of a longer one, whose rest is lost (POSIX.1-2017,
+    /// `msgrcv`). A refusal, the first cause of `TakeRefused` that stands, leaves the slot and `out`
+    /// as they were. The freed count has to be below 2^63.
     pub fn take(
         &mut self,
         id: i32,
