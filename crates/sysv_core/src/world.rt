@@ -28,12 +28,6 @@ pub enum OpenRefused {
     BadSize,
 }
 
-const ACTORS_MOST: u32 = 1024;
-
-const BLOCKS_LEAST: u32 = 128;
-
-const BLOCKS_MOST: u32 = 65536;
-
 /// The credentials with which the preset queue is made.
 const PRESET: Cred = Cred {
     uid: 1000,
