@@ -1,2 +1,4 @@
 pub mod Found
+pub mod Heads
 pub mod Streams
+pub mod Words

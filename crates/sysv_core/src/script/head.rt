@@ -1,3 +1,6 @@
+ghost use Rattle.std.specs.Prelude.{Some};
+ghost use Rattle.sysv_core.specs.Heads.{operation_name, head_text};
+
 use std::fmt;
 use sysv_model::errno::Errno;
 
@@ -11,6 +14,8 @@ pub(crate) enum Operation {
 }
 
 impl fmt::Display for Operation {
+    ghost output = { λ operation. Some (operation_name operation) };
+
     fn fmt<W: fmt::Write>(&self, f: &mut fmt::Formatter<W>) -> fmt::Result {
         f.write_str(match self {
             Operation::Send => "snd",
@@ -39,6 +44,8 @@ pub(crate) enum Head {
 }
 
 impl fmt::Display for Head {
+    ghost output = { λ head. Some (head_text head) };
+
     fn fmt<W: fmt::Write>(&self, f: &mut fmt::Formatter<W>) -> fmt::Result {
         match self {
             Head::Zero { actor, operation } => write!(f, "{actor} {operation} = 0"),
