@@ -48,6 +48,7 @@ fn command<'a>(alloc: Global) -> Result<Command<'a>, AllocError> {
     Command::new(alloc, "sysvmsg")
         .about("System V message queues")
         .subcommand_required(true)
+        .disable_help_subcommand(true)
         .subcommand(script)
 }
 
