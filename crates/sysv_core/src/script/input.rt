@@ -1,4 +1,6 @@
-ghost use Rattle.std.specs.Prelude.{◌≡◌, ◌+◌, ◌<◌, ◌≤◌, [], ◌++◌, length, drop, vec_len, vec_capacity, IfOk, OnErr};
+ghost use Rattle.std.specs.Prelude.{◌≡◌, ◌+◌, ◌<◌, ◌≤◌, [], ◌++◌, length, drop, vec_len, vec_capacity, IfOk, IfErr, OnOk};
+ghost use Rattle.std.specs.Io.KnownBytes.{IsAtEnd};
+ghost use Rattle.sysv_core.specs.Streams.{TakesIn};
 
 use crate::script::ScriptFault;
 use crate::script::line::LINE_BYTES;
@@ -64,7 +66,10 @@ impl Input {
     /// Reads once, behind what waits; the number of bytes that came, 0 at the end.
     pub(crate) fn read_from<R: Read>(&mut self, reader: &mut R) -> Result<usize, ScriptFault>
         requires { length self.old < 9001 }
-        ensures { IfOk result (λ count. length self.new ≡ length self.old + count) }
+        ensures text { OnOk result (TakesIn (R.remaining reader.old) self.old (R.remaining reader.new) self.new) }
+        ensures count { IfOk result (λ count. length self.new ≡ length self.old + count) }
+        ensures end { IfOk result (λ count. count ≡ 0 → IsAtEnd (R.remaining reader.new)) }
+        ensures err { IfErr result (λ fault. fault ≡ ScriptFault.Read) }
     {
         remove_front(&mut self.bytes, self.passed);
         self.passed = 0;
@@ -81,10 +86,12 @@ fn read_behind<R: Read>(
     fresh: &mut [u8],
 ) -> Result<usize, ScriptFault>
     requires { vec_len bytes.old + length fresh.old ≤ vec_capacity bytes.old }
-    ensures room { vec_capacity bytes.old ≤ vec_capacity bytes.new }
+    ensures text { OnOk result (TakesIn (R.remaining reader.old) bytes.old.items (R.remaining reader.new) bytes.new.items) }
     ensures count { IfOk result (λ count. vec_len bytes.new ≡ vec_len bytes.old + count) }
     ensures fits { IfOk result (λ count. count ≤ length fresh.old) }
-    ensures err { OnErr result (bytes.new ≡ bytes.old) }
+    ensures end { IfOk result (λ count. count ≡ 0 → 0 < length fresh.old → IsAtEnd (R.remaining reader.new)) }
+    ensures room { vec_capacity bytes.old ≤ vec_capacity bytes.new }
+    ensures err { IfErr result (λ fault. (fault ≡ ScriptFault.Read) × (bytes.new ≡ bytes.old)) }
 {
     let Ok(count) = reader.read(fresh) else {
         return Err(ScriptFault::Read);
