@@ -1,1 +1,3 @@
+mod LineLemmas
 mod Numerals
+mod StreamLemmas

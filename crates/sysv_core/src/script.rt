@@ -1,6 +1,8 @@
 //! The script language: a text of calls, one a line, that a world runs line by line.
-ghost use Rattle.std.specs.Prelude.{◌≡◌, ◌+◌, ◌<◌, ◌≤◌, length, IfOk, IfSome};
-ghost use Rattle.sysv_core.specs.Found.{IsFoundIn};
+ghost use Rattle.std.specs.Prelude.{false, ◌≡◌, ◌+◌, ◌<◌, ◌≤◌, [], length, take, MatchOption, IfOk, OnOk, OnErr};
+ghost use Rattle.std.specs.Io.KnownBytes.{Appends, IsAtEnd};
+ghost use Rattle.sysv_core.specs.Found.{HasNoEnd, IsFirstLine, FindsLine};
+ghost use Rattle.sysv_core.specs.Streams.{AppendsPart, HandsOn, TakesIn};
 
 mod flags;
 mod head;
@@ -103,7 +105,8 @@ fn run_found(
     found: Found,
     number: u32,
 ) -> Result<(), ScriptFault>
-    requires { IsFoundIn found input.old }
+    requires front { found.len ≤ length input.old }
+    requires behind { found.is_last ≡ false → found.len < length input.old }
 {
     let line = &input.waiting()[..found.len];
     if !run_line(alloc, stage, output, line).map_err(|_| ScriptFault::NoMemory)? {
@@ -152,7 +155,10 @@ fn next_line<R: Read, W: Write>(
     reader: &mut R,
     writer: &mut W,
 ) -> Result<Option<Found>, ScriptFault>
-    ensures { IfOk result (λ found. IfSome found (λ found. IsFoundIn found input.new)) }
+    ensures text { OnOk result (TakesIn (R.remaining reader.old) input.old (R.remaining reader.new) input.new) }
+    ensures answers { OnOk result (HandsOn (W.contents writer.old) output.old (W.contents writer.new) output.new) }
+    ensures found { IfOk result (λ found. FindsLine found input.new (R.remaining reader.new)) }
+    ensures err { OnErr result (AppendsPart (W.contents writer.old) (W.contents writer.new) output.old) }
 {
     let mut seen = 0;
     loop {
@@ -172,11 +178,21 @@ fn next_line<R: Read, W: Write>(
 
 /// The place of the first LF, where none stands in the first `seen` bytes.
 fn line_end(waiting: &[u8], seen: usize) -> Option<usize>
-    requires { seen ≤ length waiting.now }
-    ensures { IfSome result (λ len. len < length waiting.now) }
+    requires within { seen ≤ length waiting.now }
+    requires before { HasNoEnd (take seen waiting.now) }
+    ensures { MatchOption result (HasNoEnd waiting.now) (λ len. IsFirstLine len waiting.now) }
 {
-    let more = waiting[seen..].iter().position(|byte| *byte == b'\n')?;
-    Some(seen + more)
+    match first_end(&waiting[seen..]) {
+        Some(more) => Some(seen + more),
+        None => None,
+    }
+}
+
+/// The place of the first LF.
+fn first_end(text: &[u8]) -> Option<usize>
+    ensures { MatchOption result (HasNoEnd text.now) (λ len. IsFirstLine len text.now) }
+{
+    text.iter().position(|byte| *byte == b'\n')
 }
 
 /// Hands out the answers and reads once; the number of bytes that came, 0 at the end.
@@ -187,7 +203,12 @@ fn read_on<R: Read, W: Write>(
     writer: &mut W,
 ) -> Result<usize, ScriptFault>
     requires { length input.old < 9001 }
-    ensures { IfOk result (λ count. length input.new ≡ length input.old + count) }
+    ensures text { OnOk result (TakesIn (R.remaining reader.old) input.old (R.remaining reader.new) input.new) }
+    ensures count { IfOk result (λ count. length input.new ≡ length input.old + count) }
+    ensures end { IfOk result (λ count. count ≡ 0 → IsAtEnd (R.remaining reader.new)) }
+    ensures answers { OnOk result (Appends (W.contents writer.old) (W.contents writer.new) output.old) }
+    ensures none_left { OnOk result (output.new ≡ []) }
+    ensures err { OnErr result (AppendsPart (W.contents writer.old) (W.contents writer.new) output.old) }
 {
     output.hand_out(writer)?;
     input.read_from(reader)
