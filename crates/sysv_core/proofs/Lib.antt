@@ -1,3 +1,4 @@
+mod FaultLemmas
 mod LineLemmas
 mod Numerals
 mod StreamLemmas

@@ -3,8 +3,9 @@ use Rattle.std.proofs.Common.{Result, Ok, Err}
 use Rattle.std.specs.Prelude.{OnErr}
 use Rattle.std.proofs.Common.{◌≡◌, ◌+◌, ℕ, List, [], ◌++◌, Option, length, take, refl, sym, ap, subst, ◌∙◌, append_assoc, append-nil, arith, take_all}
 use lib.Seq.{take-append-add}
-use Rattle.std.specs.Io.KnownBytes.{Appends, Consumes}
+use Rattle.std.specs.Io.KnownBytes.{Appends}
 use Rattle.std.proofs.KnownBytes.{Appends-nil, Appends-trans, Consumes-nil, Consumes-trans}
+use Rattle.sysv_core.specs.Faults.{Grows}
 use Rattle.sysv_core.specs.Streams.{AppendsPart, HandsOn, TakesIn}
 
 pub HandsOn-none : (a : Option (List ℕ)) (waiting : List ℕ) → HandsOn a waiting a waiting
@@ -13,7 +14,6 @@ HandsOn-none a waiting = ([], refl, Appends-nil a)
 pub HandsOn-all : (a b c : Option (List ℕ)) (waiting rest none : List ℕ) → HandsOn a waiting b rest → Appends b c rest → none ≡ [] → HandsOn a waiting c none
 HandsOn-all a b c waiting rest none before all e =
     (waiting, sym (ap (λ l. waiting ++ l) e ∙ append-nil waiting), subst (Appends a c) (sym before.1) (Appends-trans a b c before.0 rest before.2 all))
-
 
 pub HandsOn-part : (a b c : Option (List ℕ)) (waiting rest : List ℕ) → HandsOn a waiting b rest → AppendsPart b c rest → AppendsPart a c waiting
 HandsOn-part a b c waiting rest before part =
@@ -35,3 +35,15 @@ TakesIn-trans a b c x y z first second =
 pub OnErr-from : {T E P : Type 0} (r : Result T E) → P → OnErr r P
 OnErr-from (Ok x) p = tt
 OnErr-from (Err e) p = p
+
+pub Grows-none : (a : Option (List ℕ)) → Grows a a
+Grows-none a = ([], Appends-nil a)
+
+pub Grows-trans : (a b c : Option (List ℕ)) → Grows a b → Grows b c → Grows a c
+Grows-trans a b c first second = (first.0 ++ second.0, Appends-trans a b c first.0 second.0 first.1 second.1)
+
+pub Grows-handed : (a b : Option (List ℕ)) (waiting rest : List ℕ) → HandsOn a waiting b rest → Grows a b
+Grows-handed a b waiting rest handed = (handed.0, handed.2)
+
+pub Grows-part : (a b : Option (List ℕ)) (bytes : List ℕ) → AppendsPart a b bytes → Grows a b
+Grows-part a b bytes part = (take part.0 bytes, part.1)

@@ -1,6 +1,6 @@
 -- Where a line of a script stands among the bytes that were read (this project's script language:
 -- lines end with LF, and the last may lack it; a line has at most 9,000 bytes).
-use Rattle.std.specs.Prelude.{◌≡◌, ◌<◌, ◌≤◌, ◌⊎◌, ℕ, List, [], Option, Some, None, length, take, slice_get, true, false, Contains}
+use Rattle.std.specs.Prelude.{◌≡◌, ◌<◌, ◌⊎◌, ℕ, List, [], Option, Some, None, length, take, slice_get, true, false, Contains}
 use Rattle.std.specs.Io.KnownBytes.{IsAtEnd}
 use Rattle.sysv_core.specs.declared.script.Found.{Found}
 

@@ -1,3 +1,4 @@
+pub mod Faults
 pub mod Found
 pub mod Heads
 pub mod Streams

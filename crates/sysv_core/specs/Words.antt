@@ -1,5 +1,5 @@
 -- The words and numerals of a line of a script (this project's script language).
-use Rattle.std.specs.Prelude.{◌≡◌, ◌==◌, ℕ, ℤ, pos, neg_ℤ, Bool, List, ◌∷◌, ◌++◌, length, drop, slice_index, Contains, if◌then◌else◌}
+use Rattle.std.specs.Prelude.{◌≡◌, ◌==◌, ℕ, ℤ, pos, neg_ℤ, Bool, List, ◌∷◌, ◌++◌, drop, slice_index, Contains, if◌then◌else◌}
 use Rattle.std.specs.Str.Parse.{IsNumeral, digits_value}
 
 -- the text begins with the word, one space, and the rest; there is no space in the word

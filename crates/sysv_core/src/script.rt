@@ -1,6 +1,7 @@
 //! The script language: a text of calls, one a line, that a world runs line by line.
-ghost use Rattle.std.specs.Prelude.{false, ◌≡◌, ◌+◌, ◌<◌, ◌≤◌, [], length, take, MatchOption, IfOk, OnOk, OnErr};
+ghost use Rattle.std.specs.Prelude.{false, true, ◌≡◌, ◌+◌, ◌<◌, ◌≤◌, [], length, take, drop, MatchOption, IfOk, IfErr, OnOk, OnErr};
 ghost use Rattle.std.specs.Io.KnownBytes.{Appends, IsAtEnd};
+ghost use Rattle.sysv_core.specs.Faults.{Grows, IsStreamFault, EndsAtLine, LeavesBadLine, TellsBadLine};
 ghost use Rattle.sysv_core.specs.Found.{HasNoEnd, IsFirstLine, FindsLine};
 ghost use Rattle.sysv_core.specs.Streams.{AppendsPart, HandsOn, TakesIn};
 
@@ -55,15 +56,21 @@ pub fn run_script<R: Read, W: Write>(
     alloc: Global,
     reader: &mut R,
     writer: &mut W,
-) -> Result<(), ScriptFault> {
+) -> Result<(), ScriptFault>
+    // A script that ends well was read to its end.
+    ensures whole { OnOk result (IsAtEnd (R.remaining reader.new)) }
+    // What the writer took stays, and where a line is bad the last line says which.
+    ensures grows { Grows (W.contents writer.old) (W.contents writer.new) }
+    ensures bad { IfErr result (λ fault. TellsBadLine fault (W.contents writer.old) (W.contents writer.new)) }
+{
     let mut input = Input::open(alloc).map_err(|_| ScriptFault::NoMemory)?;
     let mut output = Output::open(alloc).map_err(|_| ScriptFault::NoMemory)?;
     let mut stage = Stage::open(alloc).map_err(|_| ScriptFault::NoMemory)?;
     let run = run_lines(alloc, &mut stage, &mut input, &mut output, reader, writer);
-    match run {
-        Err(ScriptFault::Write) => {}
-        _ => output.hand_out(writer)?,
+    if let Err(ScriptFault::Write) = run {
+        return run;
     }
+    output.hand_out(writer)?;
     run
 }
 
@@ -76,13 +83,17 @@ fn run_lines<R: Read, W: Write>(
     output: &mut Output,
     reader: &mut R,
     writer: &mut W,
-) -> Result<(), ScriptFault> {
-    for number in 1..=SCRIPT_LINES {
+) -> Result<(), ScriptFault>
+    ensures whole { OnOk result (IsAtEnd (R.remaining reader.new)) }
+    ensures grows { Grows (W.contents writer.old) (W.contents writer.new) }
+    ensures bad { IfErr result (λ fault. LeavesBadLine fault output.new) }
+{
+    for passed in 0..SCRIPT_LINES {
         let Some(found) = next_line(input, output, reader, writer)? else {
             return Ok(());
         };
         output.make_room(writer)?;
-        run_found(alloc, stage, input, output, found, number)?;
+        run_found(alloc, stage, input, output, found, passed + 1)?;
         if found.is_last {
             return Ok(());
         }
@@ -96,7 +107,7 @@ fn run_lines<R: Read, W: Write>(
     }
 }
 
-/// Runs the line that was found, and passes over it.
+/// Runs the line that was found, which has this number, and passes over it.
 fn run_found(
     alloc: Global,
     stage: &mut Stage,
@@ -107,10 +118,15 @@ fn run_found(
 ) -> Result<(), ScriptFault>
     requires front { found.len ≤ length input.old }
     requires behind { found.is_last ≡ false → found.len < length input.old }
+    ensures short { OnOk result (found.len ≤ 9000) }
+    ensures rest { OnOk result (found.is_last ≡ false → input.new ≡ drop (found.len + 1) input.old) }
+    ensures bad { IfErr result (λ fault. EndsAtLine fault number output.new) }
 {
     let line = &input.waiting()[..found.len];
-    if !run_line(alloc, stage, output, line).map_err(|_| ScriptFault::NoMemory)? {
-        return Err(bad_line(output, number));
+    match run_line(alloc, stage, output, line) {
+        Ok(true) => {}
+        Ok(false) => return Err(bad_line(output, number)),
+        Err(NoMemory) => return Err(ScriptFault::NoMemory),
     }
     if !found.is_last {
         input.pass_line(found.len);
@@ -124,7 +140,9 @@ fn run_line(
     stage: &mut Stage,
     output: &mut Output,
     line: &[u8],
-) -> Result<bool, NoMemory> {
+) -> Result<bool, NoMemory>
+    ensures { IfOk result (λ understood. understood ≡ true → length line.now ≤ 9000) }
+{
     match line_of(line) {
         Some(line) => stage.run(alloc, line, output),
         None => Ok(false),
@@ -132,7 +150,9 @@ fn run_line(
 }
 
 /// Composes what is said of a bad line.
-fn bad_line(output: &mut Output, number: u32) -> ScriptFault {
+fn bad_line(output: &mut Output, number: u32) -> ScriptFault
+    ensures { EndsAtLine result number output.new }
+{
     match output.tell(Head::Bad { number }) {
         Ok(()) => ScriptFault::Line(number),
         Err(NoMemory) => ScriptFault::NoMemory,
@@ -159,11 +179,15 @@ fn next_line<R: Read, W: Write>(
     ensures answers { OnOk result (HandsOn (W.contents writer.old) output.old (W.contents writer.new) output.new) }
     ensures found { IfOk result (λ found. FindsLine found input.new (R.remaining reader.new)) }
     ensures err { OnErr result (AppendsPart (W.contents writer.old) (W.contents writer.new) output.old) }
+    ensures fault { IfErr result IsStreamFault }
 {
     let mut seen = 0;
     loop {
         if let Some(len) = line_end(input.waiting(), seen) {
-            return Ok(Some(Found { len, is_last: false }));
+            return Ok(Some(Found {
+                len,
+                is_last: false,
+            }));
         }
         seen = input.waiting().len();
         let len = seen;
@@ -171,7 +195,11 @@ fn next_line<R: Read, W: Write>(
             return Ok(Some(Found { len, is_last: true }));
         }
         if read_on(input, output, reader, writer)? == 0 {
-            return Ok(if len == 0 { None } else { Some(Found { len, is_last: true }) });
+            return Ok(if len == 0 {
+                None
+            } else {
+                Some(Found { len, is_last: true })
+            });
         }
     }
 }
@@ -209,7 +237,23 @@ fn read_on<R: Read, W: Write>(
     ensures answers { OnOk result (Appends (W.contents writer.old) (W.contents writer.new) output.old) }
     ensures none_left { OnOk result (output.new ≡ []) }
     ensures err { OnErr result (AppendsPart (W.contents writer.old) (W.contents writer.new) output.old) }
+    ensures fault { IfErr result IsStreamFault }
 {
     output.hand_out(writer)?;
     input.read_from(reader)
+}
+
+#[cfg(test)]
+mod tests {
+    use super::*;
+    use std::test::Fail;
+
+    #[test]
+    fn runs_a_script(rt: HostRuntime) -> Result<(), Fail> {
+        let mut reader = b"preset\n1 snd 0 5 - =hello\n2 rcv 0 9 0 -".as_slice();
+        let mut written = Vec::new(rt.alloc());
+        run_script(rt.alloc(), &mut reader, &mut written)?;
+        assert!(rt; written.as_slice() == b"1 snd = 0\n2 rcv = 5 type 5 =hello\n".as_slice());
+        Ok(())
+    }
 }

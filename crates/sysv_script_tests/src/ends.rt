@@ -16,7 +16,11 @@ impl Read for Pieces<'_> {
         if self.good == 0 {
             return Err(io::Error::from(ErrorKind::TimedOut));
         }
-        let count = self.piece.min(self.good).min(self.rest.len()).min(buf.len());
+        let count = self
+            .piece
+            .min(self.good)
+            .min(self.rest.len())
+            .min(buf.len());
         let (front, rest) = self.rest.split_at(count);
         buf[..count].copy_from_slice(front);
         self.rest = rest;

@@ -109,7 +109,10 @@ fn names_bad_lines(rt: HostRuntime) -> Result<(), Fail> {
     for line in BAD.iter() {
         let ending = run_after_preset(rt.alloc(), line)?;
         assert_eq!(rt; ending.end, Err(ScriptFault::Line(2)), "{line:?}");
-        assert!(rt; ending.written.as_slice() == b"line 2: bad\n".as_slice(), "{line:?}");
+        assert!(rt;
+            ending.written.as_slice() == b"line 2: bad\n".as_slice(),
+            "{line:?}"
+        );
     }
     let text = lettered(rt.alloc(), b"1 snd 0 1 NOWAIT =", 8257)?;
     let comment = lettered(rt.alloc(), b"#", 9000)?;
@@ -142,13 +145,19 @@ const ANSWERED: [(&[u8], &[u8]); 34] = [
     (b"1 snd -2147483648 1 NOWAIT =a", b"1 snd ! EINVAL\n"),
     (b"01 snd 000 0001 NOWAIT =a", b"1 snd = 0\n"),
     (b"16 snd -0 9223372036854775807 0 =a b  c ", b"16 snd = 0\n"),
-    (b"1 snd 0 1 CREAT+EXCL+NOWAIT+0777+NOWAIT+07+0 =", b"1 snd = 0\n"),
+    (
+        b"1 snd 0 1 CREAT+EXCL+NOWAIT+0777+NOWAIT+07+0 =",
+        b"1 snd = 0\n",
+    ),
     (b"1 snd 0 1 EXCEPT =a", b"1 snd = 0\n"),
     (b"1 snd 0 1 NOERROR =a", b"1 snd = 0\n"),
     (b"1 snd 0 1 - ==", b"1 snd = 0\n"),
     (b"1 rcv 0 100 0 NOWAIT", b"1 rcv ! ENOMSG\n"),
     (b"1 rcv 0 4294967295 -0 NOWAIT", b"1 rcv ! ENOMSG\n"),
-    (b"0000000000000000000000016 rcv 0 -0 0 NOWAIT", b"16 rcv ! ENOMSG\n"),
+    (
+        b"0000000000000000000000016 rcv 0 -0 0 NOWAIT",
+        b"16 rcv ! ENOMSG\n",
+    ),
     (b"1 rcv 0 100 0 00+NOWAIT", b"1 rcv ! ENOMSG\n"),
     (b"1 rcv -1 100 0 NOWAIT", b"1 rcv ! EINVAL\n"),
     (b"1 rcv 7 100 0 NOWAIT", b"1 rcv ! EINVAL\n"),
@@ -157,8 +166,14 @@ const ANSWERED: [(&[u8], &[u8]); 34] = [
     (b"1 rcv 0 100 5 NOWAIT", b"1 rcv ! EINVAL\n"),
     (b"1 rcv 0 100 -5 NOWAIT", b"1 rcv ! EINVAL\n"),
     (b"1 rcv 0 100 0 NOERROR+NOWAIT", b"1 rcv ! EINVAL\n"),
-    (b"1 snd 0 5 - =\r\n2 rcv 0 1 0 NOWAIT", b"1 snd = 0\n2 rcv = 1 type 5 =\r\n"),
-    (b"1 snd 0 5 - =a\0\xff\xfe=\r\n2 rcv 0 9 0 NOWAIT", b"1 snd = 0\n2 rcv = 6 type 5 =a\0\xff\xfe=\r\n"),
+    (
+        b"1 snd 0 5 - =\r\n2 rcv 0 1 0 NOWAIT",
+        b"1 snd = 0\n2 rcv = 1 type 5 =\r\n",
+    ),
+    (
+        b"1 snd 0 5 - =a\0\xff\xfe=\r\n2 rcv 0 9 0 NOWAIT",
+        b"1 snd = 0\n2 rcv = 6 type 5 =a\0\xff\xfe=\r\n",
+    ),
     (
         b"1 snd 0 7 - =hello\n2 rcv 0 4 0 NOWAIT\n2 rcv 0 5 0 NOWAIT\n2 rcv 0 5 0 NOWAIT",
         b"1 snd = 0\n2 rcv ! E2BIG\n2 rcv = 5 type 7 =hello\n2 rcv ! ENOMSG\n",

@@ -28,7 +28,11 @@ fn is_front(part: &[u8], whole: &[u8]) -> bool {
 #[test]
 fn takes_any_pieces(rt: HostRuntime) -> Result<(), Fail> {
     for piece in [1usize, 2, 3, 7, 20, 9000, 9001, 100_000] {
-        let mut reader = Pieces { rest: SCRIPT, piece, good: usize::MAX };
+        let mut reader = Pieces {
+            rest: SCRIPT,
+            piece,
+            good: usize::MAX,
+        };
         let mut writer = Page::new(piece, 512, false);
         let end = run_script(rt.alloc(), &mut reader, &mut writer);
         assert_eq!(rt; end, Ok(()), "{piece}");
@@ -40,12 +44,20 @@ fn takes_any_pieces(rt: HostRuntime) -> Result<(), Fail> {
 #[test]
 fn says_that_the_reader_failed(rt: HostRuntime) -> Result<(), Fail> {
     for good in 0..SCRIPT.len() {
-        let mut reader = Pieces { rest: SCRIPT, piece: 5, good };
+        let mut reader = Pieces {
+            rest: SCRIPT,
+            piece: 5,
+            good,
+        };
         let mut writer = Page::new(512, 512, false);
         let end = run_script(rt.alloc(), &mut reader, &mut writer);
         assert_eq!(rt; end, Err(ScriptFault::Read), "{good}");
         let lines = SCRIPT[..good].iter().filter(|byte| **byte == b'\n').count();
-        let answers = writer.written().iter().filter(|byte| **byte == b'\n').count();
+        let answers = writer
+            .written()
+            .iter()
+            .filter(|byte| **byte == b'\n')
+            .count();
         assert_eq!(rt; answers, lines.saturating_sub(1), "{good}");
         assert!(rt; is_front(writer.written(), ANSWERS), "{good}");
     }
@@ -77,7 +89,12 @@ fn says_that_the_writer_failed(rt: HostRuntime) -> Result<(), Fail> {
 #[test]
 fn holds_a_conversation(rt: HostRuntime) -> Result<(), Fail> {
     let answers = Cell::new(0u32);
-    let mut reader = Asker { rest: SCRIPT, lines: 0, answers: &answers, missing: 0 };
+    let mut reader = Asker {
+        rest: SCRIPT,
+        lines: 0,
+        answers: &answers,
+        missing: 0,
+    };
     let mut writer = Counter { answers: &answers };
     let end = run_script(rt.alloc(), &mut reader, &mut writer);
     assert_eq!(rt; end, Ok(()));

@@ -43,8 +43,9 @@ fn main(rt: HostRuntime) -> ExitCode {
 
 /// The command line that is understood.
 fn command<'a>(alloc: Global) -> Result<Command<'a>, AllocError> {
-    let script = Command::new(alloc, "script")
-        .about("Runs the script on standard input and prints its answers");
+    let script = Command::new(alloc, "script").about(
+        "Runs the script on standard input and prints its answers",
+    );
     Command::new(alloc, "sysvmsg")
         .about("System V message queues")
         .subcommand_required(true)

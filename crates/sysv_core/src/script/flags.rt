@@ -38,9 +38,7 @@ fn mode_of(digits: &[u8]) -> Option<u32> {
         [] => Some(0),
         [ones] => octal(*ones),
         [eights, ones] => Some(8 * octal(*eights)? + octal(*ones)?),
-        [high, eights, ones] => {
-            Some(64 * octal(*high)? + 8 * octal(*eights)? + octal(*ones)?)
-        }
+        [high, eights, ones] => { Some(64 * octal(*high)? + 8 * octal(*eights)? + octal(*ones)?) }
         _ => None,
     }
 }

@@ -28,9 +28,16 @@ impl fmt::Display for Operation {
 #[derive(Clone, Copy, PartialEq, Eq, Debug)]
 pub(crate) enum Head {
     /// The call succeeded and has nothing to tell.
-    Zero { actor: u32, operation: Operation },
+    Zero {
+        actor: u32,
+        operation: Operation,
+    },
     /// A receive succeeded; its message's text follows.
-    Got { actor: u32, len: usize, mtype: i64 },
+    Got {
+        actor: u32,
+        len: usize,
+        mtype: i64,
+    },
     /// The call was refused.
     Refused {
         actor: u32,
@@ -38,9 +45,13 @@ pub(crate) enum Head {
         why: Errno,
     },
     /// The world is worn out.
-    Worn { actor: u32 },
+    Worn {
+        actor: u32,
+    },
     /// The line with this number is bad.
-    Bad { number: u32 },
+    Bad {
+        number: u32,
+    },
 }
 
 impl fmt::Display for Head {

@@ -1,4 +1,6 @@
 //! What a line of a script says.
+ghost use Rattle.std.specs.Prelude.{◌≤◌, length, OnSome};
+
 use crate::script::flags::flags_of;
 use crate::script::word::{first_word, number};
 use sysv_model::flags::Flags;
@@ -50,7 +52,9 @@ pub(crate) enum Text<'a> {
 }
 
 /// What a line says; `None` where it is none of the language's.
-pub(crate) fn line_of(line: &[u8]) -> Option<Line<'_>> {
+pub(crate) fn line_of(line: &[u8]) -> Option<Line<'_>>
+    ensures { OnSome result (length line.now ≤ 9000) }
+{
     if line.len() > LINE_BYTES {
         return None;
     }

@@ -1,4 +1,4 @@
-ghost use Rattle.std.specs.Prelude.{◌≡◌, [], ◌∷◌, ◌++◌, IfOk, OnOk, OnErr};
+ghost use Rattle.std.specs.Prelude.{◌≡◌, [], ◌∷◌, ◌++◌, IfOk, IfErr, OnOk, OnErr};
 ghost use Rattle.std.specs.Io.KnownBytes.{Appends};
 ghost use Rattle.sysv_core.specs.Heads.{head_text};
 ghost use Rattle.sysv_core.specs.Streams.{AppendsPart, HandsOn};
@@ -75,6 +75,7 @@ impl Output {
     pub(crate) fn make_room<W: Write>(&mut self, writer: &mut W) -> Result<(), ScriptFault>
         ensures ok { OnOk result (HandsOn (W.contents writer.old) self.old (W.contents writer.new) self.new) }
         ensures err { OnErr result (AppendsPart (W.contents writer.old) (W.contents writer.new) self.old) }
+        ensures fault { IfErr result (λ fault. fault ≡ ScriptFault.Write) }
     {
         if self.bytes.len() > OUTPUT_ROOM - LONGEST {
             self.hand_out(writer)?;
@@ -87,6 +88,7 @@ impl Output {
         ensures ok { OnOk result (Appends (W.contents writer.old) (W.contents writer.new) self.old) }
         ensures none_left { OnOk result (self.new ≡ []) }
         ensures err { OnErr result (AppendsPart (W.contents writer.old) (W.contents writer.new) self.old) }
+        ensures fault { IfErr result (λ fault. fault ≡ ScriptFault.Write) }
     {
         write_out(&self.bytes, writer)?;
         self.bytes.clear();
@@ -120,6 +122,7 @@ fn append_text(bytes: &mut Vec<u8>, text: &Body) -> Result<(), NoMemory>
 fn write_out<W: Write>(bytes: &[u8], writer: &mut W) -> Result<(), ScriptFault>
     ensures ok { OnOk result (Appends (W.contents writer.old) (W.contents writer.new) bytes.now) }
     ensures err { OnErr result (AppendsPart (W.contents writer.old) (W.contents writer.new) bytes.now) }
+    ensures fault { IfErr result (λ fault. fault ≡ ScriptFault.Write) }
 {
     let mut written = 0;
     while written < bytes.len() {

@@ -1,4 +1,4 @@
-use Rattle.std.proofs.Common.{rules, ◌≡◌, ℕ, List, ◌++◌, length, take, sym, ap, subst, ◌∙◌, arith}
+use Rattle.std.proofs.Common.{rules, ◌≡◌, length, take, sym, ap, subst, ◌∙◌, arith}
 use Rattle.std.proofs.Math.Seq.{take-append_seam}
 use Rattle.sysv_core.specs.Found.{HasNoEnd}
 use Rattle.sysv_core.proofs.StreamLemmas.{HandsOn-all, HandsOn-part, TakesIn-trans, OnErr-from}
