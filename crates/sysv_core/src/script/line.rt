@@ -1,5 +1,9 @@
 //! What a line of a script says.
-ghost use Rattle.std.specs.Prelude.{◌≤◌, length, OnSome};
+ghost use Rattle.std.specs.Prelude.{◌≡◌, ◌≤◌, pos, length, OnSome, MatchOption};
+ghost use Rattle.std.specs.Option.{SomeIff};
+ghost use Rattle.std.specs.Int.{w32};
+ghost use Rattle.std.specs.Int.RustNames.{FitsSigned};
+ghost use Rattle.sysv_core.specs.Words.{IsNumber, IsSize, IsActor, IsLetters, number_in};
 
 use crate::script::flags::flags_of;
 use crate::script::word::{first_word, number};
@@ -84,7 +88,7 @@ fn send_of(words: &[u8]) -> Option<Request<'_>> {
     let (mtype, rest) = first_word(rest)?;
     let (flags, body) = first_word(rest)?;
     Some(Request::Send {
-        id: i32::try_from(number(id)?).ok()?,
+        id: identifier_of(id)?,
         mtype: number(mtype)?,
         flags: flags_of(flags)?,
         text: text_of(body)?,
@@ -97,35 +101,61 @@ fn receive_of(words: &[u8]) -> Option<Request<'_>> {
     let (size, rest) = first_word(rest)?;
     let (mtype, flags) = first_word(rest)?;
     Some(Request::Receive {
-        id: i32::try_from(number(id)?).ok()?,
-        size: u32::try_from(number(size)?).ok()?,
+        id: identifier_of(id)?,
+        size: size_of(size)?,
         mtype: number(mtype)?,
         flags: flags_of(flags)?,
     })
 }
 
-/// An actor's number, 1 to 16.
-fn actor_of(word: &[u8]) -> Option<u32> {
-    let actor = u32::try_from(number(word)?).ok()?;
-    if actor == 0 || actor > SCRIPT_ACTORS {
-        return None;
+/// The identifier of a queue.
+fn identifier_of(word: &[u8]) -> Option<i32>
+    ensures { SomeIff result (IsNumber word.now × FitsSigned w32 (number_in word.now)) (number_in word.now) }
+{
+    match number(word) {
+        Some(identifier) => i32::try_from(identifier).ok(),
+        None => None,
     }
-    Some(actor)
+}
+
+/// The number of bytes that a receive asks for.
+fn size_of(word: &[u8]) -> Option<u32>
+    ensures { MatchOption result (¬ (IsNumber word.now × IsSize (number_in word.now)))
+        (λ size. IsNumber word.now × (number_in word.now ≡ pos size)) }
+{
+    match number(word) {
+        Some(size) => u32::try_from(size).ok(),
+        None => None,
+    }
+}
+
+/// An actor's number, 1 to 16.
+fn actor_of(word: &[u8]) -> Option<u32>
+    ensures { MatchOption result (¬ (IsNumber word.now × IsActor (number_in word.now)))
+        (λ actor. IsNumber word.now × (number_in word.now ≡ pos actor) × (1 ≤ actor) × (actor ≤ 16)) }
+{
+    match size_of(word) {
+        Some(actor) if actor >= 1 && actor <= SCRIPT_ACTORS => Some(actor),
+        _ => None,
+    }
 }
 
 /// `=` and the text itself, or `*N` for N letters x.
 fn text_of(body: &[u8]) -> Option<Text<'_>> {
     match body {
         [b'=', text @ ..] if text.len() <= BODY_ROOM => Some(Text::Given(text)),
-        [b'*', count @ ..] => letters_of(count),
+        [b'*', count @ ..] => Some(Text::Letters(letters_of(count)?)),
         _ => None,
     }
 }
 
-fn letters_of(count: &[u8]) -> Option<Text<'_>> {
-    let count = usize::try_from(number(count)?).ok()?;
-    if count > BODY_ROOM {
-        return None;
+/// The number of letters, 0 to 8,256.
+fn letters_of(word: &[u8]) -> Option<usize>
+    ensures { MatchOption result (¬ (IsNumber word.now × IsLetters (number_in word.now)))
+        (λ count. IsNumber word.now × (number_in word.now ≡ pos count) × (count ≤ 8256)) }
+{
+    match size_of(word) {
+        Some(count) if count as usize <= BODY_ROOM => Some(count as usize),
+        _ => None,
     }
-    Some(Text::Letters(count))
 }
