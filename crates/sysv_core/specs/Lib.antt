@@ -1,4 +1,5 @@
 pub mod Faults
+pub mod FlagNames
 pub mod Found
 pub mod Heads
 pub mod Streams

@@ -1,6 +1,8 @@
 //! The flags of a call, as a script names them.
-ghost use Rattle.std.specs.Prelude.{◌-◌, ◌≤◌};
+ghost use Rattle.std.specs.Prelude.{◌-◌, ◌≤◌, IfSome};
 ghost use Rattle.std.specs.Option.{SomeIff};
+ghost use Rattle.std.specs.Str.Parse.{digits_value};
+ghost use Rattle.sysv_core.specs.FlagNames.{IsMode, NamesFlag};
 
 use bitflags::Flags as _;
 use sysv_model::flags::Flags;
@@ -20,7 +22,9 @@ pub(crate) fn flags_of(word: &[u8]) -> Option<Flags> {
 
 /// The flag that a name stands for, or the bits of an octal mode, which is a `0` and up to three
 /// octal digits behind it. `None` for any other name.
-fn flag_of(name: &[u8]) -> Option<Flags> {
+fn flag_of(name: &[u8]) -> Option<Flags>
+    ensures { IfSome result (λ flags. NamesFlag name.now flags.0) }
+{
     match name {
         b"CREAT" => Some(Flags::IPC_CREAT),
         b"EXCL" => Some(Flags::IPC_EXCL),
@@ -33,7 +37,9 @@ fn flag_of(name: &[u8]) -> Option<Flags> {
 }
 
 /// The number that up to three octal digits stand for. `None` for anything else.
-fn mode_of(digits: &[u8]) -> Option<u32> {
+fn mode_of(digits: &[u8]) -> Option<u32>
+    ensures { SomeIff result (IsMode digits.now) (digits_value 8 digits.now) }
+{
     match digits {
         [] => Some(0),
         [ones] => octal(*ones),
