@@ -3,3 +3,7 @@ pub mod SeenSteps
 pub mod KeptActors
 pub mod Answering
 pub mod Runs
+pub mod Numerals
+pub mod LineLemmas
+pub mod FaultLemmas
+pub mod StreamLemmas

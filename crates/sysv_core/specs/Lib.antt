@@ -18,3 +18,9 @@ pub mod Kept
 pub mod Run
 pub mod AnswerLaw
 pub mod Headline
+pub mod Words
+pub mod FlagNames
+pub mod Heads
+pub mod Streams
+pub mod Found
+pub mod Faults

@@ -4,5 +4,6 @@
 
 pub mod event;
 mod phase;
+pub mod script;
 mod turn;
 pub mod world;

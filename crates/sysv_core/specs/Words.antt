@@ -1,0 +1,34 @@
+-- The words and numerals of a line of a script (this project's script language).
+use Rattle.std.specs.Prelude.{◌≤ℤ◌, ◌≡◌, ◌==◌, ℕ, ℤ, pos, neg_ℤ, Bool, List, ◌∷◌, ◌++◌, drop, slice_index, Contains, if◌then◌else◌}
+use Rattle.std.specs.Str.Parse.{IsNumeral, digits_value}
+
+-- the text begins with the word, one space, and the rest; there is no space in the word
+pub record BeginsWithWord (text word rest : List ℕ) : Type 0 where
+  pub whole : text ≡ word ++ 32 ∷ rest
+  pub one_word : Contains word 32 → ⊥
+
+-- a minus stands first
+abbrev pub is_negative : List ℕ → Bool
+is_negative word = slice_index word 0 == 45
+
+-- the digits, without a minus before them
+abbrev pub digits_in : List ℕ → List ℕ
+digits_in word = if is_negative word then drop 1 word else word
+
+-- decimal digits, one at least, and a minus before them or not
+abbrev pub IsNumber : List ℕ → Type 0
+IsNumber word = IsNumeral 10 (digits_in word)
+
+-- the number that a numeral stands for
+abbrev pub number_in : List ℕ → ℤ
+number_in word = if is_negative word then neg_ℤ (pos (digits_value 10 (digits_in word))) else pos (digits_value 10 (digits_in word))
+
+-- the number is a size, an actor's, a number of letters
+abbrev pub IsSize : ℤ → Type 0
+IsSize number = (pos 0 ≤ℤ number) × (number ≤ℤ pos 4294967295)
+
+abbrev pub IsActor : ℤ → Type 0
+IsActor number = (pos 1 ≤ℤ number) × (number ≤ℤ pos 16)
+
+abbrev pub IsLetters : ℤ → Type 0
+IsLetters number = (pos 0 ≤ℤ number) × (number ≤ℤ pos 8256)

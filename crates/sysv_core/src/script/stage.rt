@@ -1,0 +1,188 @@
+use crate::event::{Answer, Call, Event, Outcome, Stepped};
+use crate::script::head::{Head, Operation};
+use crate::script::line::{Line, Request, SCRIPT_ACTORS, Text};
+use crate::script::output::Output;
+use crate::world::World;
+use std::alloc::Global;
+use sysv_model::body::Body;
+use sysv_model::cred::Cred;
+use sysv_model::no_memory::NoMemory;
+
+/// The blocks of a script's world.
+const SCRIPT_BLOCKS: u32 = 1024;
+
+/// The most steps that a call of a script makes before the next line.
+const STEPS_MOST: u32 = 16;
+
+/// The moment of every step.
+const MOMENT: u64 = 0;
+
+/// The world of a script, and a body for the next receive.
+#[derive(Drop)]
+pub(crate) struct Stage {
+    world: World,
+    spare: Option<Body>,
+}
+
+impl Stage {
+    /// A world of 16 actors with nothing in it.
+    pub(crate) fn open(alloc: Global) -> Result<Stage, NoMemory> {
+        let world = World::open(alloc, SCRIPT_ACTORS, SCRIPT_BLOCKS).map_err(|_| NoMemory)?;
+        let spare = Some(Body::open(alloc)?);
+        Ok(Stage { world, spare })
+    }
+
+    /// Does what a line says, and composes its answer. `false` for a `preset` that comes too late.
+    pub(crate) fn run(
+        &mut self,
+        alloc: Global,
+        line: Line<'_>,
+        output: &mut Output,
+    ) -> Result<bool, NoMemory> {
+        match line {
+            Line::Skipped => Ok(true),
+            Line::Preset => Ok(self.world.preset()),
+            Line::Start { actor, request } => {
+                let operation = operation_of(request);
+                let call = self.call_of(alloc, request)?;
+                let stepped = self.go(actor, call);
+                self.tell(actor, operation, stepped, output)?;
+                Ok(true)
+            }
+        }
+    }
+
+    /// The call that a request asks for, with a body of its own.
+    fn call_of(&mut self, alloc: Global, request: Request<'_>) -> Result<Call, NoMemory> {
+        match request {
+            Request::Send {
+                id,
+                mtype,
+                flags,
+                text,
+            } => {
+                let body = body_of(alloc, text)?;
+                Ok(Call::Send {
+                    id,
+                    mtype,
+                    flags,
+                    body,
+                })
+            }
+            Request::Receive {
+                id,
+                size,
+                mtype,
+                flags,
+            } => {
+                let body = self.spare_body(alloc)?;
+                Ok(Call::Receive {
+                    id,
+                    size,
+                    mtype,
+                    flags,
+                    body,
+                })
+            }
+        }
+    }
+
+    /// The spare body, or a new one where it is away.
+    fn spare_body(&mut self, alloc: Global) -> Result<Body, NoMemory> {
+        match self.spare.take() {
+            Some(body) => Ok(body),
+            None => Body::open(alloc),
+        }
+    }
+
+    /// Starts a call, and makes its steps up to the answer.
+    fn go(&mut self, actor: u32, call: Call) -> Stepped {
+        let cred = cred_of(actor);
+        let mut stepped = self.world.step(Event::Start { actor, cred, call });
+        for _ in 0..STEPS_MOST {
+            match stepped {
+                Stepped::Nothing => {
+                    stepped = self.world.step(Event::Step { actor, now: MOMENT });
+                }
+                _ => break,
+            }
+        }
+        stepped
+    }
+
+    /// Composes the line of an answer, and takes a receive's body back.
+    fn tell(
+        &mut self,
+        actor: u32,
+        operation: Operation,
+        stepped: Stepped,
+        output: &mut Output,
+    ) -> Result<(), NoMemory> {
+        match stepped {
+            Stepped::Nothing => Ok(()),
+            Stepped::Worn => output.tell(Head::Worn { actor }),
+            Stepped::Answer(answer) => {
+                let Answer {
+                    actor,
+                    outcome,
+                    body,
+                } = answer;
+                let head = head_of(actor, operation, outcome);
+                match body {
+                    None => output.tell(head),
+                    Some(body) => self.tell_body(head, body, output),
+                }
+            }
+        }
+    }
+
+    fn tell_body(&mut self, head: Head, body: Body, output: &mut Output) -> Result<(), NoMemory> {
+        let told = output.tell_text(head, &body);
+        self.spare = Some(body);
+        told
+    }
+}
+
+/// A body that holds this text and nothing else.
+fn body_of(alloc: Global, text: Text<'_>) -> Result<Body, NoMemory> {
+    let mut body = Body::open(alloc)?;
+    match text {
+        Text::Given(bytes) => {
+            let _fits = body.push_piece(bytes);
+        }
+        Text::Letters(count) => {
+            for _ in 0..count {
+                let _fits = body.push_piece(b"x");
+            }
+        }
+    }
+    Ok(body)
+}
+
+/// The credentials of a script's actor: user and group 1000, and a process of its own.
+fn cred_of(actor: u32) -> Cred {
+    Cred {
+        uid: 1000,
+        gid: 1000,
+        pid: actor.saturating_add(100),
+    }
+}
+
+fn operation_of(request: Request<'_>) -> Operation {
+    match request {
+        Request::Send { .. } => Operation::Send,
+        Request::Receive { .. } => Operation::Receive,
+    }
+}
+
+fn head_of(actor: u32, operation: Operation, outcome: Outcome) -> Head {
+    match outcome {
+        Outcome::Zero => Head::Zero { actor, operation },
+        Outcome::Got { mtype, len } => Head::Got { actor, len, mtype },
+        Outcome::Refused(why) => Head::Refused {
+            actor,
+            operation,
+            why,
+        },
+    }
+}

@@ -1,0 +1,259 @@
+//! What each line of a script does, and which lines are bad.
+use std::alloc::Global;
+use std::test::Fail;
+use sysv_core::script::{ScriptFault, run_script};
+
+/// What a script writes, and how it ends.
+#[derive(Drop)]
+struct Ending {
+    written: Vec<u8>,
+    end: Result<(), ScriptFault>,
+}
+
+fn run(alloc: Global, script: &[u8]) -> Ending {
+    let mut written = Vec::new(alloc);
+    let mut reader = script;
+    let end = run_script(alloc, &mut reader, &mut written);
+    Ending { written, end }
+}
+
+/// Runs `preset` and this line.
+fn run_after_preset(alloc: Global, line: &[u8]) -> Result<Ending, Fail> {
+    let mut script = Vec::new(alloc);
+    script.extend_from_slice(b"preset\n")?;
+    script.extend_from_slice(line)?;
+    script.push(b'\n')?;
+    Ok(run(alloc, script.as_slice()))
+}
+
+/// A line that ends in this many letters.
+fn lettered(alloc: Global, start: &[u8], letters: usize) -> Result<Vec<u8>, Fail> {
+    let mut line = Vec::from_slice(alloc, start)?;
+    for _ in 0..letters {
+        line.push(b'a')?;
+    }
+    Ok(line)
+}
+
+const BAD: [&[u8]; 66] = [
+    b"hello",
+    b"preset ",
+    b" preset",
+    b"preset preset",
+    b"Preset",
+    b"preset\r",
+    b"preset",
+    b" ",
+    b" # no comment",
+    b"pool 128",
+    b"go 1",
+    b"all",
+    b"as 1 0 0 1",
+    b"now 5",
+    b"1 get 4 CREAT+0600",
+    b"1 rm 0",
+    b"+1 snd 0 1 NOWAIT =a",
+    b"snd",
+    b"snd 0 1 NOWAIT =a",
+    b"1",
+    b"1 snd",
+    b"1 snd 0",
+    b"1 snd 0 1",
+    b"1 snd 0 1 NOWAIT",
+    b"1 snd 0 1 NOWAIT ",
+    b"1 rcv",
+    b"1 rcv 0 100 0",
+    b"1 rcv 0 100 0 ",
+    b"1 rcv 0 100 0 NOWAIT ",
+    b"1 rcv 0 100 0 NOWAIT 1",
+    b"1 rcv 0 100 0 NOWAIT\r",
+    b" 1 rcv 0 100 0 NOWAIT",
+    b"1  rcv 0 100 0 NOWAIT",
+    b"1 rcv 0  100 0 NOWAIT",
+    b"1\trcv 0 100 0 NOWAIT",
+    b"1 SND 0 1 NOWAIT =a",
+    b"0 rcv 0 100 0 NOWAIT",
+    b"17 rcv 0 100 0 NOWAIT",
+    b"-1 rcv 0 100 0 NOWAIT",
+    b"one rcv 0 100 0 NOWAIT",
+    b"4294967297 rcv 0 100 0 NOWAIT",
+    b"1 snd 0 9223372036854775808 NOWAIT =a",
+    b"1 snd 0 -9223372036854775809 NOWAIT =a",
+    b"1 snd 0 +1 NOWAIT =a",
+    b"1 snd 0 - NOWAIT =a",
+    b"1 snd 0 1x NOWAIT =a",
+    b"1 snd 2147483648 1 NOWAIT =a",
+    b"1 snd -2147483649 1 NOWAIT =a",
+    b"1 rcv 0 4294967296 0 NOWAIT",
+    b"1 rcv 0 -1 0 NOWAIT",
+    b"1 snd 0 1 NOWAIT *8257",
+    b"1 snd 0 1 NOWAIT *-1",
+    b"1 snd 0 1 NOWAIT *",
+    b"1 snd 0 1 NOWAIT * 5",
+    b"1 snd 0 1 NOWAIT *5 ",
+    b"1 snd 0 1 NOWAIT a",
+    b"1 snd 0 1  =a",
+    b"1 snd 0 1 NOWAIT+ =a",
+    b"1 snd 0 1 +NOWAIT =a",
+    b"1 snd 0 1 CREAT++EXCL =a",
+    b"1 snd 0 1 NOWAIT+- =a",
+    b"1 snd 0 1 nowait =a",
+    b"1 snd 0 1 0648 =a",
+    b"1 snd 0 1 00644 =a",
+    b"1 snd 0 1 644 =a",
+    b"1 snd 0 1 0-64 =a",
+];
+
+#[test]
+fn names_bad_lines(rt: HostRuntime) -> Result<(), Fail> {
+    for line in BAD.iter() {
+        let ending = run_after_preset(rt.alloc(), line)?;
+        assert_eq!(rt; ending.end, Err(ScriptFault::Line(2)), "{line:?}");
+        assert!(rt;
+            ending.written.as_slice() == b"line 2: bad\n".as_slice(),
+            "{line:?}"
+        );
+    }
+    let text = lettered(rt.alloc(), b"1 snd 0 1 NOWAIT =", 8257)?;
+    let comment = lettered(rt.alloc(), b"#", 9000)?;
+    for line in [text.as_slice(), comment.as_slice()] {
+        let ending = run_after_preset(rt.alloc(), line)?;
+        assert_eq!(rt; ending.end, Err(ScriptFault::Line(2)));
+        assert!(rt; ending.written.as_slice() == b"line 2: bad\n".as_slice());
+    }
+    let script = b"# one\n\n1 rcv 0 1 0 -\n#\nx\n1 rcv 0 1 0 -\n";
+    let ending = run(rt.alloc(), script);
+    assert_eq!(rt; ending.end, Err(ScriptFault::Line(5)));
+    assert!(rt; ending.written.as_slice() == b"1 rcv ! EINVAL\nline 5: bad\n".as_slice());
+    Ok(())
+}
+
+const ANSWERED: [(&[u8], &[u8]); 34] = [
+    (b"", b""),
+    (b"# preset", b""),
+    (b"1 snd 0 0 NOWAIT =a", b"1 snd ! EINVAL\n"),
+    (b"1 snd 0 -1 NOWAIT =a", b"1 snd ! EINVAL\n"),
+    (b"1 snd 0 -9223372036854775808 - =", b"1 snd ! EINVAL\n"),
+    (b"1 snd 0 1 NOWAIT *8192", b"1 snd = 0\n"),
+    (b"1 snd 0 1 NOWAIT *8193", b"1 snd ! EINVAL\n"),
+    (b"1 snd 0 1 NOWAIT *8256", b"1 snd ! EINVAL\n"),
+    (b"1 snd 0 1 NOWAIT *0008256", b"1 snd ! EINVAL\n"),
+    (b"1 snd 0 1 NOWAIT *-0", b"1 snd = 0\n"),
+    (b"1 snd -1 1 NOWAIT =a", b"1 snd ! EINVAL\n"),
+    (b"1 snd 7 1 NOWAIT =a", b"1 snd ! EINVAL\n"),
+    (b"1 snd 2147483647 1 NOWAIT =a", b"1 snd ! EINVAL\n"),
+    (b"1 snd -2147483648 1 NOWAIT =a", b"1 snd ! EINVAL\n"),
+    (b"01 snd 000 0001 NOWAIT =a", b"1 snd = 0\n"),
+    (b"16 snd -0 9223372036854775807 0 =a b  c ", b"16 snd = 0\n"),
+    (
+        b"1 snd 0 1 CREAT+EXCL+NOWAIT+0777+NOWAIT+07+0 =",
+        b"1 snd = 0\n",
+    ),
+    (b"1 snd 0 1 EXCEPT =a", b"1 snd = 0\n"),
+    (b"1 snd 0 1 NOERROR =a", b"1 snd = 0\n"),
+    (b"1 snd 0 1 - ==", b"1 snd = 0\n"),
+    (b"1 rcv 0 100 0 NOWAIT", b"1 rcv ! ENOMSG\n"),
+    (b"1 rcv 0 4294967295 -0 NOWAIT", b"1 rcv ! ENOMSG\n"),
+    (
+        b"0000000000000000000000016 rcv 0 -0 0 NOWAIT",
+        b"16 rcv ! ENOMSG\n",
+    ),
+    (b"1 rcv 0 100 0 00+NOWAIT", b"1 rcv ! ENOMSG\n"),
+    (b"1 rcv -1 100 0 NOWAIT", b"1 rcv ! EINVAL\n"),
+    (b"1 rcv 7 100 0 NOWAIT", b"1 rcv ! EINVAL\n"),
+    (b"1 rcv 0 100 0 EXCEPT", b"1 rcv ! EINVAL\n"),
+    (b"1 rcv 0 100 5 EXCEPT+NOWAIT", b"1 rcv ! EINVAL\n"),
+    (b"1 rcv 0 100 5 NOWAIT", b"1 rcv ! EINVAL\n"),
+    (b"1 rcv 0 100 -5 NOWAIT", b"1 rcv ! EINVAL\n"),
+    (b"1 rcv 0 100 0 NOERROR+NOWAIT", b"1 rcv ! EINVAL\n"),
+    (
+        b"1 snd 0 5 - =\r\n2 rcv 0 1 0 NOWAIT",
+        b"1 snd = 0\n2 rcv = 1 type 5 =\r\n",
+    ),
+    (
+        b"1 snd 0 5 - =a\0\xff\xfe=\r\n2 rcv 0 9 0 NOWAIT",
+        b"1 snd = 0\n2 rcv = 6 type 5 =a\0\xff\xfe=\r\n",
+    ),
+    (
+        b"1 snd 0 7 - =hello\n2 rcv 0 4 0 NOWAIT\n2 rcv 0 5 0 NOWAIT\n2 rcv 0 5 0 NOWAIT",
+        b"1 snd = 0\n2 rcv ! E2BIG\n2 rcv = 5 type 7 =hello\n2 rcv ! ENOMSG\n",
+    ),
+];
+
+#[test]
+fn answers_calls(rt: HostRuntime) -> Result<(), Fail> {
+    for (line, answer) in ANSWERED.iter() {
+        let ending = run_after_preset(rt.alloc(), line)?;
+        assert_eq!(rt; ending.end, Ok(()), "{line:?}");
+        assert!(rt; ending.written.as_slice() == *answer, "{line:?}");
+    }
+    for text in ["1 snd 0 1 NOWAIT =a\n", "1 snd 0 1 NOWAIT =a"] {
+        let ending = run(rt.alloc(), text.as_bytes());
+        assert_eq!(rt; ending.end, Ok(()));
+        assert!(rt; ending.written.as_slice() == b"1 snd ! EINVAL\n".as_slice());
+    }
+    let ending = run(rt.alloc(), b"16 rcv 0 1 0 NOWAIT");
+    assert_eq!(rt; ending.end, Ok(()));
+    assert!(rt; ending.written.as_slice() == b"16 rcv ! EINVAL\n".as_slice());
+    let longest = lettered(rt.alloc(), b"1 snd 0 1 - =", 8256)?;
+    let ending = run_after_preset(rt.alloc(), longest.as_slice())?;
+    assert!(rt; ending.written.as_slice() == b"1 snd ! EINVAL\n".as_slice());
+    let comment = lettered(rt.alloc(), b"#", 8999)?;
+    let ending = run_after_preset(rt.alloc(), comment.as_slice())?;
+    assert_eq!(rt; ending.end, Ok(()));
+    assert!(rt; ending.written.is_empty());
+    Ok(())
+}
+
+const SIXTH_IN: &[u8] = b"preset
+1 snd 0 1 NOWAIT *8192
+1 snd 0 1 NOWAIT *8192
+1 snd 0 1 NOWAIT =x
+1 snd 0 1 NOWAIT =
+";
+
+const SIXTH_OUT: &[u8] = b"1 snd = 0
+1 snd = 0
+1 snd ! EAGAIN
+1 snd = 0
+";
+
+#[test]
+fn keeps_the_limits_of_a_queue(rt: HostRuntime) -> Result<(), Fail> {
+    let ending = run(rt.alloc(), SIXTH_IN);
+    assert_eq!(rt; ending.end, Ok(()));
+    assert!(rt; ending.written.as_slice() == SIXTH_OUT);
+    let mut script = Vec::from_slice(rt.alloc(), b"preset\n")?;
+    let mut answers = Vec::new(rt.alloc());
+    for _ in 0..256 {
+        script.extend_from_slice(b"1 snd 0 1 NOWAIT =\n")?;
+        answers.extend_from_slice(b"1 snd = 0\n")?;
+    }
+    script.extend_from_slice(b"1 snd 0 1 NOWAIT =\n")?;
+    answers.extend_from_slice(b"1 snd ! EAGAIN\n")?;
+    let ending = run(rt.alloc(), script.as_slice());
+    assert_eq!(rt; ending.end, Ok(()));
+    assert!(rt; ending.written.as_slice() == answers.as_slice());
+    Ok(())
+}
+
+#[test]
+fn ends_behind_the_millionth_line(rt: HostRuntime) -> Result<(), Fail> {
+    let last = b"1 rcv 0 1 0 -".as_slice();
+    let ends = [
+        (b"".as_slice(), Ok(())),
+        (b"\n".as_slice(), Ok(())),
+        (b"\n#".as_slice(), Err(ScriptFault::Bound)),
+        (b"\n\n".as_slice(), Err(ScriptFault::Bound)),
+        (b"\nx\n".as_slice(), Err(ScriptFault::Bound)),
+    ];
+    for (behind, end) in ends.iter() {
+        let mut script = Vec::from_elem(rt.alloc(), b'\n', 999_999)?;
+        script.extend_from_slice(last)?;
+        script.extend_from_slice(behind)?;
+        let ending = run(rt.alloc(), script.as_slice());
+        assert_eq!(rt; ending.end, *end, "{behind:?}");
+        assert!(rt; ending.written.as_slice() == b"1 rcv ! EINVAL\n".as_slice());
+    }
+    Ok(())
+}

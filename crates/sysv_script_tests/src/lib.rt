@@ -1,0 +1,9 @@
+//! Tests of the script language over whole scripts, with readers and writers of many habits.
+#![tactic(auto)]
+
+#[cfg(test)]
+mod ends;
+#[cfg(test)]
+mod language;
+#[cfg(test)]
+mod streams;
