@@ -3,6 +3,7 @@ pub mod SeenSteps
 pub mod KeptActors
 pub mod Answering
 pub mod Runs
+pub mod Going
 pub mod Numerals
 pub mod LineLemmas
 pub mod FaultLemmas

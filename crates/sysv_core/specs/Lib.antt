@@ -24,3 +24,5 @@ pub mod Heads
 pub mod Streams
 pub mod Found
 pub mod Faults
+pub mod ScriptRun
+pub mod LineSays

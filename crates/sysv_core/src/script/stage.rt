@@ -1,3 +1,13 @@
+ghost use Rattle.std.specs.Prelude.{◌≡◌, ◌+◌, ◌<◌, ◌++◌, List, ℕ, replicate, IfOk, OnOk, OnErr, [], ◌∷◌, ◌≤◌, length, Some};
+ghost use Rattle.sysv_core.specs.Heads.{head_text};
+ghost use Rattle.sysv_core.specs.Seen.{IsSeenAs};
+ghost use Rattle.sysv_core.specs.World.{World as Model};
+ghost use Rattle.sysv_core.specs.Run.{StandsFor};
+ghost use Rattle.sysv_core.specs.ScriptRun.{LineRuns, CallRuns, printed};
+ghost use Rattle.sysv_core.specs.ScriptRun.{cred_of as script_cred, operation_of as call_operation, head_for};
+ghost use Rattle.sysv_core.specs.LineSays.{said_of, bytes_of, HasRoomFor, IsSound};
+ghost use Rattle.sysv_core.specs.LineSays.{call_of as request_call};
+
 use crate::event::{Answer, Call, Event, Outcome, Stepped};
 use crate::script::head::{Head, Operation};
 use crate::script::line::{Line, Request, SCRIPT_ACTORS, Text};
@@ -26,7 +36,9 @@ pub(crate) struct Stage {
 
 impl Stage {
     /// A world of 16 actors with nothing in it.
-    pub(crate) fn open(alloc: Global) -> Result<Stage, NoMemory> {
+    pub(crate) fn open(alloc: Global) -> Result<Stage, NoMemory>
+        ensures { IfOk result (λ stage. StandsFor 16 [] [] stage.world) }
+    {
         let world = World::open(alloc, SCRIPT_ACTORS, SCRIPT_BLOCKS).map_err(|_| NoMemory)?;
         let spare = Some(Body::open(alloc)?);
         Ok(Stage { world, spare })
@@ -38,7 +50,12 @@ impl Stage {
         alloc: Global,
         line: Line<'_>,
         output: &mut Output,
-    ) -> Result<bool, NoMemory> {
+    ) -> Result<bool, NoMemory>
+        requires { IsSound line }
+        ensures runs { IfOk result (λ understood. (w : Model) → IsSeenAs w self.old.world →
+            (after : Model) × (out : List ℕ) × LineRuns w (said_of line.entry) understood out after
+            × IsSeenAs after self.new.world × (output.new ≡ output.old ++ out)) }
+    {
         match line {
             Line::Skipped => Ok(true),
             Line::Preset => Ok(self.world.preset()),
@@ -53,7 +70,11 @@ impl Stage {
     }
 
     /// The call that a request asks for, with a body of its own.
-    fn call_of(&mut self, alloc: Global, request: Request<'_>) -> Result<Call, NoMemory> {
+    fn call_of(&mut self, alloc: Global, request: Request<'_>) -> Result<Call, NoMemory>
+        requires { HasRoomFor request }
+        ensures call { IfOk result (λ call. call ≡ request_call request.entry) }
+        ensures world { self.new.world ≡ self.old.world }
+    {
         match request {
             Request::Send {
                 id,
@@ -88,15 +109,25 @@ impl Stage {
     }
 
     /// The spare body, or a new one where it is away.
-    fn spare_body(&mut self, alloc: Global) -> Result<Body, NoMemory> {
+    fn spare_body(&mut self, alloc: Global) -> Result<Body, NoMemory>
+        ensures empty { IfOk result (λ body. body ≡ []) }
+        ensures world { self.new.world ≡ self.old.world }
+    {
         match self.spare.take() {
-            Some(body) => Ok(body),
+            Some(mut body) => {
+                body.clear();
+                Ok(body)
+            }
             None => Body::open(alloc),
         }
     }
 
     /// Starts a call, and makes its steps up to the answer.
-    fn go(&mut self, actor: u32, call: Call) -> Stepped {
+    fn go(&mut self, actor: u32, call: Call) -> Stepped
+        requires { actor ≤ 16 }
+        ensures { (w : Model) → IsSeenAs w self.old.world →
+            (after : Model) × CallRuns w actor call result after × IsSeenAs after self.new.world }
+    {
         let cred = cred_of(actor);
         let mut stepped = self.world.step(Event::Start { actor, cred, call });
         for _ in 0..STEPS_MOST {
@@ -117,7 +148,11 @@ impl Stage {
         operation: Operation,
         stepped: Stepped,
         output: &mut Output,
-    ) -> Result<(), NoMemory> {
+    ) -> Result<(), NoMemory>
+        ensures told { OnOk result (output.new ≡ output.old ++ printed actor operation stepped) }
+        ensures err { OnErr result (output.new ≡ []) }
+        ensures world { self.new.world ≡ self.old.world }
+    {
         match stepped {
             Stepped::Nothing => Ok(()),
             Stepped::Worn => output.tell(Head::Worn { actor }),
@@ -136,7 +171,11 @@ impl Stage {
         }
     }
 
-    fn tell_body(&mut self, head: Head, body: Body, output: &mut Output) -> Result<(), NoMemory> {
+    fn tell_body(&mut self, head: Head, body: Body, output: &mut Output) -> Result<(), NoMemory>
+        ensures told { OnOk result (output.new ≡ output.old ++ (head_text head ++ (body ++ 10 ∷ []))) }
+        ensures err { OnErr result (output.new ≡ []) }
+        ensures world { self.new.world ≡ self.old.world }
+    {
         let told = output.tell_text(head, &body);
         self.spare = Some(body);
         told
@@ -144,7 +183,10 @@ impl Stage {
 }
 
 /// A body that holds this text and nothing else.
-fn body_of(alloc: Global, text: Text<'_>) -> Result<Body, NoMemory> {
+fn body_of(alloc: Global, text: Text<'_>) -> Result<Body, NoMemory>
+    requires { length (bytes_of text) ≤ 8256 }
+    ensures { IfOk result (λ body. body ≡ bytes_of text.entry) }
+{
     let mut body = Body::open(alloc)?;
     match text {
         Text::Given(bytes) => {
@@ -160,22 +202,29 @@ fn body_of(alloc: Global, text: Text<'_>) -> Result<Body, NoMemory> {
 }
 
 /// The credentials of a script's actor: user and group 1000, and a process of its own.
-fn cred_of(actor: u32) -> Cred {
+fn cred_of(actor: u32) -> Cred
+    requires { actor ≤ 16 }
+    ensures { result ≡ script_cred actor }
+{
     Cred {
         uid: 1000,
         gid: 1000,
-        pid: actor.saturating_add(100),
+        pid: 100 + actor,
     }
 }
 
-fn operation_of(request: Request<'_>) -> Operation {
+fn operation_of(request: Request<'_>) -> Operation
+    ensures { result ≡ call_operation (request_call request.entry) }
+{
     match request {
         Request::Send { .. } => Operation::Send,
         Request::Receive { .. } => Operation::Receive,
     }
 }
 
-fn head_of(actor: u32, operation: Operation, outcome: Outcome) -> Head {
+fn head_of(actor: u32, operation: Operation, outcome: Outcome) -> Head
+    ensures { result ≡ head_for actor operation outcome }
+{
     match outcome {
         Outcome::Zero => Head::Zero { actor, operation },
         Outcome::Got { mtype, len } => Head::Got { actor, len, mtype },
