@@ -68,3 +68,60 @@ impl Body {
         self.bytes[i]
     }
 }
+
+#[cfg(test)]
+mod tests {
+    use super::*;
+    use std::process::Abort;
+
+    /// An open body. Memory is refused once at most.
+    fn open_body(rt: &impl Abort, alloc: Global) -> Body {
+        match Body::open(alloc) {
+            Ok(body) => body,
+            Err(NoMemory) => Body::open(alloc).expect(rt, "a second try"),
+        }
+    }
+
+    #[test]
+    fn a_piece_is_added_whole_or_not_at_all(rt: HostRuntime) {
+        let mut body = open_body(&rt, rt.alloc());
+        assert_eq!(rt; body.len(), 0);
+        let bytes = [7; 8257];
+        let table = [
+            (0, 0, true, 0),
+            (0, 1, true, 1),
+            (0, 8256, true, 8256),
+            (0, 8257, false, 0),
+            (1, 8255, true, 8256),
+            (1, 8256, false, 1),
+            (8192, 64, true, 8256),
+            (8192, 65, false, 8192),
+            (8256, 0, true, 8256),
+            (8256, 1, false, 8256),
+        ];
+        for (held, piece, fits, left) in table {
+            assert!(rt; held <= bytes.len() && piece <= bytes.len());
+            body.clear();
+            assert_eq!(rt; body.len(), 0, "cleared before {held}");
+            assert!(rt; body.push_piece(&bytes[..held]));
+            assert_eq!(rt;
+                body.push_piece(&bytes[..piece]),
+                fits,
+                "{piece} after {held}"
+            );
+            assert_eq!(rt; body.len(), left, "{piece} after {held}");
+        }
+    }
+
+    #[test]
+    fn bytes_stand_in_order(rt: HostRuntime) {
+        let mut body = open_body(&rt, rt.alloc());
+        assert!(rt; body.push_piece(b"he"));
+        assert!(rt; body.push_piece(b"llo"));
+        assert_eq!(rt; body.len(), 5);
+        for (i, byte) in [b'h', b'e', b'l', b'l', b'o'].into_iter().enumerate() {
+            assert!(rt; i < body.len());
+            assert_eq!(rt; body.byte(i), byte, "at {i}");
+        }
+    }
+}

@@ -53,3 +53,46 @@ impl bitflags::Flags for Flags {
         Flags(bits)
     }
 }
+
+#[cfg(test)]
+mod tests {
+    use super::*;
+    use bitflags::Flags as Set;
+
+    #[test]
+    fn named_flags_have_their_numbers(rt: HostRuntime) {
+        let table = [
+            (Flags::OTHER_EXECUTE, 1, "OTHER_EXECUTE"),
+            (Flags::OTHER_WRITE, 2, "OTHER_WRITE"),
+            (Flags::OTHER_READ, 4, "OTHER_READ"),
+            (Flags::GROUP_EXECUTE, 8, "GROUP_EXECUTE"),
+            (Flags::GROUP_WRITE, 16, "GROUP_WRITE"),
+            (Flags::GROUP_READ, 32, "GROUP_READ"),
+            (Flags::USER_EXECUTE, 64, "USER_EXECUTE"),
+            (Flags::USER_WRITE, 128, "USER_WRITE"),
+            (Flags::USER_READ, 256, "USER_READ"),
+            (Flags::IPC_CREAT, 512, "IPC_CREAT"),
+            (Flags::IPC_EXCL, 1024, "IPC_EXCL"),
+            (Flags::IPC_NOWAIT, 2048, "IPC_NOWAIT"),
+            (Flags::MSG_NOERROR, 4096, "MSG_NOERROR"),
+            (Flags::MSG_EXCEPT, 8192, "MSG_EXCEPT"),
+        ];
+        assert_eq!(rt; Flags::flags().len(), table.len());
+        for (flag, number, name) in table {
+            assert_eq!(rt; flag.bits(), number, "{name}");
+            assert_eq!(rt; Flags::from_name(name), Some(flag), "{name}");
+        }
+    }
+
+    #[test]
+    fn all_bits_are_kept(rt: HostRuntime) {
+        for bits in [0, 0o777, 16384, 1 << 31, 0xffff_ffff] {
+            assert_eq!(rt; Flags::from_bits_retain(bits).bits(), bits);
+        }
+        let wide = Flags::from_bits_retain(0xffff_ffff);
+        assert!(rt; wide.contains(Flags::MSG_EXCEPT));
+        let made = Flags::IPC_CREAT | Flags::USER_READ | Flags::USER_WRITE;
+        assert_eq!(rt; made.bits(), 0x380);
+        assert!(rt; !made.contains(Flags::IPC_NOWAIT));
+    }
+}
