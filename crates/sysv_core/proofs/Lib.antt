@@ -1,4 +1,5 @@
 mod FaultLemmas
 mod LineLemmas
 mod Numerals
+mod SignedLemmas
 mod StreamLemmas

@@ -2,5 +2,6 @@ pub mod Faults
 pub mod FlagNames
 pub mod Found
 pub mod Heads
+pub mod Lines
 pub mod Streams
 pub mod Words

@@ -1,8 +1,9 @@
 //! What a line of a script says.
-ghost use Rattle.std.specs.Prelude.{◌≡◌, ◌≤◌, pos, length, OnSome, MatchOption};
+ghost use Rattle.std.specs.Prelude.{◌≡◌, ◌≤◌, pos, length, codes, IfSome, OnSome, MatchOption};
 ghost use Rattle.std.specs.Option.{SomeIff};
 ghost use Rattle.std.specs.Int.{w32};
 ghost use Rattle.std.specs.Int.RustNames.{FitsSigned};
+ghost use Rattle.sysv_core.specs.Lines.{SaysText, SaysRequest, Says};
 ghost use Rattle.sysv_core.specs.Words.{IsNumber, IsSize, IsActor, IsLetters, number_in};
 
 use crate::script::flags::flags_of;
@@ -57,7 +58,8 @@ pub(crate) enum Text<'a> {
 
 /// What a line says; `None` where it is none of the language's.
 pub(crate) fn line_of(line: &[u8]) -> Option<Line<'_>>
-    ensures { OnSome result (length line.now ≤ 9000) }
+    ensures short { OnSome result (length line.now ≤ 9000) }
+    ensures says { IfSome result (Says line.now) }
 {
     if line.len() > LINE_BYTES {
         return None;
@@ -70,7 +72,9 @@ pub(crate) fn line_of(line: &[u8]) -> Option<Line<'_>>
 }
 
 /// `A snd ..` and `A rcv ..`: a call of actor A.
-fn start_of(line: &[u8]) -> Option<Line<'_>> {
+fn start_of(line: &[u8]) -> Option<Line<'_>>
+    ensures { IfSome result (Says line.now) }
+{
     let (actor, rest) = first_word(line)?;
     let (operation, rest) = first_word(rest)?;
     let actor = actor_of(actor)?;
@@ -83,7 +87,9 @@ fn start_of(line: &[u8]) -> Option<Line<'_>> {
 }
 
 /// `ID MTYPE FLAGS BODY`.
-fn send_of(words: &[u8]) -> Option<Request<'_>> {
+fn send_of(words: &[u8]) -> Option<Request<'_>>
+    ensures { IfSome result (SaysRequest (codes "snd") words.now) }
+{
     let (id, rest) = first_word(words)?;
     let (mtype, rest) = first_word(rest)?;
     let (flags, body) = first_word(rest)?;
@@ -96,7 +102,9 @@ fn send_of(words: &[u8]) -> Option<Request<'_>> {
 }
 
 /// `ID SIZE MTYPE FLAGS`.
-fn receive_of(words: &[u8]) -> Option<Request<'_>> {
+fn receive_of(words: &[u8]) -> Option<Request<'_>>
+    ensures { IfSome result (SaysRequest (codes "rcv") words.now) }
+{
     let (id, rest) = first_word(words)?;
     let (size, rest) = first_word(rest)?;
     let (mtype, flags) = first_word(rest)?;
@@ -141,7 +149,9 @@ fn actor_of(word: &[u8]) -> Option<u32>
 }
 
 /// `=` and the text itself, or `*N` for N letters x.
-fn text_of(body: &[u8]) -> Option<Text<'_>> {
+fn text_of(body: &[u8]) -> Option<Text<'_>>
+    ensures { IfSome result (SaysText body.now) }
+{
     match body {
         [b'=', text @ ..] if text.len() <= BODY_ROOM => Some(Text::Given(text)),
         [b'*', count @ ..] => Some(Text::Letters(letters_of(count)?)),
