@@ -1,8 +1,6 @@
 -- What a line of a script says (this project's script language): its words stand one space apart,
 -- and the text of a message is the rest of the line.
 use Rattle.std.specs.Prelude.{◌≡◌, ◌≤◌, ◌⊎◌, ⊤, ℕ, ℤ, pos, List, [], ◌∷◌, length, codes, replicate}
-use Rattle.std.specs.Int.{w32, w64}
-use Rattle.std.specs.Int.RustNames.{FitsSigned}
 use Rattle.sysv_core.specs.FlagNames.{IsFlags}
 use Rattle.sysv_core.specs.Words.{SplitsAt, IsNumber, number_in}
 use Rattle.sysv_core.specs.declared.script.line.Text.{Text}
@@ -93,3 +91,16 @@ abbrev pub Says : List ℕ → Line → Type 0
 Says line Skipped = IsSkipped line
 Says line Preset = line ≡ codes "preset"
 Says line (Start actor request) = SaysStart line actor request
+
+-- A text fits a message's body.
+abbrev pub FitsBody : Text → Type 0
+FitsBody text = length (text_bytes text) ≤ 8256
+
+abbrev pub RequestFits : Request → Type 0
+RequestFits (Send id mtype flags text) = FitsBody text
+RequestFits (Receive id size mtype flags) = ⊤
+
+abbrev pub LineFits : Line → Type 0
+LineFits Skipped = ⊤
+LineFits Preset = ⊤
+LineFits (Start actor request) = RequestFits request

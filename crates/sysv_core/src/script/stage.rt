@@ -1,3 +1,7 @@
+ghost use Rattle.std.specs.Prelude.{◌≡◌, ◌≤◌, IfOk};
+ghost use Rattle.sysv_core.specs.Calls.{script_cred, head_telling, operation_asked};
+ghost use Rattle.sysv_core.specs.Lines.{FitsBody, RequestFits, LineFits, text_bytes};
+
 use crate::event::{Answer, Call, Event, Outcome, Stepped};
 use crate::script::head::{Head, Operation};
 use crate::script::line::{Line, Request, SCRIPT_ACTORS, Text};
@@ -38,7 +42,9 @@ impl Stage {
         alloc: Global,
         line: Line<'_>,
         output: &mut Output,
-    ) -> Result<bool, NoMemory> {
+    ) -> Result<bool, NoMemory>
+        requires { LineFits line }
+    {
         match line {
             Line::Skipped => Ok(true),
             Line::Preset => Ok(self.world.preset()),
@@ -53,7 +59,9 @@ impl Stage {
     }
 
     /// The call that a request asks for, with a body of its own.
-    fn call_of(&mut self, alloc: Global, request: Request<'_>) -> Result<Call, NoMemory> {
+    fn call_of(&mut self, alloc: Global, request: Request<'_>) -> Result<Call, NoMemory>
+        requires { RequestFits request }
+    {
         match request {
             Request::Send {
                 id,
@@ -144,14 +152,17 @@ impl Stage {
 }
 
 /// A body that holds this text and nothing else.
-fn body_of(alloc: Global, text: Text<'_>) -> Result<Body, NoMemory> {
+fn body_of(alloc: Global, text: Text<'_>) -> Result<Body, NoMemory>
+    requires { FitsBody text }
+    ensures { IfOk result (λ body. body ≡ text_bytes text.entry) }
+{
     let mut body = Body::open(alloc)?;
     match text {
         Text::Given(bytes) => {
             let _fits = body.push_piece(bytes);
         }
         Text::Letters(count) => {
-            for _ in 0..count {
+            for _written in 0..count {
                 let _fits = body.push_piece(b"x");
             }
         }
@@ -160,7 +171,9 @@ fn body_of(alloc: Global, text: Text<'_>) -> Result<Body, NoMemory> {
 }
 
 /// The credentials of a script's actor: user and group 1000, and a process of its own.
-fn cred_of(actor: u32) -> Cred {
+fn cred_of(actor: u32) -> Cred
+    ensures { actor ≤ 16 → result ≡ script_cred actor }
+{
     Cred {
         uid: 1000,
         gid: 1000,
@@ -168,14 +181,18 @@ fn cred_of(actor: u32) -> Cred {
     }
 }
 
-fn operation_of(request: Request<'_>) -> Operation {
+fn operation_of(request: Request<'_>) -> Operation
+    ensures { result ≡ operation_asked request.entry }
+{
     match request {
         Request::Send { .. } => Operation::Send,
         Request::Receive { .. } => Operation::Receive,
     }
 }
 
-fn head_of(actor: u32, operation: Operation, outcome: Outcome) -> Head {
+fn head_of(actor: u32, operation: Operation, outcome: Outcome) -> Head
+    ensures { result ≡ head_telling actor operation outcome }
+{
     match outcome {
         Outcome::Zero => Head::Zero { actor, operation },
         Outcome::Got { mtype, len } => Head::Got { actor, len, mtype },
