@@ -5,6 +5,7 @@ pub mod Answering
 pub mod Runs
 pub mod Going
 pub mod Numerals
+pub mod SignedLemmas
 pub mod LineLemmas
 pub mod FaultLemmas
 pub mod StreamLemmas

@@ -1,8 +1,7 @@
 -- The flags of a call by the names that a script gives them (this project's script language; the
--- numbers are those of this profile, sys/ipc.h and sys/msg.h), and the text of a message.
-use Rattle.std.specs.Prelude.{◌≡◌, ◌≤◌, ◌⊎◌, ℕ, pos, List, ◌∷◌, length, codes, replicate}
+-- numbers are those of this profile, sys/ipc.h and sys/msg.h).
+use Rattle.std.specs.Prelude.{◌≡◌, ◌≤◌, ◌⊎◌, ℕ, List, ◌∷◌, ◌++◌, length, codes, bit_or}
 use Rattle.std.specs.Str.Parse.{AllDigits, digits_value}
-use Rattle.sysv_core.specs.Words.{IsNumber, number_in}
 
 -- a 0, and up to three octal digits behind it, stand for a mode
 abbrev pub IsMode : List ℕ → Type 0
@@ -17,3 +16,16 @@ NamesFlag name bits =
     ((name ≡ codes "CREAT") × (bits ≡ 512)) ⊎ ((name ≡ codes "EXCL") × (bits ≡ 1024))
     ⊎ ((name ≡ codes "NOWAIT") × (bits ≡ 2048)) ⊎ ((name ≡ codes "NOERROR") × (bits ≡ 4096))
     ⊎ ((name ≡ codes "EXCEPT") × (bits ≡ 8192)) ⊎ NamesMode name bits
+
+-- Names with `+` between them stand, beside the bits of the names before them, for these bits.
+pub data AddsFlags : ℕ → List ℕ → ℕ → Type 0 where
+  One : (before : ℕ) (name : List ℕ) (bits : ℕ) → NamesFlag name bits → AddsFlags before name (bit_or before bits)
+  More : (before : ℕ) (name rest : List ℕ) (bits all : ℕ) → NamesFlag name bits → AddsFlags (bit_or before bits) rest all → AddsFlags before (name ++ 43 ∷ rest) all
+
+-- names with `+` between them stand for the bits of all of them
+abbrev pub ListsFlags : List ℕ → ℕ → Type 0
+ListsFlags list bits = AddsFlags 0 list bits
+
+-- the word stands for these flags
+abbrev pub IsFlags : List ℕ → ℕ → Type 0
+IsFlags word bits = ((word ≡ codes "-") × (bits ≡ 0)) ⊎ ListsFlags word bits

@@ -2,10 +2,10 @@
 use Rattle.std.specs.Prelude.{◌≤ℤ◌, ◌≡◌, ◌==◌, ℕ, ℤ, pos, neg_ℤ, Bool, List, ◌∷◌, ◌++◌, drop, slice_index, Contains, if◌then◌else◌}
 use Rattle.std.specs.Str.Parse.{IsNumeral, digits_value}
 
--- the text begins with the word, one space, and the rest; there is no space in the word
-pub record BeginsWithWord (text word rest : List ℕ) : Type 0 where
-  pub whole : text ≡ word ++ 32 ∷ rest
-  pub one_word : Contains word 32 → ⊥
+-- the text is a part without the mark, the mark, and the rest
+pub record SplitsAt (mark : ℕ) (text part rest : List ℕ) : Type 0 where
+  pub whole : text ≡ part ++ mark ∷ rest
+  pub unmarked : Contains part mark → ⊥
 
 -- a minus stands first
 abbrev pub is_negative : List ℕ → Bool

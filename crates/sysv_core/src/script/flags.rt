@@ -1,29 +1,41 @@
 //! The flags of a call, as a script names them.
-ghost use Rattle.std.specs.Prelude.{◌-◌, ◌≤◌, IfSome};
+ghost use Rattle.std.specs.Prelude.{◌-◌, ◌≤◌, ℕ, IfSome, MatchOption};
 ghost use Rattle.std.specs.Option.{SomeIff};
 ghost use Rattle.std.specs.Str.Parse.{digits_value};
-ghost use Rattle.sysv_core.specs.FlagNames.{IsMode, NamesFlag};
+ghost use Rattle.sysv_core.specs.FlagNames.{IsMode, NamesFlag, ListsFlags, IsFlags};
 
+use crate::script::word::split_at_mark;
 use bitflags::Flags as _;
 use sysv_model::flags::Flags;
 
 /// The flags that a word names: `-` for none, or names and octal modes with `+` between them.
 /// `None` for any other word.
-pub(crate) fn flags_of(word: &[u8]) -> Option<Flags> {
+pub(crate) fn flags_of(word: &[u8]) -> Option<Flags>
+    ensures { IfSome result (λ flags. IsFlags word.now flags.0) }
+{
+    match word {
+        b"-" => Some(Flags::empty()),
+        _ => listed_flags(word),
+    }
+}
+
+/// The flags that names and octal modes with `+` between them stand for.
+fn listed_flags(list: &[u8]) -> Option<Flags>
+    ensures { IfSome result (λ flags. ListsFlags list.now flags.0) }
+{
     let mut flags = Flags::empty();
-    if let b"-" = word {
-        return Some(flags);
-    }
-    for name in word.split(|byte| *byte == b'+') {
+    let mut rest = list;
+    while let Some((name, behind)) = split_at_mark(rest, b'+') {
         flags = flags.union(flag_of(name)?);
+        rest = behind;
     }
-    Some(flags)
+    Some(flags.union(flag_of(rest)?))
 }
 
 /// The flag that a name stands for, or the bits of an octal mode, which is a `0` and up to three
 /// octal digits behind it. `None` for any other name.
 fn flag_of(name: &[u8]) -> Option<Flags>
-    ensures { IfSome result (λ flags. NamesFlag name.now flags.0) }
+    ensures { MatchOption result ((bits : ℕ) → NamesFlag name.now bits → ⊥) (λ flags. NamesFlag name.now flags.0) }
 {
     match name {
         b"CREAT" => Some(Flags::IPC_CREAT),

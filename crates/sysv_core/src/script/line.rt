@@ -1,9 +1,9 @@
 //! What a line of a script says.
-ghost use Rattle.std.specs.Prelude.{◌≡◌, ◌≤◌, pos, length, OnSome, IfSome, MatchOption};
-ghost use Rattle.sysv_core.specs.LineSays.{IsSound, HasRoomFor, bytes_of};
+ghost use Rattle.std.specs.Prelude.{◌≡◌, ◌≤◌, pos, length, codes, IfSome, OnSome, MatchOption};
 ghost use Rattle.std.specs.Option.{SomeIff};
 ghost use Rattle.std.specs.Int.{w32};
 ghost use Rattle.std.specs.Int.RustNames.{FitsSigned};
+ghost use Rattle.sysv_core.specs.Lines.{SaysText, SaysRequest, Says, FitsBody, RequestFits, LineFits};
 ghost use Rattle.sysv_core.specs.Words.{IsNumber, IsSize, IsActor, IsLetters, number_in};
 
 use crate::script::flags::flags_of;
@@ -59,7 +59,8 @@ pub(crate) enum Text<'a> {
 /// What a line says; `None` where it is none of the language's.
 pub(crate) fn line_of(line: &[u8]) -> Option<Line<'_>>
     ensures short { OnSome result (length line.now ≤ 9000) }
-    ensures sound { IfSome result IsSound }
+    ensures says { IfSome result (Says line.now) }
+    ensures fits { IfSome result LineFits }
 {
     if line.len() > LINE_BYTES {
         return None;
@@ -73,7 +74,8 @@ pub(crate) fn line_of(line: &[u8]) -> Option<Line<'_>>
 
 /// `A snd ..` and `A rcv ..`: a call of actor A.
 fn start_of(line: &[u8]) -> Option<Line<'_>>
-    ensures { IfSome result IsSound }
+    ensures says { IfSome result (Says line.now) }
+    ensures fits { IfSome result LineFits }
 {
     let (actor, rest) = first_word(line)?;
     let (operation, rest) = first_word(rest)?;
@@ -88,7 +90,8 @@ fn start_of(line: &[u8]) -> Option<Line<'_>>
 
 /// `ID MTYPE FLAGS BODY`.
 fn send_of(words: &[u8]) -> Option<Request<'_>>
-    ensures { IfSome result HasRoomFor }
+    ensures says { IfSome result (SaysRequest (codes "snd") words.now) }
+    ensures fits { IfSome result RequestFits }
 {
     let (id, rest) = first_word(words)?;
     let (mtype, rest) = first_word(rest)?;
@@ -103,7 +106,8 @@ fn send_of(words: &[u8]) -> Option<Request<'_>>
 
 /// `ID SIZE MTYPE FLAGS`.
 fn receive_of(words: &[u8]) -> Option<Request<'_>>
-    ensures { IfSome result HasRoomFor }
+    ensures says { IfSome result (SaysRequest (codes "rcv") words.now) }
+    ensures fits { IfSome result RequestFits }
 {
     let (id, rest) = first_word(words)?;
     let (size, rest) = first_word(rest)?;
@@ -150,7 +154,8 @@ fn actor_of(word: &[u8]) -> Option<u32>
 
 /// `=` and the text itself, or `*N` for N letters x.
 fn text_of(body: &[u8]) -> Option<Text<'_>>
-    ensures { IfSome result (λ text. length (bytes_of text) ≤ 8256) }
+    ensures says { IfSome result (SaysText body.now) }
+    ensures fits { IfSome result FitsBody }
 {
     match body {
         [b'=', text @ ..] if text.len() <= BODY_ROOM => Some(Text::Given(text)),

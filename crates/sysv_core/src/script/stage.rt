@@ -5,8 +5,7 @@ ghost use Rattle.sysv_core.specs.World.{World as Model};
 ghost use Rattle.sysv_core.specs.Run.{StandsFor};
 ghost use Rattle.sysv_core.specs.ScriptRun.{LineRuns, CallRuns, printed};
 ghost use Rattle.sysv_core.specs.ScriptRun.{cred_of as script_cred, operation_of as call_operation, head_for};
-ghost use Rattle.sysv_core.specs.LineSays.{said_of, bytes_of, HasRoomFor, IsSound};
-ghost use Rattle.sysv_core.specs.LineSays.{call_of as request_call};
+ghost use Rattle.sysv_core.specs.Lines.{FitsBody, RequestFits, LineFits, text_bytes, call_asked, said_of};
 
 use crate::event::{Answer, Call, Event, Outcome, Stepped};
 use crate::script::head::{Head, Operation};
@@ -51,7 +50,7 @@ impl Stage {
         line: Line<'_>,
         output: &mut Output,
     ) -> Result<bool, NoMemory>
-        requires { IsSound line }
+        requires { LineFits line }
         ensures runs { IfOk result (λ understood. (w : Model) → IsSeenAs w self.old.world →
             (after : Model) × (out : List ℕ) × LineRuns w (said_of line.entry) understood out after
             × IsSeenAs after self.new.world × (output.new ≡ output.old ++ out)) }
@@ -71,8 +70,8 @@ impl Stage {
 
     /// The call that a request asks for, with a body of its own.
     fn call_of(&mut self, alloc: Global, request: Request<'_>) -> Result<Call, NoMemory>
-        requires { HasRoomFor request }
-        ensures call { IfOk result (λ call. call ≡ request_call request.entry) }
+        requires { RequestFits request }
+        ensures call { IfOk result (λ call. call ≡ call_asked request.entry) }
         ensures world { self.new.world ≡ self.old.world }
     {
         match request {
@@ -184,8 +183,8 @@ impl Stage {
 
 /// A body that holds this text and nothing else.
 fn body_of(alloc: Global, text: Text<'_>) -> Result<Body, NoMemory>
-    requires { length (bytes_of text) ≤ 8256 }
-    ensures { IfOk result (λ body. body ≡ bytes_of text.entry) }
+    requires { FitsBody text }
+    ensures { IfOk result (λ body. body ≡ text_bytes text.entry) }
 {
     let mut body = Body::open(alloc)?;
     match text {
@@ -214,7 +213,7 @@ fn cred_of(actor: u32) -> Cred
 }
 
 fn operation_of(request: Request<'_>) -> Operation
-    ensures { result ≡ call_operation (request_call request.entry) }
+    ensures { result ≡ call_operation (call_asked request.entry) }
 {
     match request {
         Request::Send { .. } => Operation::Send,

@@ -3,16 +3,23 @@ ghost use Rattle.std.specs.Prelude.{MatchOption, Contains};
 ghost use Rattle.std.specs.Option.{SomeIff};
 ghost use Rattle.std.specs.Int.{w64};
 ghost use Rattle.std.specs.Int.RustNames.{FitsSigned};
-ghost use Rattle.sysv_core.specs.Words.{BeginsWithWord, IsNumber, number_in};
+ghost use Rattle.sysv_core.specs.Words.{SplitsAt, IsNumber, number_in};
 
 use std::str;
 
 /// What stands before the first space, and what stands behind it; `None` where there is no space.
 pub(crate) fn first_word(text: &[u8]) -> Option<(&[u8], &[u8])>
-    ensures { MatchOption result (¬ (Contains text.now 32)) (λ split. BeginsWithWord text.now split.0.now split.1.now) }
+    ensures { MatchOption result (¬ (Contains text.now 32)) (λ split. SplitsAt 32 text.now split.0.now split.1.now) }
 {
-    let space = text.iter().position(|byte| *byte == b' ')?;
-    Some((&text[..space], &text[space + 1..]))
+    split_at_mark(text, b' ')
+}
+
+/// What stands before the first such byte, and what stands behind it; `None` where there is none.
+pub(crate) fn split_at_mark(text: &[u8], mark: u8) -> Option<(&[u8], &[u8])>
+    ensures { MatchOption result (¬ (Contains text.now mark)) (λ split. SplitsAt mark text.now split.0.now split.1.now) }
+{
+    let place = text.iter().position(|byte| *byte == mark)?;
+    Some((&text[..place], &text[place + 1..]))
 }
 
 /// The number that a numeral stands for: decimal digits, with a minus before them or not. `None`

@@ -1,7 +1,5 @@
 use Rattle.std.proofs.Common.{◌≡◌, [], sym, refl}
 use Rattle.std.proofs.lemmas.List.{append-nil}
-use Rattle.sysv_core.specs.ScriptRun.{LineRuns}
-use Rattle.sysv_core.specs.LineSays.{said_of}
 use Rattle.sysv_core.proofs.script.stage.Stage.run.Goals as goal
 
 pub returns-in-Preset : goal.returns-in-Preset
