@@ -1,0 +1,4 @@
+pub mod Sums
+pub mod Counting
+pub mod Keeping
+pub mod Learning

@@ -1,0 +1,6 @@
+pub mod Numbers
+pub mod Counter
+pub mod Rule
+pub mod Steps
+pub mod Held
+pub mod Waits
