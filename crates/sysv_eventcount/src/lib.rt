@@ -8,6 +8,8 @@ mod refusals;
 mod rule;
 mod seat;
 mod sequencer;
+#[cfg(test)]
+mod tests;
 mod view;
 mod word;
 

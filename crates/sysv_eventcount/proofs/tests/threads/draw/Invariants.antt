@@ -1,0 +1,5 @@
+use Rattle.std.proofs.Common.{◌≡◌}
+use Rattle.sysv_eventcount.proofs.tests.threads.draw.Given as goal
+
+abbrev pub invariant-loop : goal.invariant-loop
+invariant-loop l = l.seat.counter ≡ l.turns
