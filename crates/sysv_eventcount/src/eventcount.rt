@@ -100,11 +100,10 @@ impl Eventcount {
             pause(turn);
             value = self.read(seat);
         }
-        if value >= goal {
-            Awaited::Reached(value)
-        } else {
-            Awaited::Short(value)
+        if value < goal {
+            return Awaited::Short(value);
         }
+        Awaited::Reached(value)
     }
 
     /// Waits until the value is at least `goal`, and answers it. After some looks it sleeps until a `wake` comes after

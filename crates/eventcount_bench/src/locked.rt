@@ -1,0 +1,31 @@
+//! A count under a lock, as one writes it with std: what eventcounts are measured beside.
+use std::sync::{Condvar, Mutex, Wait};
+
+#[derive(Drop)]
+pub struct LockedCount {
+    value: Mutex<u64>,
+    advanced: Condvar,
+}
+
+impl LockedCount {
+    pub fn new(first: u64) -> LockedCount {
+        LockedCount {
+            value: Mutex::new(first),
+            advanced: Condvar::new(),
+        }
+    }
+
+    /// Adds one, and wakes all who wait.
+    pub fn advance(&self, rt: &impl Wait) {
+        let mut value = self.value.lock(rt);
+        *value = value.wrapping_add(1);
+        drop(value);
+        self.advanced.notify_all();
+    }
+
+    /// Waits until the count is at least `goal`.
+    pub fn await_at_least<R: Wait>(&self, rt: &R, goal: u64) {
+        let value = self.value.lock(rt);
+        self.advanced.wait_while(rt, value, |value| *value < goal);
+    }
+}
