@@ -4,3 +4,4 @@ pub mod Rule
 pub mod Steps
 pub mod Held
 pub mod Waits
+pub mod Drawn

@@ -13,11 +13,9 @@ use std::marker::Model;
 use std::sync::Wait;
 use std::{hint, thread};
 
-/// So many turns of a wait only spin, before it lets other threads run.
-const SPINS: u64 = 64;
-
-/// So often a wait looks before it sleeps.
-const LOOKS: u64 = 64;
+/// So often a wait looks before it sleeps, and so many turns of a bounded wait spin before the others yield. It is some
+/// microseconds, in which another thread that runs can answer; `eventcount_bench` shows what it is worth.
+const SPINS: u64 = 256;
 
 /// A number that only rises. Threads share it by reference, and each steps with a seat of its own.
 #[derive(Drop)]
@@ -115,7 +113,7 @@ impl Eventcount {
         ensures learned { Learns seat.old result }
     {
         for _ in rt.forever() {
-            match self.await_turns(seat, goal, LOOKS) {
+            match self.await_turns(seat, goal, SPINS) {
                 Awaited::Reached(value) => return value,
                 Awaited::Short(value) => self.word.park(rt, value),
             }

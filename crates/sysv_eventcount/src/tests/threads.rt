@@ -1,5 +1,8 @@
 //! Seats in several threads.
-ghost use Rattle.std.specs.Prelude.{◌≡◌, IfSome};
+ghost use Rattle.std.specs.Prelude.{◌≡◌, [], IfSome};
+ghost use Rattle.std.specs.Thread.{IsSync};
+ghost use Rattle.sysv_eventcount.specs.Numbers.{AreBetween};
+ghost use Rattle.sysv_eventcount.specs.Drawn.{HasDrawn, BothHaveDrawn};
 
 use crate::{Awaited, Eventcount, Seat, Sequencer};
 use std::alloc::Global;
@@ -13,50 +16,81 @@ use std::thread::{Threads, join};
 /// What each of the threads does so often.
 const TIMES: u64 = 100;
 
-// The tickets that one seat draws.
-fn draw(alloc: Global, turns: &Sequencer, mut seat: Seat) -> Option<Vec<u64>>
+// Draws some tickets with a seat, and gives them beside it.
+fn draw(alloc: Global, turns: &Sequencer, mut seat: Seat) -> Option<(Seat, Vec<u64>)>
     requires { seat.counter ≡ turns.now }
+    ensures { IfSome result (λ d. HasDrawn seat d.0 d.1.items) }
 {
     let mut drawn = Vec::new(alloc);
     for _ in 0..TIMES {
         let number = turns.ticket(&mut seat).ok()?;
         drawn.push(number).ok()?;
     }
-    Some(drawn)
+    Some((seat, drawn))
 }
 
-// The tickets of two seats, each in a thread of its own.
+// Draws with two seats, each in a thread of its own, and joins the second into the first.
 fn draw_both<R: Threads + Sync>(
     rt: &R,
     alloc: Global,
     turns: &Sequencer,
     one: Seat,
     two: Seat,
-) -> (Option<Vec<u64>>, Option<Vec<u64>>)
-    requires one { one.counter ≡ turns.now }
-    requires two { two.counter ≡ turns.now }
+) -> Option<(Seat, Vec<u64>)>
+    requires one { (one.counter ≡ turns.now) × (one.own ≡ []) }
+    requires two { (two.counter ≡ turns.now) × (two.own ≡ []) }
+    ensures { IfSome result (λ d. BothHaveDrawn one two d.0 d.1.items) }
 {
-    join(rt, || draw(alloc, turns, one), || draw(alloc, turns, two))
+    let (first, second) = join(
+        rt,
+        || -> Option<(Seat, Vec<u64>)>
+            requires { one.counter ≡ turns.now }
+            ensures { IfSome result (λ d. HasDrawn one d.0 d.1.items) }
+        { draw(alloc, turns, one) },
+        || -> Option<(Seat, Vec<u64>)>
+            requires { two.counter ≡ turns.now }
+            ensures { IfSome result (λ d. HasDrawn two d.0 d.1.items) }
+        { draw(alloc, turns, two) },
+    );
+    let (mut seat, mut drawn) = first?;
+    let (other, mut others) = second?;
+    turns.join(&mut seat, other);
+    drawn.append(&mut others).ok()?;
+    Some((seat, drawn))
+}
+
+// What four threads draw are the numbers below the next ticket, each once and none left out.
+fn draw_by_four<R: Threads + Sync>(rt: &R, alloc: Global) -> Option<(u64, Vec<u64>)>
+    ensures { IfSome result (λ all. AreBetween 0 all.0 all.1.items) }
+{
+    let (turns, mut first) = Sequencer::open(alloc, 0).ok()?;
+    let second = turns.split(&mut first).ok()?;
+    let third = turns.split(&mut first).ok()?;
+    let fourth = turns.split(&mut first).ok()?;
+    let (one, two) = join(
+        rt,
+        || -> Option<(Seat, Vec<u64>)>
+            requires { IsSync R.row × (first.counter ≡ turns) × (second.counter ≡ turns) × (first.own ≡ []) × (second.own ≡ []) }
+            ensures { IfSome result (λ d. BothHaveDrawn first second d.0 d.1.items) }
+        { draw_both(rt, alloc, &turns, first, second) },
+        || -> Option<(Seat, Vec<u64>)>
+            requires { IsSync R.row × (third.counter ≡ turns) × (fourth.counter ≡ turns) × (third.own ≡ []) × (fourth.own ≡ []) }
+            ensures { IfSome result (λ d. BothHaveDrawn third fourth d.0 d.1.items) }
+        { draw_both(rt, alloc, &turns, third, fourth) },
+    );
+    let (mut seat, mut drawn) = one?;
+    let (other, mut others) = two?;
+    turns.join(&mut seat, other);
+    drawn.append(&mut others).ok()?;
+    let next = turns.ticket(&mut seat).ok()?;
+    Some((next, drawn))
 }
 
 #[test]
 fn four_threads_draw_each_number_once(rt: HostRuntime) -> Result<(), Fail> {
-    let alloc: Global = rt.alloc();
-    let (turns, mut first) = Sequencer::open(alloc, 0)?;
-    let second = turns.split(&mut first)?;
-    let third = turns.split(&mut first)?;
-    let fourth = turns.split(&mut first)?;
-    let ((a, b), (c, d)) = join(
-        &rt,
-        || draw_both(&rt, alloc, &turns, first, second),
-        || draw_both(&rt, alloc, &turns, third, fourth),
-    );
-    let mut all = Vec::new(alloc);
-    for part in [a, b, c, d] {
-        all.append(&mut part.ok_or("each thread draws")?)?;
-    }
+    let (next, mut all) = draw_by_four(&rt, rt.alloc()).ok_or("each thread draws")?;
     all.sort()?;
-    assert_eq!(rt; all.len(), 400);
+    assert_eq!(rt; (next, all.len()), (400, 400));
     for (place, number) in all.iter().enumerate() {
         assert_eq!(rt; *number, place as u64);
     }
