@@ -1,14 +1,14 @@
 -- Each kind of step keeps the rule.
-use Rattle.std.proofs.Common.{◌≡◌, ℕ, ◌+◌, ◌-◌, ◌/◌, ◌%◌, ◌^◌, ◌<◌, ◌≤◌, ◌==◌, max, Bool, true, false, cond, List, [], ◌∷◌, ◌++◌, length, set, get_or, sym, refl, ap, ◌∙◌, subst, arith, length-set, length-append, get_or-set_same}
+use Rattle.std.proofs.Common.{◌≡◌, ℕ, ◌+◌, ◌%◌, ◌^◌, ◌<◌, ◌≤◌, Bool, true, false, cond, List, [], ◌∷◌, ◌++◌, length, set, get_or, sym, refl, ap, ◌∙◌, subst, arith, length-set, length-append, get_or-set_same}
 use Rattle.std.specs.Prelude.{sum_by, nat_lt}
 use mathlib.Core.Option.{none, some}
 use lib.ListN.{get_elem?}
 use Rattle.std.proofs.lemmas.List.Sums.{sum_by_push}
 use Rattle.std.proofs.lemmas.Bool.Decides.{nat_tests}
 use Rattle.atomic_table.proofs.Lists.{set_else}
-use Rattle.atomic_table.specs.Table.{State, Me, step, keeps, stepped, Allows, Splits, Joins}
+use Rattle.atomic_table.specs.Table.{State, step, keeps, stepped, Allows, Splits, Joins}
 use Rattle.sysv_eventcount.specs.declared.view.View.{View}
-use Rattle.sysv_eventcount.specs.Numbers.{times, once_between, NoneTwice, AreBetween}
+use Rattle.sysv_eventcount.specs.Numbers.{times, once_between, NoneTwice}
 use Rattle.sysv_eventcount.specs.Rule.{cleared_count, Fits, IsKept, OneWord}
 use Rattle.sysv_eventcount.specs.Steps.{Mine, Informs, looked, after_clearing, after_adding, Looks, Clears, Adds, Weighs, left_of, given_of, both_of, spent}
 use Rattle.sysv_eventcount.proofs.Sums.{set_at, each_set, each_snoc, sum_by-set_at, at-le-sum_by, sum_by-le-each, sum_by-alone}

@@ -1,6 +1,6 @@
 -- How a seat is kept between two calls: no slot is out with it, it is cleared for nothing, and the number that it
 -- carries is its allowance, which is a part of the whole.
-use Rattle.std.specs.Prelude.{◌≡◌, ℕ, ◌^◌, ◌<◌, ◌≤◌, false, []}
+use Rattle.std.specs.Prelude.{◌≡◌, ◌^◌, ◌<◌, ◌≤◌, false, []}
 use Rattle.sysv_eventcount.specs.declared.seat.Seat.TheInside.{Inside}
 use Rattle.sysv_eventcount.specs.Counter.{Holding}
 

@@ -1,5 +1,5 @@
 -- What the steps on the word do to a view, and what they tell the seat.
-use Rattle.std.specs.Prelude.{◌≡◌, ℕ, ◌+◌, ◌-◌, ◌/◌, ◌^◌, ◌≤◌, max, false, List, [], ◌∷◌, ◌++◌, nat_lt}
+use Rattle.std.specs.Prelude.{◌≡◌, ℕ, ◌+◌, ◌-◌, ◌/◌, ◌^◌, ◌≤◌, max, false, [], ◌∷◌, ◌++◌, nat_lt}
 use Rattle.atomic_table.specs.Table.{Me, Step}
 use Rattle.sysv_eventcount.specs.declared.view.View.{View}
 use Rattle.sysv_eventcount.specs.Counter.{Teaches}
