@@ -32,6 +32,17 @@ module _ {A : Type 0} where
     at-le-sum_by (x ∷ xs) zero a at = let is : f x ≡ f a = ap f (some-injective x a at) in omega (arith, sum_by-cons f x xs)
     at-le-sum_by (x ∷ xs) (suc i) a at = let r = at-le-sum_by xs i a at in omega (arith, sum_by-cons f x xs)
 
+    -- two elements have at most what all have
+    pub two-le-sum_by : (xs : List A) (i j : ℕ) (a b : A) → ¬ (i ≡ j) → get_elem? xs i ≡ some a → get_elem? xs j ≡ some b → f a + f b ≤ sum_by f xs
+    two-le-sum_by [] i j a b apart at there = absurd (some-ne-none a (sym at))
+    two-le-sum_by (x ∷ xs) zero zero a b apart at there = absurd (apart refl)
+    two-le-sum_by (x ∷ xs) zero (suc j) a b apart at there =
+        let is : f x ≡ f a = ap f (some-injective x a at) in let r = at-le-sum_by xs j b there in omega (arith, sum_by-cons f x xs)
+    two-le-sum_by (x ∷ xs) (suc i) zero a b apart at there =
+        let is : f x ≡ f b = ap f (some-injective x b there) in let r = at-le-sum_by xs i a at in omega (arith, sum_by-cons f x xs)
+    two-le-sum_by (x ∷ xs) (suc i) (suc j) a b apart at there =
+        let r = two-le-sum_by xs i j a b (λ e. apart (ap suc e)) at there in omega (arith, sum_by-cons f x xs)
+
     module _ (g : A → ℕ) where
       pub sum_by-le-each : (xs : List A) → ((i : ℕ) (a : A) → get_elem? xs i ≡ some a → f a ≤ g a) → sum_by f xs ≤ sum_by g xs
       sum_by-le-each [] each = omega arith

@@ -1,6 +1,7 @@
 pub mod Numbers
 pub mod Counter
 pub mod Rule
+pub mod Laws
 pub mod Steps
 pub mod Held
 pub mod Waits

@@ -4,6 +4,7 @@
 
 mod awaited;
 mod eventcount;
+mod laws;
 mod refusals;
 mod rule;
 mod seat;
@@ -15,6 +16,7 @@ mod word;
 
 pub use awaited::Awaited;
 pub use eventcount::Eventcount;
+pub use laws::{no_number_in_two_seats, no_value_is_invented};
 pub use refusals::{OpenRefused, TooMany, Worn};
 pub use seat::Seat;
 pub use sequencer::Sequencer;
