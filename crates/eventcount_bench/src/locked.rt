@@ -1,14 +1,16 @@
 //! A count under a lock, as one writes it with std: what eventcounts are measured beside.
 use std::sync::{Condvar, Mutex, Wait};
 
+/// A number that only rises, under a lock.
 #[derive(Drop)]
-pub struct LockedCount {
+pub(crate) struct LockedCount {
     value: Mutex<u64>,
     advanced: Condvar,
 }
 
 impl LockedCount {
-    pub fn new(first: u64) -> LockedCount {
+    /// A count whose value is `first`.
+    pub(crate) fn new(first: u64) -> LockedCount {
         LockedCount {
             value: Mutex::new(first),
             advanced: Condvar::new(),
@@ -16,7 +18,7 @@ impl LockedCount {
     }
 
     /// Adds one, and wakes all who wait.
-    pub fn advance(&self, rt: &impl Wait) {
+    pub(crate) fn advance(&self, rt: &impl Wait) {
         let mut value = self.value.lock(rt);
         *value = value.wrapping_add(1);
         drop(value);
@@ -24,7 +26,7 @@ impl LockedCount {
     }
 
     /// Waits until the count is at least `goal`.
-    pub fn await_at_least<R: Wait>(&self, rt: &R, goal: u64) {
+    pub(crate) fn await_at_least<R: Wait>(&self, rt: &R, goal: u64) {
         let value = self.value.lock(rt);
         self.advanced.wait_while(rt, value, |value| *value < goal);
     }

@@ -82,7 +82,11 @@ fn show<R: Threads + Wait + Clock + Print + Sync>(rt: &R, alloc: Global) -> Resu
     Ok(())
 }
 
-pub fn measure<R: Threads + Wait + Clock + Print + Sync>(rt: &R, alloc: Global) -> Result<()> {
+/// Shows both kinds of ping-pong, a few times in turn.
+pub(crate) fn measure<R: Threads + Wait + Clock + Print + Sync>(
+    rt: &R,
+    alloc: Global,
+) -> Result<()> {
     for _ in 0..REPEATS {
         show(rt, alloc)?;
     }

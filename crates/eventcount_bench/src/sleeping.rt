@@ -29,7 +29,8 @@ fn advance_later<R: Wait + Clock>(rt: &R, count: &Eventcount, mut seat: Seat) ->
     advanced
 }
 
-pub fn measure<R: Threads + Wait + Clock + CpuClock + Print + Sync>(
+/// Shows the processor time that a waiting thread uses in a second.
+pub(crate) fn measure<R: Threads + Wait + Clock + CpuClock + Print + Sync>(
     rt: &R,
     alloc: Global,
 ) -> Result<()> {

@@ -89,7 +89,8 @@ fn show<R: Threads + Clock + Print + Sync>(
     Ok(())
 }
 
-pub fn measure<R: Threads + Clock + Print + Sync>(rt: &R, alloc: Global) -> Result<()> {
+/// Shows what an advance takes, and a read.
+pub(crate) fn measure<R: Threads + Clock + Print + Sync>(rt: &R, alloc: Global) -> Result<()> {
     show(rt, alloc, "advance", Kind::Advance)?;
     show(rt, alloc, "read", Kind::Read)
 }

@@ -1,5 +1,5 @@
 -- The rule's laws.
-use Rattle.std.proofs.Common.{ℕ, arith}
+use Rattle.std.proofs.Common.{arith}
 use Rattle.sysv_eventcount.specs.declared.view.View.{View}
 use Rattle.sysv_eventcount.specs.Numbers.{times}
 use Rattle.sysv_eventcount.specs.Laws.{NoNumberInTwoSeats, NoValueIsInvented}

@@ -49,6 +49,31 @@ fn a_sequencer_draws_each_number_once(rt: HostRuntime) -> Result<(), Fail> {
     Ok(())
 }
 
+// It has no handle for waiting, so none of these calls can take one of std's locks.
+fn step_without_waiting(
+    count: &Eventcount,
+    counting: &mut Seat,
+    turns: &Sequencer,
+    drawing: &mut Seat,
+) -> Option<(u64, u64, Awaited)>
+    requires counting { counting.old.counter ≡ count.now }
+    requires drawing { drawing.old.counter ≡ turns.now }
+{
+    let turn = turns.ticket(drawing).ok()?;
+    let awaited = count.await_turns(counting, turn, 1);
+    count.advance(counting).ok()?;
+    Some((turn, count.read(counting), awaited))
+}
+
+#[test]
+fn one_lock_round_everything(rt: HostRuntime) -> Result<(), Fail> {
+    let (count, mut counting) = Eventcount::open(rt.alloc(), 5)?;
+    let (turns, mut drawing) = Sequencer::open(rt.alloc(), 5)?;
+    let stepped = step_without_waiting(&count, &mut counting, &turns, &mut drawing);
+    assert_eq!(rt; stepped, Some((5, 6, Awaited::Reached(5))));
+    Ok(())
+}
+
 // Splits the newest seat up to `most` times, and answers how often it could.
 fn count_splits(count: &Eventcount, seat: Seat, most: u32) -> u32
     requires { seat.counter ≡ count.now }

@@ -12,6 +12,7 @@ use std::sync::atomic::Ordering::SeqCst;
 use std::test::Fail;
 use std::thread;
 use std::thread::{Threads, join};
+use std::time::{Clock, Duration};
 
 /// What each of the threads does so often.
 const TIMES: u64 = 100;
@@ -175,11 +176,13 @@ fn one_thread_at_a_time_is_in_the_section(rt: HostRuntime) -> Result<(), Fail> {
     Ok(())
 }
 
-// Advances as often as it is told, and wakes after each. False where the count is worn out.
-fn advance_often(rt: &impl Wait, count: &Eventcount, mut seat: Seat, times: u64) -> bool
+// Advances as often as it is told, with one wake after each. It pauses before each, so that who waits has gone to sleep.
+// False where the count is worn out.
+fn advance_often<R: Wait + Clock>(rt: &R, count: &Eventcount, mut seat: Seat, times: u64) -> bool
     requires { seat.counter ≡ count.now }
 {
     for _ in 0..times {
+        thread::sleep(rt, Duration::from_millis(5));
         if count.advance(&mut seat).is_err() {
             return false;
         }
@@ -212,7 +215,7 @@ fn wait_for_both<R: Threads + Wait + Sync>(
 }
 
 // Waits for the goal 3, while the other thread advances three times.
-fn wait_and_advance<R: Threads + Wait + Sync>(
+fn wait_and_advance<R: Threads + Wait + Clock + Sync>(
     rt: &R,
     count: &Eventcount,
     waiting: Seat,
