@@ -1,5 +1,5 @@
 //! Eventcounts.
-ghost use Rattle.std.specs.Prelude.{◌≡◌, ◌-◌, ◌^◌, ◌<◌, ◌≤◌, IfOk, OnErr, IsErr, IsErrOf, ◌↔◌};
+ghost use Rattle.std.specs.Prelude.{◌≡◌, ◌-◌, ◌^◌, ◌<◌, ◌≤◌, IfOk, OnOk, OnErr, IsErr, IsErrOf, ◌↔◌};
 ghost use Rattle.sysv_eventcount.specs.Counter.{opened, saw, added, after_split, split_off, after_join, Learns};
 ghost use Rattle.sysv_eventcount.specs.Numbers.{NoneTwice};
 ghost use Rattle.sysv_eventcount.specs.Waits.{value_of, Tells};
@@ -72,11 +72,13 @@ impl Eventcount {
     }
 
     /// Adds one, and answers the value that this addition made. It wakes nobody: call `wake` where threads may sleep.
-    /// `Worn` comes only where the value has reached 2^62, and then nothing is added.
+    /// `Worn` comes only where the value has reached 2^62, and then nothing is added; the seat is answered `Worn` from
+    /// then on.
     pub fn advance(&self, seat: &mut Seat) -> Result<u64, Worn>
         requires { seat.old.counter ≡ self.now }
         ensures ok { IfOk result (λ n. (seat.old.seen < n) × (seat.new ≡ added (n - 1) seat.old)) }
         ensures learned { IfOk result (λ n. Learns seat.new n) }
+        ensures not_worn { OnOk result (seat.old.seen < 2 ^ 62) }
         ensures worn { OnErr result ((2 ^ 62 ≤ seat.new.seen) × (seat.new ≡ saw seat.new.seen seat.old) × Learns seat.old seat.new.seen) }
     {
         let before = self.word.add(seat)?;

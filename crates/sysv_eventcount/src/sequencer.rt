@@ -1,5 +1,5 @@
 //! Sequencers.
-ghost use Rattle.std.specs.Prelude.{◌≡◌, ◌+◌, ◌^◌, ◌<◌, ◌≤◌, IfOk, OnErr, IsErr, IsErrOf, ◌↔◌};
+ghost use Rattle.std.specs.Prelude.{◌≡◌, ◌+◌, ◌^◌, ◌<◌, ◌≤◌, IfOk, OnOk, OnErr, IsErr, IsErrOf, ◌↔◌};
 ghost use Rattle.sysv_eventcount.specs.Counter.{opened, saw, added, after_split, split_off, after_join, Learns};
 ghost use Rattle.sysv_eventcount.specs.Numbers.{NoneTwice};
 
@@ -56,12 +56,14 @@ impl Sequencer {
     }
 
     /// The next ticket: the first value plus the number of tickets before it. No other call answers the same.
-    /// `Worn` comes only where 2^62 has been reached, and then no ticket is drawn.
+    /// `Worn` comes only where 2^62 has been reached, and then no ticket is drawn; the seat is answered `Worn` from then
+    /// on.
     pub fn ticket(&self, seat: &mut Seat) -> Result<u64, Worn>
         requires { seat.old.counter ≡ self.now }
         ensures ok { IfOk result (λ n. seat.new ≡ added n seat.old) }
         ensures learned { IfOk result (λ n. Learns seat.old n) }
         ensures once { IfOk result (λ _. NoneTwice seat.new.own) }
+        ensures not_worn { OnOk result (seat.old.seen < 2 ^ 62) }
         ensures worn { OnErr result ((2 ^ 62 ≤ seat.new.seen) × (seat.new ≡ saw seat.new.seen seat.old) × Learns seat.old seat.new.seen) }
     {
         self.word.add(seat)

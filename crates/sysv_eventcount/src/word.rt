@@ -1,5 +1,5 @@
 //! The word of an eventcount or a sequencer, with all its steps.
-ghost use Rattle.std.specs.Prelude.{◌≡◌, ◌+◌, ◌^◌, ◌<◌, ◌≤◌, IfOk, OnErr, IsErr, IsErrOf, ◌↔◌};
+ghost use Rattle.std.specs.Prelude.{◌≡◌, ◌+◌, ◌^◌, ◌<◌, ◌≤◌, IfOk, OnOk, OnErr, IsErr, IsErrOf, ◌↔◌};
 ghost use Rattle.sysv_eventcount.specs.Counter.{opened, saw, added, after_split, split_off, after_join, Learns};
 
 use crate::refusals::{OpenRefused, TooMany, Worn};
@@ -100,6 +100,7 @@ impl Word {
         requires { seat.old.counter ≡ self.now }
         ensures ok { IfOk result (λ n. seat.new ≡ added n seat.old) }
         ensures learned { IfOk result (λ n. Learns seat.old n × Learns seat.new (n + 1)) }
+        ensures not_worn { OnOk result (seat.old.seen < 2 ^ 62) }
         ensures worn { OnErr result ((2 ^ 62 ≤ seat.new.seen) × (seat.new ≡ saw seat.new.seen seat.old) × Learns seat.old seat.new.seen) }
     {
         let found = self.table.shared.load::<Clearing>(&mut seat.token, 0);
