@@ -53,3 +53,7 @@ pub record Teaches (first seen allowance : ℕ) (own : List ℕ) (n : ℕ) : Typ
 
 abbrev pub Learns : Holding → ℕ → Type 0
 Learns h n = Teaches h.counter.first h.seen h.allowance h.own n
+
+-- the seat has met a word that has reached 2^62, and has added nothing
+abbrev pub MeetsWear : Holding → Holding → Type 0
+MeetsWear before after = (2 ^ 62 ≤ after.seen) × (after ≡ saw after.seen before) × Learns before after.seen

@@ -15,4 +15,5 @@ NoNumberInTwoSeats =
 
 -- the word is at least what any seat has seen
 abbrev pub NoValueIsInvented : Type 0
-NoValueIsInvented = (first n : ℕ) (views : List View) → IsKept first n views → (i : ℕ) (v : View) → get_elem? views i ≡ some v → v.seen ≤ n
+NoValueIsInvented =
+    (first n : ℕ) (views : List View) → IsKept first n views → (i : ℕ) (v : View) → get_elem? views i ≡ some v → v.seen ≤ n

@@ -1,7 +1,6 @@
 //! Eventcounts.
 ghost use Rattle.std.specs.Prelude.{◌≡◌, ◌-◌, ◌^◌, ◌<◌, ◌≤◌, IfOk, OnOk, OnErr, IsErr, IsErrOf, ◌↔◌};
-ghost use Rattle.sysv_eventcount.specs.Counter.{opened, saw, added, after_split, split_off, after_join, Learns};
-ghost use Rattle.sysv_eventcount.specs.Numbers.{NoneTwice};
+ghost use Rattle.sysv_eventcount.specs.Counter.{opened, saw, added, after_split, split_off, after_join, Learns, MeetsWear};
 ghost use Rattle.sysv_eventcount.specs.Waits.{value_of, Tells};
 
 use crate::awaited::Awaited;
@@ -79,7 +78,7 @@ impl Eventcount {
         ensures ok { IfOk result (λ n. (seat.old.seen < n) × (seat.new ≡ added (n - 1) seat.old)) }
         ensures learned { IfOk result (λ n. Learns seat.new n) }
         ensures not_worn { OnOk result (seat.old.seen < 2 ^ 62) }
-        ensures worn { OnErr result ((2 ^ 62 ≤ seat.new.seen) × (seat.new ≡ saw seat.new.seen seat.old) × Learns seat.old seat.new.seen) }
+        ensures worn { OnErr result (MeetsWear seat.old seat.new) }
     {
         let before = self.word.add(seat)?;
         Ok(before + 1)

@@ -1,6 +1,6 @@
 //! Sequencers.
-ghost use Rattle.std.specs.Prelude.{◌≡◌, ◌+◌, ◌^◌, ◌<◌, ◌≤◌, IfOk, OnOk, OnErr, IsErr, IsErrOf, ◌↔◌};
-ghost use Rattle.sysv_eventcount.specs.Counter.{opened, saw, added, after_split, split_off, after_join, Learns};
+ghost use Rattle.std.specs.Prelude.{◌≡◌, ◌^◌, ◌<◌, IfOk, OnOk, OnErr, IsErr, IsErrOf, ◌↔◌};
+ghost use Rattle.sysv_eventcount.specs.Counter.{opened, added, after_split, split_off, after_join, Learns, MeetsWear};
 ghost use Rattle.sysv_eventcount.specs.Numbers.{NoneTwice};
 
 use crate::refusals::{OpenRefused, TooMany, Worn};
@@ -64,7 +64,7 @@ impl Sequencer {
         ensures learned { IfOk result (λ n. Learns seat.old n) }
         ensures once { IfOk result (λ _. NoneTwice seat.new.own) }
         ensures not_worn { OnOk result (seat.old.seen < 2 ^ 62) }
-        ensures worn { OnErr result ((2 ^ 62 ≤ seat.new.seen) × (seat.new ≡ saw seat.new.seen seat.old) × Learns seat.old seat.new.seen) }
+        ensures worn { OnErr result (MeetsWear seat.old seat.new) }
     {
         self.word.add(seat)
     }

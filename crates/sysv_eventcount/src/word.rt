@@ -1,6 +1,6 @@
 //! The word of an eventcount or a sequencer, with all its steps.
 ghost use Rattle.std.specs.Prelude.{◌≡◌, ◌+◌, ◌^◌, ◌<◌, ◌≤◌, IfOk, OnOk, OnErr, IsErr, IsErrOf, ◌↔◌};
-ghost use Rattle.sysv_eventcount.specs.Counter.{opened, saw, added, after_split, split_off, after_join, Learns};
+ghost use Rattle.sysv_eventcount.specs.Counter.{opened, saw, added, after_split, split_off, after_join, Learns, MeetsWear};
 
 use crate::refusals::{OpenRefused, TooMany, Worn};
 use crate::rule::{Adding, Clearing, Counting, Looking, Merge, Share, Weighing};
@@ -101,7 +101,7 @@ impl Word {
         ensures ok { IfOk result (λ n. seat.new ≡ added n seat.old) }
         ensures learned { IfOk result (λ n. Learns seat.old n × Learns seat.new (n + 1)) }
         ensures not_worn { OnOk result (seat.old.seen < 2 ^ 62) }
-        ensures worn { OnErr result ((2 ^ 62 ≤ seat.new.seen) × (seat.new ≡ saw seat.new.seen seat.old) × Learns seat.old seat.new.seen) }
+        ensures worn { OnErr result (MeetsWear seat.old seat.new) }
     {
         let found = self.table.shared.load::<Clearing>(&mut seat.token, 0);
         if found >= LIMIT {
