@@ -1,0 +1,8 @@
+pub mod Numbers
+pub mod Counter
+pub mod Rule
+pub mod Laws
+pub mod Steps
+pub mod Held
+pub mod Waits
+pub mod Drawn

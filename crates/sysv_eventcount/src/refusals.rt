@@ -1,0 +1,21 @@
+//! What the calls refuse.
+use thiserror::Error;
+
+/// Why an eventcount or a sequencer was not opened.
+#[derive(Debug, Drop, Error)]
+pub enum OpenRefused {
+    #[error("out of memory")]
+    NoMemory,
+    #[error("the first value is above 2^62")]
+    BadStart,
+}
+
+/// The seat's allowance is too small to be split.
+#[derive(Debug, Drop, Error)]
+#[error("the allowance is too small to be split")]
+pub struct TooMany;
+
+/// The word has reached 2^62. Nothing was added.
+#[derive(Debug, Drop, Error)]
+#[error("the count is worn out")]
+pub struct Worn;

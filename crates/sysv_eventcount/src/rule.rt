@@ -1,0 +1,71 @@
+//! The rule of the word, and the kinds of step that it allows.
+use crate::view::View;
+use atomic_table::{Join, Play, Split, TableRule};
+
+pub(crate) struct Counting;
+
+impl TableRule<(), View, u64> for Counting {
+    ghost use Rattle.sysv_eventcount.specs.Rule.{OneWord, start};
+
+    ghost holds = { OneWord };
+
+    ghost first = { start };
+}
+
+/// A load that sees the word.
+pub(crate) struct Looking;
+
+impl Play<(), View> for Looking {
+    ghost use Rattle.sysv_eventcount.specs.Steps.{Looks};
+
+    ghost then = { Looks };
+}
+
+/// A load that clears the seat for one addition, where it finds the word below the limit.
+pub(crate) struct Clearing;
+
+impl Play<(), View> for Clearing {
+    ghost use Rattle.sysv_eventcount.specs.Steps.{Clears};
+
+    ghost then = { Clears };
+}
+
+/// The addition.
+pub(crate) struct Adding;
+
+impl Play<(), View> for Adding {
+    ghost use Rattle.sysv_eventcount.specs.Steps.{Adds};
+
+    ghost then = { Adds };
+}
+
+/// A load that tells how large the allowance can be.
+pub(crate) struct Weighing;
+
+impl Play<(), View> for Weighing {
+    ghost use Rattle.sysv_eventcount.specs.Steps.{Weighs};
+
+    ghost then = { Weighs };
+}
+
+/// A 64th of the allowance goes to a new seat.
+pub(crate) struct Share;
+
+impl Split<View> for Share {
+    ghost use Rattle.sysv_eventcount.specs.Steps.{left_of, given_of};
+
+    ghost left = { left_of };
+
+    ghost right = { given_of };
+}
+
+/// One seat takes in another.
+pub(crate) struct Merge;
+
+impl Join<View> for Merge {
+    ghost use Rattle.sysv_eventcount.specs.Steps.{both_of, spent};
+
+    ghost both = { both_of };
+
+    ghost spent = { spent };
+}

@@ -1,0 +1,122 @@
+//! The word of an eventcount or a sequencer, with all its steps.
+ghost use Rattle.std.specs.Prelude.{◌≡◌, ◌+◌, ◌^◌, ◌<◌, ◌≤◌, IfOk, OnOk, OnErr, IsErr, IsErrOf, ◌↔◌};
+ghost use Rattle.sysv_eventcount.specs.Counter.{opened, saw, added, after_split, split_off, after_join, Learns, MeetsWear};
+
+use crate::refusals::{OpenRefused, TooMany, Worn};
+use crate::rule::{Adding, Clearing, Counting, Looking, Merge, Share, Weighing};
+use crate::seat::Seat;
+use crate::view::View;
+use atomic_table::Table;
+use std::alloc::Global;
+use std::marker::Model;
+use std::sync::Wait;
+
+/// From here on nothing is added.
+pub(crate) const LIMIT: u64 = 1 << 62;
+
+/// The allowance of the first seat.
+const WHOLE: u64 = 1 << 61;
+
+/// The part of an allowance that a split gives.
+const PART: u64 = 64;
+
+/// A sleep compares the low 32 bits of the word.
+const LOW_BITS: u64 = 0xffff_ffff;
+
+#[derive(Drop)]
+pub(crate) struct Word {
+    table: Table<(), View, u64, Counting, Global>,
+}
+
+impl Model for Word {
+    ghost use Rattle.std.specs.Prelude.{◌≡◌};
+    ghost use Rattle.sysv_eventcount.specs.Counter.{Counter};
+
+    ghost Value = { Counter };
+
+    ghost view = { λ w. record { table = w.table.shared.table_id; first = w.table.shared.key } };
+
+    ghost invariant = { λ w. w.table.shared.table_id.words ≡ 1 };
+}
+
+impl Word {
+    pub(crate) fn open(alloc: Global, first: u64) -> Result<(Word, Seat), OpenRefused>
+        ensures ok { IfOk result (λ o. (o.0.first ≡ first) × (o.1 ≡ opened o.0) × (first ≤ 2 ^ 62)) }
+        ensures bad_start { IsErrOf result OpenRefused.BadStart ↔ (2 ^ 62 < first) }
+    {
+        if first > LIMIT {
+            return Err(OpenRefused::BadStart);
+        }
+        let Ok((table, token)) = Table::of_words(alloc, &[first], &first) else {
+            return Err(OpenRefused::NoMemory);
+        };
+        let seat = Seat {
+            token,
+            allowance: WHOLE,
+        };
+        Ok((Word { table }, seat))
+    }
+
+    pub(crate) fn split(&self, seat: &mut Seat) -> Result<Seat, TooMany>
+        requires { seat.old.counter ≡ self.now }
+        ensures ok { IfOk result (λ s. (s ≡ split_off seat.old) × (seat.new ≡ after_split seat.old)) }
+        ensures too_many { IsErr result ↔ (seat.old.allowance < 64) }
+        ensures err { OnErr result (seat.new ≡ seat.old) }
+    {
+        if seat.allowance < PART {
+            return Err(TooMany);
+        }
+        let given = seat.allowance / PART;
+        let token = self.table.shared.split_seat::<Share>(&mut seat.token);
+        seat.allowance -= given;
+        Ok(Seat {
+            token,
+            allowance: given,
+        })
+    }
+
+    pub(crate) fn join(&self, seat: &mut Seat, other: Seat)
+        requires seat { seat.old.counter ≡ self.now }
+        requires other { other.counter ≡ self.now }
+        ensures { seat.new ≡ after_join seat.old other }
+    {
+        let Seat { token, allowance } = other;
+        self.table.shared.join_seat::<Merge>(&mut seat.token, token);
+        self.table.shared.load::<Weighing>(&mut seat.token, 0);
+        seat.allowance += allowance;
+    }
+
+    /// The word as it is.
+    pub(crate) fn look(&self, seat: &mut Seat) -> u64
+        requires { seat.old.counter ≡ self.now }
+        ensures seat { seat.new ≡ saw result seat.old }
+        ensures learned { Learns seat.old result }
+    {
+        self.table.shared.load::<Looking>(&mut seat.token, 0)
+    }
+
+    /// Adds one, and answers the number that was there.
+    pub(crate) fn add(&self, seat: &mut Seat) -> Result<u64, Worn>
+        requires { seat.old.counter ≡ self.now }
+        ensures ok { IfOk result (λ n. seat.new ≡ added n seat.old) }
+        ensures learned { IfOk result (λ n. Learns seat.old n × Learns seat.new (n + 1)) }
+        ensures not_worn { OnOk result (seat.old.seen < 2 ^ 62) }
+        ensures worn { OnErr result (MeetsWear seat.old seat.new) }
+    {
+        let found = self.table.shared.load::<Clearing>(&mut seat.token, 0);
+        if found >= LIMIT {
+            return Err(Worn);
+        }
+        let number = self.table.shared.fetch_add::<Adding>(&mut seat.token, 0, 1);
+        Ok(number)
+    }
+
+    /// Sleeps while the word is `value`, until a wake. It may return for no reason.
+    pub(crate) fn park(&self, rt: &impl Wait, value: u64) {
+        self.table.shared.park(rt, 0, (value & LOW_BITS) as u32);
+    }
+
+    pub(crate) fn wake_all(&self) {
+        self.table.shared.wake_all(0);
+    }
+}
