@@ -4,6 +4,8 @@ pub mod KeptActors
 pub mod Answering
 pub mod Runs
 pub mod Going
+pub mod Scripting
+pub mod ScriptEnds
 pub mod Numerals
 pub mod SignedLemmas
 pub mod LineLemmas

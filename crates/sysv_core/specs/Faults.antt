@@ -1,6 +1,6 @@
 -- How a script ends (this project's script language): the last line that is printed for a bad line
 -- says its number, counted from 1, and a script has at most 1,000,000 lines.
-use Rattle.std.specs.Prelude.{◌≡◌, ◌≤◌, ⊤, ℕ, List, [], ◌∷◌, ◌++◌, Option}
+use Rattle.std.specs.Prelude.{◌≡◌, ◌≤◌, ⊤, ℕ, List, [], ◌∷◌, ◌++◌, take, Option}
 use Rattle.std.specs.Io.KnownBytes.{Appends}
 use Rattle.sysv_core.specs.Heads.{head_text}
 use Rattle.sysv_core.specs.declared.script.head.Head.TheVariants.{Bad}
@@ -15,6 +15,10 @@ bad_line_text number = head_text (Bad number) ++ 10 ∷ []
 abbrev pub EndsInBadLine : ℕ → List ℕ → Type 0
 EndsInBadLine number text = (answers : List ℕ) × (text ≡ answers ++ bad_line_text number)
 
+-- a front of the text
+abbrev pub IsFrontOf : List ℕ → List ℕ → Type 0
+IsFrontOf front text = (count : ℕ) × (front ≡ take count text)
+
 -- the reader or the writer has failed
 abbrev pub IsStreamFault : ScriptFault → Type 0
 IsStreamFault Read = ⊤
@@ -23,13 +27,21 @@ IsStreamFault (Line n) = ⊥
 IsStreamFault NoMemory = ⊥
 IsStreamFault Bound = ⊥
 
--- Where this line ends the script it is bad, and what is composed says so last, or memory was refused.
-abbrev pub EndsAtLine : ScriptFault → ℕ → List ℕ → Type 0
-EndsAtLine (Line n) number composed = (n ≡ number) × EndsInBadLine number composed
-EndsAtLine NoMemory number composed = ⊤
-EndsAtLine Read number composed = ⊥
-EndsAtLine Write number composed = ⊥
-EndsAtLine Bound number composed = ⊥
+-- Where this line ends the script it is bad, which is composed behind what was; or memory was refused.
+abbrev pub EndsAtLine : ScriptFault → ℕ → (old new : List ℕ) → Type 0
+EndsAtLine (Line n) number old new = (n ≡ number) × (new ≡ old ++ bad_line_text number)
+EndsAtLine NoMemory number old new = IsFrontOf new old
+EndsAtLine Read number old new = ⊥
+EndsAtLine Write number old new = ⊥
+EndsAtLine Bound number old new = ⊥
+
+-- the fault is that of a bad line
+abbrev pub IsLineFault : ScriptFault → Type 0
+IsLineFault (Line n) = ⊤
+IsLineFault NoMemory = ⊥
+IsLineFault Read = ⊥
+IsLineFault Write = ⊥
+IsLineFault Bound = ⊥
 
 -- A bad line is one of the first million, and what is composed says so last.
 abbrev pub LeavesBadLine : ScriptFault → List ℕ → Type 0

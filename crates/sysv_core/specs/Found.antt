@@ -12,9 +12,11 @@ pub record IsFirstLine (len : ℕ) (text : List ℕ) : Type 0 where
   pub ends : slice_get text len ≡ Some 10
   pub one_line : HasNoEnd (take len text)
 
--- The line is all of the text: no LF stands in it, and it is too long, or nothing comes behind it.
+-- The line is all of the text, which is not empty: no LF stands in it, and it is too long, or nothing
+-- comes behind it.
 pub record IsLastLine (len : ℕ) (text : List ℕ) (left : Option (List ℕ)) : Type 0 where
   pub whole : len ≡ length text
+  pub filled : 0 < len
   pub one_line : HasNoEnd text
   pub last : 9000 < len ⊎ IsAtEnd left
 

@@ -1,8 +1,12 @@
 //! The script language: a text of calls, one a line, that a world runs line by line.
-ghost use Rattle.std.specs.Prelude.{false, true, ◌≡◌, ◌+◌, ◌<◌, ◌≤◌, [], length, take, drop, MatchOption, IfOk, IfErr, OnOk, OnErr};
+ghost use Rattle.std.specs.Prelude.{false, true, ◌≡◌, ◌+◌, ◌<◌, ◌≤◌, ◌++◌, [], ℕ, List, Some, length, take, drop, MatchOption, IfOk, IfErr, OnOk, OnErr};
 ghost use Rattle.std.specs.Io.KnownBytes.{Appends, IsAtEnd};
-ghost use Rattle.sysv_core.specs.Faults.{Grows, IsStreamFault, EndsAtLine, LeavesBadLine, TellsBadLine};
+ghost use Rattle.sysv_core.specs.Faults.{Grows, IsStreamFault, IsLineFault, IsFrontOf, EndsAtLine, LeavesBadLine, TellsBadLine};
 ghost use Rattle.sysv_core.specs.Found.{HasNoEnd, IsFirstLine, FindsLine};
+ghost use Rattle.sysv_core.specs.Seen.{IsSeenAs};
+ghost use Rattle.sysv_core.specs.World.{World as Model};
+ghost use Rattle.sysv_core.specs.ScriptText.{LineDoes, IsBad, WritesScript};
+ghost use Rattle.sysv_core.specs.ScriptSofar.{LineEnds, Leaves, IsText};
 ghost use Rattle.sysv_core.specs.Streams.{AppendsPart, HandsOn, TakesIn};
 
 mod flags;
@@ -57,6 +61,8 @@ pub fn run_script<R: Read, W: Write>(
     reader: &mut R,
     writer: &mut W,
 ) -> Result<(), ScriptFault>
+    // What the writer took is what the text prints; after a fault of a stream or of memory, a front of it.
+    ensures prints { (text : List ℕ) → R.remaining reader.old ≡ Some text → WritesScript result text (W.contents writer.old) (W.contents writer.new) }
     // A script that ends well was read to its end.
     ensures whole { OnOk result (IsAtEnd (R.remaining reader.new)) }
     // What the writer took stays, and where a line is bad the last line says which.
@@ -65,11 +71,10 @@ pub fn run_script<R: Read, W: Write>(
 {
     let mut input = Input::open(alloc).map_err(|_| ScriptFault::NoMemory)?;
     let mut output = Output::open(alloc).map_err(|_| ScriptFault::NoMemory)?;
-    let mut stage = Stage::open(alloc).map_err(|_| ScriptFault::NoMemory)?;
+    let Ok(mut stage) = Stage::open(alloc) else {
+        return Err(ScriptFault::NoMemory);
+    };
     let run = run_lines(alloc, &mut stage, &mut input, &mut output, reader, writer);
-    if let Err(ScriptFault::Write) = run {
-        return run;
-    }
     output.hand_out(writer)?;
     run
 }
@@ -84,6 +89,9 @@ fn run_lines<R: Read, W: Write>(
     reader: &mut R,
     writer: &mut W,
 ) -> Result<(), ScriptFault>
+    requires { output.old ≡ [] }
+    ensures prints { (w : Model) → IsSeenAs w stage.old.world → (text : List ℕ) → IsText input.old (R.remaining reader.old) text →
+        Leaves result w text (W.contents writer.old) (W.contents writer.new) output.new }
     ensures whole { OnOk result (IsAtEnd (R.remaining reader.new)) }
     ensures grows { Grows (W.contents writer.old) (W.contents writer.new) }
     ensures bad { IfErr result (λ fault. LeavesBadLine fault output.new) }
@@ -120,7 +128,10 @@ fn run_found(
     requires behind { found.is_last ≡ false → found.len < length input.old }
     ensures short { OnOk result (found.len ≤ 9000) }
     ensures rest { OnOk result (found.is_last ≡ false → input.new ≡ drop (found.len + 1) input.old) }
-    ensures bad { IfErr result (λ fault. EndsAtLine fault number output.new) }
+    ensures does { OnOk result ((w : Model) → IsSeenAs w stage.old.world → (after : Model) × (out : List ℕ)
+        × LineDoes w (take found.len input.old) out after × IsSeenAs after stage.new.world × (output.new ≡ output.old ++ out)) }
+    ensures fault { IfErr result (λ fault. EndsAtLine fault number output.old output.new) }
+    ensures bad { IfErr result (λ fault. IsLineFault fault → (w : Model) → IsSeenAs w stage.old.world → IsBad w (take found.len input.old)) }
 {
     let line = &input.waiting()[..found.len];
     match run_line(alloc, stage, output, line) {
@@ -141,7 +152,11 @@ fn run_line(
     output: &mut Output,
     line: &[u8],
 ) -> Result<bool, NoMemory>
-    ensures { IfOk result (λ understood. understood ≡ true → length line.now ≤ 9000) }
+    ensures runs { IfOk result (λ understood. (w : Model) → IsSeenAs w stage.old.world → (after : Model) × (out : List ℕ)
+        × LineEnds w line.now understood out after × IsSeenAs after stage.new.world × (output.new ≡ output.old ++ out)) }
+    ensures short { IfOk result (λ understood. understood ≡ true → length line.now ≤ 9000) }
+    ensures quiet { IfOk result (λ understood. understood ≡ false → output.new ≡ output.old) }
+    ensures err { OnErr result (IsFrontOf output.new output.old) }
 {
     match line_of(line) {
         Some(line) => stage.run(alloc, line, output),
@@ -151,7 +166,7 @@ fn run_line(
 
 /// Composes what is said of a bad line.
 fn bad_line(output: &mut Output, number: u32) -> ScriptFault
-    ensures { EndsAtLine result number output.new }
+    ensures { EndsAtLine result number output.old output.new }
 {
     match output.tell(Head::Bad { number }) {
         Ok(()) => ScriptFault::Line(number),
@@ -178,6 +193,7 @@ fn next_line<R: Read, W: Write>(
     ensures text { OnOk result (TakesIn (R.remaining reader.old) input.old (R.remaining reader.new) input.new) }
     ensures answers { OnOk result (HandsOn (W.contents writer.old) output.old (W.contents writer.new) output.new) }
     ensures found { IfOk result (λ found. FindsLine found input.new (R.remaining reader.new)) }
+    ensures none_left { OnErr result (output.new ≡ []) }
     ensures err { OnErr result (AppendsPart (W.contents writer.old) (W.contents writer.new) output.old) }
     ensures fault { IfErr result IsStreamFault }
 {
@@ -235,7 +251,7 @@ fn read_on<R: Read, W: Write>(
     ensures count { IfOk result (λ count. length input.new ≡ length input.old + count) }
     ensures end { IfOk result (λ count. count ≡ 0 → IsAtEnd (R.remaining reader.new)) }
     ensures answers { OnOk result (Appends (W.contents writer.old) (W.contents writer.new) output.old) }
-    ensures none_left { OnOk result (output.new ≡ []) }
+    ensures none_left { output.new ≡ [] }
     ensures err { OnErr result (AppendsPart (W.contents writer.old) (W.contents writer.new) output.old) }
     ensures fault { IfErr result IsStreamFault }
 {

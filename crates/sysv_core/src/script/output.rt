@@ -71,9 +71,11 @@ impl Output {
         }
     }
 
-    /// Hands out what was composed where there might be no room for one more line.
+    /// Hands out what was composed where there might be no room for one more line. Where that fails
+    /// nothing is left composed.
     pub(crate) fn make_room<W: Write>(&mut self, writer: &mut W) -> Result<(), ScriptFault>
         ensures ok { OnOk result (HandsOn (W.contents writer.old) self.old (W.contents writer.new) self.new) }
+        ensures none_left { OnErr result (self.new ≡ []) }
         ensures err { OnErr result (AppendsPart (W.contents writer.old) (W.contents writer.new) self.old) }
         ensures fault { IfErr result (λ fault. fault ≡ ScriptFault.Write) }
     {
@@ -83,16 +85,17 @@ impl Output {
         Ok(())
     }
 
-    /// Writes all that was composed, in as many writes as the writer wants.
+    /// Writes all that was composed, in as many writes as the writer wants. Nothing is left composed,
+    /// also where that fails.
     pub(crate) fn hand_out<W: Write>(&mut self, writer: &mut W) -> Result<(), ScriptFault>
         ensures ok { OnOk result (Appends (W.contents writer.old) (W.contents writer.new) self.old) }
-        ensures none_left { OnOk result (self.new ≡ []) }
+        ensures none_left { self.new ≡ [] }
         ensures err { OnErr result (AppendsPart (W.contents writer.old) (W.contents writer.new) self.old) }
         ensures fault { IfErr result (λ fault. fault ≡ ScriptFault.Write) }
     {
-        write_out(&self.bytes, writer)?;
+        let written = write_out(&self.bytes, writer);
         self.bytes.clear();
-        Ok(())
+        written
     }
 }
 

@@ -1,11 +1,12 @@
-ghost use Rattle.std.specs.Prelude.{◌≡◌, ◌+◌, ◌<◌, ◌++◌, List, ℕ, replicate, IfOk, OnOk, OnErr, [], ◌∷◌, ◌≤◌, length, Some};
+ghost use Rattle.std.specs.Prelude.{false, ◌≡◌, ◌+◌, ◌<◌, ◌++◌, List, ℕ, replicate, IfOk, OnOk, OnErr, [], ◌∷◌, ◌≤◌, length, Some};
+ghost use Rattle.sysv_core.specs.Faults.{IsFrontOf};
 ghost use Rattle.sysv_core.specs.Heads.{head_text};
 ghost use Rattle.sysv_core.specs.Seen.{IsSeenAs};
 ghost use Rattle.sysv_core.specs.World.{World as Model};
 ghost use Rattle.sysv_core.specs.Run.{StandsFor};
 ghost use Rattle.sysv_core.specs.ScriptRun.{LineRuns, CallRuns, printed};
 ghost use Rattle.sysv_core.specs.ScriptRun.{cred_of as script_cred, operation_of as call_operation, head_for};
-ghost use Rattle.sysv_core.specs.Lines.{FitsBody, RequestFits, LineFits, text_bytes, call_asked, said_of};
+ghost use Rattle.sysv_core.specs.SaidBy.{FitsBody, RequestFits, LineFits, text_bytes, call_asked, said_of};
 
 use crate::event::{Answer, Call, Event, Outcome, Stepped};
 use crate::script::head::{Head, Operation};
@@ -54,6 +55,9 @@ impl Stage {
         ensures runs { IfOk result (λ understood. (w : Model) → IsSeenAs w self.old.world →
             (after : Model) × (out : List ℕ) × LineRuns w (said_of line.entry) understood out after
             × IsSeenAs after self.new.world × (output.new ≡ output.old ++ out)) }
+        // A line that is bad composes nothing, and where memory is refused a front is left.
+        ensures quiet { IfOk result (λ understood. understood ≡ false → output.new ≡ output.old) }
+        ensures err { OnErr result (IsFrontOf output.new output.old) }
     {
         match line {
             Line::Skipped => Ok(true),
