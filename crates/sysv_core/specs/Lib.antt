@@ -21,8 +21,9 @@ pub mod Headline
 pub mod Words
 pub mod FlagNames
 pub mod Heads
-pub mod Lines
 pub mod Streams
 pub mod Found
 pub mod Faults
 pub mod ScriptRun
+pub mod Lines
+pub mod SaidBy

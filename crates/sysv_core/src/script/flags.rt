@@ -1,5 +1,5 @@
 //! The flags of a call, as a script names them.
-ghost use Rattle.std.specs.Prelude.{◌-◌, ◌≤◌, ℕ, IfSome, MatchOption};
+ghost use Rattle.std.specs.Prelude.{◌-◌, ◌≤◌, ℕ, MatchOption};
 ghost use Rattle.std.specs.Option.{SomeIff};
 ghost use Rattle.std.specs.Str.Parse.{digits_value};
 ghost use Rattle.sysv_core.specs.FlagNames.{IsMode, NamesFlag, ListsFlags, IsFlags};
@@ -11,7 +11,7 @@ use sysv_model::flags::Flags;
 /// The flags that a word names: `-` for none, or names and octal modes with `+` between them.
 /// `None` for any other word.
 pub(crate) fn flags_of(word: &[u8]) -> Option<Flags>
-    ensures { IfSome result (λ flags. IsFlags word.now flags.0) }
+    ensures { MatchOption result ((bits : ℕ) → IsFlags word.now bits → ⊥) (λ flags. IsFlags word.now flags.0) }
 {
     match word {
         b"-" => Some(Flags::empty()),
@@ -21,7 +21,7 @@ pub(crate) fn flags_of(word: &[u8]) -> Option<Flags>
 
 /// The flags that names and octal modes with `+` between them stand for.
 fn listed_flags(list: &[u8]) -> Option<Flags>
-    ensures { IfSome result (λ flags. ListsFlags list.now flags.0) }
+    ensures { MatchOption result ((bits : ℕ) → ListsFlags list.now bits → ⊥) (λ flags. ListsFlags list.now flags.0) }
 {
     let mut flags = Flags::empty();
     let mut rest = list;

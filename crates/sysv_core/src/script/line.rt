@@ -1,9 +1,12 @@
 //! What a line of a script says.
-ghost use Rattle.std.specs.Prelude.{◌≡◌, ◌≤◌, pos, length, codes, IfSome, OnSome, MatchOption};
+ghost use Rattle.std.specs.Prelude.{◌≡◌, ◌≤◌, ℕ, List, pos, length, codes, IfSome, MatchOption};
 ghost use Rattle.std.specs.Option.{SomeIff};
 ghost use Rattle.std.specs.Int.{w32};
 ghost use Rattle.std.specs.Int.RustNames.{FitsSigned};
-ghost use Rattle.sysv_core.specs.Lines.{SaysText, SaysRequest, Says, FitsBody, RequestFits, LineFits};
+ghost use Rattle.sysv_core.specs.ScriptRun.{Said};
+ghost use Rattle.sysv_core.specs.Lines.{SaysText, SaysCall, SaysStart, Says, Tells};
+ghost use Rattle.sysv_core.specs.SaidBy.{FitsBody, RequestFits, LineFits, said_of, call_asked, text_bytes};
+ghost use Rattle.sysv_core.specs.declared.event.Call.{Call};
 ghost use Rattle.sysv_core.specs.Words.{IsNumber, IsSize, IsActor, IsLetters, number_in};
 
 use crate::script::flags::flags_of;
@@ -58,8 +61,7 @@ pub(crate) enum Text<'a> {
 
 /// What a line says; `None` where it is none of the language's.
 pub(crate) fn line_of(line: &[u8]) -> Option<Line<'_>>
-    ensures short { OnSome result (length line.now ≤ 9000) }
-    ensures says { IfSome result (Says line.now) }
+    ensures says { MatchOption result ((said : Said) → Says line.now said → ⊥) (λ understood. Says line.now (said_of understood)) }
     ensures fits { IfSome result LineFits }
 {
     if line.len() > LINE_BYTES {
@@ -74,7 +76,7 @@ pub(crate) fn line_of(line: &[u8]) -> Option<Line<'_>>
 
 /// `A snd ..` and `A rcv ..`: a call of actor A.
 fn start_of(line: &[u8]) -> Option<Line<'_>>
-    ensures says { IfSome result (Says line.now) }
+    ensures says { MatchOption result ((actor : ℕ) (call : Call) → SaysStart line.now actor call → ⊥) (λ understood. Tells line.now (said_of understood)) }
     ensures fits { IfSome result LineFits }
 {
     let (actor, rest) = first_word(line)?;
@@ -90,7 +92,7 @@ fn start_of(line: &[u8]) -> Option<Line<'_>>
 
 /// `ID MTYPE FLAGS BODY`.
 fn send_of(words: &[u8]) -> Option<Request<'_>>
-    ensures says { IfSome result (SaysRequest (codes "snd") words.now) }
+    ensures says { MatchOption result ((call : Call) → SaysCall (codes "snd") words.now call → ⊥) (λ request. SaysCall (codes "snd") words.now (call_asked request)) }
     ensures fits { IfSome result RequestFits }
 {
     let (id, rest) = first_word(words)?;
@@ -106,7 +108,7 @@ fn send_of(words: &[u8]) -> Option<Request<'_>>
 
 /// `ID SIZE MTYPE FLAGS`.
 fn receive_of(words: &[u8]) -> Option<Request<'_>>
-    ensures says { IfSome result (SaysRequest (codes "rcv") words.now) }
+    ensures says { MatchOption result ((call : Call) → SaysCall (codes "rcv") words.now call → ⊥) (λ request. SaysCall (codes "rcv") words.now (call_asked request)) }
     ensures fits { IfSome result RequestFits }
 {
     let (id, rest) = first_word(words)?;
@@ -154,7 +156,7 @@ fn actor_of(word: &[u8]) -> Option<u32>
 
 /// `=` and the text itself, or `*N` for N letters x.
 fn text_of(body: &[u8]) -> Option<Text<'_>>
-    ensures says { IfSome result (SaysText body.now) }
+    ensures says { MatchOption result ((text : List ℕ) → SaysText body.now text → ⊥) (λ said. SaysText body.now (text_bytes said)) }
     ensures fits { IfSome result FitsBody }
 {
     match body {

@@ -5,7 +5,7 @@ ghost use Rattle.sysv_core.specs.World.{World as Model};
 ghost use Rattle.sysv_core.specs.Run.{StandsFor};
 ghost use Rattle.sysv_core.specs.ScriptRun.{LineRuns, CallRuns, printed};
 ghost use Rattle.sysv_core.specs.ScriptRun.{cred_of as script_cred, operation_of as call_operation, head_for};
-ghost use Rattle.sysv_core.specs.Lines.{FitsBody, RequestFits, LineFits, text_bytes, call_asked, said_of};
+ghost use Rattle.sysv_core.specs.SaidBy.{FitsBody, RequestFits, LineFits, text_bytes, call_asked, said_of};
 
 use crate::event::{Answer, Call, Event, Outcome, Stepped};
 use crate::script::head::{Head, Operation};
