@@ -1,12 +1,18 @@
--- What a text says is one thing: where it splits, and which flags it names.
-use Rattle.std.proofs.Common.{◌≡◌, ℕ, ◌<◌, List, [], ◌∷◌, ◌++◌, refl, sym, ap, subst, ◌∙◌, arith, inl, inr, Bool, true, false, cond, nat_eq, bit_or, zero, suc, get_or, drop, length}
+-- What a text says is one thing: where it splits, which flags it names, and which call it asks for.
+use Rattle.std.proofs.Common.{◌≡◌, ℕ, ◌<◌, List, [], ◌∷◌, ◌++◌, refl, sym, ap, subst, ◌∙◌, arith, inl, inr, Bool, true, false, cond, nat_eq, bit_or, zero, suc, get_or, drop, length, ◌≤◌, ◌⊎◌, ℤ, pos, w32, w64}
 use Rattle.std.specs.Prelude.{Contains, codes}
 use Rattle.std.specs.Char.{digit_value}
 use Rattle.std.specs.Str.Parse.{AllDigits, digits_value}
 use Rattle.std.proofs.lemmas.List.Elements.{Contains-append_right, Contains-append_cases}
 use Rattle.std.proofs.lemmas.Bool.Decides.{nat_tests}
-use Rattle.sysv_core.specs.Words.{SplitsAt}
-use Rattle.sysv_core.specs.FlagNames.{NamesMode, NamesFlag, AddsFlags, One, More}
+use mir.Syntax.{Width}
+use lib.Dec.{le→leb}
+use Rattle.std.specs.Int.RustNames.{FitsSigned}
+use Rattle.sysv_core.specs.Words.{SplitsAt, IsNumber, IsSize, IsActor, number_in}
+use Rattle.sysv_core.specs.FlagNames.{NamesFlag, AddsFlags, IsFlags, One, More}
+use Rattle.sysv_core.specs.Lines.{IsNumeralOf, SaysText, SaysCall, SaysStart}
+use Rattle.sysv_core.specs.declared.event.Call.{Call}
+use Rattle.sysv_core.specs.declared.event.Call.TheVariants.{Send, Receive}
 
 Contains-first : (m x : ℕ) (xs : List ℕ) → x ≡ m → Contains (x ∷ xs) m
 Contains-first m x xs e = (0, omega arith, e)
@@ -102,3 +108,136 @@ AddsFlags-split before list all p r s (More _ name rest bits _ h more) =
 pub AddsFlags-last : (before : ℕ) (list : List ℕ) (all : ℕ) → (Contains list 43 → ⊥) → AddsFlags before list all → (bits : ℕ) × NamesFlag list bits
 AddsFlags-last before list all s (One _ name bits h) = (bits, h)
 AddsFlags-last before list all s (More _ name rest bits _ h more) = absurd (s (Contains-append_right name (43 ∷ rest) 43 (Contains-first 43 43 rest refl)))
+
+-- the rest of a text that splits is one rest
+SplitsAt-behind : (m : ℕ) (t p r q s u v : List ℕ) → SplitsAt m t p r → SplitsAt m t q s → SplitsAt m r u v → SplitsAt m s u v
+SplitsAt-behind m t p r q s u v a b c = subst (λ (l : List ℕ). SplitsAt m l u v) (splits_once m t p r q s a b).1 c
+
+numeral_fits : (w : Width) (word : List ℕ) (n : ℤ) → IsNumeralOf word n → FitsSigned w n → IsNumber word × FitsSigned w (number_in word)
+numeral_fits w word n h fits = (h.0, subst (FitsSigned w) (sym h.1) fits)
+
+numeral_size : (word : List ℕ) (n : ℕ) → IsNumeralOf word (pos n) → n ≤ 4294967295 → IsNumber word × IsSize (number_in word)
+numeral_size word n h fits =
+    let size : IsSize (pos n) = (record { le = le→leb 0 n (omega arith) }, record { le = le→leb n 4294967295 fits }) in
+    (h.0, subst IsSize (sym h.1) size)
+
+numeral_actor : (word : List ℕ) (n : ℕ) → IsNumeralOf word (pos n) → 1 ≤ n → n ≤ 16 → IsNumber word × IsActor (number_in word)
+numeral_actor word n h least most =
+    let actor : IsActor (pos n) = (record { le = le→leb 1 n least }, record { le = le→leb n 16 most }) in
+    (h.0, subst IsActor (sym h.1) actor)
+
+snd_or_rcv : codes "snd" ≡ codes "rcv" → ⊥
+snd_or_rcv e =
+    let first : 115 ≡ 114 = ap (λ (l : List ℕ). get_or l 0 0) e in
+    grind (arith, first)
+
+-- what the words of a send are
+abbrev pub SendParts : List ℕ → List ℕ → List ℕ → List ℕ → Type 0
+SendParts id mtype flags body =
+    (IsNumber id × FitsSigned w32 (number_in id)) × (IsNumber mtype × FitsSigned w64 (number_in mtype))
+    × ((bits : ℕ) × IsFlags flags bits) × ((text : List ℕ) × SaysText body text)
+
+-- what the words of a receive are
+abbrev pub ReceiveParts : List ℕ → List ℕ → List ℕ → List ℕ → Type 0
+ReceiveParts id size mtype flags =
+    (IsNumber id × FitsSigned w32 (number_in id)) × (IsNumber size × IsSize (number_in size))
+    × (IsNumber mtype × FitsSigned w64 (number_in mtype)) × ((bits : ℕ) × IsFlags flags bits)
+
+pub send_first : (words : List ℕ) (call : Call) → SaysCall (codes "snd") words call → Contains words 32
+send_first words (Send id mtype flags text) h = SplitsAt-marked 32 words h.1.id_word h.1.after_id h.1.first
+send_first words (Receive id size mtype flags body) h = absurd (snd_or_rcv h.0)
+
+pub send_second : (words a ra : List ℕ) (call : Call) → SplitsAt 32 words a ra → SaysCall (codes "snd") words call → Contains ra 32
+send_second words a ra (Send id mtype flags text) one h =
+    let s = h.1 in
+    let second = SplitsAt-behind 32 words s.id_word s.after_id a ra s.mtype_word s.after_mtype s.first one s.second in
+    SplitsAt-marked 32 ra s.mtype_word s.after_mtype second
+send_second words a ra (Receive id size mtype flags body) one h = absurd (snd_or_rcv h.0)
+
+pub send_third : (words a ra b rb : List ℕ) (call : Call) → SplitsAt 32 words a ra → SplitsAt 32 ra b rb → SaysCall (codes "snd") words call → Contains rb 32
+send_third words a ra b rb (Send id mtype flags text) one two h =
+    let s = h.1 in
+    let second = SplitsAt-behind 32 words s.id_word s.after_id a ra s.mtype_word s.after_mtype s.first one s.second in
+    let third = SplitsAt-behind 32 ra s.mtype_word s.after_mtype b rb s.flags_word s.body second two s.third in
+    SplitsAt-marked 32 rb s.flags_word s.body third
+send_third words a ra b rb (Receive id size mtype flags body) one two h = absurd (snd_or_rcv h.0)
+
+pub send_parts : (words a ra b rb d body : List ℕ) (call : Call) → SplitsAt 32 words a ra → SplitsAt 32 ra b rb → SplitsAt 32 rb d body → SaysCall (codes "snd") words call → SendParts a b d body
+send_parts words a ra b rb d body (Send id mtype flags text) one two three h =
+    let s = h.1 in
+    let second = SplitsAt-behind 32 words s.id_word s.after_id a ra s.mtype_word s.after_mtype s.first one s.second in
+    let third = SplitsAt-behind 32 ra s.mtype_word s.after_mtype b rb s.flags_word s.body second two s.third in
+    let id_same = (splits_once 32 words s.id_word s.after_id a ra s.first one).0 in
+    let mtype_same = (splits_once 32 ra s.mtype_word s.after_mtype b rb second two).0 in
+    let behind = splits_once 32 rb s.flags_word s.body d body third three in
+    let id_fits = numeral_fits w32 s.id_word id s.id_is.0 s.id_is.1 in
+    let mtype_fits = numeral_fits w64 s.mtype_word mtype s.mtype_is.0 s.mtype_is.1 in
+    (
+      subst (λ (word : List ℕ). IsNumber word × FitsSigned w32 (number_in word)) id_same id_fits,
+      subst (λ (word : List ℕ). IsNumber word × FitsSigned w64 (number_in word)) mtype_same mtype_fits,
+      (flags.0, subst (λ (word : List ℕ). IsFlags word flags.0) behind.0 s.flags_are),
+      (text, subst (λ (rest : List ℕ). SaysText rest text) behind.1 s.text_is),
+    )
+send_parts words a ra b rb d body (Receive id size mtype flags left) one two three h = absurd (snd_or_rcv h.0)
+
+pub receive_first : (words : List ℕ) (call : Call) → SaysCall (codes "rcv") words call → Contains words 32
+receive_first words (Receive id size mtype flags body) h = SplitsAt-marked 32 words h.2.id_word h.2.after_id h.2.first
+receive_first words (Send id mtype flags text) h = absurd (snd_or_rcv (sym h.0))
+
+pub receive_second : (words a ra : List ℕ) (call : Call) → SplitsAt 32 words a ra → SaysCall (codes "rcv") words call → Contains ra 32
+receive_second words a ra (Receive id size mtype flags body) one h =
+    let s = h.2 in
+    let second = SplitsAt-behind 32 words s.id_word s.after_id a ra s.size_word s.after_size s.first one s.second in
+    SplitsAt-marked 32 ra s.size_word s.after_size second
+receive_second words a ra (Send id mtype flags text) one h = absurd (snd_or_rcv (sym h.0))
+
+pub receive_third : (words a ra b rb : List ℕ) (call : Call) → SplitsAt 32 words a ra → SplitsAt 32 ra b rb → SaysCall (codes "rcv") words call → Contains rb 32
+receive_third words a ra b rb (Receive id size mtype flags body) one two h =
+    let s = h.2 in
+    let second = SplitsAt-behind 32 words s.id_word s.after_id a ra s.size_word s.after_size s.first one s.second in
+    let third = SplitsAt-behind 32 ra s.size_word s.after_size b rb s.mtype_word s.flags_word second two s.third in
+    SplitsAt-marked 32 rb s.mtype_word s.flags_word third
+receive_third words a ra b rb (Send id mtype flags text) one two h = absurd (snd_or_rcv (sym h.0))
+
+pub receive_parts : (words a ra b rb d rd : List ℕ) (call : Call) → SplitsAt 32 words a ra → SplitsAt 32 ra b rb → SplitsAt 32 rb d rd → SaysCall (codes "rcv") words call → ReceiveParts a b d rd
+receive_parts words a ra b rb d rd (Receive id size mtype flags body) one two three h =
+    let s = h.2 in
+    let second = SplitsAt-behind 32 words s.id_word s.after_id a ra s.size_word s.after_size s.first one s.second in
+    let third = SplitsAt-behind 32 ra s.size_word s.after_size b rb s.mtype_word s.flags_word second two s.third in
+    let id_same = (splits_once 32 words s.id_word s.after_id a ra s.first one).0 in
+    let size_same = (splits_once 32 ra s.size_word s.after_size b rb second two).0 in
+    let behind = splits_once 32 rb s.mtype_word s.flags_word d rd third three in
+    let id_fits = numeral_fits w32 s.id_word id s.id_is.0 s.id_is.1 in
+    let size_fits = numeral_size s.size_word size s.size_is.0 s.size_is.1 in
+    let mtype_fits = numeral_fits w64 s.mtype_word mtype s.mtype_is.0 s.mtype_is.1 in
+    (
+      subst (λ (word : List ℕ). IsNumber word × FitsSigned w32 (number_in word)) id_same id_fits,
+      subst (λ (word : List ℕ). IsNumber word × IsSize (number_in word)) size_same size_fits,
+      subst (λ (word : List ℕ). IsNumber word × FitsSigned w64 (number_in word)) behind.0 mtype_fits,
+      (flags.0, subst (λ (word : List ℕ). IsFlags word flags.0) behind.1 s.flags_are),
+    )
+receive_parts words a ra b rb d rd (Send id mtype flags text) one two three h = absurd (snd_or_rcv (sym h.0))
+
+pub start_first : (line : List ℕ) (actor : ℕ) (call : Call) → SaysStart line actor call → Contains line 32
+start_first line actor call s = SplitsAt-marked 32 line s.actor_word s.after_actor s.first
+
+pub start_second : (line a ra : List ℕ) (actor : ℕ) (call : Call) → SplitsAt 32 line a ra → SaysStart line actor call → Contains ra 32
+start_second line a ra actor call one s =
+    let second = SplitsAt-behind 32 line s.actor_word s.after_actor a ra s.operation s.words s.first one s.second in
+    SplitsAt-marked 32 ra s.operation s.words second
+
+pub start_parts : (line a ra b rb : List ℕ) (actor : ℕ) (call : Call) → SplitsAt 32 line a ra → SplitsAt 32 ra b rb → SaysStart line actor call → (IsNumber a × IsActor (number_in a)) × SaysCall b rb call
+start_parts line a ra b rb actor call one two s =
+    let second = SplitsAt-behind 32 line s.actor_word s.after_actor a ra s.operation s.words s.first one s.second in
+    let same = splits_once 32 ra s.operation s.words b rb second two in
+    let named = numeral_actor s.actor_word actor s.actor_is s.least s.most in
+    let words_same : SaysCall s.operation rb call = subst (λ (w : List ℕ). SaysCall s.operation w call) same.1 s.call_is in
+    (
+      subst (λ (word : List ℕ). IsNumber word × IsActor (number_in word)) (splits_once 32 line s.actor_word s.after_actor a ra s.first one).0 named,
+      subst (λ (w : List ℕ). SaysCall w rb call) same.0 words_same,
+    )
+
+-- a call is a send or a receive
+pub SaysCall-operation : (operation words : List ℕ) (call : Call) → SaysCall operation words call → (operation ≡ codes "snd") ⊎ (operation ≡ codes "rcv")
+SaysCall-operation operation words (Send id mtype flags text) h = inl h.0
+SaysCall-operation operation words (Receive id size mtype flags body) h = inr h.0
