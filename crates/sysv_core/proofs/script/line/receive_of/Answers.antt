@@ -1,4 +1,4 @@
-use Rattle.std.proofs.Common.{◌≤◌, refl, arith, w32, w64}
+use Rattle.std.proofs.Common.{◌≤◌, refl, rules, w32, w64}
 use Rattle.sysv_core.proofs.SignedLemmas.{IsNumeralOf-kept, FitsSigned-kept}
 use Rattle.sysv_core.proofs.Parsing.{receive_first, receive_second, receive_third, receive_parts}
 use Rattle.sysv_core.proofs.script.line.receive_of.Goals as goal
@@ -59,7 +59,7 @@ pub returns-clause-says : goal.returns-clause-says
 returns-clause-says c =
     let id = c.in_ok-identifier_of.ensures in
     let mtype = c.in_ok-number.ensures in
-    let size_fits : c.in_ok-size_of.field-0 ≤ 4294967295 = ? in (
+    let size_fits : c.in_ok-size_of.field-0 ≤ 4294967295 = search (rules, c.size_of.type_inv) in (
       refl,
       refl,
       record {

@@ -18,32 +18,11 @@ returns-in_err-actor-2-clause-says c =
     let first = c.in_ok-actor in
     let second = c.in_ok-operation in
     rw c.from_residual-in_err-actor-2.ensures (λ actor call h.
-      c.in_err-actor-2.ensures (start_parts c.args.line.now first.actor.now first.rest.now second.operation.now second.rest.now actor call first.ensures second.ensures h).0)
+      c.in_err-actor-2.ensures (start_parts c.args.line.now first.actor.now first.rest.now second.operation.now second.words.now actor call first.ensures second.ensures h).0)
 
-pub returns-in_err-request-in-snd-clause-says : goal.returns-in_err-request-in-snd-clause-says
-returns-in_err-request-in-snd-clause-says c =
+pub returns-in_err-request-clause-says : goal.returns-in_err-request-clause-says
+returns-in_err-request-clause-says c =
     let first = c.in_ok-actor in
     let second = c.in_ok-operation in
-    let is : second.operation.now ≡ codes "snd" = search rules in
-    rw c.from_residual-in_err-request-in-snd.ensures (λ actor call h.
-      let parts = start_parts c.args.line.now first.actor.now first.rest.now second.operation.now second.rest.now actor call first.ensures second.ensures h in
-      c.in_err-request-in-snd.ensures.says call (subst (λ w. SaysCall w second.rest.now call) is parts.1))
-
-pub returns-in_err-request-in-rcv-clause-says : goal.returns-in_err-request-in-rcv-clause-says
-returns-in_err-request-in-rcv-clause-says c =
-    let first = c.in_ok-actor in
-    let second = c.in_ok-operation in
-    let is : second.operation.now ≡ codes "rcv" = search rules in
-    rw c.from_residual-in_err-request-in-rcv.ensures (λ actor call h.
-      let parts = start_parts c.args.line.now first.actor.now first.rest.now second.operation.now second.rest.now actor call first.ensures second.ensures h in
-      c.in_err-request-in-rcv.ensures.says call (subst (λ w. SaysCall w second.rest.now call) is parts.1))
-
-pub returns-in_default-clause-says : goal.returns-in_default-clause-says
-returns-in_default-clause-says c =
-    let first = c.in_ok-actor in
-    let second = c.in_ok-operation in
-    let no_send : second.operation.now ≡ codes "snd" → ⊥ = ? in
-    let no_receive : second.operation.now ≡ codes "rcv" → ⊥ = ? in
-    λ actor call h.
-    let parts = start_parts c.args.line.now first.actor.now first.rest.now second.operation.now second.rest.now actor call first.ensures second.ensures h in
-    elim (SaysCall-operation second.operation.now second.rest.now call parts.1) [ inl e ↦ no_send e | inr e ↦ no_receive e ]
+    rw c.from_residual-in_err-request.ensures (λ actor call h.
+      c.in_err-request.ensures.says call (start_parts c.args.line.now first.actor.now first.rest.now second.operation.now second.words.now actor call first.ensures second.ensures h).1)
