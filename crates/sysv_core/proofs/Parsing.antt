@@ -1,5 +1,5 @@
 -- What a text says is one thing: where it splits, which flags it names, and which call it asks for.
-use Rattle.std.proofs.Common.{◌≡◌, ℕ, ◌<◌, List, [], ◌∷◌, ◌++◌, refl, sym, ap, subst, ◌∙◌, arith, inl, inr, Bool, true, false, cond, nat_eq, bit_or, zero, suc, get_or, drop, length, ◌≤◌, ◌⊎◌, ℤ, pos, w32, w64}
+use Rattle.std.proofs.Common.{◌≡◌, ℕ, ◌<◌, List, [], ◌∷◌, ◌++◌, refl, sym, ap, subst, ◌∙◌, arith, inl, inr, Bool, true, false, cond, nat_eq, bit_or, zero, suc, get_or, drop, ◌≤◌, ℤ, pos, w32, w64}
 use Rattle.std.specs.Prelude.{Contains, codes}
 use Rattle.std.specs.Char.{digit_value}
 use Rattle.std.specs.Str.Parse.{AllDigits, digits_value}
@@ -89,9 +89,9 @@ rest_plain false rest e = e
 has_plus-none : (xs : List ℕ) → has_plus xs ≡ false → Contains xs 43 → ⊥
 has_plus-none [] e (k, h, _) = omega arith
 has_plus-none (x ∷ xs) e c = elim (Contains-append_cases (x ∷ []) xs 43 c) [
-    inl h ↦ first_plain x (has_plus xs) e (only_first x 43 h) |
-    inr h ↦ has_plus-none xs (rest_plain (nat_eq x 43) (has_plus xs) e) h
-  ]
+  | inl h ↦ first_plain x (has_plus xs) e (only_first x 43 h)
+  | inr h ↦ has_plus-none xs (rest_plain (nat_eq x 43) (has_plus xs) e) h
+]
 
 -- a name has no `+`
 pub NamesFlag-unmarked : (name : List ℕ) (bits : ℕ) → NamesFlag name bits → Contains name 43 → ⊥
@@ -171,8 +171,7 @@ send_parts words a ra b rb d body (Send id mtype flags text) one two three h =
     let mtype_same = (splits_once 32 ra s.mtype_word s.after_mtype b rb second two).0 in
     let behind = splits_once 32 rb s.flags_word s.body d body third three in
     let id_fits = numeral_fits w32 s.id_word id s.id_is.0 s.id_is.1 in
-    let mtype_fits = numeral_fits w64 s.mtype_word mtype s.mtype_is.0 s.mtype_is.1 in
-    (
+    let mtype_fits = numeral_fits w64 s.mtype_word mtype s.mtype_is.0 s.mtype_is.1 in (
       subst (λ (word : List ℕ). IsNumber word × FitsSigned w32 (number_in word)) id_same id_fits,
       subst (λ (word : List ℕ). IsNumber word × FitsSigned w64 (number_in word)) mtype_same mtype_fits,
       (flags.0, subst (λ (word : List ℕ). IsFlags word flags.0) behind.0 s.flags_are),
@@ -209,8 +208,7 @@ receive_parts words a ra b rb d rd (Receive id size mtype flags body) one two th
     let behind = splits_once 32 rb s.mtype_word s.flags_word d rd third three in
     let id_fits = numeral_fits w32 s.id_word id s.id_is.0 s.id_is.1 in
     let size_fits = numeral_size s.size_word size s.size_is.0 s.size_is.1 in
-    let mtype_fits = numeral_fits w64 s.mtype_word mtype s.mtype_is.0 s.mtype_is.1 in
-    (
+    let mtype_fits = numeral_fits w64 s.mtype_word mtype s.mtype_is.0 s.mtype_is.1 in (
       subst (λ (word : List ℕ). IsNumber word × FitsSigned w32 (number_in word)) id_same id_fits,
       subst (λ (word : List ℕ). IsNumber word × IsSize (number_in word)) size_same size_fits,
       subst (λ (word : List ℕ). IsNumber word × FitsSigned w64 (number_in word)) behind.0 mtype_fits,
@@ -231,13 +229,7 @@ start_parts line a ra b rb actor call one two s =
     let second = SplitsAt-behind 32 line s.actor_word s.after_actor a ra s.operation s.words s.first one s.second in
     let same = splits_once 32 ra s.operation s.words b rb second two in
     let named = numeral_actor s.actor_word actor s.actor_is s.least s.most in
-    let words_same : SaysCall s.operation rb call = subst (λ (w : List ℕ). SaysCall s.operation w call) same.1 s.call_is in
-    (
+    let words_same : SaysCall s.operation rb call = subst (λ (w : List ℕ). SaysCall s.operation w call) same.1 s.call_is in (
       subst (λ (word : List ℕ). IsNumber word × IsActor (number_in word)) (splits_once 32 line s.actor_word s.after_actor a ra s.first one).0 named,
       subst (λ (w : List ℕ). SaysCall w rb call) same.0 words_same,
     )
-
--- a call is a send or a receive
-pub SaysCall-operation : (operation words : List ℕ) (call : Call) → SaysCall operation words call → (operation ≡ codes "snd") ⊎ (operation ≡ codes "rcv")
-SaysCall-operation operation words (Send id mtype flags text) h = inl h.0
-SaysCall-operation operation words (Receive id size mtype flags body) h = inr h.0

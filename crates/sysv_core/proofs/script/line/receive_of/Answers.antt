@@ -10,14 +10,14 @@ pub returns-in_err-size-clause-says : goal.returns-in_err-size-clause-says
 returns-in_err-size-clause-says c =
     let id = c.in_ok-id in
     rw c.from_residual-in_err-size.ensures (λ call h.
-      c.in_err-size.ensures (receive_second c.args.words.now id.id.now id.rest.now call id.ensures h))
+    c.in_err-size.ensures (receive_second c.args.words.now id.id.now id.rest.now call id.ensures h))
 
 pub returns-in_err-mtype-clause-says : goal.returns-in_err-mtype-clause-says
 returns-in_err-mtype-clause-says c =
     let id = c.in_ok-id in
     let size = c.in_ok-size in
     rw c.from_residual-in_err-mtype.ensures (λ call h.
-      c.in_err-mtype.ensures (receive_third c.args.words.now id.id.now id.rest.now size.size.now size.rest.now call id.ensures size.ensures h))
+    c.in_err-mtype.ensures (receive_third c.args.words.now id.id.now id.rest.now size.size.now size.rest.now call id.ensures size.ensures h))
 
 pub returns-in_err-identifier_of-clause-says : goal.returns-in_err-identifier_of-clause-says
 returns-in_err-identifier_of-clause-says c =
@@ -25,8 +25,8 @@ returns-in_err-identifier_of-clause-says c =
     let size = c.in_ok-size in
     let mtype = c.in_ok-mtype in
     rw c.from_residual-in_err-identifier_of.ensures (λ call h.
-      let parts = receive_parts c.args.words.now id.id.now id.rest.now size.size.now size.rest.now mtype.mtype.now mtype.flags.now call id.ensures size.ensures mtype.ensures h in
-      c.in_err-identifier_of.ensures parts.0)
+    let parts = receive_parts c.args.words.now id.id.now id.rest.now size.size.now size.rest.now mtype.mtype.now mtype.flags.now call id.ensures size.ensures mtype.ensures h in
+    c.in_err-identifier_of.ensures parts.0)
 
 pub returns-in_err-size_of-clause-says : goal.returns-in_err-size_of-clause-says
 returns-in_err-size_of-clause-says c =
@@ -34,8 +34,8 @@ returns-in_err-size_of-clause-says c =
     let size = c.in_ok-size in
     let mtype = c.in_ok-mtype in
     rw c.from_residual-in_err-size_of.ensures (λ call h.
-      let parts = receive_parts c.args.words.now id.id.now id.rest.now size.size.now size.rest.now mtype.mtype.now mtype.flags.now call id.ensures size.ensures mtype.ensures h in
-      c.in_err-size_of.ensures parts.1)
+    let parts = receive_parts c.args.words.now id.id.now id.rest.now size.size.now size.rest.now mtype.mtype.now mtype.flags.now call id.ensures size.ensures mtype.ensures h in
+    c.in_err-size_of.ensures parts.1)
 
 pub returns-in_err-number-clause-says : goal.returns-in_err-number-clause-says
 returns-in_err-number-clause-says c =
@@ -43,8 +43,8 @@ returns-in_err-number-clause-says c =
     let size = c.in_ok-size in
     let mtype = c.in_ok-mtype in
     rw c.from_residual-in_err-number.ensures (λ call h.
-      let parts = receive_parts c.args.words.now id.id.now id.rest.now size.size.now size.rest.now mtype.mtype.now mtype.flags.now call id.ensures size.ensures mtype.ensures h in
-      c.in_err-number.ensures parts.2)
+    let parts = receive_parts c.args.words.now id.id.now id.rest.now size.size.now size.rest.now mtype.mtype.now mtype.flags.now call id.ensures size.ensures mtype.ensures h in
+    c.in_err-number.ensures parts.2)
 
 pub returns-in_err-flags_of-clause-says : goal.returns-in_err-flags_of-clause-says
 returns-in_err-flags_of-clause-says c =
@@ -52,8 +52,8 @@ returns-in_err-flags_of-clause-says c =
     let size = c.in_ok-size in
     let mtype = c.in_ok-mtype in
     rw c.from_residual-in_err-flags_of.ensures (λ call h.
-      let parts = receive_parts c.args.words.now id.id.now id.rest.now size.size.now size.rest.now mtype.mtype.now mtype.flags.now call id.ensures size.ensures mtype.ensures h in
-      c.in_err-flags_of.ensures parts.3.0 parts.3.1)
+    let parts = receive_parts c.args.words.now id.id.now id.rest.now size.size.now size.rest.now mtype.mtype.now mtype.flags.now call id.ensures size.ensures mtype.ensures h in
+    c.in_err-flags_of.ensures parts.3.0 parts.3.1)
 
 pub returns-clause-says : goal.returns-clause-says
 returns-clause-says c =

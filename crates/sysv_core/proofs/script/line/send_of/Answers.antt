@@ -10,14 +10,14 @@ pub returns-in_err-mtype-clause-says : goal.returns-in_err-mtype-clause-says
 returns-in_err-mtype-clause-says c =
     let id = c.in_ok-id in
     rw c.from_residual-in_err-mtype.ensures (λ call h.
-      c.in_err-mtype.ensures (send_second c.args.words.now id.id.now id.rest.now call id.ensures h))
+    c.in_err-mtype.ensures (send_second c.args.words.now id.id.now id.rest.now call id.ensures h))
 
 pub returns-in_err-flags-clause-says : goal.returns-in_err-flags-clause-says
 returns-in_err-flags-clause-says c =
     let id = c.in_ok-id in
     let mtype = c.in_ok-mtype in
     rw c.from_residual-in_err-flags.ensures (λ call h.
-      c.in_err-flags.ensures (send_third c.args.words.now id.id.now id.rest.now mtype.mtype.now mtype.rest.now call id.ensures mtype.ensures h))
+    c.in_err-flags.ensures (send_third c.args.words.now id.id.now id.rest.now mtype.mtype.now mtype.rest.now call id.ensures mtype.ensures h))
 
 pub returns-in_err-identifier_of-clause-says : goal.returns-in_err-identifier_of-clause-says
 returns-in_err-identifier_of-clause-says c =
@@ -25,8 +25,8 @@ returns-in_err-identifier_of-clause-says c =
     let mtype = c.in_ok-mtype in
     let flags = c.in_ok-flags in
     rw c.from_residual-in_err-identifier_of.ensures (λ call h.
-      let parts = send_parts c.args.words.now id.id.now id.rest.now mtype.mtype.now mtype.rest.now flags.flags.now flags.body.now call id.ensures mtype.ensures flags.ensures h in
-      c.in_err-identifier_of.ensures parts.0)
+    let parts = send_parts c.args.words.now id.id.now id.rest.now mtype.mtype.now mtype.rest.now flags.flags.now flags.body.now call id.ensures mtype.ensures flags.ensures h in
+    c.in_err-identifier_of.ensures parts.0)
 
 pub returns-in_err-number-clause-says : goal.returns-in_err-number-clause-says
 returns-in_err-number-clause-says c =
@@ -34,8 +34,8 @@ returns-in_err-number-clause-says c =
     let mtype = c.in_ok-mtype in
     let flags = c.in_ok-flags in
     rw c.from_residual-in_err-number.ensures (λ call h.
-      let parts = send_parts c.args.words.now id.id.now id.rest.now mtype.mtype.now mtype.rest.now flags.flags.now flags.body.now call id.ensures mtype.ensures flags.ensures h in
-      c.in_err-number.ensures parts.1)
+    let parts = send_parts c.args.words.now id.id.now id.rest.now mtype.mtype.now mtype.rest.now flags.flags.now flags.body.now call id.ensures mtype.ensures flags.ensures h in
+    c.in_err-number.ensures parts.1)
 
 pub returns-in_err-flags_of-clause-says : goal.returns-in_err-flags_of-clause-says
 returns-in_err-flags_of-clause-says c =
@@ -43,8 +43,8 @@ returns-in_err-flags_of-clause-says c =
     let mtype = c.in_ok-mtype in
     let flags = c.in_ok-flags in
     rw c.from_residual-in_err-flags_of.ensures (λ call h.
-      let parts = send_parts c.args.words.now id.id.now id.rest.now mtype.mtype.now mtype.rest.now flags.flags.now flags.body.now call id.ensures mtype.ensures flags.ensures h in
-      c.in_err-flags_of.ensures parts.2.0 parts.2.1)
+    let parts = send_parts c.args.words.now id.id.now id.rest.now mtype.mtype.now mtype.rest.now flags.flags.now flags.body.now call id.ensures mtype.ensures flags.ensures h in
+    c.in_err-flags_of.ensures parts.2.0 parts.2.1)
 
 pub returns-in_err-text_of-clause-says : goal.returns-in_err-text_of-clause-says
 returns-in_err-text_of-clause-says c =
@@ -52,8 +52,8 @@ returns-in_err-text_of-clause-says c =
     let mtype = c.in_ok-mtype in
     let flags = c.in_ok-flags in
     rw c.from_residual-in_err-text_of.ensures (λ call h.
-      let parts = send_parts c.args.words.now id.id.now id.rest.now mtype.mtype.now mtype.rest.now flags.flags.now flags.body.now call id.ensures mtype.ensures flags.ensures h in
-      c.in_err-text_of.ensures.says parts.3.0 parts.3.1)
+    let parts = send_parts c.args.words.now id.id.now id.rest.now mtype.mtype.now mtype.rest.now flags.flags.now flags.body.now call id.ensures mtype.ensures flags.ensures h in
+    c.in_err-text_of.ensures.says parts.3.0 parts.3.1)
 
 pub returns-clause-says : goal.returns-clause-says
 returns-clause-says c =
