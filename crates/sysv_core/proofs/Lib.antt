@@ -11,3 +11,4 @@ pub mod SignedLemmas
 pub mod LineLemmas
 pub mod FaultLemmas
 pub mod StreamLemmas
+pub mod Parsing

@@ -80,14 +80,22 @@ fn start_of(line: &[u8]) -> Option<Line<'_>>
     ensures fits { IfSome result LineFits }
 {
     let (actor, rest) = first_word(line)?;
-    let (operation, rest) = first_word(rest)?;
+    let (operation, words) = first_word(rest)?;
     let actor = actor_of(actor)?;
-    let request = match operation {
-        b"snd" => send_of(rest)?,
-        b"rcv" => receive_of(rest)?,
-        _ => return None,
-    };
+    let request = request_of(operation, words)?;
     Some(Line::Start { actor, request })
+}
+
+/// The call that an operation and the words behind it ask for.
+fn request_of<'a>(operation: &[u8], words: &'a [u8]) -> Option<Request<'a>>
+    ensures says { MatchOption result ((call : Call) → SaysCall operation.now words.now call → ⊥) (λ request. SaysCall operation.now words.now (call_asked request)) }
+    ensures fits { IfSome result RequestFits }
+{
+    match operation {
+        b"snd" => send_of(words),
+        b"rcv" => receive_of(words),
+        _ => None,
+    }
 }
 
 /// `ID MTYPE FLAGS BODY`.
