@@ -1,5 +1,6 @@
-ghost use Rattle.std.specs.Prelude.{◌≡◌, ◌≤◌, IfOk};
-ghost use Rattle.sysv_core.specs.Calls.{script_cred, head_telling, operation_asked};
+ghost use Rattle.std.specs.Prelude.{◌≡◌, ◌≤◌, [], ◌∷◌, ◌++◌, IfOk, OnOk, OnErr};
+ghost use Rattle.sysv_core.specs.Calls.{script_cred, head_telling, operation_asked, told_text};
+ghost use Rattle.sysv_core.specs.Heads.{head_text};
 ghost use Rattle.sysv_core.specs.Lines.{FitsBody, RequestFits, LineFits, text_bytes};
 
 use crate::event::{Answer, Call, Event, Outcome, Stepped};
@@ -125,7 +126,10 @@ impl Stage {
         operation: Operation,
         stepped: Stepped,
         output: &mut Output,
-    ) -> Result<(), NoMemory> {
+    ) -> Result<(), NoMemory>
+        ensures ok { OnOk result (output.new ≡ output.old ++ told_text actor operation stepped) }
+        ensures err { OnErr result (output.new ≡ []) }
+    {
         match stepped {
             Stepped::Nothing => Ok(()),
             Stepped::Worn => output.tell(Head::Worn { actor }),
@@ -144,7 +148,11 @@ impl Stage {
         }
     }
 
-    fn tell_body(&mut self, head: Head, body: Body, output: &mut Output) -> Result<(), NoMemory> {
+    /// Composes the line of an answer with a text, and takes the body back.
+    fn tell_body(&mut self, head: Head, body: Body, output: &mut Output) -> Result<(), NoMemory>
+        ensures ok { OnOk result (output.new ≡ output.old ++ (head_text head ++ (body ++ 10 ∷ []))) }
+        ensures err { OnErr result (output.new ≡ []) }
+    {
         let told = output.tell_text(head, &body);
         self.spare = Some(body);
         told
