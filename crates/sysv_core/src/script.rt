@@ -55,7 +55,8 @@ pub const SCRIPT_LINES: u32 = 1_000_000;
 ///
 /// A line that is none of the language's is answered by `line N: bad`, and ends the script with
 /// `Line(N)`; a line behind the millionth ends it with `Bound`. After `Read`, `Write` and `NoMemory`
-/// what was written is a beginning of the answers.
+/// what was written is a beginning of the answers. Nothing but `write` is called on `writer`: one
+/// with a buffer of its own is for the caller to flush.
 pub fn run_script<R: Read, W: Write>(
     alloc: Global,
     reader: &mut R,

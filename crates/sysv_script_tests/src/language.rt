@@ -128,7 +128,7 @@ fn names_bad_lines(rt: HostRuntime) -> Result<(), Fail> {
     Ok(())
 }
 
-const ANSWERED: [(&[u8], &[u8]); 34] = [
+const ANSWERED: [(&[u8], &[u8]); 35] = [
     (b"", b""),
     (b"# preset", b""),
     (b"1 snd 0 0 NOWAIT =a", b"1 snd ! EINVAL\n"),
@@ -152,6 +152,10 @@ const ANSWERED: [(&[u8], &[u8]); 34] = [
     (b"1 snd 0 1 EXCEPT =a", b"1 snd = 0\n"),
     (b"1 snd 0 1 NOERROR =a", b"1 snd = 0\n"),
     (b"1 snd 0 1 - ==", b"1 snd = 0\n"),
+    (
+        b"1 snd 0 2 - *03\n2 rcv 0 9 0 NOWAIT",
+        b"1 snd = 0\n2 rcv = 3 type 2 =xxx\n",
+    ),
     (b"1 rcv 0 100 0 NOWAIT", b"1 rcv ! ENOMSG\n"),
     (b"1 rcv 0 4294967295 -0 NOWAIT", b"1 rcv ! ENOMSG\n"),
     (
@@ -255,5 +259,23 @@ fn ends_behind_the_millionth_line(rt: HostRuntime) -> Result<(), Fail> {
         assert_eq!(rt; ending.end, *end, "{behind:?}");
         assert!(rt; ending.written.as_slice() == b"1 rcv ! EINVAL\n".as_slice());
     }
+    Ok(())
+}
+
+#[test]
+fn gives_long_texts_back(rt: HostRuntime) -> Result<(), Fail> {
+    let mut script = Vec::from_slice(rt.alloc(), b"preset\n")?;
+    let mut answers = Vec::new(rt.alloc());
+    for _ in 0..40 {
+        script.extend_from_slice(b"1 snd 0 1 NOWAIT *8192\n2 rcv 0 8192 0 NOWAIT\n")?;
+        answers.extend_from_slice(b"1 snd = 0\n2 rcv = 8192 type 1 =")?;
+        for _ in 0..8192 {
+            answers.push(b'x')?;
+        }
+        answers.push(b'\n')?;
+    }
+    let ending = run(rt.alloc(), script.as_slice());
+    assert_eq!(rt; ending.end, Ok(()));
+    assert!(rt; ending.written.as_slice() == answers.as_slice());
     Ok(())
 }

@@ -81,3 +81,32 @@ fn out_of_memory(rt: &impl Print) -> ExitCode {
     let _ = println!(rt; "sysvmsg: no memory");
     ExitCode::from(FAULT)
 }
+
+#[cfg(test)]
+mod tests {
+    use super::*;
+    use std::test::Fail;
+
+    #[test]
+    fn understands_script_alone(rt: HostRuntime) -> Result<(), Fail> {
+        let understood = task_of(rt.alloc(), &["sysvmsg", "script"])?;
+        assert_eq!(rt; understood, Task::Script);
+        for word in [
+            "scripts",
+            "Script",
+            "serve",
+            "help",
+            "--help",
+            "-h",
+            "--version",
+            "",
+        ] {
+            let asked = task_of(rt.alloc(), &["sysvmsg", word])?;
+            assert_eq!(rt; asked, Task::Explain, "{word}");
+            let beside = task_of(rt.alloc(), &["sysvmsg", "script", word])?;
+            assert_eq!(rt; beside, Task::Explain, "{word}");
+        }
+        assert_eq!(rt; task_of(rt.alloc(), &["sysvmsg"])?, Task::Explain);
+        Ok(())
+    }
+}
