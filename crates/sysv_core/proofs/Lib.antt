@@ -3,3 +3,4 @@ pub mod SeenSteps
 pub mod KeptActors
 pub mod Answering
 pub mod Runs
+pub mod WorkedRun

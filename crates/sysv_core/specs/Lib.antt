@@ -18,3 +18,4 @@ pub mod Kept
 pub mod Run
 pub mod AnswerLaw
 pub mod Headline
+pub mod WorkedRun
