@@ -3,4 +3,5 @@ pub mod SeenSteps
 pub mod KeptActors
 pub mod Answering
 pub mod Runs
+pub mod OneRun
 pub mod WorkedRun

@@ -15,7 +15,7 @@ use Rattle.sysv_core.specs.Phase.{Phase, AtLook, AtPlace, AtTake}
 use Rattle.sysv_core.specs.Begin.{IsRefused, begun}
 use Rattle.sysv_core.specs.World.{World, opening, with_actor}
 use Rattle.sysv_core.specs.Run.{Happening, Preset, Given, Goes, Leads}
-use Rattle.sysv_core.specs.WorkedRun.{sender, receiver, hello, receive_up_to_100, send_hello, send_nothing, one_starts, two_starts, steps, the_happenings, the_answers, answer_of, hello_message, empty_message, take_by, look_for, place_hello, place_nothing, WorkedRun, after_turns, NoLegalReplies, ExactFit}
+use Rattle.sysv_core.specs.WorkedRun.{sender, receiver, hello, receive_up_to_100, send_hello, send_nothing, one_starts, two_starts, steps, the_happenings, the_answers, answer_of, hello_message, empty_message, take_by, look_for, place_hello, place_nothing, WorkedRun, after_turns, NoWrongReply, ExactFit}
 
 -- ---- the legal replies of the run
 
@@ -172,8 +172,8 @@ not_both number zeroth first = omega arith
 not_again : ¬ (hello_message ≡ empty_message)
 not_again same = not_both hello_message.number refl (ap (λ (m : Message). m.number) same)
 
-pub no_legal_replies : NoLegalReplies
-no_legal_replies = record {
+pub no_wrong_reply : NoWrongReply
+no_wrong_reply = record {
   first_take_gone = λ legal. legal refl;
   look_gone = λ legal. legal refl;
   place_gone = λ legal. legal refl;

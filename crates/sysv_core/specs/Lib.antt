@@ -18,4 +18,5 @@ pub mod Kept
 pub mod Run
 pub mod AnswerLaw
 pub mod Headline
+pub mod OneRun
 pub mod WorkedRun

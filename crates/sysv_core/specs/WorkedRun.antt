@@ -119,7 +119,7 @@ abbrev pub after_turns : ℕ → History
 after_turns count = take count the_turns
 
 -- the replies that each turn of the run may not have, by the turn before which they would come
-pub record NoLegalReplies : Type 0 where
+pub record NoWrongReply : Type 0 where
   -- the identifier is live from the preset on: no call is told that it is gone
   pub first_take_gone : ¬ IsLegalReply (after_turns 1) (take_by sender) Gone
   pub look_gone : ¬ IsLegalReply (after_turns 2) (look_for 5) Gone
