@@ -15,7 +15,7 @@ use Rattle.sysv_core.specs.Phase.{Phase, AtLook, AtPlace, AtTake}
 use Rattle.sysv_core.specs.Begin.{IsRefused, begun}
 use Rattle.sysv_core.specs.World.{World, opening, with_actor}
 use Rattle.sysv_core.specs.Run.{Happening, Preset, Given, Goes, Leads}
-use Rattle.sysv_core.specs.WorkedRun.{sender, receiver, hello, receive_up_to_100, send_hello, send_nothing, one_starts, two_starts, steps, the_happenings, the_answers, answer_of, hello_message, empty_message, take_by, look_for, place_hello, place_nothing, WorkedRun, after_turns, NoWrongReply, ExactFit}
+use Rattle.sysv_core.specs.WorkedRun.{sender, receiver, hello, receive_up_to_100, send_hello, send_nothing, one_starts, two_starts, steps, the_happenings, the_answers, answer_of, hello_message, empty_message, take_by, look_for, place_hello, place_nothing, WorkedRun, after_turns, NoWrongReply, start_of, ExactFit}
 
 -- ---- the legal replies of the run
 
@@ -190,8 +190,16 @@ no_wrong_reply = record {
 
 -- ---- two messages that fill the queue
 
+starts_first : (first : List ℕ) → length first ≡ 8192 → ¬ IsRefused (start_of first)
+starts_first first h (inl low) = omega (arith, ints)
+starts_first first h (inr (inl long)) = omega arith
+starts_first first h (inr (inr low)) = omega (arith, ints)
+
 pub exact_fit : ExactFit
 exact_fit first second h k = record {
+  starts = λ refused. starts_first first h refused;
+  longer_is_refused = λ text long. inr (inl (omega arith));
+  first_fits = (refl, tt, (omega arith, omega arith), refl);
   second_looks = (refl, tt, (omega arith, omega arith));
   second_fits = (refl, tt, (omega arith, omega arith), refl);
   byte_is_too_much = λ text one. (refl, tt, λ room. let over : 0 + length first + length second + length text ≤ 16384 = room.0 in omega arith, refl);

@@ -18,6 +18,7 @@ use Rattle.sysv_core.specs.declared.event.Call.TheVariants.{Send, Receive}
 use Rattle.sysv_core.specs.declared.event.Event.TheVariants.{Start, Step}
 use Rattle.sysv_core.specs.declared.event.Outcome.{Outcome}
 use Rattle.sysv_core.specs.declared.event.Outcome.TheVariants as outcome
+use Rattle.sysv_core.specs.Begin.{IsRefused}
 use Rattle.sysv_core.specs.World.{World, opening, preset_call}
 use Rattle.sysv_core.specs.Run.{Happening, Preset, Happens, Given, Leads}
 
@@ -138,18 +139,25 @@ pub record NoWrongReply : Type 0 where
   pub take_again : ¬ IsLegalReply (after_turns 7) (take_by receiver) (Taken hello_message)
   pub take_third : (m : Message) → ¬ IsLegalReply (after_turns 8) (take_by receiver) (Taken m)
 
--- Two texts of 8,192 bytes fill the queue's 16,384 bytes to the byte: after the first the second
--- fits, and after both one byte more does not, while a message of no bytes still does.
+-- A text of 8,192 bytes is sent, and one of a byte more is refused. Two such texts fill the queue's
+-- 16,384 bytes to the byte: after the first the second fits, and after both one byte more does not,
+-- while a message of no bytes still does.
 abbrev pub send_of : List ℕ → Turn
 send_of text = Place (pos 0) sender (pos 1) text 0
 
+abbrev pub start_of : List ℕ → Call
+start_of text = Send (pos 0) (pos 1) nowait text
+
 abbrev pub with_first : List ℕ → History
-with_first first = turn_of 0 0 preset_call (Installed true) ∷ turn_of 1 0 (send_of first) (Accepted 0) ∷ []
+with_first first = after_turns 1 ++ turn_of 1 0 (send_of first) (Accepted 0) ∷ []
 
 abbrev pub with_both : List ℕ → List ℕ → History
 with_both first second = with_first first ++ turn_of 1 3 (send_of second) (Accepted 1) ∷ []
 
 pub record FillsExactly (first second : List ℕ) : Type 0 where
+  pub starts : ¬ IsRefused (start_of first)
+  pub longer_is_refused : (text : List ℕ) → length text ≡ 8193 → IsRefused (start_of text)
+  pub first_fits : IsLegalReply (after_turns 1) (send_of first) (Accepted 0)
   pub second_looks : IsLegalReply (with_first first) (look_for 8192) Fits
   pub second_fits : IsLegalReply (with_first first) (send_of second) (Accepted 1)
   pub byte_is_too_much : (text : List ℕ) → length text ≡ 1 → IsLegalReply (with_both first second) (send_of text) (Full 0)
