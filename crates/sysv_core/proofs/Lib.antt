@@ -3,6 +3,7 @@ pub mod SeenSteps
 pub mod KeptActors
 pub mod Answering
 pub mod Telling
+pub mod Addressing
 pub mod Runs
 pub mod OneRun
 pub mod WorkedRun

@@ -13,6 +13,7 @@ use Rattle.sysv_queue.specs.QueueLaw.{QueueLaw}
 use Rattle.sysv_core.specs.Headline.{RunsOn, Obeys, LawsHold}
 use Rattle.sysv_core.proofs.Answering.{answers_decided}
 use Rattle.sysv_core.proofs.Telling.{movers_told}
+use Rattle.sysv_core.proofs.Addressing.{all_to_callers}
 use Rattle.sysv_core.specs.Run.{Happening, Preset, Happens, Given, Goes, Leads, StandsFor, call_of, given_in, answers_in, answers_of}
 
 pub leads_more : (w : World) (xs : List Happening) (x : Happening) (given more : List Given) (mid after : World) →
@@ -108,5 +109,6 @@ laws_hold law seen = λ n es given s.
       queue = law s.world.history s.sight.slot.legal;
       answers = decided.0;
       once = decided.1;
+      addressed = all_to_callers es (opening n) s.world given s.led;
       told = movers_told n es given s.world s.led;
     }

@@ -16,7 +16,7 @@ use Rattle.sysv_core.specs.declared.event.Stepped.{Stepped}
 use Rattle.sysv_core.specs.World.{World}
 use Rattle.sysv_core.specs.Seen.{Seen}
 use Rattle.sysv_core.specs.Run.{Happening, Preset, Happens, Given, StandsFor, answers_in, answers_of}
-use Rattle.sysv_core.specs.AnswerLaw.{IsAnsweredBy, turns_of, moves_message, IsTold}
+use Rattle.sysv_core.specs.AnswerLaw.{IsAnsweredBy, turns_of, moves_message, IsTold, IsToCaller}
 
 -- For every list that the world stood for, it now stands for that list and a preset.
 abbrev pub StandsWithPreset : Seen → Seen → Type 0
@@ -51,6 +51,7 @@ pub record Obeys (w : World) (given : List Given) : Type 0 where
   pub queue : QueueLaw w.history
   pub answers : All (λ (g : Given). IsAnsweredBy (turns_of g.who w.history) g.answer) given
   pub once : AllPairs (λ (f g : Given). f.who ≢ g.who) given
+  pub addressed : All (λ (g : Given). IsToCaller g.who g.answer) given
   pub told : All (λ (e : Entry). moves_message e.reply ≡ true → IsTold given e) w.history
 
 -- For every list that the world stands for, the world to which it leads obeys the laws.
