@@ -2,6 +2,8 @@ pub mod Lists
 pub mod SeenSteps
 pub mod KeptActors
 pub mod Answering
+pub mod Telling
+pub mod Addressing
 pub mod Runs
 pub mod Going
 pub mod Scripting
@@ -12,3 +14,5 @@ pub mod LineLemmas
 pub mod FaultLemmas
 pub mod StreamLemmas
 pub mod Parsing
+pub mod OneRun
+pub mod WorkedRun

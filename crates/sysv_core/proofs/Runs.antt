@@ -12,6 +12,8 @@ use Rattle.sysv_queue.specs.LegalReply.{IsLegalHistory}
 use Rattle.sysv_queue.specs.QueueLaw.{QueueLaw}
 use Rattle.sysv_core.specs.Headline.{RunsOn, Obeys, LawsHold}
 use Rattle.sysv_core.proofs.Answering.{answers_decided}
+use Rattle.sysv_core.proofs.Telling.{movers_told}
+use Rattle.sysv_core.proofs.Addressing.{all_to_callers}
 use Rattle.sysv_core.specs.Run.{Happening, Preset, Happens, Given, Goes, Leads, StandsFor, call_of, given_in, answers_in, answers_of}
 
 pub leads_more : (w : World) (xs : List Happening) (x : Happening) (given more : List Given) (mid after : World) →
@@ -103,4 +105,10 @@ runs_on start new events done left answers u split worn n es given s =
 pub laws_hold : ((h : History) → IsLegalHistory h → QueueLaw h) → (seen : Seen) → LawsHold seen
 laws_hold law seen = λ n es given s.
     let decided = answers_decided n es given s.world s.led in
-    record { queue = law s.world.history s.sight.slot.legal; answers = decided.0; once = decided.1 }
+    record {
+      queue = law s.world.history s.sight.slot.legal;
+      answers = decided.0;
+      once = decided.1;
+      addressed = all_to_callers es (opening n) s.world given s.led;
+      told = movers_told n es given s.world s.led;
+    }

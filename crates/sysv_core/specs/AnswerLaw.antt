@@ -1,9 +1,10 @@
 -- The law of the answers: a call's answer is decided by its own turns. It answers with the turn that
 -- ends it, by the reply of that turn; a send answers zero exactly where a place of it was accepted,
 -- and a receive a message exactly where a take of it was given that message. No call is answered
--- twice. (POSIX.1-2017, msgsnd and msgrcv, RETURN VALUE and ERRORS; which refusal comes first is this
--- profile's.)
-use Rattle.std.specs.Prelude.{◌≡◌, ◌≢◌, ◌⊎◌, ℕ, ◌==◌, ◌&&◌, Bool, true, false, not, List, [], ◌∷◌, ◌++◌, length, take, Option, Some, None, All, AllPairs, filter, if◌then◌else◌}
+-- twice, and one that put a message on the queue or took one off it is answered; each answer goes to
+-- the caller. (POSIX.1-2017, msgsnd and msgrcv, RETURN VALUE and ERRORS; which refusal comes first is
+-- this profile's.)
+use Rattle.std.specs.Prelude.{◌≡◌, ◌≢◌, ◌⊎◌, ℕ, ◌==◌, ◌&&◌, Bool, true, false, not, List, [], ◌∷◌, ◌++◌, length, take, Option, Some, None, All, AllPairs, Contains, filter, if◌then◌else◌}
 use Rattle.std.specs.List.{list_any}
 use Rattle.sysv_model.specs.declared.errno.Errno.TheVariants.{EINVAL, EIDRM, EACCES, EAGAIN, ENOMSG, E2BIG}
 use Rattle.sysv_model.specs.Message.{Message}
@@ -52,3 +53,18 @@ IsAnsweredBy turns a =
     ((turns ≡ []) × (a.outcome ≡ outcome.Refused EINVAL))
     ⊎ ((earlier : List Entry) × (last : Entry) × (turns ≡ earlier ++ last ∷ [])
     × All (λ (e : Entry). e.reply ≡ Fits) earlier × Ends (live_seen earlier) last.call last.reply a)
+
+-- the turn put a message on the queue or took one off it
+abbrev pub moves_message : Reply → Bool
+moves_message (Accepted number) = true
+moves_message (Taken message) = true
+moves_message reply = false
+
+-- the call that made the turn was answered
+abbrev pub IsTold : List Given → Entry → Type 0
+IsTold given e = (g : Given) × Contains given g × (g.who ≡ e.who)
+
+-- the answer goes to the actor whose call it is of
+abbrev pub IsToCaller : Who → Answer → Type 0
+IsToCaller (Actor actor start) a = a.actor ≡ actor
+IsToCaller (Seat number) a = ⊥

@@ -29,3 +29,5 @@ pub mod Lines
 pub mod SaidBy
 pub mod ScriptText
 pub mod ScriptSofar
+pub mod OneRun
+pub mod WorkedRun

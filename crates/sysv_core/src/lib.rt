@@ -3,6 +3,7 @@
 #![tactic(auto)]
 
 pub mod event;
+pub mod laws;
 mod phase;
 pub mod script;
 mod turn;

@@ -226,3 +226,6 @@ fn idle(alloc: Global, actors: usize) -> Result<Vec<Option<Phase>>, OpenRefused>
     }
     Ok(phases)
 }
+
+#[cfg(test)]
+mod tests;

@@ -1,0 +1,100 @@
+-- Each call that put a message on the queue, or took one off it, was answered.
+use Rattle.std.proofs.Common.{◌≡◌, ℕ, inl, inr, Bool, true, false, List, [], ◌∷◌, ◌++◌, Option, None, Some, refl, sym, ap, subst, append_assoc}
+use Rattle.std.specs.List.{All, Contains}
+use Rattle.std.proofs.lemmas.List.Elements.{All-push, All-nil, All-weaker, Contains-append_left, Contains-push}
+use Rattle.sysv_model.specs.declared.cred.Cred.{Cred}
+use Rattle.sysv_model.specs.History.{Who, Actor, Reply, Installed, Accepted, Taken, Entry, History}
+use Rattle.sysv_queue.specs.LegalReply.{IsLegalReply}
+use Rattle.sysv_core.specs.declared.event.Call.{Call}
+use Rattle.sysv_core.specs.declared.event.Event.{Event}
+use Rattle.sysv_core.specs.declared.event.Event.TheVariants.{Start, Step}
+use Rattle.sysv_core.specs.declared.event.Stepped.{Stepped}
+use Rattle.sysv_core.specs.Phase.{Phase, AtLook, AtPlace, AtTake}
+use Rattle.sysv_core.specs.Turn.{turn_call, after_turn}
+use Rattle.sysv_core.specs.World.{World, Doing, opening, actor_at, StartsAt, StepsAt, Makes, Steps, Presets, preset_call}
+use Rattle.sysv_core.specs.Run.{Happening, Preset, Happens, Given, Goes, Leads, call_of, given_in, started_at}
+use Rattle.sysv_core.specs.AnswerLaw.{moves_message, IsTold}
+
+abbrev Told : List Given → Entry → Type 0
+Told given e = moves_message e.reply ≡ true → IsTold given e
+
+abbrev AllTold : List Given → History → Type 0
+AllTold given h = All (Told given) h
+
+no_move : {A : Type 0} → false ≡ true → A
+no_move e = absurd cc
+
+told_still : (given more : List Given) (h : History) → AllTold given h → AllTold (given ++ more) h
+told_still given more h a = All-weaker (Told given) (Told (given ++ more))
+    (λ e t moves. let was = t moves in (was.0, Contains-append_left given more was.0 was.1, was.2)) h a
+
+told_now : (given : List Given) (g : Given) → (h : Given) × Contains (given ++ g ∷ []) h × (h.who ≡ g.who)
+told_now given g = (g, Contains-push given g, refl)
+
+-- a turn of a call, and what the call gave then
+turn_told : (actor now : ℕ) (who : Who) (h : History) (given : List Given) (p : Phase) (reply : Reply) → IsLegalReply h (turn_call p now) reply →
+    Told (given ++ given_in who (after_turn actor p reply).1) record { who = who; call = turn_call p now; reply = reply }
+turn_told actor now who h given (AtPlace s) (Accepted number) l = λ moves. told_now given _
+turn_told actor now who h given (AtTake r) (Taken m) l = λ moves. told_now given _
+turn_told actor now who h given (AtLook s) (Accepted number) l = absurd l
+turn_told actor now who h given (AtLook s) (Taken m) l = absurd l
+turn_told actor now who h given (AtPlace s) (Taken m) l = absurd l
+turn_told actor now who h given (AtTake r) (Accepted number) l = absurd l
+turn_told actor now who h given (AtLook s) reply l = λ moves. no_move moves
+turn_told actor now who h given (AtPlace s) reply l = λ moves. no_move moves
+turn_told actor now who h given (AtTake r) reply l = λ moves. no_move moves
+
+-- the history does not change
+same_history : (w after : World) (given more : List Given) → after.history ≡ w.history → AllTold given w.history → AllTold (given ++ more) after.history
+same_history w after given more same a = subst (AllTold (given ++ more)) (sym same) (told_still given more w.history a)
+
+abbrev history_of : World → History
+history_of w = w.history
+
+start_adds_none : (w after : World) (actor : ℕ) (cred : Cred) (call : Call) (result : Stepped) (o : Option (Option Doing)) → StartsAt w actor cred call o result after → after.history ≡ w.history
+start_adds_none w after actor cred call result None s = ap history_of s.1
+start_adds_none w after actor cred call result (Some None) (inl s) = ap history_of s.2
+start_adds_none w after actor cred call result (Some None) (inr s) = ap history_of s.2
+start_adds_none w after actor cred call result (Some (Some d)) s = ap history_of s.1
+
+step_tells : (w after : World) (given : List Given) (actor now : ℕ) (result : Stepped) (o : Option (Option Doing)) → StepsAt w actor now o result after →
+    AllTold given w.history → AllTold (given ++ given_in (Actor actor (started_at o)) result) after.history
+step_tells w after given actor now result None s a = same_history w after given _ (ap history_of s.1) a
+step_tells w after given actor now result (Some None) s a = same_history w after given _ (ap history_of s.1) a
+step_tells w after given actor now result (Some (Some d)) s a =
+    let who : Who = Actor actor d.start in
+    let e : Entry = record { who = who; call = turn_call d.phase now; reply = s.0 } in
+    let more : List Given = given_in who (after_turn actor d.phase s.0).1 in
+    let all : AllTold (given ++ more) (w.history ++ e ∷ []) =
+    All-push (Told (given ++ more)) w.history e (told_still given more w.history a) (turn_told actor now who w.history given d.phase s.0 s.1) in
+    subst (AllTold (given ++ given_in who result)) (sym (ap history_of s.3))
+    (subst (λ (r : Stepped). AllTold (given ++ given_in who r) (w.history ++ e ∷ [])) (sym s.2) all)
+
+makes_tells : (w after : World) (given : List Given) (event : Event) (result : Stepped) → Makes w event result after →
+    AllTold given w.history → AllTold (given ++ given_in (call_of w event) result) after.history
+makes_tells w after given (Start actor cred call) result m a = same_history w after given _ (start_adds_none w after actor cred call result (actor_at w.actors actor) m) a
+makes_tells w after given (Step actor now) result m a = step_tells w after given actor now result (actor_at w.actors actor) m a
+
+steps_tell : (w after : World) (given : List Given) (event : Event) (result : Stepped) → Steps w event result after →
+    AllTold given w.history → AllTold (given ++ given_in (call_of w event) result) after.history
+steps_tell w after given event result (inl worn) a = same_history w after given _ (ap history_of worn.2) a
+steps_tell w after given event result (inr makes) a = makes_tells w after given event result makes.1 a
+
+preset_tells : (w after : World) (given : List Given) (made : Bool) → Presets w made after → AllTold given w.history → AllTold given after.history
+preset_tells w after given made (inr nothing) a = subst (AllTold given) (sym (ap history_of nothing.2)) a
+preset_tells w after given made (inl one) a =
+    let e : Entry = record { who = Actor 0 0; call = preset_call; reply = Installed true } in
+    subst (AllTold given) (sym (ap history_of one.2)) (All-push (Told given) w.history e a (λ moves. no_move moves))
+
+goes_tells : (w after : World) (given more : List Given) (x : Happening) → Goes w x more after → AllTold given w.history → AllTold (given ++ more) after.history
+goes_tells w after given more Preset g a = subst (λ gs. AllTold (given ++ gs) after.history) (sym g.0) (told_still given [] after.history (preset_tells w after given g.1.0 g.1.1 a))
+goes_tells w after given more (Happens event) g a = subst (λ gs. AllTold (given ++ gs) after.history) (sym g.2) (steps_tell w after given event g.0 g.1 a)
+
+leads_tell : (w after : World) (given more : List Given) (xs : List Happening) → Leads w xs more after → AllTold given w.history → AllTold (given ++ more) after.history
+leads_tell w after given more [] l a = same_history w after given more (ap history_of l.1) a
+leads_tell w after given more (x ∷ xs) l a =
+    subst (λ gs. AllTold (given ++ gs) after.history) (sym l.5)
+    (subst (λ gs. AllTold gs after.history) (append_assoc given l.1 l.2) (leads_tell l.0 after (given ++ l.1) l.2 xs l.4 (goes_tells w l.0 given l.1 x l.3 a)))
+
+pub movers_told : (n : ℕ) (xs : List Happening) (given : List Given) (w : World) → Leads (opening n) xs given w → All (λ (e : Entry). moves_message e.reply ≡ true → IsTold given e) w.history
+movers_told n xs given w l = leads_tell (opening n) w [] given xs l (All-nil (Told []))

@@ -1,0 +1,208 @@
+-- The worked run, one lemma for each of its happenings; the replies that are not legal at its turns.
+use Rattle.std.proofs.Common.{◌≡◌, ℕ, ℤ, pos, zero, suc, ◌+◌, ◌<◌, ◌≤◌, ◌^◌, inl, inr, true, false, List, [], ◌∷◌, ◌++◌, length, None, Some, refl, sym, ap, ◌∙◌, arith, slice_get}
+use Rattle.std.proofs.lemmas.Int.{ints}
+use Rattle.sysv_model.specs.declared.cred.Cred.{Cred}
+use Rattle.sysv_model.specs.declared.errno.Errno.TheVariants.{ENOMSG}
+use Rattle.sysv_model.specs.Message.{Message}
+use Rattle.sysv_model.specs.Selector.{Any}
+use Rattle.sysv_model.specs.History.{Fits, Accepted, NoMatch, Taken}
+use Rattle.sysv_queue.specs.Named.{IsNamed}
+use Rattle.sysv_queue.specs.LegalReply.{IsLegalReply}
+use Rattle.sysv_core.specs.declared.event.Stepped.TheVariants as stepped
+use Rattle.sysv_core.specs.declared.event.Outcome.TheVariants as outcome
+use Rattle.sysv_core.specs.declared.event.Call.{Call}
+use Rattle.sysv_core.specs.Phase.{Phase, AtLook, AtPlace, AtTake}
+use Rattle.sysv_core.specs.Begin.{IsRefused, begun}
+use Rattle.sysv_core.specs.World.{World, opening, with_actor}
+use Rattle.sysv_core.specs.Run.{Happening, Preset, Given, Goes, Leads}
+use Rattle.sysv_core.specs.WorkedRun.{sender, receiver, hello, receive_up_to_100, send_hello, send_nothing, one_starts, two_starts, steps, the_happenings, the_answers, answer_of, hello_message, empty_message, take_by, look_for, place_hello, place_nothing, WorkedRun, after_turns, NoWrongReply, start_of, ExactFit}
+
+-- ---- the legal replies of the run
+
+-- any message is named at the first place
+first_is_named : (m : Message) (ms : List Message) → IsNamed Any (m ∷ ms) 0
+first_is_named m ms = (omega arith, λ earlier below. omega arith)
+
+none_is_named : (place : ℕ) → ¬ IsNamed Any [] place
+none_is_named place named = let below : place < 0 = named.0 in omega arith
+
+legal_none : IsLegalReply (after_turns 1) (take_by sender) (NoMatch 0)
+legal_none = (refl, tt, none_is_named, refl)
+
+legal_look : IsLegalReply (after_turns 2) (look_for 5) Fits
+legal_look = (refl, tt, (omega arith, omega arith))
+
+legal_place : IsLegalReply (after_turns 3) place_hello (Accepted 0)
+legal_place = (refl, tt, (omega arith, omega arith), refl)
+
+legal_second_look : IsLegalReply (after_turns 4) (look_for 0) Fits
+legal_second_look = (refl, tt, (omega arith, omega arith))
+
+legal_second_place : IsLegalReply (after_turns 5) place_nothing (Accepted 1)
+legal_second_place = (refl, tt, (omega arith, omega arith), refl)
+
+legal_take : IsLegalReply (after_turns 6) (take_by receiver) (Taken hello_message)
+legal_take = (refl, tt, (0, first_is_named hello_message (empty_message ∷ []), refl), inl (omega arith))
+
+legal_second_take : IsLegalReply (after_turns 7) (take_by receiver) (Taken empty_message)
+legal_second_take = (refl, tt, (0, first_is_named empty_message [], refl), inl (omega arith))
+
+legal_third_take : IsLegalReply (after_turns 8) (take_by receiver) (NoMatch 2)
+legal_third_take = (refl, tt, none_is_named, refl)
+
+-- ---- no call of the run is refused at its start
+
+start_receive : ¬ IsRefused receive_up_to_100
+start_receive (inl h) = cc
+start_receive (inr (inl h)) = h refl
+start_receive (inr (inr h)) = omega (arith, ints)
+
+start_hello : ¬ IsRefused send_hello
+start_hello (inl h) = omega (arith, ints)
+start_hello (inr (inl h)) = let over : 8192 < 5 = h in omega arith
+start_hello (inr (inr h)) = omega (arith, ints)
+
+start_nothing : ¬ IsRefused send_nothing
+start_nothing (inl h) = omega (arith, ints)
+start_nothing (inr (inl h)) = let over : 8192 < 0 = h in omega arith
+start_nothing (inr (inr h)) = omega (arith, ints)
+
+-- ---- the worlds of the run
+
+-- after that many turns and counted events, where no actor is in a call, and where one is
+abbrev idle_at : (turns count : ℕ) → World
+idle_at turns count = record { history = after_turns turns; actors = (opening 16).actors; steps = count }
+
+abbrev calling_at : (turns count actor : ℕ) → Phase → (start : ℕ) → World
+calling_at turns count actor phase start =
+    record { history = after_turns turns; actors = with_actor (opening 16).actors actor (Some record { phase = phase; start = start }); steps = count }
+
+abbrev look_of : List ℕ → ℤ → Phase
+look_of text mtype = AtLook record { cred = sender; id = pos 0; mtype = mtype; bytes = text; seen = false }
+
+abbrev place_of : List ℕ → ℤ → Phase
+place_of text mtype = AtPlace record { cred = sender; id = pos 0; mtype = mtype; bytes = text; seen = true }
+
+abbrev take_of : Cred → Phase
+take_of cred = AtTake record { cred = cred; id = pos 0; size = 100; seen = false }
+
+-- ---- the happenings
+
+-- as records, so that what they speak of is found from them
+record Went (w : World) (x : Happening) (one : List Given) (mid : World) : Type 0 where
+  pub goes : Goes w x one mid
+
+record Led (w : World) (xs : List Happening) (given : List Given) (after : World) : Type 0 where
+  pub leads : Leads w xs given after
+
+goes_preset : Went (opening 16) Preset [] (idle_at 1 0)
+goes_preset = record { goes = (refl, (true, inl (refl, refl, refl))) }
+
+one_goes : (turns count : ℕ) (call : Call) → count < 2 ^ 62 → ¬ IsRefused call →
+    Went (idle_at turns count) (one_starts call) [] (calling_at turns (count + 1) 1 (begun sender call) count)
+one_goes turns count call fresh allowed = record { goes = (stepped.Nothing, inr (fresh, inr (allowed, refl, refl)), refl) }
+
+two_goes : (turns count : ℕ) (call : Call) → count < 2 ^ 62 → ¬ IsRefused call →
+    Went (idle_at turns count) (two_starts call) [] (calling_at turns (count + 1) 2 (begun receiver call) count)
+two_goes turns count call fresh allowed = record { goes = (stepped.Nothing, inr (fresh, inr (allowed, refl, refl)), refl) }
+
+goes_none : Went (calling_at 1 1 1 (take_of sender) 0) (steps 1) (answer_of 1 0 (outcome.Refused ENOMSG) (Some []) ∷ []) (idle_at 2 2)
+goes_none = record { goes = (_, inr (omega arith, (NoMatch 0, legal_none, refl, refl)), refl) }
+
+goes_look : Went (calling_at 2 3 1 (look_of hello (pos 5)) 2) (steps 1) [] (calling_at 3 4 1 (place_of hello (pos 5)) 2)
+goes_look = record { goes = (stepped.Nothing, inr (omega arith, (Fits, legal_look, refl, refl)), refl) }
+
+goes_place : Went (calling_at 3 4 1 (place_of hello (pos 5)) 2) (steps 1) (answer_of 1 2 outcome.Zero None ∷ []) (idle_at 4 5)
+goes_place = record { goes = (_, inr (omega arith, (Accepted 0, legal_place, refl, refl)), refl) }
+
+goes_second_look : Went (calling_at 4 6 1 (look_of [] (pos 2)) 5) (steps 1) [] (calling_at 5 7 1 (place_of [] (pos 2)) 5)
+goes_second_look = record { goes = (stepped.Nothing, inr (omega arith, (Fits, legal_second_look, refl, refl)), refl) }
+
+goes_second_place : Went (calling_at 5 7 1 (place_of [] (pos 2)) 5) (steps 1) (answer_of 1 5 outcome.Zero None ∷ []) (idle_at 6 8)
+goes_second_place = record { goes = (_, inr (omega arith, (Accepted 1, legal_second_place, refl, refl)), refl) }
+
+goes_take : Went (calling_at 6 9 2 (take_of receiver) 8) (steps 2) (answer_of 2 8 (outcome.Got (pos 5) 5) (Some hello) ∷ []) (idle_at 7 10)
+goes_take = record { goes = (_, inr (omega arith, (Taken hello_message, legal_take, refl, refl)), refl) }
+
+goes_second_take : Went (calling_at 7 11 2 (take_of receiver) 10) (steps 2) (answer_of 2 10 (outcome.Got (pos 2) 0) (Some []) ∷ []) (idle_at 8 12)
+goes_second_take = record { goes = (_, inr (omega arith, (Taken empty_message, legal_second_take, refl, refl)), refl) }
+
+goes_third_take : Went (calling_at 8 13 2 (take_of receiver) 12) (steps 2) (answer_of 2 12 (outcome.Refused ENOMSG) (Some []) ∷ []) (idle_at 9 14)
+goes_third_take = record { goes = (_, inr (omega arith, (NoMatch 2, legal_third_take, refl, refl)), refl) }
+
+-- ---- the run
+
+on : {w mid after : World} {x : Happening} {xs : List Happening} {one rest : List Given} → Went w x one mid → Led mid xs rest after → Led w (x ∷ xs) (one ++ rest) after
+on {w} {mid} {after} {x} {xs} {one} {rest} went led = record { leads = (mid, one, rest, went.goes, led.leads, refl) }
+
+over : Led (idle_at 9 14) [] [] (idle_at 9 14)
+over = record { leads = (refl, refl) }
+
+receives_then : Led (idle_at 7 10) (two_starts receive_up_to_100 ∷ steps 2 ∷ two_starts receive_up_to_100 ∷ steps 2 ∷ [])
+    (answer_of 2 10 (outcome.Got (pos 2) 0) (Some []) ∷ answer_of 2 12 (outcome.Refused ENOMSG) (Some []) ∷ []) (idle_at 9 14)
+receives_then = on (two_goes 7 10 receive_up_to_100 (omega arith) start_receive) (on goes_second_take
+    (on (two_goes 8 12 receive_up_to_100 (omega arith) start_receive) (on goes_third_take over)))
+
+pub worked_run : WorkedRun
+worked_run =
+    let all : Led (opening 16) the_happenings the_answers (idle_at 9 14) =
+    on goes_preset (on (one_goes 1 0 receive_up_to_100 (omega arith) start_receive) (on goes_none
+    (on (one_goes 2 2 send_hello (omega arith) start_hello) (on goes_look (on goes_place
+    (on (one_goes 4 5 send_nothing (omega arith) start_nothing) (on goes_second_look (on goes_second_place
+    (on (two_goes 6 8 receive_up_to_100 (omega arith) start_receive) (on goes_take receives_then)))))))))) in
+    (idle_at 9 14, all.leads, refl)
+
+-- ---- replies that are not legal
+
+-- only the first place is named
+named_is_first : (ms : List Message) (place : ℕ) → IsNamed Any ms place → place ≡ 0
+named_is_first ms zero named = refl
+named_is_first ms (suc place) named = absurd (named.1 0 (omega arith))
+
+-- a message that is named is the first one
+named_is : (m first : Message) (ms : List Message) (place : ℕ) → IsNamed Any (first ∷ ms) place → slice_get (first ∷ ms) place ≡ Some m → m ≡ first
+named_is m first ms place named there =
+    let here : slice_get (first ∷ ms) 0 ≡ Some m = ap (slice_get (first ∷ ms)) (sym (named_is_first (first ∷ ms) place named)) ∙ there in
+    let same : Some first ≡ Some m = here in
+    cc
+
+not_both : (number : ℕ) → number ≡ 0 → number ≡ 1 → ⊥
+not_both number zeroth first = omega arith
+
+not_again : ¬ (hello_message ≡ empty_message)
+not_again same = not_both hello_message.number refl (ap (λ (m : Message). m.number) same)
+
+pub no_wrong_reply : NoWrongReply
+no_wrong_reply = record {
+  first_take_gone = λ legal. legal refl;
+  look_gone = λ legal. legal refl;
+  place_gone = λ legal. legal refl;
+  take_gone = λ legal. legal refl;
+  taken_early = λ m legal. none_is_named legal.2.0 legal.2.1;
+  look_full = λ freed legal. legal.2 (omega arith, omega arith);
+  place_full = λ freed legal. legal.2 (omega arith, omega arith);
+  place_numbered = λ number other legal. other legal.3;
+  take_none = λ arrived legal. legal.2 0 (first_is_named hello_message (empty_message ∷ []));
+  take_another = λ m other legal. other (named_is m hello_message (empty_message ∷ []) legal.2.0 legal.2.1 legal.2.2);
+  take_again = λ legal. not_again (named_is hello_message empty_message [] legal.2.0 legal.2.1 legal.2.2);
+  take_third = λ m legal. none_is_named legal.2.0 legal.2.1;
+}
+
+-- ---- two messages that fill the queue
+
+starts_first : (first : List ℕ) → length first ≡ 8192 → ¬ IsRefused (start_of first)
+starts_first first h (inl low) = omega (arith, ints)
+starts_first first h (inr (inl long)) = omega arith
+starts_first first h (inr (inr low)) = omega (arith, ints)
+
+pub exact_fit : ExactFit
+exact_fit first second h k = record {
+  starts = λ refused. starts_first first h refused;
+  longer_is_refused = λ text long. inr (inl (omega arith));
+  first_fits = (refl, tt, (omega arith, omega arith), refl);
+  second_looks = (refl, tt, (omega arith, omega arith));
+  second_fits = (refl, tt, (omega arith, omega arith), refl);
+  byte_is_too_much = λ text one. (refl, tt, λ room. let over : 0 + length first + length second + length text ≤ 16384 = room.0 in omega arith, refl);
+  byte_is_not_placed = λ text number one legal. let over : 0 + length first + length second + length text ≤ 16384 = legal.2.0 in omega arith;
+  nothing_fits = (refl, tt, (omega arith, omega arith), refl);
+}

@@ -1,0 +1,168 @@
+-- The worked run: one run of a world of 16 actors from its opening, with each answer in its place.
+-- Actor 1 asks for a message where none is, sends one of type 5 with the text hello and one of type 2
+-- with no text; actor 2 then receives three times. Every call has IPC_NOWAIT. It shows that the
+-- definitions of a world, its steps and its legal replies have a run, and which one.
+--
+-- Below it stand replies that are no legal ones at its turns, and the sums of two messages that fill
+-- a queue to the byte.
+use Rattle.std.specs.Prelude.{◌≡◌, ◌≢◌, ℕ, pos, List, [], ◌∷◌, ◌++◌, true, false, length, take, Option, Some, None, codes}
+use Rattle.sysv_model.specs.declared.cred.Cred.{Cred}
+use Rattle.sysv_model.specs.declared.errno.Errno.TheVariants.{ENOMSG}
+use Rattle.sysv_model.specs.declared.flags.Flags.{Flags}
+use Rattle.sysv_model.specs.Message.{Message}
+use Rattle.sysv_model.specs.Selector.{Any}
+use Rattle.sysv_model.specs.History.{Actor, Call as Turn, Look, Place, Take, Reply, Installed, Gone, Full, Fits, Accepted, NoMatch, Taken, Entry, History}
+use Rattle.sysv_queue.specs.LegalReply.{IsLegalReply}
+use Rattle.sysv_core.specs.declared.event.Call.{Call}
+use Rattle.sysv_core.specs.declared.event.Call.TheVariants.{Send, Receive}
+use Rattle.sysv_core.specs.declared.event.Event.TheVariants.{Start, Step}
+use Rattle.sysv_core.specs.declared.event.Outcome.{Outcome}
+use Rattle.sysv_core.specs.declared.event.Outcome.TheVariants as outcome
+use Rattle.sysv_core.specs.Begin.{IsRefused}
+use Rattle.sysv_core.specs.World.{World, opening, preset_call}
+use Rattle.sysv_core.specs.Run.{Happening, Preset, Happens, Given, Leads}
+
+abbrev pub sender : Cred
+sender = record { uid = 1000; gid = 1000; pid = 101 }
+
+abbrev pub receiver : Cred
+receiver = record { uid = 1000; gid = 1000; pid = 102 }
+
+abbrev pub nowait : Flags
+nowait = record { 0 = 2048 }
+
+abbrev pub hello : List ℕ
+hello = codes "hello"
+
+-- the calls
+abbrev pub receive_up_to_100 : Call
+receive_up_to_100 = Receive (pos 0) 100 (pos 0) nowait []
+
+abbrev pub send_hello : Call
+send_hello = Send (pos 0) (pos 5) nowait hello
+
+abbrev pub send_nothing : Call
+send_nothing = Send (pos 0) (pos 2) nowait []
+
+-- what happens: each call is its start and its steps, a receive one and a send two
+abbrev pub one_starts : Call → Happening
+one_starts call = Happens (Start 1 sender call)
+
+abbrev pub two_starts : Call → Happening
+two_starts call = Happens (Start 2 receiver call)
+
+abbrev pub steps : ℕ → Happening
+steps actor = Happens (Step actor 0)
+
+abbrev pub the_happenings : List Happening
+the_happenings =
+    Preset
+    ∷ one_starts receive_up_to_100 ∷ steps 1
+    ∷ one_starts send_hello ∷ steps 1 ∷ steps 1
+    ∷ one_starts send_nothing ∷ steps 1 ∷ steps 1
+    ∷ two_starts receive_up_to_100 ∷ steps 2
+    ∷ two_starts receive_up_to_100 ∷ steps 2
+    ∷ two_starts receive_up_to_100 ∷ steps 2 ∷ []
+
+-- the answers, in order, each of the call that the actor started at that step number
+abbrev pub answer_of : (actor start : ℕ) → Outcome → Option (List ℕ) → Given
+answer_of actor start out body = record { who = Actor actor start; answer = record { actor = actor; outcome = out; body = body } }
+
+abbrev pub the_answers : List Given
+the_answers =
+    answer_of 1 0 (outcome.Refused ENOMSG) (Some [])
+    ∷ answer_of 1 2 outcome.Zero None
+    ∷ answer_of 1 5 outcome.Zero None
+    ∷ answer_of 2 8 (outcome.Got (pos 5) 5) (Some hello)
+    ∷ answer_of 2 10 (outcome.Got (pos 2) 0) (Some [])
+    ∷ answer_of 2 12 (outcome.Refused ENOMSG) (Some []) ∷ []
+
+-- the two messages, and the turns at the slot with their replies
+abbrev pub hello_message : Message
+hello_message = record { number = 0; sender = 101; mtype = pos 5; bytes = hello }
+
+abbrev pub empty_message : Message
+empty_message = record { number = 1; sender = 101; mtype = pos 2; bytes = [] }
+
+abbrev pub turn_of : (actor start : ℕ) → Turn → Reply → Entry
+turn_of actor start call reply = record { who = Actor actor start; call = call; reply = reply }
+
+abbrev pub take_by : Cred → Turn
+take_by cred = Take (pos 0) cred Any 100 false 0
+
+abbrev pub look_for : ℕ → Turn
+look_for size = Look (pos 0) sender size
+
+abbrev pub place_hello : Turn
+place_hello = Place (pos 0) sender (pos 5) hello 0
+
+abbrev pub place_nothing : Turn
+place_nothing = Place (pos 0) sender (pos 2) [] 0
+
+abbrev pub the_turns : History
+the_turns =
+    turn_of 0 0 preset_call (Installed true)
+    ∷ turn_of 1 0 (take_by sender) (NoMatch 0)
+    ∷ turn_of 1 2 (look_for 5) Fits
+    ∷ turn_of 1 2 place_hello (Accepted 0)
+    ∷ turn_of 1 5 (look_for 0) Fits
+    ∷ turn_of 1 5 place_nothing (Accepted 1)
+    ∷ turn_of 2 8 (take_by receiver) (Taken hello_message)
+    ∷ turn_of 2 10 (take_by receiver) (Taken empty_message)
+    ∷ turn_of 2 12 (take_by receiver) (NoMatch 2) ∷ []
+
+-- The happenings lead from the opening world, by these turns, and give these answers.
+abbrev pub WorkedRun : Type 0
+WorkedRun = (w : World) × Leads (opening 16) the_happenings the_answers w × (w.history ≡ the_turns)
+
+-- the slot's history after that many turns of the run
+abbrev pub after_turns : ℕ → History
+after_turns count = take count the_turns
+
+-- the replies that each turn of the run may not have, by the turn before which they would come
+pub record NoWrongReply : Type 0 where
+  -- the identifier is live from the preset on: no call is told that it is gone
+  pub first_take_gone : ¬ IsLegalReply (after_turns 1) (take_by sender) Gone
+  pub look_gone : ¬ IsLegalReply (after_turns 2) (look_for 5) Gone
+  pub place_gone : ¬ IsLegalReply (after_turns 3) place_hello Gone
+  pub take_gone : ¬ IsLegalReply (after_turns 6) (take_by receiver) Gone
+  -- before anything was sent no message is taken, and there is room
+  pub taken_early : (m : Message) → ¬ IsLegalReply (after_turns 1) (take_by sender) (Taken m)
+  pub look_full : (freed : ℕ) → ¬ IsLegalReply (after_turns 2) (look_for 5) (Full freed)
+  pub place_full : (freed : ℕ) → ¬ IsLegalReply (after_turns 3) place_hello (Full freed)
+  -- an accepted message has the number of those accepted before it, and no other
+  pub place_numbered : (number : ℕ) → number ≢ 1 → ¬ IsLegalReply (after_turns 5) place_nothing (Accepted number)
+  -- the first receive after the sends finds a message, and it is the first one, as it was sent
+  pub take_none : (arrived : ℕ) → ¬ IsLegalReply (after_turns 6) (take_by receiver) (NoMatch arrived)
+  pub take_another : (m : Message) → m ≢ hello_message → ¬ IsLegalReply (after_turns 6) (take_by receiver) (Taken m)
+  -- the second gives the other one, the third none
+  pub take_again : ¬ IsLegalReply (after_turns 7) (take_by receiver) (Taken hello_message)
+  pub take_third : (m : Message) → ¬ IsLegalReply (after_turns 8) (take_by receiver) (Taken m)
+
+-- A text of 8,192 bytes is sent, and one of a byte more is refused. Two such texts fill the queue's
+-- 16,384 bytes to the byte: after the first the second fits, and after both one byte more does not,
+-- while a message of no bytes still does.
+abbrev pub send_of : List ℕ → Turn
+send_of text = Place (pos 0) sender (pos 1) text 0
+
+abbrev pub start_of : List ℕ → Call
+start_of text = Send (pos 0) (pos 1) nowait text
+
+abbrev pub with_first : List ℕ → History
+with_first first = after_turns 1 ++ turn_of 1 0 (send_of first) (Accepted 0) ∷ []
+
+abbrev pub with_both : List ℕ → List ℕ → History
+with_both first second = with_first first ++ turn_of 1 3 (send_of second) (Accepted 1) ∷ []
+
+pub record FillsExactly (first second : List ℕ) : Type 0 where
+  pub starts : ¬ IsRefused (start_of first)
+  pub longer_is_refused : (text : List ℕ) → length text ≡ 8193 → IsRefused (start_of text)
+  pub first_fits : IsLegalReply (after_turns 1) (send_of first) (Accepted 0)
+  pub second_looks : IsLegalReply (with_first first) (look_for 8192) Fits
+  pub second_fits : IsLegalReply (with_first first) (send_of second) (Accepted 1)
+  pub byte_is_too_much : (text : List ℕ) → length text ≡ 1 → IsLegalReply (with_both first second) (send_of text) (Full 0)
+  pub byte_is_not_placed : (text : List ℕ) (number : ℕ) → length text ≡ 1 → ¬ IsLegalReply (with_both first second) (send_of text) (Accepted number)
+  pub nothing_fits : IsLegalReply (with_both first second) (send_of []) (Accepted 2)
+
+abbrev pub ExactFit : Type 0
+ExactFit = (first second : List ℕ) → length first ≡ 8192 → length second ≡ 8192 → FillsExactly first second

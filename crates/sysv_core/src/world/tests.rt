@@ -1,0 +1,229 @@
+//! Two actors that take turns step by step, events that are not possible, sizes out of range, and a
+//! list of events with its answers.
+
+use super::*;
+use std::process::Abort;
+use sysv_model::body::Body;
+use sysv_model::flags::Flags;
+
+/// What an answer is to be: whose, how the call ended, and the text of the body that comes with it.
+type Want<'a> = (u32, Outcome, Option<&'a [u8]>);
+
+/// A world with queue 0. Memory is refused once at most.
+fn world_with_queue(rt: &impl Abort, alloc: Global, actors: u32) -> World {
+    let mut world = match World::open(alloc, actors, 128) {
+        Ok(world) => world,
+        Err(why) => {
+            assert_eq!(rt; why, OpenRefused::NoMemory);
+            World::open(alloc, actors, 128).expect(rt, "a second try")
+        }
+    };
+    assert!(rt; world.preset());
+    assert!(rt; !world.preset());
+    world
+}
+
+/// A body with this text. Memory is refused once at most.
+fn body_of(rt: &impl Abort, alloc: Global, text: &[u8]) -> Body {
+    let mut body = match Body::open(alloc) {
+        Ok(body) => body,
+        Err(_) => Body::open(alloc).expect(rt, "a second try"),
+    };
+    assert!(rt; body.push_piece(text));
+    body
+}
+
+fn start(actor: u32, call: Call) -> Event {
+    let cred = Cred {
+        uid: 1000,
+        gid: 1000,
+        pid: actor.saturating_add(100),
+    };
+    Event::Start { actor, cred, call }
+}
+
+/// The actor starts a send to queue 0.
+fn send(rt: &impl Abort, alloc: Global, actor: u32, mtype: i64, text: &[u8]) -> Event {
+    let call = Call::Send {
+        id: 0,
+        mtype,
+        flags: Flags::IPC_NOWAIT,
+        body: body_of(rt, alloc, text),
+    };
+    start(actor, call)
+}
+
+/// The actor starts a receive of at most 100 bytes from queue 0. The body that it gives is not empty.
+fn receive(rt: &impl Abort, alloc: Global, actor: u32) -> Event {
+    let call = Call::Receive {
+        id: 0,
+        size: 100,
+        mtype: 0,
+        flags: Flags::IPC_NOWAIT,
+        body: body_of(rt, alloc, b"old"),
+    };
+    start(actor, call)
+}
+
+fn step(actor: u32) -> Event {
+    Event::Step { actor, now: 0 }
+}
+
+fn assert_nothing(rt: &impl Abort, stepped: Stepped) {
+    assert!(rt; matches!(&stepped, Stepped::Nothing));
+}
+
+fn assert_is(rt: &impl Abort, answer: &Answer, want: Want<'_>) {
+    let (actor, outcome, text) = want;
+    assert_eq!(rt; answer.actor, actor);
+    assert_eq!(rt; answer.outcome, outcome);
+    match (&answer.body, text) {
+        (None, None) => {}
+        (Some(body), Some(text)) => {
+            assert_eq!(rt; body.len(), text.len());
+            for (i, byte) in text.iter().enumerate() {
+                assert!(rt; i < body.len());
+                assert_eq!(rt; body.byte(i), *byte, "at {i}");
+            }
+        }
+        _ => panic!(rt; "a body too many or too few"),
+    }
+}
+
+fn assert_answer(rt: &impl Abort, stepped: Stepped, want: Want<'_>) {
+    match stepped {
+        Stepped::Answer(answer) => assert_is(rt, &answer, want),
+        _ => panic!(rt; "no answer"),
+    }
+}
+
+/// The actor receives from start to end.
+fn assert_receives(rt: &impl Abort, alloc: Global, world: &mut World, want: Want<'_>) {
+    let (actor, _, _) = want;
+    assert_nothing(rt, world.step(receive(rt, alloc, actor)));
+    assert_answer(rt, world.step(step(actor)), want);
+}
+
+/// The actor sends from start to end, and is answered zero.
+fn assert_sends(rt: &impl Abort, alloc: Global, world: &mut World, actor: u32, text: &[u8]) {
+    assert_nothing(rt, world.step(send(rt, alloc, actor, 7, text)));
+    assert_nothing(rt, world.step(step(actor)));
+    assert_answer(rt, world.step(step(actor)), (actor, Outcome::Zero, None));
+}
+
+#[test]
+fn a_send_and_a_receive_run_between_look_and_place(rt: HostRuntime) {
+    let alloc = rt.alloc();
+    let mut world = world_with_queue(&rt, alloc, 2);
+    let no_message = Outcome::Refused(Errno::ENOMSG);
+    assert_nothing(&rt, world.step(send(&rt, alloc, 1, 5, b"hello")));
+    assert_nothing(&rt, world.step(step(1)));
+    assert_sends(&rt, alloc, &mut world, 2, b"between");
+    let got = Outcome::Got { mtype: 7, len: 7 };
+    assert_receives(&rt, alloc, &mut world, (2, got, Some(b"between")));
+    assert_receives(&rt, alloc, &mut world, (2, no_message, Some(b"")));
+    assert_answer(&rt, world.step(step(1)), (1, Outcome::Zero, None));
+    let got = Outcome::Got { mtype: 5, len: 5 };
+    assert_receives(&rt, alloc, &mut world, (2, got, Some(b"hello")));
+    assert_receives(&rt, alloc, &mut world, (2, no_message, Some(b"")));
+}
+
+#[test]
+fn a_place_finds_that_the_room_is_gone(rt: HostRuntime) {
+    let alloc = rt.alloc();
+    let mut world = world_with_queue(&rt, alloc, 2);
+    let bytes = [b'x'; 8192];
+    assert_nothing(&rt, world.step(send(&rt, alloc, 1, 5, b"y")));
+    assert_nothing(&rt, world.step(step(1)));
+    assert_sends(&rt, alloc, &mut world, 2, &bytes);
+    assert_sends(&rt, alloc, &mut world, 2, &bytes);
+    let full = Outcome::Refused(Errno::EAGAIN);
+    assert_answer(&rt, world.step(step(1)), (1, full, None));
+    assert_sends(&rt, alloc, &mut world, 2, b"");
+}
+
+#[test]
+fn what_is_not_possible_gives_nothing(rt: HostRuntime) {
+    let alloc = rt.alloc();
+    let mut world = world_with_queue(&rt, alloc, 2);
+    for actor in [0, 3] {
+        assert_nothing(&rt, world.step(send(&rt, alloc, actor, 5, b"none")));
+        assert_nothing(&rt, world.step(step(actor)));
+        assert_nothing(&rt, world.step(step(actor)));
+    }
+    assert_nothing(&rt, world.step(step(1)));
+    assert_nothing(&rt, world.step(send(&rt, alloc, 1, 5, b"kept")));
+    assert_nothing(&rt, world.step(receive(&rt, alloc, 1)));
+    assert_nothing(&rt, world.step(step(1)));
+    assert_nothing(&rt, world.step(send(&rt, alloc, 1, 6, b"other")));
+    assert_answer(&rt, world.step(step(1)), (1, Outcome::Zero, None));
+    assert_nothing(&rt, world.step(step(1)));
+    let got = Outcome::Got { mtype: 5, len: 4 };
+    assert_receives(&rt, alloc, &mut world, (2, got, Some(b"kept")));
+    let no_message = Outcome::Refused(Errno::ENOMSG);
+    assert_receives(&rt, alloc, &mut world, (2, no_message, Some(b"")));
+}
+
+#[test]
+fn a_size_out_of_range_opens_no_world(rt: HostRuntime) {
+    for (actors, blocks) in [(0, 128), (1025, 128), (1, 127), (1, 65_537)] {
+        let why = World::open(rt.alloc(), actors, blocks).err();
+        assert_eq!(rt; why, Some(OpenRefused::BadSize), "{actors} {blocks}");
+    }
+    for (actors, blocks) in [(1, 128), (1024, 65_536)] {
+        let why = World::open(rt.alloc(), actors, blocks).err();
+        assert_ne!(rt; why, Some(OpenRefused::BadSize), "{actors} {blocks}");
+    }
+}
+
+/// Actor 1 receives, sends `hello` and sends nothing; actor 2 receives three times.
+fn six_calls(rt: &impl Abort, alloc: Global) -> Vec<Event> {
+    let mut events = match Vec::with_capacity(alloc, 14) {
+        Ok(events) => events,
+        Err(_) => Vec::with_capacity(alloc, 14).expect(rt, "a second try"),
+    };
+    for event in [receive(rt, alloc, 1), step(1)] {
+        assert!(rt; events.push(event).is_ok());
+    }
+    for (mtype, text) in [(5, b"hello".as_slice()), (2, b"")] {
+        for event in [send(rt, alloc, 1, mtype, text), step(1), step(1)] {
+            assert!(rt; events.push(event).is_ok());
+        }
+    }
+    for _ in 0..3 {
+        for event in [receive(rt, alloc, 2), step(2)] {
+            assert!(rt; events.push(event).is_ok());
+        }
+    }
+    events
+}
+
+#[test]
+fn six_calls_have_six_answers(rt: HostRuntime) {
+    let alloc = rt.alloc();
+    let mut world = world_with_queue(&rt, alloc, 16);
+    let events = six_calls(&rt, alloc);
+    let answers = match world.run(alloc, events) {
+        Ok(answers) => answers,
+        Err(back) => {
+            assert_eq!(rt; back.len(), 14);
+            match world.run(alloc, back) {
+                Ok(answers) => answers,
+                Err(_) => panic!(rt; "a second try"),
+            }
+        }
+    };
+    let no_message = Outcome::Refused(Errno::ENOMSG);
+    let wants: [Want<'_>; 6] = [
+        (1, no_message, Some(b"")),
+        (1, Outcome::Zero, None),
+        (1, Outcome::Zero, None),
+        (2, Outcome::Got { mtype: 5, len: 5 }, Some(b"hello")),
+        (2, Outcome::Got { mtype: 2, len: 0 }, Some(b"")),
+        (2, no_message, Some(b"")),
+    ];
+    assert_eq!(rt; answers.len(), wants.len());
+    for (answer, want) in answers.iter().zip(wants) {
+        assert_is(&rt, answer, want);
+    }
+}
