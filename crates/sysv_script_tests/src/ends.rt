@@ -5,10 +5,10 @@ use std::io::{ErrorKind, Read, Write};
 
 /// Gives at most `piece` bytes at a time, and fails once `good` bytes were given.
 #[derive(Drop)]
-pub struct Pieces<'a> {
-    pub rest: &'a [u8],
-    pub piece: usize,
-    pub good: usize,
+pub(crate) struct Pieces<'a> {
+    pub(crate) rest: &'a [u8],
+    pub(crate) piece: usize,
+    pub(crate) good: usize,
 }
 
 impl Read for Pieces<'_> {
@@ -31,9 +31,9 @@ impl Read for Pieces<'_> {
 
 /// Gives the same byte for ever, and counts.
 #[derive(Drop)]
-pub struct Endless {
-    pub byte: u8,
-    pub given: usize,
+pub(crate) struct Endless {
+    pub(crate) byte: u8,
+    pub(crate) given: usize,
 }
 
 impl Read for Endless {
@@ -49,11 +49,11 @@ impl Read for Endless {
 /// Gives one line at a time, and counts how often an answer is missing when more is asked for.
 /// The first line has no answer, and each other has one.
 #[derive(Drop)]
-pub struct Asker<'a> {
-    pub rest: &'a [u8],
-    pub lines: u32,
-    pub answers: &'a Cell<u32>,
-    pub missing: u32,
+pub(crate) struct Asker<'a> {
+    pub(crate) rest: &'a [u8],
+    pub(crate) lines: u32,
+    pub(crate) answers: &'a Cell<u32>,
+    pub(crate) missing: u32,
 }
 
 impl Read for Asker<'_> {
@@ -74,8 +74,8 @@ impl Read for Asker<'_> {
 
 /// Counts the lines that it takes.
 #[derive(Drop)]
-pub struct Counter<'a> {
-    pub answers: &'a Cell<u32>,
+pub(crate) struct Counter<'a> {
+    pub(crate) answers: &'a Cell<u32>,
 }
 
 impl Write for Counter<'_> {
@@ -96,16 +96,16 @@ impl Write for Counter<'_> {
 /// Takes at most `piece` bytes at a time up to `room` in all, and then fails, or takes nothing
 /// where `stalls` is set. It needs no memory.
 #[derive(Drop)]
-pub struct Page {
-    pub bytes: [u8; 512],
-    pub len: usize,
-    pub piece: usize,
-    pub room: usize,
-    pub stalls: bool,
+pub(crate) struct Page {
+    pub(crate) bytes: [u8; 512],
+    pub(crate) len: usize,
+    pub(crate) piece: usize,
+    pub(crate) room: usize,
+    pub(crate) stalls: bool,
 }
 
 impl Page {
-    pub fn new(piece: usize, room: usize, stalls: bool) -> Page {
+    pub(crate) fn new(piece: usize, room: usize, stalls: bool) -> Page {
         Page {
             bytes: [0; 512],
             len: 0,
@@ -115,7 +115,7 @@ impl Page {
         }
     }
 
-    pub fn written(&self) -> &[u8] {
+    pub(crate) fn written(&self) -> &[u8] {
         let all = &self.bytes[..];
         &all[..self.len.min(all.len())]
     }
