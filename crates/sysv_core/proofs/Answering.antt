@@ -1,14 +1,13 @@
 -- Every answer of a run is decided by the turns of its own call.
-use Rattle.std.proofs.Common.{◌≡◌, ◌≢◌, ℕ, zero, suc, ◌+◌, ◌-◌, ◌<◌, ◌≤◌, ◌==◌, ◌&&◌, ◌||◌, ◌⊎◌, inl, inr, Bool, true, false, cond, List, [], ◌∷◌, ◌++◌, Option, None, Some, refl, sym, ap, subst, ◌∙◌, arith, length, take, slice_get, slice_set, replicate, option_map, append_assoc}
-use Rattle.std.specs.List.{All, AllPairs, AllByRecursion, filter, list_any, slice_index_or}
+use Rattle.std.proofs.Common.{◌≡◌, ◌≢◌, ℕ, zero, suc, ◌+◌, ◌-◌, ◌<◌, ◌==◌, ◌&&◌, ◌||◌, ◌⊎◌, inl, inr, Bool, true, false, cond, List, [], ◌∷◌, ◌++◌, Option, None, Some, refl, sym, ap, subst, ◌∙◌, arith, length, slice_get, slice_set, replicate, append_assoc}
+use Rattle.std.specs.List.{All, AllPairs, AllByRecursion, slice_index_or}
 use Rattle.std.proofs.lemmas.List.{append-nil}
-use Rattle.std.proofs.lemmas.List.Elements.{filter-append, All-push, All-nil, All-cons, All-weaker, All-from_recursion}
+use Rattle.std.proofs.lemmas.List.Elements.{filter-append, All-nil, All-cons, All-from_recursion}
 use Rattle.std.proofs.lemmas.List.Quantifiers.{all_pairs_push}
 use Rattle.std.proofs.lemmas.Bool.Decides.{nat_tests}
 use Rattle.sysv_model.specs.declared.cred.Cred.{Cred}
 use Rattle.sysv_model.specs.declared.errno.Errno.TheVariants.{EINVAL}
-use Rattle.sysv_model.specs.Message.{Message}
-use Rattle.sysv_model.specs.History.{Who, Actor, Seat, Call as Turn, Look, Place, Take, Reply, Installed, Gone, Denied, Granted, Full, Fits, Accepted, NoMatch, TooLong, Taken, Told, Done, Discarded, Refused, Shown, Entry, History}
+use Rattle.sysv_model.specs.History.{Who, Actor, Seat, Call as Turn, Reply, Installed, Gone, Denied, Full, Fits, Accepted, NoMatch, TooLong, Taken, Entry, History}
 use Rattle.sysv_queue.specs.LegalReply.{IsLegalReply}
 use Rattle.sysv_core.specs.declared.event.Call.{Call}
 use Rattle.sysv_core.specs.declared.event.Call.TheVariants as call
@@ -17,11 +16,10 @@ use Rattle.sysv_core.specs.declared.event.Event.TheVariants.{Start, Step}
 use Rattle.sysv_core.specs.declared.event.Answer.{Answer}
 use Rattle.sysv_core.specs.declared.event.Outcome.TheVariants as outcome
 use Rattle.sysv_core.specs.declared.event.Stepped.{Stepped}
-use Rattle.sysv_core.specs.declared.event.Stepped.TheVariants as stepped
-use Rattle.sysv_core.specs.Phase.{Phase, Sending, Receiving, AtLook, AtPlace, AtTake}
-use Rattle.sysv_core.specs.Begin.{IsRefused, begun, body_back}
+use Rattle.sysv_core.specs.Phase.{Phase, AtLook, AtPlace, AtTake}
+use Rattle.sysv_core.specs.Begin.{begun, body_back}
 use Rattle.sysv_core.specs.Turn.{turn_call, after_turn, gone}
-use Rattle.sysv_core.specs.World.{World, Doing, opening, actor_at, with_actor, in_phase, StaysWith, Begins, Turns, StartsAt, StepsAt, Makes, Steps, Presets, preset_call}
+use Rattle.sysv_core.specs.World.{World, Doing, opening, in_phase, StaysWith, StartsAt, StepsAt, Makes, Steps, Presets, preset_call}
 use Rattle.sysv_core.specs.Run.{Happening, Preset, Happens, Given, Goes, Leads, call_of, given_in, started_at}
 use Rattle.sysv_core.specs.AnswerLaw.{is_call, turns_of, found_live, live_seen, Ends, IsAnsweredBy}
 

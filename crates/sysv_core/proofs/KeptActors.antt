@@ -1,13 +1,13 @@
 -- The actors that the code keeps, as the phases that are seen; and how far one turn moves the slot's
 -- counts.
-use Rattle.std.proofs.Common.{◌≡◌, ℕ, ℤ, ◌+◌, ◌<◌, ◌≤◌, Bool, true, false, cond, List, [], ◌∷◌, ◌++◌, Option, None, Some, IsSome, refl, sym, ap, subst, ◌∙◌, arith, length, map, slice_get, slice_set, option_map, is_some}
+use Rattle.std.proofs.Common.{◌≡◌, ℕ, ℤ, ◌+◌, ◌<◌, ◌≤◌, Bool, true, false, cond, List, [], ◌∷◌, ◌++◌, Option, None, Some, refl, sym, ap, ◌∙◌, arith, length, slice_get, slice_set, option_map, is_some}
 use Rattle.std.specs.List.{slice_index_or}
 use Rattle.std.proofs.lemmas.List.{length-map}
 use Rattle.std.proofs.lemmas.List.Sums.{sum_by-append}
 use Rattle.std.proofs.lemmas.Option.{slice_get-map, slice_get_read}
 use Rattle.sysv_model.specs.declared.cred.Cred.{Cred}
-use Rattle.sysv_model.specs.History.{Who, Actor, Call, Install, Reply, Installed, Entry, History, announces_arrival, announces_room, arrived, freed}
-use Rattle.sysv_queue.specs.Slot.{Slot, slot_of}
+use Rattle.sysv_model.specs.History.{Actor, Call, Install, Reply, Installed, Entry, History, announces_arrival, announces_room, arrived, freed}
+use Rattle.sysv_queue.specs.Slot.{Slot}
 use Rattle.sysv_queue.specs.StandsFor.{StandsFor, MakesTurn}
 use Rattle.sysv_core.specs.declared.phase.Phase.{Phase}
 use Rattle.sysv_core.specs.Phase.{Phase as Stage}

@@ -10,7 +10,7 @@ use Rattle.sysv_core.specs.World.{World, opening, Steps, Makes, Presets}
 use Rattle.sysv_core.specs.Seen.{Seen, IsSeenAs}
 use Rattle.sysv_queue.specs.LegalReply.{IsLegalHistory}
 use Rattle.sysv_queue.specs.QueueLaw.{QueueLaw}
-use Rattle.sysv_core.specs.Headline.{RunsOn, Obeys, LawsHold}
+use Rattle.sysv_core.specs.Headline.{RunsOn, LawsHold}
 use Rattle.sysv_core.proofs.Answering.{answers_decided}
 use Rattle.sysv_core.proofs.Telling.{movers_told}
 use Rattle.sysv_core.proofs.Addressing.{all_to_callers}

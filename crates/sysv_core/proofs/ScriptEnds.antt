@@ -1,5 +1,5 @@
 -- How a run of a script that is under way ends, by the fault that ends it.
-use Rattle.std.proofs.Common.{◌≡◌, ◌+◌, ◌<◌, ◌≤◌, ℕ, zero, suc, List, [], ◌∷◌, ◌++◌, Option, Some, Result, Ok, Err, length, take, refl, sym, ap, subst, ◌∙◌, arith, take_all}
+use Rattle.std.proofs.Common.{◌≡◌, ◌+◌, ◌≤◌, ℕ, zero, suc, List, [], ◌∷◌, ◌++◌, Option, Some, Result, Ok, Err, length, take, refl, sym, ap, subst, ◌∙◌, arith, take_all}
 use Rattle.std.specs.Prelude.{IsErrAnd, ⊤}
 use Rattle.std.specs.Io.KnownBytes.{Appends}
 use Rattle.std.proofs.KnownBytes.{Appends-nil, Appends-trans}
@@ -8,9 +8,9 @@ use Rattle.sysv_core.specs.World.{World, opening}
 use Rattle.sysv_core.specs.Seen.{Seen, IsSeenAs}
 use Rattle.sysv_core.specs.Streams.{AppendsPart}
 use Rattle.sysv_core.specs.Found.{IsNextLine}
-use Rattle.sysv_core.specs.Faults.{IsFrontOf, IsStreamFault, IsLineFault, EndsAtLine, bad_line_text}
+use Rattle.sysv_core.specs.Faults.{IsFrontOf, IsStreamFault, IsLineFault, EndsAtLine}
 use Rattle.sysv_core.specs.Run.{StandsFor}
-use Rattle.sysv_core.specs.ScriptText.{IsBad, Ending, Whole, BadLine, TooMany, Stopped, Prints, Stops, ScriptPrints, WritesScript, WritesAll, WritesFront, WritesAtFault}
+use Rattle.sysv_core.specs.ScriptText.{IsBad, Ending, Whole, BadLine, TooMany, Stopped, Stops, ScriptPrints, WritesScript, WritesAll, WritesFront, WritesAtFault}
 use Rattle.sysv_core.specs.ScriptSofar.{IsText, LeavesAll, LeavesFront, LeavesAtFault, Leaves}
 use Rattle.sysv_core.specs.declared.script.Found.{Found}
 use Rattle.sysv_core.specs.declared.script.ScriptFault.{ScriptFault}

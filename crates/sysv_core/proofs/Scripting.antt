@@ -1,6 +1,6 @@
 -- The run of a script under way: what was written and composed so far, and what the text that is left
 -- adds to it.
-use Rattle.std.proofs.Common.{◌≡◌, ◌+◌, ◌<◌, ◌≤◌, ℕ, suc, Bool, true, false, List, [], ◌∷◌, ◌++◌, Option, Some, None, length, length-append, take, drop, get_or, refl, sym, ap, subst, ◌∙◌, append_assoc, append-nil, arith, inl, inr, take_all}
+use Rattle.std.proofs.Common.{◌≡◌, ◌+◌, ◌<◌, ◌≤◌, ℕ, suc, Bool, true, false, List, [], ◌∷◌, ◌++◌, Option, Some, None, length, length-append, take, drop, refl, sym, ap, subst, ◌∙◌, append_assoc, append-nil, arith, inl, inr, take_all}
 use Rattle.std.proofs.Math.Seq.{drop-cons}
 use lib.Seq.{take-append-add}
 use Rattle.std.proofs.lemmas.List.{take-append-drop}
@@ -52,7 +52,7 @@ text_taken waiting more text left rest taken t =
 pub takes_more : (w : World) (text : List ℕ) (old : Option (List ℕ)) (n : ℕ) (now : Seen) (waiting more : List ℕ) (left rest new : Option (List ℕ)) (composed : List ℕ) →
     TakesIn left waiting rest more → RunsOn w text old n now waiting left new composed → RunsOn w text old n now more rest new composed
 takes_more w text old n now waiting more left rest new composed taken on =
-    record { mid = on.mid; rest = on.rest; handed = on.handed; sight = on.sight; text_is = text_taken waiting more on.rest left rest taken on.text_is; grown = on.grown; prints = on.prints; }
+    record { mid = on.mid; rest = on.rest; handed = on.handed; sight = on.sight; text_is = text_taken waiting more on.rest left rest taken on.text_is; grown = on.grown; prints = on.prints }
 
 pub hands_more : (w : World) (text : List ℕ) (old : Option (List ℕ)) (n : ℕ) (now : Seen) (waiting : List ℕ) (left new newer : Option (List ℕ)) (composed fewer : List ℕ) →
     HandsOn new composed newer fewer → RunsOn w text old n now waiting left new composed → RunsOn w text old n now waiting left newer fewer
@@ -109,8 +109,8 @@ runs_line w text old n now then waiting behind left new composed told len few fi
       text_is = (unread.0, unread.1, ap (λ l. l ++ unread.0) (sym passed));
       grown = on.grown;
       prints = λ more ending p.
-        subst (λ l. Prints w 1 text l ending) (joined_more on.handed composed d.1 more ∙ ap (λ l. (on.handed ++ l) ++ more) (sym d.4))
-        (on.prints (d.1 ++ more) ending (Goes on.mid n on.rest (take len waiting) (drop (len + 1) waiting ++ unread.0) d.1 d.0 more ending few line d.2 p));
+          subst (λ l. Prints w 1 text l ending) (joined_more on.handed composed d.1 more ∙ ap (λ l. (on.handed ++ l) ++ more) (sym d.4))
+          (on.prints (d.1 ++ more) ending (Goes on.mid n on.rest (take len waiting) (drop (len + 1) waiting ++ unread.0) d.1 d.0 more ending few line d.2 p));
     }
 
 text_at_end : (waiting text : List ℕ) (left : Option (List ℕ)) → IsAtEnd left → IsText waiting left text → text ≡ waiting
@@ -153,15 +153,21 @@ pub stops_part : (w : World) (text : List ℕ) (old : Option (List ℕ)) (n : �
 stops_part w text old n now waiting left new newer composed none part e on =
     let front = on.handed ++ take part.0 composed in
     let joined : front ++ none ≡ take (length on.handed + part.0) (on.handed ++ composed) =
-    ap (λ l. front ++ l) e ∙ append-nil front ∙ sym (take-append-add on.handed composed part.0) in
-    (Stopped, on.handed ++ composed, stops_here w text old n now waiting left new composed on,
-     (front, Appends-trans old new newer on.handed (take part.0 composed) on.grown part.1, (length on.handed + part.0, joined)))
+    ap (λ l. front ++ l) e ∙ append-nil front ∙ sym (take-append-add on.handed composed part.0) in (
+      Stopped,
+      on.handed ++ composed,
+      stops_here w text old n now waiting left new composed on,
+      (front, Appends-trans old new newer on.handed (take part.0 composed) on.grown part.1, (length on.handed + part.0, joined)),
+    )
 
 pub stops_front : (w : World) (text : List ℕ) (old : Option (List ℕ)) (n : ℕ) (now : Seen) (waiting : List ℕ) (left new : Option (List ℕ)) (composed fewer : List ℕ) →
     IsFrontOf fewer composed → RunsOn w text old n now waiting left new composed → LeavesFront w text old new fewer
-stops_front w text old n now waiting left new composed fewer front on =
-    (Stopped, on.handed ++ composed, stops_here w text old n now waiting left new composed on,
-     (on.handed, on.grown, (length on.handed + front.0, ap (λ l. on.handed ++ l) front.1 ∙ sym (take-append-add on.handed composed front.0))))
+stops_front w text old n now waiting left new composed fewer front on = (
+  Stopped,
+  on.handed ++ composed,
+  stops_here w text old n now waiting left new composed on,
+  (on.handed, on.grown, (length on.handed + front.0, ap (λ l. on.handed ++ l) front.1 ∙ sym (take-append-add on.handed composed front.0))),
+)
 
 bad_printed : (n len : ℕ) (m : World) (waiting rest : List ℕ) (left : Option (List ℕ)) (found : Found) (last : Bool) → found.is_last ≡ last → n ≤ 1000000 → IsNextLine found waiting left →
     IsBad m (take found.len waiting) → IsText waiting left rest → Prints m n rest (bad_line_text n) (BadLine n)
@@ -171,7 +177,7 @@ bad_printed n len m waiting rest left found false e few next bad t =
 bad_printed n len m waiting rest left found true e few next bad t =
     let last = next.1 e in
     elim last.last [
-      inl long ↦ subst (λ l. Prints m n l (bad_line_text n) (BadLine n)) (sym t.2) (Overruns m n waiting t.0 few (omega (arith, long, last.whole)) last.one_line)
+      | inl long ↦ subst (λ l. Prints m n l (bad_line_text n) (BadLine n)) (sym t.2) (Overruns m n waiting t.0 few (omega (arith, long, last.whole)) last.one_line)
       | inr end ↦ Fails m n rest (take found.len waiting) [] few (last_line found.len waiting rest left last end t) bad
     ]
 

@@ -1,12 +1,11 @@
 -- One event in a world of the definitions, told from what the world of the code is seen as.
-use Rattle.std.proofs.Common.{◌≡◌, ℕ, zero, suc, ◌+◌, ◌-◌, ◌^◌, ◌<◌, ◌≤◌, ◌⊎◌, inl, inr, Bool, true, false, List, [], ◌∷◌, ◌++◌, Option, None, Some, IsSome, refl, sym, ap, subst, ◌∙◌, arith, length, map, slice_get, slice_set, replicate, option_map}
+use Rattle.std.proofs.Common.{◌≡◌, ℕ, zero, suc, ◌+◌, ◌-◌, ◌<◌, ◌⊎◌, inl, inr, Bool, true, false, Option, None, Some, IsSome, refl, sym, ap, subst, ◌∙◌, arith, length, map, slice_get, slice_set, option_map}
 use Rattle.std.proofs.lemmas.List.{length-map}
 use Rattle.std.proofs.lemmas.Option.{slice_get-map, slice_get_past}
 use Rattle.sysv_model.specs.declared.cred.Cred.{Cred}
 use Rattle.sysv_model.specs.declared.errno.Errno.TheVariants.{EINVAL}
-use Rattle.sysv_model.specs.History.{Who, Actor, Call as Turn, Reply, Installed, History, then_turn}
-use Rattle.sysv_queue.specs.Slot.{Slot, slot_of}
-use Rattle.sysv_queue.specs.LegalReply.{IsLegalReply}
+use Rattle.sysv_model.specs.History.{Who, Actor, Reply, Installed, then_turn}
+use Rattle.sysv_queue.specs.Slot.{Slot}
 use Rattle.sysv_queue.specs.StandsFor.{MakesTurn, StandsFor as SlotStandsFor}
 use Rattle.sysv_core.specs.declared.event.Call.{Call}
 use Rattle.sysv_core.specs.declared.event.Event.TheVariants.{Start, Step}
@@ -16,9 +15,9 @@ use Rattle.sysv_core.specs.declared.event.Stepped.TheVariants as stepped
 use Rattle.sysv_core.specs.Phase.{Phase}
 use Rattle.sysv_core.specs.Begin.{IsRefused, begun, body_back}
 use Rattle.sysv_core.specs.Turn.{turn_call, after_turn}
-use Rattle.sysv_core.specs.World.{World, Doing, Makes, StartsAt, StepsAt, actor_at, with_actor, in_phase, opening, Presets, preset_call}
+use Rattle.sysv_core.specs.World.{World, Doing, Makes, StartsAt, StepsAt, actor_at, with_actor, in_phase, Presets, preset_call}
 use Rattle.sysv_core.specs.Seen.{Seen, IsSeenAs, phase_in}
-use Rattle.sysv_core.proofs.Lists.{map-slice_set, map-replicate}
+use Rattle.sysv_core.proofs.Lists.{map-slice_set}
 
 -- ---- the actor at a place
 

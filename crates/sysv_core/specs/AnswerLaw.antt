@@ -4,16 +4,12 @@
 -- twice, and one that put a message on the queue or took one off it is answered; each answer goes to
 -- the caller. (POSIX.1-2017, msgsnd and msgrcv, RETURN VALUE and ERRORS; which refusal comes first is
 -- this profile's.)
-use Rattle.std.specs.Prelude.{◌≡◌, ◌≢◌, ◌⊎◌, ℕ, ◌==◌, ◌&&◌, Bool, true, false, not, List, [], ◌∷◌, ◌++◌, length, take, Option, Some, None, All, AllPairs, Contains, filter, if◌then◌else◌}
+use Rattle.std.specs.Prelude.{◌≡◌, ◌⊎◌, ◌==◌, ◌&&◌, Bool, true, false, List, [], ◌∷◌, ◌++◌, length, take, Some, All, Contains, filter, if◌then◌else◌}
 use Rattle.std.specs.List.{list_any}
 use Rattle.sysv_model.specs.declared.errno.Errno.TheVariants.{EINVAL, EIDRM, EACCES, EAGAIN, ENOMSG, E2BIG}
-use Rattle.sysv_model.specs.Message.{Message}
-use Rattle.sysv_model.specs.History.{Who, Actor, Seat, Call, Look, Place, Take, Reply, Gone, Denied, Full, Fits, Accepted, NoMatch, TooLong, Taken, Entry, History}
-use Rattle.sysv_queue.specs.QueueLaw.{QueueLaw}
-use Rattle.sysv_core.specs.declared.event.Outcome.{Outcome}
+use Rattle.sysv_model.specs.History.{Who, Actor, Seat, Call, Take, Reply, Gone, Denied, Full, Fits, Accepted, NoMatch, TooLong, Taken, Entry, History}
 use Rattle.sysv_core.specs.declared.event.Outcome.TheVariants as outcome
 use Rattle.sysv_core.specs.declared.event.Answer.{Answer}
-use Rattle.sysv_core.specs.World.{World}
 use Rattle.sysv_core.specs.Run.{Given}
 
 -- it is the same call

@@ -1,13 +1,13 @@
 -- The start of a call: a call whose own arguments are refused answers EINVAL at once (POSIX.1-2017,
 -- msgsnd and msgrcv, ERRORS; that MSG_EXCEPT, MSG_NOERROR and a type are not understood yet is this
 -- profile's), and any other goes to its first step.
-use Rattle.std.specs.Prelude.{◌≡◌, ◌≢◌, ℕ, ℤ, pos, ◌<◌, ◌<ℤ◌, ◌==◌, ◌⊎◌, ◌||◌, Bool, true, false, List, [], length, Option, Some, None}
+use Rattle.std.specs.Prelude.{◌≡◌, ◌≢◌, ℕ, pos, ◌<◌, ◌<ℤ◌, ◌==◌, ◌⊎◌, ◌||◌, Bool, true, false, List, [], length, Option, Some, None}
 use Rattle.std.specs.Int.RustNames.{bit_and}
 use Rattle.sysv_model.specs.declared.cred.Cred.{Cred}
 use Rattle.sysv_model.specs.declared.flags.Flags.{Flags}
 use Rattle.sysv_core.specs.declared.event.Call.{Call}
 use Rattle.sysv_core.specs.declared.event.Call.TheVariants.{Send, Receive}
-use Rattle.sysv_core.specs.Phase.{Phase, AtLook, AtPlace, AtTake}
+use Rattle.sysv_core.specs.Phase.{Phase, AtLook, AtTake}
 
 -- the flag with this number is set
 abbrev pub has_flag : ℕ → Flags → Bool

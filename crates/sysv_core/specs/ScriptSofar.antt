@@ -1,10 +1,9 @@
 -- The run of a script that is under way: the text that is left, and what is written and composed.
-use Rattle.std.specs.Prelude.{◌≡◌, ◌+◌, ℕ, Bool, true, false, List, [], ◌++◌, Option, Some, Result, Ok, Err, ⊤}
+use Rattle.std.specs.Prelude.{◌≡◌, ℕ, Bool, true, false, List, [], ◌++◌, Option, Some, Result, Ok, Err, ⊤}
 use Rattle.std.specs.Io.KnownBytes.{Appends}
 use Rattle.sysv_core.specs.World.{World}
-use Rattle.sysv_core.specs.Seen.{Seen, IsSeenAs}
 use Rattle.sysv_core.specs.Faults.{IsFrontOf}
-use Rattle.sysv_core.specs.ScriptText.{LineDoes, IsBad, Ending, Whole, BadLine, TooMany, Stopped, Prints}
+use Rattle.sysv_core.specs.ScriptText.{LineDoes, IsBad, Ending, Whole, BadLine, TooMany, Prints}
 use Rattle.sysv_core.specs.declared.script.ScriptFault.{ScriptFault}
 use Rattle.sysv_core.specs.declared.script.ScriptFault.TheVariants.{Line, Read, Write, NoMemory, Bound}
 

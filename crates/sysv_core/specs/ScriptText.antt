@@ -1,6 +1,6 @@
 -- What the text of a script prints (this project's script language): its lines are run one by one,
 -- each in the world that the lines before it left, and what they print stands in their order.
-use Rattle.std.specs.Prelude.{◌≡◌, ◌<◌, ◌≤◌, ◌+◌, ◌⊎◌, ℕ, Bool, true, false, List, [], ◌++◌, Option, Result, Ok, Err, ⊤, length}
+use Rattle.std.specs.Prelude.{◌≡◌, ◌<◌, ◌≤◌, ◌+◌, ◌⊎◌, ℕ, true, false, List, [], ◌++◌, Option, Result, Ok, Err, ⊤, length}
 use Rattle.std.specs.Io.KnownBytes.{Appends}
 use Rattle.sysv_core.specs.World.{World, opening, Presets}
 use Rattle.sysv_core.specs.ScriptRun.{Said, MakesPreset, LineRuns}

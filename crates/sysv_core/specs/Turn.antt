@@ -1,17 +1,15 @@
 -- One turn of a call at the slot: the call that it makes there, and what the reply leads to. As long
 -- as no call waits, each acts as if IPC_NOWAIT were set.
-use Rattle.std.specs.Prelude.{ℕ, ℤ, Bool, true, false, List, [], length, take, Option, Some, None, if◌then◌else◌}
+use Rattle.std.specs.Prelude.{ℕ, Bool, true, false, List, [], length, take, Option, Some, None, if◌then◌else◌}
 use Rattle.sysv_model.specs.declared.errno.Errno.{Errno}
 use Rattle.sysv_model.specs.declared.errno.Errno.TheVariants.{EACCES, EAGAIN, EIDRM, EINVAL, ENOMSG, E2BIG}
 use Rattle.sysv_model.specs.Selector.{Any}
-use Rattle.sysv_model.specs.Message.{Message}
-use Rattle.sysv_model.specs.History.{Call, Look, Place, Take, Reply, Installed, Gone, Denied, Granted, Full, Fits, Accepted, NoMatch, TooLong, Taken, Told, Done, Discarded, Refused, Shown}
+use Rattle.sysv_model.specs.History.{Call, Look, Place, Take, Reply, Gone, Denied, Full, Fits, Accepted, NoMatch, TooLong, Taken}
 use Rattle.sysv_core.specs.declared.event.Outcome.{Outcome}
 use Rattle.sysv_core.specs.declared.event.Outcome.TheVariants as outcome
-use Rattle.sysv_core.specs.declared.event.Answer.{Answer}
 use Rattle.sysv_core.specs.declared.event.Stepped.{Stepped}
 use Rattle.sysv_core.specs.declared.event.Stepped.TheVariants as stepped
-use Rattle.sysv_core.specs.Phase.{Phase, Sending, Receiving, AtLook, AtPlace, AtTake}
+use Rattle.sysv_core.specs.Phase.{Phase, AtLook, AtPlace, AtTake}
 
 abbrev pub turn_call : Phase → ℕ → Call
 turn_call (AtLook s) now = Look s.id s.cred (length s.bytes)

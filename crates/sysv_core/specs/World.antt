@@ -1,17 +1,16 @@
 -- A world: the history of its slot, what each actor does, and the number of counted events so far;
 -- and what one event makes of it. An event is the start of an actor's call, or one step of it, which
 -- is one turn at the slot; a turn has the legal reply and adds one entry to the history.
-use Rattle.std.specs.Prelude.{◌≡◌, ℕ, zero, suc, pos, ◌+◌, ◌-◌, ◌^◌, ◌<◌, ◌≤◌, ◌⊎◌, Bool, true, List, [], ◌∷◌, ◌++◌, length, Option, Some, None, option_map, replicate, slice_get, slice_set, map}
+use Rattle.std.specs.Prelude.{◌≡◌, ℕ, zero, suc, pos, ◌+◌, ◌-◌, ◌^◌, ◌<◌, ◌≤◌, ◌⊎◌, Bool, true, List, [], Option, Some, None, option_map, replicate, slice_get, slice_set}
 use Rattle.sysv_model.specs.declared.errno.Errno.TheVariants.{EINVAL}
 use Rattle.sysv_model.specs.declared.cred.Cred.{Cred}
-use Rattle.sysv_model.specs.History.{Who, Actor, Call as Turn, Install, Reply, Installed, History, then_turn}
+use Rattle.sysv_model.specs.History.{Actor, Call as Turn, Install, Reply, Installed, History, then_turn}
 use Rattle.sysv_model.specs.Live.{live}
 use Rattle.sysv_queue.specs.LegalReply.{IsLegalReply}
 use Rattle.sysv_core.specs.declared.event.Call.{Call}
 use Rattle.sysv_core.specs.declared.event.Event.{Event}
 use Rattle.sysv_core.specs.declared.event.Event.TheVariants.{Start, Step}
 use Rattle.sysv_core.specs.declared.event.Outcome.TheVariants as outcome
-use Rattle.sysv_core.specs.declared.event.Answer.{Answer}
 use Rattle.sysv_core.specs.declared.event.Stepped.{Stepped}
 use Rattle.sysv_core.specs.declared.event.Stepped.TheVariants as stepped
 use Rattle.sysv_core.specs.Phase.{Phase}

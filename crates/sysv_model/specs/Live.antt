@@ -1,11 +1,11 @@
 -- The live queue of a history: the identifier under which it lives and its attributes, which are
 -- what the last install that made one and the later granted sets, places and takes left
 -- (POSIX.1-2017, msgget, msgsnd, msgrcv and msgctl, each DESCRIPTION).
-use Rattle.std.specs.Prelude.{◌≡◌, ℕ, ℤ, pos, ◌%◌, true, List, [], ◌∷◌, Option, Some, None, option_map, fold, IfSome}
+use Rattle.std.specs.Prelude.{◌≡◌, ℕ, ℤ, ◌%◌, true, Option, Some, None, option_map, fold}
 use Rattle.sysv_model.specs.declared.cred.Cred.{Cred}
 use Rattle.sysv_model.specs.declared.attributes.Attributes.{Attributes}
 use Rattle.sysv_model.specs.declared.attributes.SetTo.{SetTo}
-use Rattle.sysv_model.specs.History.{Call, Install, Probe, Look, Place, Take, ReadStat, Set, Remove, ReadRow, Reply, Installed, Gone, Denied, Granted, Full, Fits, Accepted, NoMatch, TooLong, Taken, Told, Done, Discarded, Refused, Shown, Entry, History}
+use Rattle.sysv_model.specs.History.{Call, Install, Place, Take, Set, Remove, Reply, Installed, Accepted, Taken, Done, Discarded, Entry, History}
 
 -- a new queue: owner and creator are the caller, no one has sent or received, ctime is now, and the
 -- limit is this profile's 16,384 bytes

@@ -1,7 +1,7 @@
 -- What holds of every legal history, by which one more turn is understood.
-use Rattle.std.proofs.Common.{◌≡◌, ℕ, zero, suc, ℤ, ◌+◌, ◌<◌, Bool, true, false, cond, List, [], ◌∷◌, ◌++◌, Option, None, Some, refl, sym, ap, subst, ◌∙◌, arith, length, slice_get, remove, option_map, add-zero}
+use Rattle.std.proofs.Common.{◌≡◌, ℕ, zero, suc, ℤ, ◌+◌, ◌<◌, Bool, true, false, cond, List, [], ◌∷◌, ◌++◌, Option, None, Some, refl, sym, ap, subst, ◌∙◌, arith, slice_get, remove, add-zero}
 use Rattle.std.specs.Ordering.{int_eq}
-use Rattle.std.specs.List.{AllByRecursion, filter}
+use Rattle.std.specs.List.{AllByRecursion}
 use Rattle.std.proofs.lemmas.List.{append-nil}
 use Rattle.sysv_model.specs.declared.cred.Cred.{Cred}
 use Rattle.sysv_model.specs.declared.attributes.Attributes.{Attributes}
@@ -9,14 +9,14 @@ use Rattle.sysv_model.specs.Message.{Message}
 use Rattle.sysv_model.specs.Selector.{Any}
 use Rattle.sysv_model.specs.History.{Who, Call, Install, Place, Take, Reply, Installed, Accepted, Taken, Entry, History, then_turn, arrived}
 use Rattle.sysv_model.specs.Live.{live, HasId, IsLive, sent_to, received_from}
-use Rattle.sysv_model.specs.Waiting.{accepted, delivered, discarded, waiting, held, waiting_on, has_number}
+use Rattle.sysv_model.specs.Waiting.{accepted, delivered, discarded, waiting, held, has_number}
 use Rattle.sysv_queue.specs.Slot.{slot_of}
-use Rattle.sysv_queue.specs.LegalReply.{IsLegalReply, IsLegalHistory, LegalTake, Names}
+use Rattle.sysv_queue.specs.LegalReply.{IsLegalReply, IsLegalHistory}
 use Rattle.sysv_queue.proofs.Snoc.{from_end}
 use Rattle.sysv_queue.proofs.Legality.{legal_front, legal_last}
 use Rattle.sysv_queue.proofs.Filters.{Rises, AreBelow, weaker, pushed, filtered, rises_push, rises_filter, waiting_from, is_new, waiting-accepted, waiting-delivered, filter-remove}
 use Rattle.sysv_queue.proofs.Turns.{Kind, Quiet, Makes, Accepts, Takes, IsStill, accepted-more, delivered-more, discarded-more, live-more, arrived-more, accepted-still, delivered-still, discarded-still, waiting-still, arrived-still, still_install, kind_of}
-use Rattle.sysv_queue.proofs.Ids.{same_id, other_id, one_id, waiting_on-id, keeps_id}
+use Rattle.sysv_queue.proofs.Ids.{same_id, other_id, waiting_on-id, keeps_id}
 
 pub record Facts (h : History) : Type 0 where
   -- acceptance numbers are below the arrived count, and rise

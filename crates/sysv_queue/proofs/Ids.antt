@@ -1,9 +1,8 @@
 -- Identifiers: when two are one, and what the live queue's identifier says of its messages.
-use Rattle.std.proofs.Common.{◌≡◌, ℕ, ℤ, Bool, true, false, List, Option, None, Some, refl, sym, ap, ◌∙◌, option_map, ◌⊎◌, inl, inr}
+use Rattle.std.proofs.Common.{◌≡◌, ℤ, Bool, true, false, Option, None, Some, refl, sym, ap, ◌∙◌, option_map, ◌⊎◌, inl, inr}
 use Rattle.std.specs.Ordering.{int_eq}
 use Rattle.std.proofs.lemmas.Bool.Decides.{Decides-int_eq}
 use Rattle.sysv_model.specs.declared.attributes.Attributes.{Attributes}
-use Rattle.sysv_model.specs.Message.{Message}
 use Rattle.sysv_model.specs.History.{History}
 use Rattle.sysv_model.specs.Live.{HasId}
 use Rattle.sysv_model.specs.Waiting.{waiting, waiting_on}

@@ -1,7 +1,7 @@
 -- Every history of legal replies obeys the queue law.
-use Rattle.std.proofs.Common.{◌≡◌, ◌≢◌, ℕ, zero, suc, ℤ, ◌+◌, ◌<◌, ◌⊎◌, inl, inr, Bool, true, false, cond, List, [], ◌∷◌, ◌++◌, Option, None, Some, refl, sym, ap, subst, ◌∙◌, arith, length, slice_get, remove, append_assoc}
+use Rattle.std.proofs.Common.{◌≡◌, ◌≢◌, ℕ, zero, suc, ℤ, ◌<◌, ◌⊎◌, inl, inr, Bool, true, false, cond, List, [], ◌∷◌, ◌++◌, Some, refl, sym, ap, subst, ◌∙◌, arith, slice_get, remove, append_assoc}
 use Rattle.std.specs.Ordering.{int_eq}
-use Rattle.std.specs.List.{AllByRecursion, AllPairs, All, Contains}
+use Rattle.std.specs.List.{AllPairs, All, Contains}
 use Rattle.std.specs.List.Sorted.{IsPermutation}
 use Rattle.std.proofs.lemmas.List.{append-nil}
 use Rattle.std.proofs.lemmas.List.Sorted.{IsPermutation-refl}
@@ -11,10 +11,9 @@ use Rattle.sysv_model.specs.declared.cred.Cred.{Cred}
 use Rattle.sysv_model.specs.Message.{Message}
 use Rattle.sysv_model.specs.Selector.{Any}
 use Rattle.sysv_model.specs.History.{Who, Call, Install, Place, Take, Remove, Reply, Installed, Accepted, Taken, Entry, History, then_turn, arrived}
-use Rattle.sysv_model.specs.Live.{live, HasId, IsLive}
-use Rattle.sysv_model.specs.Waiting.{accepted, delivered, discarded, waiting, accepted_by}
+use Rattle.sysv_model.specs.Live.{live, HasId}
+use Rattle.sysv_model.specs.Waiting.{accepted, delivered, discarded, waiting}
 use Rattle.sysv_queue.specs.Slot.{Slot, slot_of}
-use Rattle.sysv_queue.specs.Named.{IsNamed}
 use Rattle.sysv_queue.specs.LegalReply.{Legal, IsLegalReply, IsLegalHistory}
 use Rattle.sysv_queue.specs.QueueLaw.{QueueLaw, LeavesInOrder, RemovalIsFinal, removes}
 use Rattle.sysv_queue.proofs.Snoc.{from_end}

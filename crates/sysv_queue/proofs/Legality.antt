@@ -1,6 +1,6 @@
 -- A history is legal when the history before its last turn is, and that turn's reply.
-use Rattle.std.proofs.Common.{◌≡◌, List, [], ◌∷◌, ◌++◌, inl, inr, refl, sym, subst, ap, ◌∙◌, append_assoc}
-use Rattle.sysv_model.specs.History.{Call, Reply, Entry, History}
+use Rattle.std.proofs.Common.{◌≡◌, [], ◌∷◌, ◌++◌, inl, inr, refl, sym, subst, ap, ◌∙◌, append_assoc}
+use Rattle.sysv_model.specs.History.{Entry, History}
 use Rattle.sysv_queue.specs.LegalReply.{IsLegalReply, IsLegalHistory}
 use Rattle.sysv_queue.proofs.Snoc.{at_end}
 

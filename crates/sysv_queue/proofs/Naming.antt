@@ -1,5 +1,5 @@
 -- The place that a receive of any type names: the first, if there is one.
-use Rattle.std.proofs.Common.{◌≡◌, ℕ, ◌<◌, Bool, true, false, List, [], ◌∷◌, length, Option, Some, refl, subst, sym, ap, ◌∙◌, arith, slice_get, inl, inr}
+use Rattle.std.proofs.Common.{◌≡◌, ℕ, ◌<◌, Bool, true, false, List, [], ◌∷◌, length, Option, Some, refl, subst, sym, ◌∙◌, arith, slice_get, inl, inr}
 use Rattle.std.proofs.lemmas.Option.{slice_get_within}
 use Rattle.sysv_model.specs.Message.{Message}
 use Rattle.sysv_model.specs.Selector.{Any}

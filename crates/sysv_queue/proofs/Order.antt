@@ -1,14 +1,11 @@
 -- Messages in the order of acceptance: what is delivered is a front of it, and what waits the rest.
-use Rattle.std.proofs.Common.{◌≡◌, ◌≢◌, ℕ, zero, suc, ℤ, ◌+◌, ◌<◌, Bool, true, false, cond, List, [], ◌∷◌, ◌++◌, Option, Some, refl, sym, ap, subst, ◌∙◌, arith, length, slice_get, remove, append_assoc}
-use Rattle.std.specs.Ordering.{int_eq}
-use Rattle.std.specs.List.{AllByRecursion, AllPairs, All, Contains, slice_index_or, flat_map}
-use Rattle.std.proofs.lemmas.List.{append-nil}
+use Rattle.std.proofs.Common.{◌≡◌, ◌≢◌, zero, suc, ℤ, ◌<◌, List, [], ◌∷◌, ◌++◌, refl, sym, ap, subst, ◌∙◌, arith, append_assoc}
+use Rattle.std.specs.List.{AllByRecursion, AllPairs, Contains}
 use Rattle.std.proofs.lemmas.Grind.{flat_map-append}
 use Rattle.std.proofs.lemmas.List.Concat.{flat_map-cons}
 use Rattle.std.proofs.lemmas.List.Kept.{AllPairs-cons}
 use Rattle.std.proofs.lemmas.List.Elements.{All-from_recursion}
 use Rattle.sysv_model.specs.Message.{Message}
-use Rattle.sysv_model.specs.Selector.{Any}
 use Rattle.sysv_model.specs.History.{Entry, History}
 use Rattle.sysv_model.specs.Waiting.{accepted, accepted_by}
 use Rattle.sysv_queue.specs.QueueLaw.{StandsBefore}

@@ -1,5 +1,5 @@
 -- How a slot that stands for a history goes on by one turn.
-use Rattle.std.proofs.Common.{◌≡◌, ℕ, ℤ, ◌+◌, Bool, true, List, [], ◌∷◌, ◌++◌, Option, None, Some, refl, sym, ap, subst, ◌∙◌, option_map, remove, slice_get, length}
+use Rattle.std.proofs.Common.{◌≡◌, ℕ, ℤ, ◌+◌, Bool, true, List, [], ◌∷◌, ◌++◌, Option, None, Some, refl, sym, ap, subst, ◌∙◌, option_map, remove, slice_get}
 use Rattle.sysv_model.specs.declared.cred.Cred.{Cred}
 use Rattle.sysv_model.specs.declared.attributes.Attributes.{Attributes}
 use Rattle.sysv_model.specs.Message.{Message}
@@ -8,12 +8,12 @@ use Rattle.sysv_model.specs.History.{Who, Call, Install, Place, Take, Reply, Ins
 use Rattle.sysv_model.specs.Live.{live, HasId, created, sent_to, received_from}
 use Rattle.sysv_model.specs.Waiting.{waiting_on, waiting, held}
 use Rattle.sysv_queue.specs.Slot.{Slot, slot_of}
-use Rattle.sysv_queue.specs.LegalReply.{Legal, IsLegalReply, IsLegalHistory, Names}
+use Rattle.sysv_queue.specs.LegalReply.{Legal, IsLegalHistory}
 use Rattle.sysv_queue.specs.StandsFor.{StandsFor, MakesTurn}
 use Rattle.sysv_queue.proofs.Legality.{legal_empty, legal_more}
 use Rattle.sysv_queue.proofs.Turns.{IsStill, IsQuiet, live-more, freed-more, arrived-still, freed-still, waiting-still, still_install}
 use Rattle.sysv_queue.proofs.Ids.{waiting_on-id, keeps_id}
-use Rattle.sysv_queue.proofs.Facts.{Facts, facts, waiting-sent, arrived-sent, waiting-taken, arrived-taken}
+use Rattle.sysv_queue.proofs.Facts.{facts, waiting-sent, arrived-sent, waiting-taken, arrived-taken}
 use Rattle.std.proofs.Common.{add-zero}
 
 pub stands_empty : StandsFor [] record { live = None; messages = []; arrived = 0; freed = 0 }

@@ -1,18 +1,18 @@
 -- What one more turn does to each part of a history, and the four kinds of legal turn.
-use Rattle.std.proofs.Common.{◌≡◌, ℕ, ℤ, ◌+◌, Bool, true, false, cond, List, [], ◌∷◌, ◌++◌, Option, None, Some, ◌⊎◌, inl, inr, refl, sym, ap, ◌∙◌, length, zero-add, add-zero}
+use Rattle.std.proofs.Common.{◌≡◌, ℕ, ℤ, ◌+◌, Bool, true, false, cond, List, [], ◌∷◌, ◌++◌, Option, None, refl, ap, ◌∙◌, length, zero-add, add-zero}
 use Rattle.std.proofs.lemmas.List.{append-nil}
 use Rattle.std.proofs.lemmas.List.Sums.{fold-append, sum_by-append}
 use Rattle.std.proofs.lemmas.Grind.{flat_map-append}
 use Rattle.sysv_model.specs.declared.cred.Cred.{Cred}
 use Rattle.sysv_model.specs.declared.attributes.Attributes.{Attributes}
 use Rattle.sysv_model.specs.Message.{Message}
-use Rattle.sysv_model.specs.Selector.{Selector, Any, Exactly, UpTo}
-use Rattle.sysv_model.specs.History.{Call, Install, Probe, Look, Place, Take, ReadStat, Set, Remove, ReadRow, Reply, Installed, Gone, Denied, Granted, Full, Fits, Accepted, NoMatch, TooLong, Taken, Told, Done, Discarded, Refused, Shown, Entry, History, announces_arrival, announces_room, arrived, freed}
+use Rattle.sysv_model.specs.Selector.{Any}
+use Rattle.sysv_model.specs.History.{Call, Install, Look, Place, Take, Reply, Installed, Gone, Denied, Full, Accepted, NoMatch, TooLong, Taken, Entry, History, announces_arrival, announces_room, arrived, freed}
 use Rattle.sysv_model.specs.Live.{live, live_after}
 use Rattle.sysv_model.specs.Waiting.{accepted, delivered, discarded, waiting, accepted_by, delivered_by, discarded_by}
 use Rattle.sysv_queue.specs.Slot.{Slot}
 use Rattle.sysv_queue.proofs.Filters.{waiting_from}
-use Rattle.sysv_queue.specs.LegalReply.{Legal, LegalInstall, LegalLook, LegalPlace, LegalTake}
+use Rattle.sysv_queue.specs.LegalReply.{Legal, LegalInstall, LegalPlace, LegalTake}
 
 pub accepted-more : (id : ℤ) (h : History) (e : Entry) → accepted id (h ++ e ∷ []) ≡ accepted id h ++ accepted_by id e.call e.reply
 accepted-more id h e = flat_map-append (λ (e : Entry). accepted_by id e.call e.reply) h (e ∷ []) ∙ ap (λ ms. accepted id h ++ ms) (append-nil _)

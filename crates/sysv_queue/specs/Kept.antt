@@ -1,5 +1,5 @@
 -- The messages that the slot keeps, as the messages that it is seen to hold.
-use Rattle.std.specs.Prelude.{ℕ, List, map}
+use Rattle.std.specs.Prelude.{List, map}
 use Rattle.sysv_model.specs.Message.{Message}
 use Rattle.sysv_queue.specs.declared.slot.Waiting.{Waiting}
 

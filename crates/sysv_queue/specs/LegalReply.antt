@@ -2,12 +2,11 @@
 -- order, and a reply is given exactly where its cause is the first that stands
 -- (POSIX.1-2017, msgget, msgsnd, msgrcv, msgctl, each ERRORS; the order is this profile's). A
 -- reply that is not listed is never given; a call that has no list yet has no legal reply.
-use Rattle.std.specs.Prelude.{◌≡◌, ℕ, ℤ, ◌<◌, ◌≤◌, ◌⊎◌, Bool, true, false, List, [], ◌∷◌, ◌++◌, length, Option, None, Some, IfSome, IsSome, slice_get}
+use Rattle.std.specs.Prelude.{◌≡◌, ℕ, ℤ, ◌≤◌, ◌⊎◌, Bool, true, false, ◌∷◌, ◌++◌, length, None, Some, IfSome, IsSome, slice_get}
 use Rattle.sysv_model.specs.declared.cred.Cred.{Cred}
-use Rattle.sysv_model.specs.declared.attributes.Attributes.{Attributes}
 use Rattle.sysv_model.specs.Message.{Message}
 use Rattle.sysv_model.specs.Selector.{Selector, Any, Exactly, UpTo}
-use Rattle.sysv_model.specs.History.{Call, Install, Probe, Look, Place, Take, ReadStat, Set, Remove, ReadRow, Reply, Installed, Gone, Denied, Granted, Full, Fits, Accepted, NoMatch, TooLong, Taken, Told, Done, Discarded, Refused, Shown, Entry, History}
+use Rattle.sysv_model.specs.History.{Call, Install, Probe, Look, Place, Take, ReadStat, Set, Remove, ReadRow, Reply, Installed, Gone, Denied, Full, Fits, Accepted, NoMatch, TooLong, Taken, Entry, History}
 use Rattle.sysv_model.specs.Live.{HasId}
 use Rattle.sysv_queue.specs.Slot.{Slot, slot_of}
 use Rattle.sysv_queue.specs.Fits.{Fits as FitsOn}

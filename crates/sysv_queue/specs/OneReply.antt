@@ -2,7 +2,7 @@
 -- history.
 use Rattle.std.specs.Prelude.{◌≡◌, ⊤}
 use Rattle.sysv_model.specs.Selector.{Any}
-use Rattle.sysv_model.specs.History.{Call, Install, Probe, Look, Place, Take, ReadStat, Set, Remove, ReadRow, Reply, History}
+use Rattle.sysv_model.specs.History.{Call, Install, Look, Place, Take, Reply, History}
 use Rattle.sysv_queue.specs.LegalReply.{IsLegalReply}
 
 abbrev pub IsThere : Call → Type 0

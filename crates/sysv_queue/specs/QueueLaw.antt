@@ -2,7 +2,7 @@
 -- msgsnd, msgrcv and msgctl, says of the messages of a queue): what was accepted is, each message
 -- once, what was delivered, discarded or still waits; messages of one type leave in the order of
 -- acceptance; and after a removal nothing more happens under the identifier.
-use Rattle.std.specs.Prelude.{◌≡◌, ◌≢◌, ℕ, ℤ, Bool, true, false, List, [], ◌∷◌, ◌++◌, All, AllPairs, Contains, IsPermutation}
+use Rattle.std.specs.Prelude.{◌≡◌, ◌≢◌, ℤ, Bool, true, false, List, [], ◌∷◌, ◌++◌, All, AllPairs, Contains, IsPermutation}
 use Rattle.std.specs.Ordering.{int_eq}
 use Rattle.sysv_model.specs.Message.{Message}
 use Rattle.sysv_model.specs.History.{Call, Install, Remove, Reply, Installed, Discarded, Entry, History}

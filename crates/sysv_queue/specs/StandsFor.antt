@@ -1,7 +1,7 @@
 -- A slot stands for a history when each reply of the history is legal and the slot is seen as what
 -- the history leaves. A call makes a turn when its reply is the legal one, and the slot then stands
 -- for each history that it stood for with that turn, whoever made it (this profile's).
-use Rattle.std.specs.Prelude.{◌≡◌, ◌++◌}
+use Rattle.std.specs.Prelude.{◌≡◌}
 use Rattle.sysv_model.specs.History.{History, Who, Call, Reply, then_turn}
 use Rattle.sysv_queue.specs.Slot.{Slot, slot_of}
 use Rattle.sysv_queue.specs.LegalReply.{IsLegalHistory, IsLegalReply, Legal}

@@ -10,5 +10,5 @@ abbrev pub invariant-loop-passed : goal.invariant-loop-passed
 invariant-loop-passed g l = record {
   grows : Grows (g.W.Write.contents l.initial.writer) (g.W.Write.contents l.writer);
   runs : (w : World) → IsSeenAs w l.initial.stage.world → (text : List ℕ) → IsText l.initial.input (g.R.Read.remaining l.initial.reader) text →
-    RunsOn w text (g.W.Write.contents l.initial.writer) (l.passed + 1) l.stage.world l.input (g.R.Read.remaining l.reader) (g.W.Write.contents l.writer) l.output;
+      RunsOn w text (g.W.Write.contents l.initial.writer) (l.passed + 1) l.stage.world l.input (g.R.Read.remaining l.reader) (g.W.Write.contents l.writer) l.output;
 }

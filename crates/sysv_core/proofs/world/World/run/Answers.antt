@@ -1,6 +1,5 @@
-use Rattle.std.proofs.Common.{◌≡◌, ◌+◌, ◌≤◌, ◌<◌, ◌++◌, ◌∷◌, [], length, length-append, vec_len, vec_capacity, sym, ap, subst, ◌∙◌, rules, arith, refl, append_assoc, inl, inr}
+use Rattle.std.proofs.Common.{◌≡◌, ◌<◌, ◌++◌, ◌∷◌, [], length, length-append, vec_len, vec_capacity, sym, ap, subst, ◌∙◌, rules, arith, refl, append_assoc, inl, inr}
 use Rattle.std.proofs.lemmas.List.{append-nil, length_push}
-use Rattle.std.proofs.lemmas.Grind.{common_steps}
 use Rattle.sysv_core.proofs.Lists.{none_in}
 use Rattle.sysv_core.proofs.Runs.{laws_hold, UnderWay, under_way, goes_on, runs_on}
 use Rattle.sysv_core.proofs.world.World.run.Goals as goal

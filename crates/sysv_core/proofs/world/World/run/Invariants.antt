@@ -1,4 +1,4 @@
-use Rattle.std.proofs.Common.{◌≡◌, ◌+◌, ◌≤◌, ◌++◌, length, vec_len, vec_capacity}
+use Rattle.std.proofs.Common.{◌≡◌, ◌≤◌, ◌++◌, length, vec_len, vec_capacity}
 use Rattle.sysv_core.proofs.Runs.{UnderWay}
 use Rattle.sysv_core.proofs.world.World.run.Given as goal
 

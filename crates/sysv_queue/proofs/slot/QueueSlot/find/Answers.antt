@@ -1,4 +1,4 @@
-use Rattle.std.proofs.Common.{◌≡◌, sym, ap, subst, rules, refl, w32}
+use Rattle.std.proofs.Common.{sym, subst, rules, w32}
 use Rattle.std.proofs.lemmas.Int.{to_z-of_z}
 use Rattle.sysv_model.specs.Live.{HasId}
 use Rattle.sysv_queue.specs.LegalReply.{HasRoom}

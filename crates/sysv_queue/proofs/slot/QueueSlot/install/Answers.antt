@@ -1,7 +1,5 @@
-use Rattle.std.proofs.Common.{◌≡◌, sym, ap, subst, rules, true, false, IsSome, w32}
+use Rattle.std.proofs.Common.{rules, IsSome, w32}
 use Rattle.std.proofs.lemmas.Int.{to_z-of_z}
-use Rattle.sysv_model.specs.History.{Install, Installed}
-use Rattle.sysv_queue.specs.StandsFor.{MakesTurn}
 use Rattle.sysv_queue.proofs.Turns.{quiet_install}
 use Rattle.sysv_queue.proofs.Stands.{turn_quiet, turn_made}
 use Rattle.sysv_queue.proofs.slot.QueueSlot.install.Goals as goal

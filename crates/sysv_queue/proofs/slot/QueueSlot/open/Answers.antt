@@ -1,6 +1,4 @@
-use Rattle.std.proofs.Common.{◌≡◌, [], sym, ap, subst, rules}
-use Rattle.sysv_queue.specs.StandsFor.{StandsFor}
-use Rattle.sysv_queue.specs.Kept.{messages_of}
+use Rattle.std.proofs.Common.{◌≡◌, [], rules}
 use Rattle.sysv_queue.proofs.Stands.{stands_empty}
 use Rattle.sysv_queue.proofs.slot.QueueSlot.open.Goals as goal
 

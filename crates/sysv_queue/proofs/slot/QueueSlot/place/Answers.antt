@@ -1,8 +1,5 @@
-use Rattle.std.proofs.Common.{◌≡◌, sym, ap, subst, rules, refl, w32, w64, length}
+use Rattle.std.proofs.Common.{refl, w32, w64}
 use Rattle.std.proofs.lemmas.Int.{to_z-of_z}
-use Rattle.sysv_model.specs.History.{Look, Place, Gone, Full, Fits, Accepted}
-use Rattle.sysv_queue.specs.LegalReply.{Legal}
-use Rattle.sysv_queue.specs.StandsFor.{MakesTurn}
 use Rattle.sysv_queue.proofs.Turns.{quiet_place_gone, quiet_place_full}
 use Rattle.sysv_queue.proofs.Stands.{turn_quiet, turn_sent}
 use Rattle.sysv_queue.proofs.slot.QueueSlot.place.Goals as goal

@@ -1,7 +1,6 @@
-use Rattle.std.proofs.Common.{◌≡◌, ℕ, ◌+◌, ◌-◌, ◌<◌, ◌≤◌, length, take, slice_get, Some, remove, option_map, sym, ap, subst, ◌∙◌, arith, rules, refl, w64}
+use Rattle.std.proofs.Common.{◌≡◌, ◌<◌, length, slice_get, Some, option_map, sym, ap, subst, ◌∙◌, arith, rules, refl, w64}
 use Rattle.std.proofs.lemmas.List.{length-map}
 use Rattle.std.proofs.lemmas.Int.{to_z-of_z}
-use Rattle.sysv_model.specs.Message.{Message}
 use Rattle.sysv_model.specs.Live.{received_from}
 use Rattle.sysv_queue.specs.Slot.{Slot}
 use Rattle.sysv_queue.specs.Fits.{bytes_of}

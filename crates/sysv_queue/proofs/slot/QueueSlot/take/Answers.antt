@@ -1,12 +1,10 @@
-use Rattle.std.proofs.Common.{◌≡◌, ℕ, ◌+◌, ◌<◌, ◌≤◌, length, vec_len, [], slice_get, Some, sym, ap, subst, ◌∙◌, arith, rules, refl, w32, inl, inr}
+use Rattle.std.proofs.Common.{◌≡◌, ◌<◌, length, vec_len, [], slice_get, Some, sym, ap, subst, ◌∙◌, arith, rules, refl, w32, inl, inr}
 use Rattle.std.proofs.lemmas.Int.{to_z-of_z}
 use Rattle.std.proofs.lemmas.Bool.Decides.{nat_tests}
 use Rattle.sysv_model.specs.Message.{Message}
-use Rattle.sysv_model.specs.Selector.{Any}
 use Rattle.sysv_model.specs.Live.{HasId}
 use Rattle.sysv_queue.specs.Slot.{Slot}
-use Rattle.sysv_queue.specs.Named.{IsNamed}
-use Rattle.sysv_queue.specs.LegalReply.{Names, IsGivable}
+use Rattle.sysv_queue.specs.LegalReply.{IsGivable}
 use Rattle.sysv_queue.specs.Kept.{message_of, messages_of}
 use Rattle.sysv_queue.proofs.Removal.{message_at}
 use Rattle.sysv_queue.proofs.Naming.{first_names, none_named, none_in, never_given, same_message}

@@ -1,9 +1,4 @@
-use Rattle.std.proofs.Common.{◌≡◌, suc, ◌+◌, ◌-◌, ap, sym, subst, ◌∙◌, arith, refl}
-use Rattle.sysv_core.specs.World.{Steps}
-use Rattle.sysv_core.specs.Seen.{IsSeenAs}
-use Rattle.sysv_core.specs.declared.event.Event.TheVariants.{Start, Step}
-use Rattle.sysv_core.specs.declared.event.Stepped.TheVariants as stepped
-use Rattle.sysv_core.specs.ScriptRun.{cred_of}
+use Rattle.std.proofs.Common.{◌+◌, ◌-◌, subst, arith}
 use Rattle.sysv_core.proofs.Going.{GoingOn, begins, goes_more, ends_over, ends_none}
 use Rattle.sysv_core.proofs.script.stage.Stage.go.Goals as goal
 

@@ -1,4 +1,4 @@
-use Rattle.std.proofs.Common.{◌≡◌, [], sym, refl}
+use Rattle.std.proofs.Common.{[], sym, refl}
 use Rattle.std.proofs.lemmas.List.{append-nil}
 use Rattle.sysv_core.proofs.StreamLemmas.{OnErr-from}
 use Rattle.sysv_core.proofs.ScriptEnds.{IsFrontOf-all}
