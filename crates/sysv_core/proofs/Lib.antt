@@ -15,4 +15,6 @@ pub mod FaultLemmas
 pub mod StreamLemmas
 pub mod Parsing
 pub mod OneRun
+pub mod OneLine
 pub mod WorkedRun
+pub mod OneText

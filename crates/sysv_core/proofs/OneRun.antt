@@ -28,7 +28,7 @@ starts_once w actor cred call None r s a b h k = (h.0 ∙ sym k.0, h.1 ∙ sym k
 starts_once w actor cred call (Some None) r s a b h k = begins_once w actor cred call r s a b h k
 starts_once w actor cred call (Some (Some doing)) r s a b h k = (h.0 ∙ sym k.0, h.1 ∙ sym k.1)
 
-presets_once : (w : World) (made did : Bool) (a b : World) → Presets w made a → Presets w did b → a ≡ b
+pub presets_once : (w : World) (made did : Bool) (a b : World) → Presets w made a → Presets w did b → a ≡ b
 presets_once w made did a b (inl h) (inl k) = h.2 ∙ sym k.2
 presets_once w made did a b (inl h) (inr k) = absurd (k.0 h.0)
 presets_once w made did a b (inr h) (inl k) = absurd (h.0 k.0)
@@ -56,7 +56,7 @@ module _ (one : NoTwoRepliesAreLegal) where
   makes_once w (Start actor cred call) r s a b h k = starts_once w actor cred call (actor_at w.actors actor) r s a b h k
   makes_once w (Step actor now) r s a b h k = steps_at_once w actor now (actor_at w.actors actor) r s a b h k
 
-  steps_once : (w : World) (event : Event) (r s : Stepped) (a b : World) → Steps w event r a → Steps w event s b → Same r s a b
+  pub steps_once : (w : World) (event : Event) (r s : Stepped) (a b : World) → Steps w event r a → Steps w event s b → Same r s a b
   steps_once w event r s a b (inl h) (inl k) = (h.1 ∙ sym k.1, h.2 ∙ sym k.2)
   steps_once w event r s a b (inl h) (inr k) = let worn = h.0 in let fresh = k.0 in absurd (omega arith)
   steps_once w event r s a b (inr h) (inl k) = let worn = k.0 in let fresh = h.0 in absurd (omega arith)

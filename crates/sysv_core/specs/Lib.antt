@@ -31,3 +31,4 @@ pub mod ScriptText
 pub mod ScriptSofar
 pub mod OneRun
 pub mod WorkedRun
+pub mod OneText
