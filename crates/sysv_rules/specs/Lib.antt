@@ -1,0 +1,4 @@
+pub mod Permission
+pub mod Asked
+pub mod Qualifies
+pub mod Named

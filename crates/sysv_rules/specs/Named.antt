@@ -1,0 +1,22 @@
+-- The place that a selector names in a list of types, which stand in the order of acceptance
+-- (POSIX.1-2017, msgrcv, DESCRIPTION). Its type qualifies. For any type and for an exact one no
+-- earlier place qualifies; for a bound no place has a lower type and no earlier place has the same.
+use Rattle.std.specs.Prelude.{◌≡◌, ◌<◌, ◌<ℤ◌, ℕ, ℤ, List, length}
+use Rattle.sysv_model.specs.Selector.{Selector, Any, Exactly, UpTo}
+use Rattle.sysv_rules.specs.Qualifies.{QualifiesAt, type_at}
+
+-- no earlier place qualifies
+abbrev pub IsFirst : Selector → List ℤ → ℕ → Type 0
+IsFirst sel types place = QualifiesAt sel types place × ((earlier : ℕ) → earlier < place → ¬ QualifiesAt sel types earlier)
+
+-- no place has a lower type, and no earlier place has the same
+abbrev pub IsLeast : List ℤ → ℕ → Type 0
+IsLeast types place =
+    (place < length types)
+    × ((other : ℕ) → other < length types → ¬ (type_at types other <ℤ type_at types place))
+    × ((earlier : ℕ) → earlier < place → ¬ (type_at types earlier ≡ type_at types place))
+
+abbrev pub IsNamed : Selector → List ℤ → ℕ → Type 0
+IsNamed Any types place = IsFirst Any types place
+IsNamed (Exactly asked) types place = IsFirst (Exactly asked) types place
+IsNamed (UpTo bound) types place = QualifiesAt (UpTo bound) types place × IsLeast types place
