@@ -6,3 +6,5 @@
 pub mod laws;
 pub mod permission;
 pub mod selector;
+#[cfg(test)]
+mod tests;

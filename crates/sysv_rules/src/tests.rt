@@ -1,0 +1,2 @@
+mod permission;
+mod selection;

@@ -1,0 +1,109 @@
+//! Who may do what, worked from the text of the standard's general description of interprocess
+//! communication.
+
+use crate::permission::{Want, may, may_control};
+use sysv_model::attributes::Perm;
+use sysv_model::cred::Cred;
+
+/// The nine mode bits.
+const BITS: [u16; 9] = [
+    0o400, 0o200, 0o100, 0o040, 0o020, 0o010, 0o004, 0o002, 0o001,
+];
+
+/// A queue of user 10 and group 20, made by user 11 and group 21.
+fn queue(mode: u16) -> Perm {
+    Perm {
+        uid: 10,
+        gid: 20,
+        cuid: 11,
+        cgid: 21,
+        mode,
+    }
+}
+
+fn caller(uid: u32, gid: u32) -> Cred {
+    Cred { uid, gid, pid: 10 }
+}
+
+#[test]
+fn one_bit_grants_and_eight_do_not(rt: HostRuntime) {
+    let table = [
+        ("owner", caller(10, 99), 0o400, 0o200),
+        ("creator", caller(11, 99), 0o400, 0o200),
+        ("member", caller(98, 20), 0o040, 0o020),
+        (
+            "member of the creator's group",
+            caller(98, 21),
+            0o040,
+            0o020,
+        ),
+        ("other", caller(98, 99), 0o004, 0o002),
+    ];
+    for (who, cred, read, write) in table {
+        for bit in BITS {
+            assert_eq!(rt;
+                may(cred, queue(bit), Want::Read),
+                bit == read,
+                "{who} reads by {bit}"
+            );
+            assert_eq!(rt;
+                may(cred, queue(bit), Want::Write),
+                bit == write,
+                "{who} writes by {bit}"
+            );
+        }
+        assert!(rt; may(cred, queue(0o777), Want::Read), "{who}");
+        assert!(rt; may(cred, queue(0o777), Want::Write), "{who}");
+        assert!(rt; !may(cred, queue(0o777 - read), Want::Read), "{who}");
+        assert!(rt; !may(cred, queue(0o777 - write), Want::Write), "{who}");
+    }
+}
+
+#[test]
+fn a_lower_class_does_not_help(rt: HostRuntime) {
+    let table = [
+        ("owner in the group", caller(10, 20), 0o077),
+        ("creator in its group", caller(11, 21), 0o077),
+        ("owner in the group", caller(10, 20), 0o070),
+        ("owner in the group", caller(10, 20), 0o007),
+        ("member", caller(98, 20), 0o007),
+        ("member of the creator's group", caller(98, 21), 0o007),
+    ];
+    for (who, cred, mode) in table {
+        assert!(rt;
+            !may(cred, queue(mode), Want::Read),
+            "{who} reads by {mode}"
+        );
+        assert!(rt;
+            !may(cred, queue(mode), Want::Write),
+            "{who} writes by {mode}"
+        );
+    }
+}
+
+#[test]
+fn user_zero_always_may(rt: HostRuntime) {
+    for mode in [0, 0o777, 0o111, 0o400, 0o002] {
+        for gid in [0, 20, 99] {
+            assert!(rt; may(caller(0, gid), queue(mode), Want::Read), "{mode}");
+            assert!(rt; may(caller(0, gid), queue(mode), Want::Write), "{mode}");
+            assert!(rt; may_control(caller(0, gid), queue(mode)), "{mode}");
+        }
+    }
+}
+
+#[test]
+fn owner_and_creator_control(rt: HostRuntime) {
+    let table = [
+        ("owner", caller(10, 99), true),
+        ("creator", caller(11, 99), true),
+        ("member", caller(98, 20), false),
+        ("member of the creator's group", caller(98, 21), false),
+        ("other", caller(98, 99), false),
+    ];
+    for (who, cred, controls) in table {
+        for mode in [0, 0o777] {
+            assert_eq!(rt; may_control(cred, queue(mode)), controls, "{who}");
+        }
+    }
+}
