@@ -28,15 +28,17 @@ abbrev pub other_bit : Want → ℕ
 other_bit Read = 0o004
 other_bit Write = 0o002
 
+-- the mode has the bit
 abbrev pub HasBit : Perm → ℕ → Type 0
 HasBit perm bit = bit_and perm.mode bit ≢ 0
 
+-- user 0; or the bit of the class that the caller is in: owner, else group, else other
 abbrev pub IsPermitted : Cred → Perm → Want → Type 0
 IsPermitted cred perm want =
     (cred.uid ≡ 0)
-    ⊎ ((IsOwner cred perm × HasBit perm (user_bit want))
-    ⊎ ((¬ IsOwner cred perm × IsInGroup cred perm × HasBit perm (group_bit want))
-    ⊎ (¬ IsOwner cred perm × ¬ IsInGroup cred perm × HasBit perm (other_bit want))))
+    ⊎ (IsOwner cred perm × HasBit perm (user_bit want))
+    ⊎ (¬ IsOwner cred perm × IsInGroup cred perm × HasBit perm (group_bit want))
+    ⊎ (¬ IsOwner cred perm × ¬ IsInGroup cred perm × HasBit perm (other_bit want))
 
 -- who may change a queue or remove it (POSIX.1-2017, msgctl, IPC_SET and IPC_RMID)
 abbrev pub MayControl : Cred → Perm → Type 0

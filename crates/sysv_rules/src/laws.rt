@@ -1,10 +1,16 @@
 //! Laws over the definitions alone.
 
-ghost use Rattle.std.specs.Prelude.{◌≡◌, ℕ, ℤ, List};
+ghost use Rattle.std.specs.Prelude.{◌≡◌, ◌⊎◌, ℕ, ℤ, List};
 ghost use Rattle.sysv_model.specs.Selector.{Selector};
 ghost use Rattle.sysv_rules.specs.Named.{IsNamed};
+ghost use Rattle.sysv_rules.specs.Qualifies.{NoneQualifies};
 
 /// A selector names at most one place of a list.
 pub fn one_named()
     ensures { (sel : Selector) (types : List ℤ) (i j : ℕ) → IsNamed sel types i → IsNamed sel types j → i ≡ j }
+{}
+
+/// In every list a selector names a place, or no type of the list qualifies.
+pub fn named_or_none()
+    ensures { (sel : Selector) (types : List ℤ) → ((place : ℕ) × IsNamed sel types place) ⊎ NoneQualifies sel types }
 {}
