@@ -1,11 +1,11 @@
 -- In every list a selector names a place, or no type of the list qualifies.
-use Rattle.std.proofs.Common.{◌≡◌, ◌≢◌, ℕ, zero, suc, ◌<◌, ◌≤◌, ◌<ℤ◌, ◌≤ℤ◌, ℤ, pos, Bool, true, false, List, [], ◌∷◌, length, ◌⊎◌, inl, inr, refl, sym, ◌∙◌, arith}
+use Rattle.std.proofs.Common.{◌≡◌, ℕ, zero, suc, ◌<◌, ◌≤◌, ◌<ℤ◌, ◌≤ℤ◌, ℤ, pos, Bool, true, false, List, [], ◌∷◌, length, ◌⊎◌, inl, inr, refl, sym, ◌∙◌, arith}
 use Rattle.std.proofs.lemmas.Int.{by_lt_z, ints}
 use Rattle.std.specs.Ordering.{int_eq}
 use Rattle.std.proofs.lemmas.Bool.Decides.{Decides-int_eq}
 use Rattle.sysv_model.specs.Selector.{Selector, Any, Exactly, UpTo}
 use Rattle.sysv_rules.specs.Qualifies.{Qualifies, QualifiesAt, NoneQualifies, type_at}
-use Rattle.sysv_rules.specs.Named.{IsNamed, IsFirst, IsLeast}
+use Rattle.sysv_rules.specs.Named.{IsNamed, IsFirst}
 
 by_test : (t : Bool) (a b : ℤ) → int_eq a b ≡ t → (a ≡ b) ⊎ ¬ (a ≡ b)
 by_test true a b e = inl ((Decides-int_eq a b).0 e)
@@ -34,9 +34,9 @@ first_or_none sel types (suc n) h =
     elim (first_or_none sel types n (omega arith)) [
       | inl w ↦ inl w
       | inr none ↦ elim (qualifies_or_not sel (type_at types n)) [
-          | inl here ↦ inl (n, ((omega arith, here), none))
-          | inr not_here ↦ inr (none_at sel types n none (λ q. not_here q.1))
-        ]
+        | inl here ↦ inl (n, ((omega arith, here), none))
+        | inr not_here ↦ inr (none_at sel types n none (λ q. not_here q.1))
+      ]
     ]
 
 -- the first place of the lowest type among the first n
@@ -66,10 +66,11 @@ least_keeps types n place (within, none, first) h =
     (omega arith, (λ other below. grind (arith, lower_not)), first)
 
 least_takes : (types : List ℤ) (n place : ℕ) → LeastBelow types n place → type_at types n <ℤ type_at types place → LeastBelow types (suc n) n
-least_takes types n place (within, none, first) h =
-    (omega arith,
-     (λ other below. grind (arith, never_lower, lower_of)),
-     (λ earlier below. lower_other (type_at types earlier) (type_at types place) (type_at types n) (none earlier below) h))
+least_takes types n place (within, none, first) h = (
+  omega arith,
+  (λ other below. grind (arith, never_lower, lower_of)),
+  (λ earlier below. lower_other (type_at types earlier) (type_at types place) (type_at types n) (none earlier below) h),
+)
 
 pub some_least : (types : List ℤ) (n : ℕ) → (place : ℕ) × LeastBelow types (suc n) place
 some_least types zero = (0, least_one types)
@@ -95,9 +96,9 @@ up_to bound types n place long (within, none, first) =
 
 pub named_or_none : (sel : Selector) (types : List ℤ) → ((place : ℕ) × IsNamed sel types place) ⊎ NoneQualifies sel types
 named_or_none Any types =
-    elim (first_or_none Any types (length types) (omega arith)) [ | inl w ↦ inl w | inr none ↦ inr (none_qualifies Any types none) ]
+    elim (first_or_none Any types (length types) (omega arith)) [ inl w ↦ inl w | inr none ↦ inr (none_qualifies Any types none) ]
 named_or_none (Exactly asked) types =
-    elim (first_or_none (Exactly asked) types (length types) (omega arith)) [ | inl w ↦ inl w | inr none ↦ inr (none_qualifies (Exactly asked) types none) ]
+    elim (first_or_none (Exactly asked) types (length types) (omega arith)) [ inl w ↦ inl w | inr none ↦ inr (none_qualifies (Exactly asked) types none) ]
 named_or_none (UpTo bound) [] = inr (λ place q. absurd (omega (arith, q.0)))
 named_or_none (UpTo bound) (t ∷ ts) =
     let w = some_least (t ∷ ts) (length ts) in up_to bound (t ∷ ts) (length ts) w.0 refl w.1

@@ -2,6 +2,10 @@
 
 ghost use Rattle.std.specs.Prelude.{◌≡◌, ◌⊎◌, ℕ, ℤ, List};
 ghost use Rattle.sysv_model.specs.Selector.{Selector};
+ghost use Rattle.sysv_model.specs.declared.cred.Cred.{Cred};
+ghost use Rattle.sysv_model.specs.declared.attributes.Perm.{Perm};
+ghost use Rattle.sysv_rules.specs.declared.permission.Want.{Want};
+ghost use Rattle.sysv_rules.specs.Permission.{IsPermitted, MayControl};
 ghost use Rattle.sysv_rules.specs.Named.{IsNamed};
 ghost use Rattle.sysv_rules.specs.Qualifies.{NoneQualifies};
 
@@ -13,4 +17,10 @@ pub fn one_named()
 /// In every list a selector names a place, or no type of the list qualifies.
 pub fn named_or_none()
     ensures { (sel : Selector) (types : List ℤ) → ((place : ℕ) × IsNamed sel types place) ⊎ NoneQualifies sel types }
+{}
+
+/// What a caller wants of a queue is permitted or not, and so is control of it.
+pub fn granted_or_not()
+    ensures may { (cred : Cred) (perm : Perm) (want : Want) → IsPermitted cred perm want ⊎ ¬ IsPermitted cred perm want }
+    ensures control { (cred : Cred) (perm : Perm) → MayControl cred perm ⊎ ¬ MayControl cred perm }
 {}
