@@ -5,11 +5,11 @@ use Rattle.std.specs.Prelude.{◌≡◌, ◌<◌, ◌<ℤ◌, ℕ, ℤ, List, le
 use Rattle.sysv_model.specs.Selector.{Selector, Any, Exactly, UpTo}
 use Rattle.sysv_rules.specs.Qualifies.{QualifiesAt, type_at}
 
--- no earlier place qualifies
+-- the place qualifies, and no earlier one does
 abbrev pub IsFirst : Selector → List ℤ → ℕ → Type 0
 IsFirst sel types place = QualifiesAt sel types place × ((earlier : ℕ) → earlier < place → ¬ QualifiesAt sel types earlier)
 
--- no place has a lower type, and no earlier place has the same
+-- a place of the list such that no place has a lower type and no earlier place has the same
 abbrev pub IsLeast : List ℤ → ℕ → Type 0
 IsLeast types place =
     (place < length types)
