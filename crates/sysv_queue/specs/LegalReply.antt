@@ -5,7 +5,7 @@
 use Rattle.std.specs.Prelude.{◌≡◌, ℕ, ℤ, ◌≤◌, ◌⊎◌, Bool, true, false, ◌∷◌, ◌++◌, length, None, Some, IfSome, IsSome, slice_get}
 use Rattle.sysv_model.specs.declared.cred.Cred.{Cred}
 use Rattle.sysv_model.specs.Message.{Message}
-use Rattle.sysv_model.specs.Selector.{Selector, Any, Exactly, UpTo}
+use Rattle.sysv_model.specs.Selector.{Selector}
 use Rattle.sysv_model.specs.History.{Call, Install, Probe, Look, Place, Take, ReadStat, Set, Remove, ReadRow, Reply, Installed, Gone, Denied, Full, Fits, Accepted, NoMatch, TooLong, Taken, Entry, History}
 use Rattle.sysv_model.specs.Live.{HasId}
 use Rattle.sysv_queue.specs.Slot.{Slot, slot_of}
@@ -63,10 +63,8 @@ abbrev pub Legal : Slot → Call → Reply → Type 0
 Legal s (Install id key cred mode now) reply = LegalInstall s reply
 Legal s (Look id cred size) reply = LegalLook s id cred size reply
 Legal s (Place id cred mtype bytes now) reply = LegalPlace s id cred (length bytes) reply
-Legal s (Take id cred Any size noerror now) reply = LegalTake s id cred Any size noerror reply
+Legal s (Take id cred selector size noerror now) reply = LegalTake s id cred selector size noerror reply
 -- these calls are not there yet
-Legal s (Take id cred (Exactly mtype) size noerror now) reply = ⊥
-Legal s (Take id cred (UpTo bound) size noerror now) reply = ⊥
 Legal s (Probe id cred flags) reply = ⊥
 Legal s (ReadStat id cred) reply = ⊥
 Legal s (Set id cred to now) reply = ⊥

@@ -1,7 +1,6 @@
 -- The calls that are there so far, and that such a call has exactly one legal reply after each
 -- history.
 use Rattle.std.specs.Prelude.{◌≡◌, ⊤}
-use Rattle.sysv_model.specs.Selector.{Any}
 use Rattle.sysv_model.specs.History.{Call, Install, Look, Place, Take, Reply, History}
 use Rattle.sysv_queue.specs.LegalReply.{IsLegalReply}
 
@@ -9,7 +8,7 @@ abbrev pub IsThere : Call → Type 0
 IsThere (Install id key cred mode now) = ⊤
 IsThere (Look id cred size) = ⊤
 IsThere (Place id cred mtype bytes now) = ⊤
-IsThere (Take id cred Any size noerror now) = ⊤
+IsThere (Take id cred selector size noerror now) = ⊤
 IsThere call = ⊥
 
 abbrev pub SomeReplyIsLegal : Type 0

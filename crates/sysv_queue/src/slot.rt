@@ -1,10 +1,11 @@
 ghost use Rattle.std.specs.Prelude.{false, ◌≡◌, ◌+◌, ◌^◌, ◌<◌, ◌≤◌, ◌↔◌, [], ◌∷◌, ◌++◌, length, take, slice_get, IfOk, IfErr, Some, IsSome, IsTrue, remove, option_map};
 ghost use Rattle.sysv_model.specs.Message.{Message};
-ghost use Rattle.sysv_model.specs.Selector.{Any};
 ghost use Rattle.sysv_model.specs.History.{Install, Place, Take, Installed, Taken};
 ghost use Rattle.sysv_model.specs.History.{Look as LookCall};
 ghost use Rattle.sysv_model.specs.Live.{HasId, sent_to, received_from};
+ghost use Rattle.sysv_rules.specs.Asked.{selector_of};
 ghost use Rattle.sysv_queue.specs.Fits.{bytes_of};
+ghost use Rattle.sysv_queue.specs.Granted.{IsGranted};
 ghost use Rattle.sysv_queue.specs.LegalReply.{HasRoom};
 ghost use Rattle.sysv_queue.specs.StandsFor.{StandsFor, MakesTurn};
 ghost use Rattle.sysv_queue.specs.Replies.{look_reply, unplaced_reply, place_reply, untaken_reply, Gives};
@@ -16,6 +17,8 @@ use sysv_model::body::Body;
 use sysv_model::cred::Cred;
 use sysv_model::limits::{QBYTES_AT_CREATION, QUEUE_MESSAGES};
 use sysv_model::no_memory::NoMemory;
+use sysv_rules::permission::{Want, may};
+use sysv_rules::selector::{Selector, select_plain};
 use thiserror::Error;
 
 /// What `look` finds.
@@ -98,6 +101,7 @@ struct Waiting {
 pub struct QueueSlot {
     live: Option<Attributes>,
     messages: Vec<Waiting>,
+    types: Vec<i64>,
     cbytes: u32,
     arrived: u64,
     freed: u64,
@@ -111,11 +115,13 @@ impl Model for QueueSlot {
 
     ghost use Rattle.sysv_queue.specs.Fits.{bytes_of};
     ghost use Rattle.sysv_queue.specs.Kept.{messages_of};
+    ghost use Rattle.sysv_queue.specs.Named.{types_of};
 
     ghost view = { λ s. record { live = s.live; messages = messages_of s.messages.items; arrived = s.arrived; freed = s.freed } };
 
-    ghost invariant = { λ s. (vec_len s.messages ≤ 256) × (256 ≤ vec_capacity s.messages)
-        × (s.cbytes ≡ bytes_of (messages_of s.messages.items)) };
+    // The types stand in a list of their own, where a selection reads them as they lie.
+    ghost invariant = { λ s. (vec_len s.messages ≤ 256) × (256 ≤ vec_capacity s.messages) × (256 ≤ vec_capacity s.types)
+        × (s.types.items ≡ types_of (messages_of s.messages.items)) × (s.cbytes ≡ bytes_of (messages_of s.messages.items)) };
 }
 
 impl QueueSlot {
@@ -124,9 +130,11 @@ impl QueueSlot {
         ensures { IfOk result (λ slot. StandsFor [] slot) }
     {
         let messages = Vec::with_capacity(alloc, QUEUE_MESSAGES).map_err(|_| NoMemory)?;
+        let types = Vec::with_capacity(alloc, QUEUE_MESSAGES).map_err(|_| NoMemory)?;
         Ok(QueueSlot {
             live: None,
             messages,
+            types,
             cbytes: 0,
             arrived: 0,
             freed: 0,
@@ -178,6 +186,9 @@ impl QueueSlot {
         if !self.is_live(id) {
             return Look::Gone;
         }
+        if !self.permits(cred, Want::Write) {
+            return Look::Denied;
+        }
         if self.fits(size) {
             Look::Fits
         } else {
@@ -191,6 +202,16 @@ impl QueueSlot {
     {
         match &self.live {
             Some(queue) => queue.id == id,
+            None => false,
+        }
+    }
+
+    /// Whether a queue lives, and the caller may do what it wants with it.
+    fn permits(&self, cred: Cred, want: Want) -> bool
+        ensures { IsTrue result ↔ IsGranted want cred self.now.live }
+    {
+        match &self.live {
+            Some(queue) => may(cred, queue.perm, want),
             None => false,
         }
     }
@@ -225,6 +246,7 @@ impl QueueSlot {
     {
         let number = self.arrived;
         self.cbytes += body.len() as u32;
+        self.types.push(mtype).unwrap();
         self.messages
             .push(Waiting {
                 number,
@@ -260,6 +282,7 @@ impl QueueSlot {
             mtype,
             body,
         } = self.messages.remove(place);
+        self.types.remove(place);
         self.cbytes -= body.len() as u32;
         self.freed += 1;
         self.live = self.live.map(|queue| Attributes {
@@ -310,14 +333,15 @@ impl QueueSlot {
         }
     }
 
-    /// Takes the first message into `out` at the moment `now` in seconds: its text, or with
+    /// Takes the message that `sel` names into `out` at the moment `now` in seconds: its text, or with
     /// `noerror` the first `size` bytes of a longer one, whose rest is lost (POSIX.1-2017,
     /// `msgrcv`). A refusal, the first cause of `TakeRefused` that stands, leaves the slot and `out`
-    /// as they were. The freed count has to be below 2^63.
+    /// as they were. It takes no memory. The freed count has to be below 2^63.
     pub fn take(
         &mut self,
         id: i32,
         cred: Cred,
+        sel: Selector,
         size: u32,
         noerror: bool,
         now: u64,
@@ -325,22 +349,25 @@ impl QueueSlot {
     ) -> Result<Delivery, TakeRefused>
         requires { self.old.freed < 2 ^ 63 }
         ensures taken { IfOk result (λ given. (m : Message) × Gives given m size out.new
-            × MakesTurn self.old (Take id cred Any size noerror now) (Taken m) self.new) }
-        ensures refused { IfErr result (λ why. MakesTurn self.old (Take id cred Any size noerror now) (untaken_reply why) self.new
+            × MakesTurn self.old (Take id cred (selector_of sel) size noerror now) (Taken m) self.new) }
+        ensures refused { IfErr result (λ why. MakesTurn self.old (Take id cred (selector_of sel) size noerror now) (untaken_reply why) self.new
             × (self.new ≡ self.old) × (out.new ≡ out.old)) }
     {
         if !self.is_live(id) {
             return Err(TakeRefused::Gone);
         }
-        if self.messages.is_empty() {
+        if !self.permits(cred, Want::Read) {
+            return Err(TakeRefused::Denied);
+        }
+        let Some(place) = select_plain(sel, &self.types) else {
             return Err(TakeRefused::NoMatch {
                 arrived: self.arrived,
             });
-        }
-        if self.messages[0].body.len() > size as usize && !noerror {
+        };
+        if self.messages[place].body.len() > size as usize && !noerror {
             return Err(TakeRefused::TooLong);
         }
-        Ok(self.release(0, cred, size, now, out))
+        Ok(self.release(place, cred, size, now, out))
     }
 
     /// The arrived count and the freed count, each of which only rises.
@@ -443,7 +470,7 @@ mod tests {
     ) -> Result<Delivery, TakeRefused> {
         let (_, freed) = slot.counts();
         assert!(rt; freed < 1 << 63);
-        slot.take(0, RECEIVER, size, noerror, 9, out)
+        slot.take(0, RECEIVER, Selector::Any, size, noerror, 9, out)
     }
 
     /// What a receive of this text from the sender gives.
