@@ -5,16 +5,5 @@ pub mod Answering
 pub mod Telling
 pub mod Addressing
 pub mod Runs
-pub mod Going
-pub mod Scripting
-pub mod ScriptEnds
-pub mod Numerals
-pub mod SignedLemmas
-pub mod LineLemmas
-pub mod FaultLemmas
-pub mod StreamLemmas
-pub mod Parsing
 pub mod OneRun
-pub mod OneLine
 pub mod WorkedRun
-pub mod OneText

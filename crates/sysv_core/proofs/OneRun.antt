@@ -10,7 +10,7 @@ use Rattle.sysv_core.specs.declared.event.Stepped.{Stepped}
 use Rattle.sysv_core.specs.Turn.{turn_call, after_turn}
 use Rattle.sysv_core.specs.World.{World, Doing, Begins, Turns, StartsAt, StepsAt, Makes, Steps, Presets, actor_at, with_actor, in_phase}
 use Rattle.sysv_core.specs.Run.{Happening, Preset, Happens, Given, Goes, Leads, call_of, given_in}
-use Rattle.sysv_core.specs.OneRun.{OneRun}
+use Rattle.sysv_core.specs.OneRun.{OneStep, OnePreset, OneRun}
 
 -- the same result, and the same world
 abbrev Same : Stepped → Stepped → World → World → Type 0
@@ -75,6 +75,12 @@ module _ (one : NoTwoRepliesAreLegal) where
       let onward : Leads h.0 list k.2 other = subst (λ mid. Leads mid list k.2 other) (sym here.1) k.4 in
       let rest = leads_once list h.0 after other h.2 k.2 h.4 onward in
       (h.5 ∙ (ap (λ gs. gs ++ h.2) here.0 ∙ (ap (λ gs. k.1 ++ gs) rest.0 ∙ sym k.5)), rest.1)
+
+pub one_step : NoTwoRepliesAreLegal → OneStep
+one_step one = λ w after other event result given h k. steps_once one w event result given after other h k
+
+pub one_preset : OnePreset
+one_preset = λ w after other made h k. presets_once w made made after other h k
 
 pub one_run : NoTwoRepliesAreLegal → OneRun
 one_run one = λ w after other list given told h k. leads_once one list w after other given told h k

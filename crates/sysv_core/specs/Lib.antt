@@ -18,17 +18,5 @@ pub mod Kept
 pub mod Run
 pub mod AnswerLaw
 pub mod Headline
-pub mod Words
-pub mod FlagNames
-pub mod Heads
-pub mod Streams
-pub mod Found
-pub mod Faults
-pub mod ScriptRun
-pub mod Lines
-pub mod SaidBy
-pub mod ScriptText
-pub mod ScriptSofar
 pub mod OneRun
 pub mod WorkedRun
-pub mod OneText

@@ -1,8 +1,19 @@
--- A list of happenings leads from a world to one world at most, with one list of answers: what a
--- world does is decided by what happens in it.
-use Rattle.std.specs.Prelude.{◌≡◌, List}
-use Rattle.sysv_core.specs.World.{World}
+-- An event in a world, and a preset, leads to one world at most, and gives one result. So a list of
+-- happenings leads from a world to one world at most, with one list of answers: what a world does is
+-- decided by what happens in it.
+use Rattle.std.specs.Prelude.{◌≡◌, Bool, List}
+use Rattle.sysv_core.specs.declared.event.Event.{Event}
+use Rattle.sysv_core.specs.declared.event.Stepped.{Stepped}
+use Rattle.sysv_core.specs.World.{World, Steps, Presets}
 use Rattle.sysv_core.specs.Run.{Happening, Given, Leads}
+
+abbrev pub OneStep : Type 0
+OneStep = (w after other : World) (event : Event) (result given : Stepped) →
+    Steps w event result after → Steps w event given other → (result ≡ given) × (after ≡ other)
+
+-- two presets that agree on whether they make the queue
+abbrev pub OnePreset : Type 0
+OnePreset = (w after other : World) (made : Bool) → Presets w made after → Presets w made other → after ≡ other
 
 abbrev pub OneRun : Type 0
 OneRun = (w after other : World) (list : List Happening) (given told : List Given) →

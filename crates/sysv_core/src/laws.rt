@@ -1,22 +1,21 @@
 //! Laws over the definitions alone.
 
-ghost use Rattle.sysv_core.specs.OneRun.{OneRun};
-ghost use Rattle.sysv_core.specs.OneText.{OneText};
+ghost use Rattle.sysv_core.specs.OneRun.{OneStep, OnePreset, OneRun};
 ghost use Rattle.sysv_core.specs.WorkedRun.{WorkedRun, NoWrongReply, ExactFit};
 
 use sysv_queue::laws::one_legal_reply;
 
-/// A list of events leads to one world at most, with one list of answers.
-pub fn one_run()
-    ensures { OneRun }
+/// An event, and a preset, makes one world at most of a world, and gives one result.
+pub fn one_step()
+    ensures step { OneStep }
+    ensures preset { OnePreset }
 {
     one_legal_reply();
 }
 
-/// From a world a text prints one thing only and ends in one way, and what is printed where it is
-/// stopped before a line is a front of that.
-pub fn one_text()
-    ensures { OneText }
+/// A list of events leads to one world at most, with one list of answers.
+pub fn one_run()
+    ensures { OneRun }
 {
     one_legal_reply();
 }

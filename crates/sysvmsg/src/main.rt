@@ -7,7 +7,7 @@ use std::alloc::{AllocError, Global};
 use std::convert::AsStr;
 use std::env;
 use std::process::ExitCode;
-use sysv_core::script::run_script;
+use sysv_script::script::run_script;
 
 /// The status where a task was refused or ended by a fault.
 const FAULT: u8 = 1;

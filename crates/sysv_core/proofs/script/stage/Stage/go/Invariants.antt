@@ -1,6 +1,0 @@
-use Rattle.std.proofs.Common.{◌-◌}
-use Rattle.sysv_core.proofs.Going.{GoingOn}
-use Rattle.sysv_core.proofs.script.stage.Stage.go.Given as goal
-
-abbrev pub invariant-loop : goal.invariant-loop
-invariant-loop l = GoingOn l.fn.self.world l.self.world l.fn.actor l.fn.call l.stepped (16 - l.counter)

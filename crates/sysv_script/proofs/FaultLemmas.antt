@@ -1,0 +1,47 @@
+-- What a fault that is passed on leaves.
+use Rattle.std.proofs.Common.{◌≡◌, ℕ, List, ◌++◌, Result, Ok, Err, Option, ap, sym, subst, ◌∙◌, append_assoc}
+use Rattle.std.specs.Prelude.{IfErr, IsErrAnd}
+use Rattle.std.specs.Io.KnownBytes.{Appends}
+use Rattle.std.proofs.KnownBytes.{Appends-trans}
+use Rattle.sysv_script.specs.declared.script.ScriptFault.{ScriptFault}
+use Rattle.sysv_script.specs.declared.script.ScriptFault.TheVariants.{Line, Read, Write, NoMemory, Bound}
+use Rattle.sysv_script.specs.Faults.{Grows, IsStreamFault, LeavesBadLine, TellsBadLine, bad_line_text}
+
+-- a fault of a stream says nothing of a line
+LeavesBadLine-stream : (fault : ScriptFault) (composed : List ℕ) → IsStreamFault fault → LeavesBadLine fault composed
+LeavesBadLine-stream Read composed h = tt
+LeavesBadLine-stream Write composed h = tt
+LeavesBadLine-stream (Line n) composed h = absurd h
+LeavesBadLine-stream NoMemory composed h = absurd h
+LeavesBadLine-stream Bound composed h = absurd h
+
+pub IfErr-stream : {T : Type 0} (r : Result T ScriptFault) (fault : ScriptFault) (composed : List ℕ) → IsErrAnd r (λ y. y ≡ fault) → IsStreamFault fault → IfErr r (λ f. LeavesBadLine f composed)
+IfErr-stream (Ok x) fault composed e h = tt
+IfErr-stream (Err y) fault composed e h = LeavesBadLine-stream y composed (subst IsStreamFault (sym e) h)
+
+TellsBadLine-stream : (fault : ScriptFault) (old new : Option (List ℕ)) → IsStreamFault fault → TellsBadLine fault old new
+TellsBadLine-stream Read old new h = tt
+TellsBadLine-stream Write old new h = tt
+TellsBadLine-stream (Line n) old new h = absurd h
+TellsBadLine-stream NoMemory old new h = absurd h
+TellsBadLine-stream Bound old new h = absurd h
+
+pub IfErr-tells-stream : {T : Type 0} (r : Result T ScriptFault) (fault : ScriptFault) (old new : Option (List ℕ)) → IsErrAnd r (λ y. y ≡ fault) → IsStreamFault fault → IfErr r (λ f. TellsBadLine f old new)
+IfErr-tells-stream (Ok x) fault old new e h = tt
+IfErr-tells-stream (Err y) fault old new e h = TellsBadLine-stream y old new (subst IsStreamFault (sym e) h)
+
+-- what was composed is handed out last
+TellsBadLine-handed : (fault : ScriptFault) (a b c : Option (List ℕ)) (composed : List ℕ) → Grows a b → Appends b c composed → LeavesBadLine fault composed → TellsBadLine fault a c
+TellsBadLine-handed (Line n) a b c composed grown all left =
+    let last = left.2 in
+    let joined : grown.0 ++ composed ≡ (grown.0 ++ last.0) ++ bad_line_text n =
+    ap (λ l. grown.0 ++ l) last.1 ∙ sym (append_assoc grown.0 last.0 (bad_line_text n)) in
+    (left.0, left.1, (grown.0 ++ last.0, subst (Appends a c) joined (Appends-trans a b c grown.0 composed grown.1 all)))
+TellsBadLine-handed Read a b c composed grown all left = tt
+TellsBadLine-handed Write a b c composed grown all left = tt
+TellsBadLine-handed NoMemory a b c composed grown all left = tt
+TellsBadLine-handed Bound a b c composed grown all left = tt
+
+pub IfErr-handed : {T : Type 0} (r : Result T ScriptFault) (a b c : Option (List ℕ)) (composed : List ℕ) → Grows a b → Appends b c composed → IfErr r (λ f. LeavesBadLine f composed) → IfErr r (λ f. TellsBadLine f a c)
+IfErr-handed (Ok x) a b c composed grown all left = tt
+IfErr-handed (Err y) a b c composed grown all left = TellsBadLine-handed y a b c composed grown all left

@@ -1,0 +1,11 @@
+pub mod Going
+pub mod Scripting
+pub mod ScriptEnds
+pub mod Numerals
+pub mod SignedLemmas
+pub mod LineLemmas
+pub mod FaultLemmas
+pub mod StreamLemmas
+pub mod Parsing
+pub mod OneLine
+pub mod OneText

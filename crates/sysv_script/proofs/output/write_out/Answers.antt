@@ -1,0 +1,20 @@
+use Rattle.std.proofs.Common.{◌≡◌, ◌+◌, ◌-◌, ◌≤◌, ◌++◌, ℕ, List, length, take, drop, sym, ap, subst, ◌∙◌, arith, length-take}
+use lib.Seq.{take-add, take-take}
+use Rattle.std.specs.Io.KnownBytes.{Appends}
+use Rattle.std.proofs.KnownBytes.{Appends-trans}
+use Rattle.sysv_script.proofs.output.write_out.Goals as goal
+
+-- the front that was written, and then a front of what is left
+fronts : (bytes : List ℕ) (written count : ℕ) → count ≤ length bytes - written
+    → take written bytes ++ take count (take (length bytes - written) (drop written bytes)) ≡ take (written + count) bytes
+fronts bytes written count fits =
+    ap (λ more. take written bytes ++ more) (take-take count (length bytes - written) (drop written bytes) fits)
+    ∙ sym (take-add written count bytes)
+
+pub loop-written-preserved : goal.loop-written-preserved
+loop-written-preserved g c =
+    let bytes = c.args.bytes.now in
+    let written = c.loop-written.written in
+    let bound = c.in-Ok.ensures.bound in
+    let fits : c.in-Ok.count ≤ length bytes - written = omega (arith, length-take (length bytes - written) (drop written bytes)) in
+    (omega arith, subst (Appends _ _) (fronts bytes written c.in-Ok.count fits) (Appends-trans _ _ _ _ _ c.loop-written.invariant.1 c.in-Ok.ensures.bytes))

@@ -1,0 +1,64 @@
+-- How a script ends (this project's script language): the last line that is printed for a bad line
+-- says its number, counted from 1, and a script has at most 1,000,000 lines.
+use Rattle.std.specs.Prelude.{◌≡◌, ◌≤◌, ⊤, ℕ, List, [], ◌∷◌, ◌++◌, take, Option}
+use Rattle.std.specs.Io.KnownBytes.{Appends}
+use Rattle.sysv_script.specs.Heads.{head_text}
+use Rattle.sysv_script.specs.declared.head.Head.TheVariants.{Bad}
+use Rattle.sysv_script.specs.declared.script.ScriptFault.{ScriptFault}
+use Rattle.sysv_script.specs.declared.script.ScriptFault.TheVariants.{Line, Read, Write, NoMemory, Bound}
+
+-- the line that says that this line is bad
+abbrev pub bad_line_text : ℕ → List ℕ
+bad_line_text number = head_text (Bad number) ++ 10 ∷ []
+
+-- the text ends with the line that says that this line is bad
+abbrev pub EndsInBadLine : ℕ → List ℕ → Type 0
+EndsInBadLine number text = (answers : List ℕ) × (text ≡ answers ++ bad_line_text number)
+
+-- a front of the text
+abbrev pub IsFrontOf : List ℕ → List ℕ → Type 0
+IsFrontOf front text = (count : ℕ) × (front ≡ take count text)
+
+-- the reader or the writer has failed
+abbrev pub IsStreamFault : ScriptFault → Type 0
+IsStreamFault Read = ⊤
+IsStreamFault Write = ⊤
+IsStreamFault (Line n) = ⊥
+IsStreamFault NoMemory = ⊥
+IsStreamFault Bound = ⊥
+
+-- Where this line ends the script it is bad, which is composed behind what was; or memory was refused.
+abbrev pub EndsAtLine : ScriptFault → ℕ → (old new : List ℕ) → Type 0
+EndsAtLine (Line n) number old new = (n ≡ number) × (new ≡ old ++ bad_line_text number)
+EndsAtLine NoMemory number old new = IsFrontOf new old
+EndsAtLine Read number old new = ⊥
+EndsAtLine Write number old new = ⊥
+EndsAtLine Bound number old new = ⊥
+
+-- the fault is that of a bad line
+abbrev pub IsLineFault : ScriptFault → Type 0
+IsLineFault (Line n) = ⊤
+IsLineFault NoMemory = ⊥
+IsLineFault Read = ⊥
+IsLineFault Write = ⊥
+IsLineFault Bound = ⊥
+
+-- A bad line is one of the first million, and what is composed says so last.
+abbrev pub LeavesBadLine : ScriptFault → List ℕ → Type 0
+LeavesBadLine (Line n) composed = (1 ≤ n) × (n ≤ 1000000) × EndsInBadLine n composed
+LeavesBadLine NoMemory composed = ⊤
+LeavesBadLine Read composed = ⊤
+LeavesBadLine Write composed = ⊤
+LeavesBadLine Bound composed = ⊤
+
+-- the writer has taken some bytes more
+abbrev pub Grows : Option (List ℕ) → Option (List ℕ) → Type 0
+Grows old new = (bytes : List ℕ) × Appends old new bytes
+
+-- A bad line is one of the first million, and what the writer took last says so.
+abbrev pub TellsBadLine : ScriptFault → Option (List ℕ) → Option (List ℕ) → Type 0
+TellsBadLine (Line n) old new = (1 ≤ n) × (n ≤ 1000000) × ((answers : List ℕ) × Appends old new (answers ++ bad_line_text n))
+TellsBadLine NoMemory old new = ⊤
+TellsBadLine Read old new = ⊤
+TellsBadLine Write old new = ⊤
+TellsBadLine Bound old new = ⊤

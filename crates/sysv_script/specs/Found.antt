@@ -1,0 +1,33 @@
+-- Where a line of a script stands among the bytes that were read (this project's script language:
+-- lines end with LF, and the last may lack it; a line has at most 9,000 bytes).
+use Rattle.std.specs.Prelude.{◌≡◌, ◌<◌, ◌⊎◌, ℕ, List, [], Option, Some, None, length, take, slice_get, true, false, Contains}
+use Rattle.std.specs.Io.KnownBytes.{IsAtEnd}
+use Rattle.sysv_script.specs.declared.script.Found.{Found}
+
+abbrev pub HasNoEnd : List ℕ → Type 0
+HasNoEnd text = Contains text 10 → ⊥
+
+-- The line is the front of the text up to its first LF.
+pub record IsFirstLine (len : ℕ) (text : List ℕ) : Type 0 where
+  pub ends : slice_get text len ≡ Some 10
+  pub one_line : HasNoEnd (take len text)
+
+-- The line is all of the text, which is not empty: no LF stands in it, and it is too long, or nothing
+-- comes behind it.
+pub record IsLastLine (len : ℕ) (text : List ℕ) (left : Option (List ℕ)) : Type 0 where
+  pub whole : len ≡ length text
+  pub filled : 0 < len
+  pub one_line : HasNoEnd text
+  pub last : 9000 < len ⊎ IsAtEnd left
+
+-- The found line is the next of the bytes that wait and those that the reader has left.
+abbrev pub IsNextLine : Found → List ℕ → Option (List ℕ) → Type 0
+IsNextLine found waiting left = (found.is_last ≡ false → IsFirstLine found.len waiting) × (found.is_last ≡ true → IsLastLine found.len waiting left)
+
+-- No line is left.
+abbrev pub HasNoLine : List ℕ → Option (List ℕ) → Type 0
+HasNoLine waiting left = (waiting ≡ []) × IsAtEnd left
+
+abbrev pub FindsLine : Option Found → List ℕ → Option (List ℕ) → Type 0
+FindsLine None waiting left = HasNoLine waiting left
+FindsLine (Some found) waiting left = IsNextLine found waiting left

@@ -1,0 +1,14 @@
+pub use Rattle.sysv_core.specs.World
+pub use Rattle.sysv_core.specs.Run
+pub mod Words
+pub mod FlagNames
+pub mod Heads
+pub mod Streams
+pub mod Found
+pub mod Faults
+pub mod ScriptRun
+pub mod Lines
+pub mod SaidBy
+pub mod ScriptText
+pub mod ScriptSofar
+pub mod OneText

@@ -1,0 +1,68 @@
+-- What the text of a script prints (this project's script language): its lines are run one by one,
+-- each in the world that the lines before it left, and what they print stands in their order.
+use Rattle.std.specs.Prelude.{◌≡◌, ◌<◌, ◌≤◌, ◌+◌, ◌⊎◌, ℕ, true, false, List, [], ◌++◌, Option, Result, Ok, Err, ⊤, length}
+use Rattle.std.specs.Io.KnownBytes.{Appends}
+use Rattle.sysv_core.specs.World.{World, opening, Presets}
+use Rattle.sysv_script.specs.ScriptRun.{Said, MakesPreset, LineRuns}
+use Rattle.sysv_script.specs.Lines.{Says}
+use Rattle.sysv_script.specs.Words.{SplitsAt}
+use Rattle.sysv_script.specs.Found.{HasNoEnd}
+use Rattle.sysv_script.specs.Streams.{AppendsPart}
+use Rattle.sysv_script.specs.Faults.{bad_line_text}
+use Rattle.sysv_script.specs.declared.script.ScriptFault.{ScriptFault}
+use Rattle.sysv_script.specs.declared.script.ScriptFault.TheVariants.{Line, Read, Write, NoMemory, Bound}
+
+-- how the run of a text ends: with the text, at a bad line, behind the millionth line, or stopped
+-- before a line, wherever that is
+pub data Ending : Type 0 where
+  Whole : Ending
+  BadLine : (number : ℕ) → Ending
+  TooMany : Ending
+  Stopped : Ending
+
+-- the first line of a text, which ends with LF or is all of the text, and what stands behind it
+abbrev pub BeginsWith : List ℕ → List ℕ → List ℕ → Type 0
+BeginsWith text line rest = SplitsAt 10 text line rest ⊎ (HasNoEnd text × (0 < length text) × (line ≡ text) × (rest ≡ []))
+
+-- a line that says something does it, and prints what comes of it
+abbrev pub LineDoes : World → List ℕ → List ℕ → World → Type 0
+LineDoes w line out after = (said : Said) × Says line said × LineRuns w said true out after
+
+-- a line is bad where it says nothing, or a preset in a world that has a live queue
+abbrev pub IsBad : World → List ℕ → Type 0
+IsBad w line = ((said : Said) → Says line said → ⊥) ⊎ (Says line MakesPreset × Presets w false w)
+
+-- From this world, and from the line of this number on, the text prints this and ends so.
+pub data Prints : World → ℕ → List ℕ → List ℕ → Ending → Type 0 where
+  Ends : (w : World) (n : ℕ) → Prints w n [] [] Whole
+  Stops : (w : World) (n : ℕ) (text : List ℕ) → Prints w n text [] Stopped
+  Exceeds : (w : World) (n : ℕ) (text : List ℕ) → 1000000 < n → 0 < length text → Prints w n text [] TooMany
+  Fails : (w : World) (n : ℕ) (text line rest : List ℕ) → n ≤ 1000000 → BeginsWith text line rest → IsBad w line → Prints w n text (bad_line_text n) (BadLine n)
+  -- a line is bad as soon as it is too long, whatever follows
+  Overruns : (w : World) (n : ℕ) (front rest : List ℕ) → n ≤ 1000000 → 9000 < length front → HasNoEnd front → Prints w n (front ++ rest) (bad_line_text n) (BadLine n)
+  Goes : (w : World) (n : ℕ) (text line rest out : List ℕ) (after : World) (more : List ℕ) (ending : Ending) →
+      n ≤ 1000000 → BeginsWith text line rest → LineDoes w line out after → Prints after (n + 1) rest more ending → Prints w n text (out ++ more) ending
+
+-- what a script prints: its text in a world of 16 actors, from line 1 on
+abbrev pub ScriptPrints : List ℕ → List ℕ → Ending → Type 0
+ScriptPrints text out ending = Prints (opening 16) 1 text out ending
+
+-- Ends so, and the writer took all that the script prints.
+abbrev pub WritesAll : List ℕ → Ending → Option (List ℕ) → Option (List ℕ) → Type 0
+WritesAll text ending old new = (out : List ℕ) × ScriptPrints text out ending × Appends old new out
+
+-- The writer took a front of what the script prints.
+abbrev pub WritesFront : List ℕ → Option (List ℕ) → Option (List ℕ) → Type 0
+WritesFront text old new = (ending : Ending) × (out : List ℕ) × ScriptPrints text out ending × AppendsPart old new out
+
+-- what the writer took, by how the run of the text ended
+abbrev pub WritesAtFault : ScriptFault → List ℕ → Option (List ℕ) → Option (List ℕ) → Type 0
+WritesAtFault (Line n) text old new = WritesAll text (BadLine n) old new
+WritesAtFault Bound text old new = WritesAll text TooMany old new
+WritesAtFault Read text old new = WritesFront text old new
+WritesAtFault Write text old new = WritesFront text old new
+WritesAtFault NoMemory text old new = WritesFront text old new
+
+abbrev pub WritesScript : Result ⊤ ScriptFault → List ℕ → Option (List ℕ) → Option (List ℕ) → Type 0
+WritesScript (Ok done) text old new = WritesAll text Whole old new
+WritesScript (Err fault) text old new = WritesAtFault fault text old new

@@ -1,0 +1,13 @@
+//! The script language: a text of calls, one a line, that a world of queues and actors runs line by
+//! line. `specs/` has the meaning of a text.
+#![tactic(auto)]
+
+mod flags;
+mod head;
+mod input;
+pub mod laws;
+mod line;
+mod output;
+pub mod script;
+mod stage;
+mod word;

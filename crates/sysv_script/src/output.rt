@@ -1,0 +1,138 @@
+ghost use Rattle.std.specs.Prelude.{◌≡◌, [], ◌∷◌, ◌++◌, IfOk, IfErr, OnOk, OnErr};
+ghost use Rattle.std.specs.Io.KnownBytes.{Appends};
+ghost use Rattle.sysv_script.specs.Heads.{head_text};
+ghost use Rattle.sysv_script.specs.Streams.{AppendsPart, HandsOn};
+
+use crate::script::ScriptFault;
+use crate::head::Head;
+use std::alloc::Global;
+use std::io::Write;
+use std::marker::Model;
+use sysv_model::body::Body;
+use sysv_model::no_memory::NoMemory;
+
+/// The bytes for which the output has room.
+const OUTPUT_ROOM: usize = 65536;
+
+/// The longest line: a head of at most 64 bytes, a text and its LF.
+const LONGEST: usize = 8400;
+
+/// Lines that are composed and not yet handed out.
+#[derive(Drop)]
+pub(crate) struct Output {
+    bytes: Vec<u8>,
+}
+
+impl Model for Output {
+    ghost use Rattle.std.specs.Prelude.{List, ℕ, ⊤};
+
+    ghost Value = { List ℕ };
+
+    ghost view = { λ output. output.bytes.items };
+
+    ghost invariant = { λ _. ⊤ };
+}
+
+impl Output {
+    /// Nothing composed, with room for 65,536 bytes.
+    pub(crate) fn open(alloc: Global) -> Result<Output, NoMemory>
+        ensures { IfOk result (λ output. output ≡ []) }
+    {
+        let bytes = Vec::with_capacity(alloc, OUTPUT_ROOM).map_err(|_| NoMemory)?;
+        Ok(Output { bytes })
+    }
+
+    /// Composes a line that is a head alone. Where memory is refused, nothing is left composed.
+    pub(crate) fn tell(&mut self, head: Head) -> Result<(), NoMemory>
+        ensures ok { OnOk result (self.new ≡ self.old ++ (head_text head ++ 10 ∷ [])) }
+        ensures err { OnErr result (self.new ≡ []) }
+    {
+        match writeln!(self.bytes, "{head}") {
+            Ok(()) => Ok(()),
+            Err(_) => {
+                self.bytes.clear();
+                Err(NoMemory)
+            }
+        }
+    }
+
+    /// Composes a line of a head and the bytes of a text. Where memory is refused, nothing is left
+    /// composed.
+    pub(crate) fn tell_text(&mut self, head: Head, text: &Body) -> Result<(), NoMemory>
+        ensures ok { OnOk result (self.new ≡ self.old ++ (head_text head ++ (text.now ++ 10 ∷ []))) }
+        ensures err { OnErr result (self.new ≡ []) }
+    {
+        match append_line(&mut self.bytes, head, text) {
+            Ok(()) => Ok(()),
+            Err(NoMemory) => {
+                self.bytes.clear();
+                Err(NoMemory)
+            }
+        }
+    }
+
+    /// Hands out what was composed where there might be no room for one more line. Where that fails
+    /// nothing is left composed.
+    pub(crate) fn make_room<W: Write>(&mut self, writer: &mut W) -> Result<(), ScriptFault>
+        ensures ok { OnOk result (HandsOn (W.contents writer.old) self.old (W.contents writer.new) self.new) }
+        ensures none_left { OnErr result (self.new ≡ []) }
+        ensures err { OnErr result (AppendsPart (W.contents writer.old) (W.contents writer.new) self.old) }
+        ensures fault { IfErr result (λ fault. fault ≡ ScriptFault.Write) }
+    {
+        if self.bytes.len() > OUTPUT_ROOM - LONGEST {
+            self.hand_out(writer)?;
+        }
+        Ok(())
+    }
+
+    /// Writes all that was composed, in as many writes as the writer wants. Nothing is left composed,
+    /// also where that fails.
+    pub(crate) fn hand_out<W: Write>(&mut self, writer: &mut W) -> Result<(), ScriptFault>
+        ensures ok { OnOk result (Appends (W.contents writer.old) (W.contents writer.new) self.old) }
+        ensures none_left { self.new ≡ [] }
+        ensures err { OnErr result (AppendsPart (W.contents writer.old) (W.contents writer.new) self.old) }
+        ensures fault { IfErr result (λ fault. fault ≡ ScriptFault.Write) }
+    {
+        let written = write_out(&self.bytes, writer);
+        self.bytes.clear();
+        written
+    }
+}
+
+/// Appends a head, a text and an LF.
+fn append_line(bytes: &mut Vec<u8>, head: Head, text: &Body) -> Result<(), NoMemory>
+    ensures { OnOk result (bytes.new.items ≡ bytes.old.items ++ (head_text head ++ (text.now ++ 10 ∷ []))) }
+{
+    write!(bytes, "{head}").map_err(|_| NoMemory)?;
+    append_text(bytes, text)?;
+    bytes.push(b'\n').map_err(|_| NoMemory)
+}
+
+/// Appends the bytes of a text.
+fn append_text(bytes: &mut Vec<u8>, text: &Body) -> Result<(), NoMemory>
+    ensures { OnOk result (bytes.new.items ≡ bytes.old.items ++ text.now) }
+{
+    for i in 0..text.len() {
+        if bytes.push(text.byte(i)).is_err() {
+            return Err(NoMemory);
+        }
+    }
+    Ok(())
+}
+
+/// Writes the bytes, in as many writes as the writer wants. A write that fails or takes nothing
+/// ends it, and the writer has taken a part of them.
+fn write_out<W: Write>(bytes: &[u8], writer: &mut W) -> Result<(), ScriptFault>
+    ensures ok { OnOk result (Appends (W.contents writer.old) (W.contents writer.new) bytes.now) }
+    ensures err { OnErr result (AppendsPart (W.contents writer.old) (W.contents writer.new) bytes.now) }
+    ensures fault { IfErr result (λ fault. fault ≡ ScriptFault.Write) }
+{
+    let mut written = 0;
+    while written < bytes.len() {
+        match writer.write(&bytes[written..]) {
+            Ok(0) | Err(_) => return Err(ScriptFault::Write),
+            Ok(count) => written += count,
+        }
+    }
+    Ok(())
+}
