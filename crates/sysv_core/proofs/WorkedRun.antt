@@ -6,6 +6,8 @@ use Rattle.sysv_model.specs.declared.errno.Errno.TheVariants.{ENOMSG}
 use Rattle.sysv_model.specs.Message.{Message}
 use Rattle.sysv_model.specs.Selector.{Any}
 use Rattle.sysv_model.specs.History.{Fits, Accepted, NoMatch, Taken}
+use Rattle.sysv_model.specs.Live.{live}
+use Rattle.sysv_queue.specs.Granted.{MayRead, MayWrite}
 use Rattle.sysv_queue.specs.Named.{IsNamed}
 use Rattle.sysv_queue.specs.LegalReply.{IsLegalReply}
 use Rattle.sysv_core.specs.declared.event.Stepped.TheVariants as stepped
@@ -19,43 +21,49 @@ use Rattle.sysv_core.specs.WorkedRun.{sender, receiver, hello, receive_up_to_100
 
 -- ---- the legal replies of the run
 
+-- the preset queue is the owner's to read and to write
+may_write : MayWrite sender (live (after_turns 1))
+may_write = inr (inl (inl refl, λ none. cc))
+
+may_read : MayRead sender (live (after_turns 1))
+may_read = inr (inl (inl refl, λ none. cc))
+
 -- any message is named at the first place
 first_is_named : (m : Message) (ms : List Message) → IsNamed Any (m ∷ ms) 0
-first_is_named m ms = (omega arith, λ earlier below. omega arith)
+first_is_named m ms = ((omega arith, tt), λ earlier below q. omega arith)
 
 none_is_named : (place : ℕ) → ¬ IsNamed Any [] place
-none_is_named place named = let below : place < 0 = named.0 in omega arith
+none_is_named place named = let below : place < 0 = named.0.0 in omega arith
 
 legal_none : IsLegalReply (after_turns 1) (take_by sender) (NoMatch 0)
-legal_none = (refl, tt, none_is_named, refl)
+legal_none = (refl, may_read, none_is_named, refl)
 
 legal_look : IsLegalReply (after_turns 2) (look_for 5) Fits
-legal_look = (refl, tt, (omega arith, omega arith))
+legal_look = (refl, may_write, (omega arith, omega arith))
 
 legal_place : IsLegalReply (after_turns 3) place_hello (Accepted 0)
-legal_place = (refl, tt, (omega arith, omega arith), refl)
+legal_place = (refl, may_write, (omega arith, omega arith), refl)
 
 legal_second_look : IsLegalReply (after_turns 4) (look_for 0) Fits
-legal_second_look = (refl, tt, (omega arith, omega arith))
+legal_second_look = (refl, may_write, (omega arith, omega arith))
 
 legal_second_place : IsLegalReply (after_turns 5) place_nothing (Accepted 1)
-legal_second_place = (refl, tt, (omega arith, omega arith), refl)
+legal_second_place = (refl, may_write, (omega arith, omega arith), refl)
 
 legal_take : IsLegalReply (after_turns 6) (take_by receiver) (Taken hello_message)
-legal_take = (refl, tt, (0, first_is_named hello_message (empty_message ∷ []), refl), inl (omega arith))
+legal_take = (refl, may_read, (0, first_is_named hello_message (empty_message ∷ []), refl), inl (omega arith))
 
 legal_second_take : IsLegalReply (after_turns 7) (take_by receiver) (Taken empty_message)
-legal_second_take = (refl, tt, (0, first_is_named empty_message [], refl), inl (omega arith))
+legal_second_take = (refl, may_read, (0, first_is_named empty_message [], refl), inl (omega arith))
 
 legal_third_take : IsLegalReply (after_turns 8) (take_by receiver) (NoMatch 2)
-legal_third_take = (refl, tt, none_is_named, refl)
+legal_third_take = (refl, may_read, none_is_named, refl)
 
 -- ---- no call of the run is refused at its start
 
 start_receive : ¬ IsRefused receive_up_to_100
 start_receive (inl h) = cc
-start_receive (inr (inl h)) = h refl
-start_receive (inr (inr h)) = omega (arith, ints)
+start_receive (inr h) = omega (arith, ints)
 
 start_hello : ¬ IsRefused send_hello
 start_hello (inl h) = omega (arith, ints)
@@ -84,7 +92,7 @@ abbrev place_of : List ℕ → ℤ → Phase
 place_of text mtype = AtPlace record { cred = sender; id = pos 0; mtype = mtype; bytes = text; seen = true }
 
 abbrev take_of : Cred → Phase
-take_of cred = AtTake record { cred = cred; id = pos 0; size = 100; seen = false }
+take_of cred = AtTake record { cred = cred; id = pos 0; selector = Any; size = 100; noerror = false; seen = false }
 
 -- ---- the happenings
 
@@ -157,7 +165,7 @@ worked_run =
 -- only the first place is named
 named_is_first : (ms : List Message) (place : ℕ) → IsNamed Any ms place → place ≡ 0
 named_is_first ms zero named = refl
-named_is_first ms (suc place) named = absurd (named.1 0 (omega arith))
+named_is_first ms (suc place) named = let within = named.0.0 in absurd (named.1 0 (omega arith) (omega arith, tt))
 
 -- a message that is named is the first one
 named_is : (m first : Message) (ms : List Message) (place : ℕ) → IsNamed Any (first ∷ ms) place → slice_get (first ∷ ms) place ≡ Some m → m ≡ first
@@ -199,10 +207,10 @@ pub exact_fit : ExactFit
 exact_fit first second h k = record {
   starts = λ refused. starts_first first h refused;
   longer_is_refused = λ text long. inr (inl (omega arith));
-  first_fits = (refl, tt, (omega arith, omega arith), refl);
-  second_looks = (refl, tt, (omega arith, omega arith));
-  second_fits = (refl, tt, (omega arith, omega arith), refl);
-  byte_is_too_much = λ text one. (refl, tt, λ room. let over : 0 + length first + length second + length text ≤ 16384 = room.0 in omega arith, refl);
+  first_fits = (refl, may_write, (omega arith, omega arith), refl);
+  second_looks = (refl, may_write, (omega arith, omega arith));
+  second_fits = (refl, may_write, (omega arith, omega arith), refl);
+  byte_is_too_much = λ text one. (refl, may_write, λ room. let over : 0 + length first + length second + length text ≤ 16384 = room.0 in omega arith, refl);
   byte_is_not_placed = λ text number one legal. let over : 0 + length first + length second + length text ≤ 16384 = legal.2.0 in omega arith;
-  nothing_fits = (refl, tt, (omega arith, omega arith), refl);
+  nothing_fits = (refl, may_write, (omega arith, omega arith), refl);
 }

@@ -1,10 +1,11 @@
 -- The start of a call: a call whose own arguments are refused answers EINVAL at once (POSIX.1-2017,
--- msgsnd and msgrcv, ERRORS; that MSG_EXCEPT, MSG_NOERROR and a type are not understood yet is this
--- profile's), and any other goes to its first step.
-use Rattle.std.specs.Prelude.{◌≡◌, ◌≢◌, ℕ, pos, ◌<◌, ◌<ℤ◌, ◌==◌, ◌⊎◌, ◌||◌, Bool, true, false, List, [], length, Option, Some, None}
+-- msgsnd and msgrcv, ERRORS; that MSG_EXCEPT is not understood is this profile's), and any other goes
+-- to its first step.
+use Rattle.std.specs.Prelude.{◌≡◌, ℕ, pos, ◌<◌, ◌<ℤ◌, ◌==◌, ◌⊎◌, Bool, true, false, List, [], length, Option, Some, None}
 use Rattle.std.specs.Int.RustNames.{bit_and}
 use Rattle.sysv_model.specs.declared.cred.Cred.{Cred}
 use Rattle.sysv_model.specs.declared.flags.Flags.{Flags}
+use Rattle.sysv_rules.specs.Asked.{selector_for}
 use Rattle.sysv_core.specs.declared.event.Call.{Call}
 use Rattle.sysv_core.specs.declared.event.Call.TheVariants.{Send, Receive}
 use Rattle.sysv_core.specs.Phase.{Phase, AtLook, AtTake}
@@ -13,15 +14,15 @@ use Rattle.sysv_core.specs.Phase.{Phase, AtLook, AtTake}
 abbrev pub has_flag : ℕ → Flags → Bool
 has_flag flag flags = bit_and flags.0 flag == flag
 
--- a type below 1, more than 8,192 bytes, a negative identifier; for a receive MSG_EXCEPT,
--- MSG_NOERROR, a type, a negative identifier
+-- a type below 1, more than 8,192 bytes, a negative identifier; for a receive MSG_EXCEPT, a negative
+-- identifier
 abbrev pub IsRefused : Call → Type 0
 IsRefused (Send id mtype flags body) = (mtype <ℤ pos 1) ⊎ (8192 < length body) ⊎ (id <ℤ pos 0)
-IsRefused (Receive id size mtype flags body) = (has_flag 8192 flags || has_flag 4096 flags ≡ true) ⊎ (mtype ≢ pos 0) ⊎ (id <ℤ pos 0)
+IsRefused (Receive id size mtype flags body) = (has_flag 8192 flags ≡ true) ⊎ (id <ℤ pos 0)
 
 abbrev pub begun : Cred → Call → Phase
 begun cred (Send id mtype flags body) = AtLook record { cred = cred; id = id; mtype = mtype; bytes = body; seen = false }
-begun cred (Receive id size mtype flags body) = AtTake record { cred = cred; id = id; size = size; seen = false }
+begun cred (Receive id size mtype flags body) = AtTake record { cred = cred; id = id; selector = selector_for mtype; size = size; noerror = has_flag 4096 flags; seen = false }
 
 -- a refused receive gives its body back empty
 abbrev pub body_back : Call → Option (List ℕ)

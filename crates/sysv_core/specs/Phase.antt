@@ -1,6 +1,7 @@
 -- The call of an actor, by the step before which it stands and what it holds.
 use Rattle.std.specs.Prelude.{ℕ, ℤ, Bool, List}
 use Rattle.sysv_model.specs.declared.cred.Cred.{Cred}
+use Rattle.sysv_model.specs.Selector.{Selector}
 
 -- a send; seen says that an earlier step of the call found the identifier live
 pub record Sending : Type 0 where
@@ -10,11 +11,13 @@ pub record Sending : Type 0 where
   pub bytes : List ℕ
   pub seen : Bool
 
--- a receive
+-- a receive; noerror says that a longer text may be cut
 pub record Receiving : Type 0 where
   pub cred : Cred
   pub id : ℤ
+  pub selector : Selector
   pub size : ℕ
+  pub noerror : Bool
   pub seen : Bool
 
 pub data Phase : Type 0 where

@@ -3,7 +3,6 @@
 use Rattle.std.specs.Prelude.{ℕ, Bool, true, false, List, [], length, take, Option, Some, None, if◌then◌else◌}
 use Rattle.sysv_model.specs.declared.errno.Errno.{Errno}
 use Rattle.sysv_model.specs.declared.errno.Errno.TheVariants.{EACCES, EAGAIN, EIDRM, EINVAL, ENOMSG, E2BIG}
-use Rattle.sysv_model.specs.Selector.{Any}
 use Rattle.sysv_model.specs.History.{Call, Look, Place, Take, Reply, Gone, Denied, Full, Fits, Accepted, NoMatch, TooLong, Taken}
 use Rattle.sysv_core.specs.declared.event.Outcome.{Outcome}
 use Rattle.sysv_core.specs.declared.event.Outcome.TheVariants as outcome
@@ -14,7 +13,7 @@ use Rattle.sysv_core.specs.Phase.{Phase, AtLook, AtPlace, AtTake}
 abbrev pub turn_call : Phase → ℕ → Call
 turn_call (AtLook s) now = Look s.id s.cred (length s.bytes)
 turn_call (AtPlace s) now = Place s.id s.cred s.mtype s.bytes now
-turn_call (AtTake r) now = Take r.id r.cred Any r.size false now
+turn_call (AtTake r) now = Take r.id r.cred r.selector r.size r.noerror now
 
 -- the call is over with this outcome; a receive's body comes back
 abbrev pub answered : ℕ → Outcome → Option (List ℕ) → Option Phase × Stepped

@@ -1,5 +1,4 @@
-ghost use Rattle.std.specs.Prelude.{◌≡◌, ◌↔◌, ◌==◌, ◌||◌, IsTrue, MatchResult, option_map};
-ghost use Rattle.std.specs.Int.RustNames.{bit_and};
+ghost use Rattle.std.specs.Prelude.{◌≡◌, MatchResult, option_map};
 ghost use Rattle.sysv_core.specs.Begin.{IsRefused, begun, body_back};
 ghost use Rattle.sysv_core.specs.PhaseOf.{phase_of};
 
@@ -9,6 +8,7 @@ use sysv_model::body::Body;
 use sysv_model::cred::Cred;
 use sysv_model::flags::Flags;
 use sysv_model::limits::MESSAGE_BYTES;
+use sysv_rules::selector::Selector;
 
 /// A send that was started.
 #[derive(Drop)]
@@ -26,7 +26,10 @@ pub struct Send {
 pub struct Receive {
     pub cred: Cred,
     pub id: i32,
+    pub selector: Selector,
     pub size: u32,
+    /// A longer text may be cut.
+    pub noerror: bool,
     pub body: Body,
     /// An earlier step of the call found the identifier live.
     pub live_seen: bool,
@@ -72,23 +75,18 @@ pub fn begin(cred: Cred, call: Call) -> Result<Phase, Option<Body>>
             mut body,
         } => {
             body.clear();
-            if is_not_understood(flags) || mtype != 0 || id < 0 {
+            if flags.contains(Flags::MSG_EXCEPT) || id < 0 {
                 return Err(Some(body));
             }
             Ok(Phase::Take(Receive {
                 cred,
                 id,
+                selector: Selector::of(mtype, flags),
                 size,
+                noerror: flags.contains(Flags::MSG_NOERROR),
                 body,
                 live_seen: false,
             }))
         }
     }
-}
-
-/// MSG_EXCEPT and MSG_NOERROR are not understood yet.
-fn is_not_understood(flags: Flags) -> bool
-    ensures { result ≡ ((bit_and flags.0 8192 == 8192) || (bit_and flags.0 4096 == 4096)) }
-{
-    flags.contains(Flags::MSG_EXCEPT) || flags.contains(Flags::MSG_NOERROR)
 }

@@ -76,11 +76,13 @@ fn take(slot: &mut QueueSlot, actor: u32, receive: Receive, now: u64) -> (Option
     let Receive {
         cred,
         id,
+        selector,
         size,
+        noerror,
         mut body,
         live_seen,
     } = receive;
-    match slot.take(id, cred, size, false, now, &mut body) {
+    match slot.take(id, cred, selector, size, noerror, now, &mut body) {
         Ok(Delivery { mtype, len, .. }) => {
             answered(actor, Outcome::Got { mtype, len }, Some(body))
         }

@@ -5,12 +5,12 @@ use sysv_script::script::{ScriptFault, run_script};
 
 /// What a script writes, and how it ends.
 #[derive(Drop)]
-struct Ending {
-    written: Vec<u8>,
-    end: Result<(), ScriptFault>,
+pub(crate) struct Ending {
+    pub(crate) written: Vec<u8>,
+    pub(crate) end: Result<(), ScriptFault>,
 }
 
-fn run(alloc: Global, script: &[u8]) -> Ending {
+pub(crate) fn run(alloc: Global, script: &[u8]) -> Ending {
     let mut written = Vec::new(alloc);
     let mut reader = script;
     let end = run_script(alloc, &mut reader, &mut written);
@@ -167,9 +167,9 @@ const ANSWERED: [(&[u8], &[u8]); 35] = [
     (b"1 rcv 7 100 0 NOWAIT", b"1 rcv ! EINVAL\n"),
     (b"1 rcv 0 100 0 EXCEPT", b"1 rcv ! EINVAL\n"),
     (b"1 rcv 0 100 5 EXCEPT+NOWAIT", b"1 rcv ! EINVAL\n"),
-    (b"1 rcv 0 100 5 NOWAIT", b"1 rcv ! EINVAL\n"),
-    (b"1 rcv 0 100 -5 NOWAIT", b"1 rcv ! EINVAL\n"),
-    (b"1 rcv 0 100 0 NOERROR+NOWAIT", b"1 rcv ! EINVAL\n"),
+    (b"1 rcv 0 100 5 NOWAIT", b"1 rcv ! ENOMSG\n"),
+    (b"1 rcv 0 100 -5 NOWAIT", b"1 rcv ! ENOMSG\n"),
+    (b"1 rcv 0 100 0 NOERROR+NOWAIT", b"1 rcv ! ENOMSG\n"),
     (
         b"1 snd 0 5 - =\r\n2 rcv 0 1 0 NOWAIT",
         b"1 snd = 0\n2 rcv = 1 type 5 =\r\n",

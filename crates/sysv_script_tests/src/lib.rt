@@ -6,4 +6,6 @@ mod ends;
 #[cfg(test)]
 mod language;
 #[cfg(test)]
+mod rules;
+#[cfg(test)]
 mod streams;

@@ -2,6 +2,7 @@
 //! list of events with its answers.
 
 use super::*;
+use bitflags::Flags as _;
 use std::process::Abort;
 use sysv_model::body::Body;
 use sysv_model::flags::Flags;
@@ -55,14 +56,19 @@ fn send(rt: &impl Abort, alloc: Global, actor: u32, mtype: i64, text: &[u8]) -> 
 
 /// The actor starts a receive of at most 100 bytes from queue 0. The body that it gives is not empty.
 fn receive(rt: &impl Abort, alloc: Global, actor: u32) -> Event {
-    let call = Call::Receive {
-        id: 0,
-        size: 100,
-        mtype: 0,
-        flags: Flags::IPC_NOWAIT,
-        body: body_of(rt, alloc, b"old"),
-    };
+    let call = receive_of(rt, alloc, 100, 0, Flags::IPC_NOWAIT);
     start(actor, call)
+}
+
+/// A receive from queue 0. The body that it gives is not empty.
+fn receive_of(rt: &impl Abort, alloc: Global, size: u32, mtype: i64, flags: Flags) -> Call {
+    Call::Receive {
+        id: 0,
+        size,
+        mtype,
+        flags,
+        body: body_of(rt, alloc, b"old"),
+    }
 }
 
 fn step(actor: u32) -> Event {
@@ -106,7 +112,18 @@ fn assert_receives(rt: &impl Abort, alloc: Global, world: &mut World, want: Want
 
 /// The actor sends from start to end, and is answered zero.
 fn assert_sends(rt: &impl Abort, alloc: Global, world: &mut World, actor: u32, text: &[u8]) {
-    assert_nothing(rt, world.step(send(rt, alloc, actor, 7, text)));
+    assert_sends_type(rt, alloc, world, actor, 7, text);
+}
+
+fn assert_sends_type(
+    rt: &impl Abort,
+    alloc: Global,
+    world: &mut World,
+    actor: u32,
+    mtype: i64,
+    text: &[u8],
+) {
+    assert_nothing(rt, world.step(send(rt, alloc, actor, mtype, text)));
     assert_nothing(rt, world.step(step(actor)));
     assert_answer(rt, world.step(step(actor)), (actor, Outcome::Zero, None));
 }
@@ -140,6 +157,68 @@ fn a_place_finds_that_the_room_is_gone(rt: HostRuntime) {
     let full = Outcome::Refused(Errno::EAGAIN);
     assert_answer(&rt, world.step(step(1)), (1, full, None));
     assert_sends(&rt, alloc, &mut world, 2, b"");
+}
+
+#[test]
+fn a_receive_takes_what_it_names(rt: HostRuntime) {
+    let alloc = rt.alloc();
+    let mut world = world_with_queue(&rt, alloc, 2);
+    let sent: [(i64, &[u8]); 4] = [(5, b"a"), (2, b"b"), (5, b"c"), (i64::MAX, b"d")];
+    for (mtype, text) in sent {
+        assert_sends_type(&rt, alloc, &mut world, 1, mtype, text);
+    }
+    let wait = Flags::IPC_NOWAIT;
+    let cut = wait.union(Flags::MSG_NOERROR);
+    let none = Outcome::Refused(Errno::ENOMSG);
+    let long = Outcome::Refused(Errno::E2BIG);
+    let got = |mtype, len| Outcome::Got { mtype, len };
+    let receives: [(i64, u32, Flags, Outcome, &[u8]); 8] = [
+        (3, 9, wait, none, b""),
+        (5, 0, wait, long, b""),
+        (5, 0, cut, got(5, 0), b""),
+        (i64::MIN, 9, wait, got(2, 1), b"b"),
+        (-4, 9, wait, none, b""),
+        (i64::MIN, 1, wait, got(5, 1), b"c"),
+        (i64::MIN, 1, wait, got(i64::MAX, 1), b"d"),
+        (0, 9, cut, none, b""),
+    ];
+    for (mtype, size, flags, outcome, text) in receives {
+        let call = receive_of(&rt, alloc, size, mtype, flags);
+        assert_nothing(&rt, world.step(start(2, call)));
+        assert_answer(&rt, world.step(step(2)), (2, outcome, Some(text)));
+    }
+    let call = receive_of(&rt, alloc, 9, 0, Flags::MSG_EXCEPT);
+    let invalid = Outcome::Refused(Errno::EINVAL);
+    assert_answer(&rt, world.step(start(2, call)), (2, invalid, Some(b"")));
+}
+
+#[test]
+fn a_stranger_is_denied(rt: HostRuntime) {
+    let alloc = rt.alloc();
+    let mut world = world_with_queue(&rt, alloc, 2);
+    let stranger = |call| Event::Start {
+        actor: 2,
+        cred: Cred {
+            uid: 2000,
+            gid: 1000,
+            pid: 9,
+        },
+        call,
+    };
+    let denied = Outcome::Refused(Errno::EACCES);
+    let call = receive_of(&rt, alloc, 9, 0, Flags::IPC_NOWAIT);
+    assert_nothing(&rt, world.step(stranger(call)));
+    assert_answer(&rt, world.step(step(2)), (2, denied, Some(b"")));
+    let call = Call::Send {
+        id: 0,
+        mtype: 1,
+        flags: Flags::IPC_NOWAIT,
+        body: body_of(&rt, alloc, b"x"),
+    };
+    assert_nothing(&rt, world.step(stranger(call)));
+    assert_answer(&rt, world.step(step(2)), (2, denied, None));
+    let none = Outcome::Refused(Errno::ENOMSG);
+    assert_receives(&rt, alloc, &mut world, (1, none, Some(b"")));
 }
 
 #[test]
