@@ -7,3 +7,4 @@ pub mod Addressing
 pub mod Runs
 pub mod OneRun
 pub mod WorkedRun
+pub mod WorkedSelection

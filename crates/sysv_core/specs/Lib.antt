@@ -20,3 +20,4 @@ pub mod AnswerLaw
 pub mod Headline
 pub mod OneRun
 pub mod WorkedRun
+pub mod WorkedSelection

@@ -2,6 +2,7 @@
 
 ghost use Rattle.sysv_core.specs.OneRun.{OneStep, OnePreset, OneRun};
 ghost use Rattle.sysv_core.specs.WorkedRun.{WorkedRun, NoWrongReply, ExactFit};
+ghost use Rattle.sysv_core.specs.WorkedSelection.{WorkedSelection};
 
 use sysv_queue::laws::one_legal_reply;
 
@@ -28,6 +29,12 @@ pub fn worked_run()
 /// At the turns of the worked run a wrong reply is no legal one.
 pub fn no_wrong_reply()
     ensures { NoWrongReply }
+{}
+
+/// The replies that selection by type, MSG_NOERROR and permission give at one point of the worked run
+/// are the legal ones, and those that a wrong rule would give are not.
+pub fn worked_selection()
+    ensures { WorkedSelection }
 {}
 
 /// Two messages of 8,192 bytes fill the queue to the byte.
