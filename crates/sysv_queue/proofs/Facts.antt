@@ -6,7 +6,7 @@ use Rattle.std.proofs.lemmas.List.{append-nil}
 use Rattle.sysv_model.specs.declared.cred.Cred.{Cred}
 use Rattle.sysv_model.specs.declared.attributes.Attributes.{Attributes}
 use Rattle.sysv_model.specs.Message.{Message}
-use Rattle.sysv_model.specs.Selector.{Any}
+use Rattle.sysv_model.specs.Selector.{Selector}
 use Rattle.sysv_model.specs.History.{Who, Call, Install, Place, Take, Reply, Installed, Accepted, Taken, Entry, History, then_turn, arrived}
 use Rattle.sysv_model.specs.Live.{live, HasId, IsLive, sent_to, received_from}
 use Rattle.sysv_model.specs.Waiting.{accepted, delivered, discarded, waiting, held, has_number}
@@ -136,9 +136,9 @@ module _ (h : History) (who : Who) (f : Facts h) (at : ℤ) (cred : Cred) (mtype
       }
 
 -- a turn that delivers the message at a place
-module _ (h : History) (who : Who) (f : Facts h) (at : ℤ) (cred : Cred) (size : ℕ) (noerror : Bool) (now : ℕ) (m : Message) (place : ℕ) (live_at : HasId (live h) at) (there : slice_get (held h) place ≡ Some m) where
+module _ (h : History) (who : Who) (f : Facts h) (at : ℤ) (cred : Cred) (selector : Selector) (size : ℕ) (noerror : Bool) (now : ℕ) (m : Message) (place : ℕ) (live_at : HasId (live h) at) (there : slice_get (held h) place ≡ Some m) where
   abbrev pub taken_turn : Entry
-  taken_turn = record { who = who; call = Take at cred Any size noerror now; reply = Taken m }
+  taken_turn = record { who = who; call = Take at cred selector size noerror now; reply = Taken m }
 
   pub accepted-taken : (id : ℤ) → accepted id (h ++ taken_turn ∷ []) ≡ accepted id h
   accepted-taken id = accepted-more id h taken_turn ∙ append-nil _
@@ -196,7 +196,7 @@ kind_facts h who call reply (Quiet q) f l =
     still_facts h who f call reply q.still (λ id g. f.others id (λ lives. g (subst (λ (a : Option Attributes). HasId a id) (sym (live-more h (record { who = who; call = call; reply = reply }) ∙ q.live (live h))) lives)))
 kind_facts h who call reply (Makes id key cred mode now) f l = made_facts h who f id key cred mode now l
 kind_facts h who call reply (Accepts id cred mtype bytes now number) f l = sent_facts h who f id cred mtype bytes now number l.0 l.3
-kind_facts h who call reply (Takes id cred size noerror now m) f l = taken_facts h who f id cred size noerror now m l.2.0 l.0 l.2.2
+kind_facts h who call reply (Takes id cred selector size noerror now m) f l = taken_facts h who f id cred selector size noerror now m l.2.0 l.0 l.2.2
 
 pub facts : (h : History) → IsLegalHistory h → Facts h
 facts = from_end (λ (h : History). IsLegalHistory h → Facts h) (λ _. facts_empty)

@@ -1,23 +1,7 @@
--- The place that a receive of any type names: the first, if there is one.
-use Rattle.std.proofs.Common.{◌≡◌, ℕ, ◌<◌, Bool, true, false, List, [], ◌∷◌, length, Option, Some, refl, subst, sym, ◌∙◌, arith, slice_get, inl, inr}
-use Rattle.std.proofs.lemmas.Option.{slice_get_within}
+-- The message at a place, and what a receive can not give of it.
+use Rattle.std.proofs.Common.{◌≡◌, ℕ, ◌<◌, Bool, true, false, List, [], ◌∷◌, length, Option, Some, sym, ◌∙◌, refl, arith, slice_get, inl, inr}
 use Rattle.sysv_model.specs.Message.{Message}
-use Rattle.sysv_model.specs.Selector.{Any}
-use Rattle.sysv_queue.specs.Slot.{Slot}
-use Rattle.sysv_queue.specs.Named.{IsNamed}
-use Rattle.sysv_queue.specs.LegalReply.{Names, IsGivable}
-
-none_below : (n : ℕ) → n < 0 → ⊥
-none_below n h = omega arith
-
-pub first_named : (ms : List Message) → 0 < length ms → IsNamed Any ms 0
-first_named ms h = (h, none_below)
-
-pub first_names : (s : Slot) (m : Message) → slice_get s.messages 0 ≡ Some m → Names s Any m
-first_names s m there = (0, first_named s.messages (slice_get_within s.messages 0 m there), there)
-
-pub none_named : (ms : List Message) → ms ≡ [] → (place : ℕ) → ¬ IsNamed Any ms place
-none_named ms none place named = none_below place (subst (λ (xs : List Message). place < length xs) none named.0)
+use Rattle.sysv_queue.specs.LegalReply.{IsGivable}
 
 one_message : (o : Option Message) (m n : Message) → o ≡ Some m → o ≡ Some n → m ≡ n
 one_message o m n a b = cc

@@ -3,7 +3,7 @@ use Rattle.std.proofs.Common.{◌≡◌, ℕ, ℤ, ◌+◌, Bool, true, List, []
 use Rattle.sysv_model.specs.declared.cred.Cred.{Cred}
 use Rattle.sysv_model.specs.declared.attributes.Attributes.{Attributes}
 use Rattle.sysv_model.specs.Message.{Message}
-use Rattle.sysv_model.specs.Selector.{Any}
+use Rattle.sysv_model.specs.Selector.{Selector}
 use Rattle.sysv_model.specs.History.{Who, Call, Install, Place, Take, Reply, Installed, Accepted, Taken, Entry, History, then_turn, arrived, freed}
 use Rattle.sysv_model.specs.Live.{live, HasId, created, sent_to, received_from}
 use Rattle.sysv_model.specs.Waiting.{waiting_on, waiting, held}
@@ -61,18 +61,18 @@ after_sent h who id cred mtype bytes now number legal lives numbered =
     ∙ ap (λ ms. ms ++ m ∷ []) (sym (waiting_on-id (live h) id h lives)))) in
     same_slot _ _ _ _ _ _ _ _ (live-more h e) after (arrived-sent h who f id cred mtype bytes now number lives numbered) (freed-more h e ∙ add-zero _)
 
-pub after_taken : (h : History) (who : Who) (id : ℤ) (cred : Cred) (size : ℕ) (noerror : Bool) (now : ℕ) (m : Message) (place : ℕ) → IsLegalHistory h → HasId (live h) id → slice_get (held h) place ≡ Some m →
-    slot_of (then_turn h who (Take id cred Any size noerror now) (Taken m))
+pub after_taken : (h : History) (who : Who) (id : ℤ) (cred : Cred) (selector : Selector) (size : ℕ) (noerror : Bool) (now : ℕ) (m : Message) (place : ℕ) → IsLegalHistory h → HasId (live h) id → slice_get (held h) place ≡ Some m →
+    slot_of (then_turn h who (Take id cred selector size noerror now) (Taken m))
     ≡ slot (option_map (received_from cred now) (live h)) (remove (held h) place) (arrived h) (freed h + 1)
-after_taken h who id cred size noerror now m place legal lives there =
+after_taken h who id cred selector size noerror now m place legal lives there =
     let f = facts h legal in
-    let e : Entry = record { who = who; call = Take id cred Any size noerror now; reply = Taken m } in
+    let e : Entry = record { who = who; call = Take id cred selector size noerror now; reply = Taken m } in
     let after : waiting_on (live (h ++ e ∷ [])) (h ++ e ∷ []) ≡ remove (held h) place =
     ap (λ l. waiting_on l (h ++ e ∷ [])) (live-more h e)
     ∙ (waiting_on-id (option_map (received_from cred now) (live h)) id (h ++ e ∷ []) (keeps_id (received_from cred now) (λ a. refl) (live h) id lives)
-    ∙ (waiting-taken h who f id cred size noerror now m place lives there
+    ∙ (waiting-taken h who f id cred selector size noerror now m place lives there
     ∙ ap (λ ms. remove ms place) (sym (waiting_on-id (live h) id h lives)))) in
-    same_slot _ _ _ _ _ _ _ _ (live-more h e) after (arrived-taken h who f id cred size noerror now m place lives there) (freed-more h e)
+    same_slot _ _ _ _ _ _ _ _ (live-more h e) after (arrived-taken h who f id cred selector size noerror now m place lives there) (freed-more h e)
 
 -- a turn whose reply is legal and whose slot goes on as each history does
 makes_turn : (old new : Slot) (call : Call) (reply : Reply) → Legal old call reply → ((h : History) (who : Who) → StandsFor h old → slot_of (then_turn h who call reply) ≡ new) → MakesTurn old call reply new
@@ -108,11 +108,11 @@ turn_sent s id cred mtype bytes now number legal = makes_turn s _ _ _ legal
     (subst (λ (x : Slot). HasId x.live id) (sym st.seen) legal.0) (legal.3 ∙ sym (ap (λ (x : Slot). x.arrived) st.seen))
     ∙ ap (λ (x : Slot). slot (option_map (sent_to cred now) x.live) (x.messages ++ record { number = number; sender = cred.pid; mtype = mtype; bytes = bytes } ∷ []) (x.arrived + 1) x.freed) st.seen)
 
-pub turn_taken : (s : Slot) (id : ℤ) (cred : Cred) (size : ℕ) (noerror : Bool) (now : ℕ) (m : Message) (place : ℕ) → slice_get s.messages place ≡ Some m → Legal s (Take id cred Any size noerror now) (Taken m) →
-    MakesTurn s (Take id cred Any size noerror now) (Taken m)
+pub turn_taken : (s : Slot) (id : ℤ) (cred : Cred) (selector : Selector) (size : ℕ) (noerror : Bool) (now : ℕ) (m : Message) (place : ℕ) → slice_get s.messages place ≡ Some m → Legal s (Take id cred selector size noerror now) (Taken m) →
+    MakesTurn s (Take id cred selector size noerror now) (Taken m)
     (slot (option_map (received_from cred now) s.live) (remove s.messages place) s.arrived (s.freed + 1))
-turn_taken s id cred size noerror now m place there legal = makes_turn s _ _ _ legal
-    (λ h who st. after_taken h who id cred size noerror now m place st.legal
+turn_taken s id cred selector size noerror now m place there legal = makes_turn s _ _ _ legal
+    (λ h who st. after_taken h who id cred selector size noerror now m place st.legal
     (subst (λ (x : Slot). HasId x.live id) (sym st.seen) legal.0)
     (subst (λ (x : Slot). slice_get x.messages place ≡ Some m) (sym st.seen) there)
     ∙ ap (λ (x : Slot). slot (option_map (received_from cred now) x.live) (remove x.messages place) x.arrived (x.freed + 1)) st.seen)

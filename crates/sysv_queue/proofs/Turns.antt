@@ -6,7 +6,7 @@ use Rattle.std.proofs.lemmas.Grind.{flat_map-append}
 use Rattle.sysv_model.specs.declared.cred.Cred.{Cred}
 use Rattle.sysv_model.specs.declared.attributes.Attributes.{Attributes}
 use Rattle.sysv_model.specs.Message.{Message}
-use Rattle.sysv_model.specs.Selector.{Any}
+use Rattle.sysv_model.specs.Selector.{Selector}
 use Rattle.sysv_model.specs.History.{Call, Install, Look, Place, Take, Reply, Installed, Gone, Denied, Full, Accepted, NoMatch, TooLong, Taken, Entry, History, announces_arrival, announces_room, arrived, freed}
 use Rattle.sysv_model.specs.Live.{live, live_after}
 use Rattle.sysv_model.specs.Waiting.{accepted, delivered, discarded, waiting, accepted_by, delivered_by, discarded_by}
@@ -50,7 +50,7 @@ pub data Kind : Call → Reply → Type 0 where
   Quiet : {call : Call} {reply : Reply} → IsQuiet call reply → Kind call reply
   Makes : (id key : ℤ) (cred : Cred) (mode now : ℕ) → Kind (Install id key cred mode now) (Installed true)
   Accepts : (id : ℤ) (cred : Cred) (mtype : ℤ) (bytes : List ℕ) (now number : ℕ) → Kind (Place id cred mtype bytes now) (Accepted number)
-  Takes : (id : ℤ) (cred : Cred) (size : ℕ) (noerror : Bool) (now : ℕ) (m : Message) → Kind (Take id cred Any size noerror now) (Taken m)
+  Takes : (id : ℤ) (cred : Cred) (selector : Selector) (size : ℕ) (noerror : Bool) (now : ℕ) (m : Message) → Kind (Take id cred selector size noerror now) (Taken m)
 
 pub still_install : (id key : ℤ) (cred : Cred) (mode now : ℕ) (made : Bool) → IsStill (Install id key cred mode now) (Installed made)
 still_install id key cred mode now made = record { accepted = λ i. refl; delivered = λ i. refl; discarded = λ i. refl; arrival = refl; room = refl }
@@ -79,24 +79,27 @@ kind_place : (s : Slot) (id : ℤ) (cred : Cred) (mtype : ℤ) (bytes : List ℕ
 kind_place s id cred mtype bytes now (Accepted number) l = Accepts id cred mtype bytes now number
 kind_place s id cred mtype bytes now reply l = Quiet record { still = record { accepted = λ i. refl; delivered = λ i. refl; discarded = λ i. refl; arrival = refl; room = refl }; live = λ old. refl }
 
-pub quiet_take_gone : (id : ℤ) (cred : Cred) (size : ℕ) (noerror : Bool) (now : ℕ) → IsQuiet (Take id cred Any size noerror now) Gone
-quiet_take_gone id cred size noerror now = record { still = record { accepted = λ i. refl; delivered = λ i. refl; discarded = λ i. refl; arrival = refl; room = refl }; live = λ old. refl }
+pub quiet_take_gone : (id : ℤ) (cred : Cred) (selector : Selector) (size : ℕ) (noerror : Bool) (now : ℕ) → IsQuiet (Take id cred selector size noerror now) Gone
+quiet_take_gone id cred selector size noerror now = record { still = record { accepted = λ i. refl; delivered = λ i. refl; discarded = λ i. refl; arrival = refl; room = refl }; live = λ old. refl }
 
-pub quiet_take_no_match : (id : ℤ) (cred : Cred) (size : ℕ) (noerror : Bool) (now arrived : ℕ) → IsQuiet (Take id cred Any size noerror now) (NoMatch arrived)
-quiet_take_no_match id cred size noerror now arrived = record { still = record { accepted = λ i. refl; delivered = λ i. refl; discarded = λ i. refl; arrival = refl; room = refl }; live = λ old. refl }
+pub quiet_take_denied : (id : ℤ) (cred : Cred) (selector : Selector) (size : ℕ) (noerror : Bool) (now : ℕ) → IsQuiet (Take id cred selector size noerror now) Denied
+quiet_take_denied id cred selector size noerror now = record { still = record { accepted = λ i. refl; delivered = λ i. refl; discarded = λ i. refl; arrival = refl; room = refl }; live = λ old. refl }
 
-pub quiet_take_too_long : (id : ℤ) (cred : Cred) (size : ℕ) (noerror : Bool) (now : ℕ) → IsQuiet (Take id cred Any size noerror now) TooLong
-quiet_take_too_long id cred size noerror now = record { still = record { accepted = λ i. refl; delivered = λ i. refl; discarded = λ i. refl; arrival = refl; room = refl }; live = λ old. refl }
+pub quiet_take_no_match : (id : ℤ) (cred : Cred) (selector : Selector) (size : ℕ) (noerror : Bool) (now arrived : ℕ) → IsQuiet (Take id cred selector size noerror now) (NoMatch arrived)
+quiet_take_no_match id cred selector size noerror now arrived = record { still = record { accepted = λ i. refl; delivered = λ i. refl; discarded = λ i. refl; arrival = refl; room = refl }; live = λ old. refl }
 
-kind_take : (s : Slot) (id : ℤ) (cred : Cred) (size : ℕ) (noerror : Bool) (now : ℕ) (reply : Reply) → LegalTake s id cred Any size noerror reply → Kind (Take id cred Any size noerror now) reply
-kind_take s id cred size noerror now (Taken m) l = Takes id cred size noerror now m
-kind_take s id cred size noerror now reply l = Quiet record { still = record { accepted = λ i. refl; delivered = λ i. refl; discarded = λ i. refl; arrival = refl; room = refl }; live = λ old. refl }
+pub quiet_take_too_long : (id : ℤ) (cred : Cred) (selector : Selector) (size : ℕ) (noerror : Bool) (now : ℕ) → IsQuiet (Take id cred selector size noerror now) TooLong
+quiet_take_too_long id cred selector size noerror now = record { still = record { accepted = λ i. refl; delivered = λ i. refl; discarded = λ i. refl; arrival = refl; room = refl }; live = λ old. refl }
+
+kind_take : (s : Slot) (id : ℤ) (cred : Cred) (selector : Selector) (size : ℕ) (noerror : Bool) (now : ℕ) (reply : Reply) → LegalTake s id cred selector size noerror reply → Kind (Take id cred selector size noerror now) reply
+kind_take s id cred selector size noerror now (Taken m) l = Takes id cred selector size noerror now m
+kind_take s id cred selector size noerror now reply l = Quiet record { still = record { accepted = λ i. refl; delivered = λ i. refl; discarded = λ i. refl; arrival = refl; room = refl }; live = λ old. refl }
 
 pub kind_of : (s : Slot) (call : Call) (reply : Reply) → Legal s call reply → Kind call reply
 kind_of s (Install id key cred mode now) reply l = kind_install s id key cred mode now reply l
 kind_of s (Look id cred size) reply l = Quiet (quiet_look id cred size reply)
 kind_of s (Place id cred mtype bytes now) reply l = kind_place s id cred mtype bytes now reply l
-kind_of s (Take id cred Any size noerror now) reply l = kind_take s id cred size noerror now reply l
+kind_of s (Take id cred selector size noerror now) reply l = kind_take s id cred selector size noerror now reply l
 kind_of s call reply l = absurd l
 
 module _ (h : History) (e : Entry) (still : IsStill e.call e.reply) where
