@@ -6,6 +6,7 @@ pub mod Ids
 pub mod Facts
 pub mod Stands
 pub mod Removal
+pub mod Rules
 pub mod Naming
 pub mod Order
 pub mod Law

@@ -1,7 +1,14 @@
--- The message at a place, and what a receive can not give of it.
-use Rattle.std.proofs.Common.{◌≡◌, ℕ, ◌<◌, Bool, true, false, List, [], ◌∷◌, length, Option, Some, sym, ◌∙◌, refl, arith, slice_get, inl, inr}
+-- The message at a place, the one that a selector names, and what a receive can not give of it.
+use Rattle.std.proofs.Common.{◌≡◌, ℕ, ℤ, zero, suc, ◌<◌, Bool, true, false, List, [], ◌∷◌, length, Option, Some, refl, sym, subst, ◌∙◌, arith, slice_get, inl, inr}
+use Rattle.std.proofs.lemmas.List.{length-map}
 use Rattle.sysv_model.specs.Message.{Message}
-use Rattle.sysv_queue.specs.LegalReply.{IsGivable}
+use Rattle.sysv_model.specs.Selector.{Selector, Any, Exactly, UpTo}
+use Rattle.sysv_rules.specs.Qualifies.{QualifiesAt, NoneQualifies}
+use Rattle.sysv_rules.specs.Named.{IsNamed as IsNamedAmong}
+use Rattle.sysv_queue.specs.Slot.{Slot}
+use Rattle.sysv_queue.specs.Named.{IsNamed, types_of}
+use Rattle.sysv_queue.specs.LegalReply.{Names, IsGivable}
+use Rattle.sysv_queue.proofs.Rules.{OneNamed}
 
 one_message : (o : Option Message) (m n : Message) → o ≡ Some m → o ≡ Some n → m ≡ n
 one_message o m n a b = cc
@@ -17,3 +24,31 @@ never_given size noerror m long stays (inr cut) = let e : true ≡ false = sym c
 pub none_in : {X : Type 0} (xs : List X) → length xs ≡ 0 → xs ≡ []
 none_in [] h = refl
 none_in (x ∷ xs) h = absurd (omega arith)
+
+pub some_message : (ms : List Message) (place : ℕ) → place < length ms → (m : Message) × (slice_get ms place ≡ Some m)
+some_message [] place within = absurd (omega (arith, within))
+some_message (m ∷ ms) zero within = (m, refl)
+some_message (m ∷ ms) (suc place) within = some_message ms place (omega arith)
+
+-- the type at a named place qualifies
+pub named_qualifies : (selector : Selector) (types : List ℤ) (place : ℕ) → IsNamedAmong selector types place → QualifiesAt selector types place
+named_qualifies Any types place named = named.0
+named_qualifies (Exactly asked) types place named = named.0
+named_qualifies (UpTo bound) types place named = named.0
+
+pub none_named : (selector : Selector) (ms : List Message) → NoneQualifies selector (types_of ms) → (place : ℕ) → ¬ IsNamed selector ms place
+none_named selector ms none place named = none place (named_qualifies selector (types_of ms) place named)
+
+-- where a place is named, the message there is
+pub named_message : (s : Slot) (selector : Selector) (place : ℕ) → IsNamed selector s.messages place → (m : Message) × Names s selector m
+named_message s selector place named =
+    let within : place < length s.messages = subst (λ n. place < n) (length-map s.messages (λ (m : Message). m.mtype)) (named_qualifies selector (types_of s.messages) place named).0 in
+    let at = some_message s.messages place within in
+    (at.0, (place, named, at.1))
+
+-- two messages that a selector names are one, as it names one place
+module _ (one_named : OneNamed) where
+  pub one_message_named : (s : Slot) (selector : Selector) (m n : Message) → Names s selector m → Names s selector n → m ≡ n
+  one_message_named s selector m n a b =
+      let same : a.0 ≡ b.0 = one_named selector (types_of s.messages) a.0 b.0 a.1 b.1 in
+      same_message s.messages b.0 m n (subst (λ i. slice_get s.messages i ≡ Some m) same a.2) b.2

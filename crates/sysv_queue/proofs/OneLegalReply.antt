@@ -1,18 +1,23 @@
--- Each call that is there has exactly one legal reply.
-use Rattle.std.proofs.Common.{◌≡◌, ℕ, zero, suc, ℤ, ◌+◌, ◌<◌, ◌≤◌, ◌⊎◌, inl, inr, Bool, true, false, List, [], ◌∷◌, Option, None, Some, IsSome, refl, sym, ap, subst, ◌∙◌, arith, length, slice_get}
+-- Each call that is there has exactly one legal reply, since what a caller wants is permitted or not
+-- and a selector names one place or none.
+use Rattle.std.proofs.Common.{◌≡◌, ℕ, zero, suc, ℤ, ◌+◌, ◌<◌, ◌≤◌, ◌⊎◌, inl, inr, Bool, true, false, List, Option, None, Some, IsSome, refl, sym, ap, subst, ◌∙◌, arith, length}
 use Rattle.sysv_model.specs.declared.cred.Cred.{Cred}
 use Rattle.sysv_model.specs.declared.attributes.Attributes.{Attributes}
 use Rattle.sysv_model.specs.Message.{Message}
-use Rattle.sysv_model.specs.Selector.{Any}
+use Rattle.sysv_model.specs.Selector.{Selector}
 use Rattle.sysv_model.specs.History.{Call, Install, Look, Place, Take, Reply, Installed, Gone, Denied, Full, Fits, Accepted, NoMatch, TooLong, Taken}
 use Rattle.sysv_model.specs.Live.{HasId}
+use Rattle.sysv_rules.specs.declared.permission.Want.{Want}
+use Rattle.sysv_rules.specs.declared.permission.Want.TheVariants.{Read, Write}
 use Rattle.sysv_queue.specs.Slot.{Slot, slot_of}
 use Rattle.sysv_queue.specs.Fits.{Fits as FitsOn, bytes_of}
+use Rattle.sysv_queue.specs.Granted.{IsGranted}
 use Rattle.sysv_queue.specs.LegalReply.{Legal, LegalInstall, LegalLook, LegalPlace, LegalTake, HasRoom, Names, IsGivable}
-use Rattle.sysv_queue.specs.Named.{IsNamed}
+use Rattle.sysv_queue.specs.Named.{types_of}
 use Rattle.sysv_queue.specs.OneReply.{IsThere, SomeReplyIsLegal, NoTwoRepliesAreLegal}
 use Rattle.sysv_queue.proofs.Ids.{decided}
-use Rattle.sysv_queue.proofs.Naming.{first_names, none_named, never_given, same_message}
+use Rattle.sysv_queue.proofs.Rules.{PermittedOrNot, NamedOrNone, OneNamed}
+use Rattle.sysv_queue.proofs.Naming.{named_message, none_named, never_given, one_message_named}
 
 at_most : (a b : ℕ) → (a ≤ b) ⊎ (b < a)
 at_most zero b = inl (omega arith)
@@ -42,46 +47,56 @@ some_install : (l : Option Attributes) (messages : List Message) (arrived freed 
 some_install None messages arrived freed = (Installed true, refl)
 some_install (Some a) messages arrived freed = (Installed false, refl)
 
-some_look : (s : Slot) (id : ℤ) (cred : Cred) (size : ℕ) → (reply : Reply) × LegalLook s id cred size reply
-some_look s id cred size = elim (is_live s.live id) [
-  | inl lives ↦ elim (has_room s.live s.messages s.arrived s.freed size) [ inl room ↦ (Fits, (lives, tt, room)) | inr none ↦ (Full s.freed, (lives, tt, none, refl)) ]
-  | inr gone ↦ (Gone, gone)
-]
+module _ (permitted : PermittedOrNot) (named_or_none : NamedOrNone) where
+  granted : (want : Want) (cred : Cred) (l : Option Attributes) → IsGranted want cred l ⊎ ¬ IsGranted want cred l
+  granted want cred None = inr (λ h. h)
+  granted want cred (Some a) = permitted cred a.perm want
 
-some_place : (s : Slot) (id : ℤ) (cred : Cred) (size : ℕ) → (reply : Reply) × LegalPlace s id cred size reply
-some_place s id cred size = elim (is_live s.live id) [
-  | inl lives ↦ elim (has_room s.live s.messages s.arrived s.freed size) [ inl room ↦ (Accepted s.arrived, (lives, tt, room, refl)) | inr none ↦ (Full s.freed, (lives, tt, none, refl)) ]
-  | inr gone ↦ (Gone, gone)
-]
-
-first_taken : (s : Slot) (id : ℤ) (cred : Cred) (size : ℕ) (noerror : Bool) (m : Message) → HasId s.live id → slice_get s.messages 0 ≡ Some m → (reply : Reply) × LegalTake s id cred Any size noerror reply
-first_taken s id cred size noerror m lives there = elim (can_give size noerror m) [
-  | inl can ↦ (Taken m, (lives, tt, first_names s m there, can))
-  | inr not ↦ (TooLong, (lives, tt, (m, first_names s m there, not)))
-]
-
-none_or_first : (ms : List Message) → (ms ≡ []) ⊎ ((m : Message) × (slice_get ms 0 ≡ Some m))
-none_or_first [] = inl refl
-none_or_first (m ∷ ms) = inr (m, refl)
-
-some_take : (s : Slot) (id : ℤ) (cred : Cred) (size : ℕ) (noerror : Bool) → (reply : Reply) × LegalTake s id cred Any size noerror reply
-some_take s id cred size noerror = elim (is_live s.live id) [
-  | inl lives ↦ elim (none_or_first s.messages) [
-    | inl none ↦ (NoMatch s.arrived, (lives, tt, none_named s.messages none, refl))
-    | inr first ↦ first_taken s id cred size noerror first.0 lives first.1
+  some_look : (s : Slot) (id : ℤ) (cred : Cred) (size : ℕ) → (reply : Reply) × LegalLook s id cred size reply
+  some_look s id cred size = elim (is_live s.live id) [
+    | inl lives ↦ elim (granted Write cred s.live) [
+      | inl may ↦ elim (has_room s.live s.messages s.arrived s.freed size) [ inl room ↦ (Fits, (lives, may, room)) | inr none ↦ (Full s.freed, (lives, may, none, refl)) ]
+      | inr not ↦ (Denied, (lives, not))
+    ]
+    | inr gone ↦ (Gone, gone)
   ]
-  | inr gone ↦ (Gone, gone)
-]
 
-some_reply : (s : Slot) (call : Call) → IsThere call → (reply : Reply) × Legal s call reply
-some_reply s (Install id key cred mode now) there = some_install s.live s.messages s.arrived s.freed
-some_reply s (Look id cred size) there = some_look s id cred size
-some_reply s (Place id cred mtype bytes now) there = some_place s id cred (length bytes)
-some_reply s (Take id cred Any size noerror now) there = some_take s id cred size noerror
-some_reply s call there = absurd there
+  some_place : (s : Slot) (id : ℤ) (cred : Cred) (size : ℕ) → (reply : Reply) × LegalPlace s id cred size reply
+  some_place s id cred size = elim (is_live s.live id) [
+    | inl lives ↦ elim (granted Write cred s.live) [
+      | inl may ↦ elim (has_room s.live s.messages s.arrived s.freed size) [ inl room ↦ (Accepted s.arrived, (lives, may, room, refl)) | inr none ↦ (Full s.freed, (lives, may, none, refl)) ]
+      | inr not ↦ (Denied, (lives, not))
+    ]
+    | inr gone ↦ (Gone, gone)
+  ]
 
-pub some_reply_is_legal : SomeReplyIsLegal
-some_reply_is_legal h call there = some_reply (slot_of h) call there
+  named_taken : (s : Slot) (id : ℤ) (cred : Cred) (selector : Selector) (size : ℕ) (noerror : Bool) (m : Message) → HasId s.live id → IsGranted Read cred s.live → Names s selector m → (reply : Reply) × LegalTake s id cred selector size noerror reply
+  named_taken s id cred selector size noerror m lives may named = elim (can_give size noerror m) [
+    | inl can ↦ (Taken m, (lives, may, named, can))
+    | inr not ↦ (TooLong, (lives, may, (m, named, not)))
+  ]
+
+  some_take : (s : Slot) (id : ℤ) (cred : Cred) (selector : Selector) (size : ℕ) (noerror : Bool) → (reply : Reply) × LegalTake s id cred selector size noerror reply
+  some_take s id cred selector size noerror = elim (is_live s.live id) [
+    | inl lives ↦ elim (granted Read cred s.live) [
+      | inl may ↦ elim (named_or_none selector (types_of s.messages)) [
+        | inl at ↦ let named = named_message s selector at.0 at.1 in named_taken s id cred selector size noerror named.0 lives may named.1
+        | inr none ↦ (NoMatch s.arrived, (lives, may, none_named selector s.messages none, refl))
+      ]
+      | inr not ↦ (Denied, (lives, not))
+    ]
+    | inr gone ↦ (Gone, gone)
+  ]
+
+  some_reply : (s : Slot) (call : Call) → IsThere call → (reply : Reply) × Legal s call reply
+  some_reply s (Install id key cred mode now) there = some_install s.live s.messages s.arrived s.freed
+  some_reply s (Look id cred size) there = some_look s id cred size
+  some_reply s (Place id cred mtype bytes now) there = some_place s id cred (length bytes)
+  some_reply s (Take id cred selector size noerror now) there = some_take s id cred selector size noerror
+  some_reply s call there = absurd there
+
+  pub some_reply_is_legal : SomeReplyIsLegal
+  some_reply_is_legal h call there = some_reply (slot_of h) call there
 
 -- ---- no two replies
 
@@ -100,17 +115,24 @@ one_install s a b la lb = absurd la
 
 look_full : (s : Slot) (id : ℤ) (cred : Cred) (size freed : ℕ) (b : Reply) → LegalLook s id cred size (Full freed) → LegalLook s id cred size b → Full freed ≡ b
 look_full s id cred size freed Gone la lb = absurd (lb la.0)
-look_full s id cred size freed Denied la lb = absurd (lb.1 tt)
+look_full s id cred size freed Denied la lb = absurd (lb.1 la.1)
 look_full s id cred size freed (Full other) la lb = ap Full (la.3 ∙ sym lb.3)
 look_full s id cred size freed Fits la lb = absurd (la.2 lb.2)
 look_full s id cred size freed b la lb = absurd lb
 
 look_fits : (s : Slot) (id : ℤ) (cred : Cred) (size : ℕ) (b : Reply) → LegalLook s id cred size Fits → LegalLook s id cred size b → Fits ≡ b
 look_fits s id cred size Gone la lb = absurd (lb la.0)
-look_fits s id cred size Denied la lb = absurd (lb.1 tt)
+look_fits s id cred size Denied la lb = absurd (lb.1 la.1)
 look_fits s id cred size (Full other) la lb = absurd (lb.2 la.2)
 look_fits s id cred size Fits la lb = refl
 look_fits s id cred size b la lb = absurd lb
+
+look_denied : (s : Slot) (id : ℤ) (cred : Cred) (size : ℕ) (b : Reply) → LegalLook s id cred size Denied → LegalLook s id cred size b → Denied ≡ b
+look_denied s id cred size Gone la lb = absurd (lb la.0)
+look_denied s id cred size Denied la lb = refl
+look_denied s id cred size (Full other) la lb = absurd (la.1 lb.1)
+look_denied s id cred size Fits la lb = absurd (la.1 lb.1)
+look_denied s id cred size b la lb = absurd lb
 
 look_gone : (s : Slot) (id : ℤ) (cred : Cred) (size : ℕ) (b : Reply) → LegalLook s id cred size Gone → LegalLook s id cred size b → Gone ≡ b
 look_gone s id cred size Gone la lb = refl
@@ -121,24 +143,31 @@ look_gone s id cred size b la lb = absurd lb
 
 one_look : (s : Slot) (id : ℤ) (cred : Cred) (size : ℕ) (a b : Reply) → LegalLook s id cred size a → LegalLook s id cred size b → a ≡ b
 one_look s id cred size Gone b la lb = look_gone s id cred size b la lb
-one_look s id cred size Denied b la lb = absurd (la.1 tt)
+one_look s id cred size Denied b la lb = look_denied s id cred size b la lb
 one_look s id cred size (Full freed) b la lb = look_full s id cred size freed b la lb
 one_look s id cred size Fits b la lb = look_fits s id cred size b la lb
 one_look s id cred size a b la lb = absurd la
 
 place_full : (s : Slot) (id : ℤ) (cred : Cred) (size freed : ℕ) (b : Reply) → LegalPlace s id cred size (Full freed) → LegalPlace s id cred size b → Full freed ≡ b
 place_full s id cred size freed Gone la lb = absurd (lb la.0)
-place_full s id cred size freed Denied la lb = absurd (lb.1 tt)
+place_full s id cred size freed Denied la lb = absurd (lb.1 la.1)
 place_full s id cred size freed (Full other) la lb = ap Full (la.3 ∙ sym lb.3)
 place_full s id cred size freed (Accepted number) la lb = absurd (la.2 lb.2)
 place_full s id cred size freed b la lb = absurd lb
 
 place_accepted : (s : Slot) (id : ℤ) (cred : Cred) (size number : ℕ) (b : Reply) → LegalPlace s id cred size (Accepted number) → LegalPlace s id cred size b → Accepted number ≡ b
 place_accepted s id cred size number Gone la lb = absurd (lb la.0)
-place_accepted s id cred size number Denied la lb = absurd (lb.1 tt)
+place_accepted s id cred size number Denied la lb = absurd (lb.1 la.1)
 place_accepted s id cred size number (Full other) la lb = absurd (lb.2 la.2)
 place_accepted s id cred size number (Accepted other) la lb = ap Accepted (la.3 ∙ sym lb.3)
 place_accepted s id cred size number b la lb = absurd lb
+
+place_denied : (s : Slot) (id : ℤ) (cred : Cred) (size : ℕ) (b : Reply) → LegalPlace s id cred size Denied → LegalPlace s id cred size b → Denied ≡ b
+place_denied s id cred size Gone la lb = absurd (lb la.0)
+place_denied s id cred size Denied la lb = refl
+place_denied s id cred size (Full other) la lb = absurd (la.1 lb.1)
+place_denied s id cred size (Accepted number) la lb = absurd (la.1 lb.1)
+place_denied s id cred size b la lb = absurd lb
 
 place_gone : (s : Slot) (id : ℤ) (cred : Cred) (size : ℕ) (b : Reply) → LegalPlace s id cred size Gone → LegalPlace s id cred size b → Gone ≡ b
 place_gone s id cred size Gone la lb = refl
@@ -149,67 +178,66 @@ place_gone s id cred size b la lb = absurd lb
 
 one_place : (s : Slot) (id : ℤ) (cred : Cred) (size : ℕ) (a b : Reply) → LegalPlace s id cred size a → LegalPlace s id cred size b → a ≡ b
 one_place s id cred size Gone b la lb = place_gone s id cred size b la lb
-one_place s id cred size Denied b la lb = absurd (la.1 tt)
+one_place s id cred size Denied b la lb = place_denied s id cred size b la lb
 one_place s id cred size (Full freed) b la lb = place_full s id cred size freed b la lb
 one_place s id cred size (Accepted number) b la lb = place_accepted s id cred size number b la lb
 one_place s id cred size a b la lb = absurd la
 
-first_place : (ms : List Message) (place : ℕ) → IsNamed Any ms place → place ≡ 0
-first_place ms zero named = refl
-first_place ms (suc place) named = absurd (named.1 0 (omega arith))
+module _ (one_named : OneNamed) where
+  take_none : (s : Slot) (id : ℤ) (cred : Cred) (selector : Selector) (size : ℕ) (noerror : Bool) (arrived : ℕ) (b : Reply) → LegalTake s id cred selector size noerror (NoMatch arrived) → LegalTake s id cred selector size noerror b → NoMatch arrived ≡ b
+  take_none s id cred selector size noerror arrived Gone la lb = absurd (lb la.0)
+  take_none s id cred selector size noerror arrived Denied la lb = absurd (lb.1 la.1)
+  take_none s id cred selector size noerror arrived (NoMatch other) la lb = ap NoMatch (la.3 ∙ sym lb.3)
+  take_none s id cred selector size noerror arrived TooLong la lb = absurd (la.2 lb.2.1.0 lb.2.1.1)
+  take_none s id cred selector size noerror arrived (Taken m) la lb = absurd (la.2 lb.2.0 lb.2.1)
+  take_none s id cred selector size noerror arrived b la lb = absurd lb
 
-one_named : (s : Slot) (m n : Message) → Names s Any m → Names s Any n → m ≡ n
-one_named s m n a b =
-    same_message s.messages 0 m n
-    (subst (λ i. slice_get s.messages i ≡ Some m) (first_place s.messages a.0 a.1) a.2)
-    (subst (λ i. slice_get s.messages i ≡ Some n) (first_place s.messages b.0 b.1) b.2)
+  take_long : (s : Slot) (id : ℤ) (cred : Cred) (selector : Selector) (size : ℕ) (noerror : Bool) (b : Reply) → LegalTake s id cred selector size noerror TooLong → LegalTake s id cred selector size noerror b → TooLong ≡ b
+  take_long s id cred selector size noerror Gone la lb = absurd (lb la.0)
+  take_long s id cred selector size noerror Denied la lb = absurd (lb.1 la.1)
+  take_long s id cred selector size noerror (NoMatch other) la lb = absurd (lb.2 la.2.1.0 la.2.1.1)
+  take_long s id cred selector size noerror TooLong la lb = refl
+  take_long s id cred selector size noerror (Taken m) la lb = absurd (la.2.2 (subst (IsGivable size noerror) (one_message_named one_named s selector m la.2.0 lb.2 la.2.1) lb.3))
+  take_long s id cred selector size noerror b la lb = absurd lb
 
-take_none : (s : Slot) (id : ℤ) (cred : Cred) (size : ℕ) (noerror : Bool) (arrived : ℕ) (b : Reply) → LegalTake s id cred Any size noerror (NoMatch arrived) → LegalTake s id cred Any size noerror b → NoMatch arrived ≡ b
-take_none s id cred size noerror arrived Gone la lb = absurd (lb la.0)
-take_none s id cred size noerror arrived Denied la lb = absurd (lb.1 tt)
-take_none s id cred size noerror arrived (NoMatch other) la lb = ap NoMatch (la.3 ∙ sym lb.3)
-take_none s id cred size noerror arrived TooLong la lb = absurd (la.2 lb.2.1.0 lb.2.1.1)
-take_none s id cred size noerror arrived (Taken m) la lb = absurd (la.2 lb.2.0 lb.2.1)
-take_none s id cred size noerror arrived b la lb = absurd lb
+  take_taken : (s : Slot) (id : ℤ) (cred : Cred) (selector : Selector) (size : ℕ) (noerror : Bool) (m : Message) (b : Reply) → LegalTake s id cred selector size noerror (Taken m) → LegalTake s id cred selector size noerror b → Taken m ≡ b
+  take_taken s id cred selector size noerror m Gone la lb = absurd (lb la.0)
+  take_taken s id cred selector size noerror m Denied la lb = absurd (lb.1 la.1)
+  take_taken s id cred selector size noerror m (NoMatch other) la lb = absurd (lb.2 la.2.0 la.2.1)
+  take_taken s id cred selector size noerror m TooLong la lb = absurd (lb.2.2 (subst (IsGivable size noerror) (one_message_named one_named s selector m lb.2.0 la.2 lb.2.1) la.3))
+  take_taken s id cred selector size noerror m (Taken n) la lb = ap Taken (one_message_named one_named s selector m n la.2 lb.2)
+  take_taken s id cred selector size noerror m b la lb = absurd lb
 
-take_long : (s : Slot) (id : ℤ) (cred : Cred) (size : ℕ) (noerror : Bool) (b : Reply) → LegalTake s id cred Any size noerror TooLong → LegalTake s id cred Any size noerror b → TooLong ≡ b
-take_long s id cred size noerror Gone la lb = absurd (lb la.0)
-take_long s id cred size noerror Denied la lb = absurd (lb.1 tt)
-take_long s id cred size noerror (NoMatch other) la lb = absurd (lb.2 la.2.1.0 la.2.1.1)
-take_long s id cred size noerror TooLong la lb = refl
-take_long s id cred size noerror (Taken m) la lb = absurd (la.2.2 (subst (IsGivable size noerror) (one_named s m la.2.0 lb.2 la.2.1) lb.3))
-take_long s id cred size noerror b la lb = absurd lb
+  take_denied : (s : Slot) (id : ℤ) (cred : Cred) (selector : Selector) (size : ℕ) (noerror : Bool) (b : Reply) → LegalTake s id cred selector size noerror Denied → LegalTake s id cred selector size noerror b → Denied ≡ b
+  take_denied s id cred selector size noerror Gone la lb = absurd (lb la.0)
+  take_denied s id cred selector size noerror Denied la lb = refl
+  take_denied s id cred selector size noerror (NoMatch other) la lb = absurd (la.1 lb.1)
+  take_denied s id cred selector size noerror TooLong la lb = absurd (la.1 lb.1)
+  take_denied s id cred selector size noerror (Taken m) la lb = absurd (la.1 lb.1)
+  take_denied s id cred selector size noerror b la lb = absurd lb
 
-take_taken : (s : Slot) (id : ℤ) (cred : Cred) (size : ℕ) (noerror : Bool) (m : Message) (b : Reply) → LegalTake s id cred Any size noerror (Taken m) → LegalTake s id cred Any size noerror b → Taken m ≡ b
-take_taken s id cred size noerror m Gone la lb = absurd (lb la.0)
-take_taken s id cred size noerror m Denied la lb = absurd (lb.1 tt)
-take_taken s id cred size noerror m (NoMatch other) la lb = absurd (lb.2 la.2.0 la.2.1)
-take_taken s id cred size noerror m TooLong la lb = absurd (lb.2.2 (subst (IsGivable size noerror) (one_named s m lb.2.0 la.2 lb.2.1) la.3))
-take_taken s id cred size noerror m (Taken n) la lb = ap Taken (one_named s m n la.2 lb.2)
-take_taken s id cred size noerror m b la lb = absurd lb
+  take_gone : (s : Slot) (id : ℤ) (cred : Cred) (selector : Selector) (size : ℕ) (noerror : Bool) (b : Reply) → LegalTake s id cred selector size noerror Gone → LegalTake s id cred selector size noerror b → Gone ≡ b
+  take_gone s id cred selector size noerror Gone la lb = refl
+  take_gone s id cred selector size noerror Denied la lb = absurd (la lb.0)
+  take_gone s id cred selector size noerror (NoMatch other) la lb = absurd (la lb.0)
+  take_gone s id cred selector size noerror TooLong la lb = absurd (la lb.0)
+  take_gone s id cred selector size noerror (Taken m) la lb = absurd (la lb.0)
+  take_gone s id cred selector size noerror b la lb = absurd lb
 
-take_gone : (s : Slot) (id : ℤ) (cred : Cred) (size : ℕ) (noerror : Bool) (b : Reply) → LegalTake s id cred Any size noerror Gone → LegalTake s id cred Any size noerror b → Gone ≡ b
-take_gone s id cred size noerror Gone la lb = refl
-take_gone s id cred size noerror Denied la lb = absurd (la lb.0)
-take_gone s id cred size noerror (NoMatch other) la lb = absurd (la lb.0)
-take_gone s id cred size noerror TooLong la lb = absurd (la lb.0)
-take_gone s id cred size noerror (Taken m) la lb = absurd (la lb.0)
-take_gone s id cred size noerror b la lb = absurd lb
+  one_take : (s : Slot) (id : ℤ) (cred : Cred) (selector : Selector) (size : ℕ) (noerror : Bool) (a b : Reply) → LegalTake s id cred selector size noerror a → LegalTake s id cred selector size noerror b → a ≡ b
+  one_take s id cred selector size noerror Gone b la lb = take_gone s id cred selector size noerror b la lb
+  one_take s id cred selector size noerror Denied b la lb = take_denied s id cred selector size noerror b la lb
+  one_take s id cred selector size noerror (NoMatch arrived) b la lb = take_none s id cred selector size noerror arrived b la lb
+  one_take s id cred selector size noerror TooLong b la lb = take_long s id cred selector size noerror b la lb
+  one_take s id cred selector size noerror (Taken m) b la lb = take_taken s id cred selector size noerror m b la lb
+  one_take s id cred selector size noerror a b la lb = absurd la
 
-one_take : (s : Slot) (id : ℤ) (cred : Cred) (size : ℕ) (noerror : Bool) (a b : Reply) → LegalTake s id cred Any size noerror a → LegalTake s id cred Any size noerror b → a ≡ b
-one_take s id cred size noerror Gone b la lb = take_gone s id cred size noerror b la lb
-one_take s id cred size noerror Denied b la lb = absurd (la.1 tt)
-one_take s id cred size noerror (NoMatch arrived) b la lb = take_none s id cred size noerror arrived b la lb
-one_take s id cred size noerror TooLong b la lb = take_long s id cred size noerror b la lb
-one_take s id cred size noerror (Taken m) b la lb = take_taken s id cred size noerror m b la lb
-one_take s id cred size noerror a b la lb = absurd la
+  one_reply : (s : Slot) (call : Call) (a b : Reply) → Legal s call a → Legal s call b → a ≡ b
+  one_reply s (Install id key cred mode now) a b la lb = one_install s a b la lb
+  one_reply s (Look id cred size) a b la lb = one_look s id cred size a b la lb
+  one_reply s (Place id cred mtype bytes now) a b la lb = one_place s id cred (length bytes) a b la lb
+  one_reply s (Take id cred selector size noerror now) a b la lb = one_take s id cred selector size noerror a b la lb
+  one_reply s call a b la lb = absurd la
 
-one_reply : (s : Slot) (call : Call) (a b : Reply) → Legal s call a → Legal s call b → a ≡ b
-one_reply s (Install id key cred mode now) a b la lb = one_install s a b la lb
-one_reply s (Look id cred size) a b la lb = one_look s id cred size a b la lb
-one_reply s (Place id cred mtype bytes now) a b la lb = one_place s id cred (length bytes) a b la lb
-one_reply s (Take id cred Any size noerror now) a b la lb = one_take s id cred size noerror a b la lb
-one_reply s call a b la lb = absurd la
-
-pub no_two_replies_are_legal : NoTwoRepliesAreLegal
-no_two_replies_are_legal h call a b la lb = one_reply (slot_of h) call a b la lb
+  pub no_two_replies_are_legal : NoTwoRepliesAreLegal
+  no_two_replies_are_legal h call a b la lb = one_reply (slot_of h) call a b la lb

@@ -5,11 +5,17 @@ ghost use Rattle.sysv_queue.specs.LegalReply.{IsLegalHistory};
 ghost use Rattle.sysv_queue.specs.OneReply.{SomeReplyIsLegal, NoTwoRepliesAreLegal};
 ghost use Rattle.sysv_queue.specs.QueueLaw.{QueueLaw};
 
+use sysv_rules::laws::{granted_or_not, named_or_none, one_named};
+
 /// After each history each call that is there has one legal reply, and no two.
 pub fn one_legal_reply()
     ensures some { SomeReplyIsLegal }
     ensures one { NoTwoRepliesAreLegal }
-{}
+{
+    granted_or_not();
+    named_or_none();
+    one_named();
+}
 
 /// Each history of legal replies obeys the queue law.
 pub fn queue_law()
