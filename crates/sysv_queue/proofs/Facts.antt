@@ -97,10 +97,16 @@ module _ (h : History) (who : Who) (f : Facts h) (at : ℤ) (cred : Cred) (mtype
   low_number : (id : ℤ) → AreBelow number (accepted id h)
   low_number id = subst (λ n. AreBelow n (accepted id h)) (sym numbered) (f.low id)
 
+  pub accepted-sent : accepted at (h ++ sent_turn ∷ []) ≡ accepted at h ++ sent_message ∷ []
+  accepted-sent = accepted-more at h sent_turn ∙ ap (λ t. accepted at h ++ cond t (sent_message ∷ []) []) (same_id at at refl)
+
+  pub accepted_else : (id : ℤ) → ¬ (at ≡ id) → accepted id (h ++ sent_turn ∷ []) ≡ accepted id h
+  accepted_else id other = accepted-more id h sent_turn ∙ none_with (int_eq at id) (accepted id h) sent_message (other_id at id other)
+
   pub waiting_else : (id : ℤ) → ¬ (at ≡ id) → waiting id (h ++ sent_turn ∷ []) ≡ waiting id h
   waiting_else id other =
       let e = sent_turn in
-      ap (λ ms. waiting_from ms (delivered id (h ++ e ∷ []) ++ discarded id (h ++ e ∷ []))) (accepted-more id h e ∙ none_with (int_eq at id) (accepted id h) sent_message (other_id at id other))
+      ap (λ ms. waiting_from ms (delivered id (h ++ e ∷ []) ++ discarded id (h ++ e ∷ []))) (accepted_else id other)
       ∙ (ap (λ ms. waiting_from (accepted id h) (ms ++ discarded id (h ++ e ∷ []))) (delivered-sent id)
       ∙ ap (λ ms. waiting_from (accepted id h) (delivered id h ++ ms)) (discarded-sent id))
 
@@ -108,10 +114,9 @@ module _ (h : History) (who : Who) (f : Facts h) (at : ℤ) (cred : Cred) (mtype
   waiting-sent =
       let e = sent_turn in
       let gone : List Message = delivered at h ++ discarded at h in
-      let all : accepted at (h ++ e ∷ []) ≡ accepted at h ++ sent_message ∷ [] = accepted-more at h e ∙ ap (λ t. accepted at h ++ cond t (sent_message ∷ []) []) (same_id at at refl) in
       let gone_is : gone ≡ delivered at h = ap (λ ms. delivered at h ++ ms) (f.kept at) ∙ append-nil _ in
       let new : has_number number gone ≡ false = ap (has_number number) gone_is ∙ is_new number (delivered at h) (subst (λ n. AreBelow n (delivered at h)) (sym numbered) (f.gone_low at)) in
-      ap (λ ms. waiting_from ms (delivered at (h ++ e ∷ []) ++ discarded at (h ++ e ∷ []))) all
+      ap (λ ms. waiting_from ms (delivered at (h ++ e ∷ []) ++ discarded at (h ++ e ∷ []))) accepted-sent
       ∙ (ap (λ ms. waiting_from (accepted at h ++ sent_message ∷ []) (ms ++ discarded at (h ++ e ∷ []))) (delivered-sent at)
       ∙ (ap (λ ms. waiting_from (accepted at h ++ sent_message ∷ []) (delivered at h ++ ms)) (discarded-sent at)
       ∙ waiting-accepted (accepted at h) gone sent_message new))
@@ -155,11 +160,17 @@ module _ (h : History) (who : Who) (f : Facts h) (at : ℤ) (cred : Cred) (selec
   pub taken_low : m.number < arrived h
   taken_low = at_place (λ (x : Message). x.number < arrived h) (waiting at h) place m (waiting_low h at f) there_at
 
+  pub delivered-taken : delivered at (h ++ taken_turn ∷ []) ≡ delivered at h ++ m ∷ []
+  delivered-taken = delivered-more at h taken_turn ∙ ap (λ t. delivered at h ++ cond t (m ∷ []) []) (same_id at at refl)
+
+  pub delivered_else : (id : ℤ) → ¬ (at ≡ id) → delivered id (h ++ taken_turn ∷ []) ≡ delivered id h
+  delivered_else id other = delivered-more id h taken_turn ∙ none_with (int_eq at id) (delivered id h) m (other_id at id other)
+
   pub untouched : (id : ℤ) → ¬ (at ≡ id) → waiting id (h ++ taken_turn ∷ []) ≡ waiting id h
   untouched id other =
       let e = taken_turn in
       ap (λ ms. waiting_from ms (delivered id (h ++ e ∷ []) ++ discarded id (h ++ e ∷ []))) (accepted-taken id)
-      ∙ (ap (λ ms. waiting_from (accepted id h) (ms ++ discarded id (h ++ e ∷ []))) (delivered-more id h e ∙ none_with (int_eq at id) (delivered id h) m (other_id at id other))
+      ∙ (ap (λ ms. waiting_from (accepted id h) (ms ++ discarded id (h ++ e ∷ []))) (delivered_else id other)
       ∙ ap (λ ms. waiting_from (accepted id h) (delivered id h ++ ms)) (discarded-taken id))
 
   taken_facts : Facts (h ++ taken_turn ∷ [])
@@ -183,9 +194,8 @@ module _ (h : History) (who : Who) (f : Facts h) (at : ℤ) (cred : Cred) (selec
       let gone_after : delivered at (h ++ e ∷ []) ++ discarded at (h ++ e ∷ []) ≡ (delivered at h ++ discarded at h) ++ m ∷ [] =
       ap (λ ms. delivered at (h ++ e ∷ []) ++ ms) (discarded-taken at ∙ f.kept at)
       ∙ (append-nil _
-      ∙ (delivered-more at h e
-      ∙ (ap (λ t. delivered at h ++ cond t (m ∷ []) []) (same_id at at refl)
-      ∙ ap (λ ms. ms ++ m ∷ []) (sym (append-nil (delivered at h)) ∙ ap (λ ms. delivered at h ++ ms) (sym (f.kept at)))))) in
+      ∙ (delivered-taken
+      ∙ ap (λ ms. ms ++ m ∷ []) (sym (append-nil (delivered at h)) ∙ ap (λ ms. delivered at h ++ ms) (sym (f.kept at))))) in
       ap (λ ms. waiting_from ms (delivered at (h ++ e ∷ []) ++ discarded at (h ++ e ∷ []))) (accepted-taken at)
       ∙ (ap (waiting_from (accepted at h)) gone_after
       ∙ (waiting-delivered (accepted at h) (delivered at h ++ discarded at h) m

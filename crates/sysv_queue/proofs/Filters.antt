@@ -1,8 +1,8 @@
 -- Lists of messages whose numbers rise, and what waits of them once one more was accepted or
 -- delivered.
 use Rattle.std.proofs.Common.{◌≡◌, ℕ, zero, suc, ◌<◌, ◌==◌, Bool, true, false, not, cond, ◌||◌, List, [], ◌∷◌, ◌++◌, Some, refl, ap, subst, ◌∙◌, arith, remove, slice_get, rules}
-use Rattle.std.specs.List.{filter, AllByRecursion}
-use Rattle.std.proofs.lemmas.List.Elements.{filter-append}
+use Rattle.std.specs.List.{filter, AllByRecursion, Contains}
+use Rattle.std.proofs.lemmas.List.Elements.{filter-append, All-from_recursion, All-contains}
 use Rattle.std.proofs.lemmas.List.Folds.{list_any-append}
 use Rattle.std.proofs.lemmas.Bool.Decides.{nat_tests}
 use Rattle.sysv_model.specs.Message.{Message}
@@ -20,6 +20,9 @@ AreBelow n xs = AllByRecursion (λ (m : Message). m.number < n) xs
 pub weaker : {X : Type 0} (P Q : X → Type 0) → ((x : X) → P x → Q x) → (xs : List X) → AllByRecursion P xs → AllByRecursion Q xs
 weaker P Q f [] a = tt
 weaker P Q f (x ∷ xs) a = (f x a.0, weaker P Q f xs a.1)
+
+pub below_of : (n : ℕ) (xs : List Message) (m : Message) → AreBelow n xs → Contains xs m → m.number < n
+below_of n xs m a h = All-contains (λ (x : Message). x.number < n) xs m (All-from_recursion (λ (x : Message). x.number < n) xs a) h
 
 pub pushed : {X : Type 0} (P : X → Type 0) (xs : List X) (x : X) → AllByRecursion P xs → P x → AllByRecursion P (xs ++ x ∷ [])
 pushed P [] x a p = (p, tt)
@@ -89,7 +92,7 @@ all_kept n (x ∷ xs) a =
     ap (λ t. cond (not t) (x ∷ filter (λ (y : Message). not (n == y.number)) xs) (filter (λ (y : Message). not (n == y.number)) xs)) other
     ∙ ap (λ ys. x ∷ ys) (all_kept n xs a.1)
 
-above_first : (n : ℕ) (xs : List Message) (place : ℕ) (m : Message) → AllByRecursion (λ (y : Message). n < y.number) xs → slice_get xs place ≡ Some m → n < m.number
+pub above_first : (n : ℕ) (xs : List Message) (place : ℕ) (m : Message) → AllByRecursion (λ (y : Message). n < y.number) xs → slice_get xs place ≡ Some m → n < m.number
 above_first n [] place m a e = absurd cc
 above_first n (x ∷ xs) zero m a e = let same : x ≡ m = cc in subst (λ (y : Message). n < y.number) same a.0
 above_first n (x ∷ xs) (suc place) m a e = above_first n xs place m a.1 e

@@ -1,9 +1,9 @@
 -- The message at a place, the one that a selector names, and what a receive can not give of it.
-use Rattle.std.proofs.Common.{◌≡◌, ℕ, ℤ, zero, suc, ◌<◌, Bool, true, false, List, [], ◌∷◌, length, Option, Some, refl, sym, subst, ◌∙◌, arith, slice_get, inl, inr}
+use Rattle.std.proofs.Common.{◌≡◌, ℕ, ℤ, zero, suc, ◌<◌, Bool, true, false, List, [], ◌∷◌, length, Option, Some, refl, sym, ap, subst, ◌∙◌, arith, slice_get, inl, inr}
 use Rattle.std.proofs.lemmas.List.{length-map}
 use Rattle.sysv_model.specs.Message.{Message}
 use Rattle.sysv_model.specs.Selector.{Selector, Any, Exactly, UpTo}
-use Rattle.sysv_rules.specs.Qualifies.{QualifiesAt, NoneQualifies}
+use Rattle.sysv_rules.specs.Qualifies.{QualifiesAt, NoneQualifies, type_at}
 use Rattle.sysv_rules.specs.Named.{IsNamed as IsNamedAmong}
 use Rattle.sysv_queue.specs.Slot.{Slot}
 use Rattle.sysv_queue.specs.Named.{IsNamed, types_of}
@@ -45,6 +45,17 @@ named_message s selector place named =
     let within : place < length s.messages = subst (λ n. place < n) (length-map s.messages (λ (m : Message). m.mtype)) (named_qualifies selector (types_of s.messages) place named).0 in
     let at = some_message s.messages place within in
     (at.0, (place, named, at.1))
+
+pub type_of_place : (ms : List Message) (place : ℕ) (m : Message) → slice_get ms place ≡ Some m → type_at (types_of ms) place ≡ m.mtype
+type_of_place [] place m there = absurd cc
+type_of_place (x ∷ ms) zero m there = let same : x ≡ m = cc in ap (λ (y : Message). y.mtype) same
+type_of_place (x ∷ ms) (suc place) m there = type_of_place ms place m there
+
+-- a named place is the first of its type
+pub first_of_type : (selector : Selector) (types : List ℤ) (place earlier : ℕ) → IsNamedAmong selector types place → earlier < place → ¬ (type_at types earlier ≡ type_at types place)
+first_of_type Any types place earlier named less same = named.1 earlier less (omega (arith, named.0.0), tt)
+first_of_type (Exactly asked) types place earlier named less same = named.1 earlier less (omega (arith, named.0.0), same ∙ named.0.1)
+first_of_type (UpTo bound) types place earlier named less same = named.1.2 earlier less same
 
 -- two messages that a selector names are one, as it names one place
 module _ (one_named : OneNamed) where
