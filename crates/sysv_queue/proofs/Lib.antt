@@ -9,5 +9,7 @@ pub mod Removal
 pub mod Rules
 pub mod Naming
 pub mod Order
+pub mod Distinct
+pub mod Conserved
 pub mod Law
 pub mod OneLegalReply

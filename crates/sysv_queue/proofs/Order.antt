@@ -1,55 +1,58 @@
--- Messages in the order of acceptance: what is delivered is a front of it, and what waits the rest.
-use Rattle.std.proofs.Common.{◌≡◌, ◌≢◌, zero, suc, ℤ, ◌<◌, List, [], ◌∷◌, ◌++◌, refl, sym, ap, subst, ◌∙◌, arith, append_assoc}
+-- Messages in the order of acceptance, and which of two stands before the other.
+use Rattle.std.proofs.Common.{◌≡◌, ◌≢◌, ℕ, zero, suc, ℤ, ◌<◌, ◌⊎◌, inl, inr, Bool, true, false, cond, List, [], ◌∷◌, ◌++◌, Some, refl, ap, subst, ◌∙◌, arith, slice_get, append_assoc}
 use Rattle.std.specs.List.{AllByRecursion, AllPairs, Contains}
 use Rattle.std.proofs.lemmas.Grind.{flat_map-append}
 use Rattle.std.proofs.lemmas.List.Concat.{flat_map-cons}
 use Rattle.std.proofs.lemmas.List.Kept.{AllPairs-cons}
-use Rattle.std.proofs.lemmas.List.Elements.{All-from_recursion}
+use Rattle.std.proofs.lemmas.List.Elements.{All-from_recursion, Contains-push_cases}
+use Rattle.std.proofs.lemmas.List.{append-nil}
 use Rattle.sysv_model.specs.Message.{Message}
 use Rattle.sysv_model.specs.History.{Entry, History}
 use Rattle.sysv_model.specs.Waiting.{accepted, accepted_by}
 use Rattle.sysv_queue.specs.QueueLaw.{StandsBefore}
-use Rattle.sysv_queue.proofs.Filters.{Rises, weaker}
+use Rattle.sysv_queue.proofs.Filters.{Rises, above_first}
+
+-- each number is below all later ones
+below_later : (xs : List Message) → Rises xs → AllPairs (λ (m n : Message). m.number < n.number) xs
+below_later [] r = λ i j d l k. absurd (omega arith)
+below_later (x ∷ xs) r =
+    AllPairs-cons (λ (m n : Message). m.number < n.number) x xs (All-from_recursion (λ (n : Message). x.number < n.number) xs r.0) (below_later xs r.1)
 
 -- numbers that rise are apart
 pub apart_where_rising : (xs : List Message) → Rises xs → AllPairs (λ (m n : Message). m.number ≢ n.number) xs
-apart_where_rising [] r = λ i j d l k. absurd (omega arith)
-apart_where_rising (x ∷ xs) r =
-    AllPairs-cons (λ (m n : Message). m.number ≢ n.number) x xs
-    (All-from_recursion (λ (n : Message). x.number ≢ n.number) xs (weaker (λ (n : Message). x.number < n.number) (λ (n : Message). x.number ≢ n.number) (λ n below e. omega arith) xs r.0))
-    (apart_where_rising xs r.1)
+apart_where_rising xs r = λ i j d l k e. let below = below_later xs r i j d l k in omega arith
 
-front_below : (P : Message → Type 0) (xs ys : List Message) → AllByRecursion P (xs ++ ys) → AllByRecursion P xs
-front_below P [] ys a = tt
-front_below P (x ∷ xs) ys a = (a.0, front_below P xs ys a.1)
-
-pub rises_front : (xs ys : List Message) → Rises (xs ++ ys) → Rises xs
-rises_front [] ys r = tt
-rises_front (x ∷ xs) ys r = (front_below (λ (m : Message). x.number < m.number) xs ys r.0, rises_front xs ys r.1)
+-- where numbers rise, the lesser stands at the earlier place
+pub earlier_place : (xs : List Message) (i j : ℕ) (m n : Message) → Rises xs → slice_get xs i ≡ Some m → slice_get xs j ≡ Some n → m.number < n.number → i < j
+earlier_place [] i j m n r a b less = absurd cc
+earlier_place (x ∷ xs) zero zero m n r a b less = let same : m ≡ n = cc in let number = ap (λ (y : Message). y.number) same in absurd (omega arith)
+earlier_place (x ∷ xs) zero (suc j) m n r a b less = omega arith
+earlier_place (x ∷ xs) (suc i) zero m n r a b less =
+    let same : x ≡ n = cc in
+    let number = ap (λ (y : Message). y.number) same in
+    let above = above_first x.number xs i m r.0 a in
+    absurd (omega arith)
+earlier_place (x ∷ xs) (suc i) (suc j) m n r a b less = let rest = earlier_place xs i j m n r.1 a b less in omega arith
 
 middle_has : (P : Message → Type 0) (xs ys : List Message) (m : Message) → AllByRecursion P (xs ++ m ∷ ys) → P m
 middle_has P [] ys m a = a.0
 middle_has P (x ∷ xs) ys m a = middle_has P xs ys m a.1
 
-one_place : (p q p' q' : List Message) (n : Message) → Rises (p ++ n ∷ q) → p ++ n ∷ q ≡ p' ++ n ∷ q' → p ≡ p'
-one_place [] q [] q' n r e = refl
-one_place [] q (y ∷ p') q' n r e =
-    let rest : q ≡ p' ++ n ∷ q' = cc in
-    let below = middle_has (λ (m : Message). n.number < m.number) p' q' n (subst (λ xs. AllByRecursion (λ (m : Message). n.number < m.number) xs) rest r.0) in
-    absurd (omega arith)
-one_place (x ∷ p) q [] q' n r e =
-    let same : x ≡ n = cc in
-    let below = middle_has (λ (m : Message). x.number < m.number) p q n r.0 in
-    let number = ap (λ (m : Message). m.number) same in
-    absurd (omega arith)
-one_place (x ∷ p) q (y ∷ p') q' n r e =
-    let same : x ≡ y = cc in
-    let rest : p ++ n ∷ q ≡ p' ++ n ∷ q' = cc in
-    let fronts = one_place p q p' q' n r.1 rest in
-    cc
+-- of two messages of such a list the one before has the lesser number
+pub rises_across : (a b c : List Message) (m n : Message) → Rises (a ++ m ∷ (b ++ n ∷ c)) → m.number < n.number
+rises_across [] b c m n r = middle_has (λ (x : Message). m.number < x.number) b c n r.0
+rises_across (x ∷ a) b c m n r = rises_across a b c m n r.1
+
+pub nothing_in : (m : Message) → Contains [] m → ⊥
+nothing_in m h = omega (arith, h.1)
+
+-- what stands in a list with one more message stood in it, or is that message
+pub old_or_new : (t : Bool) (xs : List Message) (x m : Message) → Contains (xs ++ cond t (x ∷ []) []) m → Contains xs m ⊎ ((t ≡ true) × (x ≡ m))
+old_or_new true xs x m h = elim (Contains-push_cases xs x m h) [ inl old ↦ inl old | inr new ↦ inr (refl, new) ]
+old_or_new false xs x m h = inl (subst (λ ms. Contains ms m) (append-nil xs) h)
 
 -- where an element of a list stands
-pub found : (xs : List Message) (x : Message) → Contains xs x → (p : List Message) × (q : List Message) × (xs ≡ p ++ x ∷ q)
+found : (xs : List Message) (x : Message) → Contains xs x → (p : List Message) × (q : List Message) × (xs ≡ p ++ x ∷ q)
 found [] x h = absurd (omega (arith, h.1))
 found (y ∷ xs) x (zero, within, e) = let same : y ≡ x = e in ([], xs, cc)
 found (y ∷ xs) x (suc k, within, e) =
@@ -57,16 +60,20 @@ found (y ∷ xs) x (suc k, within, e) =
     let tail : xs ≡ rest.0 ++ x ∷ rest.1 = rest.2 in
     (y ∷ rest.0, rest.1, cc)
 
--- two messages in order, of which the later is in a front of the list, stand so in that front
-pub ordered_front : (a b c front back : List Message) (m n : Message) → Rises (front ++ back) → front ++ back ≡ a ++ m ∷ (b ++ n ∷ c) → Contains front n → StandsBefore front m n
-ordered_front a b c front back m n r e has =
-    let at = found front n has in
-    let p = at.0 in
-    let q = at.1 in
-    let here : front ++ back ≡ p ++ n ∷ (q ++ back) = ap (λ xs. xs ++ back) at.2 ∙ append_assoc p (n ∷ q) back in
-    let there : front ++ back ≡ (a ++ m ∷ b) ++ n ∷ c = e ∙ sym (append_assoc a (m ∷ b) (n ∷ c)) in
-    let same : p ≡ a ++ m ∷ b = one_place p (q ++ back) (a ++ m ∷ b) c n (subst Rises here r) (sym here ∙ there) in
-    (a, b, q, at.2 ∙ (ap (λ xs. xs ++ n ∷ q) same ∙ append_assoc a (m ∷ b) (n ∷ q)))
+-- a list that goes on keeps what stands in it in order
+pub stands_more : (xs ys : List Message) (m n : Message) → StandsBefore xs m n → StandsBefore (xs ++ ys) m n
+stands_more xs ys m n (front, between, back, e) = (
+  front,
+  between,
+  back ++ ys,
+  ap (λ zs. zs ++ ys) e ∙ (append_assoc front (m ∷ (between ++ n ∷ back)) ys ∙ ap (λ zs. front ++ m ∷ zs) (append_assoc between (n ∷ back) ys)),
+)
+
+-- what is put at the end stands after all before it
+pub stands_last : (xs : List Message) (m n : Message) → Contains xs m → StandsBefore (xs ++ n ∷ []) m n
+stands_last xs m n has =
+    let at = found xs m has in
+    (at.0, at.1, [], ap (λ zs. zs ++ n ∷ []) at.2 ∙ append_assoc at.0 (m ∷ at.1) (n ∷ []))
 
 -- what was accepted stands in the order of the turns that accepted it
 pub accepted_around : (id : ℤ) (before middle after : History) (e f : Entry) (m n : Message) → accepted_by id e.call e.reply ≡ m ∷ [] → accepted_by id f.call f.reply ≡ n ∷ [] →
