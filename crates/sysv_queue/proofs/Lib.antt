@@ -11,5 +11,7 @@ pub mod Naming
 pub mod Order
 pub mod Distinct
 pub mod Conserved
+pub mod OneOwner
+pub mod InOrder
 pub mod Law
 pub mod OneLegalReply
