@@ -5,10 +5,11 @@ use Rattle.std.proofs.lemmas.List.{length-map}
 use Rattle.std.proofs.lemmas.List.Sums.{sum_by-remove}
 use Rattle.std.proofs.lemmas.Option.{slice_get_within, get_or_from_slice_get, slice_get-map, slice_get_read}
 use Rattle.sysv_model.specs.Message.{Message}
+use Rattle.sysv_model.specs.Selector.{Selector, Any, Exactly, UpTo}
 use Rattle.sysv_queue.specs.declared.slot.Waiting.{Waiting}
 use Rattle.sysv_queue.specs.Fits.{bytes_of}
 use Rattle.sysv_queue.specs.Kept.{message_of, messages_of}
-use Rattle.sysv_queue.specs.Named.{types_of}
+use Rattle.sysv_queue.specs.Named.{types_of, IsNamed}
 
 pub messages_of-remove : (ws : List Waiting) (place : ℕ) → messages_of (remove ws place) ≡ remove (messages_of ws) place
 messages_of-remove [] zero = refl
@@ -35,9 +36,11 @@ kept_within ws ms place same within = subst (λ n. place < n) (ap length (sym sa
 pub types_within : (types : List ℤ) (ms : List Message) (place : ℕ) → types ≡ types_of ms → place < length ms → place < length types
 types_within types ms place same within = subst (λ n. place < n) (sym (ap length same ∙ length-map ms _)) within
 
--- a place of the types is one of those kept
-pub typed_within : (ws : List Waiting) (types : List ℤ) (place : ℕ) → types ≡ types_of (messages_of ws) → place < length types → place < length ws
-typed_within ws types place same within = subst (λ n. place < n) (ap length same ∙ (length-map (messages_of ws) _ ∙ length-map ws message_of)) within
+-- a place that is named is one of the messages
+pub named_within : (selector : Selector) (ms : List Message) (place : ℕ) → IsNamed selector ms place → place < length ms
+named_within Any ms place named = subst (λ n. place < n) (length-map ms _) named.0.0
+named_within (Exactly asked) ms place named = subst (λ n. place < n) (length-map ms _) named.0.0
+named_within (UpTo bound) ms place named = subst (λ n. place < n) (length-map ms _) named.0.0
 
 pub types_left : (types : List ℤ) (ws : List Waiting) (place : ℕ) → types ≡ types_of (messages_of ws) → remove types place ≡ types_of (messages_of (remove ws place))
 types_left types ws place same =

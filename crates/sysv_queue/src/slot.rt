@@ -1,4 +1,4 @@
-ghost use Rattle.std.specs.Prelude.{false, ◌≡◌, ◌+◌, ◌^◌, ◌<◌, ◌≤◌, ◌↔◌, [], ◌∷◌, ◌++◌, length, take, slice_get, IfOk, IfErr, Some, IsSome, IsTrue, remove, option_map};
+ghost use Rattle.std.specs.Prelude.{false, ℕ, ◌≡◌, ◌+◌, ◌^◌, ◌<◌, ◌≤◌, ◌↔◌, [], ◌∷◌, ◌++◌, length, take, slice_get, IfOk, IfErr, Some, IsSome, IsTrue, MatchOption, remove, option_map};
 ghost use Rattle.sysv_model.specs.Message.{Message};
 ghost use Rattle.sysv_model.specs.History.{Install, Place, Take, Installed, Taken};
 ghost use Rattle.sysv_model.specs.History.{Look as LookCall};
@@ -6,6 +6,7 @@ ghost use Rattle.sysv_model.specs.Live.{HasId, sent_to, received_from};
 ghost use Rattle.sysv_rules.specs.Asked.{selector_of};
 ghost use Rattle.sysv_queue.specs.Fits.{bytes_of};
 ghost use Rattle.sysv_queue.specs.Granted.{IsGranted};
+ghost use Rattle.sysv_queue.specs.Named.{IsNamed};
 ghost use Rattle.sysv_queue.specs.LegalReply.{HasRoom};
 ghost use Rattle.sysv_queue.specs.StandsFor.{StandsFor, MakesTurn};
 ghost use Rattle.sysv_queue.specs.Replies.{look_reply, unplaced_reply, place_reply, untaken_reply, Gives};
@@ -231,6 +232,13 @@ impl QueueSlot {
         }
     }
 
+    /// The place of the message that `sel` names.
+    fn named(&self, sel: Selector) -> Option<usize>
+        ensures { MatchOption result ((place : ℕ) → ¬ IsNamed (selector_of sel) self.now.messages place) (IsNamed (selector_of sel) self.now.messages) }
+    {
+        select_plain(sel, &self.types)
+    }
+
     /// Puts a message that fits at the end.
     fn accept(&mut self, cred: Cred, mtype: i64, body: Body, now: u64) -> u64
         requires few { length self.old.messages < 256 }
@@ -359,7 +367,7 @@ impl QueueSlot {
         if !self.permits(cred, Want::Read) {
             return Err(TakeRefused::Denied);
         }
-        let Some(place) = select_plain(sel, &self.types) else {
+        let Some(place) = self.named(sel) else {
             return Err(TakeRefused::NoMatch {
                 arrived: self.arrived,
             });

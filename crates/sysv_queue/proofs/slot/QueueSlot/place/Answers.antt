@@ -1,6 +1,6 @@
 use Rattle.std.proofs.Common.{refl, w32, w64}
 use Rattle.std.proofs.lemmas.Int.{to_z-of_z}
-use Rattle.sysv_queue.proofs.Turns.{quiet_place_gone, quiet_place_full}
+use Rattle.sysv_queue.proofs.Turns.{quiet_place_gone, quiet_place_denied, quiet_place_full}
 use Rattle.sysv_queue.proofs.Stands.{turn_quiet, turn_sent}
 use Rattle.sysv_queue.proofs.slot.QueueSlot.place.Goals as goal
 
@@ -8,6 +8,11 @@ pub returns-in-Gone-clause-turn : goal.returns-in-Gone-clause-turn
 returns-in-Gone-clause-turn c =
     let legal = rw (to_z-of_z w32 c.args.id c.ranges.id) at c.in-Gone.ensures.turn.legal in
     turn_quiet _ _ _ (quiet_place_gone c.args.id c.args.cred c.args.mtype c.args.body c.args.now) legal
+
+pub returns-in-Denied-clause-turn : goal.returns-in-Denied-clause-turn
+returns-in-Denied-clause-turn c =
+    let legal = rw (to_z-of_z w32 c.args.id c.ranges.id) at c.in-Denied.ensures.turn.legal in
+    turn_quiet _ _ _ (quiet_place_denied c.args.id c.args.cred c.args.mtype c.args.body c.args.now) legal
 
 pub returns-in-Full-clause-turn : goal.returns-in-Full-clause-turn
 returns-in-Full-clause-turn c =
