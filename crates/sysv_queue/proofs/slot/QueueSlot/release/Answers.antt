@@ -36,7 +36,7 @@ invariant_of-self c =
     let after = ap (λ xs. bytes_of (messages_of xs)) c.remove-number.ensures.items ∙ ap bytes_of (messages_of-remove ws c.args.place) in
     let types = c.self.inside.types.items in
     let typed : c.remove.new.self.items ≡ types_of (messages_of c.remove-number.new.self.items) =
-        rw (c.remove.ensures.items, c.remove-number.ensures.items) (types_left types ws c.args.place c.self.invariant.3) in
+    rw (c.remove.ensures.items, c.remove-number.ensures.items) (types_left types ws c.args.place c.self.invariant.3) in
     let kept = c.self.invariant.4 in
     (omega arith, omega arith, omega arith, typed, omega arith)
 
