@@ -177,7 +177,7 @@ named_is m first ms place named there =
 not_both : (number : ℕ) → number ≡ 0 → number ≡ 1 → ⊥
 not_both number zeroth first = omega arith
 
-not_again : ¬ (hello_message ≡ empty_message)
+pub not_again : ¬ (hello_message ≡ empty_message)
 not_again same = not_both hello_message.number refl (ap (λ (m : Message). m.number) same)
 
 pub no_wrong_reply : NoWrongReply

@@ -1,14 +1,14 @@
 -- The replies worked by hand are the legal ones.
-use Rattle.std.proofs.Common.{◌≡◌, ℕ, ℤ, pos, zero, suc, ◌<◌, ◌≤◌, ◌<ℤ◌, ◌≤ℤ◌, ◌^◌, inl, inr, false, List, [], ◌∷◌, Some, refl, ap, arith, slice_get}
+use Rattle.std.proofs.Common.{◌≡◌, ℕ, ℤ, pos, zero, suc, ◌<◌, ◌≤◌, ◌<ℤ◌, ◌≤ℤ◌, ◌^◌, inl, inr, false, List, [], ◌∷◌, Some, refl, arith, slice_get}
 use Rattle.std.proofs.lemmas.Int.{ints}
 use Rattle.sysv_model.specs.Selector.{Any, Exactly, UpTo}
-use Rattle.sysv_model.specs.Message.{Message}
 use Rattle.sysv_model.specs.Live.{live}
 use Rattle.sysv_rules.specs.Qualifies.{QualifiesAt, type_at}
 use Rattle.sysv_rules.specs.Named.{IsNamed, IsLeast}
 use Rattle.sysv_queue.specs.LegalReply.{IsGivable}
 use Rattle.sysv_queue.specs.Granted.{MayRead, MayWrite}
 use Rattle.sysv_core.specs.WorkedRun.{receiver, hello_message, empty_message, after_turns}
+use Rattle.sysv_core.proofs.WorkedRun.{not_again}
 use Rattle.sysv_core.specs.WorkedSelection.{stranger, root, WorkedSelection}
 
 -- the types of the two messages
@@ -84,9 +84,8 @@ never_earliest : (bound place : ℕ) → IsNamed (UpTo bound) the_types place �
 never_earliest bound zero named there = first_not_named bound named
 never_earliest bound (suc zero) named there =
     let same : Some empty_message ≡ Some hello_message = there in
-    let other : empty_message ≡ hello_message = cc in
-    let number : 1 ≡ 0 = ap (λ (m : Message). m.number) other in
-    omega arith
+    let first : hello_message ≡ empty_message = cc in
+    not_again first
 never_earliest bound (suc (suc place)) named there = let within = named.0.0 in omega arith
 
 four_short : ¬ IsGivable 4 false hello_message
