@@ -1,10 +1,13 @@
 -- Every history of legal replies obeys the queue law.
-use Rattle.std.proofs.Common.{◌≡◌, ℤ, true, ◌∷◌, ◌++◌}
-use Rattle.sysv_model.specs.History.{Call, Remove, Reply, History}
-use Rattle.sysv_model.specs.Waiting.{accepted}
+use Rattle.std.proofs.Common.{◌≡◌, ℤ, true, ◌∷◌, ◌++◌, Some, subst, slice_get}
+use Rattle.sysv_model.specs.History.{Call, Take, Remove, Reply, Taken, History}
+use Rattle.sysv_model.specs.Live.{live}
+use Rattle.sysv_model.specs.Waiting.{accepted, held, waiting}
 use Rattle.sysv_queue.specs.Slot.{Slot, slot_of}
-use Rattle.sysv_queue.specs.LegalReply.{Legal, IsLegalHistory}
-use Rattle.sysv_queue.specs.QueueLaw.{QueueLaw, RemovalIsFinal, removes}
+use Rattle.sysv_queue.specs.Named.{IsNamed}
+use Rattle.sysv_queue.specs.LegalReply.{Legal, LegalTake, IsLegalHistory}
+use Rattle.sysv_queue.specs.QueueLaw.{QueueLaw, TakesNamed, RemovalIsFinal, removes}
+use Rattle.sysv_queue.proofs.Ids.{waiting_on-id}
 use Rattle.sysv_queue.proofs.Facts.{facts}
 use Rattle.sysv_queue.proofs.Order.{apart_where_rising}
 use Rattle.sysv_queue.proofs.Conserved.{conserved, all_accepted, each_once}
@@ -20,6 +23,16 @@ removal_final : (h : History) → IsLegalHistory h → RemovalIsFinal h
 removal_final h legal = λ id before middle after e f whole removed none.
     absurd (never_removes (slot_of before) e.call e.reply (legal before e (middle ++ f ∷ after) whole) id removed)
 
+takes_named : (h : History) → IsLegalHistory h → TakesNamed h
+takes_named h legal = λ before after who id cred selector size noerror now m whole.
+    let reply : LegalTake (slot_of before) id cred selector size noerror (Taken m) =
+    legal before (record { who = who; call = Take id cred selector size noerror now; reply = Taken m }) after whole in
+    let here : held before ≡ waiting id before = waiting_on-id (live before) id before reply.0 in (
+      reply.2.0,
+      subst (λ ms. IsNamed selector ms reply.2.0) here reply.2.1,
+      subst (λ ms. slice_get ms reply.2.0 ≡ Some m) here reply.2.2,
+    )
+
 pub queue_law : (h : History) → IsLegalHistory h → QueueLaw h
 queue_law h legal =
     let f = facts h legal in
@@ -32,6 +45,7 @@ queue_law h legal =
       once = each_once h f c;
       known = all_accepted h c;
       gone = f.others;
+      named = takes_named h legal;
       ordered = leaves_in_order h legal;
       final = removal_final h legal;
     }

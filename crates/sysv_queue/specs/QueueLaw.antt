@@ -1,13 +1,17 @@
 -- The law that every history of legal replies obeys (this profile's words for what POSIX.1-2017,
 -- msgsnd, msgrcv and msgctl, says of the messages of a queue): what was accepted is, each message
--- once, what was delivered, discarded or still waits; messages of one type leave in the order of
--- acceptance; and after a removal nothing more happens under the identifier.
-use Rattle.std.specs.Prelude.{◌≡◌, ◌≢◌, ℤ, Bool, true, false, List, [], ◌∷◌, ◌++◌, All, AllPairs, Contains, IsPermutation}
+-- once, what was delivered, discarded or still waits; each receive takes the very message that its
+-- selector names; messages of one type leave in the order of acceptance; and after a removal nothing
+-- more happens under the identifier.
+use Rattle.std.specs.Prelude.{◌≡◌, ◌≢◌, ℕ, ℤ, Bool, true, false, List, [], ◌∷◌, ◌++◌, Some, slice_get, All, AllPairs, Contains, IsPermutation}
 use Rattle.std.specs.Ordering.{int_eq}
 use Rattle.sysv_model.specs.Message.{Message}
-use Rattle.sysv_model.specs.History.{Call, Install, Remove, Reply, Installed, Discarded, Entry, History}
+use Rattle.sysv_model.specs.declared.cred.Cred.{Cred}
+use Rattle.sysv_model.specs.Selector.{Selector}
+use Rattle.sysv_model.specs.History.{Who, Call, Install, Take, Remove, Reply, Installed, Taken, Discarded, Entry, History}
 use Rattle.sysv_model.specs.Live.{IsLive}
 use Rattle.sysv_model.specs.Waiting.{accepted, delivered, discarded, waiting, accepted_by, delivered_by}
+use Rattle.sysv_queue.specs.Named.{IsNamed}
 use Rattle.sysv_queue.specs.LegalReply.{IsLegalHistory}
 
 -- a turn that removes the queue of this identifier, and one that makes one under it
@@ -22,6 +26,13 @@ installs id call reply = false
 -- the entry accepted this message under the identifier
 abbrev pub Accepts : ℤ → Entry → Message → Type 0
 Accepts id e m = accepted_by id e.call e.reply ≡ m ∷ []
+
+-- Selection: a receive that was given a message was given the one at the place that its selector names
+-- among those that waited under its identifier.
+abbrev pub TakesNamed : History → Type 0
+TakesNamed h = (before after : History) (who : Who) (id : ℤ) (cred : Cred) (selector : Selector) (size : ℕ) (noerror : Bool) (now : ℕ) (m : Message) →
+    h ≡ before ++ record { who = who; call = Take id cred selector size noerror now; reply = Taken m } ∷ after →
+    (place : ℕ) × IsNamed selector (waiting id before) place × (slice_get (waiting id before) place ≡ Some m)
 
 -- m stands before n in the list
 abbrev pub StandsBefore : List Message → Message → Message → Type 0
@@ -57,5 +68,6 @@ pub record QueueLaw (h : History) : Type 0 where
   pub known : (id : ℤ) → All (Contains (accepted id h)) (delivered id h ++ discarded id h)
   -- nothing waits under an identifier that is not live
   pub gone : (id : ℤ) → ¬ IsLive h id → waiting id h ≡ []
+  pub named : TakesNamed h
   pub ordered : LeavesInOrder h
   pub final : RemovalIsFinal h
