@@ -4,8 +4,9 @@
 -- twice, and one that put a message on the queue or took one off it is answered; each answer goes to
 -- the caller. (POSIX.1-2017, msgsnd and msgrcv, RETURN VALUE and ERRORS; which refusal comes first is
 -- this profile's.)
-use Rattle.std.specs.Prelude.{◌≡◌, ◌⊎◌, ◌==◌, ◌&&◌, Bool, true, false, List, [], ◌∷◌, ◌++◌, length, take, Some, All, Contains, filter, if◌then◌else◌}
+use Rattle.std.specs.Prelude.{◌≡◌, ◌⊎◌, ◌==◌, ◌&&◌, ℕ, Bool, true, false, List, [], ◌∷◌, ◌++◌, length, take, Option, None, Some, All, Contains, filter, if◌then◌else◌}
 use Rattle.std.specs.List.{list_any}
+use Rattle.sysv_model.specs.declared.errno.Errno.{Errno}
 use Rattle.sysv_model.specs.declared.errno.Errno.TheVariants.{EINVAL, EIDRM, EACCES, EAGAIN, ENOMSG, E2BIG}
 use Rattle.sysv_model.specs.History.{Who, Actor, Seat, Call, Take, Reply, Gone, Denied, Full, Fits, Accepted, NoMatch, TooLong, Taken, Entry, History}
 use Rattle.sysv_core.specs.declared.event.Outcome.TheVariants as outcome
@@ -30,14 +31,22 @@ found_live reply = true
 abbrev pub live_seen : List Entry → Bool
 live_seen turns = list_any (λ (e : Entry). found_live e.reply) turns
 
+-- a refusal: a receive gets the body that it brought back empty, and a send has none
+abbrev pub body_refused : Call → Option (List ℕ)
+body_refused (Take id cred selector size noerror now) = Some []
+body_refused call = None
+
+abbrev pub Refuses : Call → Errno → Answer → Type 0
+Refuses call why a = (a.outcome ≡ outcome.Refused why) × (a.body ≡ body_refused call)
+
 -- the turn with this reply ends its call with this answer
 abbrev pub Ends : Bool → Call → Reply → Answer → Type 0
-Ends seen call Gone a = a.outcome ≡ outcome.Refused (if seen then EIDRM else EINVAL)
-Ends seen call Denied a = a.outcome ≡ outcome.Refused EACCES
-Ends seen call (Full freed) a = a.outcome ≡ outcome.Refused EAGAIN
-Ends seen call (NoMatch arrived) a = a.outcome ≡ outcome.Refused ENOMSG
-Ends seen call TooLong a = a.outcome ≡ outcome.Refused E2BIG
-Ends seen call (Accepted number) a = a.outcome ≡ outcome.Zero
+Ends seen call Gone a = Refuses call (if seen then EIDRM else EINVAL) a
+Ends seen call Denied a = Refuses call EACCES a
+Ends seen call (Full freed) a = Refuses call EAGAIN a
+Ends seen call (NoMatch arrived) a = Refuses call ENOMSG a
+Ends seen call TooLong a = Refuses call E2BIG a
+Ends seen call (Accepted number) a = (a.outcome ≡ outcome.Zero) × (a.body ≡ None)
 Ends seen (Take id cred selector size noerror now) (Taken m) a =
     (a.outcome ≡ outcome.Got m.mtype (length (take size m.bytes))) × (a.body ≡ Some (take size m.bytes))
 Ends seen call reply a = ⊥
