@@ -1,6 +1,6 @@
 -- What a fault that is passed on leaves.
-use Rattle.std.proofs.Common.{◌≡◌, ℕ, List, ◌++◌, Result, Ok, Err, Option, ap, sym, subst, ◌∙◌, append_assoc}
-use Rattle.std.specs.Prelude.{IfErr, IsErrAnd}
+use Rattle.std.proofs.Common.{◌≡◌, ℕ, true, false, List, ◌++◌, Result, Ok, Err, Option, ap, sym, subst, ◌∙◌, append_assoc}
+use Rattle.std.specs.Prelude.{IfOk, IfErr, IsErrAnd, MatchResult, is_ok}
 use Rattle.std.specs.Io.KnownBytes.{Appends}
 use Rattle.std.proofs.KnownBytes.{Appends-trans}
 use Rattle.sysv_script.specs.declared.script.ScriptFault.{ScriptFault}
@@ -45,3 +45,12 @@ TellsBadLine-handed Bound a b c composed grown all left = tt
 pub IfErr-handed : {T : Type 0} (r : Result T ScriptFault) (a b c : Option (List ℕ)) (composed : List ℕ) → Grows a b → Appends b c composed → IfErr r (λ f. LeavesBadLine f composed) → IfErr r (λ f. TellsBadLine f a c)
 IfErr-handed (Ok x) a b c composed grown all left = tt
 IfErr-handed (Err y) a b c composed grown all left = TellsBadLine-handed y a b c composed grown all left
+
+Ok-once : {T D : Type 0} (y x : T) → ◌≡◌ {A = Result T D} (Ok y) (Ok x) → y ≡ x
+Ok-once y x e = cc
+
+-- what a call promised of its `Ok` holds of it behind `map_err` too
+pub IfOk-mapped : {T E D : Type 0} (P : T → Type 0) (Q : E → Type 0) (r : Result T E) (mapped : Result T D) (x : T) →
+    IfOk r P → MatchResult r (λ y. mapped ≡ Ok y) Q → is_ok mapped ≡ is_ok r → mapped ≡ Ok x → P x
+IfOk-mapped {D = D} P Q (Ok y) mapped x p same variant is = let inner : y ≡ x = Ok-once {D = D} y x (sym same ∙ is) in subst P inner p
+IfOk-mapped P Q (Err e) mapped x p same variant is = let never : true ≡ false = sym (ap is_ok is) ∙ variant in absurd cc

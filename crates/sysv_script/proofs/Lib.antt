@@ -1,3 +1,4 @@
+pub mod CredLemmas
 pub mod Going
 pub mod Scripting
 pub mod ScriptEnds

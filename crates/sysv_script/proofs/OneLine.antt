@@ -4,11 +4,12 @@ use Rattle.std.specs.Prelude.{Contains, codes, replicate}
 use Rattle.std.specs.Str.Parse.{IsNumeral}
 use Rattle.std.proofs.lemmas.Bool.Decides.{nat_tests}
 use Rattle.std.proofs.lemmas.List.Elements.{Contains-append_right}
+use Rattle.sysv_model.specs.declared.cred.Cred.{Cred}
 use Rattle.sysv_model.specs.declared.flags.Flags.{Flags}
 use Rattle.sysv_script.specs.Words.{SplitsAt, IsNumber, number_in}
 use Rattle.sysv_script.specs.FlagNames.{NamesFlag, AddsFlags, ListsFlags, IsFlags, One, More}
-use Rattle.sysv_script.specs.Lines.{IsNumeralOf, SaysText, SaysSend, SaysReceive, SaysCall, SaysStart, IsSkipped, Says}
-use Rattle.sysv_script.specs.ScriptRun.{Said, Nothing, MakesPreset, Starts}
+use Rattle.sysv_script.specs.Lines.{IsNumeralOf, SaysText, SaysSend, SaysReceive, SaysCall, SaysStart, NamesCred, SaysCred, IsSkipped, Says}
+use Rattle.sysv_script.specs.ScriptRun.{Said, Nothing, MakesPreset, GivesCred, Starts}
 use Rattle.sysv_core.specs.declared.event.Call.{Call}
 use Rattle.sysv_core.specs.declared.event.Call.TheVariants.{Send, Receive}
 use Rattle.sysv_script.proofs.Parsing.{splits_once, NamesFlag-once, NamesFlag-unmarked, AddsFlags-split}
@@ -158,6 +159,9 @@ comment_starts = (λ e. omega (arith, e), λ h. omega (arith, h.1.0), λ e. omeg
 preset_starts : BeginsNoStart 112
 preset_starts = (λ e. omega (arith, e), λ h. omega (arith, h.1.0), λ e. omega (arith, e))
 
+as_starts : BeginsNoStart 97
+as_starts = (λ e. omega (arith, e), λ h. omega (arith, h.1.0), λ e. omega (arith, e))
+
 skipped_not_start : (line : List ℕ) (actor : ℕ) (call : Call) → IsSkipped line → SaysStart line actor call → ⊥
 skipped_not_start line actor call (inl e) h = starts_not line actor call 0 none_starts (ap (λ (l : List ℕ). get_or l 0 0) e) h
 skipped_not_start line actor call (inr (comment, e)) h = starts_not line actor call 35 comment_starts (ap (λ (l : List ℕ). get_or l 0 0) e) h
@@ -169,14 +173,58 @@ skipped_not_preset : (line : List ℕ) → IsSkipped line → line ≡ codes "pr
 skipped_not_preset line (inl e) h = let same : 0 ≡ 112 = ap (λ (l : List ℕ). get_or l 0 0) (sym e ∙ h) in omega (arith, same)
 skipped_not_preset line (inr (comment, e)) h = let same : 35 ≡ 112 = ap (λ (l : List ℕ). get_or l 0 0) (sym e ∙ h) in omega (arith, same)
 
+-- a line that begins with `as` and a space is no other line
+as_begins : (line words : List ℕ) → line ≡ codes "as " ++ words → get_or line 0 0 ≡ 97
+as_begins line words e = ap (λ (l : List ℕ). get_or l 0 0) e
+
+pub as_not_start : (line words : List ℕ) (actor : ℕ) (call : Call) → line ≡ codes "as " ++ words → SaysStart line actor call → ⊥
+as_not_start line words actor call e h = starts_not line actor call 97 as_starts (as_begins line words e) h
+
+pub as_not_skipped : (line words : List ℕ) → line ≡ codes "as " ++ words → IsSkipped line → ⊥
+as_not_skipped line words e (inl h) = let same : 0 ≡ 97 = ap (λ (l : List ℕ). get_or l 0 0) (sym h ∙ e) in omega (arith, same)
+as_not_skipped line words e (inr (comment, h)) = let same : 35 ≡ 97 = ap (λ (l : List ℕ). get_or l 0 0) (sym h ∙ e) in omega (arith, same)
+
+pub as_not_preset : (line words : List ℕ) → line ≡ codes "as " ++ words → line ≡ codes "preset" → ⊥
+as_not_preset line words e h = let same : 112 ≡ 97 = ap (λ (l : List ℕ). get_or l 0 0) (sym h ∙ e) in omega (arith, same)
+
+pub as_words : (line a b : List ℕ) → line ≡ codes "as " ++ a → line ≡ codes "as " ++ b → a ≡ b
+as_words line a b h k = cc
+
+abbrev cred_made : ℕ → ℕ → ℕ → Cred
+cred_made uid gid pid = record { uid = uid; gid = gid; pid = pid }
+
+names_once : (words : List ℕ) (actor other : ℕ) (cred given : Cred) → NamesCred words actor cred → NamesCred words other given → GivesCred actor cred ≡ GivesCred other given
+names_once words actor other cred given h k =
+    let one = splits_once 32 words h.actor_word h.after_actor k.actor_word k.after_actor h.first k.first in
+    let two = splits_same 32 h.after_actor k.after_actor h.uid_word h.after_uid k.uid_word k.after_uid one.1 h.second k.second in
+    let three = splits_same 32 h.after_uid k.after_uid h.gid_word h.pid_word k.gid_word k.pid_word two.1 h.third k.third in
+    let same_actor : actor ≡ other = size_once h.actor_word k.actor_word actor other one.0 h.actor_is k.actor_is in
+    let same_uid : cred.uid ≡ given.uid = size_once h.uid_word k.uid_word cred.uid given.uid two.0 h.uid_is.0 k.uid_is.0 in
+    let same_gid : cred.gid ≡ given.gid = size_once h.gid_word k.gid_word cred.gid given.gid three.0 h.gid_is.0 k.gid_is.0 in
+    let same_pid : cred.pid ≡ given.pid = size_once h.pid_word k.pid_word cred.pid given.pid three.1 h.pid_is.0 k.pid_is.0 in
+    let same_cred : cred ≡ given =
+    ap (λ uid. cred_made uid cred.gid cred.pid) same_uid ∙ (ap (λ gid. cred_made given.uid gid cred.pid) same_gid ∙ ap (λ pid. cred_made given.uid given.gid pid) same_pid) in
+    ap (λ one. GivesCred one cred) same_actor ∙ ap (λ one. GivesCred other one) same_cred
+
+cred_once : (line : List ℕ) (actor other : ℕ) (cred given : Cred) → SaysCred line actor cred → SaysCred line other given → GivesCred actor cred ≡ GivesCred other given
+cred_once line actor other cred given h k =
+    names_once k.0 actor other cred given (subst (λ (words : List ℕ). NamesCred words actor cred) (as_words line h.0 k.0 h.1 k.1) h.2) k.2
+
 -- a line says one thing
 pub says_once : (line : List ℕ) (a b : Said) → Says line a → Says line b → a ≡ b
 says_once line Nothing Nothing h k = refl
 says_once line Nothing MakesPreset h k = absurd (skipped_not_preset line h.1 k.1)
+says_once line Nothing (GivesCred actor cred) h k = absurd (as_not_skipped line k.1.0 k.1.1 h.1)
 says_once line Nothing (Starts actor call) h k = absurd (skipped_not_start line actor call h.1 k.1)
 says_once line MakesPreset Nothing h k = absurd (skipped_not_preset line k.1 h.1)
 says_once line MakesPreset MakesPreset h k = refl
+says_once line MakesPreset (GivesCred actor cred) h k = absurd (as_not_preset line k.1.0 k.1.1 h.1)
 says_once line MakesPreset (Starts actor call) h k = absurd (preset_not_start line actor call h.1 k.1)
+says_once line (GivesCred actor cred) Nothing h k = absurd (as_not_skipped line h.1.0 h.1.1 k.1)
+says_once line (GivesCred actor cred) MakesPreset h k = absurd (as_not_preset line h.1.0 h.1.1 k.1)
+says_once line (GivesCred actor cred) (GivesCred other given) h k = cred_once line actor other cred given h.1 k.1
+says_once line (GivesCred giver cred) (Starts actor call) h k = absurd (as_not_start line h.1.0 actor call h.1.1 k.1)
 says_once line (Starts actor call) Nothing h k = absurd (skipped_not_start line actor call k.1 h.1)
 says_once line (Starts actor call) MakesPreset h k = absurd (preset_not_start line actor call k.1 h.1)
+says_once line (Starts actor call) (GivesCred giver cred) h k = absurd (as_not_start line k.1.0 actor call k.1.1 h.1)
 says_once line (Starts actor call) (Starts other called) h k = start_once line actor other call called h.1 k.1

@@ -8,9 +8,10 @@ use Rattle.std.proofs.lemmas.Bool.Decides.{nat_tests}
 use mir.Syntax.{Width}
 use lib.Dec.{le→leb}
 use Rattle.std.specs.Int.RustNames.{FitsSigned}
-use Rattle.sysv_script.specs.Words.{SplitsAt, IsNumber, IsSize, IsActor, number_in}
+use Rattle.sysv_script.specs.Words.{SplitsAt, IsNumber, IsUnsigned, IsActor, number_in}
 use Rattle.sysv_script.specs.FlagNames.{NamesFlag, AddsFlags, IsFlags, One, More}
-use Rattle.sysv_script.specs.Lines.{IsNumeralOf, SaysText, SaysCall, SaysStart}
+use Rattle.sysv_script.specs.Lines.{IsNumeralOf, SaysText, SaysCall, SaysStart, NamesCred}
+use Rattle.sysv_model.specs.declared.cred.Cred.{Cred}
 use Rattle.sysv_core.specs.declared.event.Call.{Call}
 use Rattle.sysv_core.specs.declared.event.Call.TheVariants.{Send, Receive}
 
@@ -116,10 +117,10 @@ SplitsAt-behind m t p r q s u v a b c = subst (λ (l : List ℕ). SplitsAt m l u
 numeral_fits : (w : Width) (word : List ℕ) (n : ℤ) → IsNumeralOf word n → FitsSigned w n → IsNumber word × FitsSigned w (number_in word)
 numeral_fits w word n h fits = (h.0, subst (FitsSigned w) (sym h.1) fits)
 
-numeral_size : (word : List ℕ) (n : ℕ) → IsNumeralOf word (pos n) → n ≤ 4294967295 → IsNumber word × IsSize (number_in word)
-numeral_size word n h fits =
-    let size : IsSize (pos n) = (record { le = le→leb 0 n (omega arith) }, record { le = le→leb n 4294967295 fits }) in
-    (h.0, subst IsSize (sym h.1) size)
+numeral_unsigned : (word : List ℕ) (n : ℕ) → IsNumeralOf word (pos n) → n ≤ 4294967295 → IsNumber word × IsUnsigned (number_in word)
+numeral_unsigned word n h fits =
+    let fitting : IsUnsigned (pos n) = (record { le = le→leb 0 n (omega arith) }, record { le = le→leb n 4294967295 fits }) in
+    (h.0, subst IsUnsigned (sym h.1) fitting)
 
 numeral_actor : (word : List ℕ) (n : ℕ) → IsNumeralOf word (pos n) → 1 ≤ n → n ≤ 16 → IsNumber word × IsActor (number_in word)
 numeral_actor word n h least most =
@@ -140,7 +141,7 @@ SendParts id mtype flags body =
 -- what the words of a receive are
 abbrev pub ReceiveParts : List ℕ → List ℕ → List ℕ → List ℕ → Type 0
 ReceiveParts id size mtype flags =
-    (IsNumber id × FitsSigned w32 (number_in id)) × (IsNumber size × IsSize (number_in size))
+    (IsNumber id × FitsSigned w32 (number_in id)) × (IsNumber size × IsUnsigned (number_in size))
     × (IsNumber mtype × FitsSigned w64 (number_in mtype)) × ((bits : ℕ) × IsFlags flags bits)
 
 pub send_first : (words : List ℕ) (call : Call) → SaysCall (codes "snd") words call → Contains words 32
@@ -207,10 +208,10 @@ receive_parts words a ra b rb d rd (Receive id size mtype flags body) one two th
     let size_same = (splits_once 32 ra s.size_word s.after_size b rb second two).0 in
     let behind = splits_once 32 rb s.mtype_word s.flags_word d rd third three in
     let id_fits = numeral_fits w32 s.id_word id s.id_is.0 s.id_is.1 in
-    let size_fits = numeral_size s.size_word size s.size_is.0 s.size_is.1 in
+    let size_fits = numeral_unsigned s.size_word size s.size_is.0 s.size_is.1 in
     let mtype_fits = numeral_fits w64 s.mtype_word mtype s.mtype_is.0 s.mtype_is.1 in (
       subst (λ (word : List ℕ). IsNumber word × FitsSigned w32 (number_in word)) id_same id_fits,
-      subst (λ (word : List ℕ). IsNumber word × IsSize (number_in word)) size_same size_fits,
+      subst (λ (word : List ℕ). IsNumber word × IsUnsigned (number_in word)) size_same size_fits,
       subst (λ (word : List ℕ). IsNumber word × FitsSigned w64 (number_in word)) behind.0 mtype_fits,
       (flags.0, subst (λ (word : List ℕ). IsFlags word flags.0) behind.1 s.flags_are),
     )
@@ -232,4 +233,37 @@ start_parts line a ra b rb actor call one two s =
     let words_same : SaysCall s.operation rb call = subst (λ (w : List ℕ). SaysCall s.operation w call) same.1 s.call_is in (
       subst (λ (word : List ℕ). IsNumber word × IsActor (number_in word)) (splits_once 32 line s.actor_word s.after_actor a ra s.first one).0 named,
       subst (λ (w : List ℕ). SaysCall w rb call) same.0 words_same,
+    )
+
+-- what the words of credentials are
+abbrev pub CredParts : List ℕ → List ℕ → List ℕ → List ℕ → Type 0
+CredParts actor uid gid pid =
+    (IsNumber actor × IsActor (number_in actor)) × (IsNumber uid × IsUnsigned (number_in uid))
+    × (IsNumber gid × IsUnsigned (number_in gid)) × (IsNumber pid × IsUnsigned (number_in pid))
+
+pub cred_first : (words : List ℕ) (actor : ℕ) (cred : Cred) → NamesCred words actor cred → Contains words 32
+cred_first words actor cred s = SplitsAt-marked 32 words s.actor_word s.after_actor s.first
+
+pub cred_second : (words a ra : List ℕ) (actor : ℕ) (cred : Cred) → SplitsAt 32 words a ra → NamesCred words actor cred → Contains ra 32
+cred_second words a ra actor cred one s =
+    let second = SplitsAt-behind 32 words s.actor_word s.after_actor a ra s.uid_word s.after_uid s.first one s.second in
+    SplitsAt-marked 32 ra s.uid_word s.after_uid second
+
+pub cred_third : (words a ra b rb : List ℕ) (actor : ℕ) (cred : Cred) → SplitsAt 32 words a ra → SplitsAt 32 ra b rb → NamesCred words actor cred → Contains rb 32
+cred_third words a ra b rb actor cred one two s =
+    let second = SplitsAt-behind 32 words s.actor_word s.after_actor a ra s.uid_word s.after_uid s.first one s.second in
+    let third = SplitsAt-behind 32 ra s.uid_word s.after_uid b rb s.gid_word s.pid_word second two s.third in
+    SplitsAt-marked 32 rb s.gid_word s.pid_word third
+
+pub cred_parts : (words a ra b rb d rd : List ℕ) (actor : ℕ) (cred : Cred) → SplitsAt 32 words a ra → SplitsAt 32 ra b rb → SplitsAt 32 rb d rd → NamesCred words actor cred → CredParts a b d rd
+cred_parts words a ra b rb d rd actor cred one two three s =
+    let second = SplitsAt-behind 32 words s.actor_word s.after_actor a ra s.uid_word s.after_uid s.first one s.second in
+    let third = SplitsAt-behind 32 ra s.uid_word s.after_uid b rb s.gid_word s.pid_word second two s.third in
+    let actor_same = (splits_once 32 words s.actor_word s.after_actor a ra s.first one).0 in
+    let uid_same = (splits_once 32 ra s.uid_word s.after_uid b rb second two).0 in
+    let behind = splits_once 32 rb s.gid_word s.pid_word d rd third three in (
+      subst (λ (word : List ℕ). IsNumber word × IsActor (number_in word)) actor_same (numeral_actor s.actor_word actor s.actor_is s.least s.most),
+      subst (λ (word : List ℕ). IsNumber word × IsUnsigned (number_in word)) uid_same (numeral_unsigned s.uid_word cred.uid s.uid_is.0 s.uid_is.1),
+      subst (λ (word : List ℕ). IsNumber word × IsUnsigned (number_in word)) behind.0 (numeral_unsigned s.gid_word cred.gid s.gid_is.0 s.gid_is.1),
+      subst (λ (word : List ℕ). IsNumber word × IsUnsigned (number_in word)) behind.1 (numeral_unsigned s.pid_word cred.pid s.pid_is.0 s.pid_is.1),
     )

@@ -4,12 +4,12 @@ use Rattle.std.specs.Prelude.{IsErrAnd, ⊤}
 use Rattle.std.specs.Io.KnownBytes.{Appends}
 use Rattle.std.proofs.KnownBytes.{Appends-nil, Appends-trans}
 use lib.Seq.{take-append-add}
-use Rattle.sysv_core.specs.World.{World, opening}
-use Rattle.sysv_core.specs.Seen.{Seen, IsSeenAs}
+use Rattle.sysv_script.specs.ScriptRun.{Scene, opening_scene}
+use Rattle.sysv_script.specs.declared.stage.Stage.{Stage}
+use Rattle.sysv_script.specs.Staged.{IsSceneOf}
 use Rattle.sysv_script.specs.Streams.{AppendsPart}
 use Rattle.sysv_script.specs.Found.{IsNextLine}
 use Rattle.sysv_script.specs.Faults.{IsFrontOf, IsStreamFault, IsLineFault, EndsAtLine}
-use Rattle.sysv_core.specs.Run.{StandsFor}
 use Rattle.sysv_script.specs.ScriptText.{IsBad, Ending, Whole, BadLine, TooMany, Stopped, Stops, ScriptPrints, WritesScript, WritesAll, WritesFront, WritesAtFault}
 use Rattle.sysv_script.specs.ScriptSofar.{IsText, LeavesAll, LeavesFront, LeavesAtFault, Leaves}
 use Rattle.sysv_script.specs.declared.script.Found.{Found}
@@ -23,66 +23,63 @@ IsFrontOf-all text = (length text, sym (take_all (length text) text (omega arith
 pub IsFrontOf-none : (none text : List ℕ) → none ≡ [] → IsFrontOf none text
 IsFrontOf-none none text e = (0, e)
 
-Leaves-stream-fault : (fault : ScriptFault) (w : World) (text : List ℕ) (old new : Option (List ℕ)) (composed : List ℕ) → IsStreamFault fault → LeavesFront w text old new composed → LeavesAtFault fault w text old new composed
-Leaves-stream-fault Read w text old new composed h part = part
-Leaves-stream-fault Write w text old new composed h part = part
-Leaves-stream-fault (Line n) w text old new composed h part = absurd h
-Leaves-stream-fault NoMemory w text old new composed h part = absurd h
-Leaves-stream-fault Bound w text old new composed h part = absurd h
+Leaves-stream-fault : (fault : ScriptFault) (s : Scene) (text : List ℕ) (old new : Option (List ℕ)) (composed : List ℕ) → IsStreamFault fault → LeavesFront s text old new composed → LeavesAtFault fault s text old new composed
+Leaves-stream-fault Read s text old new composed h part = part
+Leaves-stream-fault Write s text old new composed h part = part
+Leaves-stream-fault (Line n) s text old new composed h part = absurd h
+Leaves-stream-fault NoMemory s text old new composed h part = absurd h
+Leaves-stream-fault Bound s text old new composed h part = absurd h
 
 -- a fault of a stream is passed on
-pub Leaves-stream : (r : Result ⊤ ScriptFault) (fault : ScriptFault) (w : World) (text : List ℕ) (old new : Option (List ℕ)) (composed : List ℕ) →
-    IsErrAnd r (λ y. y ≡ fault) → IsStreamFault fault → LeavesFront w text old new composed → Leaves r w text old new composed
-Leaves-stream (Ok x) fault w text old new composed e h part = absurd e
-Leaves-stream (Err y) fault w text old new composed e h part = Leaves-stream-fault y w text old new composed (subst IsStreamFault (sym e) h) part
+pub Leaves-stream : (r : Result ⊤ ScriptFault) (fault : ScriptFault) (s : Scene) (text : List ℕ) (old new : Option (List ℕ)) (composed : List ℕ) →
+    IsErrAnd r (λ y. y ≡ fault) → IsStreamFault fault → LeavesFront s text old new composed → Leaves r s text old new composed
+Leaves-stream (Ok x) fault s text old new composed e h part = absurd e
+Leaves-stream (Err y) fault s text old new composed e h part = Leaves-stream-fault y s text old new composed (subst IsStreamFault (sym e) h) part
 
-Leaves-line-fault : (fault : ScriptFault) (w : World) (text : List ℕ) (old : Option (List ℕ)) (n : ℕ) (now : Seen) (waiting : List ℕ) (left new : Option (List ℕ)) (composed told : List ℕ) (found : Found) →
-    EndsAtLine fault n composed told → (IsLineFault fault → (m : World) → IsSeenAs m now → IsBad m (take found.len waiting)) → n ≤ 1000000 → IsNextLine found waiting left →
-    RunsOn w text old n now waiting left new composed → LeavesAtFault fault w text old new told
-Leaves-line-fault (Line k) w text old n now waiting left new composed told found ends bad few next on =
+Leaves-line-fault : (fault : ScriptFault) (s : Scene) (text : List ℕ) (old : Option (List ℕ)) (n : ℕ) (now : Stage) (waiting : List ℕ) (left new : Option (List ℕ)) (composed told : List ℕ) (found : Found) →
+    EndsAtLine fault n composed told → (IsLineFault fault → (m : Scene) → IsSceneOf m now → IsBad m (take found.len waiting)) → n ≤ 1000000 → IsNextLine found waiting left →
+    RunsOn s text old n now waiting left new composed → LeavesAtFault fault s text old new told
+Leaves-line-fault (Line k) s text old n now waiting left new composed told found ends bad few next on =
     let same : k ≡ n = ends.0 in
-    subst (λ i. LeavesAtFault (Line i) w text old new told) (sym same) (fails_at w text old n now waiting left new composed told found few next (bad tt) ends.1 on)
-Leaves-line-fault NoMemory w text old n now waiting left new composed told found ends bad few next on = stops_front w text old n now waiting left new composed told ends on
-Leaves-line-fault Read w text old n now waiting left new composed told found ends bad few next on = absurd ends
-Leaves-line-fault Write w text old n now waiting left new composed told found ends bad few next on = absurd ends
-Leaves-line-fault Bound w text old n now waiting left new composed told found ends bad few next on = absurd ends
+    subst (λ i. LeavesAtFault (Line i) s text old new told) (sym same) (fails_at s text old n now waiting left new composed told found few next (bad tt) ends.1 on)
+Leaves-line-fault NoMemory s text old n now waiting left new composed told found ends bad few next on = stops_front s text old n now waiting left new composed told ends on
+Leaves-line-fault Read s text old n now waiting left new composed told found ends bad few next on = absurd ends
+Leaves-line-fault Write s text old n now waiting left new composed told found ends bad few next on = absurd ends
+Leaves-line-fault Bound s text old n now waiting left new composed told found ends bad few next on = absurd ends
 
 -- a fault at a line is passed on
-pub Leaves-line : (r : Result ⊤ ScriptFault) (fault : ScriptFault) (w : World) (text : List ℕ) (old : Option (List ℕ)) (n : ℕ) (now : Seen) (waiting : List ℕ) (left new : Option (List ℕ)) (composed told : List ℕ) (found : Found) →
-    IsErrAnd r (λ y. y ≡ fault) → EndsAtLine fault n composed told → (IsLineFault fault → (m : World) → IsSeenAs m now → IsBad m (take found.len waiting)) → n ≤ 1000000 →
-    IsNextLine found waiting left → RunsOn w text old n now waiting left new composed → Leaves r w text old new told
-Leaves-line (Ok x) fault w text old n now waiting left new composed told found e ends bad few next on = absurd e
-Leaves-line (Err y) fault w text old n now waiting left new composed told found e ends bad few next on =
-    subst (λ f. LeavesAtFault f w text old new told) (sym e) (Leaves-line-fault fault w text old n now waiting left new composed told found ends bad few next on)
+pub Leaves-line : (r : Result ⊤ ScriptFault) (fault : ScriptFault) (s : Scene) (text : List ℕ) (old : Option (List ℕ)) (n : ℕ) (now : Stage) (waiting : List ℕ) (left new : Option (List ℕ)) (composed told : List ℕ) (found : Found) →
+    IsErrAnd r (λ y. y ≡ fault) → EndsAtLine fault n composed told → (IsLineFault fault → (m : Scene) → IsSceneOf m now → IsBad m (take found.len waiting)) → n ≤ 1000000 →
+    IsNextLine found waiting left → RunsOn s text old n now waiting left new composed → Leaves r s text old new told
+Leaves-line (Ok x) fault s text old n now waiting left new composed told found e ends bad few next on = absurd e
+Leaves-line (Err y) fault s text old n now waiting left new composed told found e ends bad few next on =
+    subst (λ f. LeavesAtFault f s text old new told) (sym e) (Leaves-line-fault fault s text old n now waiting left new composed told found ends bad few next on)
 
 -- ---- what is composed at the end is handed out
 
-opened_sight : (seen : Seen) → StandsFor 16 [] [] seen → IsSeenAs (opening 16) seen
-opened_sight seen stands = subst (λ w. IsSeenAs w seen) stands.led.1 stands.sight
+-- the whole run of a script, from the stage and the input that were opened
+pub script_runs : (r : Result ⊤ ScriptFault) (stage : Stage) (input text : List ℕ) (left old new : Option (List ℕ)) (composed : List ℕ) → IsSceneOf opening_scene stage → input ≡ [] → left ≡ Some text →
+    ((s : Scene) → IsSceneOf s stage → (t : List ℕ) → IsText input left t → Leaves r s t old new composed) → Leaves r opening_scene text old new composed
+script_runs r stage input text left old new composed opened none known runs = runs opening_scene opened text (text, known, sym (ap (λ l. l ++ text) none))
 
--- the whole run of a script, from the world and the input that were opened
-pub script_runs : (r : Result ⊤ ScriptFault) (seen : Seen) (input text : List ℕ) (left old new : Option (List ℕ)) (composed : List ℕ) → StandsFor 16 [] [] seen → input ≡ [] → left ≡ Some text →
-    ((w : World) → IsSeenAs w seen → (t : List ℕ) → IsText input left t → Leaves r w t old new composed) → Leaves r (opening 16) text old new composed
-script_runs r seen input text left old new composed stands none known runs = runs (opening 16) (opened_sight seen stands) text (text, known, sym (ap (λ l. l ++ text) none))
-
-all_out : (ending : Ending) (text : List ℕ) (old mid new : Option (List ℕ)) (composed : List ℕ) → LeavesAll (opening 16) text ending old mid composed → Appends mid new composed → WritesAll text ending old new
+all_out : (ending : Ending) (text : List ℕ) (old mid new : Option (List ℕ)) (composed : List ℕ) → LeavesAll opening_scene text ending old mid composed → Appends mid new composed → WritesAll text ending old new
 all_out ending text old mid new composed left all =
     let handed = left.2 in
     (left.0, left.1, subst (Appends old new) (sym handed.2) (Appends-trans old mid new handed.0 composed handed.1 all))
 
-front_out : (text : List ℕ) (old mid new : Option (List ℕ)) (composed : List ℕ) → LeavesFront (opening 16) text old mid composed → Appends mid new composed → WritesFront text old new
+front_out : (text : List ℕ) (old mid new : Option (List ℕ)) (composed : List ℕ) → LeavesFront opening_scene text old mid composed → Appends mid new composed → WritesFront text old new
 front_out text old mid new composed left all =
     let handed = left.3 in
     (left.0, left.1, left.2, (handed.2.0, subst (Appends old new) handed.2.1 (Appends-trans old mid new handed.0 composed handed.1 all)))
 
-fault_out : (fault : ScriptFault) (text : List ℕ) (old mid new : Option (List ℕ)) (composed : List ℕ) → LeavesAtFault fault (opening 16) text old mid composed → Appends mid new composed → WritesAtFault fault text old new
+fault_out : (fault : ScriptFault) (text : List ℕ) (old mid new : Option (List ℕ)) (composed : List ℕ) → LeavesAtFault fault opening_scene text old mid composed → Appends mid new composed → WritesAtFault fault text old new
 fault_out (Line n) text old mid new composed left all = all_out (BadLine n) text old mid new composed left all
 fault_out Bound text old mid new composed left all = all_out TooMany text old mid new composed left all
 fault_out NoMemory text old mid new composed left all = front_out text old mid new composed left all
 fault_out Read text old mid new composed left all = front_out text old mid new composed left all
 fault_out Write text old mid new composed left all = front_out text old mid new composed left all
 
-pub writes_out : (r : Result ⊤ ScriptFault) (text : List ℕ) (old mid new : Option (List ℕ)) (composed : List ℕ) → Leaves r (opening 16) text old mid composed → Appends mid new composed → WritesScript r text old new
+pub writes_out : (r : Result ⊤ ScriptFault) (text : List ℕ) (old mid new : Option (List ℕ)) (composed : List ℕ) → Leaves r opening_scene text old mid composed → Appends mid new composed → WritesScript r text old new
 writes_out (Ok done) text old mid new composed left all = all_out Whole text old mid new composed left all
 writes_out (Err fault) text old mid new composed left all = fault_out fault text old mid new composed left all
 
@@ -104,23 +101,23 @@ part_out ending out text old mid new handed composed printed grown front part =
     let joined : handed ++ take part.0 composed ≡ take found.0 out = sym (take-append-add handed composed part.0) ∙ found.1 in
     (ending, out, printed, (found.0, subst (Appends old new) joined (Appends-trans old mid new handed (take part.0 composed) grown part.1)))
 
-all_cut : (ending : Ending) (text : List ℕ) (old mid new : Option (List ℕ)) (composed : List ℕ) → LeavesAll (opening 16) text ending old mid composed → AppendsPart mid new composed → WritesFront text old new
+all_cut : (ending : Ending) (text : List ℕ) (old mid new : Option (List ℕ)) (composed : List ℕ) → LeavesAll opening_scene text ending old mid composed → AppendsPart mid new composed → WritesFront text old new
 all_cut ending text old mid new composed left part =
     let handed = left.2 in
     part_out ending left.0 text old mid new handed.0 composed left.1 handed.1 (subst (IsFrontOf (handed.0 ++ composed)) (sym handed.2) (IsFrontOf-all (handed.0 ++ composed))) part
 
-front_cut : (text : List ℕ) (old mid new : Option (List ℕ)) (composed : List ℕ) → LeavesFront (opening 16) text old mid composed → AppendsPart mid new composed → WritesFront text old new
+front_cut : (text : List ℕ) (old mid new : Option (List ℕ)) (composed : List ℕ) → LeavesFront opening_scene text old mid composed → AppendsPart mid new composed → WritesFront text old new
 front_cut text old mid new composed left part =
     let handed = left.3 in part_out left.0 left.1 text old mid new handed.0 composed left.2 handed.1 handed.2 part
 
-fault_cut : (fault : ScriptFault) (text : List ℕ) (old mid new : Option (List ℕ)) (composed : List ℕ) → LeavesAtFault fault (opening 16) text old mid composed → AppendsPart mid new composed → WritesFront text old new
+fault_cut : (fault : ScriptFault) (text : List ℕ) (old mid new : Option (List ℕ)) (composed : List ℕ) → LeavesAtFault fault opening_scene text old mid composed → AppendsPart mid new composed → WritesFront text old new
 fault_cut (Line n) text old mid new composed left part = all_cut (BadLine n) text old mid new composed left part
 fault_cut Bound text old mid new composed left part = all_cut TooMany text old mid new composed left part
 fault_cut NoMemory text old mid new composed left part = front_cut text old mid new composed left part
 fault_cut Read text old mid new composed left part = front_cut text old mid new composed left part
 fault_cut Write text old mid new composed left part = front_cut text old mid new composed left part
 
-any_cut : (r : Result ⊤ ScriptFault) (text : List ℕ) (old mid new : Option (List ℕ)) (composed : List ℕ) → Leaves r (opening 16) text old mid composed → AppendsPart mid new composed → WritesFront text old new
+any_cut : (r : Result ⊤ ScriptFault) (text : List ℕ) (old mid new : Option (List ℕ)) (composed : List ℕ) → Leaves r opening_scene text old mid composed → AppendsPart mid new composed → WritesFront text old new
 any_cut (Ok done) text old mid new composed left part = all_cut Whole text old mid new composed left part
 any_cut (Err fault) text old mid new composed left part = fault_cut fault text old mid new composed left part
 
@@ -129,7 +126,7 @@ writes_front (Ok x) text old new e front = absurd e
 writes_front (Err y) text old new e front = subst (λ f. WritesAtFault f text old new) (sym e) front
 
 pub writes_cut : (r last : Result ⊤ ScriptFault) (fault : ScriptFault) (text : List ℕ) (old mid new : Option (List ℕ)) (composed : List ℕ) → IsErrAnd last (λ y. y ≡ fault) → fault ≡ Write →
-    Leaves r (opening 16) text old mid composed → AppendsPart mid new composed → WritesScript last text old new
+    Leaves r opening_scene text old mid composed → AppendsPart mid new composed → WritesScript last text old new
 writes_cut r last fault text old mid new composed e f left part =
     writes_front last text old new (subst (λ x. IsErrAnd last (λ y. y ≡ x)) f e) (any_cut r text old mid new composed left part)
 
@@ -137,4 +134,4 @@ writes_cut r last fault text old mid new composed e f left part =
 pub writes_nothing : (r : Result ⊤ ScriptFault) (fault : ScriptFault) (text : List ℕ) (old : Option (List ℕ)) → IsErrAnd r (λ y. y ≡ fault) → fault ≡ NoMemory → WritesScript r text old old
 writes_nothing (Ok x) fault text old e f = absurd e
 writes_nothing (Err y) fault text old e f =
-    subst (λ x. WritesAtFault x text old old) (sym (e ∙ f)) (Stopped, [], Stops (opening 16) 1 text, (0, Appends-nil old))
+    subst (λ x. WritesAtFault x text old old) (sym (e ∙ f)) (Stopped, [], Stops opening_scene 1 text, (0, Appends-nil old))

@@ -7,8 +7,9 @@ use Rattle.std.proofs.lemmas.List.{take-append-drop}
 use Rattle.std.proofs.lemmas.Option.{slice_get_within, get_or_from_slice_get}
 use Rattle.std.specs.Io.KnownBytes.{Appends, Consumes, IsAtEnd}
 use Rattle.std.proofs.KnownBytes.{Appends-nil, Appends-trans}
-use Rattle.sysv_core.specs.World.{World}
-use Rattle.sysv_core.specs.Seen.{Seen, IsSeenAs}
+use Rattle.sysv_script.specs.ScriptRun.{Scene}
+use Rattle.sysv_script.specs.declared.stage.Stage.{Stage}
+use Rattle.sysv_script.specs.Staged.{IsSceneOf}
 use Rattle.sysv_script.specs.Words.{SplitsAt}
 use Rattle.sysv_script.specs.Streams.{AppendsPart, HandsOn, TakesIn}
 use Rattle.sysv_script.specs.Found.{HasNoEnd, IsFirstLine, IsLastLine, IsNextLine, HasNoLine}
@@ -17,26 +18,26 @@ use Rattle.sysv_script.specs.ScriptText.{BeginsWith, LineDoes, IsBad, Ending, Wh
 use Rattle.sysv_script.specs.ScriptSofar.{IsText, LeavesAll, LeavesFront}
 use Rattle.sysv_script.specs.declared.script.Found.{Found}
 
--- the run from a world over a text, now before the line of this number
-pub record RunsOn (w : World) (text : List ℕ) (old : Option (List ℕ)) (n : ℕ) (now : Seen) (waiting : List ℕ) (left new : Option (List ℕ)) (composed : List ℕ) : Type 0 where
-  pub mid : World
+-- the run from a scene over a text, now before the line of this number
+pub record RunsOn (s : Scene) (text : List ℕ) (old : Option (List ℕ)) (n : ℕ) (now : Stage) (waiting : List ℕ) (left new : Option (List ℕ)) (composed : List ℕ) : Type 0 where
+  pub mid : Scene
   pub rest : List ℕ
   pub handed : List ℕ
-  pub sight : IsSeenAs mid now
+  pub sight : IsSceneOf mid now
   pub text_is : IsText waiting left rest
   pub grown : Appends old new handed
-  pub prints : (more : List ℕ) (ending : Ending) → Prints mid n rest more ending → Prints w 1 text ((handed ++ composed) ++ more) ending
+  pub prints : (more : List ℕ) (ending : Ending) → Prints mid n rest more ending → Prints s 1 text ((handed ++ composed) ++ more) ending
 
-pub begins_text : (w : World) (now : Seen) (text waiting : List ℕ) (left old : Option (List ℕ)) (composed : List ℕ) → composed ≡ [] → IsSeenAs w now → IsText waiting left text →
-    RunsOn w text old 1 now waiting left old composed
-begins_text w now text waiting left old composed none s t = record {
-  mid = w;
+pub begins_text : (s : Scene) (now : Stage) (text waiting : List ℕ) (left old : Option (List ℕ)) (composed : List ℕ) → composed ≡ [] → IsSceneOf s now → IsText waiting left text →
+    RunsOn s text old 1 now waiting left old composed
+begins_text s now text waiting left old composed none seen t = record {
+  mid = s;
   rest = text;
   handed = [];
-  sight = s;
+  sight = seen;
   text_is = t;
   grown = Appends-nil old;
-  prints = λ more ending p. subst (λ l. Prints w 1 text (l ++ more) ending) (sym none) p;
+  prints = λ more ending p. subst (λ l. Prints s 1 text (l ++ more) ending) (sym none) p;
 }
 
 text_behind : (waiting read behind : List ℕ) (left : Option (List ℕ)) → Consumes (Some behind) left read → (b : List ℕ) × (left ≡ Some b) × (waiting ++ behind ≡ (waiting ++ read) ++ b)
@@ -49,14 +50,14 @@ text_taken waiting more text left rest taken t =
     let found = text_behind waiting read t.0 rest (subst (λ l. Consumes l rest read) t.1 taken.2) in
     (found.0, found.1, t.2 ∙ found.2 ∙ ap (λ l. l ++ found.0) (sym taken.1))
 
-pub takes_more : (w : World) (text : List ℕ) (old : Option (List ℕ)) (n : ℕ) (now : Seen) (waiting more : List ℕ) (left rest new : Option (List ℕ)) (composed : List ℕ) →
-    TakesIn left waiting rest more → RunsOn w text old n now waiting left new composed → RunsOn w text old n now more rest new composed
-takes_more w text old n now waiting more left rest new composed taken on =
+pub takes_more : (s : Scene) (text : List ℕ) (old : Option (List ℕ)) (n : ℕ) (now : Stage) (waiting more : List ℕ) (left rest new : Option (List ℕ)) (composed : List ℕ) →
+    TakesIn left waiting rest more → RunsOn s text old n now waiting left new composed → RunsOn s text old n now more rest new composed
+takes_more s text old n now waiting more left rest new composed taken on =
     record { mid = on.mid; rest = on.rest; handed = on.handed; sight = on.sight; text_is = text_taken waiting more on.rest left rest taken on.text_is; grown = on.grown; prints = on.prints }
 
-pub hands_more : (w : World) (text : List ℕ) (old : Option (List ℕ)) (n : ℕ) (now : Seen) (waiting : List ℕ) (left new newer : Option (List ℕ)) (composed fewer : List ℕ) →
-    HandsOn new composed newer fewer → RunsOn w text old n now waiting left new composed → RunsOn w text old n now waiting left newer fewer
-hands_more w text old n now waiting left new newer composed fewer given on =
+pub hands_more : (s : Scene) (text : List ℕ) (old : Option (List ℕ)) (n : ℕ) (now : Stage) (waiting : List ℕ) (left new newer : Option (List ℕ)) (composed fewer : List ℕ) →
+    HandsOn new composed newer fewer → RunsOn s text old n now waiting left new composed → RunsOn s text old n now waiting left newer fewer
+hands_more s text old n now waiting left new newer composed fewer given on =
     let front = given.0 in
     let same : on.handed ++ composed ≡ (on.handed ++ front) ++ fewer = ap (λ l. on.handed ++ l) given.1 ∙ sym (append_assoc on.handed front fewer) in
     record {
@@ -66,13 +67,13 @@ hands_more w text old n now waiting left new newer composed fewer given on =
       sight = on.sight;
       text_is = on.text_is;
       grown = Appends-trans old new newer on.handed front on.grown given.2;
-      prints = λ more ending p. subst (λ l. Prints w 1 text (l ++ more) ending) same (on.prints more ending p);
+      prints = λ more ending p. subst (λ l. Prints s 1 text (l ++ more) ending) same (on.prints more ending p);
     }
 
-pub hands_all : (w : World) (text : List ℕ) (old : Option (List ℕ)) (n : ℕ) (now : Seen) (waiting : List ℕ) (left new newer : Option (List ℕ)) (composed none : List ℕ) →
-    Appends new newer composed → none ≡ [] → RunsOn w text old n now waiting left new composed → RunsOn w text old n now waiting left newer none
-hands_all w text old n now waiting left new newer composed none all e on =
-    hands_more w text old n now waiting left new newer composed none (composed, sym (ap (λ l. composed ++ l) e ∙ append-nil composed), all) on
+pub hands_all : (s : Scene) (text : List ℕ) (old : Option (List ℕ)) (n : ℕ) (now : Stage) (waiting : List ℕ) (left new newer : Option (List ℕ)) (composed none : List ℕ) →
+    Appends new newer composed → none ≡ [] → RunsOn s text old n now waiting left new composed → RunsOn s text old n now waiting left newer none
+hands_all s text old n now waiting left new newer composed none all e on =
+    hands_more s text old n now waiting left new newer composed none (composed, sym (ap (λ l. composed ++ l) e ∙ append-nil composed), all) on
 
 pub read_none : (old new : List ℕ) (count : ℕ) → length old ≤ 0 → length new ≡ length old + count → count ≡ 0 → new ≡ []
 read_none old [] count e l z = refl
@@ -92,11 +93,11 @@ splits len waiting behind first =
 joined_more : (handed composed out more : List ℕ) → (handed ++ composed) ++ (out ++ more) ≡ (handed ++ (composed ++ out)) ++ more
 joined_more handed composed out more = sym (append_assoc (handed ++ composed) out more) ∙ ap (λ l. l ++ more) (append_assoc handed composed out)
 
-pub runs_line : (w : World) (text : List ℕ) (old : Option (List ℕ)) (n : ℕ) (now then : Seen) (waiting behind : List ℕ) (left new : Option (List ℕ)) (composed told : List ℕ) (len : ℕ) →
+pub runs_line : (s : Scene) (text : List ℕ) (old : Option (List ℕ)) (n : ℕ) (now then : Stage) (waiting behind : List ℕ) (left new : Option (List ℕ)) (composed told : List ℕ) (len : ℕ) →
     n ≤ 1000000 → IsFirstLine len waiting → behind ≡ drop (len + 1) waiting →
-    ((m : World) → IsSeenAs m now → (after : World) × (out : List ℕ) × LineDoes m (take len waiting) out after × IsSeenAs after then × (told ≡ composed ++ out)) →
-    RunsOn w text old n now waiting left new composed → RunsOn w text old (n + 1) then behind left new told
-runs_line w text old n now then waiting behind left new composed told len few first passed does on =
+    ((m : Scene) → IsSceneOf m now → (after : Scene) × (out : List ℕ) × LineDoes m (take len waiting) out after × IsSceneOf after then × (told ≡ composed ++ out)) →
+    RunsOn s text old n now waiting left new composed → RunsOn s text old (n + 1) then behind left new told
+runs_line s text old n now then waiting behind left new composed told len few first passed does on =
     let d = does on.mid on.sight in
     let unread = on.text_is in
     let line : BeginsWith on.rest (take len waiting) (drop (len + 1) waiting ++ unread.0) =
@@ -109,7 +110,7 @@ runs_line w text old n now then waiting behind left new composed told len few fi
       text_is = (unread.0, unread.1, ap (λ l. l ++ unread.0) (sym passed));
       grown = on.grown;
       prints = λ more ending p.
-          subst (λ l. Prints w 1 text l ending) (joined_more on.handed composed d.1 more ∙ ap (λ l. (on.handed ++ l) ++ more) (sym d.4))
+          subst (λ l. Prints s 1 text l ending) (joined_more on.handed composed d.1 more ∙ ap (λ l. (on.handed ++ l) ++ more) (sym d.4))
           (on.prints (d.1 ++ more) ending (Goes on.mid n on.rest (take len waiting) (drop (len + 1) waiting ++ unread.0) d.1 d.0 more ending few line d.2 p));
     }
 
@@ -124,52 +125,52 @@ last_line len waiting text left last end t =
     let whole : text ≡ waiting = text_at_end waiting text left end t in
     inr (subst HasNoEnd (sym whole) last.one_line, omega (arith, last.filled, last.whole, ap length whole), no_end_whole len waiting last.whole ∙ sym whole, refl)
 
-pub runs_last : (w : World) (text : List ℕ) (old : Option (List ℕ)) (n : ℕ) (now then : Seen) (waiting : List ℕ) (left new : Option (List ℕ)) (composed told : List ℕ) (len : ℕ) →
+pub runs_last : (s : Scene) (text : List ℕ) (old : Option (List ℕ)) (n : ℕ) (now then : Stage) (waiting : List ℕ) (left new : Option (List ℕ)) (composed told : List ℕ) (len : ℕ) →
     n ≤ 1000000 → IsLastLine len waiting left → len ≤ 9000 →
-    ((m : World) → IsSeenAs m now → (after : World) × (out : List ℕ) × LineDoes m (take len waiting) out after × IsSeenAs after then × (told ≡ composed ++ out)) →
-    RunsOn w text old n now waiting left new composed → LeavesAll w text Whole old new told
-runs_last w text old n now then waiting left new composed told len few last short does on =
+    ((m : Scene) → IsSceneOf m now → (after : Scene) × (out : List ℕ) × LineDoes m (take len waiting) out after × IsSceneOf after then × (told ≡ composed ++ out)) →
+    RunsOn s text old n now waiting left new composed → LeavesAll s text Whole old new told
+runs_last s text old n now then waiting left new composed told len few last short does on =
     let d = does on.mid on.sight in
     let end : IsAtEnd left = elim last.last [ inl long ↦ absurd (omega (arith, long, short)) | inr e ↦ e ] in
     let printed = on.prints (d.1 ++ []) Whole (Goes on.mid n on.rest (take len waiting) [] d.1 d.0 [] Whole few (last_line len waiting on.rest left last end on.text_is) d.2 (Ends d.0 (n + 1))) in
     let same : (on.handed ++ composed) ++ (d.1 ++ []) ≡ on.handed ++ told =
     joined_more on.handed composed d.1 [] ∙ append-nil (on.handed ++ (composed ++ d.1)) ∙ ap (λ l. on.handed ++ l) (sym d.4) in
-    (on.handed ++ told, subst (λ l. Prints w 1 text l Whole) same printed, (on.handed, on.grown, refl))
+    (on.handed ++ told, subst (λ l. Prints s 1 text l Whole) same printed, (on.handed, on.grown, refl))
 
-pub ends_text : (w : World) (text : List ℕ) (old : Option (List ℕ)) (n : ℕ) (now : Seen) (waiting : List ℕ) (left new : Option (List ℕ)) (composed : List ℕ) →
-    HasNoLine waiting left → RunsOn w text old n now waiting left new composed → LeavesAll w text Whole old new composed
-ends_text w text old n now waiting left new composed none on =
+pub ends_text : (s : Scene) (text : List ℕ) (old : Option (List ℕ)) (n : ℕ) (now : Stage) (waiting : List ℕ) (left new : Option (List ℕ)) (composed : List ℕ) →
+    HasNoLine waiting left → RunsOn s text old n now waiting left new composed → LeavesAll s text Whole old new composed
+ends_text s text old n now waiting left new composed none on =
     let whole : on.rest ≡ [] = text_at_end waiting on.rest left none.1 on.text_is ∙ none.0 in
     let printed = on.prints [] Whole (subst (λ l. Prints on.mid n l [] Whole) (sym whole) (Ends on.mid n)) in
-    (on.handed ++ composed, subst (λ l. Prints w 1 text l Whole) (append-nil (on.handed ++ composed)) printed, (on.handed, on.grown, refl))
+    (on.handed ++ composed, subst (λ l. Prints s 1 text l Whole) (append-nil (on.handed ++ composed)) printed, (on.handed, on.grown, refl))
 
-stops_here : (w : World) (text : List ℕ) (old : Option (List ℕ)) (n : ℕ) (now : Seen) (waiting : List ℕ) (left new : Option (List ℕ)) (composed : List ℕ) →
-    (on : RunsOn w text old n now waiting left new composed) → Prints w 1 text (on.handed ++ composed) Stopped
-stops_here w text old n now waiting left new composed on =
-    subst (λ l. Prints w 1 text l Stopped) (append-nil (on.handed ++ composed)) (on.prints [] Stopped (Stops on.mid n on.rest))
+stops_here : (s : Scene) (text : List ℕ) (old : Option (List ℕ)) (n : ℕ) (now : Stage) (waiting : List ℕ) (left new : Option (List ℕ)) (composed : List ℕ) →
+    (on : RunsOn s text old n now waiting left new composed) → Prints s 1 text (on.handed ++ composed) Stopped
+stops_here s text old n now waiting left new composed on =
+    subst (λ l. Prints s 1 text l Stopped) (append-nil (on.handed ++ composed)) (on.prints [] Stopped (Stops on.mid n on.rest))
 
-pub stops_part : (w : World) (text : List ℕ) (old : Option (List ℕ)) (n : ℕ) (now : Seen) (waiting : List ℕ) (left new newer : Option (List ℕ)) (composed none : List ℕ) →
-    AppendsPart new newer composed → none ≡ [] → RunsOn w text old n now waiting left new composed → LeavesFront w text old newer none
-stops_part w text old n now waiting left new newer composed none part e on =
+pub stops_part : (s : Scene) (text : List ℕ) (old : Option (List ℕ)) (n : ℕ) (now : Stage) (waiting : List ℕ) (left new newer : Option (List ℕ)) (composed none : List ℕ) →
+    AppendsPart new newer composed → none ≡ [] → RunsOn s text old n now waiting left new composed → LeavesFront s text old newer none
+stops_part s text old n now waiting left new newer composed none part e on =
     let front = on.handed ++ take part.0 composed in
     let joined : front ++ none ≡ take (length on.handed + part.0) (on.handed ++ composed) =
     ap (λ l. front ++ l) e ∙ append-nil front ∙ sym (take-append-add on.handed composed part.0) in (
       Stopped,
       on.handed ++ composed,
-      stops_here w text old n now waiting left new composed on,
+      stops_here s text old n now waiting left new composed on,
       (front, Appends-trans old new newer on.handed (take part.0 composed) on.grown part.1, (length on.handed + part.0, joined)),
     )
 
-pub stops_front : (w : World) (text : List ℕ) (old : Option (List ℕ)) (n : ℕ) (now : Seen) (waiting : List ℕ) (left new : Option (List ℕ)) (composed fewer : List ℕ) →
-    IsFrontOf fewer composed → RunsOn w text old n now waiting left new composed → LeavesFront w text old new fewer
-stops_front w text old n now waiting left new composed fewer front on = (
+pub stops_front : (s : Scene) (text : List ℕ) (old : Option (List ℕ)) (n : ℕ) (now : Stage) (waiting : List ℕ) (left new : Option (List ℕ)) (composed fewer : List ℕ) →
+    IsFrontOf fewer composed → RunsOn s text old n now waiting left new composed → LeavesFront s text old new fewer
+stops_front s text old n now waiting left new composed fewer front on = (
   Stopped,
   on.handed ++ composed,
-  stops_here w text old n now waiting left new composed on,
+  stops_here s text old n now waiting left new composed on,
   (on.handed, on.grown, (length on.handed + front.0, ap (λ l. on.handed ++ l) front.1 ∙ sym (take-append-add on.handed composed front.0))),
 )
 
-bad_printed : (n len : ℕ) (m : World) (waiting rest : List ℕ) (left : Option (List ℕ)) (found : Found) (last : Bool) → found.is_last ≡ last → n ≤ 1000000 → IsNextLine found waiting left →
+bad_printed : (n len : ℕ) (m : Scene) (waiting rest : List ℕ) (left : Option (List ℕ)) (found : Found) (last : Bool) → found.is_last ≡ last → n ≤ 1000000 → IsNextLine found waiting left →
     IsBad m (take found.len waiting) → IsText waiting left rest → Prints m n rest (bad_line_text n) (BadLine n)
 bad_printed n len m waiting rest left found false e few next bad t =
     Fails m n rest (take found.len waiting) (drop (found.len + 1) waiting ++ t.0) few
@@ -181,17 +182,17 @@ bad_printed n len m waiting rest left found true e few next bad t =
       | inr end ↦ Fails m n rest (take found.len waiting) [] few (last_line found.len waiting rest left last end t) bad
     ]
 
-pub fails_at : (w : World) (text : List ℕ) (old : Option (List ℕ)) (n : ℕ) (now : Seen) (waiting : List ℕ) (left new : Option (List ℕ)) (composed told : List ℕ) (found : Found) →
-    n ≤ 1000000 → IsNextLine found waiting left → ((m : World) → IsSeenAs m now → IsBad m (take found.len waiting)) → told ≡ composed ++ bad_line_text n →
-    RunsOn w text old n now waiting left new composed → LeavesAll w text (BadLine n) old new told
-fails_at w text old n now waiting left new composed told found few next bad e on =
+pub fails_at : (s : Scene) (text : List ℕ) (old : Option (List ℕ)) (n : ℕ) (now : Stage) (waiting : List ℕ) (left new : Option (List ℕ)) (composed told : List ℕ) (found : Found) →
+    n ≤ 1000000 → IsNextLine found waiting left → ((m : Scene) → IsSceneOf m now → IsBad m (take found.len waiting)) → told ≡ composed ++ bad_line_text n →
+    RunsOn s text old n now waiting left new composed → LeavesAll s text (BadLine n) old new told
+fails_at s text old n now waiting left new composed told found few next bad e on =
     let printed = on.prints (bad_line_text n) (BadLine n) (bad_printed n 0 on.mid waiting on.rest left found found.is_last refl few next (bad on.mid on.sight) on.text_is) in
     let same : (on.handed ++ composed) ++ bad_line_text n ≡ on.handed ++ told = append_assoc on.handed composed (bad_line_text n) ∙ ap (λ l. on.handed ++ l) (sym e) in
-    (on.handed ++ told, subst (λ l. Prints w 1 text l (BadLine n)) same printed, (on.handed, on.grown, refl))
+    (on.handed ++ told, subst (λ l. Prints s 1 text l (BadLine n)) same printed, (on.handed, on.grown, refl))
 
-pub exceeds_at : (w : World) (text : List ℕ) (old : Option (List ℕ)) (n : ℕ) (now : Seen) (waiting : List ℕ) (left new : Option (List ℕ)) (composed : List ℕ) →
-    1000000 < n → 0 < length waiting → RunsOn w text old n now waiting left new composed → LeavesAll w text TooMany old new composed
-exceeds_at w text old n now waiting left new composed many some on =
+pub exceeds_at : (s : Scene) (text : List ℕ) (old : Option (List ℕ)) (n : ℕ) (now : Stage) (waiting : List ℕ) (left new : Option (List ℕ)) (composed : List ℕ) →
+    1000000 < n → 0 < length waiting → RunsOn s text old n now waiting left new composed → LeavesAll s text TooMany old new composed
+exceeds_at s text old n now waiting left new composed many some on =
     let behind = on.text_is.0 in
     let filled : 0 < length on.rest = omega (arith, some, ap length on.text_is.2, length-append waiting behind) in
-    (on.handed ++ composed, subst (λ l. Prints w 1 text l TooMany) (append-nil (on.handed ++ composed)) (on.prints [] TooMany (Exceeds on.mid n on.rest many filled)), (on.handed, on.grown, refl))
+    (on.handed ++ composed, subst (λ l. Prints s 1 text l TooMany) (append-nil (on.handed ++ composed)) (on.prints [] TooMany (Exceeds on.mid n on.rest many filled)), (on.handed, on.grown, refl))

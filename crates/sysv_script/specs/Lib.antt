@@ -9,6 +9,7 @@ pub mod Faults
 pub mod ScriptRun
 pub mod Lines
 pub mod SaidBy
+pub mod Staged
 pub mod ScriptText
 pub mod ScriptSofar
 pub mod OneText

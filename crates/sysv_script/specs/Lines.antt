@@ -1,18 +1,23 @@
 -- What a line of a script says (this project's script language): its words stand one space apart,
 -- and the text of a message is the rest of the line. Numerals are decimal and stand for a number
 -- that its place can hold.
-use Rattle.std.specs.Prelude.{◌≡◌, ◌≤◌, ◌⊎◌, ℕ, ℤ, pos, List, [], ◌∷◌, length, codes, replicate}
+use Rattle.std.specs.Prelude.{◌≡◌, ◌≤◌, ◌⊎◌, ℕ, ℤ, pos, List, [], ◌∷◌, ◌++◌, length, codes, replicate}
 use Rattle.std.specs.Int.{w32, w64}
 use Rattle.std.specs.Int.RustNames.{FitsSigned}
 use Rattle.sysv_script.specs.FlagNames.{IsFlags}
 use Rattle.sysv_script.specs.Words.{SplitsAt, IsNumber, number_in}
-use Rattle.sysv_script.specs.ScriptRun.{Said, Nothing, MakesPreset, Starts}
+use Rattle.sysv_script.specs.ScriptRun.{Said, Nothing, MakesPreset, GivesCred, Starts}
+use Rattle.sysv_model.specs.declared.cred.Cred.{Cred}
 use Rattle.sysv_core.specs.declared.event.Call.{Call}
 use Rattle.sysv_core.specs.declared.event.Call.TheVariants.{Send, Receive}
 
 -- the word is a numeral, and this is its number
 abbrev pub IsNumeralOf : List ℕ → ℤ → Type 0
 IsNumeralOf word number = IsNumber word × (number_in word ≡ number)
+
+-- the word is a numeral of a number from 0 to 4294967295
+abbrev pub IsUnsignedNumeralOf : List ℕ → ℕ → Type 0
+IsUnsignedNumeralOf word number = IsNumeralOf word (pos number) × (number ≤ 4294967295)
 
 -- a body that gives a number of letters x
 pub record GivesLetters (body text : List ℕ) : Type 0 where
@@ -53,9 +58,31 @@ pub record SaysReceive (words : List ℕ) (id : ℤ) (size : ℕ) (mtype : ℤ) 
   pub second : SplitsAt 32 after_id size_word after_size
   pub third : SplitsAt 32 after_size mtype_word flags_word
   pub id_is : IsNumeralOf id_word id × FitsSigned w32 id
-  pub size_is : IsNumeralOf size_word (pos size) × (size ≤ 4294967295)
+  pub size_is : IsUnsignedNumeralOf size_word size
   pub mtype_is : IsNumeralOf mtype_word mtype × FitsSigned w64 mtype
   pub flags_are : IsFlags flags_word flags
+
+-- `ACTOR UID GID PID`
+pub record NamesCred (words : List ℕ) (actor : ℕ) (cred : Cred) : Type 0 where
+  pub actor_word : List ℕ
+  pub after_actor : List ℕ
+  pub uid_word : List ℕ
+  pub after_uid : List ℕ
+  pub gid_word : List ℕ
+  pub pid_word : List ℕ
+  pub first : SplitsAt 32 words actor_word after_actor
+  pub second : SplitsAt 32 after_actor uid_word after_uid
+  pub third : SplitsAt 32 after_uid gid_word pid_word
+  pub actor_is : IsNumeralOf actor_word (pos actor)
+  pub least : 1 ≤ actor
+  pub most : actor ≤ 16
+  pub uid_is : IsUnsignedNumeralOf uid_word cred.uid
+  pub gid_is : IsUnsignedNumeralOf gid_word cred.gid
+  pub pid_is : IsUnsignedNumeralOf pid_word cred.pid
+
+-- `as`, an actor, 1 to 16, and the credentials of its calls from then on
+abbrev pub SaysCred : List ℕ → ℕ → Cred → Type 0
+SaysCred line actor cred = (words : List ℕ) × (line ≡ codes "as " ++ words) × NamesCred words actor cred
 
 -- the operation and the words behind it ask for this call
 abbrev pub SaysCall : List ℕ → List ℕ → Call → Type 0
@@ -82,6 +109,7 @@ IsSkipped line = (line ≡ []) ⊎ ((comment : List ℕ) × (line ≡ 35 ∷ com
 abbrev pub Tells : List ℕ → Said → Type 0
 Tells line Nothing = IsSkipped line
 Tells line MakesPreset = line ≡ codes "preset"
+Tells line (GivesCred actor cred) = SaysCred line actor cred
 Tells line (Starts actor call) = SaysStart line actor call
 
 -- a line has at most 9,000 bytes

@@ -1,6 +1,6 @@
 -- What the code's lines, requests and texts stand for.
 use Rattle.std.specs.Prelude.{◌≤◌, ⊤, ℕ, List, [], length, replicate}
-use Rattle.sysv_script.specs.ScriptRun.{Said, Nothing, MakesPreset, Starts}
+use Rattle.sysv_script.specs.ScriptRun.{Said, Nothing, MakesPreset, GivesCred, Starts}
 use Rattle.sysv_core.specs.declared.event.Call.{Call}
 use Rattle.sysv_core.specs.declared.event.Call.TheVariants as calls
 use Rattle.sysv_script.specs.declared.line.Text.{Text}
@@ -8,7 +8,7 @@ use Rattle.sysv_script.specs.declared.line.Text.TheVariants.{Given, Letters}
 use Rattle.sysv_script.specs.declared.line.Request.{Request}
 use Rattle.sysv_script.specs.declared.line.Request.TheVariants.{Send, Receive}
 use Rattle.sysv_script.specs.declared.line.Line.{Line}
-use Rattle.sysv_script.specs.declared.line.Line.TheVariants.{Skipped, Preset, Start}
+use Rattle.sysv_script.specs.declared.line.Line.TheVariants.{Skipped, Preset, Cred, Start}
 
 abbrev pub text_bytes : Text → List ℕ
 text_bytes (Given bytes) = bytes.now
@@ -21,7 +21,11 @@ call_asked (Receive id size mtype flags) = calls.Receive id size mtype flags []
 abbrev pub said_of : Line → Said
 said_of Skipped = Nothing
 said_of Preset = MakesPreset
+said_of (Cred actor cred) = GivesCred actor cred
 said_of (Start actor request) = Starts actor (call_asked request)
+
+abbrev pub IsOfActors : ℕ → Type 0
+IsOfActors actor = (1 ≤ actor) × (actor ≤ 16)
 
 -- A text fits a message's body.
 abbrev pub FitsBody : Text → Type 0
@@ -31,8 +35,9 @@ abbrev pub RequestFits : Request → Type 0
 RequestFits (Send id mtype flags text) = FitsBody text
 RequestFits (Receive id size mtype flags) = ⊤
 
--- A call is one of 16 actors, and its text fits a body.
+-- An actor is one of 16, and the text of a call fits a body.
 abbrev pub LineFits : Line → Type 0
 LineFits Skipped = ⊤
 LineFits Preset = ⊤
-LineFits (Start actor request) = (actor ≤ 16) × RequestFits request
+LineFits (Cred actor cred) = IsOfActors actor
+LineFits (Start actor request) = IsOfActors actor × RequestFits request

@@ -1,9 +1,12 @@
--- What a line of a script does in a world and prints (this project's script language): a preset, or a
--- call of an actor, which is started and then makes its steps until it is answered, at most 16.
-use Rattle.std.specs.Prelude.{◌≡◌, ℕ, zero, suc, ◌+◌, Bool, true, List, [], ◌∷◌, ◌++◌, unwrap_or}
+-- What a line of a script does on a scene and prints (this project's script language): a preset, the
+-- credentials of an actor, or a call of an actor, which is started and then makes its steps until it is
+-- answered, at most 16.
+use Rattle.std.specs.Prelude.{◌≡◌, ℕ, zero, suc, ◌+◌, ◌-◌, Bool, true, List, [], ◌∷◌, ◌++◌, Option, Some, None, map, slice_get, slice_set, unwrap_or}
+use Rattle.std.specs.List.{range_with_len}
 use Rattle.sysv_model.specs.declared.cred.Cred.{Cred}
 use Rattle.sysv_core.specs.declared.event.Call.{Call}
 use Rattle.sysv_core.specs.declared.event.Call.TheVariants as call
+use Rattle.sysv_core.specs.declared.event.Event.{Event}
 use Rattle.sysv_core.specs.declared.event.Event.TheVariants.{Start, Step}
 use Rattle.sysv_core.specs.declared.event.Outcome.{Outcome}
 use Rattle.sysv_core.specs.declared.event.Outcome.TheVariants as outcome
@@ -14,32 +17,59 @@ use Rattle.sysv_script.specs.declared.head.Operation.TheVariants.{Send, Receive}
 use Rattle.sysv_script.specs.declared.head.Head.{Head}
 use Rattle.sysv_script.specs.declared.head.Head.TheVariants as head
 use Rattle.sysv_script.specs.Heads.{head_text}
-use Rattle.sysv_core.specs.World.{World, Steps, Presets}
+use Rattle.sysv_core.specs.World.{World, opening, Steps, Presets}
 
 -- what a line says
 pub data Said : Type 0 where
   Nothing : Said
   MakesPreset : Said
+  GivesCred : (actor : ℕ) (cred : Cred) → Said
   Starts : (actor : ℕ) (call : Call) → Said
 
--- an actor of a script: user and group 1000, and a process of its own
-abbrev pub cred_of : ℕ → Cred
-cred_of actor = record { uid = 1000; gid = 1000; pid = 100 + actor }
+-- what a script runs on: the world, and the credentials of each actor, that of actor A at place A - 1
+pub record Scene : Type 0 where
+  pub world : World
+  pub creds : List Cred
+
+-- an actor as it is at first: user and group 1000, and a process of its own
+abbrev pub first_cred : ℕ → Cred
+first_cred actor = record { uid = 1000; gid = 1000; pid = 100 + actor }
+
+-- a world of 16 actors in which nothing has happened, and the actors 1 to 16 as they are at first
+abbrev pub opening_scene : Scene
+opening_scene = record { world = opening 16; creds = map first_cred (range_with_len 1 16) }
+
+-- the credentials of an actor, if there is such an actor; actors count from 1
+abbrev pub cred_at : List Cred → ℕ → Option Cred
+cred_at creds zero = None
+cred_at creds (suc place) = slice_get creds place
+
+abbrev pub with_cred : List Cred → ℕ → Cred → List Cred
+with_cred creds actor cred = slice_set creds (actor - 1) cred
+
+-- the scene with another world
+abbrev pub in_world : Scene → World → Scene
+in_world s world = record s { world = world }
 
 abbrev pub operation_of : Call → Operation
 operation_of (call.Send id mtype flags body) = Send
 operation_of (call.Receive id size mtype flags body) = Receive
 
--- After what the last event gave, the actor makes at most that many more steps until it is answered.
-abbrev pub GoesOn : ℕ → World → ℕ → Stepped → Stepped → World → Type 0
-GoesOn zero w actor stepped.Nothing given after = (given ≡ stepped.Nothing) × (after ≡ w)
-GoesOn (suc n) w actor stepped.Nothing given after = (mid : World) × (next : Stepped) × Steps w (Step actor 0) next mid × GoesOn n mid actor next given after
-GoesOn n w actor (stepped.Answer answer) given after = (given ≡ stepped.Answer answer) × (after ≡ w)
-GoesOn n w actor stepped.Worn given after = (given ≡ stepped.Worn) × (after ≡ w)
+-- one event in the world; the rest of the scene stays
+abbrev pub Advances : Scene → Event → Stepped → Scene → Type 0
+Advances s event given after = Steps s.world event given after.world × (after ≡ in_world s after.world)
 
--- the call from its start to what it gave in the end
-abbrev pub CallRuns : World → ℕ → Call → Stepped → World → Type 0
-CallRuns w actor call given after = (mid : World) × (first : Stepped) × Steps w (Start actor (cred_of actor) call) first mid × GoesOn 16 mid actor first given after
+-- After what the last event gave, the actor makes at most that many more steps until it is answered.
+abbrev pub GoesOn : ℕ → Scene → ℕ → Stepped → Stepped → Scene → Type 0
+GoesOn zero s actor stepped.Nothing given after = (given ≡ stepped.Nothing) × (after ≡ s)
+GoesOn (suc n) s actor stepped.Nothing given after = (mid : Scene) × (next : Stepped) × Advances s (Step actor 0) next mid × GoesOn n mid actor next given after
+GoesOn n s actor (stepped.Answer answer) given after = (given ≡ stepped.Answer answer) × (after ≡ s)
+GoesOn n s actor stepped.Worn given after = (given ≡ stepped.Worn) × (after ≡ s)
+
+-- the call, with the credentials that the actor has now, from its start to what it gave in the end
+abbrev pub CallRuns : Scene → ℕ → Call → Stepped → Scene → Type 0
+CallRuns s actor call given after =
+    (cred : Cred) × (mid : Scene) × (first : Stepped) × (cred_at s.creds actor ≡ Some cred) × Advances s (Start actor cred call) first mid × GoesOn 16 mid actor first given after
 
 -- the head of an answer's line
 abbrev pub head_for : ℕ → Operation → Outcome → Head
@@ -54,8 +84,9 @@ printed actor operation stepped.Worn = head_text (head.Worn actor) ++ 10 ∷ []
 printed actor operation stepped.Nothing = []
 
 -- What a line does and prints. It is not understood where it is a preset that comes too late.
-abbrev pub LineRuns : World → Said → Bool → List ℕ → World → Type 0
-LineRuns w Nothing understood out after = (understood ≡ true) × (out ≡ []) × (after ≡ w)
-LineRuns w MakesPreset understood out after = Presets w understood after × (out ≡ [])
-LineRuns w (Starts actor call) understood out after =
-    (understood ≡ true) × ((given : Stepped) × CallRuns w actor call given after × (out ≡ printed actor (operation_of call) given))
+abbrev pub LineRuns : Scene → Said → Bool → List ℕ → Scene → Type 0
+LineRuns s Nothing understood out after = (understood ≡ true) × (out ≡ []) × (after ≡ s)
+LineRuns s MakesPreset understood out after = Presets s.world understood after.world × (out ≡ []) × (after ≡ in_world s after.world)
+LineRuns s (GivesCred actor cred) understood out after = (understood ≡ true) × (out ≡ []) × (after ≡ record s { creds = with_cred s.creds actor cred })
+LineRuns s (Starts actor call) understood out after =
+    (understood ≡ true) × ((given : Stepped) × CallRuns s actor call given after × (out ≡ printed actor (operation_of call) given))

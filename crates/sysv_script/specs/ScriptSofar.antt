@@ -1,7 +1,7 @@
 -- The run of a script that is under way: the text that is left, and what is written and composed.
 use Rattle.std.specs.Prelude.{◌≡◌, ℕ, Bool, true, false, List, [], ◌++◌, Option, Some, Result, Ok, Err, ⊤}
 use Rattle.std.specs.Io.KnownBytes.{Appends}
-use Rattle.sysv_core.specs.World.{World}
+use Rattle.sysv_script.specs.ScriptRun.{Scene}
 use Rattle.sysv_script.specs.Faults.{IsFrontOf}
 use Rattle.sysv_script.specs.ScriptText.{LineDoes, IsBad, Ending, Whole, BadLine, TooMany, Prints}
 use Rattle.sysv_script.specs.declared.script.ScriptFault.{ScriptFault}
@@ -12,27 +12,27 @@ abbrev pub IsText : List ℕ → Option (List ℕ) → List ℕ → Type 0
 IsText waiting left text = (behind : List ℕ) × (left ≡ Some behind) × (text ≡ waiting ++ behind)
 
 -- a line does what it says, or is bad
-abbrev pub LineEnds : World → List ℕ → Bool → List ℕ → World → Type 0
-LineEnds w line true out after = LineDoes w line out after
-LineEnds w line false out after = IsBad w line × (out ≡ [])
+abbrev pub LineEnds : Scene → List ℕ → Bool → List ℕ → Scene → Type 0
+LineEnds s line true out after = LineDoes s line out after
+LineEnds s line false out after = IsBad s line × (out ≡ [])
 
 -- All that the text prints was handed out or is composed.
-abbrev pub LeavesAll : World → List ℕ → Ending → Option (List ℕ) → Option (List ℕ) → List ℕ → Type 0
-LeavesAll w text ending old new composed =
-    (out : List ℕ) × Prints w 1 text out ending × ((handed : List ℕ) × Appends old new handed × (out ≡ handed ++ composed))
+abbrev pub LeavesAll : Scene → List ℕ → Ending → Option (List ℕ) → Option (List ℕ) → List ℕ → Type 0
+LeavesAll s text ending old new composed =
+    (out : List ℕ) × Prints s 1 text out ending × ((handed : List ℕ) × Appends old new handed × (out ≡ handed ++ composed))
 
 -- What was handed out, and what is composed behind it, is a front of what the text prints.
-abbrev pub LeavesFront : World → List ℕ → Option (List ℕ) → Option (List ℕ) → List ℕ → Type 0
-LeavesFront w text old new composed =
-    (ending : Ending) × (out : List ℕ) × Prints w 1 text out ending × ((handed : List ℕ) × Appends old new handed × IsFrontOf (handed ++ composed) out)
+abbrev pub LeavesFront : Scene → List ℕ → Option (List ℕ) → Option (List ℕ) → List ℕ → Type 0
+LeavesFront s text old new composed =
+    (ending : Ending) × (out : List ℕ) × Prints s 1 text out ending × ((handed : List ℕ) × Appends old new handed × IsFrontOf (handed ++ composed) out)
 
-abbrev pub LeavesAtFault : ScriptFault → World → List ℕ → Option (List ℕ) → Option (List ℕ) → List ℕ → Type 0
-LeavesAtFault (Line n) w text old new composed = LeavesAll w text (BadLine n) old new composed
-LeavesAtFault Bound w text old new composed = LeavesAll w text TooMany old new composed
-LeavesAtFault NoMemory w text old new composed = LeavesFront w text old new composed
-LeavesAtFault Read w text old new composed = LeavesFront w text old new composed
-LeavesAtFault Write w text old new composed = LeavesFront w text old new composed
+abbrev pub LeavesAtFault : ScriptFault → Scene → List ℕ → Option (List ℕ) → Option (List ℕ) → List ℕ → Type 0
+LeavesAtFault (Line n) s text old new composed = LeavesAll s text (BadLine n) old new composed
+LeavesAtFault Bound s text old new composed = LeavesAll s text TooMany old new composed
+LeavesAtFault NoMemory s text old new composed = LeavesFront s text old new composed
+LeavesAtFault Read s text old new composed = LeavesFront s text old new composed
+LeavesAtFault Write s text old new composed = LeavesFront s text old new composed
 
-abbrev pub Leaves : Result ⊤ ScriptFault → World → List ℕ → Option (List ℕ) → Option (List ℕ) → List ℕ → Type 0
-Leaves (Ok done) w text old new composed = LeavesAll w text Whole old new composed
-Leaves (Err fault) w text old new composed = LeavesAtFault fault w text old new composed
+abbrev pub Leaves : Result ⊤ ScriptFault → Scene → List ℕ → Option (List ℕ) → Option (List ℕ) → List ℕ → Type 0
+Leaves (Ok done) s text old new composed = LeavesAll s text Whole old new composed
+Leaves (Err fault) s text old new composed = LeavesAtFault fault s text old new composed

@@ -1,9 +1,9 @@
 -- What the text of a script prints (this project's script language): its lines are run one by one,
--- each in the world that the lines before it left, and what they print stands in their order.
+-- each on the scene that the lines before it left, and what they print stands in their order.
 use Rattle.std.specs.Prelude.{◌≡◌, ◌<◌, ◌≤◌, ◌+◌, ◌⊎◌, ℕ, true, false, List, [], ◌++◌, Option, Result, Ok, Err, ⊤, length}
 use Rattle.std.specs.Io.KnownBytes.{Appends}
-use Rattle.sysv_core.specs.World.{World, opening, Presets}
-use Rattle.sysv_script.specs.ScriptRun.{Said, MakesPreset, LineRuns}
+use Rattle.sysv_core.specs.World.{Presets}
+use Rattle.sysv_script.specs.ScriptRun.{Said, MakesPreset, Scene, opening_scene, LineRuns}
 use Rattle.sysv_script.specs.Lines.{Says}
 use Rattle.sysv_script.specs.Words.{SplitsAt}
 use Rattle.sysv_script.specs.Found.{HasNoEnd}
@@ -25,27 +25,27 @@ abbrev pub BeginsWith : List ℕ → List ℕ → List ℕ → Type 0
 BeginsWith text line rest = SplitsAt 10 text line rest ⊎ (HasNoEnd text × (0 < length text) × (line ≡ text) × (rest ≡ []))
 
 -- a line that says something does it, and prints what comes of it
-abbrev pub LineDoes : World → List ℕ → List ℕ → World → Type 0
-LineDoes w line out after = (said : Said) × Says line said × LineRuns w said true out after
+abbrev pub LineDoes : Scene → List ℕ → List ℕ → Scene → Type 0
+LineDoes s line out after = (said : Said) × Says line said × LineRuns s said true out after
 
 -- a line is bad where it says nothing, or a preset in a world that has a live queue
-abbrev pub IsBad : World → List ℕ → Type 0
-IsBad w line = ((said : Said) → Says line said → ⊥) ⊎ (Says line MakesPreset × Presets w false w)
+abbrev pub IsBad : Scene → List ℕ → Type 0
+IsBad s line = ((said : Said) → Says line said → ⊥) ⊎ (Says line MakesPreset × Presets s.world false s.world)
 
--- From this world, and from the line of this number on, the text prints this and ends so.
-pub data Prints : World → ℕ → List ℕ → List ℕ → Ending → Type 0 where
-  Ends : (w : World) (n : ℕ) → Prints w n [] [] Whole
-  Stops : (w : World) (n : ℕ) (text : List ℕ) → Prints w n text [] Stopped
-  Exceeds : (w : World) (n : ℕ) (text : List ℕ) → 1000000 < n → 0 < length text → Prints w n text [] TooMany
-  Fails : (w : World) (n : ℕ) (text line rest : List ℕ) → n ≤ 1000000 → BeginsWith text line rest → IsBad w line → Prints w n text (bad_line_text n) (BadLine n)
+-- From this scene, and from the line of this number on, the text prints this and ends so.
+pub data Prints : Scene → ℕ → List ℕ → List ℕ → Ending → Type 0 where
+  Ends : (s : Scene) (n : ℕ) → Prints s n [] [] Whole
+  Stops : (s : Scene) (n : ℕ) (text : List ℕ) → Prints s n text [] Stopped
+  Exceeds : (s : Scene) (n : ℕ) (text : List ℕ) → 1000000 < n → 0 < length text → Prints s n text [] TooMany
+  Fails : (s : Scene) (n : ℕ) (text line rest : List ℕ) → n ≤ 1000000 → BeginsWith text line rest → IsBad s line → Prints s n text (bad_line_text n) (BadLine n)
   -- a line is bad as soon as it is too long, whatever follows
-  Overruns : (w : World) (n : ℕ) (front rest : List ℕ) → n ≤ 1000000 → 9000 < length front → HasNoEnd front → Prints w n (front ++ rest) (bad_line_text n) (BadLine n)
-  Goes : (w : World) (n : ℕ) (text line rest out : List ℕ) (after : World) (more : List ℕ) (ending : Ending) →
-      n ≤ 1000000 → BeginsWith text line rest → LineDoes w line out after → Prints after (n + 1) rest more ending → Prints w n text (out ++ more) ending
+  Overruns : (s : Scene) (n : ℕ) (front rest : List ℕ) → n ≤ 1000000 → 9000 < length front → HasNoEnd front → Prints s n (front ++ rest) (bad_line_text n) (BadLine n)
+  Goes : (s : Scene) (n : ℕ) (text line rest out : List ℕ) (after : Scene) (more : List ℕ) (ending : Ending) →
+      n ≤ 1000000 → BeginsWith text line rest → LineDoes s line out after → Prints after (n + 1) rest more ending → Prints s n text (out ++ more) ending
 
--- what a script prints: its text in a world of 16 actors, from line 1 on
+-- what a script prints: its text on the opening scene, from line 1 on
 abbrev pub ScriptPrints : List ℕ → List ℕ → Ending → Type 0
-ScriptPrints text out ending = Prints (opening 16) 1 text out ending
+ScriptPrints text out ending = Prints opening_scene 1 text out ending
 
 -- Ends so, and the writer took all that the script prints.
 abbrev pub WritesAll : List ℕ → Ending → Option (List ℕ) → Option (List ℕ) → Type 0

@@ -23,9 +23,9 @@ IsNumber word = IsNumeral 10 (digits_in word)
 abbrev pub number_in : List ℕ → ℤ
 number_in word = if is_negative word then neg_ℤ (pos (digits_value 10 (digits_in word))) else pos (digits_value 10 (digits_in word))
 
--- the number is a size, an actor's, a number of letters
-abbrev pub IsSize : ℤ → Type 0
-IsSize number = (pos 0 ≤ℤ number) × (number ≤ℤ pos 4294967295)
+-- the number fits 32 bits, is an actor's, is a number of letters
+abbrev pub IsUnsigned : ℤ → Type 0
+IsUnsigned number = (pos 0 ≤ℤ number) × (number ≤ℤ pos 4294967295)
 
 abbrev pub IsActor : ℤ → Type 0
 IsActor number = (pos 1 ≤ℤ number) × (number ≤ℤ pos 16)

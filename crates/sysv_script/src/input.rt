@@ -2,8 +2,8 @@ ghost use Rattle.std.specs.Prelude.{◌≡◌, ◌+◌, ◌<◌, ◌≤◌, [], 
 ghost use Rattle.std.specs.Io.KnownBytes.{IsAtEnd};
 ghost use Rattle.sysv_script.specs.Streams.{TakesIn};
 
-use crate::script::ScriptFault;
 use crate::line::LINE_BYTES;
+use crate::script::ScriptFault;
 use std::alloc::Global;
 use std::io::Read;
 use std::marker::Model;

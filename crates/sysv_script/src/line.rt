@@ -1,16 +1,17 @@
 //! What a line of a script says.
-ghost use Rattle.std.specs.Prelude.{◌≡◌, ◌≤◌, ℕ, List, pos, length, codes, IfSome, MatchOption};
+ghost use Rattle.std.specs.Prelude.{◌≡◌, ◌≤◌, ◌++◌, ℕ, List, pos, length, codes, IfSome, MatchOption};
 ghost use Rattle.std.specs.Option.{SomeIff};
 ghost use Rattle.std.specs.Int.{w32};
 ghost use Rattle.std.specs.Int.RustNames.{FitsSigned};
 ghost use Rattle.sysv_script.specs.ScriptRun.{Said};
-ghost use Rattle.sysv_script.specs.Lines.{SaysText, SaysCall, SaysStart, Says, Tells};
-ghost use Rattle.sysv_script.specs.SaidBy.{FitsBody, RequestFits, LineFits, said_of, call_asked, text_bytes};
+ghost use Rattle.sysv_script.specs.Lines.{SaysText, SaysCall, SaysStart, NamesCred, Says, Tells};
+ghost use Rattle.sysv_script.specs.SaidBy.{FitsBody, RequestFits, LineFits, IsOfActors, said_of, call_asked, text_bytes};
 ghost use Rattle.sysv_core.specs.declared.event.Call.{Call};
-ghost use Rattle.sysv_script.specs.Words.{IsNumber, IsSize, IsActor, IsLetters, number_in};
+ghost use Rattle.sysv_script.specs.Words.{IsNumber, IsUnsigned, IsActor, IsLetters, number_in};
 
 use crate::flags::flags_of;
 use crate::word::{first_word, number};
+use sysv_model::cred::Cred;
 use sysv_model::flags::Flags;
 use sysv_model::limits::BODY_ROOM;
 
@@ -27,6 +28,8 @@ pub(crate) enum Line<'a> {
     Skipped,
     /// `preset`: makes the private queue 0.
     Preset,
+    /// `as`: the credentials of the calls that an actor starts from then on.
+    Cred { actor: u32, cred: Cred },
     /// An actor starts a call, and makes its steps up to the answer.
     Start { actor: u32, request: Request<'a> },
 }
@@ -70,8 +73,27 @@ pub(crate) fn line_of(line: &[u8]) -> Option<Line<'_>>
     match line {
         [] | [b'#', ..] => Some(Line::Skipped),
         b"preset" => Some(Line::Preset),
+        [b'a', b's', b' ', words @ ..] => cred_of(words),
         _ => start_of(line),
     }
+}
+
+/// `A UID GID PID`, behind `as` and its space: the credentials of actor A.
+fn cred_of(words: &[u8]) -> Option<Line<'_>>
+    ensures says { MatchOption result ((actor : ℕ) (cred : Cred) → NamesCred words.now actor cred → ⊥) (λ understood. Tells (codes "as " ++ words.now) (said_of understood)) }
+    ensures fits { IfSome result LineFits }
+{
+    let (actor, rest) = first_word(words)?;
+    let (uid, rest) = first_word(rest)?;
+    let (gid, pid) = first_word(rest)?;
+    Some(Line::Cred {
+        actor: actor_of(actor)?,
+        cred: Cred {
+            uid: unsigned(uid)?,
+            gid: unsigned(gid)?,
+            pid: unsigned(pid)?,
+        },
+    })
 }
 
 /// `A snd ..` and `A rcv ..`: a call of actor A.
@@ -124,7 +146,7 @@ fn receive_of(words: &[u8]) -> Option<Request<'_>>
     let (mtype, flags) = first_word(rest)?;
     Some(Request::Receive {
         id: identifier_of(id)?,
-        size: size_of(size)?,
+        size: unsigned(size)?,
         mtype: number(mtype)?,
         flags: flags_of(flags)?,
     })
@@ -140,13 +162,13 @@ fn identifier_of(word: &[u8]) -> Option<i32>
     }
 }
 
-/// The number of bytes that a receive asks for.
-fn size_of(word: &[u8]) -> Option<u32>
-    ensures { MatchOption result (¬ (IsNumber word.now × IsSize (number_in word.now)))
-        (λ size. IsNumber word.now × (number_in word.now ≡ pos size)) }
+/// A number from 0 to 2^32 - 1.
+fn unsigned(word: &[u8]) -> Option<u32>
+    ensures { MatchOption result (¬ (IsNumber word.now × IsUnsigned (number_in word.now)))
+        (λ value. IsNumber word.now × (number_in word.now ≡ pos value)) }
 {
     match number(word) {
-        Some(size) => u32::try_from(size).ok(),
+        Some(value) => u32::try_from(value).ok(),
         None => None,
     }
 }
@@ -154,9 +176,9 @@ fn size_of(word: &[u8]) -> Option<u32>
 /// An actor's number, 1 to 16.
 fn actor_of(word: &[u8]) -> Option<u32>
     ensures { MatchOption result (¬ (IsNumber word.now × IsActor (number_in word.now)))
-        (λ actor. IsNumber word.now × (number_in word.now ≡ pos actor) × (1 ≤ actor) × (actor ≤ 16)) }
+        (λ actor. IsNumber word.now × (number_in word.now ≡ pos actor) × IsOfActors actor) }
 {
-    match size_of(word) {
+    match unsigned(word) {
         Some(actor) if actor >= 1 && actor <= SCRIPT_ACTORS => Some(actor),
         _ => None,
     }
@@ -179,7 +201,7 @@ fn letters_of(word: &[u8]) -> Option<usize>
     ensures { MatchOption result (¬ (IsNumber word.now × IsLetters (number_in word.now)))
         (λ count. IsNumber word.now × (number_in word.now ≡ pos count) × (count ≤ 8256)) }
 {
-    match size_of(word) {
+    match unsigned(word) {
         Some(count) if count as usize <= BODY_ROOM => Some(count as usize),
         _ => None,
     }

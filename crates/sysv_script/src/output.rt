@@ -3,8 +3,8 @@ ghost use Rattle.std.specs.Io.KnownBytes.{Appends};
 ghost use Rattle.sysv_script.specs.Heads.{head_text};
 ghost use Rattle.sysv_script.specs.Streams.{AppendsPart, HandsOn};
 
-use crate::script::ScriptFault;
 use crate::head::Head;
+use crate::script::ScriptFault;
 use std::alloc::Global;
 use std::io::Write;
 use std::marker::Model;

@@ -3,10 +3,10 @@ ghost use Rattle.std.specs.Prelude.{false, true, ◌≡◌, ◌+◌, ◌<◌, �
 ghost use Rattle.std.specs.Io.KnownBytes.{Appends, IsAtEnd};
 ghost use Rattle.sysv_script.specs.Faults.{Grows, IsStreamFault, IsLineFault, IsFrontOf, EndsAtLine, LeavesBadLine, TellsBadLine};
 ghost use Rattle.sysv_script.specs.Found.{HasNoEnd, IsFirstLine, FindsLine};
-ghost use Rattle.sysv_core.specs.Seen.{IsSeenAs};
-ghost use Rattle.sysv_core.specs.World.{World as Model};
+ghost use Rattle.sysv_script.specs.ScriptRun.{Scene};
 ghost use Rattle.sysv_script.specs.ScriptText.{LineDoes, IsBad, WritesScript};
 ghost use Rattle.sysv_script.specs.ScriptSofar.{LineEnds, Leaves, IsText};
+ghost use Rattle.sysv_script.specs.Staged.{IsSceneOf};
 ghost use Rattle.sysv_script.specs.Streams.{AppendsPart, HandsOn, TakesIn};
 
 use crate::head::Head;
@@ -83,8 +83,8 @@ fn run_lines<R: Read, W: Write>(
     writer: &mut W,
 ) -> Result<(), ScriptFault>
     requires { output.old ≡ [] }
-    ensures prints { (w : Model) → IsSeenAs w stage.old.world → (text : List ℕ) → IsText input.old (R.remaining reader.old) text →
-        Leaves result w text (W.contents writer.old) (W.contents writer.new) output.new }
+    ensures prints { (s : Scene) → IsSceneOf s stage.old → (text : List ℕ) → IsText input.old (R.remaining reader.old) text →
+        Leaves result s text (W.contents writer.old) (W.contents writer.new) output.new }
     ensures whole { OnOk result (IsAtEnd (R.remaining reader.new)) }
     ensures grows { Grows (W.contents writer.old) (W.contents writer.new) }
     ensures bad { IfErr result (λ fault. LeavesBadLine fault output.new) }
@@ -121,10 +121,10 @@ fn run_found(
     requires behind { found.is_last ≡ false → found.len < length input.old }
     ensures short { OnOk result (found.len ≤ 9000) }
     ensures rest { OnOk result (found.is_last ≡ false → input.new ≡ drop (found.len + 1) input.old) }
-    ensures does { OnOk result ((w : Model) → IsSeenAs w stage.old.world → (after : Model) × (out : List ℕ)
-        × LineDoes w (take found.len input.old) out after × IsSeenAs after stage.new.world × (output.new ≡ output.old ++ out)) }
+    ensures does { OnOk result ((s : Scene) → IsSceneOf s stage.old → (after : Scene) × (out : List ℕ)
+        × LineDoes s (take found.len input.old) out after × IsSceneOf after stage.new × (output.new ≡ output.old ++ out)) }
     ensures fault { IfErr result (λ fault. EndsAtLine fault number output.old output.new) }
-    ensures bad { IfErr result (λ fault. IsLineFault fault → (w : Model) → IsSeenAs w stage.old.world → IsBad w (take found.len input.old)) }
+    ensures bad { IfErr result (λ fault. IsLineFault fault → (s : Scene) → IsSceneOf s stage.old → IsBad s (take found.len input.old)) }
 {
     let line = &input.waiting()[..found.len];
     match run_line(alloc, stage, output, line) {
@@ -145,8 +145,8 @@ fn run_line(
     output: &mut Output,
     line: &[u8],
 ) -> Result<bool, NoMemory>
-    ensures runs { IfOk result (λ understood. (w : Model) → IsSeenAs w stage.old.world → (after : Model) × (out : List ℕ)
-        × LineEnds w line.now understood out after × IsSeenAs after stage.new.world × (output.new ≡ output.old ++ out)) }
+    ensures runs { IfOk result (λ understood. (s : Scene) → IsSceneOf s stage.old → (after : Scene) × (out : List ℕ)
+        × LineEnds s line.now understood out after × IsSceneOf after stage.new × (output.new ≡ output.old ++ out)) }
     ensures short { IfOk result (λ understood. understood ≡ true → length line.now ≤ 9000) }
     ensures quiet { IfOk result (λ understood. understood ≡ false → output.new ≡ output.old) }
     ensures err { OnErr result (IsFrontOf output.new output.old) }

@@ -1,19 +1,18 @@
-ghost use Rattle.std.specs.Prelude.{false, ◌≡◌, ◌+◌, ◌<◌, ◌++◌, List, ℕ, replicate, IfOk, OnOk, OnErr, [], ◌∷◌, ◌≤◌, length, Some};
+ghost use Rattle.std.specs.Prelude.{false, ◌≡◌, ◌+◌, ◌<◌, ◌++◌, List, ℕ, replicate, map, IfOk, OnOk, OnErr, [], ◌∷◌, ◌≤◌, length, Some};
+ghost use Rattle.std.specs.List.{range_with_len};
 ghost use Rattle.sysv_script.specs.Faults.{IsFrontOf};
 ghost use Rattle.sysv_script.specs.Heads.{head_text};
-ghost use Rattle.sysv_core.specs.Seen.{IsSeenAs};
-ghost use Rattle.sysv_core.specs.World.{World as Model};
-ghost use Rattle.sysv_core.specs.Run.{StandsFor};
-ghost use Rattle.sysv_script.specs.ScriptRun.{LineRuns, CallRuns, printed};
-ghost use Rattle.sysv_script.specs.ScriptRun.{cred_of as script_cred, operation_of as call_operation, head_for};
-ghost use Rattle.sysv_script.specs.SaidBy.{FitsBody, RequestFits, LineFits, text_bytes, call_asked, said_of};
+ghost use Rattle.sysv_script.specs.ScriptRun.{Scene, opening_scene, Advances, LineRuns, CallRuns, printed};
+ghost use Rattle.sysv_script.specs.ScriptRun.{first_cred as script_cred, operation_of as call_operation, head_for};
+ghost use Rattle.sysv_script.specs.SaidBy.{FitsBody, RequestFits, LineFits, IsOfActors, text_bytes, call_asked, said_of};
+ghost use Rattle.sysv_script.specs.Staged.{IsSceneOf};
 
-use sysv_core::event::{Answer, Call, Event, Outcome, Stepped};
 use crate::head::{Head, Operation};
 use crate::line::{Line, Request, SCRIPT_ACTORS, Text};
 use crate::output::Output;
-use sysv_core::world::World;
 use std::alloc::Global;
+use sysv_core::event::{Answer, Call, Event, Outcome, Stepped};
+use sysv_core::world::World;
 use sysv_model::body::Body;
 use sysv_model::cred::Cred;
 use sysv_model::no_memory::NoMemory;
@@ -27,21 +26,27 @@ const STEPS_MOST: u32 = 16;
 /// The moment of every step.
 const MOMENT: u64 = 0;
 
-/// The world of a script, and a body for the next receive.
+/// The world of a script, its actors' credentials, and a body for the next receive.
 #[derive(Drop)]
 pub(crate) struct Stage {
     world: World,
+    /// The credentials of actor A stand at place A - 1.
+    creds: [Cred; SCRIPT_ACTORS as usize],
     spare: Option<Body>,
 }
 
 impl Stage {
-    /// A world of 16 actors with nothing in it.
+    /// A world of 16 actors with nothing in it, and the credentials that they have at first.
     pub(crate) fn open(alloc: Global) -> Result<Stage, NoMemory>
-        ensures { IfOk result (λ stage. StandsFor 16 [] [] stage.world) }
+        ensures { IfOk result (λ stage. IsSceneOf opening_scene stage) }
     {
         let world = World::open(alloc, SCRIPT_ACTORS, SCRIPT_BLOCKS).map_err(|_| NoMemory)?;
         let spare = Some(Body::open(alloc)?);
-        Ok(Stage { world, spare })
+        Ok(Stage {
+            world,
+            creds: first_creds(),
+            spare,
+        })
     }
 
     /// Does what a line says, and composes its answer. `false` for a `preset` that comes too late.
@@ -52,9 +57,9 @@ impl Stage {
         output: &mut Output,
     ) -> Result<bool, NoMemory>
         requires { LineFits line }
-        ensures runs { IfOk result (λ understood. (w : Model) → IsSeenAs w self.old.world →
-            (after : Model) × (out : List ℕ) × LineRuns w (said_of line.entry) understood out after
-            × IsSeenAs after self.new.world × (output.new ≡ output.old ++ out)) }
+        ensures runs { IfOk result (λ understood. (s : Scene) → IsSceneOf s self.old →
+            (after : Scene) × (out : List ℕ) × LineRuns s (said_of line.entry) understood out after
+            × IsSceneOf after self.new × (output.new ≡ output.old ++ out)) }
         // A line that is bad composes nothing, and where memory is refused a front is left.
         ensures quiet { IfOk result (λ understood. understood ≡ false → output.new ≡ output.old) }
         ensures err { OnErr result (IsFrontOf output.new output.old) }
@@ -62,6 +67,10 @@ impl Stage {
         match line {
             Line::Skipped => Ok(true),
             Line::Preset => Ok(self.world.preset()),
+            Line::Cred { actor, cred } => {
+                self.creds[actor as usize - 1] = cred;
+                Ok(true)
+            }
             Line::Start { actor, request } => {
                 let operation = operation_of(request);
                 let call = self.call_of(alloc, request)?;
@@ -76,7 +85,7 @@ impl Stage {
     fn call_of(&mut self, alloc: Global, request: Request<'_>) -> Result<Call, NoMemory>
         requires { RequestFits request }
         ensures call { IfOk result (λ call. call ≡ call_asked request.entry) }
-        ensures world { self.new.world ≡ self.old.world }
+        ensures kept { self.new ≡ record self.old { spare = self.new.spare } }
     {
         match request {
             Request::Send {
@@ -114,7 +123,7 @@ impl Stage {
     /// The spare body, or a new one where it is away.
     fn spare_body(&mut self, alloc: Global) -> Result<Body, NoMemory>
         ensures empty { IfOk result (λ body. body ≡ []) }
-        ensures world { self.new.world ≡ self.old.world }
+        ensures kept { self.new ≡ record self.old { spare = self.new.spare } }
     {
         match self.spare.take() {
             Some(mut body) => {
@@ -127,21 +136,29 @@ impl Stage {
 
     /// Starts a call, and makes its steps up to the answer.
     fn go(&mut self, actor: u32, call: Call) -> Stepped
-        requires { actor ≤ 16 }
-        ensures { (w : Model) → IsSeenAs w self.old.world →
-            (after : Model) × CallRuns w actor call result after × IsSeenAs after self.new.world }
+        requires { IsOfActors actor }
+        ensures { (s : Scene) → IsSceneOf s self.old →
+            (after : Scene) × CallRuns s actor call result after × IsSceneOf after self.new }
     {
-        let cred = cred_of(actor);
-        let mut stepped = self.world.step(Event::Start { actor, cred, call });
+        let cred = self.creds[actor as usize - 1];
+        let mut stepped = self.step(Event::Start { actor, cred, call });
         for _ in 0..STEPS_MOST {
             match stepped {
                 Stepped::Nothing => {
-                    stepped = self.world.step(Event::Step { actor, now: MOMENT });
+                    stepped = self.step(Event::Step { actor, now: MOMENT });
                 }
                 _ => break,
             }
         }
         stepped
+    }
+
+    /// Lets one event happen in the world.
+    fn step(&mut self, event: Event) -> Stepped
+        ensures { (s : Scene) → IsSceneOf s self.old →
+            (after : Scene) × Advances s event result after × IsSceneOf after self.new }
+    {
+        self.world.step(event)
     }
 
     /// Composes the line of an answer, and takes a receive's body back.
@@ -154,7 +171,7 @@ impl Stage {
     ) -> Result<(), NoMemory>
         ensures told { OnOk result (output.new ≡ output.old ++ printed actor operation stepped) }
         ensures err { OnErr result (output.new ≡ []) }
-        ensures world { self.new.world ≡ self.old.world }
+        ensures kept { self.new ≡ record self.old { spare = self.new.spare } }
     {
         match stepped {
             Stepped::Nothing => Ok(()),
@@ -177,7 +194,7 @@ impl Stage {
     fn tell_body(&mut self, head: Head, body: Body, output: &mut Output) -> Result<(), NoMemory>
         ensures told { OnOk result (output.new ≡ output.old ++ (head_text head ++ (body ++ 10 ∷ []))) }
         ensures err { OnErr result (output.new ≡ []) }
-        ensures world { self.new.world ≡ self.old.world }
+        ensures kept { self.new ≡ record self.old { spare = self.new.spare } }
     {
         let told = output.tell_text(head, &body);
         self.spare = Some(body);
@@ -204,8 +221,19 @@ fn body_of(alloc: Global, text: Text<'_>) -> Result<Body, NoMemory>
     Ok(body)
 }
 
-/// The credentials of a script's actor: user and group 1000, and a process of its own.
-fn cred_of(actor: u32) -> Cred
+/// The credentials that the actors 1 to 16 have at first.
+fn first_creds() -> [Cred; SCRIPT_ACTORS as usize]
+    ensures { result ≡ map script_cred (range_with_len 1 16) }
+{
+    let mut creds = [first_cred(1); SCRIPT_ACTORS as usize];
+    for place in 1..SCRIPT_ACTORS {
+        creds[place as usize] = first_cred(place + 1);
+    }
+    creds
+}
+
+/// The credentials that an actor has at first: user and group 1000, and a process of its own.
+fn first_cred(actor: u32) -> Cred
     requires { actor ≤ 16 }
     ensures { result ≡ script_cred actor }
 {

@@ -35,7 +35,7 @@ fn lettered(alloc: Global, start: &[u8], letters: usize) -> Result<Vec<u8>, Fail
     Ok(line)
 }
 
-const BAD: [&[u8]; 66] = [
+const BAD: [&[u8]; 77] = [
     b"hello",
     b"preset ",
     b" preset",
@@ -48,7 +48,18 @@ const BAD: [&[u8]; 66] = [
     b"pool 128",
     b"go 1",
     b"all",
-    b"as 1 0 0 1",
+    b"as",
+    b"as 1",
+    b"as 1 2 3",
+    b"as 0 1 1 1",
+    b"as 17 1 1 1",
+    b"as 1 4294967296 1 1",
+    b"as 1 -1 1 1",
+    b"as 1 1 1 1 ",
+    b"as  1 1 1 1",
+    b"as 1 1 1 +1",
+    b"AS 1 1 1 1",
+    b"as 1 1 1 1 1",
     b"now 5",
     b"1 get 4 CREAT+0600",
     b"1 rm 0",
@@ -128,9 +139,13 @@ fn names_bad_lines(rt: HostRuntime) -> Result<(), Fail> {
     Ok(())
 }
 
-const ANSWERED: [(&[u8], &[u8]); 35] = [
+const ANSWERED: [(&[u8], &[u8]); 39] = [
     (b"", b""),
     (b"# preset", b""),
+    (b"as 1 0 0 1", b""),
+    (b"as 1 0 0 0", b""),
+    (b"as 16 4294967295 4294967295 4294967295", b""),
+    (b"as 01 007 -0 1", b""),
     (b"1 snd 0 0 NOWAIT =a", b"1 snd ! EINVAL\n"),
     (b"1 snd 0 -1 NOWAIT =a", b"1 snd ! EINVAL\n"),
     (b"1 snd 0 -9223372036854775808 - =", b"1 snd ! EINVAL\n"),

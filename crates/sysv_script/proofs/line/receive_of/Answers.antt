@@ -28,14 +28,14 @@ returns-in_err-identifier_of-clause-says c =
     let parts = receive_parts c.args.words.now id.id.now id.rest.now size.size.now size.rest.now mtype.mtype.now mtype.flags.now call id.ensures size.ensures mtype.ensures h in
     c.in_err-identifier_of.ensures parts.0)
 
-pub returns-in_err-size_of-clause-says : goal.returns-in_err-size_of-clause-says
-returns-in_err-size_of-clause-says c =
+pub returns-in_err-unsigned-clause-says : goal.returns-in_err-unsigned-clause-says
+returns-in_err-unsigned-clause-says c =
     let id = c.in_ok-id in
     let size = c.in_ok-size in
     let mtype = c.in_ok-mtype in
-    rw c.from_residual-in_err-size_of.ensures (λ call h.
+    rw c.from_residual-in_err-unsigned.ensures (λ call h.
     let parts = receive_parts c.args.words.now id.id.now id.rest.now size.size.now size.rest.now mtype.mtype.now mtype.flags.now call id.ensures size.ensures mtype.ensures h in
-    c.in_err-size_of.ensures parts.1)
+    c.in_err-unsigned.ensures parts.1)
 
 pub returns-in_err-number-clause-says : goal.returns-in_err-number-clause-says
 returns-in_err-number-clause-says c =
@@ -59,7 +59,7 @@ pub returns-clause-says : goal.returns-clause-says
 returns-clause-says c =
     let id = c.in_ok-identifier_of.ensures in
     let mtype = c.in_ok-number.ensures in
-    let size_fits : c.in_ok-size_of.field-0 ≤ 4294967295 = search (rules, c.size_of.type_inv) in (
+    let size_fits : c.in_ok-unsigned.field-0 ≤ 4294967295 = search (rules, c.unsigned.type_inv) in (
       refl,
       refl,
       record {
@@ -73,7 +73,7 @@ returns-clause-says c =
         second = c.in_ok-size.ensures;
         third = c.in_ok-mtype.ensures;
         id_is = (IsNumeralOf-kept w32 c.in_ok-id.id.now c.in_ok-identifier_of.field-0 id.0 id.1, FitsSigned-kept w32 c.in_ok-id.id.now c.in_ok-identifier_of.field-0 id.0 id.1);
-        size_is = (c.in_ok-size_of.ensures, size_fits);
+        size_is = (c.in_ok-unsigned.ensures, size_fits);
         mtype_is = (IsNumeralOf-kept w64 c.in_ok-mtype.mtype.now c.in_ok-number.field-0 mtype.0 mtype.1, FitsSigned-kept w64 c.in_ok-mtype.mtype.now c.in_ok-number.field-0 mtype.0 mtype.1);
         flags_are = c.in_ok-flags_of.ensures;
       },

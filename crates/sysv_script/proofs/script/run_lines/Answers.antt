@@ -52,79 +52,79 @@ returns-then-found-clause-grows g c =
 pub loop-passed-init : goal.loop-passed-init
 loop-passed-init g c = record {
   grows = Grows-none (g.W.Write.contents c.args.writer.now);
-  runs = λ w s text t. begins_text w c.args.stage.now.world text c.args.input.now (g.R.Read.remaining c.args.reader.now) (g.W.Write.contents c.args.writer.now) c.args.output.now c.requires s t;
+  runs = λ s seen text t. begins_text s c.args.stage.now text c.args.input.now (g.R.Read.remaining c.args.reader.now) (g.W.Write.contents c.args.writer.now) c.args.output.now c.requires seen t;
 }
 
 pub returns-in_err-found-clause-prints : goal.returns-in_err-found-clause-prints
-returns-in_err-found-clause-prints g c = λ w s text t.
-    Leaves-stream c.from_residual.result c.in_err-found.field-0.0 w text _ _ _ c.from_residual.ensures.1 c.in_err-found.ensures.fault
-    (stops_part _ _ _ _ _ _ _ _ _ _ _ c.in_err-found.ensures.err c.in_err-found.ensures.none_left (c.loop-passed.invariant.runs w s text t))
+returns-in_err-found-clause-prints g c = λ s seen text t.
+    Leaves-stream c.from_residual.result c.in_err-found.field-0.0 s text _ _ _ c.from_residual.ensures.1 c.in_err-found.ensures.fault
+    (stops_part _ _ _ _ _ _ _ _ _ _ _ c.in_err-found.ensures.err c.in_err-found.ensures.none_left (c.loop-passed.invariant.runs s seen text t))
 
 pub returns-in_default-clause-prints : goal.returns-in_default-clause-prints
-returns-in_default-clause-prints g c = λ w s text t.
+returns-in_default-clause-prints g c = λ s seen text t.
     let none = subst (λ (l : Option Found). FindsLine l c.next_line.new.input (g.R.Read.remaining c.next_line.new.reader)) c.in_default.is c.in_ok-found.ensures.found in
     ends_text _ _ _ _ _ _ _ _ _ none
     (hands_more _ _ _ _ _ _ _ _ _ _ _ c.in_ok-found.ensures.answers
-    (takes_more _ _ _ _ _ _ _ _ _ _ _ c.in_ok-found.ensures.text (c.loop-passed.invariant.runs w s text t)))
+    (takes_more _ _ _ _ _ _ _ _ _ _ _ c.in_ok-found.ensures.text (c.loop-passed.invariant.runs s seen text t)))
 
 pub returns-in_err-make_room-clause-prints : goal.returns-in_err-make_room-clause-prints
-returns-in_err-make_room-clause-prints g c = λ w s text t.
-    Leaves-stream c.from_residual-in_err-make_room.result c.in_err-make_room.field-0.0 w text _ _ _ c.from_residual-in_err-make_room.ensures.1
+returns-in_err-make_room-clause-prints g c = λ s seen text t.
+    Leaves-stream c.from_residual-in_err-make_room.result c.in_err-make_room.field-0.0 s text _ _ _ c.from_residual-in_err-make_room.ensures.1
     (subst IsStreamFault (sym c.in_err-make_room.ensures.fault) tt)
     (stops_part _ _ _ _ _ _ _ _ _ _ _ c.in_err-make_room.ensures.err c.in_err-make_room.ensures.none_left
     (hands_more _ _ _ _ _ _ _ _ _ _ _ c.in_ok-found.ensures.answers
-    (takes_more _ _ _ _ _ _ _ _ _ _ _ c.in_ok-found.ensures.text (c.loop-passed.invariant.runs w s text t))))
+    (takes_more _ _ _ _ _ _ _ _ _ _ _ c.in_ok-found.ensures.text (c.loop-passed.invariant.runs s seen text t))))
 
 pub returns-in_err-run_found-clause-prints : goal.returns-in_err-run_found-clause-prints
-returns-in_err-run_found-clause-prints g c = λ w s text t.
-    Leaves-line c.from_residual-in_err-run_found.result c.in_err-run_found.field-0.0 w text _ _ _ _ _ _ _ _ c.in-Some.found c.from_residual-in_err-run_found.ensures.1
+returns-in_err-run_found-clause-prints g c = λ s seen text t.
+    Leaves-line c.from_residual-in_err-run_found.result c.in_err-run_found.field-0.0 s text _ _ _ _ _ _ _ _ c.in-Some.found c.from_residual-in_err-run_found.ensures.1
     c.in_err-run_found.ensures.fault c.in_err-run_found.ensures.bad (omega (arith, c.loop-passed-test.true))
     (next_found _ _ _ _ c.in-Some.is c.in_ok-found.ensures.found)
     (hands_more _ _ _ _ _ _ _ _ _ _ _ c.in_ok-make_room.ensures.ok
     (hands_more _ _ _ _ _ _ _ _ _ _ _ c.in_ok-found.ensures.answers
-    (takes_more _ _ _ _ _ _ _ _ _ _ _ c.in_ok-found.ensures.text (c.loop-passed.invariant.runs w s text t))))
+    (takes_more _ _ _ _ _ _ _ _ _ _ _ c.in_ok-found.ensures.text (c.loop-passed.invariant.runs s seen text t))))
 
 pub returns-then-found-clause-prints : goal.returns-then-found-clause-prints
-returns-then-found-clause-prints g c = λ w s text t.
+returns-then-found-clause-prints g c = λ s seen text t.
     let next = next_found _ _ _ _ c.in-Some.is c.in_ok-found.ensures.found in
     runs_last _ _ _ _ _ _ _ _ _ _ _ c.in-Some.found.len (omega (arith, c.loop-passed-test.true)) (next.1 c.if-found.true) c.in_ok-run_found.ensures.short c.in_ok-run_found.ensures.does
     (hands_more _ _ _ _ _ _ _ _ _ _ _ c.in_ok-make_room.ensures.ok
     (hands_more _ _ _ _ _ _ _ _ _ _ _ c.in_ok-found.ensures.answers
-    (takes_more _ _ _ _ _ _ _ _ _ _ _ c.in_ok-found.ensures.text (c.loop-passed.invariant.runs w s text t))))
+    (takes_more _ _ _ _ _ _ _ _ _ _ _ c.in_ok-found.ensures.text (c.loop-passed.invariant.runs s seen text t))))
 
 pub loop-passed-preserved : goal.loop-passed-preserved
 loop-passed-preserved g c = record {
   grows =
       Grows-trans _ _ _ (Grows-trans _ _ _ c.loop-passed.invariant.grows (Grows-handed _ _ _ _ c.in_ok-found.ensures.answers))
       (Grows-handed _ _ _ _ c.in_ok-make_room.ensures.ok);
-  runs = λ w s text t.
+  runs = λ s seen text t.
       let next = next_found _ _ _ _ c.in-Some.is c.in_ok-found.ensures.found in
       runs_line _ _ _ _ _ _ _ _ _ _ _ _ c.in-Some.found.len (omega (arith, c.loop-passed-test.true)) (next.0 c.if-found.false) (c.in_ok-run_found.ensures.rest c.if-found.false) c.in_ok-run_found.ensures.does
       (hands_more _ _ _ _ _ _ _ _ _ _ _ c.in_ok-make_room.ensures.ok
       (hands_more _ _ _ _ _ _ _ _ _ _ _ c.in_ok-found.ensures.answers
-      (takes_more _ _ _ _ _ _ _ _ _ _ _ c.in_ok-found.ensures.text (c.loop-passed.invariant.runs w s text t))));
+      (takes_more _ _ _ _ _ _ _ _ _ _ _ c.in_ok-found.ensures.text (c.loop-passed.invariant.runs s seen text t))));
 }
 
 pub returns-then-not-is_empty-clause-prints : goal.returns-then-not-is_empty-clause-prints
-returns-then-not-is_empty-clause-prints g c = λ w s text t.
-    exceeds_at _ _ _ _ _ _ _ _ _ (omega (arith, c.loop-passed-test.false)) (search rules) (c.loop-passed.invariant.runs w s text t)
+returns-then-not-is_empty-clause-prints g c = λ s seen text t.
+    exceeds_at _ _ _ _ _ _ _ _ _ (omega (arith, c.loop-passed-test.false)) (search rules) (c.loop-passed.invariant.runs s seen text t)
 
 pub returns-in_err-read_on-clause-prints : goal.returns-in_err-read_on-clause-prints
-returns-in_err-read_on-clause-prints g c = λ w s text t.
-    Leaves-stream c.from_residual-in_err-read_on.result c.in_err-read_on.field-0.0 w text _ _ _ c.from_residual-in_err-read_on.ensures.1 c.in_err-read_on.ensures.fault
-    (stops_part _ _ _ _ _ _ _ _ _ _ _ c.in_err-read_on.ensures.err c.in_err-read_on.ensures.none_left (c.loop-passed.invariant.runs w s text t))
+returns-in_err-read_on-clause-prints g c = λ s seen text t.
+    Leaves-stream c.from_residual-in_err-read_on.result c.in_err-read_on.field-0.0 s text _ _ _ c.from_residual-in_err-read_on.ensures.1 c.in_err-read_on.ensures.fault
+    (stops_part _ _ _ _ _ _ _ _ _ _ _ c.in_err-read_on.ensures.err c.in_err-read_on.ensures.none_left (c.loop-passed.invariant.runs s seen text t))
 
 pub returns-in-0-clause-prints : goal.returns-in-0-clause-prints
-returns-in-0-clause-prints g c = λ w s text t.
+returns-in-0-clause-prints g c = λ s seen text t.
     ends_text _ _ _ _ _ _ _ _ _ (read_none _ _ _ (search rules) c.in_ok-read_on.ensures.count c.in-0.is, c.in_ok-read_on.ensures.end c.in-0.is)
     (hands_all _ _ _ _ _ _ _ _ _ _ _ c.in_ok-read_on.ensures.answers c.in_ok-read_on.ensures.none_left
-    (takes_more _ _ _ _ _ _ _ _ _ _ _ c.in_ok-read_on.ensures.text (c.loop-passed.invariant.runs w s text t)))
+    (takes_more _ _ _ _ _ _ _ _ _ _ _ c.in_ok-read_on.ensures.text (c.loop-passed.invariant.runs s seen text t)))
 
 pub returns-in_default-2-clause-prints : goal.returns-in_default-2-clause-prints
-returns-in_default-2-clause-prints g c = λ w s text t.
+returns-in_default-2-clause-prints g c = λ s seen text t.
     exceeds_at _ _ _ _ _ _ _ _ _ (omega (arith, c.loop-passed-test.false)) (search rules)
     (hands_all _ _ _ _ _ _ _ _ _ _ _ c.in_ok-read_on.ensures.answers c.in_ok-read_on.ensures.none_left
-    (takes_more _ _ _ _ _ _ _ _ _ _ _ c.in_ok-read_on.ensures.text (c.loop-passed.invariant.runs w s text t)))
+    (takes_more _ _ _ _ _ _ _ _ _ _ _ c.in_ok-read_on.ensures.text (c.loop-passed.invariant.runs s seen text t)))
 
 pub returns-in_err-read_on-clause-grows : goal.returns-in_err-read_on-clause-grows
 returns-in_err-read_on-clause-grows g c =

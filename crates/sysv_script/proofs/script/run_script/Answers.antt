@@ -1,9 +1,9 @@
-use Rattle.std.proofs.Common.{[], subst, sym, rules}
+use Rattle.std.proofs.Common.{◌≡◌, [], subst, sym, rules}
 use Rattle.std.proofs.KnownBytes.{Appends-nil}
-use Rattle.sysv_core.specs.World.{opening}
+use Rattle.sysv_script.specs.ScriptRun.{opening_scene}
 use Rattle.sysv_script.specs.ScriptText.{Stopped, Stops}
 use Rattle.sysv_script.specs.Faults.{IsStreamFault}
-use Rattle.sysv_script.proofs.FaultLemmas.{IfErr-handed, IfErr-tells-stream}
+use Rattle.sysv_script.proofs.FaultLemmas.{IfErr-handed, IfErr-tells-stream, IfOk-mapped}
 use Rattle.sysv_script.proofs.ScriptEnds.{writes_nothing, writes_cut, writes_out, script_runs}
 use Rattle.sysv_script.proofs.StreamLemmas.{Grows-trans, Grows-part}
 use Rattle.sysv_script.proofs.script.run_script.Goals as goal
@@ -34,16 +34,18 @@ returns-in_err-output-clause-prints g c = λ text known.
     writes_nothing c.from_residual-in_err-output.result c.in_err-output.field-0.0 text (g.W.Write.contents c.args.writer.now) c.from_residual-in_err-output.ensures.1 (search rules)
 
 pub returns-in_default-clause-prints : goal.returns-in_default-clause-prints
-returns-in_default-clause-prints g c = λ text known. (Stopped, [], Stops (opening 16) 1 text, (0, Appends-nil (g.W.Write.contents c.args.writer.now)))
+returns-in_default-clause-prints g c = λ text known. (Stopped, [], Stops opening_scene 1 text, (0, Appends-nil (g.W.Write.contents c.args.writer.now)))
 
 pub returns-in_err-hand_out-clause-prints : goal.returns-in_err-hand_out-clause-prints
 returns-in_err-hand_out-clause-prints g c = λ text known.
     writes_cut c.run_lines-run.result c.from_residual-in_err-hand_out.result c.in_err-hand_out.field-0.0 text _ _ _ _ c.from_residual-in_err-hand_out.ensures.1 c.in_err-hand_out.ensures.fault
-    (script_runs c.run_lines-run.result c.in-Ok.stage.world c.in_ok-input.input text _ _ _ _ (search rules) (search rules) known c.run_lines-run.ensures.prints)
+    (script_runs c.run_lines-run.result c.in-Ok.stage c.in_ok-input.input text _ _ _ _ c.in-Ok.ensures
+    (IfOk-mapped (λ input. input ≡ []) _ c.open.result c.map_err.result c.in_ok-input.input c.open.ensures c.map_err.ensures.cases c.map_err.ensures.variant c.in_ok-input.was) known c.run_lines-run.ensures.prints)
     c.in_err-hand_out.ensures.err
 
 pub returns-clause-prints : goal.returns-clause-prints
 returns-clause-prints g c = λ text known.
     writes_out c.run_lines-run.result text _ _ _ _
-    (script_runs c.run_lines-run.result c.in-Ok.stage.world c.in_ok-input.input text _ _ _ _ (search rules) (search rules) known c.run_lines-run.ensures.prints)
+    (script_runs c.run_lines-run.result c.in-Ok.stage c.in_ok-input.input text _ _ _ _ c.in-Ok.ensures
+    (IfOk-mapped (λ input. input ≡ []) _ c.open.result c.map_err.result c.in_ok-input.input c.open.ensures c.map_err.ensures.cases c.map_err.ensures.variant c.in_ok-input.was) known c.run_lines-run.ensures.prints)
     c.in_ok-hand_out.ensures.ok

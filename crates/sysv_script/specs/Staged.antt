@@ -1,0 +1,9 @@
+-- When the stage that the code keeps is seen as a scene of the definitions.
+use Rattle.std.specs.Prelude.{◌≡◌}
+use Rattle.sysv_core.specs.Seen.{IsSeenAs}
+use Rattle.sysv_script.specs.ScriptRun.{Scene}
+use Rattle.sysv_script.specs.declared.stage.Stage.{Stage}
+
+pub record IsSceneOf (s : Scene) (stage : Stage) : Type 0 where
+  pub world : IsSeenAs s.world stage.world
+  pub creds : s.creds ≡ stage.creds
