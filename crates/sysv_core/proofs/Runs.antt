@@ -12,7 +12,7 @@ use Rattle.sysv_queue.specs.LegalReply.{IsLegalHistory}
 use Rattle.sysv_queue.specs.QueueLaw.{QueueLaw}
 use Rattle.sysv_core.specs.Headline.{RunsOn, LawsHold}
 use Rattle.sysv_core.proofs.Answering.{answers_decided}
-use Rattle.sysv_core.proofs.Telling.{movers_told}
+use Rattle.sysv_core.proofs.Telling.{enders_told}
 use Rattle.sysv_core.proofs.Addressing.{all_to_callers}
 use Rattle.sysv_core.specs.Run.{Happening, Preset, Happens, Given, Goes, Leads, StandsFor, call_of, given_in, answers_in, answers_of}
 
@@ -110,5 +110,5 @@ laws_hold law seen = λ n es given s.
       answers = decided.0;
       once = decided.1;
       addressed = all_to_callers es (opening n) s.world given s.led;
-      told = movers_told n es given s.world s.led;
+      told = enders_told n es given s.world s.led;
     }

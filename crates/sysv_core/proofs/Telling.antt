@@ -1,9 +1,9 @@
--- Each call that put a message on the queue, or took one off it, was answered.
+-- Each call that made a turn which ends it was answered.
 use Rattle.std.proofs.Common.{◌≡◌, ℕ, inl, inr, Bool, true, false, List, [], ◌∷◌, ◌++◌, Option, None, Some, refl, sym, ap, subst, append_assoc}
 use Rattle.std.specs.List.{All, Contains}
 use Rattle.std.proofs.lemmas.List.Elements.{All-push, All-nil, All-weaker, Contains-append_left, Contains-push}
 use Rattle.sysv_model.specs.declared.cred.Cred.{Cred}
-use Rattle.sysv_model.specs.History.{Who, Actor, Reply, Installed, Accepted, Taken, Entry, History}
+use Rattle.sysv_model.specs.History.{Who, Actor, Reply, Installed, Gone, Denied, Full, Fits, Accepted, NoMatch, TooLong, Taken, Entry, History}
 use Rattle.sysv_queue.specs.LegalReply.{IsLegalReply}
 use Rattle.sysv_core.specs.declared.event.Call.{Call}
 use Rattle.sysv_core.specs.declared.event.Event.{Event}
@@ -13,20 +13,20 @@ use Rattle.sysv_core.specs.Phase.{Phase, AtLook, AtPlace, AtTake}
 use Rattle.sysv_core.specs.Turn.{turn_call, after_turn}
 use Rattle.sysv_core.specs.World.{World, Doing, opening, actor_at, StartsAt, StepsAt, Makes, Steps, Presets, preset_call}
 use Rattle.sysv_core.specs.Run.{Happening, Preset, Happens, Given, Goes, Leads, call_of, given_in, started_at}
-use Rattle.sysv_core.specs.AnswerLaw.{moves_message, IsTold}
+use Rattle.sysv_core.specs.AnswerLaw.{ends_call, IsTold}
 
 abbrev Told : List Given → Entry → Type 0
-Told given e = moves_message e.reply ≡ true → IsTold given e
+Told given e = ends_call e.reply ≡ true → IsTold given e
 
 abbrev AllTold : List Given → History → Type 0
 AllTold given h = All (Told given) h
 
-no_move : {A : Type 0} → false ≡ true → A
-no_move e = absurd cc
+not_ended : {A : Type 0} → false ≡ true → A
+not_ended e = absurd cc
 
 told_still : (given more : List Given) (h : History) → AllTold given h → AllTold (given ++ more) h
 told_still given more h a = All-weaker (Told given) (Told (given ++ more))
-    (λ e t moves. let was = t moves in (was.0, Contains-append_left given more was.0 was.1, was.2)) h a
+    (λ e t ends. let was = t ends in (was.0, Contains-append_left given more was.0 was.1, was.2)) h a
 
 told_now : (given : List Given) (g : Given) → (h : Given) × Contains (given ++ g ∷ []) h × (h.who ≡ g.who)
 told_now given g = (g, Contains-push given g, refl)
@@ -34,15 +34,22 @@ told_now given g = (g, Contains-push given g, refl)
 -- a turn of a call, and what the call gave then
 turn_told : (actor now : ℕ) (who : Who) (h : History) (given : List Given) (p : Phase) (reply : Reply) → IsLegalReply h (turn_call p now) reply →
     Told (given ++ given_in who (after_turn actor p reply).1) record { who = who; call = turn_call p now; reply = reply }
-turn_told actor now who h given (AtPlace s) (Accepted number) l = λ moves. told_now given _
-turn_told actor now who h given (AtTake r) (Taken m) l = λ moves. told_now given _
-turn_told actor now who h given (AtLook s) (Accepted number) l = absurd l
-turn_told actor now who h given (AtLook s) (Taken m) l = absurd l
-turn_told actor now who h given (AtPlace s) (Taken m) l = absurd l
-turn_told actor now who h given (AtTake r) (Accepted number) l = absurd l
-turn_told actor now who h given (AtLook s) reply l = λ moves. no_move moves
-turn_told actor now who h given (AtPlace s) reply l = λ moves. no_move moves
-turn_told actor now who h given (AtTake r) reply l = λ moves. no_move moves
+turn_told actor now who h given (AtLook s) Gone l = λ ends. told_now given _
+turn_told actor now who h given (AtLook s) Denied l = λ ends. told_now given _
+turn_told actor now who h given (AtLook s) (Full freed) l = λ ends. told_now given _
+turn_told actor now who h given (AtLook s) Fits l = λ ends. not_ended ends
+turn_told actor now who h given (AtPlace s) (Accepted number) l = λ ends. told_now given _
+turn_told actor now who h given (AtPlace s) Gone l = λ ends. told_now given _
+turn_told actor now who h given (AtPlace s) Denied l = λ ends. told_now given _
+turn_told actor now who h given (AtPlace s) (Full freed) l = λ ends. told_now given _
+turn_told actor now who h given (AtTake r) (Taken m) l = λ ends. told_now given _
+turn_told actor now who h given (AtTake r) Gone l = λ ends. told_now given _
+turn_told actor now who h given (AtTake r) Denied l = λ ends. told_now given _
+turn_told actor now who h given (AtTake r) (NoMatch arrived) l = λ ends. told_now given _
+turn_told actor now who h given (AtTake r) TooLong l = λ ends. told_now given _
+turn_told actor now who h given (AtLook s) reply l = absurd l
+turn_told actor now who h given (AtPlace s) reply l = absurd l
+turn_told actor now who h given (AtTake r) reply l = absurd l
 
 -- the history does not change
 same_history : (w after : World) (given more : List Given) → after.history ≡ w.history → AllTold given w.history → AllTold (given ++ more) after.history
@@ -84,7 +91,7 @@ preset_tells : (w after : World) (given : List Given) (made : Bool) → Presets 
 preset_tells w after given made (inr nothing) a = subst (AllTold given) (sym (ap history_of nothing.2)) a
 preset_tells w after given made (inl one) a =
     let e : Entry = record { who = Actor 0 0; call = preset_call; reply = Installed true } in
-    subst (AllTold given) (sym (ap history_of one.2)) (All-push (Told given) w.history e a (λ moves. no_move moves))
+    subst (AllTold given) (sym (ap history_of one.2)) (All-push (Told given) w.history e a (λ ends. not_ended ends))
 
 goes_tells : (w after : World) (given more : List Given) (x : Happening) → Goes w x more after → AllTold given w.history → AllTold (given ++ more) after.history
 goes_tells w after given more Preset g a = subst (λ gs. AllTold (given ++ gs) after.history) (sym g.0) (told_still given [] after.history (preset_tells w after given g.1.0 g.1.1 a))
@@ -96,5 +103,5 @@ leads_tell w after given more (x ∷ xs) l a =
     subst (λ gs. AllTold (given ++ gs) after.history) (sym l.5)
     (subst (λ gs. AllTold gs after.history) (append_assoc given l.1 l.2) (leads_tell l.0 after (given ++ l.1) l.2 xs l.4 (goes_tells w l.0 given l.1 x l.3 a)))
 
-pub movers_told : (n : ℕ) (xs : List Happening) (given : List Given) (w : World) → Leads (opening n) xs given w → All (λ (e : Entry). moves_message e.reply ≡ true → IsTold given e) w.history
-movers_told n xs given w l = leads_tell (opening n) w [] given xs l (All-nil (Told []))
+pub enders_told : (n : ℕ) (xs : List Happening) (given : List Given) (w : World) → Leads (opening n) xs given w → All (λ (e : Entry). ends_call e.reply ≡ true → IsTold given e) w.history
+enders_told n xs given w l = leads_tell (opening n) w [] given xs l (All-nil (Told []))

@@ -1,8 +1,7 @@
 -- The law of the answers: a call's answer is decided by its own turns. It answers with the turn that
 -- ends it, by the reply of that turn; a send answers zero exactly where a place of it was accepted,
 -- and a receive a message exactly where a take of it was given that message. No call is answered
--- twice, and one that put a message on the queue or took one off it is answered; each answer goes to
--- the caller. (POSIX.1-2017, msgsnd and msgrcv, RETURN VALUE and ERRORS; which refusal comes first is
+-- twice, and each that made a turn which ends it is answered; each answer goes to the caller. (POSIX.1-2017, msgsnd and msgrcv, RETURN VALUE and ERRORS; which refusal comes first is
 -- this profile's.)
 use Rattle.std.specs.Prelude.{◌≡◌, ◌⊎◌, ◌==◌, ◌&&◌, ℕ, Bool, true, false, List, [], ◌∷◌, ◌++◌, length, take, Option, None, Some, All, Contains, filter, if◌then◌else◌}
 use Rattle.std.specs.List.{list_any}
@@ -23,11 +22,12 @@ is_call call other = false
 abbrev pub turns_of : Who → History → List Entry
 turns_of call h = filter (λ (e : Entry). is_call call e.who) h
 
--- some of these turns found the identifier live
+-- the reply to a turn of a send or a receive says that the identifier was live
 abbrev pub found_live : Reply → Bool
 found_live Gone = false
 found_live reply = true
 
+-- some of these turns found it live
 abbrev pub live_seen : List Entry → Bool
 live_seen turns = list_any (λ (e : Entry). found_live e.reply) turns
 
@@ -59,11 +59,17 @@ IsAnsweredBy turns a =
     ⊎ ((earlier : List Entry) × (last : Entry) × (turns ≡ earlier ++ last ∷ [])
     × All (λ (e : Entry). e.reply ≡ Fits) earlier × Ends (live_seen earlier) last.call last.reply a)
 
--- the turn put a message on the queue or took one off it
-abbrev pub moves_message : Reply → Bool
-moves_message (Accepted number) = true
-moves_message (Taken message) = true
-moves_message reply = false
+-- A turn with this reply ends its call: every one of a send or a receive but a look that found room.
+-- (A preset is of no call.)
+abbrev pub ends_call : Reply → Bool
+ends_call Gone = true
+ends_call Denied = true
+ends_call (Full freed) = true
+ends_call (Accepted number) = true
+ends_call (NoMatch arrived) = true
+ends_call TooLong = true
+ends_call (Taken message) = true
+ends_call reply = false
 
 -- the call that made the turn was answered
 abbrev pub IsTold : List Given → Entry → Type 0
