@@ -6,7 +6,8 @@
 --
 -- It is said in three parts: a world stands for the list of what has happened in it; a step, a preset
 -- and a run of events lead from the world of a list to the world of the longer list, with the answers
--- of that run and no others; and each world of a list obeys the laws.
+-- of that run and no others; and each world of a list obeys the laws (what POSIX.1-2017 says of msgsnd
+-- and msgrcv, in this profile's steps).
 use Rattle.std.specs.Prelude.{◌≡◌, ◌≢◌, ◌⊎◌, ℕ, ◌≤◌, ◌^◌, true, List, [], ◌∷◌, ◌++◌, map, All, AllPairs}
 use Rattle.sysv_model.specs.History.{Entry}
 use Rattle.sysv_queue.specs.QueueLaw.{QueueLaw}

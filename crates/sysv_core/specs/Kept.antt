@@ -1,4 +1,4 @@
--- What a world of the code keeps of its actors stands for their phases.
+-- What a world of the code keeps of its actors stands for their phases (this profile's).
 use Rattle.std.specs.Prelude.{List, Option, option_map, map}
 use Rattle.sysv_core.specs.declared.phase.Phase.{Phase}
 use Rattle.sysv_core.specs.Phase.{Phase as Stage}

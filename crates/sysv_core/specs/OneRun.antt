@@ -1,6 +1,6 @@
 -- An event in a world, and a preset, leads to one world at most, and gives one result. So a list of
 -- happenings leads from a world to one world at most, with one list of answers: what a world does is
--- decided by what happens in it.
+-- decided by what happens in it (this profile's).
 use Rattle.std.specs.Prelude.{◌≡◌, Bool, List}
 use Rattle.sysv_core.specs.declared.event.Event.{Event}
 use Rattle.sysv_core.specs.declared.event.Stepped.{Stepped}

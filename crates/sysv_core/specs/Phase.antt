@@ -1,4 +1,5 @@
--- The call of an actor, by the step before which it stands and what it holds.
+-- The call of an actor, by the step before which it stands and what it holds (the steps are this
+-- profile's; the calls those of POSIX.1-2017, msgsnd and msgrcv).
 use Rattle.std.specs.Prelude.{ℕ, ℤ, Bool, List}
 use Rattle.sysv_model.specs.declared.cred.Cred.{Cred}
 use Rattle.sysv_model.specs.Selector.{Selector}

@@ -1,4 +1,4 @@
--- What the code keeps of a call stands for its phase.
+-- What the code keeps of a call stands for its phase (this profile's).
 use Rattle.sysv_rules.specs.Asked.{selector_of}
 use Rattle.sysv_core.specs.declared.phase.Send.{Send}
 use Rattle.sysv_core.specs.declared.phase.Receive.{Receive}

@@ -1,6 +1,6 @@
 -- The run of a world: the worlds that a list of events gives from the opening world, with the answers
 -- that were given on the way. A world of the code stands for such a list when it is seen as the world
--- to which the list leads.
+-- to which the list leads (this profile's).
 use Rattle.std.specs.Prelude.{◌≡◌, ℕ, Bool, List, [], ◌∷◌, ◌++◌, Option, Some, None, map}
 use Rattle.sysv_model.specs.History.{Who, Actor}
 use Rattle.sysv_core.specs.declared.event.Event.{Event}

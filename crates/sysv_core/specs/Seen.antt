@@ -1,4 +1,5 @@
--- What a world of the code is seen as, and when it is seen as a world of the definitions.
+-- What a world of the code is seen as, and when it is seen as a world of the definitions (this
+-- profile's).
 use Rattle.std.specs.Prelude.{◌≡◌, ℕ, List, Option, option_map, map}
 use Rattle.sysv_queue.specs.Slot.{Slot}
 use Rattle.sysv_queue.specs.StandsFor.{StandsFor as SlotStandsFor}

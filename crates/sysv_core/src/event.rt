@@ -3,23 +3,35 @@ use sysv_model::cred::Cred;
 use sysv_model::errno::Errno;
 use sysv_model::flags::Flags;
 
-/// A call that an actor can start.
+/// A call that an actor can start. Where one of its own arguments is refused it answers EINVAL at its
+/// start, and nothing else has changed. Flags that a call does not use are ignored.
 #[derive(Drop)]
 pub enum Call {
-    /// `msgsnd`: the text in `body` as a message of type `mtype` (POSIX.1-2017, `msgsnd`).
+    /// `msgsnd`: the text in `body` as a message of type `mtype` (POSIX.1-2017, `msgsnd`). It does not
+    /// give the body back.
     Send {
+        /// The queue, from 0; a negative one is refused.
         id: i32,
+        /// The message's type, from 1; a lower one is refused.
         mtype: i64,
+        /// None is used.
         flags: Flags,
+        /// The text, at most 8,192 bytes; a longer one is refused.
         body: Body,
     },
     /// `msgrcv`: at most `size` bytes of the message that `mtype` selects, put into `body`
     /// (POSIX.1-2017, `msgrcv`).
     Receive {
+        /// The queue, from 0; a negative one is refused.
         id: i32,
+        /// The most bytes that are given.
         size: u32,
+        /// 0 for the first message, a positive type for the first of it, a negative one for the first
+        /// of the lowest type that is at most its absolute value.
         mtype: i64,
+        /// With MSG_NOERROR a longer text is cut; MSG_EXCEPT is refused.
         flags: Flags,
+        /// What it holds is dropped at the start.
         body: Body,
     },
 }

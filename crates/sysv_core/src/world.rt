@@ -62,9 +62,9 @@ impl Model for World {
 }
 
 impl World {
-    /// A world of 1 to 1,024 idle actors and a vacant slot. `blocks`, 128 to 65,536, is checked and
-    /// has no other effect yet. `BadSize` where one of them is out of its range, `NoMemory` where
-    /// memory was refused.
+    /// A world of 1 to 1,024 idle actors and a vacant slot (this profile's). `blocks`, 128 to 65,536,
+    /// is checked against its range alone. `BadSize` where one of them is out of its range, `NoMemory`
+    /// where memory was refused.
     pub fn open(alloc: Global, actors: u32, blocks: u32) -> Result<World, OpenRefused>
         ensures opened { IfOk result (λ world. StandsFor actors [] [] world) }
         ensures bad_size { (result ≡ Err OpenRefused.BadSize) ↔ ((actors < 1) ⊎ (1024 < actors) ⊎ (blocks < 128) ⊎ (65536 < blocks)) }
@@ -83,8 +83,9 @@ impl World {
         })
     }
 
-    /// Makes a live private queue 0 of user and group 1000 and mode 0600. `false`, with nothing
-    /// changed, where a queue is live. It is not counted, and takes no memory.
+    /// Makes a live private queue 0 of user and group 1000 and mode 0600 at moment 0, as `msgget` does
+    /// for IPC_PRIVATE (POSIX.1-2017, `msgget`), by process 0. `false`, with nothing changed, where a
+    /// queue is live. It is not counted, and takes no memory.
     pub fn preset(&mut self) -> bool
         // For every list of events that the world stands for, it then stands for that list and a preset.
         ensures stands { StandsWithPreset self.old self.new }
@@ -99,9 +100,10 @@ impl World {
         self.slot.install(0, IPC_PRIVATE, PRESET, PRESET_MODE, 0)
     }
 
-    /// Lets one event happen, and says what it gave. An event that is not possible in its actor's
-    /// phase gives nothing and changes nothing. Once 2^62 events were counted the world is worn, and
-    /// nothing changes any more. It takes no memory.
+    /// Lets one event happen, and says what it gave: the start of a call, or one turn of it at the slot
+    /// (POSIX.1-2017, `msgsnd` and `msgrcv`; the steps are this profile's). An event that is not
+    /// possible in its actor's phase gives nothing and changes nothing. Once 2^62 events were counted
+    /// the world is worn, and nothing changes any more. It takes no memory.
     pub fn step(&mut self, event: Event) -> Stepped
         // For every list of events that the world stands for, it then stands for that list and the
         // event, and gives what the run gives.

@@ -49,15 +49,15 @@ pub struct Stat {
     pub qnum: u32,
     /// The most bytes that may wait.
     pub qbytes: u32,
-    /// The process of the last send.
+    /// The process of the last send, 0 before one.
     pub lspid: u32,
-    /// The process of the last receive.
+    /// The process of the last receive, 0 before one.
     pub lrpid: u32,
-    /// The moment of the last send.
+    /// The moment of the last send in seconds, 0 before one.
     pub stime: u64,
-    /// The moment of the last receive.
+    /// The moment of the last receive in seconds, 0 before one.
     pub rtime: u64,
-    /// The moment of the last change.
+    /// The moment of the last change in seconds.
     pub ctime: u64,
 }
 
@@ -70,7 +70,7 @@ pub struct SetTo {
     pub gid: u32,
     /// The mode, of which the low nine bits count.
     pub mode: u32,
-    /// The most bytes that may wait.
+    /// The most bytes that may wait, 0 to 65,536.
     pub qbytes: u32,
 }
 

@@ -60,7 +60,7 @@ impl Body {
         self.bytes.len()
     }
 
-    /// The byte at `i`, counted from 0.
+    /// The byte at `i`, counted from 0, which has to be below `len`.
     pub fn byte(&self, i: usize) -> u8
         requires { i < length self.now }
         ensures { slice_get self.now i ≡ Some result }

@@ -43,6 +43,9 @@ mod tests {
         assert_eq!(rt; QUEUE_MESSAGES, 256);
         assert_eq!(rt; QBYTES_AT_CREATION, 16_384);
         assert_eq!(rt; QBYTES_MOST, 65_536);
+        assert_eq!(rt; ACTORS_MOST, 1_024);
+        assert_eq!(rt; BLOCKS_LEAST, 128);
+        assert_eq!(rt; BLOCKS_MOST, 65_536);
         assert_eq!(rt; WORN, 4_611_686_018_427_387_904);
     }
 }

@@ -1,4 +1,4 @@
--- The messages that the slot keeps, as the messages that it is seen to hold.
+-- The messages that the code's slot keeps, as the messages that it is seen to hold (this profile's).
 use Rattle.std.specs.Prelude.{List, map}
 use Rattle.sysv_model.specs.Message.{Message}
 use Rattle.sysv_queue.specs.declared.slot.Waiting.{Waiting}

@@ -1,7 +1,7 @@
 -- The legal reply to a call at a slot that is seen so. The causes of a call's replies stand in one
 -- order, and a reply is given exactly where its cause is the first that stands
 -- (POSIX.1-2017, msgget, msgsnd, msgrcv, msgctl, each ERRORS; the order is this profile's). A
--- reply that is not listed is never given; a call that has no list yet has no legal reply.
+-- reply that is not listed is never given; a call without a list has no legal reply.
 use Rattle.std.specs.Prelude.{◌≡◌, ℕ, ℤ, ◌≤◌, ◌⊎◌, Bool, true, false, ◌∷◌, ◌++◌, length, None, Some, IfSome, IsSome, slice_get}
 use Rattle.sysv_model.specs.declared.cred.Cred.{Cred}
 use Rattle.sysv_model.specs.Message.{Message}
@@ -64,7 +64,7 @@ Legal s (Install id key cred mode now) reply = LegalInstall s reply
 Legal s (Look id cred size) reply = LegalLook s id cred size reply
 Legal s (Place id cred mtype bytes now) reply = LegalPlace s id cred (length bytes) reply
 Legal s (Take id cred selector size noerror now) reply = LegalTake s id cred selector size noerror reply
--- these calls are not there yet
+-- calls without a list
 Legal s (Probe id cred flags) reply = ⊥
 Legal s (ReadStat id cred) reply = ⊥
 Legal s (Set id cred to now) reply = ⊥

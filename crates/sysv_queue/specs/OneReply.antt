@@ -1,5 +1,5 @@
--- The calls that are there so far, and that such a call has exactly one legal reply after each
--- history.
+-- The calls that have legal replies, and that such a call has exactly one after each history (this
+-- profile's).
 use Rattle.std.specs.Prelude.{◌≡◌, ⊤}
 use Rattle.sysv_model.specs.History.{Call, Install, Look, Place, Take, Reply, History}
 use Rattle.sysv_queue.specs.LegalReply.{IsLegalReply}

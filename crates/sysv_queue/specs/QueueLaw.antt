@@ -1,8 +1,8 @@
 -- The law that every history of legal replies obeys (this profile's words for what POSIX.1-2017,
 -- msgsnd, msgrcv and msgctl, says of the messages of a queue): what was accepted is, each message
 -- once, what was delivered, discarded or still waits; each receive takes the very message that its
--- selector names; messages of one type leave in the order of acceptance; and after a removal nothing
--- more happens under the identifier.
+-- selector names; messages of one type leave in the order of acceptance; and after a removal nothing is
+-- accepted or delivered under the identifier before it is installed again.
 use Rattle.std.specs.Prelude.{◌≡◌, ◌≢◌, ℕ, ℤ, Bool, true, false, List, [], ◌∷◌, ◌++◌, Some, slice_get, All, AllPairs, Contains, IsPermutation}
 use Rattle.std.specs.Ordering.{int_eq}
 use Rattle.sysv_model.specs.Message.{Message}

@@ -12,7 +12,8 @@ pub enum Selector {
     Any,
     /// The first message of this type.
     Exactly(i64),
-    /// The first message of the lowest type that is at most this bound.
+    /// The first message of the lowest type that is at most this bound, which is 1 to 2^63 where a type
+    /// argument asks for it, and may be any.
     UpTo(u64),
 }
 

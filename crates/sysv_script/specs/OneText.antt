@@ -1,6 +1,6 @@
 -- From a scene and a line on, a text prints one thing only: two runs of it that are not stopped before
 -- a line print the same and end in the same way, and what is printed where it is stopped before a line
--- is a front of that.
+-- is a front of that (this profile's).
 use Rattle.std.specs.Prelude.{◌≡◌, ⊤, ℕ, List}
 use Rattle.sysv_script.specs.ScriptRun.{Scene}
 use Rattle.sysv_script.specs.Faults.{IsFrontOf}

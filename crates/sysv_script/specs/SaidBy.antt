@@ -1,4 +1,4 @@
--- What the code's lines, requests and texts stand for.
+-- What the code's lines, requests and texts stand for (this project's script language).
 use Rattle.std.specs.Prelude.{◌≤◌, ⊤, ℕ, List, [], length, replicate}
 use Rattle.sysv_script.specs.ScriptRun.{Said, Nothing, MakesPreset, GivesCred, Starts}
 use Rattle.sysv_core.specs.declared.event.Call.{Call}

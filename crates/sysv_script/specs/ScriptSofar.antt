@@ -1,4 +1,5 @@
--- The run of a script that is under way: the text that is left, and what is written and composed.
+-- The run of a script that is under way: the text that is left, and what is written and composed (this
+-- project's script language).
 use Rattle.std.specs.Prelude.{◌≡◌, ℕ, Bool, true, false, List, [], ◌++◌, Option, Some, Result, Ok, Err, ⊤}
 use Rattle.std.specs.Io.KnownBytes.{Appends}
 use Rattle.sysv_script.specs.ScriptRun.{Scene}

@@ -1,4 +1,5 @@
--- When the stage that the code keeps is seen as a scene of the definitions.
+-- When the stage that the code keeps is seen as a scene of the definitions (this project's script
+-- language).
 use Rattle.std.specs.Prelude.{◌≡◌}
 use Rattle.sysv_core.specs.Seen.{IsSeenAs}
 use Rattle.sysv_script.specs.ScriptRun.{Scene}

@@ -1,4 +1,5 @@
--- What a reader and a writer of bytes have given and taken, where their bytes are known.
+-- What a reader and a writer of bytes have given and taken, where their bytes are known (this
+-- project's words for it).
 use Rattle.std.specs.Prelude.{◌≡◌, ℕ, List, ◌++◌, Option, take}
 use Rattle.std.specs.Io.KnownBytes.{Appends, Consumes}
 

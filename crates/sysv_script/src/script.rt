@@ -22,7 +22,8 @@ use thiserror::Error;
 /// Why a script ends before its end.
 #[derive(Clone, Copy, PartialEq, Eq, Debug, Error)]
 pub enum ScriptFault {
-    /// The line with this number, counted from 1, is none of the language's.
+    /// The line with this number, counted from 1, is bad: it is not understood, or longer than 9,000
+    /// bytes, or a `preset` where a queue is live.
     #[error("line {0} is bad")]
     Line(u32),
     /// The reader failed.
@@ -45,8 +46,8 @@ pub const SCRIPT_LINES: u32 = 1_000_000;
 /// Runs the script that `reader` gives on a world of 16 actors, and writes to `writer` a line for
 /// each call that it starts. The answers to what was read are written before more is read.
 ///
-/// A line that is none of the language's is answered by `line N: bad`, and ends the script with
-/// `Line(N)`; a line behind the millionth ends it with `Bound`. After `Read`, `Write` and `NoMemory`
+/// A bad line, one that is not understood, is longer than 9,000 bytes, or is a `preset` where a queue is
+/// live, is answered by `line N: bad`, and ends the script with `Line(N)`; a line behind the millionth ends it with `Bound`. After `Read`, `Write` and `NoMemory`
 /// what was written is a beginning of the answers. Nothing but `write` is called on `writer`: one
 /// with a buffer of its own is for the caller to flush.
 pub fn run_script<R: Read, W: Write>(
@@ -138,7 +139,7 @@ fn run_found(
     Ok(())
 }
 
-/// Runs one line and composes its answer. `false` where the line is none of the language's.
+/// Runs one line and composes its answer. `false` where the line is bad.
 fn run_line(
     alloc: Global,
     stage: &mut Stage,
