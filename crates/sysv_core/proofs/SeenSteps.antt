@@ -6,6 +6,7 @@ use Rattle.sysv_model.specs.declared.cred.Cred.{Cred}
 use Rattle.sysv_model.specs.declared.errno.Errno.TheVariants.{EINVAL}
 use Rattle.sysv_model.specs.History.{Who, Actor, Reply, Installed, then_turn}
 use Rattle.sysv_queue.specs.Slot.{Slot}
+use Rattle.sysv_queue.specs.LegalReply.{Legal}
 use Rattle.sysv_queue.specs.StandsFor.{MakesTurn, StandsFor as SlotStandsFor}
 use Rattle.sysv_core.specs.declared.event.Call.{Call}
 use Rattle.sysv_core.specs.declared.event.Event.TheVariants.{Start, Step}
@@ -124,7 +125,7 @@ module _ (w : World) (seen : Seen) (s : IsSeenAs w seen) where
       let given : Stepped = (after_turn actor p reply).1 in (
         after,
         subst (λ o. StepsAt w actor now o given after) (sym (at actor place e ∙ found.1))
-            (reply, turned.after w.history s.slot, ap (λ q. (after_turn actor q reply).1) (sym same), refl),
+            (reply, subst (λ x. Legal x (turn_call d.phase now) reply) (sym s.slot.seen) turned.legal, ap (λ q. (after_turn actor q reply).1) (sym same), refl),
         record {
           slot = turned.stands w.history who s.slot;
           phases = placed actor place (in_phase d.start (after_turn actor d.phase reply).0) e

@@ -36,7 +36,7 @@ room_at qbytes messages size = elim (at_most (bytes_of messages + size) qbytes) 
 
 has_room : (l : Option Attributes) (messages : List Message) (arrived freed size : ℕ) →
     HasRoom (record { live = l; messages = messages; arrived = arrived; freed = freed }) size ⊎ ¬ HasRoom (record { live = l; messages = messages; arrived = arrived; freed = freed }) size
-has_room None messages arrived freed size = inl tt
+has_room None messages arrived freed size = inr (λ room. room)
 has_room (Some a) messages arrived freed size = room_at a.qbytes messages size
 
 can_give : (size : ℕ) (noerror : Bool) (m : Message) → IsGivable size noerror m ⊎ ¬ IsGivable size noerror m

@@ -78,7 +78,6 @@ after_taken h who id cred selector size noerror now m place legal lives there =
 makes_turn : (old new : Slot) (call : Call) (reply : Reply) → Legal old call reply → ((h : History) (who : Who) → StandsFor h old → slot_of (then_turn h who call reply) ≡ new) → MakesTurn old call reply new
 makes_turn old new call reply legal goes_on = record {
   legal = legal;
-  after = λ h s. subst (λ x. Legal x call reply) (sym s.seen) legal;
   stands = λ h who s. record {
     legal = legal_more h (record { who = who; call = call; reply = reply }) s.legal (subst (λ x. Legal x call reply) (sym s.seen) legal);
     seen = goes_on h who s;

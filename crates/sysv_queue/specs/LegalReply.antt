@@ -2,7 +2,7 @@
 -- order, and a reply is given exactly where its cause is the first that stands
 -- (POSIX.1-2017, msgget, msgsnd, msgrcv, msgctl, each ERRORS; the order is this profile's). A
 -- reply that is not listed is never given; a call without a list has no legal reply.
-use Rattle.std.specs.Prelude.{◌≡◌, ℕ, ℤ, ◌≤◌, ◌⊎◌, Bool, true, false, ◌∷◌, ◌++◌, length, None, Some, IfSome, IsSome, slice_get}
+use Rattle.std.specs.Prelude.{◌≡◌, ℕ, ℤ, ◌≤◌, ◌⊎◌, Bool, true, false, ◌∷◌, ◌++◌, length, None, Some, MatchOption, IsSome, slice_get}
 use Rattle.sysv_model.specs.declared.cred.Cred.{Cred}
 use Rattle.sysv_model.specs.Message.{Message}
 use Rattle.sysv_model.specs.Selector.{Selector}
@@ -13,9 +13,9 @@ use Rattle.sysv_queue.specs.Fits.{Fits as FitsOn}
 use Rattle.sysv_queue.specs.Granted.{MayRead, MayWrite}
 use Rattle.sysv_queue.specs.Named.{IsNamed}
 
--- the live queue has room for that many bytes
+-- a queue lives, and has room for that many bytes
 abbrev pub HasRoom : Slot → ℕ → Type 0
-HasRoom s size = IfSome s.live (λ a. FitsOn a.qbytes s.messages size)
+HasRoom s size = MatchOption s.live ⊥ (λ a. FitsOn a.qbytes s.messages size)
 
 -- install: false where a queue is live, else true
 abbrev pub LegalInstall : Slot → Reply → Type 0

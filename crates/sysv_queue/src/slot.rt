@@ -217,10 +217,10 @@ impl QueueSlot {
         }
     }
 
-    /// Whether the live queue has room for a message of `size` bytes.
+    /// Whether a queue lives, and has room for a message of `size` bytes.
     fn fits(&self, size: usize) -> bool
         ensures room { IsTrue result ↔ HasRoom self.now size }
-        ensures small { IsTrue result → IsSome self.now.live → bytes_of self.now.messages + size < 2 ^ 32 }
+        ensures small { IsTrue result → bytes_of self.now.messages + size < 2 ^ 32 }
     {
         match &self.live {
             Some(queue) => {
@@ -228,7 +228,7 @@ impl QueueSlot {
                 room.is_some_and(|room| size <= room as usize)
                     && self.messages.len() < QUEUE_MESSAGES
             }
-            None => true,
+            None => false,
         }
     }
 
