@@ -10,3 +10,7 @@ pub mod StreamLemmas
 pub mod Parsing
 pub mod OneLine
 pub mod OneText
+pub mod Deciding
+pub mod DecidingWords
+pub mod DecidingFlags
+pub mod DecidingLines
