@@ -13,3 +13,4 @@ pub mod Staged
 pub mod ScriptText
 pub mod ScriptSofar
 pub mod OneText
+pub mod EachText

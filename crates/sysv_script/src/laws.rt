@@ -1,8 +1,10 @@
 //! Laws over the definitions alone.
 
+ghost use Rattle.sysv_script.specs.EachText.{EachTextPrints};
 ghost use Rattle.sysv_script.specs.OneText.{OneText};
 
 use sysv_core::laws::one_step;
+use sysv_queue::laws::one_legal_reply;
 
 /// From a world a text prints one thing only and ends in one way, and what is printed where it is
 /// stopped before a line is a front of that.
@@ -10,4 +12,12 @@ pub fn one_text()
     ensures { OneText }
 {
     one_step();
+}
+
+/// Each text prints something in whole: it runs to its end, to a bad line or behind the millionth
+/// line.
+pub fn each_text_prints()
+    ensures { EachTextPrints }
+{
+    one_legal_reply();
 }

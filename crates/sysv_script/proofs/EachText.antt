@@ -1,0 +1,153 @@
+-- A text prints something in whole: line by line, each of which does something or is bad.
+use Rattle.std.proofs.Common.{◌≡◌, ◌+◌, ◌-◌, ◌≤◌, ◌<◌, ◌⊎◌, ℕ, zero, suc, inl, inr, true, List, [], ◌∷◌, ◌++◌, Option, Some, None, length, get_or, refl, sym, ap, ◌∙◌, arith}
+use Rattle.std.proofs.lemmas.List.{length-set}
+use Rattle.sysv_model.specs.declared.cred.Cred.{Cred}
+use Rattle.sysv_model.specs.declared.attributes.Attributes.{Attributes}
+use Rattle.sysv_model.specs.History.{then_turn, Actor, Installed}
+use Rattle.sysv_model.specs.Live.{live}
+use Rattle.sysv_queue.specs.OneReply.{SomeReplyIsLegal}
+use Rattle.sysv_core.specs.declared.event.Call.{Call}
+use Rattle.sysv_core.specs.declared.event.Event.{Event}
+use Rattle.sysv_core.specs.declared.event.Event.TheVariants.{Start, Step}
+use Rattle.sysv_core.specs.declared.event.Stepped.{Stepped}
+use Rattle.sysv_core.specs.declared.event.Stepped.TheVariants as stepped
+use Rattle.sysv_core.specs.World.{World, preset_call}
+use Rattle.sysv_script.specs.Faults.{bad_line_text}
+use Rattle.sysv_script.specs.Lines.{Says}
+use Rattle.sysv_script.specs.ScriptRun.{Said, Nothing, MakesPreset, GivesCred, Starts, Scene, opening_scene, first_cred, in_world, cred_at, with_cred, Advances, GoesOn, CallRuns, operation_of, printed}
+use Rattle.sysv_script.specs.ScriptText.{BeginsWith, LineDoes, IsBad, Ending, Whole, BadLine, TooMany, Prints, Ends, Exceeds, Fails, Goes}
+use Rattle.sysv_script.specs.OneText.{IsWholeEnding}
+use Rattle.sysv_script.specs.EachText.{EachTextPrints}
+use Rattle.sysv_script.proofs.CredLemmas.{cred_held}
+use Rattle.sysv_script.proofs.Deciding.{at_most, splits_or_not, splits_shorter}
+use Rattle.sysv_script.proofs.DecidingLines.{says_or_not}
+use Rattle.sysv_script.proofs.Stepping as stepping
+
+-- ---- the first line of a text
+
+-- the text begins with a line, and less is left behind it
+record FirstLine (text : List ℕ) : Type 0 where
+  line : List ℕ
+  rest : List ℕ
+  begins : BeginsWith text line rest
+  shorter : length rest < length text
+
+-- a text that is not empty begins with a line
+first_line : (text : List ℕ) → 0 < length text → FirstLine text
+first_line text some = elim (splits_or_not 10 text) [
+  | inl s ↦ record { line = s.0; rest = s.1; begins = inl s.2; shorter = splits_shorter 10 text s.0 s.1 s.2 }
+  | inr none ↦ record { line = text; rest = []; begins = inr (none, some, refl, refl); shorter = some }
+]
+
+-- ---- a line
+
+-- each of the 16 actors has credentials
+abbrev IsManned : Scene → Type 0
+IsManned s = length s.creds ≡ 16
+
+-- the line does something, and leaves a scene of 16 actors
+record LineDone (s : Scene) (line : List ℕ) : Type 0 where
+  out : List ℕ
+  after : Scene
+  does : LineDoes s line out after
+  manned : IsManned after
+
+-- a preset makes the queue, or comes too late
+presets_or_not : (s : Scene) (line : List ℕ) (queue : Option Attributes) → live s.world.history ≡ queue → IsManned s → Says line MakesPreset → LineDone s line ⊎ IsBad s line
+presets_or_not s line None e manned says =
+    let made : World = record s.world { history = then_turn s.world.history (Actor 0 0) preset_call (Installed true) } in
+    inl (record { out = []; after = in_world s made; does = (MakesPreset, says, (inl (e, refl, refl), refl, refl)); manned = manned })
+presets_or_not s line (Some attributes) e manned says =
+    inr (inr (says, inr ((λ none. let there = sym e ∙ none in cc), (λ f. cc), refl)))
+
+-- the text prints something in whole
+abbrev PrintsWhole : Scene → ℕ → List ℕ → Type 0
+PrintsWhole s n text = (out : List ℕ) × (ending : Ending) × IsWholeEnding ending × Prints s n text out ending
+
+-- a text goes over a first line that does something, and then as what is left
+goes_first : (s : Scene) (n : ℕ) (text : List ℕ) (first : FirstLine text) → n ≤ 1000000 → (does : LineDone s first.line) → PrintsWhole does.after (n + 1) first.rest → PrintsWhole s n text
+goes_first s n text first few does more =
+    (does.out ++ more.0, more.1, more.2, Goes s n text first.line first.rest does.out does.after more.0 more.1 few first.begins does.does more.3)
+
+module _ (some : SomeReplyIsLegal) where
+  -- an event leaves a scene with the credentials as they were
+  advances : (s : Scene) (event : Event) → (given : Stepped) × (after : Scene) × Advances s event given after × (after.creds ≡ s.creds)
+  advances s event =
+      let step = stepping.steps_somewhere some s.world event in
+      (step.0, in_world s step.1, (step.2, refl), refl)
+
+  -- a call goes on for at most that many steps
+  goes_on : (n : ℕ) (s : Scene) (actor : ℕ) (first : Stepped) → (given : Stepped) × (after : Scene) × GoesOn n s actor first given after × (after.creds ≡ s.creds)
+  goes_on zero s actor stepped.Nothing = (stepped.Nothing, s, (refl, refl), refl)
+  goes_on zero s actor (stepped.Answer answer) = (stepped.Answer answer, s, (refl, refl), refl)
+  goes_on zero s actor stepped.Worn = (stepped.Worn, s, (refl, refl), refl)
+  goes_on (suc n) s actor stepped.Nothing =
+      let step = advances s (Step actor 0) in
+      let more = goes_on n step.1 actor step.0 in
+      (more.0, more.1, (step.1, step.0, step.2, more.2), more.3 ∙ step.3)
+  goes_on (suc n) s actor (stepped.Answer answer) = (stepped.Answer answer, s, (refl, refl), refl)
+  goes_on (suc n) s actor stepped.Worn = (stepped.Worn, s, (refl, refl), refl)
+
+  -- a call of an actor that has credentials runs
+  call_runs : (s : Scene) (actor : ℕ) (call : Call) (cred : Cred) → cred_at s.creds actor ≡ Some cred → (given : Stepped) × (after : Scene) × CallRuns s actor call given after × (after.creds ≡ s.creds)
+  call_runs s actor call cred held =
+      let start = advances s (Start actor cred call) in
+      let more = goes_on 16 start.1 actor start.0 in
+      (more.0, more.1, (cred, start.1, start.0, held, start.2, more.2), more.3 ∙ start.3)
+
+  -- a line that starts a call does it
+  start_does : (s : Scene) (line : List ℕ) (actor : ℕ) (call : Call) → IsManned s → 1 ≤ actor → actor ≤ 16 → Says line (Starts actor call) → LineDone s line
+  start_does s line actor call manned least most says =
+      let cred : Cred = get_or s.creds (actor - 1) (first_cred 0) in
+      let held = cred_held s.creds actor (first_cred 0) least (omega (arith, most, manned)) in
+      let run = call_runs s actor call cred held in
+      record {
+        out = printed actor (operation_of call) run.0;
+        after = run.1;
+        does = (Starts actor call, says, (refl, (run.0, run.2, refl)));
+        manned = ap length run.3 ∙ manned;
+      }
+
+  -- a line that says something does it, or it is a preset that comes too late
+  line_goes : (s : Scene) (line : List ℕ) (said : Said) → IsManned s → Says line said → LineDone s line ⊎ IsBad s line
+  line_goes s line Nothing manned says = inl (record { out = []; after = s; does = (Nothing, says, (refl, refl, refl)); manned = manned })
+  line_goes s line MakesPreset manned says = presets_or_not s line (live s.world.history) refl manned says
+  line_goes s line (GivesCred actor cred) manned says =
+      inl (record {
+        out = [];
+        after = record s { creds = with_cred s.creds actor cred };
+        does = (GivesCred actor cred, says, (refl, refl, refl));
+        manned = length-set s.creds (actor - 1) cred ∙ manned;
+      })
+  line_goes s line (Starts actor call) manned says = inl (start_does s line actor call manned says.1.least says.1.most says)
+
+  -- a line does something, or it is bad
+  does_or_bad : (s : Scene) (line : List ℕ) → IsManned s → LineDone s line ⊎ IsBad s line
+  does_or_bad s line manned = elim (says_or_not line) [
+    | inl says ↦ line_goes s line says.0 manned says.1
+    | inr none ↦ inr (inl (λ said says. none (said, says)))
+  ]
+
+  -- ---- a text
+
+  -- a text of at most that many bytes prints something in whole
+  prints_bounded : (bound n : ℕ) (s : Scene) (text : List ℕ) → length text ≤ bound → IsManned s → PrintsWhole s n text
+  prints_bounded bound n s [] short manned = ([], Whole, tt, Ends s n)
+  prints_bounded zero n s (x ∷ xs) short manned = absurd (omega (arith, short))
+  prints_bounded (suc bound) n s (x ∷ xs) short manned = elim (at_most n 1000000) [
+    | inr many ↦ ([], TooMany, tt, Exceeds s n (x ∷ xs) many (omega arith))
+    | inl few ↦
+        let first = first_line (x ∷ xs) (omega arith) in
+        let shorter = first.shorter in
+        elim (does_or_bad s first.line manned) [
+          | inr bad ↦ (bad_line_text n, BadLine n, tt, Fails s n (x ∷ xs) first.line first.rest few first.begins bad)
+          | inl does ↦ goes_first s n (x ∷ xs) first few does (prints_bounded bound (n + 1) does.after first.rest (omega (arith, short, shorter)) does.manned)
+        ]
+  ]
+
+  -- the 16 actors have credentials at first
+  opening_manned : IsManned opening_scene
+  opening_manned = refl
+
+  pub each_text_prints : EachTextPrints
+  each_text_prints text = prints_bounded (length text) 1 opening_scene text (omega arith) opening_manned

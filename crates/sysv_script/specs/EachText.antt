@@ -1,0 +1,8 @@
+-- From the opening scene each text prints something in whole.
+use Rattle.std.specs.Prelude.{ℕ, List}
+use Rattle.sysv_script.specs.ScriptText.{Ending, ScriptPrints}
+use Rattle.sysv_script.specs.OneText.{IsWholeEnding}
+
+-- each text prints something in whole: it has an ending that is not a stop
+abbrev pub EachTextPrints : Type 0
+EachTextPrints = (text : List ℕ) → (out : List ℕ) × (ending : Ending) × IsWholeEnding ending × ScriptPrints text out ending
