@@ -6,5 +6,6 @@ pub mod Telling
 pub mod Addressing
 pub mod Runs
 pub mod OneRun
+pub mod SomeRun
 pub mod WorkedRun
 pub mod WorkedSelection

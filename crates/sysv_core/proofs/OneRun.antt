@@ -28,11 +28,11 @@ starts_once w actor cred call None r s a b h k = (h.0 ∙ sym k.0, h.1 ∙ sym k
 starts_once w actor cred call (Some None) r s a b h k = begins_once w actor cred call r s a b h k
 starts_once w actor cred call (Some (Some doing)) r s a b h k = (h.0 ∙ sym k.0, h.1 ∙ sym k.1)
 
-pub presets_once : (w : World) (made did : Bool) (a b : World) → Presets w made a → Presets w did b → a ≡ b
-presets_once w made did a b (inl h) (inl k) = h.2 ∙ sym k.2
+pub presets_once : (w : World) (made did : Bool) (a b : World) → Presets w made a → Presets w did b → (made ≡ did) × (a ≡ b)
+presets_once w made did a b (inl h) (inl k) = (h.1 ∙ sym k.1, h.2 ∙ sym k.2)
 presets_once w made did a b (inl h) (inr k) = absurd (k.0 h.0)
 presets_once w made did a b (inr h) (inl k) = absurd (h.0 k.0)
-presets_once w made did a b (inr h) (inr k) = h.2 ∙ sym k.2
+presets_once w made did a b (inr h) (inr k) = (h.1 ∙ sym k.1, h.2 ∙ sym k.2)
 
 module _ (one : NoTwoRepliesAreLegal) where
   turns_once : (w : World) (actor : ℕ) (doing : Doing) (now : ℕ) (r s : Stepped) (a b : World) → Turns w actor doing now r a → Turns w actor doing now s b → Same r s a b
@@ -63,7 +63,7 @@ module _ (one : NoTwoRepliesAreLegal) where
   steps_once w event r s a b (inr h) (inr k) = makes_once w event r s a b h.1 k.1
 
   goes_once : (w : World) (x : Happening) (given told : List Given) (a b : World) → Goes w x given a → Goes w x told b → (given ≡ told) × (a ≡ b)
-  goes_once w Preset given told a b h k = (h.0 ∙ sym k.0, presets_once w h.1.0 k.1.0 a b h.1.1 k.1.1)
+  goes_once w Preset given told a b h k = (h.0 ∙ sym k.0, (presets_once w h.1.0 k.1.0 a b h.1.1 k.1.1).1)
   goes_once w (Happens event) given told a b h k =
       let same = steps_once w event h.0 k.0 a b h.1 k.1 in
       (h.2 ∙ (ap (given_in (call_of w event)) same.0 ∙ sym k.2), same.1)
@@ -80,7 +80,7 @@ pub one_step : NoTwoRepliesAreLegal → OneStep
 one_step one = λ w after other event result given h k. steps_once one w event result given after other h k
 
 pub one_preset : OnePreset
-one_preset = λ w after other made h k. presets_once w made made after other h k
+one_preset = λ w after other made did h k. presets_once w made did after other h k
 
 pub one_run : NoTwoRepliesAreLegal → OneRun
 one_run one = λ w after other list given told h k. leads_once one list w after other given told h k

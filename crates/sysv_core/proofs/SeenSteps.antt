@@ -134,9 +134,6 @@ module _ (w : World) (seen : Seen) (s : IsSeenAs w seen) where
         },
       )
 
-false_not_true : ¬ (false ≡ true)
-false_not_true e = cc
-
 taken_not_vacant : {X : Type 0} (o : Option X) → IsSome o → ¬ (o ≡ None)
 taken_not_vacant None taken vacant = cc
 taken_not_vacant (Some x) taken vacant = cc
@@ -149,6 +146,6 @@ presets w seen s slot true turn stays =
     (after, inl (ap (λ (x : Slot). x.live) s.slot.seen ∙ turn.legal, refl, refl), record { slot = turn.stands w.history who s.slot; phases = s.phases; steps = s.steps })
 presets w seen s slot false turn stays = (
   w,
-  inr (λ vacant. taken_not_vacant seen.slot.live turn.legal (sym (ap (λ (x : Slot). x.live) s.slot.seen) ∙ vacant), false_not_true, refl),
+  inr (λ vacant. taken_not_vacant seen.slot.live turn.legal (sym (ap (λ (x : Slot). x.live) s.slot.seen) ∙ vacant), refl, refl),
   record { slot = subst (SlotStandsFor w.history) (sym (stays refl)) s.slot; phases = s.phases; steps = s.steps },
 )

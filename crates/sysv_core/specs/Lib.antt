@@ -19,5 +19,6 @@ pub mod Run
 pub mod AnswerLaw
 pub mod Headline
 pub mod OneRun
+pub mod SomeRun
 pub mod WorkedRun
 pub mod WorkedSelection

@@ -11,9 +11,8 @@ abbrev pub OneStep : Type 0
 OneStep = (w after other : World) (event : Event) (result given : Stepped) →
     Steps w event result after → Steps w event given other → (result ≡ given) × (after ≡ other)
 
--- two presets that agree on whether they make the queue
 abbrev pub OnePreset : Type 0
-OnePreset = (w after other : World) (made : Bool) → Presets w made after → Presets w made other → after ≡ other
+OnePreset = (w after other : World) (made did : Bool) → Presets w made after → Presets w did other → (made ≡ did) × (after ≡ other)
 
 abbrev pub OneRun : Type 0
 OneRun = (w after other : World) (list : List Happening) (given told : List Given) →

@@ -2,7 +2,7 @@
 -- and what one event makes of it. An event is the start of an actor's call, or one step of it, which
 -- is one turn at the slot; a turn has the legal reply and adds one entry to the history (this
 -- profile's).
-use Rattle.std.specs.Prelude.{◌≡◌, ℕ, zero, suc, pos, ◌+◌, ◌-◌, ◌^◌, ◌<◌, ◌≤◌, ◌⊎◌, Bool, true, List, [], Option, Some, None, option_map, replicate, slice_get, slice_set}
+use Rattle.std.specs.Prelude.{◌≡◌, ℕ, zero, suc, pos, ◌+◌, ◌-◌, ◌^◌, ◌<◌, ◌≤◌, ◌⊎◌, Bool, true, false, List, [], Option, Some, None, option_map, replicate, slice_get, slice_set}
 use Rattle.sysv_model.specs.declared.errno.Errno.TheVariants.{EINVAL}
 use Rattle.sysv_model.specs.declared.cred.Cred.{Cred}
 use Rattle.sysv_model.specs.History.{Actor, Call as Turn, Install, Reply, Installed, History, then_turn}
@@ -98,4 +98,4 @@ preset_call = Install (pos 0) (pos 0) record { uid = 1000; gid = 1000; pid = 0 }
 abbrev pub Presets : World → Bool → World → Type 0
 Presets w made after =
     ((live w.history ≡ None) × (made ≡ true) × (after ≡ record w { history = then_turn w.history (Actor 0 0) preset_call (Installed true) }))
-    ⊎ (¬ (live w.history ≡ None) × ¬ (made ≡ true) × (after ≡ w))
+    ⊎ (¬ (live w.history ≡ None) × (made ≡ false) × (after ≡ w))

@@ -1,6 +1,7 @@
 //! Laws over the definitions alone.
 
 ghost use Rattle.sysv_core.specs.OneRun.{OneStep, OnePreset, OneRun};
+ghost use Rattle.sysv_core.specs.SomeRun.{SomeStep, SomePreset, SomeRun};
 ghost use Rattle.sysv_core.specs.WorkedRun.{WorkedRun, NoWrongReply, ExactFit};
 ghost use Rattle.sysv_core.specs.WorkedSelection.{WorkedSelection};
 
@@ -10,6 +11,21 @@ use sysv_queue::laws::one_legal_reply;
 pub fn one_step()
     ensures step { OneStep }
     ensures preset { OnePreset }
+{
+    one_legal_reply();
+}
+
+/// Each event in a world, and each preset, gives a result and leads to a world.
+pub fn some_step()
+    ensures step { SomeStep }
+    ensures preset { SomePreset }
+{
+    one_legal_reply();
+}
+
+/// Each list of events leads from a world to a world.
+pub fn some_run()
+    ensures { SomeRun }
 {
     one_legal_reply();
 }

@@ -1,17 +1,14 @@
 -- A text prints something in whole: line by line, each of which does something or is bad.
-use Rattle.std.proofs.Common.{◌≡◌, ◌+◌, ◌-◌, ◌≤◌, ◌<◌, ◌⊎◌, ℕ, zero, suc, inl, inr, true, List, [], ◌∷◌, ◌++◌, Option, Some, None, length, get_or, refl, sym, ap, ◌∙◌, arith}
+use Rattle.std.proofs.Common.{◌≡◌, ◌+◌, ◌-◌, ◌≤◌, ◌<◌, ◌⊎◌, ℕ, zero, suc, inl, inr, Bool, true, false, List, [], ◌∷◌, ◌++◌, Option, Some, None, length, get_or, refl, sym, ap, ◌∙◌, arith}
 use Rattle.std.proofs.lemmas.List.{length-set}
 use Rattle.sysv_model.specs.declared.cred.Cred.{Cred}
-use Rattle.sysv_model.specs.declared.attributes.Attributes.{Attributes}
-use Rattle.sysv_model.specs.History.{then_turn, Actor, Installed}
-use Rattle.sysv_model.specs.Live.{live}
-use Rattle.sysv_queue.specs.OneReply.{SomeReplyIsLegal}
 use Rattle.sysv_core.specs.declared.event.Call.{Call}
 use Rattle.sysv_core.specs.declared.event.Event.{Event}
 use Rattle.sysv_core.specs.declared.event.Event.TheVariants.{Start, Step}
 use Rattle.sysv_core.specs.declared.event.Stepped.{Stepped}
 use Rattle.sysv_core.specs.declared.event.Stepped.TheVariants as stepped
-use Rattle.sysv_core.specs.World.{World, preset_call}
+use Rattle.sysv_core.specs.World.{World, Presets}
+use Rattle.sysv_core.specs.SomeRun.{SomeStep, SomePreset}
 use Rattle.sysv_script.specs.Faults.{bad_line_text}
 use Rattle.sysv_script.specs.Lines.{Says}
 use Rattle.sysv_script.specs.ScriptRun.{Said, Nothing, MakesPreset, GivesCred, Starts, Scene, opening_scene, first_cred, in_world, cred_at, with_cred, Advances, GoesOn, CallRuns, operation_of, printed}
@@ -21,7 +18,6 @@ use Rattle.sysv_script.specs.EachText.{EachTextPrints}
 use Rattle.sysv_script.proofs.CredLemmas.{cred_held}
 use Rattle.sysv_script.proofs.Deciding.{at_most, splits_or_not, splits_shorter}
 use Rattle.sysv_script.proofs.DecidingLines.{says_or_not}
-use Rattle.sysv_script.proofs.Stepping as stepping
 
 -- ---- the first line of a text
 
@@ -53,12 +49,11 @@ record LineDone (s : Scene) (line : List ℕ) : Type 0 where
   manned : IsManned after
 
 -- a preset makes the queue, or comes too late
-presets_or_not : (s : Scene) (line : List ℕ) (queue : Option Attributes) → live s.world.history ≡ queue → IsManned s → Says line MakesPreset → LineDone s line ⊎ IsBad s line
-presets_or_not s line None e manned says =
-    let made : World = record s.world { history = then_turn s.world.history (Actor 0 0) preset_call (Installed true) } in
-    inl (record { out = []; after = in_world s made; does = (MakesPreset, says, (inl (e, refl, refl), refl, refl)); manned = manned })
-presets_or_not s line (Some attributes) e manned says =
-    inr (inr (says, inr ((λ none. let there = sym e ∙ none in cc), (λ f. cc), refl)))
+presets_or_not : (s : Scene) (line : List ℕ) (made : Bool) (after : World) → Presets s.world made after → IsManned s → Says line MakesPreset → LineDone s line ⊎ IsBad s line
+presets_or_not s line true after p manned says =
+    inl (record { out = []; after = in_world s after; does = (MakesPreset, says, (p, refl, refl)); manned = manned })
+presets_or_not s line false after (inl made) manned says = let never : false ≡ true = made.1 in absurd cc
+presets_or_not s line false after (inr late) manned says = inr (inr (says, inr (late.0, refl, refl)))
 
 -- the text prints something in whole
 abbrev PrintsWhole : Scene → ℕ → List ℕ → Type 0
@@ -69,11 +64,11 @@ goes_first : (s : Scene) (n : ℕ) (text : List ℕ) (first : FirstLine text) �
 goes_first s n text first few does more =
     (does.out ++ more.0, more.1, more.2, Goes s n text first.line first.rest does.out does.after more.0 more.1 few first.begins does.does more.3)
 
-module _ (some : SomeReplyIsLegal) where
+module _ (some : SomeStep) (preset : SomePreset) where
   -- an event leaves a scene with the credentials as they were
   advances : (s : Scene) (event : Event) → (given : Stepped) × (after : Scene) × Advances s event given after × (after.creds ≡ s.creds)
   advances s event =
-      let step = stepping.steps_somewhere some s.world event in
+      let step = some s.world event in
       (step.0, in_world s step.1, (step.2, refl), refl)
 
   -- a call goes on for at most that many steps
@@ -111,7 +106,7 @@ module _ (some : SomeReplyIsLegal) where
   -- a line that says something does it, or it is a preset that comes too late
   line_goes : (s : Scene) (line : List ℕ) (said : Said) → IsManned s → Says line said → LineDone s line ⊎ IsBad s line
   line_goes s line Nothing manned says = inl (record { out = []; after = s; does = (Nothing, says, (refl, refl, refl)); manned = manned })
-  line_goes s line MakesPreset manned says = presets_or_not s line (live s.world.history) refl manned says
+  line_goes s line MakesPreset manned says = let made = preset s.world in presets_or_not s line made.0 made.1 made.2 manned says
   line_goes s line (GivesCred actor cred) manned says =
       inl (record {
         out = [];

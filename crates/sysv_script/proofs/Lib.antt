@@ -14,5 +14,4 @@ pub mod Deciding
 pub mod DecidingWords
 pub mod DecidingFlags
 pub mod DecidingLines
-pub mod Stepping
 pub mod EachText

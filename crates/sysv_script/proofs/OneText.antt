@@ -51,7 +51,7 @@ front_long text front rest line behind e long endless (inr h) short =
 presets_apart : (w a b : World) → Presets w true a → Presets w false b → ⊥
 presets_apart w a b (inl h) (inl k) = let never : false ≡ true = k.1 in cc
 presets_apart w a b (inl h) (inr k) = k.0 h.0
-presets_apart w a b (inr h) k = h.1 refl
+presets_apart w a b (inr h) k = let never : true ≡ false = h.1 in cc
 
 -- a bad line does nothing
 bad_idle : (s : Scene) (line out : List ℕ) (after : Scene) → IsBad s line → LineDoes s line out after → ⊥
@@ -167,7 +167,7 @@ module _ (one : OneStep) (preset : OnePreset) where
 
   line_once : (s : Scene) (said : Said) (out other : List ℕ) (a b : Scene) → LineRuns s said true out a → LineRuns s said true other b → (out ≡ other) × (a ≡ b)
   line_once s Nothing out other a b h k = (h.1 ∙ sym k.1, h.2 ∙ sym k.2)
-  line_once s MakesPreset out other a b h k = (h.1 ∙ sym k.1, h.2 ∙ (ap (in_world s) (preset s.world a.world b.world true h.0 k.0) ∙ sym k.2))
+  line_once s MakesPreset out other a b h k = (h.1 ∙ sym k.1, h.2 ∙ (ap (in_world s) (preset s.world a.world b.world true true h.0 k.0).1 ∙ sym k.2))
   line_once s (GivesCred actor cred) out other a b h k = (h.1 ∙ sym k.1, h.2 ∙ sym k.2)
   line_once s (Starts actor call) out other a b h k =
       let same = call_once s actor call h.1.0 k.1.0 a b h.1.1 k.1.1 in

@@ -3,11 +3,10 @@
 ghost use Rattle.sysv_script.specs.EachText.{EachTextPrints};
 ghost use Rattle.sysv_script.specs.OneText.{OneText};
 
-use sysv_core::laws::one_step;
-use sysv_queue::laws::one_legal_reply;
+use sysv_core::laws::{one_step, some_step};
 
-/// From a world a text prints one thing only and ends in one way, and what is printed where it is
-/// stopped before a line is a front of that.
+/// From a scene, which is a world and its actors' credentials, a text prints one thing only and ends in
+/// one way, and what is printed where it is stopped before a line is a front of that.
 pub fn one_text()
     ensures { OneText }
 {
@@ -19,5 +18,5 @@ pub fn one_text()
 pub fn each_text_prints()
     ensures { EachTextPrints }
 {
-    one_legal_reply();
+    some_step();
 }

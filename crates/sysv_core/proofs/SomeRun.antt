@@ -1,9 +1,11 @@
--- A world answers each event somehow, since each call at the slot has a legal reply.
-use Rattle.std.proofs.Common.{◌≡◌, ◌+◌, ◌^◌, ◌<ℤ◌, ℕ, ℤ, pos, inl, inr, Bool, true, false, Option, Some, None, length, refl, arith}
+-- A world answers each event somehow, since each call at the slot has a legal reply; and so each list.
+use Rattle.std.proofs.Common.{◌≡◌, ◌+◌, ◌^◌, ◌<◌, ◌≤◌, ◌<ℤ◌, ◌⊎◌, ℕ, zero, suc, ℤ, pos, inl, inr, Bool, true, false, List, [], ◌∷◌, ◌++◌, Option, Some, None, length, refl, sym, ◌∙◌, arith}
 use Rattle.std.proofs.lemmas.Int.{ints, by_lt_z}
 use Rattle.sysv_model.specs.declared.errno.Errno.TheVariants.{EINVAL}
 use Rattle.sysv_model.specs.declared.cred.Cred.{Cred}
-use Rattle.sysv_model.specs.History.{Actor, then_turn}
+use Rattle.sysv_model.specs.declared.attributes.Attributes.{Attributes}
+use Rattle.sysv_model.specs.History.{Actor, Installed, then_turn}
+use Rattle.sysv_model.specs.Live.{live}
 use Rattle.sysv_queue.specs.OneReply.{IsThere, SomeReplyIsLegal}
 use Rattle.sysv_core.specs.declared.event.Call.{Call}
 use Rattle.sysv_core.specs.declared.event.Call.TheVariants.{Send, Receive}
@@ -15,8 +17,29 @@ use Rattle.sysv_core.specs.declared.event.Stepped.TheVariants as stepped
 use Rattle.sysv_core.specs.Phase.{Phase, AtLook, AtPlace, AtTake}
 use Rattle.sysv_core.specs.Begin.{IsRefused, has_flag, begun, body_back}
 use Rattle.sysv_core.specs.Turn.{turn_call, after_turn}
-use Rattle.sysv_core.specs.World.{World, Doing, Begins, Turns, StartsAt, StepsAt, Makes, Steps, actor_at, with_actor, in_phase}
-use Rattle.sysv_script.proofs.Deciding.{Decided, either, at_most, below_or_not}
+use Rattle.sysv_core.specs.World.{World, Doing, Begins, Turns, StartsAt, StepsAt, Makes, actor_at, with_actor, in_phase, Presets, preset_call}
+use Rattle.sysv_core.specs.Run.{Happening, Preset, Happens, Given, Goes, Leads, call_of, given_in}
+use Rattle.sysv_core.specs.SomeRun.{SomeStep, SomePreset, SomeRun}
+
+-- it holds, or it does not
+abbrev Decided : Type 0 → Type 0
+Decided P = P ⊎ ¬ P
+
+either : {P Q : Type 0} → Decided P → Decided Q → Decided (P ⊎ Q)
+either (inl p) q = inl (inl p)
+either (inr none) (inl q) = inl (inr q)
+either (inr none) (inr not) = inr (λ h. elim h [ inl p ↦ none p | inr q ↦ not q ])
+
+at_most : (a b : ℕ) → (a ≤ b) ⊎ (b < a)
+at_most zero b = inl (omega arith)
+at_most (suc a) zero = inr (omega arith)
+at_most (suc a) (suc b) = elim (at_most a b) [ inl h ↦ inl (omega arith) | inr h ↦ inr (omega arith) ]
+
+not_both : (a b : ℕ) → a ≤ b → b < a → ⊥
+not_both a b h k = omega arith
+
+below_or_not : (a b : ℕ) → Decided (a < b)
+below_or_not a b = elim (at_most b a) [ inl over ↦ inr (λ h. not_both b a over h) | inr below ↦ inl below ]
 
 below_ℤ_or_not : (a b : ℤ) → Decided (a <ℤ b)
 below_ℤ_or_not a b = by_lt_z a b (λ h. inl h) (λ h. inr (λ k. omega (arith, ints, h, k)))
@@ -56,6 +79,14 @@ starts_somewhere w actor cred call None = (stepped.Nothing, w, (refl, refl))
 starts_somewhere w actor cred call (Some (Some doing)) = (stepped.Nothing, w, (refl, refl))
 starts_somewhere w actor cred call (Some None) = begins_somewhere w actor cred call
 
+-- a preset makes the queue, or finds one
+presets_on : (w : World) (queue : Option Attributes) → live w.history ≡ queue → (made : Bool) × (after : World) × Presets w made after
+presets_on w None vacant = (true, record w { history = then_turn w.history (Actor 0 0) preset_call (Installed true) }, inl (vacant, refl, refl))
+presets_on w (Some queue) taken = (false, w, inr ((λ none. let there = sym taken ∙ none in cc), refl, refl))
+
+pub presets_somewhere : SomePreset
+presets_somewhere w = presets_on w (live w.history) refl
+
 module _ (some : SomeReplyIsLegal) where
   -- a step of a call is a turn with a legal reply
   turns_somewhere : (w : World) (actor : ℕ) (doing : Doing) (now : ℕ) → (given : Stepped) × (after : World) × Turns w actor doing now given after
@@ -80,8 +111,22 @@ module _ (some : SomeReplyIsLegal) where
   makes_somewhere w (Step actor now) = moves_somewhere w actor now (actor_at w.actors actor)
 
   -- each event in a world gives something, and leaves a world
-  pub steps_somewhere : (w : World) (event : Event) → (given : Stepped) × (after : World) × Steps w event given after
+  pub steps_somewhere : SomeStep
   steps_somewhere w event = elim (at_most (2 ^ 62) w.steps) [
     | inl worn ↦ (stepped.Worn, w, inl (worn, refl, refl))
     | inr young ↦ let made = makes_somewhere w event in (made.0, made.1, inr (young, made.2))
   ]
+
+  goes_somewhere : (w : World) (x : Happening) → (given : List Given) × (after : World) × Goes w x given after
+  goes_somewhere w Preset = let made = presets_somewhere w in ([], made.1, (refl, (made.0, made.2)))
+  goes_somewhere w (Happens event) = let step = steps_somewhere w event in (given_in (call_of w event) step.0, step.1, (step.0, step.2, refl))
+
+  leads_from : (list : List Happening) (w : World) → (given : List Given) × (after : World) × Leads w list given after
+  leads_from [] w = ([], w, (refl, refl))
+  leads_from (x ∷ xs) w =
+      let one = goes_somewhere w x in
+      let rest = leads_from xs one.1 in
+      (one.0 ++ rest.0, rest.1, (one.1, one.0, rest.0, one.2, rest.2, refl))
+
+  pub leads_somewhere : SomeRun
+  leads_somewhere w list = leads_from list w
