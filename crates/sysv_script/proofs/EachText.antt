@@ -12,8 +12,7 @@ use Rattle.sysv_core.specs.SomeRun.{SomeStep, SomePreset}
 use Rattle.sysv_script.specs.Faults.{bad_line_text}
 use Rattle.sysv_script.specs.Lines.{Says}
 use Rattle.sysv_script.specs.ScriptRun.{Said, Nothing, MakesPreset, GivesCred, Starts, Scene, opening_scene, first_cred, in_world, cred_at, with_cred, Advances, GoesOn, CallRuns, operation_of, printed}
-use Rattle.sysv_script.specs.ScriptText.{BeginsWith, LineDoes, IsBad, Ending, Whole, BadLine, TooMany, Prints, Ends, Exceeds, Fails, Goes}
-use Rattle.sysv_script.specs.OneText.{IsWholeEnding}
+use Rattle.sysv_script.specs.ScriptText.{BeginsWith, LineDoes, IsBad, Ending, Whole, BadLine, TooMany, IsWholeEnding, Prints, Ends, Exceeds, Fails, Goes}
 use Rattle.sysv_script.specs.EachText.{EachTextPrints}
 use Rattle.sysv_script.proofs.CredLemmas.{cred_held}
 use Rattle.sysv_script.proofs.Deciding.{at_most, splits_or_not, splits_shorter}

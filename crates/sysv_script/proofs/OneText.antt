@@ -13,8 +13,8 @@ use Rattle.sysv_core.specs.World.{World, Presets}
 use Rattle.sysv_script.specs.Found.{HasNoEnd}
 use Rattle.sysv_script.specs.ScriptRun.{Said, Nothing, MakesPreset, GivesCred, Starts, Scene, in_world, Advances, GoesOn, CallRuns, LineRuns, operation_of, printed}
 use Rattle.sysv_script.specs.Faults.{IsFrontOf, bad_line_text}
-use Rattle.sysv_script.specs.ScriptText.{BeginsWith, LineDoes, IsBad, Ending, Whole, BadLine, TooMany, Stopped, Prints, Ends, Stops, Exceeds, Fails, Overruns, Goes}
-use Rattle.sysv_script.specs.OneText.{IsWholeEnding, OneText}
+use Rattle.sysv_script.specs.ScriptText.{BeginsWith, LineDoes, IsBad, Ending, Whole, BadLine, TooMany, Stopped, Prints, Ends, Stops, Exceeds, Fails, Overruns, Goes, IsWholeEnding}
+use Rattle.sysv_script.specs.OneText.{OneText}
 use Rattle.sysv_script.proofs.Parsing.{splits_once, SplitsAt-marked}
 use Rattle.sysv_core.specs.OneRun.{OneStep, OnePreset}
 use Rattle.sysv_script.proofs.OneLine.{says_once}

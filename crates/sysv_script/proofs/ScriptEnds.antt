@@ -10,7 +10,9 @@ use Rattle.sysv_script.specs.Staged.{IsSceneOf}
 use Rattle.sysv_script.specs.Streams.{AppendsPart}
 use Rattle.sysv_script.specs.Found.{IsNextLine}
 use Rattle.sysv_script.specs.Faults.{IsFrontOf, IsStreamFault, IsLineFault, EndsAtLine}
-use Rattle.sysv_script.specs.ScriptText.{IsBad, Ending, Whole, BadLine, TooMany, Stopped, Stops, ScriptPrints, WritesScript, WritesAll, WritesFront, WritesAtFault}
+use Rattle.sysv_script.specs.ScriptText.{IsBad, Ending, Whole, BadLine, TooMany, Stopped, IsWholeEnding, ScriptPrints, WritesScript, WritesAll, WritesFront, WritesAtFault}
+use Rattle.sysv_script.specs.OneText.{OneText}
+use Rattle.sysv_script.specs.EachText.{EachTextPrints}
 use Rattle.sysv_script.specs.ScriptSofar.{IsText, LeavesAll, LeavesFront, LeavesAtFault, Leaves}
 use Rattle.sysv_script.specs.declared.script.Found.{Found}
 use Rattle.sysv_script.specs.declared.script.ScriptFault.{ScriptFault}
@@ -55,6 +57,10 @@ Leaves-line (Ok x) fault s text old n now waiting left new composed told found e
 Leaves-line (Err y) fault s text old n now waiting left new composed told found e ends bad few next on =
     subst (λ f. LeavesAtFault f s text old new told) (sym e) (Leaves-line-fault fault s text old n now waiting left new composed told found ends bad few next on)
 
+-- The writer took a front of what some run of the script prints, be it stopped before a line.
+abbrev WritesSome : List ℕ → Option (List ℕ) → Option (List ℕ) → Type 0
+WritesSome text old new = (ending : Ending) × (out : List ℕ) × ScriptPrints text out ending × AppendsPart old new out
+
 -- ---- what is composed at the end is handed out
 
 -- the whole run of a script, from the stage and the input that were opened
@@ -67,21 +73,10 @@ all_out ending text old mid new composed left all =
     let handed = left.2 in
     (left.0, left.1, subst (Appends old new) (sym handed.2) (Appends-trans old mid new handed.0 composed handed.1 all))
 
-front_out : (text : List ℕ) (old mid new : Option (List ℕ)) (composed : List ℕ) → LeavesFront opening_scene text old mid composed → Appends mid new composed → WritesFront text old new
+front_out : (text : List ℕ) (old mid new : Option (List ℕ)) (composed : List ℕ) → LeavesFront opening_scene text old mid composed → Appends mid new composed → WritesSome text old new
 front_out text old mid new composed left all =
     let handed = left.3 in
     (left.0, left.1, left.2, (handed.2.0, subst (Appends old new) handed.2.1 (Appends-trans old mid new handed.0 composed handed.1 all)))
-
-fault_out : (fault : ScriptFault) (text : List ℕ) (old mid new : Option (List ℕ)) (composed : List ℕ) → LeavesAtFault fault opening_scene text old mid composed → Appends mid new composed → WritesAtFault fault text old new
-fault_out (Line n) text old mid new composed left all = all_out (BadLine n) text old mid new composed left all
-fault_out Bound text old mid new composed left all = all_out TooMany text old mid new composed left all
-fault_out NoMemory text old mid new composed left all = front_out text old mid new composed left all
-fault_out Read text old mid new composed left all = front_out text old mid new composed left all
-fault_out Write text old mid new composed left all = front_out text old mid new composed left all
-
-pub writes_out : (r : Result ⊤ ScriptFault) (text : List ℕ) (old mid new : Option (List ℕ)) (composed : List ℕ) → Leaves r opening_scene text old mid composed → Appends mid new composed → WritesScript r text old new
-writes_out (Ok done) text old mid new composed left all = all_out Whole text old mid new composed left all
-writes_out (Err fault) text old mid new composed left all = fault_out fault text old mid new composed left all
 
 -- ---- what is composed at the end is handed out in part
 
@@ -95,43 +90,72 @@ front_of_front : (m : ℕ) (front text : List ℕ) → IsFrontOf front text → 
 front_of_front m front text part =
     let found = take_of_take m part.0 text in (found.0, ap (take m) part.1 ∙ found.1)
 
-part_out : (ending : Ending) (out text : List ℕ) (old mid new : Option (List ℕ)) (handed composed : List ℕ) → ScriptPrints text out ending → Appends old mid handed → IsFrontOf (handed ++ composed) out → AppendsPart mid new composed → WritesFront text old new
+part_out : (ending : Ending) (out text : List ℕ) (old mid new : Option (List ℕ)) (handed composed : List ℕ) → ScriptPrints text out ending → Appends old mid handed → IsFrontOf (handed ++ composed) out → AppendsPart mid new composed → WritesSome text old new
 part_out ending out text old mid new handed composed printed grown front part =
     let found = front_of_front (length handed + part.0) (handed ++ composed) out front in
     let joined : handed ++ take part.0 composed ≡ take found.0 out = sym (take-append-add handed composed part.0) ∙ found.1 in
     (ending, out, printed, (found.0, subst (Appends old new) joined (Appends-trans old mid new handed (take part.0 composed) grown part.1)))
 
-all_cut : (ending : Ending) (text : List ℕ) (old mid new : Option (List ℕ)) (composed : List ℕ) → LeavesAll opening_scene text ending old mid composed → AppendsPart mid new composed → WritesFront text old new
+all_cut : (ending : Ending) (text : List ℕ) (old mid new : Option (List ℕ)) (composed : List ℕ) → LeavesAll opening_scene text ending old mid composed → AppendsPart mid new composed → WritesSome text old new
 all_cut ending text old mid new composed left part =
     let handed = left.2 in
     part_out ending left.0 text old mid new handed.0 composed left.1 handed.1 (subst (IsFrontOf (handed.0 ++ composed)) (sym handed.2) (IsFrontOf-all (handed.0 ++ composed))) part
 
-front_cut : (text : List ℕ) (old mid new : Option (List ℕ)) (composed : List ℕ) → LeavesFront opening_scene text old mid composed → AppendsPart mid new composed → WritesFront text old new
+front_cut : (text : List ℕ) (old mid new : Option (List ℕ)) (composed : List ℕ) → LeavesFront opening_scene text old mid composed → AppendsPart mid new composed → WritesSome text old new
 front_cut text old mid new composed left part =
     let handed = left.3 in part_out left.0 left.1 text old mid new handed.0 composed left.2 handed.1 handed.2 part
 
-fault_cut : (fault : ScriptFault) (text : List ℕ) (old mid new : Option (List ℕ)) (composed : List ℕ) → LeavesAtFault fault opening_scene text old mid composed → AppendsPart mid new composed → WritesFront text old new
+fault_cut : (fault : ScriptFault) (text : List ℕ) (old mid new : Option (List ℕ)) (composed : List ℕ) → LeavesAtFault fault opening_scene text old mid composed → AppendsPart mid new composed → WritesSome text old new
 fault_cut (Line n) text old mid new composed left part = all_cut (BadLine n) text old mid new composed left part
 fault_cut Bound text old mid new composed left part = all_cut TooMany text old mid new composed left part
 fault_cut NoMemory text old mid new composed left part = front_cut text old mid new composed left part
 fault_cut Read text old mid new composed left part = front_cut text old mid new composed left part
 fault_cut Write text old mid new composed left part = front_cut text old mid new composed left part
 
-any_cut : (r : Result ⊤ ScriptFault) (text : List ℕ) (old mid new : Option (List ℕ)) (composed : List ℕ) → Leaves r opening_scene text old mid composed → AppendsPart mid new composed → WritesFront text old new
+any_cut : (r : Result ⊤ ScriptFault) (text : List ℕ) (old mid new : Option (List ℕ)) (composed : List ℕ) → Leaves r opening_scene text old mid composed → AppendsPart mid new composed → WritesSome text old new
 any_cut (Ok done) text old mid new composed left part = all_cut Whole text old mid new composed left part
 any_cut (Err fault) text old mid new composed left part = fault_cut fault text old mid new composed left part
 
-writes_front : (r : Result ⊤ ScriptFault) (text : List ℕ) (old new : Option (List ℕ)) → IsErrAnd r (λ y. y ≡ Write) → WritesFront text old new → WritesScript r text old new
-writes_front (Ok x) text old new e front = absurd e
-writes_front (Err y) text old new e front = subst (λ f. WritesAtFault f text old new) (sym e) front
+-- ---- a front of what a stopped run prints is one of what the text prints in whole
 
-pub writes_cut : (r last : Result ⊤ ScriptFault) (fault : ScriptFault) (text : List ℕ) (old mid new : Option (List ℕ)) (composed : List ℕ) → IsErrAnd last (λ y. y ≡ fault) → fault ≡ Write →
-    Leaves r opening_scene text old mid composed → AppendsPart mid new composed → WritesScript last text old new
-writes_cut r last fault text old mid new composed e f left part =
-    writes_front last text old new (subst (λ x. IsErrAnd last (λ y. y ≡ x)) f e) (any_cut r text old mid new composed left part)
+front_of_part : (text out whole : List ℕ) (ending : Ending) (old new : Option (List ℕ)) → IsWholeEnding ending → ScriptPrints text whole ending → IsFrontOf out whole → AppendsPart old new out → WritesFront text old new
+front_of_part text out whole ending old new is printed front part =
+    let found = front_of_front part.0 out whole front in
+    (ending, whole, is, printed, (found.0, subst (Appends old new) found.1 part.1))
 
--- nothing was run
-pub writes_nothing : (r : Result ⊤ ScriptFault) (fault : ScriptFault) (text : List ℕ) (old : Option (List ℕ)) → IsErrAnd r (λ y. y ≡ fault) → fault ≡ NoMemory → WritesScript r text old old
-writes_nothing (Ok x) fault text old e f = absurd e
-writes_nothing (Err y) fault text old e f =
-    subst (λ x. WritesAtFault x text old old) (sym (e ∙ f)) (Stopped, [], Stops opening_scene 1 text, (0, Appends-nil old))
+module _ (one : OneText) (each : EachTextPrints) where
+  in_whole : (text : List ℕ) (old new : Option (List ℕ)) → WritesSome text old new → WritesFront text old new
+  in_whole text old new (Whole, out, printed, part) = (Whole, out, tt, printed, part)
+  in_whole text old new (BadLine n, out, printed, part) = (BadLine n, out, tt, printed, part)
+  in_whole text old new (TooMany, out, printed, part) = (TooMany, out, tt, printed, part)
+  in_whole text old new (Stopped, out, printed, part) =
+      let all = each text in
+      front_of_part text out all.0 all.1 old new all.2 all.3 (one.1 opening_scene 1 text out all.0 all.1 all.2 printed all.3) part
+
+  fault_out : (fault : ScriptFault) (text : List ℕ) (old mid new : Option (List ℕ)) (composed : List ℕ) → LeavesAtFault fault opening_scene text old mid composed → Appends mid new composed → WritesAtFault fault text old new
+  fault_out (Line n) text old mid new composed left all = all_out (BadLine n) text old mid new composed left all
+  fault_out Bound text old mid new composed left all = all_out TooMany text old mid new composed left all
+  fault_out NoMemory text old mid new composed left all = in_whole text old new (front_out text old mid new composed left all)
+  fault_out Read text old mid new composed left all = in_whole text old new (front_out text old mid new composed left all)
+  fault_out Write text old mid new composed left all = in_whole text old new (front_out text old mid new composed left all)
+
+  pub writes_out : (r : Result ⊤ ScriptFault) (text : List ℕ) (old mid new : Option (List ℕ)) (composed : List ℕ) → Leaves r opening_scene text old mid composed → Appends mid new composed → WritesScript r text old new
+  writes_out (Ok done) text old mid new composed left all = all_out Whole text old mid new composed left all
+  writes_out (Err fault) text old mid new composed left all = fault_out fault text old mid new composed left all
+
+  writes_front : (r : Result ⊤ ScriptFault) (text : List ℕ) (old new : Option (List ℕ)) → IsErrAnd r (λ y. y ≡ Write) → WritesSome text old new → WritesScript r text old new
+  writes_front (Ok x) text old new e some = absurd e
+  writes_front (Err y) text old new e some = subst (λ f. WritesAtFault f text old new) (sym e) (in_whole text old new some)
+
+  pub writes_cut : (r last : Result ⊤ ScriptFault) (fault : ScriptFault) (text : List ℕ) (old mid new : Option (List ℕ)) (composed : List ℕ) → IsErrAnd last (λ y. y ≡ fault) → fault ≡ Write →
+      Leaves r opening_scene text old mid composed → AppendsPart mid new composed → WritesScript last text old new
+  writes_cut r last fault text old mid new composed e f left part =
+      writes_front last text old new (subst (λ x. IsErrAnd last (λ y. y ≡ x)) f e) (any_cut r text old mid new composed left part)
+
+  -- nothing was run
+  pub writes_none : (text : List ℕ) (old : Option (List ℕ)) → WritesFront text old old
+  writes_none text old = let all = each text in (all.1, all.0, all.2, all.3, (0, Appends-nil old))
+
+  pub writes_nothing : (r : Result ⊤ ScriptFault) (fault : ScriptFault) (text : List ℕ) (old : Option (List ℕ)) → IsErrAnd r (λ y. y ≡ fault) → fault ≡ NoMemory → WritesScript r text old old
+  writes_nothing (Ok x) fault text old e f = absurd e
+  writes_nothing (Err y) fault text old e f = subst (λ x. WritesAtFault x text old old) (sym (e ∙ f)) (writes_none text old)

@@ -1,7 +1,6 @@
 -- From the opening scene each text prints something in whole.
 use Rattle.std.specs.Prelude.{ℕ, List}
-use Rattle.sysv_script.specs.ScriptText.{Ending, ScriptPrints}
-use Rattle.sysv_script.specs.OneText.{IsWholeEnding}
+use Rattle.sysv_script.specs.ScriptText.{Ending, IsWholeEnding, ScriptPrints}
 
 -- each text prints something in whole: it has an ending that is not a stop
 abbrev pub EachTextPrints : Type 0

@@ -1,17 +1,10 @@
 -- From a scene and a line on, a text prints one thing only: two runs of it that are not stopped before
 -- a line print the same and end in the same way, and what is printed where it is stopped before a line
 -- is a front of that (this profile's).
-use Rattle.std.specs.Prelude.{◌≡◌, ⊤, ℕ, List}
+use Rattle.std.specs.Prelude.{◌≡◌, ℕ, List}
 use Rattle.sysv_script.specs.ScriptRun.{Scene}
 use Rattle.sysv_script.specs.Faults.{IsFrontOf}
-use Rattle.sysv_script.specs.ScriptText.{Ending, Whole, BadLine, TooMany, Stopped, Prints}
-
--- every ending but the one before a line, wherever that is
-abbrev pub IsWholeEnding : Ending → Type 0
-IsWholeEnding Whole = ⊤
-IsWholeEnding (BadLine n) = ⊤
-IsWholeEnding TooMany = ⊤
-IsWholeEnding Stopped = ⊥
+use Rattle.sysv_script.specs.ScriptText.{Ending, Stopped, IsWholeEnding, Prints}
 
 -- two runs that are not stopped are one
 abbrev pub OneWhole : Type 0

@@ -20,6 +20,13 @@ pub data Ending : Type 0 where
   TooMany : Ending
   Stopped : Ending
 
+-- every ending but the one before a line, wherever that is
+abbrev pub IsWholeEnding : Ending → Type 0
+IsWholeEnding Whole = ⊤
+IsWholeEnding (BadLine n) = ⊤
+IsWholeEnding TooMany = ⊤
+IsWholeEnding Stopped = ⊥
+
 -- the first line of a text, which ends with LF or is all of the text, and what stands behind it
 abbrev pub BeginsWith : List ℕ → List ℕ → List ℕ → Type 0
 BeginsWith text line rest = SplitsAt 10 text line rest ⊎ (HasNoEnd text × (0 < length text) × (line ≡ text) × (rest ≡ []))
@@ -51,9 +58,9 @@ ScriptPrints text out ending = Prints opening_scene 1 text out ending
 abbrev pub WritesAll : List ℕ → Ending → Option (List ℕ) → Option (List ℕ) → Type 0
 WritesAll text ending old new = (out : List ℕ) × ScriptPrints text out ending × Appends old new out
 
--- The writer took a front of what the script prints.
+-- The writer took a front of all that the script prints.
 abbrev pub WritesFront : List ℕ → Option (List ℕ) → Option (List ℕ) → Type 0
-WritesFront text old new = (ending : Ending) × (out : List ℕ) × ScriptPrints text out ending × AppendsPart old new out
+WritesFront text old new = (ending : Ending) × (out : List ℕ) × IsWholeEnding ending × ScriptPrints text out ending × AppendsPart old new out
 
 -- what the writer took, by how the run of the text ended
 abbrev pub WritesAtFault : ScriptFault → List ℕ → Option (List ℕ) → Option (List ℕ) → Type 0

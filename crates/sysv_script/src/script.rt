@@ -11,6 +11,7 @@ ghost use Rattle.sysv_script.specs.Streams.{AppendsPart, HandsOn, TakesIn};
 
 use crate::head::Head;
 use crate::input::Input;
+use crate::laws::{each_text_prints, one_text};
 use crate::line::{LINE_BYTES, line_of};
 use crate::output::Output;
 use crate::stage::Stage;
@@ -63,6 +64,8 @@ pub fn run_script<R: Read, W: Write>(
     ensures grows { Grows (W.contents writer.old) (W.contents writer.new) }
     ensures bad { IfErr result (λ fault. TellsBadLine fault (W.contents writer.old) (W.contents writer.new)) }
 {
+    one_text();
+    each_text_prints();
     let mut input = Input::open(alloc).map_err(|_| ScriptFault::NoMemory)?;
     let mut output = Output::open(alloc).map_err(|_| ScriptFault::NoMemory)?;
     let Ok(mut stage) = Stage::open(alloc) else {
