@@ -224,14 +224,14 @@ fn answers_calls(rt: HostRuntime) -> Result<(), Fail> {
     Ok(())
 }
 
-const SIXTH_IN: &[u8] = b"preset
+const FULL_IN: &[u8] = b"preset
 1 snd 0 1 NOWAIT *8192
 1 snd 0 1 NOWAIT *8192
 1 snd 0 1 NOWAIT =x
 1 snd 0 1 NOWAIT =
 ";
 
-const SIXTH_OUT: &[u8] = b"1 snd = 0
+const FULL_OUT: &[u8] = b"1 snd = 0
 1 snd = 0
 1 snd ! EAGAIN
 1 snd = 0
@@ -239,9 +239,9 @@ const SIXTH_OUT: &[u8] = b"1 snd = 0
 
 #[test]
 fn keeps_the_limits_of_a_queue(rt: HostRuntime) -> Result<(), Fail> {
-    let ending = run(rt.alloc(), SIXTH_IN);
+    let ending = run(rt.alloc(), FULL_IN);
     assert_eq!(rt; ending.end, Ok(()));
-    assert!(rt; ending.written.as_slice() == SIXTH_OUT);
+    assert!(rt; ending.written.as_slice() == FULL_OUT);
     let mut script = Vec::from_slice(rt.alloc(), b"preset\n")?;
     let mut answers = Vec::new(rt.alloc());
     for _ in 0..256 {
