@@ -21,7 +21,7 @@ use Rattle.sysv_core.specs.Begin.{begun, body_back}
 use Rattle.sysv_core.specs.Turn.{turn_call, after_turn, gone}
 use Rattle.sysv_core.specs.World.{World, Doing, opening, in_phase, StaysWith, StartsAt, StepsAt, Makes, Steps, Presets, preset_call}
 use Rattle.sysv_core.specs.Run.{Happening, Preset, Happens, Given, Goes, Leads, call_of, given_in, started_at}
-use Rattle.sysv_core.specs.AnswerLaw.{is_call, turns_of, found_live, live_seen, Ends, IsAnsweredBy}
+use Rattle.sysv_core.specs.AnswerLaw.{is_call, turns_of, found_live, live_seen, Ends, IsOfStart, IsAnsweredBy}
 
 -- ---- places
 
@@ -188,7 +188,7 @@ unanswered_doing w given place d at a = weaker_all (WasAnswered w) (λ (g : Give
 
 -- ---- a start
 
-begin_refused : (w : World) (given : List Given) (place : ℕ) (answer : Answer) → Inv w given → slice_get w.actors place ≡ Some None → answer.outcome ≡ outcome.Refused EINVAL →
+begin_refused : (w : World) (given : List Given) (place : ℕ) (answer : Answer) → Inv w given → slice_get w.actors place ≡ Some None → IsOfStart answer →
     Inv (record w { steps = w.steps + 1 }) (given ++ record { who = Actor (suc place) w.steps; answer = answer } ∷ [])
 begin_refused w given place answer i idle refused =
     told (record w { steps = w.steps + 1 }) given place w.steps answer (counted w given i) (omega arith)
@@ -387,7 +387,7 @@ start_keeps w after given place cred c result (Some None) at (inl refused) i =
     let answer : Answer = record { actor = suc place; outcome = outcome.Refused EINVAL; body = body_back c } in
     subst (λ v. Inv v (given ++ given_in who result)) (sym refused.2)
     (subst (λ (r : Stepped). Inv (record w { steps = w.steps + 1 }) (given ++ given_in who r)) (sym refused.1)
-    (begin_refused w given place answer i at refl))
+    (begin_refused w given place answer i at (c, refused.0, refl, refl)))
 start_keeps w after given place cred c result (Some None) at (inr begun_now) i =
     let who = Actor (suc place) w.steps in
     let d0 : Doing = record { phase = begun cred c; start = w.steps } in

@@ -10,6 +10,8 @@ use Rattle.sysv_model.specs.declared.errno.Errno.TheVariants.{EINVAL, EIDRM, EAC
 use Rattle.sysv_model.specs.History.{Who, Actor, Seat, Call, Take, Reply, Gone, Denied, Full, Fits, Accepted, NoMatch, TooLong, Taken, Entry, History}
 use Rattle.sysv_core.specs.declared.event.Outcome.TheVariants as outcome
 use Rattle.sysv_core.specs.declared.event.Answer.{Answer}
+use Rattle.sysv_core.specs.declared.event.Call.{Call as Started}
+use Rattle.sysv_core.specs.Begin.{IsRefused, body_back}
 use Rattle.sysv_core.specs.Run.{Given}
 
 -- it is the same call
@@ -51,11 +53,15 @@ Ends seen (Take id cred selector size noerror now) (Taken m) a =
     (a.outcome ≡ outcome.Got m.mtype (length (take size m.bytes))) × (a.body ≡ Some (take size m.bytes))
 Ends seen call reply a = ⊥
 
+-- the answer to a call whose own arguments are refused
+abbrev pub IsOfStart : Answer → Type 0
+IsOfStart a = (call : Started) × IsRefused call × (a.outcome ≡ outcome.Refused EINVAL) × (a.body ≡ body_back call)
+
 -- A call without a turn was refused at its start. Any other answers with its last turn; after each
 -- earlier one, a look that found room, it went on.
 abbrev pub IsAnsweredBy : List Entry → Answer → Type 0
 IsAnsweredBy turns a =
-    ((turns ≡ []) × (a.outcome ≡ outcome.Refused EINVAL))
+    ((turns ≡ []) × IsOfStart a)
     ⊎ ((earlier : List Entry) × (last : Entry) × (turns ≡ earlier ++ last ∷ [])
     × All (λ (e : Entry). e.reply ≡ Fits) earlier × Ends (live_seen earlier) last.call last.reply a)
 
