@@ -4,7 +4,7 @@ use Rattle.std.proofs.lemmas.Int.{ints}
 use Rattle.sysv_model.specs.Selector.{Any, Exactly, UpTo}
 use Rattle.sysv_model.specs.Live.{live}
 use Rattle.sysv_rules.specs.Qualifies.{QualifiesAt, type_at}
-use Rattle.sysv_rules.specs.Named.{IsNamed, IsLeast}
+use Rattle.sysv_rules.specs.Named.{IsNamed}
 use Rattle.sysv_queue.specs.LegalReply.{IsGivable}
 use Rattle.sysv_queue.specs.Granted.{MayRead, MayWrite}
 use Rattle.sysv_core.specs.WorkedRun.{receiver, hello_message, empty_message, after_turns}

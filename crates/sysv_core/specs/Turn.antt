@@ -1,6 +1,6 @@
 -- One turn of a call at the slot: the call that it makes there, and what the reply leads to. As long
 -- as no call waits, each acts as if IPC_NOWAIT were set.
-use Rattle.std.specs.Prelude.{ℕ, Bool, true, false, List, [], length, take, Option, Some, None, if◌then◌else◌}
+use Rattle.std.specs.Prelude.{ℕ, Bool, true, List, [], length, take, Option, Some, None, if◌then◌else◌}
 use Rattle.sysv_model.specs.declared.errno.Errno.{Errno}
 use Rattle.sysv_model.specs.declared.errno.Errno.TheVariants.{EACCES, EAGAIN, EIDRM, EINVAL, ENOMSG, E2BIG}
 use Rattle.sysv_model.specs.History.{Call, Look, Place, Take, Reply, Gone, Denied, Full, Fits, Accepted, NoMatch, TooLong, Taken}

@@ -21,10 +21,6 @@ pub never_given : (size : ℕ) (noerror : Bool) (m : Message) → size < length 
 never_given size noerror m long stays (inl short) = omega arith
 never_given size noerror m long stays (inr cut) = let e : true ≡ false = sym cut ∙ stays in cc
 
-pub none_in : {X : Type 0} (xs : List X) → length xs ≡ 0 → xs ≡ []
-none_in [] h = refl
-none_in (x ∷ xs) h = absurd (omega arith)
-
 pub some_message : (ms : List Message) (place : ℕ) → place < length ms → (m : Message) × (slice_get ms place ≡ Some m)
 some_message [] place within = absurd (omega (arith, within))
 some_message (m ∷ ms) zero within = (m, refl)
