@@ -14,4 +14,5 @@ pub mod Deciding
 pub mod DecidingWords
 pub mod DecidingFlags
 pub mod DecidingLines
+pub mod EachCall
 pub mod EachText

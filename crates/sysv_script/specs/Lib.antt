@@ -13,4 +13,5 @@ pub mod Staged
 pub mod ScriptText
 pub mod ScriptSofar
 pub mod OneText
+pub mod EachCall
 pub mod EachText

@@ -1,5 +1,6 @@
 //! Laws over the definitions alone.
 
+ghost use Rattle.sysv_script.specs.EachCall.{EachCallIsTold};
 ghost use Rattle.sysv_script.specs.EachText.{EachTextPrints};
 ghost use Rattle.sysv_script.specs.OneText.{OneText};
 
@@ -12,6 +13,12 @@ pub fn one_text()
 {
     one_step();
 }
+
+/// From the opening scene on, each call that a line starts is answered within its steps, or finds the
+/// world worn out; so its line prints one.
+pub fn each_call_is_told()
+    ensures { EachCallIsTold }
+{}
 
 /// Each text prints something in whole: it runs to its end, to a bad line or behind the millionth
 /// line.
