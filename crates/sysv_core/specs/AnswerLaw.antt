@@ -1,8 +1,9 @@
 -- The law of the answers: a call's answer is decided by its own turns. It answers with the turn that
 -- ends it, by the reply of that turn; a send answers zero exactly where a place of it was accepted,
 -- and a receive a message exactly where a take of it was given that message. No call is answered
--- twice, and each that made a turn which ends it is answered; each answer goes to the caller. (POSIX.1-2017, msgsnd and msgrcv, RETURN VALUE and ERRORS; which refusal comes first is
--- this profile's.)
+-- twice, and each that made a turn which ends it is answered; each answer goes to the caller.
+-- (POSIX.1-2017, msgsnd and msgrcv, RETURN VALUE and ERRORS; which refusal comes first is this
+-- profile's.)
 use Rattle.std.specs.Prelude.{◌≡◌, ◌⊎◌, ◌==◌, ◌&&◌, ℕ, Bool, true, false, List, [], ◌∷◌, ◌++◌, length, take, Option, None, Some, All, Contains, filter, if◌then◌else◌}
 use Rattle.std.specs.List.{list_any}
 use Rattle.sysv_model.specs.declared.errno.Errno.{Errno}

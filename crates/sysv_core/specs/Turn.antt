@@ -1,5 +1,6 @@
--- One turn of a call at the slot: the call that it makes there, and what the reply leads to. As long
--- as no call waits, each acts as if IPC_NOWAIT were set.
+-- One turn of a call at the slot: the call that it makes there, and what the reply leads to
+-- (POSIX.1-2017, msgsnd and msgrcv, ERRORS; the steps are this profile's). As long as no call waits,
+-- each acts as if IPC_NOWAIT were set.
 use Rattle.std.specs.Prelude.{ℕ, Bool, true, List, [], length, take, Option, Some, None, if◌then◌else◌}
 use Rattle.sysv_model.specs.declared.errno.Errno.{Errno}
 use Rattle.sysv_model.specs.declared.errno.Errno.TheVariants.{EACCES, EAGAIN, EIDRM, EINVAL, ENOMSG, E2BIG}

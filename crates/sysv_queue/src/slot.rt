@@ -1,4 +1,4 @@
-ghost use Rattle.std.specs.Prelude.{false, ℕ, ◌≡◌, ◌+◌, ◌^◌, ◌<◌, ◌≤◌, ◌↔◌, [], ◌∷◌, ◌++◌, length, take, slice_get, IfOk, IfErr, Some, IsSome, IsTrue, MatchOption, remove, option_map};
+ghost use Rattle.std.specs.Prelude.{false, ℕ, ◌≡◌, ◌+◌, ◌^◌, ◌<◌, ◌≤◌, ◌↔◌, [], ◌∷◌, ◌++◌, length, take, slice_get, IfOk, IfErr, Some, IsTrue, MatchOption, remove, option_map};
 ghost use Rattle.sysv_model.specs.Message.{Message};
 ghost use Rattle.sysv_model.specs.History.{Install, Place, Take, Installed, Taken};
 ghost use Rattle.sysv_model.specs.History.{Look as LookCall};
@@ -97,7 +97,9 @@ struct Waiting {
     body: Body,
 }
 
-/// The place of one queue.
+/// The place of one queue: the live queue's attributes, if one is live, at most 256 messages in the order
+/// of acceptance, and the two counts of arrived and freed, which rise over all the queues that it holds
+/// (POSIX.1-2017, `sys/msg.h`; the slot and its counts are this profile's).
 #[derive(Drop)]
 pub struct QueueSlot {
     live: Option<Attributes>,

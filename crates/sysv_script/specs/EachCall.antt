@@ -1,5 +1,6 @@
--- A line that starts a call prints a line: from the opening scene on, each call of one of the 16 actors is
--- answered within the steps that it makes, or finds the world worn out (this project's script language).
+-- A line that starts a call prints a line: from the opening scene on, each call of one of the 16 actors
+-- is answered within the steps that it makes, or finds the world worn out (this project's script
+-- language).
 use Rattle.std.specs.Prelude.{◌≡◌, ◌≤◌, ◌^◌, ◌⊎◌, ⊤, ℕ, Bool, List, None, replicate}
 use Rattle.sysv_core.specs.declared.event.Call.{Call}
 use Rattle.sysv_core.specs.declared.event.Stepped.{Stepped}
