@@ -12,11 +12,11 @@ use Rattle.sysv_core.specs.declared.event.Stepped.TheVariants as stepped
 use Rattle.sysv_core.specs.Phase.{Phase, AtLook, AtPlace, AtTake}
 use Rattle.sysv_core.specs.Turn.{after_turn}
 use Rattle.sysv_core.specs.World.{World, Doing, actor_at, StartsAt, StepsAt, Makes, Steps}
-use Rattle.sysv_core.specs.Run.{Happening, Preset, Happens, Given, Goes, Leads, call_of, given_in, started_at}
+use Rattle.sysv_core.specs.Run.{Happening, Preset, Happens, Given, Goes, Leads, Started, call_of, call_in, call_at, given_in}
 use Rattle.sysv_core.specs.AnswerLaw.{IsToCaller}
 
 abbrev ToCaller : Given → Type 0
-ToCaller g = IsToCaller g.who g.answer
+ToCaller g = IsToCaller g.call.who g.answer
 
 -- what an event gave is nothing, or an answer to this call's actor
 abbrev IsFor : Who → Stepped → Type 0
@@ -24,10 +24,10 @@ IsFor who (stepped.Answer a) = IsToCaller who a
 IsFor who stepped.Nothing = Unit {0}
 IsFor who stepped.Worn = Unit {0}
 
-given_to : (who : Who) (s : Stepped) → IsFor who s → All ToCaller (given_in who s)
-given_to who (stepped.Answer a) f = All-cons ToCaller (record { who = who; answer = a }) [] f (All-nil ToCaller)
-given_to who stepped.Nothing f = All-nil ToCaller
-given_to who stepped.Worn f = All-nil ToCaller
+given_to : (call : Started) (s : Stepped) → IsFor call.who s → All ToCaller (given_in (Some call) s)
+given_to call (stepped.Answer a) f = All-cons ToCaller (record { call = call; answer = a }) [] f (All-nil ToCaller)
+given_to call stepped.Nothing f = All-nil ToCaller
+given_to call stepped.Worn f = All-nil ToCaller
 
 turn_is_for : (actor start : ℕ) (p : Phase) (reply : Reply) → IsFor (Actor actor start) (after_turn actor p reply).1
 turn_is_for actor start (AtLook s) Gone = refl
@@ -57,19 +57,29 @@ step_is_for w after actor start now result None s = subst (IsFor (Actor actor st
 step_is_for w after actor start now result (Some None) s = subst (IsFor (Actor actor start)) (sym s.0) tt
 step_is_for w after actor start now result (Some (Some d)) s = subst (IsFor (Actor actor start)) (sym s.2) (turn_is_for actor start d.phase s.0)
 
-makes_is_for : (w after : World) (event : Event) (result : Stepped) → Makes w event result after → IsFor (call_of w event) result
-makes_is_for w after (Start actor cred call) result m = start_is_for w after actor w.steps cred call result (actor_at w.actors actor) m
-makes_is_for w after (Step actor now) result m = step_is_for w after actor (started_at (actor_at w.actors actor)) now result (actor_at w.actors actor) m
+step_gives : (w after : World) (actor now : ℕ) (result : Stepped) (o : Option (Option Doing)) → StepsAt w actor now o result after → All ToCaller (given_in (call_at actor o) result)
+step_gives w after actor now result None s = All-nil ToCaller
+step_gives w after actor now result (Some None) s = All-nil ToCaller
+step_gives w after actor now result (Some (Some d)) s = given_to (call_in actor d) result (step_is_for w after actor d.start now result (Some (Some d)) s)
 
-event_is_for : (w after : World) (event : Event) (result : Stepped) → Steps w event result after → IsFor (call_of w event) result
-event_is_for w after event result (inl worn) = subst (IsFor (call_of w event)) (sym worn.1) tt
-event_is_for w after event result (inr makes) = makes_is_for w after event result makes.1
+makes_gives : (w after : World) (event : Event) (result : Stepped) → Makes w event result after → All ToCaller (given_in (call_of w event) result)
+makes_gives w after (Start actor cred call) result m =
+    given_to (record { who = Actor actor w.steps; cred = cred; asked = call }) result (start_is_for w after actor w.steps cred call result (actor_at w.actors actor) m)
+makes_gives w after (Step actor now) result m = step_gives w after actor now result (actor_at w.actors actor) m
+
+worn_gives : (call : Option Started) → All ToCaller (given_in call stepped.Worn)
+worn_gives None = All-nil ToCaller
+worn_gives (Some call) = All-nil ToCaller
+
+event_gives : (w after : World) (event : Event) (result : Stepped) → Steps w event result after → All ToCaller (given_in (call_of w event) result)
+event_gives w after event result (inl worn) = subst (λ r. All ToCaller (given_in (call_of w event) r)) (sym worn.1) (worn_gives (call_of w event))
+event_gives w after event result (inr makes) = makes_gives w after event result makes.1
 
 goes_to_caller : (w after : World) (given : List Given) (x : Happening) → Goes w x given after → All ToCaller given
 goes_to_caller w after given Preset g = subst (All ToCaller) (sym g.0) (All-nil ToCaller)
-goes_to_caller w after given (Happens event) g = subst (All ToCaller) (sym g.2) (given_to (call_of w event) g.0 (event_is_for w after event g.0 g.1))
+goes_to_caller w after given (Happens event) g = subst (All ToCaller) (sym g.2) (event_gives w after event g.0 g.1)
 
-pub all_to_callers : (xs : List Happening) (w after : World) (given : List Given) → Leads w xs given after → All (λ (g : Given). IsToCaller g.who g.answer) given
+pub all_to_callers : (xs : List Happening) (w after : World) (given : List Given) → Leads w xs given after → All (λ (g : Given). IsToCaller g.call.who g.answer) given
 all_to_callers [] w after given l = subst (All ToCaller) (sym l.0) (All-nil ToCaller)
 all_to_callers (x ∷ xs) w after given l =
     subst (All ToCaller) (sym l.5) (All-append ToCaller l.1 l.2 (goes_to_caller w l.0 l.1 x l.3) (all_to_callers xs l.0 after l.2 l.4))

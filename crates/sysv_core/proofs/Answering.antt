@@ -1,13 +1,15 @@
 -- Every answer of a run is decided by the turns of its own call.
-use Rattle.std.proofs.Common.{◌≡◌, ◌≢◌, ℕ, zero, suc, ◌+◌, ◌-◌, ◌<◌, ◌==◌, ◌&&◌, ◌||◌, ◌⊎◌, inl, inr, Bool, true, false, cond, List, [], ◌∷◌, ◌++◌, Option, None, Some, refl, sym, ap, subst, ◌∙◌, arith, length, slice_get, slice_set, replicate, append_assoc}
+use Rattle.std.proofs.Common.{◌≡◌, ◌≢◌, ℕ, zero, suc, ◌+◌, ◌-◌, ◌<◌, ◌==◌, ◌&&◌, ◌||◌, ◌⊎◌, inl, inr, Bool, true, false, cond, List, [], ◌∷◌, ◌++◌, Option, None, Some, refl, sym, ap, subst, ◌∙◌, arith, length, slice_get, slice_set, replicate, append_assoc, take}
 use Rattle.std.specs.List.{All, AllPairs, AllByRecursion, slice_index_or}
 use Rattle.std.proofs.lemmas.List.{append-nil}
-use Rattle.std.proofs.lemmas.List.Elements.{filter-append, All-nil, All-cons, All-from_recursion}
+use Rattle.std.proofs.lemmas.List.Elements.{filter-append, All-nil, All-cons, All-push, All-from_recursion}
 use Rattle.std.proofs.lemmas.List.Quantifiers.{all_pairs_push}
 use Rattle.std.proofs.lemmas.Bool.Decides.{nat_tests}
 use Rattle.sysv_model.specs.declared.cred.Cred.{Cred}
-use Rattle.sysv_model.specs.declared.errno.Errno.TheVariants.{EINVAL}
-use Rattle.sysv_model.specs.History.{Who, Actor, Seat, Call as Turn, Reply, Installed, Gone, Denied, Full, Fits, Accepted, NoMatch, TooLong, Taken, Entry, History}
+use Rattle.sysv_model.specs.declared.errno.Errno.{Errno}
+use Rattle.sysv_model.specs.declared.errno.Errno.TheVariants.{EINVAL, EACCES, EAGAIN, ENOMSG, E2BIG}
+use Rattle.sysv_model.specs.Message.{Message}
+use Rattle.sysv_model.specs.History.{Who, Actor, Seat, Call as Turn, Look, Place, Take, Reply, Installed, Gone, Denied, Full, Fits, Accepted, NoMatch, TooLong, Taken, Entry, History}
 use Rattle.sysv_queue.specs.LegalReply.{IsLegalReply}
 use Rattle.sysv_core.specs.declared.event.Call.{Call}
 use Rattle.sysv_core.specs.declared.event.Call.TheVariants as call
@@ -16,26 +18,14 @@ use Rattle.sysv_core.specs.declared.event.Event.TheVariants.{Start, Step}
 use Rattle.sysv_core.specs.declared.event.Answer.{Answer}
 use Rattle.sysv_core.specs.declared.event.Outcome.TheVariants as outcome
 use Rattle.sysv_core.specs.declared.event.Stepped.{Stepped}
-use Rattle.sysv_core.specs.Phase.{Phase, AtLook, AtPlace, AtTake}
-use Rattle.sysv_core.specs.Begin.{begun, body_back}
+use Rattle.sysv_core.specs.declared.event.Stepped.TheVariants as stepped
+use Rattle.sysv_core.specs.Phase.{Phase, Sending, Receiving, AtLook, AtPlace, AtTake}
+use Rattle.sysv_core.specs.Begin.{IsRefused, begun, body_back}
 use Rattle.sysv_core.specs.Turn.{turn_call, after_turn, gone}
 use Rattle.sysv_core.specs.World.{World, Doing, opening, in_phase, StaysWith, StartsAt, StepsAt, Makes, Steps, Presets, preset_call}
-use Rattle.sysv_core.specs.Run.{Happening, Preset, Happens, Given, Goes, Leads, call_of, given_in, started_at}
-use Rattle.sysv_core.specs.AnswerLaw.{is_call, turns_of, found_live, live_seen, Ends, IsOfStart, IsAnsweredBy}
-
--- ---- places
-
-pub get_set_same : {X : Type 0} (xs : List X) (i : ℕ) (x y : X) → slice_get xs i ≡ Some y → slice_get (slice_set xs i x) i ≡ Some x
-get_set_same [] i x y e = absurd cc
-get_set_same (z ∷ xs) zero x y e = refl
-get_set_same (z ∷ xs) (suc i) x y e = get_set_same xs i x y e
-
-pub get_set_other : {X : Type 0} (xs : List X) (i j : ℕ) (x : X) → i ≢ j → slice_get (slice_set xs i x) j ≡ slice_get xs j
-get_set_other [] i j x f = refl
-get_set_other (z ∷ xs) zero zero x f = absurd (f refl)
-get_set_other (z ∷ xs) zero (suc j) x f = refl
-get_set_other (z ∷ xs) (suc i) zero x f = refl
-get_set_other (z ∷ xs) (suc i) (suc j) x f = get_set_other xs i j x (λ e. f (ap suc e))
+use Rattle.sysv_core.specs.Run.{Happening, Preset, Happens, Given, Goes, Leads, Started, call_of, call_in, call_at, given_in}
+use Rattle.sysv_core.proofs.Lists.{get_set_same, get_set_other, same_place}
+use Rattle.sysv_core.specs.AnswerLaw.{is_call, turns_of, AsksFor, found_live, live_seen, Refuses, Ends, EndsWith, IsAnsweredBy}
 
 -- ---- the turns of a call
 
@@ -82,33 +72,42 @@ its_own actor start = grind (arith, nat_tests)
 another_start : (a b s t : ℕ) → s ≢ t → is_call (Actor a s) (Actor b t) ≡ false
 another_start a b s t f = both_false (a == b) (s == t) (grind (arith, nat_tests, f))
 
--- what a call in this phase has made of turns
-abbrev HasMade : Phase → List Entry → Type 0
-HasMade (AtLook s) turns = (turns ≡ []) × (s.seen ≡ false)
-HasMade (AtPlace s) turns = (e : Entry) × (turns ≡ e ∷ []) × (e.reply ≡ Fits) × (s.seen ≡ true)
-HasMade (AtTake r) turns = (turns ≡ []) × (r.seen ≡ false)
+-- a send as it was begun
+abbrev unseen : Sending → Sending
+unseen s = record s { seen = false }
 
-begun_made : (cred : Cred) (call : Call) (turns : List Entry) → turns ≡ [] → HasMade (begun cred call) turns
-begun_made cred (call.Send id mtype flags body) turns none = (none, refl)
-begun_made cred (call.Receive id size mtype flags body) turns none = (none, refl)
+-- what a call in this phase, started so, has made of turns
+abbrev HasMade : Cred → Call → Phase → List Entry → Type 0
+HasMade cred asked (AtLook s) turns = (begun cred asked ≡ AtLook s) × (turns ≡ []) × (s.seen ≡ false)
+HasMade cred asked (AtPlace s) turns =
+    (begun cred asked ≡ AtLook (unseen s)) × ((e : Entry) × (turns ≡ e ∷ []) × (e.call ≡ Look s.id s.cred (length s.bytes)) × (e.reply ≡ Fits)) × (s.seen ≡ true)
+HasMade cred asked (AtTake r) turns = (begun cred asked ≡ AtTake r) × (turns ≡ []) × (r.seen ≡ false)
+
+-- a call under way was not refused at its start
+abbrev IsGoing : Doing → List Entry → Type 0
+IsGoing d turns = (¬ IsRefused d.asked) × HasMade d.cred d.asked d.phase turns
+
+begun_made : (cred : Cred) (asked : Call) (turns : List Entry) → turns ≡ [] → HasMade cred asked (begun cred asked) turns
+begun_made cred (call.Send id mtype flags text) turns none = (refl, none, refl)
+begun_made cred (call.Receive id size mtype flags body) turns none = (refl, none, refl)
 
 -- ---- what holds on the way
 
 record WasAnswered (w : World) (g : Given) : Type 0 where
   place : ℕ
   start : ℕ
-  is : g.who ≡ Actor (suc place) start
+  is : g.call.who ≡ Actor (suc place) start
   before : start < w.steps
-  by : IsAnsweredBy (turns_of g.who w.history) g.answer
+  by : IsAnsweredBy g.call (turns_of g.call.who w.history) g.answer
   over : (d : Doing) → slice_get w.actors place ≡ Some (Some d) → d.start ≢ start
 
 record Inv (w : World) (given : List Given) : Type 0 where
   before : AllByRecursion (λ (e : Entry). IsBefore w.steps e.who) w.history
-  doing : (place : ℕ) (d : Doing) → slice_get w.actors place ≡ Some (Some d) → (d.start < w.steps) × HasMade d.phase (turns_of (Actor (suc place) d.start) w.history)
+  doing : (place : ℕ) (d : Doing) → slice_get w.actors place ≡ Some (Some d) → (d.start < w.steps) × IsGoing d (turns_of (Actor (suc place) d.start) w.history)
   answered : AllByRecursion (WasAnswered w) given
-  once : AllPairs (λ (f g : Given). f.who ≢ g.who) given
+  once : AllPairs (λ (f g : Given). f.call.who ≢ g.call.who) given
 
-none_busy : (n place : ℕ) (d : Doing) → slice_get (replicate n None) place ≡ Some (Some d) → ⊥
+pub none_busy : (n place : ℕ) (d : Doing) → slice_get (replicate n None) place ≡ Some (Some d) → ⊥
 none_busy zero place d e = cc
 none_busy (suc n) zero d e = cc
 none_busy (suc n) (suc place) d e = none_busy n place d e
@@ -134,12 +133,6 @@ at_index P [] k d a l = absurd (omega arith)
 at_index P (x ∷ xs) zero d a l = a.0
 at_index P (x ∷ xs) (suc k) d a l = at_index P xs k d a.1 (omega arith)
 
-same_place : (i j : ℕ) → (i ≡ j) ⊎ (i ≢ j)
-same_place zero zero = inl refl
-same_place zero (suc j) = inr (λ e. omega arith)
-same_place (suc i) zero = inr (λ e. omega arith)
-same_place (suc i) (suc j) = elim (same_place i j) [ inl e ↦ inl (ap suc e) | inr f ↦ inr (λ e. f (omega arith)) ]
-
 one_doing : (o : Option (Option Doing)) (c d : Doing) → o ≡ Some (Some c) → o ≡ Some (Some d) → c ≡ d
 one_doing o c d a b = cc
 
@@ -162,44 +155,46 @@ counted w given i = record {
 }
 
 -- one more answer, of a call that is over and has not been answered
-told : (w : World) (given : List Given) (place start : ℕ) (answer : Answer) → Inv w given → start < w.steps → IsAnsweredBy (turns_of (Actor (suc place) start) w.history) answer →
+told : (w : World) (given : List Given) (place start : ℕ) (cred : Cred) (asked : Call) (answer : Answer) →
+    let call : Started = record { who = Actor (suc place) start; cred = cred; asked = asked } in
+    Inv w given → start < w.steps → IsAnsweredBy call (turns_of (Actor (suc place) start) w.history) answer →
     ((d : Doing) → slice_get w.actors place ≡ Some (Some d) → d.start ≢ start) →
-    AllByRecursion (λ (g : Given). g.who ≢ Actor (suc place) start) given →
-    Inv w (given ++ record { who = Actor (suc place) start; answer = answer } ∷ [])
-told w given place start answer i low by over new =
-    let g : Given = record { who = Actor (suc place) start; answer = answer } in
+    AllByRecursion (λ (g : Given). g.call.who ≢ Actor (suc place) start) given →
+    Inv w (given ++ record { call = call; answer = answer } ∷ [])
+told w given place start cred asked answer i low by over new =
+    let g : Given = record { call = record { who = Actor (suc place) start; cred = cred; asked = asked }; answer = answer } in
     record {
       before = i.before;
       doing = i.doing;
       answered = pushed (WasAnswered w) given g i.answered (record { place = place; start = start; is = refl; before = low; by = by; over = over });
-      once = all_pairs_push (λ (f h : Given). f.who ≢ h.who) given g i.once (λ k d l. at_index (λ (f : Given). f.who ≢ g.who) given k d new l);
+      once = all_pairs_push (λ (f h : Given). f.call.who ≢ h.call.who) given g i.once (λ k d l. at_index (λ (f : Given). f.call.who ≢ g.call.who) given k d new l);
     }
 
 -- a call that starts: no answer is of it yet
-unanswered_start : (w : World) (given : List Given) (place : ℕ) → AllByRecursion (WasAnswered w) given → AllByRecursion (λ (g : Given). g.who ≢ Actor (suc place) w.steps) given
-unanswered_start w given place a = weaker_all (WasAnswered w) (λ (g : Given). g.who ≢ Actor (suc place) w.steps)
+unanswered_start : (w : World) (given : List Given) (place : ℕ) → AllByRecursion (WasAnswered w) given → AllByRecursion (λ (g : Given). g.call.who ≢ Actor (suc place) w.steps) given
+unanswered_start w given place a = weaker_all (WasAnswered w) (λ (g : Given). g.call.who ≢ Actor (suc place) w.steps)
     (λ g b e. let same = one_call b.place place b.start w.steps (sym b.is ∙ e) in omega (arith, b.before, same.1)) given a
 
 -- the call that an actor is in
-unanswered_doing : (w : World) (given : List Given) (place : ℕ) (d : Doing) → slice_get w.actors place ≡ Some (Some d) → AllByRecursion (WasAnswered w) given → AllByRecursion (λ (g : Given). g.who ≢ Actor (suc place) d.start) given
-unanswered_doing w given place d at a = weaker_all (WasAnswered w) (λ (g : Given). g.who ≢ Actor (suc place) d.start)
+unanswered_doing : (w : World) (given : List Given) (place : ℕ) (d : Doing) → slice_get w.actors place ≡ Some (Some d) → AllByRecursion (WasAnswered w) given → AllByRecursion (λ (g : Given). g.call.who ≢ Actor (suc place) d.start) given
+unanswered_doing w given place d at a = weaker_all (WasAnswered w) (λ (g : Given). g.call.who ≢ Actor (suc place) d.start)
     (λ g b e. let same = one_call b.place place b.start d.start (sym b.is ∙ e) in
     b.over d (subst (λ p. slice_get w.actors p ≡ Some (Some d)) (sym same.0) at) (sym same.1)) given a
 
 -- ---- a start
 
-begin_refused : (w : World) (given : List Given) (place : ℕ) (answer : Answer) → Inv w given → slice_get w.actors place ≡ Some None → IsOfStart answer →
-    Inv (record w { steps = w.steps + 1 }) (given ++ record { who = Actor (suc place) w.steps; answer = answer } ∷ [])
-begin_refused w given place answer i idle refused =
-    told (record w { steps = w.steps + 1 }) given place w.steps answer (counted w given i) (omega arith)
-    (inl (no_turns place w.steps w.history i.before, refused))
+begin_refused : (w : World) (given : List Given) (place : ℕ) (cred : Cred) (asked : Call) (answer : Answer) → Inv w given → slice_get w.actors place ≡ Some None → IsRefused asked → Refuses asked EINVAL answer →
+    Inv (record w { steps = w.steps + 1 }) (given ++ record { call = record { who = Actor (suc place) w.steps; cred = cred; asked = asked }; answer = answer } ∷ [])
+begin_refused w given place cred asked answer i idle refused says =
+    told (record w { steps = w.steps + 1 }) given place w.steps cred asked answer (counted w given i) (omega arith)
+    (inl (refused, no_turns place w.steps w.history i.before, says))
     (λ d at. absurd (idle_or_busy (slice_get w.actors place) d idle at))
     (unanswered_start w given place i.answered)
 
-begin_ok : (w : World) (given : List Given) (place : ℕ) (cred : Cred) (call : Call) → Inv w given → slice_get w.actors place ≡ Some None →
-    Inv (record { history = w.history; actors = slice_set w.actors place (Some record { phase = begun cred call; start = w.steps }); steps = w.steps + 1 }) given
-begin_ok w given place cred call i idle =
-    let d0 : Doing = record { phase = begun cred call; start = w.steps } in
+begin_ok : (w : World) (given : List Given) (place : ℕ) (cred : Cred) (asked : Call) → Inv w given → slice_get w.actors place ≡ Some None → ¬ IsRefused asked →
+    Inv (record { history = w.history; actors = slice_set w.actors place (Some record { phase = begun cred asked; start = w.steps; cred = cred; asked = asked }); steps = w.steps + 1 }) given
+begin_ok w given place cred asked i idle allowed =
+    let d0 : Doing = record { phase = begun cred asked; start = w.steps; cred = cred; asked = asked } in
     let next : World = record { history = w.history; actors = slice_set w.actors place (Some d0); steps = w.steps + 1 } in
     let c = counted w given i in
     let here : slice_get next.actors place ≡ Some (Some d0) = get_set_same w.actors place (Some d0) None idle in
@@ -211,8 +206,8 @@ begin_ok w given place cred call i idle =
     record {
       before = c.before;
       doing = λ other d e. elim (doings other d e) [
-        | inl new ↦ subst (λ (x : Doing). (x.start < w.steps + 1) × HasMade x.phase (turns_of (Actor (suc other) x.start) w.history)) (sym new.0)
-            (omega arith, begun_made cred call (turns_of (Actor (suc other) w.steps) w.history) (no_turns other w.steps w.history i.before))
+        | inl new ↦ subst (λ (x : Doing). (x.start < w.steps + 1) × IsGoing x (turns_of (Actor (suc other) x.start) w.history)) (sym new.0)
+            (omega arith, (allowed, begun_made cred asked (turns_of (Actor (suc other) w.steps) w.history) (no_turns other w.steps w.history i.before)))
         | inr old ↦ c.doing other d old.0
       ];
       answered = weaker_all (WasAnswered w) (WasAnswered next)
@@ -232,7 +227,7 @@ begin_ok w given place cred call i idle =
 
 -- ---- a turn
 
-one_next : (o : Option (Option Doing)) (next : Option Doing) (d : Doing) → o ≡ Some next → o ≡ Some (Some d) → next ≡ Some d
+pub one_next : (o : Option (Option Doing)) (next : Option Doing) (d : Doing) → o ≡ Some next → o ≡ Some (Some d) → next ≡ Some d
 one_next o next d a b = cc
 
 none_some : (d : Doing) → None ≡ Some d → ⊥
@@ -265,26 +260,26 @@ module _ (w : World) (given : List Given) (place : ℕ) (d0 : Doing) (call : Tur
   others_turns : (other start : ℕ) → place ≢ other → turns_of (Actor (suc other) start) (w.history ++ turn_entry ∷ []) ≡ turns_of (Actor (suc other) start) w.history
   others_turns other start apart = same_turns (Actor (suc other) start) w.history turn_entry (another_actor (suc other) (suc place) start d0.start (λ e. apart (omega arith)))
 
-  answered_turns : (g : Given) → WasAnswered w g → turns_of g.who (w.history ++ turn_entry ∷ []) ≡ turns_of g.who w.history
-  answered_turns g a = same_turns g.who w.history turn_entry (subst (λ who. is_call who turn_entry.who ≡ false) (sym a.is)
+  answered_turns : (g : Given) → WasAnswered w g → turns_of g.call.who (w.history ++ turn_entry ∷ []) ≡ turns_of g.call.who w.history
+  answered_turns g a = same_turns g.call.who w.history turn_entry (subst (λ who. is_call who turn_entry.who ≡ false) (sym a.is)
       (elim (same_place a.place place) [
         | inl same ↦ another_start (suc a.place) (suc place) a.start d0.start (λ e. a.over d0 (subst (λ p. slice_get w.actors p ≡ Some (Some d0)) (sym same) at) (sym e))
         | inr apart ↦ another_actor (suc a.place) (suc place) a.start d0.start (λ e. apart (omega arith))
       ]))
 
-  turned : (next : Option Doing) → ((d : Doing) → next ≡ Some d → (d.start ≡ d0.start) × HasMade d.phase (turns_of (Actor (suc place) d0.start) w.history ++ turn_entry ∷ [])) → Inv (after_it next) given
+  turned : (next : Option Doing) → ((d : Doing) → next ≡ Some d → (d.start ≡ d0.start) × IsGoing d (turns_of (Actor (suc place) d0.start) w.history ++ turn_entry ∷ [])) → Inv (after_it next) given
   turned next goes = record {
     before = entries_before;
     doing = λ other d e. elim (doings_after next other d e) [
       | inl new ↦
           let g = goes d new.0 in (
             omega (arith, g.0, (i.doing place d0 at).0),
-            subst (λ p. HasMade d.phase (turns_of (Actor (suc p) d.start) (w.history ++ turn_entry ∷ []))) new.1
-                (subst (λ n. HasMade d.phase (turns_of (Actor (suc place) n) (w.history ++ turn_entry ∷ []))) (sym g.0)
-                (subst (HasMade d.phase) (sym own_turns) g.1)),
+            subst (λ p. IsGoing d (turns_of (Actor (suc p) d.start) (w.history ++ turn_entry ∷ []))) new.1
+                (subst (λ n. IsGoing d (turns_of (Actor (suc place) n) (w.history ++ turn_entry ∷ []))) (sym g.0)
+                (subst (IsGoing d) (sym own_turns) g.1)),
           )
       | inr old ↦
-          (omega (arith, (i.doing other d old.0).0), subst (HasMade d.phase) (sym (others_turns other d.start old.1)) (i.doing other d old.0).1)
+          (omega (arith, (i.doing other d old.0).0), subst (IsGoing d) (sym (others_turns other d.start old.1)) (i.doing other d old.0).1)
     ];
     answered = weaker_all (WasAnswered w) (WasAnswered (after_it next))
         (λ g a. record {
@@ -292,7 +287,7 @@ module _ (w : World) (given : List Given) (place : ℕ) (d0 : Doing) (call : Tur
           start = a.start;
           is = a.is;
           before = omega (arith, a.before);
-          by = subst (λ ts. IsAnsweredBy ts g.answer) (sym (answered_turns g a)) a.by;
+          by = subst (λ ts. IsAnsweredBy g.call ts g.answer) (sym (answered_turns g a)) a.by;
           over = λ d e. elim (doings_after next a.place d e) [
             | inl new ↦ λ same. a.over d0 (subst (λ p. slice_get w.actors p ≡ Some (Some d0)) new.1 at) (sym (goes d new.0).0 ∙ same)
             | inr old ↦ a.over d old.0
@@ -301,11 +296,11 @@ module _ (w : World) (given : List Given) (place : ℕ) (d0 : Doing) (call : Tur
     once = i.once;
   }
 
-  ended : (answer : Answer) → IsAnsweredBy (turns_of (Actor (suc place) d0.start) w.history ++ turn_entry ∷ []) answer →
-      Inv (after_it None) (given ++ record { who = Actor (suc place) d0.start; answer = answer } ∷ [])
+  ended : (answer : Answer) → IsAnsweredBy (call_in (suc place) d0) (turns_of (Actor (suc place) d0.start) w.history ++ turn_entry ∷ []) answer →
+      Inv (after_it None) (given ++ record { call = call_in (suc place) d0; answer = answer } ∷ [])
   ended answer by =
-      told (after_it None) given place d0.start answer (turned None (λ d e. absurd (none_some d e))) (omega (arith, (i.doing place d0 at).0))
-      (subst (λ ts. IsAnsweredBy ts answer) (sym own_turns) by)
+      told (after_it None) given place d0.start d0.cred d0.asked answer (turned None (λ d e. absurd (none_some d e))) (omega (arith, (i.doing place d0 at).0))
+      (subst (λ ts. IsAnsweredBy (call_in (suc place) d0) ts answer) (sym own_turns) by)
       (λ d e. elim (doings_after None place d e) [ inl new ↦ absurd (none_some d new.0) | inr old ↦ absurd (old.1 refl) ])
       (unanswered_doing w given place d0 at i.answered)
 
@@ -320,49 +315,170 @@ none_made : (turns : List Entry) (seen : Bool) → turns ≡ [] → seen ≡ fal
 none_made turns seen none unseen =
     (subst (λ ts. All (λ (e : Entry). e.reply ≡ Fits) ts) (sym none) (All-nil (λ (e : Entry). e.reply ≡ Fits)), ap live_seen none ∙ sym unseen)
 
-made : (p : Phase) (turns : List Entry) → HasMade p turns → All (λ (e : Entry). e.reply ≡ Fits) turns × (live_seen turns ≡ seen_in p)
-made (AtLook s) turns m = none_made turns s.seen m.0 m.1
-made (AtPlace s) turns m = (
-  subst (λ ts. All (λ (e : Entry). e.reply ≡ Fits) ts) (sym m.1) (All-cons (λ (e : Entry). e.reply ≡ Fits) m.0 [] m.2 (All-nil (λ (e : Entry). e.reply ≡ Fits))),
-  ap live_seen m.1 ∙ (ap (λ r. found_live r || false) m.2 ∙ sym m.3),
-)
-made (AtTake r) turns m = none_made turns r.seen m.0 m.1
+made : (cred : Cred) (asked : Call) (p : Phase) (turns : List Entry) → HasMade cred asked p turns → All (λ (e : Entry). e.reply ≡ Fits) turns × (live_seen turns ≡ seen_in p)
+made cred asked (AtLook s) turns m = none_made turns s.seen m.1 m.2
+made cred asked (AtPlace s) turns m =
+    let e = m.1 in (
+      subst (λ ts. All (λ (x : Entry). x.reply ≡ Fits) ts) (sym e.1) (All-cons (λ (x : Entry). x.reply ≡ Fits) e.0 [] e.3 (All-nil (λ (x : Entry). x.reply ≡ Fits))),
+      ap live_seen e.1 ∙ (ap (λ r. found_live r || false) e.3 ∙ sym m.2),
+    )
+made cred asked (AtTake r) turns m = none_made turns r.seen m.1 m.2
+
+-- ---- what was asked
+
+abbrev sending_in : Sending → Phase → Sending
+sending_in s (AtLook x) = x
+sending_in s (AtPlace x) = x
+sending_in s (AtTake r) = s
+
+abbrev receiving_in : Receiving → Phase → Receiving
+receiving_in r (AtTake x) = x
+receiving_in r (AtLook s) = r
+receiving_in r (AtPlace s) = r
+
+looks : (cred : Cred) (asked : Call) (s : Sending) → begun cred asked ≡ AtLook s → AsksFor cred asked (Look s.id s.cred (length s.bytes))
+looks cred (call.Send id mtype flags text) s e = inl (ap (λ (x : Sending). Look x.id x.cred (length x.bytes)) (sym (ap (sending_in s) e)))
+looks cred (call.Receive id size mtype flags body) s e = absurd cc
+
+places : (cred : Cred) (asked : Call) (s : Sending) (now : ℕ) → begun cred asked ≡ AtLook s → AsksFor cred asked (Place s.id s.cred s.mtype s.bytes now)
+places cred (call.Send id mtype flags text) s now e = inr (now, ap (λ (x : Sending). Place x.id x.cred x.mtype x.bytes now) (sym (ap (sending_in s) e)))
+places cred (call.Receive id size mtype flags body) s now e = absurd cc
+
+takes : (cred : Cred) (asked : Call) (r : Receiving) (now : ℕ) → begun cred asked ≡ AtTake r → AsksFor cred asked (Take r.id r.cred r.selector r.size r.noerror now)
+takes cred (call.Send id mtype flags text) r now e = absurd cc
+takes cred (call.Receive id size mtype flags body) r now e = (now, ap (λ (x : Receiving). Take x.id x.cred x.selector x.size x.noerror now) (sym (ap (receiving_in r) e)))
+
+-- the turn that is due is asked for, and so were those that were made
+turn_asked : (cred : Cred) (asked : Call) (p : Phase) (turns : List Entry) (now : ℕ) → HasMade cred asked p turns → AsksFor cred asked (turn_call p now)
+turn_asked cred asked (AtLook s) turns now m = looks cred asked s m.0
+turn_asked cred asked (AtPlace s) turns now m = places cred asked (unseen s) now m.0
+turn_asked cred asked (AtTake r) turns now m = takes cred asked r now m.0
+
+abbrev Asked : Cred → Call → List Entry → Type 0
+Asked cred asked turns = All (λ (e : Entry). AsksFor cred asked e.call) turns
+
+none_asked : (cred : Cred) (asked : Call) (turns : List Entry) → turns ≡ [] → Asked cred asked turns
+none_asked cred asked turns none = subst (Asked cred asked) (sym none) (All-nil (λ (e : Entry). AsksFor cred asked e.call))
+
+turns_asked : (cred : Cred) (asked : Call) (p : Phase) (turns : List Entry) → HasMade cred asked p turns → Asked cred asked turns
+turns_asked cred asked (AtLook s) turns m = none_asked cred asked turns m.1
+turns_asked cred asked (AtPlace s) turns m =
+    let e = m.1 in
+    subst (Asked cred asked) (sym e.1)
+    (All-cons (λ (x : Entry). AsksFor cred asked x.call) e.0 [] (subst (AsksFor cred asked) (sym e.2) (looks cred asked (unseen s) m.0)) (All-nil (λ (x : Entry). AsksFor cred asked x.call)))
+turns_asked cred asked (AtTake r) turns m = none_asked cred asked turns m.1
+
+-- ---- the answers of a send, and those of a receive
+
+abbrev IsSend : Call → Type 0
+IsSend (call.Send id mtype flags text) = Unit {0}
+IsSend (call.Receive id size mtype flags body) = ⊥
+
+-- a receive of at most this many bytes
+abbrev IsReceive : ℕ → Call → Type 0
+IsReceive n (call.Send id mtype flags text) = ⊥
+IsReceive n (call.Receive id size mtype flags body) = size ≡ n
+
+abbrev Kind : Phase → Call → Type 0
+Kind (AtLook s) asked = IsSend asked
+Kind (AtPlace s) asked = IsSend asked
+Kind (AtTake r) asked = IsReceive r.size asked
+
+is_send : (cred : Cred) (asked : Call) (s : Sending) → begun cred asked ≡ AtLook s → IsSend asked
+is_send cred (call.Send id mtype flags text) s e = tt
+is_send cred (call.Receive id size mtype flags body) s e = absurd cc
+
+is_receive : (cred : Cred) (asked : Call) (r : Receiving) → begun cred asked ≡ AtTake r → IsReceive r.size asked
+is_receive cred (call.Send id mtype flags text) r e = absurd cc
+is_receive cred (call.Receive id size mtype flags body) r e = ap (λ (x : Receiving). x.size) (ap (receiving_in r) e)
+
+kind_of : (cred : Cred) (asked : Call) (p : Phase) (turns : List Entry) → HasMade cred asked p turns → Kind p asked
+kind_of cred asked (AtLook s) turns m = is_send cred asked s m.0
+kind_of cred asked (AtPlace s) turns m = is_send cred asked (unseen s) m.0
+kind_of cred asked (AtTake r) turns m = is_receive cred asked r m.0
+
+abbrev refused_by : ℕ → Errno → Option (List ℕ) → Answer
+refused_by actor why body = record { actor = actor; result = outcome.Refused why; body = body }
+
+-- no body comes back to a send, and an empty one to a receive
+no_body : (asked : Call) → IsSend asked → None ≡ body_back asked
+no_body (call.Send id mtype flags text) send = refl
+no_body (call.Receive id size mtype flags body) send = absurd send
+
+empty_body : (asked : Call) (n : ℕ) → IsReceive n asked → Some [] ≡ body_back asked
+empty_body (call.Send id mtype flags text) n receive = absurd receive
+empty_body (call.Receive id size mtype flags body) n receive = refl
+
+send_full : (asked : Call) (actor freed : ℕ) (seen : Bool) → IsSend asked → Ends seen asked (Full freed) (refused_by actor EAGAIN None)
+send_full (call.Send id mtype flags text) actor freed seen send = (refl, refl)
+send_full (call.Receive id size mtype flags body) actor freed seen send = absurd send
+
+send_placed : (asked : Call) (actor number : ℕ) (seen : Bool) → IsSend asked → Ends seen asked (Accepted number) record { actor = actor; result = outcome.Zero; body = None }
+send_placed (call.Send id mtype flags text) actor number seen send = (refl, refl)
+send_placed (call.Receive id size mtype flags body) actor number seen send = absurd send
+
+receive_none : (asked : Call) (n actor arrived : ℕ) (seen : Bool) → IsReceive n asked → Ends seen asked (NoMatch arrived) (refused_by actor ENOMSG (Some []))
+receive_none (call.Send id mtype flags text) n actor arrived seen receive = absurd receive
+receive_none (call.Receive id size mtype flags body) n actor arrived seen receive = (refl, refl)
+
+receive_long : (asked : Call) (n actor : ℕ) (seen : Bool) → IsReceive n asked → Ends seen asked TooLong (refused_by actor E2BIG (Some []))
+receive_long (call.Send id mtype flags text) n actor seen receive = absurd receive
+receive_long (call.Receive id size mtype flags body) n actor seen receive = (refl, refl)
+
+receive_taken : (asked : Call) (n actor : ℕ) (seen : Bool) (m : Message) → IsReceive n asked →
+    Ends seen asked (Taken m) record { actor = actor; result = outcome.Got m.mtype (length (take n m.bytes)); body = Some (take n m.bytes) }
+receive_taken (call.Send id mtype flags text) n actor seen m receive = absurd receive
+receive_taken (call.Receive id size mtype flags body) n actor seen m receive =
+    (ap (λ k. outcome.Got m.mtype (length (take k m.bytes))) (sym receive), ap (λ k. Some (take k m.bytes)) (sym receive))
+
+-- ---- a turn in each phase
 
 module _ (w : World) (given : List Given) (place : ℕ) (d0 : Doing) (now : ℕ) (i : Inv w given) (at : slice_get w.actors place ≡ Some (Some d0)) where
-  so_far : (p : Phase) → d0.phase ≡ p → HasMade p (turns_of (Actor (suc place) d0.start) w.history)
-  so_far p e = subst (λ q. HasMade q (turns_of (Actor (suc place) d0.start) w.history)) e (i.doing place d0 at).1
+  so_far : (p : Phase) → d0.phase ≡ p → HasMade d0.cred d0.asked p (turns_of (Actor (suc place) d0.start) w.history)
+  so_far p e = subst (λ q. HasMade d0.cred d0.asked q (turns_of (Actor (suc place) d0.start) w.history)) e (i.doing place d0 at).1.1
 
-  ends : (p : Phase) (reply : Reply) (answer : Answer) → d0.phase ≡ p → ((seen : Bool) → seen ≡ seen_in p → Ends seen (turn_call p now) reply answer) →
-      Inv (after_it w given place d0 (turn_call p now) reply i at None) (given ++ record { who = Actor (suc place) d0.start; answer = answer } ∷ [])
+  ends : (p : Phase) (reply : Reply) (answer : Answer) → d0.phase ≡ p → (Kind p d0.asked → (seen : Bool) → seen ≡ seen_in p → Ends seen d0.asked reply answer) →
+      Inv (after_it w given place d0 (turn_call p now) reply i at None) (given ++ record { call = call_in (suc place) d0; answer = answer } ∷ [])
   ends p reply answer e end =
       let turns = turns_of (Actor (suc place) d0.start) w.history in
-      let m = made p turns (so_far p e) in
+      let entry = turn_entry w given place d0 (turn_call p now) reply i at in
+      let has = so_far p e in
+      let m = made d0.cred d0.asked p turns has in
+      let asked = All-push (λ (x : Entry). AsksFor d0.cred d0.asked x.call) turns entry (turns_asked d0.cred d0.asked p turns has) (turn_asked d0.cred d0.asked p turns now has) in
       ended w given place d0 (turn_call p now) reply i at answer
-      (inr (turns, turn_entry w given place d0 (turn_call p now) reply i at, refl, m.0, end (live_seen turns) m.1))
+      (inr ((i.doing place d0 at).1.0, asked, (turns, entry, refl, m.0, end (kind_of d0.cred d0.asked p turns has) (live_seen turns) m.1)))
+
+  went_on : (s : Sending) → d0.phase ≡ AtLook s →
+      let next : Doing = record d0 { phase = AtPlace (record s { seen = true }) } in
+      Inv (after_it w given place d0 (turn_call (AtLook s) now) Fits i at (Some next)) given
+  went_on s e =
+      let next : Doing = record d0 { phase = AtPlace (record s { seen = true }) } in
+      let entry = turn_entry w given place d0 (turn_call (AtLook s) now) Fits i at in
+      let has = so_far (AtLook s) e in
+      let begun_so : begun d0.cred d0.asked ≡ AtLook (unseen s) = has.0 ∙ ap (λ b. AtLook (record s { seen = b })) has.2 in
+      turned w given place d0 (turn_call (AtLook s) now) Fits i at (Some next)
+      (λ d is. let same : d ≡ next = cc in
+      subst (λ (x : Doing). (x.start ≡ d0.start) × IsGoing x (turns_of (Actor (suc place) d0.start) w.history ++ entry ∷ [])) (sym same)
+      (refl, ((i.doing place d0 at).1.0, (begun_so, (entry, ap (λ ts. ts ++ entry ∷ []) has.1, refl, refl), refl))))
 
   phase_keeps : (p : Phase) (reply : Reply) → d0.phase ≡ p → IsLegalReply w.history (turn_call p now) reply →
-      Inv (after_it w given place d0 (turn_call p now) reply i at (in_phase d0.start (after_turn (suc place) p reply).0))
-      (given ++ given_in (Actor (suc place) d0.start) (after_turn (suc place) p reply).1)
+      Inv (after_it w given place d0 (turn_call p now) reply i at (in_phase d0 (after_turn (suc place) p reply).0))
+      (given ++ given_in (Some (call_in (suc place) d0)) (after_turn (suc place) p reply).1)
   phase_keeps (AtLook s) Fits e l =
-      let next : Doing = record { phase = AtPlace (record s { seen = true }); start = d0.start } in
-      let entry = turn_entry w given place d0 (turn_call (AtLook s) now) Fits i at in
-      subst (Inv (after_it w given place d0 (turn_call (AtLook s) now) Fits i at (Some next))) (sym (append-nil given))
-      (turned w given place d0 (turn_call (AtLook s) now) Fits i at (Some next)
-      (λ d is. let same : d ≡ next = cc in
-      subst (λ (x : Doing). (x.start ≡ d0.start) × HasMade x.phase (turns_of (Actor (suc place) d0.start) w.history ++ entry ∷ [])) (sym same)
-      (refl, (entry, ap (λ ts. ts ++ entry ∷ []) (so_far (AtLook s) e).0, refl, refl))))
-  phase_keeps (AtLook s) Gone e l = ends (AtLook s) Gone _ e (λ seen is. (ap (λ b. outcome.Refused (gone b)) (sym is), refl))
-  phase_keeps (AtLook s) Denied e l = ends (AtLook s) Denied _ e (λ seen is. (refl, refl))
-  phase_keeps (AtLook s) (Full freed) e l = ends (AtLook s) (Full freed) _ e (λ seen is. (refl, refl))
-  phase_keeps (AtPlace s) (Accepted number) e l = ends (AtPlace s) (Accepted number) _ e (λ seen is. (refl, refl))
-  phase_keeps (AtPlace s) Gone e l = ends (AtPlace s) Gone _ e (λ seen is. (ap (λ b. outcome.Refused (gone b)) (sym is), refl))
-  phase_keeps (AtPlace s) Denied e l = ends (AtPlace s) Denied _ e (λ seen is. (refl, refl))
-  phase_keeps (AtPlace s) (Full freed) e l = ends (AtPlace s) (Full freed) _ e (λ seen is. (refl, refl))
-  phase_keeps (AtTake r) (Taken m) e l = ends (AtTake r) (Taken m) _ e (λ seen is. (refl, refl))
-  phase_keeps (AtTake r) Gone e l = ends (AtTake r) Gone _ e (λ seen is. (ap (λ b. outcome.Refused (gone b)) (sym is), refl))
-  phase_keeps (AtTake r) Denied e l = ends (AtTake r) Denied _ e (λ seen is. (refl, refl))
-  phase_keeps (AtTake r) (NoMatch arrived) e l = ends (AtTake r) (NoMatch arrived) _ e (λ seen is. (refl, refl))
-  phase_keeps (AtTake r) TooLong e l = ends (AtTake r) TooLong _ e (λ seen is. (refl, refl))
+      let next : Doing = record d0 { phase = AtPlace (record s { seen = true }) } in
+      subst (Inv (after_it w given place d0 (turn_call (AtLook s) now) Fits i at (Some next))) (sym (append-nil given)) (went_on s e)
+  phase_keeps (AtLook s) Gone e l = ends (AtLook s) Gone _ e (λ kind seen is. (ap (λ b. outcome.Refused (gone b)) (sym is), no_body d0.asked kind))
+  phase_keeps (AtLook s) Denied e l = ends (AtLook s) Denied _ e (λ kind seen is. (refl, no_body d0.asked kind))
+  phase_keeps (AtLook s) (Full freed) e l = ends (AtLook s) (Full freed) _ e (λ kind seen is. send_full d0.asked (suc place) freed seen kind)
+  phase_keeps (AtPlace s) (Accepted number) e l = ends (AtPlace s) (Accepted number) _ e (λ kind seen is. send_placed d0.asked (suc place) number seen kind)
+  phase_keeps (AtPlace s) Gone e l = ends (AtPlace s) Gone _ e (λ kind seen is. (ap (λ b. outcome.Refused (gone b)) (sym is), no_body d0.asked kind))
+  phase_keeps (AtPlace s) Denied e l = ends (AtPlace s) Denied _ e (λ kind seen is. (refl, no_body d0.asked kind))
+  phase_keeps (AtPlace s) (Full freed) e l = ends (AtPlace s) (Full freed) _ e (λ kind seen is. send_full d0.asked (suc place) freed seen kind)
+  phase_keeps (AtTake r) (Taken m) e l = ends (AtTake r) (Taken m) _ e (λ kind seen is. receive_taken d0.asked r.size (suc place) seen m kind)
+  phase_keeps (AtTake r) Gone e l = ends (AtTake r) Gone _ e (λ kind seen is. (ap (λ b. outcome.Refused (gone b)) (sym is), empty_body d0.asked r.size kind))
+  phase_keeps (AtTake r) Denied e l = ends (AtTake r) Denied _ e (λ kind seen is. (refl, empty_body d0.asked r.size kind))
+  phase_keeps (AtTake r) (NoMatch arrived) e l = ends (AtTake r) (NoMatch arrived) _ e (λ kind seen is. receive_none d0.asked r.size (suc place) arrived seen kind)
+  phase_keeps (AtTake r) TooLong e l = ends (AtTake r) TooLong _ e (λ kind seen is. receive_long d0.asked r.size (suc place) seen kind)
   phase_keeps (AtLook s) reply e l = absurd l
   phase_keeps (AtPlace s) reply e l = absurd l
   phase_keeps (AtTake r) reply e l = absurd l
@@ -375,48 +491,60 @@ before_it place = omega arith
 same_inv : (w after : World) (given more : List Given) → after ≡ w → more ≡ [] → Inv w given → Inv after (given ++ more)
 same_inv w after given more a m i = subst (λ v. Inv v (given ++ more)) (sym a) (subst (λ gs. Inv w (given ++ gs)) (sym m) (subst (Inv w) (sym (append-nil given)) i))
 
-stays : (w after : World) (given : List Given) (who : Who) (result : Stepped) → StaysWith w result after → Inv w given → Inv after (given ++ given_in who result)
-stays w after given who result s i = same_inv w after given (given_in who result) s.1 (ap (given_in who) s.0) i
+nothing_given : (call : Option Started) → given_in call stepped.Nothing ≡ []
+nothing_given None = refl
+nothing_given (Some call) = refl
+
+worn_given : (call : Option Started) → given_in call stepped.Worn ≡ []
+worn_given None = refl
+worn_given (Some call) = refl
+
+stays : (w after : World) (given : List Given) (call : Option Started) (result : Stepped) → StaysWith w result after → Inv w given → Inv after (given ++ given_in call result)
+stays w after given call result s i = same_inv w after given (given_in call result) s.1 (ap (given_in call) s.0 ∙ nothing_given call) i
+
+-- the call that starts now
+abbrev starting : World → ℕ → Cred → Call → Option Started
+starting w actor cred asked = Some record { who = Actor actor w.steps; cred = cred; asked = asked }
 
 start_keeps : (w after : World) (given : List Given) (place : ℕ) (cred : Cred) (c : Call) (result : Stepped) (o : Option (Option Doing)) → slice_get w.actors place ≡ o →
-    StartsAt w (suc place) cred c o result after → Inv w given → Inv after (given ++ given_in (Actor (suc place) w.steps) result)
-start_keeps w after given place cred c result None at s i = stays w after given (Actor (suc place) w.steps) result s i
-start_keeps w after given place cred c result (Some (Some d)) at s i = stays w after given (Actor (suc place) w.steps) result s i
+    StartsAt w (suc place) cred c o result after → Inv w given → Inv after (given ++ given_in (starting w (suc place) cred c) result)
+start_keeps w after given place cred c result None at s i = stays w after given (starting w (suc place) cred c) result s i
+start_keeps w after given place cred c result (Some (Some d)) at s i = stays w after given (starting w (suc place) cred c) result s i
 start_keeps w after given place cred c result (Some None) at (inl refused) i =
-    let who = Actor (suc place) w.steps in
-    let answer : Answer = record { actor = suc place; outcome = outcome.Refused EINVAL; body = body_back c } in
+    let who = starting w (suc place) cred c in
+    let answer : Answer = record { actor = suc place; result = outcome.Refused EINVAL; body = body_back c } in
     subst (λ v. Inv v (given ++ given_in who result)) (sym refused.2)
     (subst (λ (r : Stepped). Inv (record w { steps = w.steps + 1 }) (given ++ given_in who r)) (sym refused.1)
-    (begin_refused w given place answer i at (c, refused.0, refl, refl)))
+    (begin_refused w given place cred c answer i at refused.0 (refl, refl)))
 start_keeps w after given place cred c result (Some None) at (inr begun_now) i =
-    let who = Actor (suc place) w.steps in
-    let d0 : Doing = record { phase = begun cred c; start = w.steps } in
+    let who = starting w (suc place) cred c in
+    let d0 : Doing = record { phase = begun cred c; start = w.steps; cred = cred; asked = c } in
     let world : ℕ → World = λ n. record { history = w.history; actors = slice_set w.actors n (Some d0); steps = w.steps + 1 } in
     subst (λ v. Inv v (given ++ given_in who result)) (sym (begun_now.2 ∙ ap world (before_it place)))
     (subst (λ (r : Stepped). Inv (world place) (given ++ given_in who r)) (sym begun_now.1)
-    (subst (Inv (world place)) (sym (append-nil given)) (begin_ok w given place cred c i at)))
+    (subst (Inv (world place)) (sym (append-nil given)) (begin_ok w given place cred c i at begun_now.0)))
 
 step_keeps : (w after : World) (given : List Given) (place now : ℕ) (result : Stepped) (o : Option (Option Doing)) → slice_get w.actors place ≡ o →
-    StepsAt w (suc place) now o result after → Inv w given → Inv after (given ++ given_in (Actor (suc place) (started_at o)) result)
-step_keeps w after given place now result None at s i = stays w after given (Actor (suc place) 0) result s i
-step_keeps w after given place now result (Some None) at s i = stays w after given (Actor (suc place) 0) result s i
+    StepsAt w (suc place) now o result after → Inv w given → Inv after (given ++ given_in (call_at (suc place) o) result)
+step_keeps w after given place now result None at s i = stays w after given None result s i
+step_keeps w after given place now result (Some None) at s i = stays w after given None result s i
 step_keeps w after given place now result (Some (Some d)) at s i =
-    let who = Actor (suc place) d.start in
+    let who = Some (call_in (suc place) d) in
     let reply = s.0 in
-    let e : Entry = record { who = who; call = turn_call d.phase now; reply = reply } in
-    let world : ℕ → World = λ n. record { history = w.history ++ e ∷ []; actors = slice_set w.actors n (in_phase d.start (after_turn (suc place) d.phase reply).0); steps = w.steps + 1 } in
+    let e : Entry = record { who = Actor (suc place) d.start; call = turn_call d.phase now; reply = reply } in
+    let world : ℕ → World = λ n. record { history = w.history ++ e ∷ []; actors = slice_set w.actors n (in_phase d (after_turn (suc place) d.phase reply).0); steps = w.steps + 1 } in
     subst (λ v. Inv v (given ++ given_in who result)) (sym (s.3 ∙ ap world (before_it place)))
     (subst (λ (r : Stepped). Inv (world place) (given ++ given_in who r)) (sym s.2)
     (phase_keeps w given place d now i at d.phase reply refl s.1))
 
 makes_keeps : (w after : World) (given : List Given) (event : Event) (result : Stepped) → Makes w event result after → Inv w given → Inv after (given ++ given_in (call_of w event) result)
-makes_keeps w after given (Start zero cred c) result m i = stays w after given (Actor 0 w.steps) result m i
+makes_keeps w after given (Start zero cred c) result m i = stays w after given (starting w 0 cred c) result m i
 makes_keeps w after given (Start (suc place) cred c) result m i = start_keeps w after given place cred c result (slice_get w.actors place) refl m i
-makes_keeps w after given (Step zero now) result m i = stays w after given (Actor 0 0) result m i
+makes_keeps w after given (Step zero now) result m i = stays w after given None result m i
 makes_keeps w after given (Step (suc place) now) result m i = step_keeps w after given place now result (slice_get w.actors place) refl m i
 
 steps_keeps : (w after : World) (given : List Given) (event : Event) (result : Stepped) → Steps w event result after → Inv w given → Inv after (given ++ given_in (call_of w event) result)
-steps_keeps w after given event result (inl worn) i = same_inv w after given (given_in (call_of w event) result) worn.2 (ap (given_in (call_of w event)) worn.1) i
+steps_keeps w after given event result (inl worn) i = same_inv w after given (given_in (call_of w event) result) worn.2 (ap (given_in (call_of w event)) worn.1 ∙ worn_given (call_of w event)) i
 steps_keeps w after given event result (inr makes) i = makes_keeps w after given event result makes.1 i
 
 -- a preset is a turn of no actor's call
@@ -431,14 +559,14 @@ preset_keeps w after given m (inl one) i =
     let same : (place start : ℕ) → turns_of (Actor (suc place) start) (w.history ++ e ∷ []) ≡ turns_of (Actor (suc place) start) w.history = λ place start. same_turns (Actor (suc place) start) w.history e (not_preset place start) in
     subst (λ v. Inv v given) (sym one.2) record {
       before = pushed (λ (t : Entry). IsBefore w.steps t.who) w.history e i.before tt;
-      doing = λ place d at. ((i.doing place d at).0, subst (HasMade d.phase) (sym (same place d.start)) (i.doing place d at).1);
+      doing = λ place d at. ((i.doing place d at).0, subst (IsGoing d) (sym (same place d.start)) (i.doing place d at).1);
       answered = weaker_all (WasAnswered w) (WasAnswered next) (λ g a. record {
         place = a.place;
         start = a.start;
         is = a.is;
         before = a.before;
-        by = subst (λ who. IsAnsweredBy (turns_of who (w.history ++ e ∷ [])) g.answer) (sym a.is)
-            (subst (λ ts. IsAnsweredBy ts g.answer) (sym (same a.place a.start)) (subst (λ who. IsAnsweredBy (turns_of who w.history) g.answer) a.is a.by));
+        by = subst (λ who. IsAnsweredBy g.call (turns_of who (w.history ++ e ∷ [])) g.answer) (sym a.is)
+            (subst (λ ts. IsAnsweredBy g.call ts g.answer) (sym (same a.place a.start)) (subst (λ who. IsAnsweredBy g.call (turns_of who w.history) g.answer) a.is a.by));
         over = a.over;
       }) given i.answered;
       once = i.once;
@@ -455,10 +583,10 @@ leads_keep w after given more (x ∷ xs) l i =
     (subst (Inv after) (append_assoc given l.1 l.2) (leads_keep l.0 after (given ++ l.1) l.2 xs l.4 (goes_keeps w l.0 given l.1 x l.3 i)))
 
 pub answers_decided : (n : ℕ) (xs : List Happening) (given : List Given) (w : World) → Leads (opening n) xs given w →
-    All (λ (g : Given). IsAnsweredBy (turns_of g.who w.history) g.answer) given × AllPairs (λ (f g : Given). f.who ≢ g.who) given
+    All (λ (g : Given). IsAnsweredBy g.call (turns_of g.call.who w.history) g.answer) given × AllPairs (λ (f g : Given). f.call.who ≢ g.call.who) given
 answers_decided n xs given w l =
     let i = leads_keep (opening n) w [] given xs l (inv_opening n) in (
-      All-from_recursion (λ (g : Given). IsAnsweredBy (turns_of g.who w.history) g.answer) given
-          (weaker_all (WasAnswered w) (λ (g : Given). IsAnsweredBy (turns_of g.who w.history) g.answer) (λ g a. a.by) given i.answered),
+      All-from_recursion (λ (g : Given). IsAnsweredBy g.call (turns_of g.call.who w.history) g.answer) given
+          (weaker_all (WasAnswered w) (λ (g : Given). IsAnsweredBy g.call (turns_of g.call.who w.history) g.answer) (λ g a. a.by) given i.answered),
       i.once,
     )

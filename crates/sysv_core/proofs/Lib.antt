@@ -2,6 +2,7 @@ pub mod Lists
 pub mod SeenSteps
 pub mod KeptActors
 pub mod Answering
+pub mod Starting
 pub mod Telling
 pub mod Addressing
 pub mod Runs

@@ -1,5 +1,5 @@
 -- Places in lists, and what is kept of each element.
-use Rattle.std.proofs.Common.{◌≡◌, ℕ, zero, suc, List, [], ◌∷◌, Some, refl, sym, ap, arith, length, map, slice_get, slice_set, replicate}
+use Rattle.std.proofs.Common.{◌≡◌, ◌≢◌, ◌⊎◌, inl, inr, ℕ, zero, suc, List, [], ◌∷◌, Some, refl, sym, ap, arith, length, map, slice_get, slice_set, replicate}
 
 pub map-slice_set : {X Y : Type 0} (f : X → Y) (xs : List X) (i : ℕ) (x : X) → map f (slice_set xs i x) ≡ slice_set (map f xs) i (f x)
 map-slice_set f [] i x = refl
@@ -23,3 +23,21 @@ slice_set-twice (z ∷ xs) (suc i) x y = ap (λ ys. z ∷ ys) (slice_set-twice x
 pub none_in : {X : Type 0} (xs : List X) → length xs ≡ 0 → xs ≡ []
 none_in [] h = refl
 none_in (x ∷ xs) h = absurd (omega arith)
+
+pub get_set_same : {X : Type 0} (xs : List X) (i : ℕ) (x y : X) → slice_get xs i ≡ Some y → slice_get (slice_set xs i x) i ≡ Some x
+get_set_same [] i x y e = absurd cc
+get_set_same (z ∷ xs) zero x y e = refl
+get_set_same (z ∷ xs) (suc i) x y e = get_set_same xs i x y e
+
+pub get_set_other : {X : Type 0} (xs : List X) (i j : ℕ) (x : X) → i ≢ j → slice_get (slice_set xs i x) j ≡ slice_get xs j
+get_set_other [] i j x f = refl
+get_set_other (z ∷ xs) zero zero x f = absurd (f refl)
+get_set_other (z ∷ xs) zero (suc j) x f = refl
+get_set_other (z ∷ xs) (suc i) zero x f = refl
+get_set_other (z ∷ xs) (suc i) (suc j) x f = get_set_other xs i j x (λ e. f (ap suc e))
+
+pub same_place : (i j : ℕ) → (i ≡ j) ⊎ (i ≢ j)
+same_place zero zero = inl refl
+same_place zero (suc j) = inr (λ e. omega arith)
+same_place (suc i) zero = inr (λ e. omega arith)
+same_place (suc i) (suc j) = elim (same_place i j) [ inl e ↦ inl (ap suc e) | inr f ↦ inr (λ e. f (omega arith)) ]

@@ -40,7 +40,7 @@ module _ (one : NoTwoRepliesAreLegal) where
       let same : h.0 ≡ k.0 = one w.history (turn_call doing.phase now) h.0 k.0 h.1 k.1 in
       let turned : Reply → World = λ reply. record {
         history = then_turn w.history (Actor actor doing.start) (turn_call doing.phase now) reply;
-        actors = with_actor w.actors actor (in_phase doing.start (after_turn actor doing.phase reply).0);
+        actors = with_actor w.actors actor (in_phase doing (after_turn actor doing.phase reply).0);
         steps = w.steps + 1;
       } in (
         h.2 ∙ (ap (λ reply. (after_turn actor doing.phase reply).1) same ∙ sym k.2),

@@ -1,20 +1,22 @@
 -- A list that leads somewhere goes on by one more happening.
-use Rattle.std.proofs.Common.{◌≡◌, ℕ, ◌≤◌, ◌<◌, ◌^◌, ◌⊎◌, inl, inr, Bool, List, [], ◌∷◌, ◌++◌, refl, sym, ap, subst, ◌∙◌, append_assoc, map}
+use Rattle.std.proofs.Common.{◌≡◌, ℕ, ◌≤◌, ◌<◌, ◌^◌, ◌⊎◌, inl, inr, Bool, List, [], ◌∷◌, ◌++◌, Option, None, Some, refl, sym, ap, subst, ◌∙◌, append_assoc, map}
 use Rattle.std.proofs.lemmas.List.{append-nil, map-append}
 use Rattle.sysv_core.specs.declared.event.Event.{Event}
+use Rattle.sysv_core.specs.declared.event.Event.TheVariants.{Start, Step}
 use Rattle.sysv_core.specs.declared.event.Answer.{Answer}
 use Rattle.sysv_core.specs.declared.event.Stepped.{Stepped}
 use Rattle.sysv_core.specs.declared.event.Stepped.TheVariants as stepped
-use Rattle.sysv_model.specs.History.{Who, History}
-use Rattle.sysv_core.specs.World.{World, opening, Steps, Makes, Presets}
+use Rattle.sysv_model.specs.History.{Actor, History}
+use Rattle.sysv_core.specs.World.{World, Doing, opening, actor_at, Steps, StepsAt, Makes, Presets}
 use Rattle.sysv_core.specs.Seen.{Seen, IsSeenAs}
 use Rattle.sysv_queue.specs.LegalReply.{IsLegalHistory}
 use Rattle.sysv_queue.specs.QueueLaw.{QueueLaw}
 use Rattle.sysv_core.specs.Headline.{RunsOn, LawsHold}
 use Rattle.sysv_core.proofs.Answering.{answers_decided}
+use Rattle.sysv_core.proofs.Starting.{answered_started}
 use Rattle.sysv_core.proofs.Telling.{enders_told}
 use Rattle.sysv_core.proofs.Addressing.{all_to_callers}
-use Rattle.sysv_core.specs.Run.{Happening, Preset, Happens, Given, Goes, Leads, StandsFor, call_of, given_in, answers_in, answers_of}
+use Rattle.sysv_core.specs.Run.{Happening, Preset, Happens, Given, Goes, Leads, StandsFor, Started, call_of, call_in, call_at, given_in, answers_in, answers_of}
 
 pub leads_more : (w : World) (xs : List Happening) (x : Happening) (given more : List Given) (mid after : World) →
     Leads w xs given mid → Goes mid x more after → Leads w (xs ++ x ∷ []) (given ++ more) after
@@ -26,10 +28,29 @@ leads_more w (y ∷ xs) x given more mid after l g =
     let rest = leads_more l.0 xs x l.2 more mid after l.4 g in
     (l.0, l.1, l.2 ++ more, l.3, rest, ap (λ gs. gs ++ more) l.5 ∙ append_assoc l.1 l.2 more)
 
-pub answers_given : (who : Who) (s : Stepped) → answers_of (given_in who s) ≡ answers_in s
-answers_given who (stepped.Answer a) = refl
-answers_given who stepped.Nothing = refl
-answers_given who stepped.Worn = refl
+answers_given : (call : Started) (s : Stepped) → answers_of (given_in (Some call) s) ≡ answers_in s
+answers_given call (stepped.Answer a) = refl
+answers_given call stepped.Nothing = refl
+answers_given call stepped.Worn = refl
+
+-- a step of an actor that is in no call gives nothing
+step_answers : (w after : World) (actor now : ℕ) (result : Stepped) (o : Option (Option Doing)) → StepsAt w actor now o result after → answers_of (given_in (call_at actor o) result) ≡ answers_in result
+step_answers w after actor now result None s = sym (ap answers_in s.0)
+step_answers w after actor now result (Some None) s = sym (ap answers_in s.0)
+step_answers w after actor now result (Some (Some d)) s = answers_given (call_in actor d) result
+
+makes_answers : (w after : World) (event : Event) (result : Stepped) → Makes w event result after → answers_of (given_in (call_of w event) result) ≡ answers_in result
+makes_answers w after (Start actor cred call) result m = answers_given (record { who = Actor actor w.steps; cred = cred; asked = call }) result
+makes_answers w after (Step actor now) result m = step_answers w after actor now result (actor_at w.actors actor) m
+
+worn_answers : (call : Option Started) → answers_of (given_in call stepped.Worn) ≡ []
+worn_answers None = refl
+worn_answers (Some call) = refl
+
+event_answers : (w after : World) (event : Event) (result : Stepped) → Steps w event result after → answers_of (given_in (call_of w event) result) ≡ answers_in result
+event_answers w after event result (inl worn) =
+    ap (λ r. answers_of (given_in (call_of w event) r)) worn.1 ∙ (worn_answers (call_of w event) ∙ sym (ap answers_in worn.1))
+event_answers w after event result (inr makes) = makes_answers w after event result makes.1
 
 pub stands_preset : (n : ℕ) (es : List Happening) (given : List Given) (old new : Seen) (made : Bool) → StandsFor n es given old →
     ((w : World) → IsSeenAs w old → (after : World) × Presets w made after × IsSeenAs after new) → StandsFor n (es ++ Preset ∷ []) given new
@@ -48,7 +69,7 @@ stands_step n es given old new event result s goes =
     let g = goes s.world s.sight in
     let more = given_in (call_of s.world event) result in (
       more,
-      answers_given (call_of s.world event) result,
+      event_answers s.world g.0 event result g.1,
       record {
         world = g.0;
         led = leads_more (opening n) es (Happens event) given more s.world g.0 s.led (result, g.1, refl);
@@ -108,6 +129,7 @@ laws_hold law seen = λ n es given s.
     record {
       queue = law s.world.history s.sight.slot.legal;
       answers = decided.0;
+      started = answered_started n es given s.world s.led;
       once = decided.1;
       addressed = all_to_callers es (opening n) s.world given s.led;
       told = enders_told n es given s.world s.led;

@@ -75,11 +75,11 @@ module _ (w : World) (seen : Seen) (s : IsSeenAs w seen) where
       (w, subst (λ o. StartsAt w actor cred call o stepped.Nothing w) (sym (at actor place e ∙ d.1)) (refl, refl), s)
 
   pub start_refused : (actor place : ℕ) (cred : Cred) (call : Call) → actor ≡ place + 1 → slice_get seen.phases place ≡ Some None → IsRefused call →
-      (after : World) × Makes w (Start actor cred call) (stepped.Answer record { actor = actor; outcome = outcome.Refused EINVAL; body = body_back call }) after
+      (after : World) × Makes w (Start actor cred call) (stepped.Answer record { actor = actor; result = outcome.Refused EINVAL; body = body_back call }) after
       × IsSeenAs after (record seen { steps = seen.steps + 1 })
   start_refused actor place cred call e h refused =
       let after : World = record w { steps = w.steps + 1 } in
-      let given : Stepped = stepped.Answer record { actor = actor; outcome = outcome.Refused EINVAL; body = body_back call } in (
+      let given : Stepped = stepped.Answer record { actor = actor; result = outcome.Refused EINVAL; body = body_back call } in (
         after,
         subst (λ o. StartsAt w actor cred call o given after) (sym (at actor place e ∙ idle_at place h)) (inl (refused, refl, refl)),
         record { slot = s.slot; phases = s.phases; steps = ap (λ n. n + 1) s.steps },
@@ -89,7 +89,7 @@ module _ (w : World) (seen : Seen) (s : IsSeenAs w seen) where
       (after : World) × Makes w (Start actor cred call) stepped.Nothing after
       × IsSeenAs after (record seen { phases = slice_set seen.phases place (Some (begun cred call)); steps = seen.steps + 1 })
   start_begun actor place cred call e h allowed =
-      let d : Doing = record { phase = begun cred call; start = w.steps } in
+      let d : Doing = record { phase = begun cred call; start = w.steps; cred = cred; asked = call } in
       let after : World = record w { actors = with_actor w.actors actor (Some d); steps = w.steps + 1 } in (
         after,
         subst (λ o. StartsAt w actor cred call o stepped.Nothing after) (sym (at actor place e ∙ idle_at place h)) (inr (allowed, refl, refl)),
@@ -104,9 +104,9 @@ module _ (w : World) (seen : Seen) (s : IsSeenAs w seen) where
   pub step_idle : (actor place now : ℕ) → actor ≡ place + 1 → slice_get seen.phases place ≡ Some None → (after : World) × Makes w (Step actor now) stepped.Nothing after × IsSeenAs after seen
   step_idle actor place now e h = (w, subst (λ o. StepsAt w actor now o stepped.Nothing w) (sym (at actor place e ∙ idle_at place h)) (refl, refl), s)
 
-  phase_next : (start : ℕ) (o : Option Phase) → phase_in (in_phase start o) ≡ o
-  phase_next start None = refl
-  phase_next start (Some p) = refl
+  phase_next : (doing : Doing) (o : Option Phase) → phase_in (in_phase doing o) ≡ o
+  phase_next doing None = refl
+  phase_next doing (Some p) = refl
 
   pub step_turn : (actor place now : ℕ) (p : Phase) (reply : Reply) (slot : Slot) → actor ≡ place + 1 → slice_get seen.phases place ≡ Some (Some p) → MakesTurn seen.slot (turn_call p now) reply slot →
       (after : World) × Makes w (Step actor now) (after_turn actor p reply).1 after
@@ -119,7 +119,7 @@ module _ (w : World) (seen : Seen) (s : IsSeenAs w seen) where
       let turned : MakesTurn seen.slot (turn_call d.phase now) reply slot = subst (λ q. MakesTurn seen.slot (turn_call q now) reply slot) (sym same) turn in
       let after : World = record {
         history = then_turn w.history who (turn_call d.phase now) reply;
-        actors = with_actor w.actors actor (in_phase d.start (after_turn actor d.phase reply).0);
+        actors = with_actor w.actors actor (in_phase d (after_turn actor d.phase reply).0);
         steps = w.steps + 1;
       } in
       let given : Stepped = (after_turn actor p reply).1 in (
@@ -128,8 +128,8 @@ module _ (w : World) (seen : Seen) (s : IsSeenAs w seen) where
             (reply, subst (λ x. Legal x (turn_call d.phase now) reply) (sym s.slot.seen) turned.legal, ap (λ q. (after_turn actor q reply).1) (sym same), refl),
         record {
           slot = turned.stands w.history who s.slot;
-          phases = placed actor place (in_phase d.start (after_turn actor d.phase reply).0) e
-              ∙ ap (slice_set seen.phases place) (phase_next d.start (after_turn actor d.phase reply).0 ∙ ap (λ q. (after_turn actor q reply).0) same);
+          phases = placed actor place (in_phase d (after_turn actor d.phase reply).0) e
+              ∙ ap (slice_set seen.phases place) (phase_next d (after_turn actor d.phase reply).0 ∙ ap (λ q. (after_turn actor q reply).0) same);
           steps = ap (λ n. n + 1) s.steps;
         },
       )

@@ -63,13 +63,13 @@ turn_there (AtTake receive) now = tt
 begins_somewhere : (w : World) (actor : ℕ) (cred : Cred) (call : Call) → (given : Stepped) × (after : World) × Begins w actor cred call given after
 begins_somewhere w actor cred call = elim (refused_or_not call) [
   | inl refused ↦ (
-    stepped.Answer record { actor = actor; outcome = outcome.Refused EINVAL; body = body_back call },
+    stepped.Answer record { actor = actor; result = outcome.Refused EINVAL; body = body_back call },
     record w { steps = w.steps + 1 },
     inl (refused, refl, refl),
   )
   | inr not ↦ (
     stepped.Nothing,
-    record w { actors = with_actor w.actors actor (Some record { phase = begun cred call; start = w.steps }); steps = w.steps + 1 },
+    record w { actors = with_actor w.actors actor (Some record { phase = begun cred call; start = w.steps; cred = cred; asked = call }); steps = w.steps + 1 },
     inr (not, refl, refl),
   )
 ]
@@ -95,7 +95,7 @@ module _ (some : SomeReplyIsLegal) where
         (after_turn actor doing.phase found.0).1,
         record {
           history = then_turn w.history (Actor actor doing.start) (turn_call doing.phase now) found.0;
-          actors = with_actor w.actors actor (in_phase doing.start (after_turn actor doing.phase found.0).0);
+          actors = with_actor w.actors actor (in_phase doing (after_turn actor doing.phase found.0).0);
           steps = w.steps + 1;
         },
         (found.0, found.1, refl, refl),

@@ -12,7 +12,7 @@ use Rattle.sysv_core.specs.declared.event.Stepped.{Stepped}
 use Rattle.sysv_core.specs.Phase.{Phase, AtLook, AtPlace, AtTake}
 use Rattle.sysv_core.specs.Turn.{turn_call, after_turn}
 use Rattle.sysv_core.specs.World.{World, Doing, opening, actor_at, StartsAt, StepsAt, Makes, Steps, Presets, preset_call}
-use Rattle.sysv_core.specs.Run.{Happening, Preset, Happens, Given, Goes, Leads, call_of, given_in, started_at}
+use Rattle.sysv_core.specs.Run.{Happening, Preset, Happens, Given, Goes, Leads, Started, call_of, call_in, call_at, given_in}
 use Rattle.sysv_core.specs.AnswerLaw.{ends_call, IsTold}
 
 abbrev Told : List Given → Entry → Type 0
@@ -28,28 +28,28 @@ told_still : (given more : List Given) (h : History) → AllTold given h → All
 told_still given more h a = All-weaker (Told given) (Told (given ++ more))
     (λ e t ends. let was = t ends in (was.0, Contains-append_left given more was.0 was.1, was.2)) h a
 
-told_now : (given : List Given) (g : Given) → (h : Given) × Contains (given ++ g ∷ []) h × (h.who ≡ g.who)
+told_now : (given : List Given) (g : Given) → (h : Given) × Contains (given ++ g ∷ []) h × (h.call.who ≡ g.call.who)
 told_now given g = (g, Contains-push given g, refl)
 
 -- a turn of a call, and what the call gave then
-turn_told : (actor now : ℕ) (who : Who) (h : History) (given : List Given) (p : Phase) (reply : Reply) → IsLegalReply h (turn_call p now) reply →
-    Told (given ++ given_in who (after_turn actor p reply).1) record { who = who; call = turn_call p now; reply = reply }
-turn_told actor now who h given (AtLook s) Gone l = λ ends. told_now given _
-turn_told actor now who h given (AtLook s) Denied l = λ ends. told_now given _
-turn_told actor now who h given (AtLook s) (Full freed) l = λ ends. told_now given _
-turn_told actor now who h given (AtLook s) Fits l = λ ends. not_ended ends
-turn_told actor now who h given (AtPlace s) (Accepted number) l = λ ends. told_now given _
-turn_told actor now who h given (AtPlace s) Gone l = λ ends. told_now given _
-turn_told actor now who h given (AtPlace s) Denied l = λ ends. told_now given _
-turn_told actor now who h given (AtPlace s) (Full freed) l = λ ends. told_now given _
-turn_told actor now who h given (AtTake r) (Taken m) l = λ ends. told_now given _
-turn_told actor now who h given (AtTake r) Gone l = λ ends. told_now given _
-turn_told actor now who h given (AtTake r) Denied l = λ ends. told_now given _
-turn_told actor now who h given (AtTake r) (NoMatch arrived) l = λ ends. told_now given _
-turn_told actor now who h given (AtTake r) TooLong l = λ ends. told_now given _
-turn_told actor now who h given (AtLook s) reply l = absurd l
-turn_told actor now who h given (AtPlace s) reply l = absurd l
-turn_told actor now who h given (AtTake r) reply l = absurd l
+turn_told : (actor now : ℕ) (call : Started) (h : History) (given : List Given) (p : Phase) (reply : Reply) → IsLegalReply h (turn_call p now) reply →
+    Told (given ++ given_in (Some call) (after_turn actor p reply).1) record { who = call.who; call = turn_call p now; reply = reply }
+turn_told actor now call h given (AtLook s) Gone l = λ ends. told_now given _
+turn_told actor now call h given (AtLook s) Denied l = λ ends. told_now given _
+turn_told actor now call h given (AtLook s) (Full freed) l = λ ends. told_now given _
+turn_told actor now call h given (AtLook s) Fits l = λ ends. not_ended ends
+turn_told actor now call h given (AtPlace s) (Accepted number) l = λ ends. told_now given _
+turn_told actor now call h given (AtPlace s) Gone l = λ ends. told_now given _
+turn_told actor now call h given (AtPlace s) Denied l = λ ends. told_now given _
+turn_told actor now call h given (AtPlace s) (Full freed) l = λ ends. told_now given _
+turn_told actor now call h given (AtTake r) (Taken m) l = λ ends. told_now given _
+turn_told actor now call h given (AtTake r) Gone l = λ ends. told_now given _
+turn_told actor now call h given (AtTake r) Denied l = λ ends. told_now given _
+turn_told actor now call h given (AtTake r) (NoMatch arrived) l = λ ends. told_now given _
+turn_told actor now call h given (AtTake r) TooLong l = λ ends. told_now given _
+turn_told actor now call h given (AtLook s) reply l = absurd l
+turn_told actor now call h given (AtPlace s) reply l = absurd l
+turn_told actor now call h given (AtTake r) reply l = absurd l
 
 -- the history does not change
 same_history : (w after : World) (given more : List Given) → after.history ≡ w.history → AllTold given w.history → AllTold (given ++ more) after.history
@@ -65,17 +65,17 @@ start_adds_none w after actor cred call result (Some None) (inr s) = ap history_
 start_adds_none w after actor cred call result (Some (Some d)) s = ap history_of s.1
 
 step_tells : (w after : World) (given : List Given) (actor now : ℕ) (result : Stepped) (o : Option (Option Doing)) → StepsAt w actor now o result after →
-    AllTold given w.history → AllTold (given ++ given_in (Actor actor (started_at o)) result) after.history
+    AllTold given w.history → AllTold (given ++ given_in (call_at actor o) result) after.history
 step_tells w after given actor now result None s a = same_history w after given _ (ap history_of s.1) a
 step_tells w after given actor now result (Some None) s a = same_history w after given _ (ap history_of s.1) a
 step_tells w after given actor now result (Some (Some d)) s a =
-    let who : Who = Actor actor d.start in
-    let e : Entry = record { who = who; call = turn_call d.phase now; reply = s.0 } in
-    let more : List Given = given_in who (after_turn actor d.phase s.0).1 in
+    let call : Started = call_in actor d in
+    let e : Entry = record { who = call.who; call = turn_call d.phase now; reply = s.0 } in
+    let more : List Given = given_in (Some call) (after_turn actor d.phase s.0).1 in
     let all : AllTold (given ++ more) (w.history ++ e ∷ []) =
-    All-push (Told (given ++ more)) w.history e (told_still given more w.history a) (turn_told actor now who w.history given d.phase s.0 s.1) in
-    subst (AllTold (given ++ given_in who result)) (sym (ap history_of s.3))
-    (subst (λ (r : Stepped). AllTold (given ++ given_in who r) (w.history ++ e ∷ [])) (sym s.2) all)
+    All-push (Told (given ++ more)) w.history e (told_still given more w.history a) (turn_told actor now call w.history given d.phase s.0 s.1) in
+    subst (AllTold (given ++ given_in (Some call) result)) (sym (ap history_of s.3))
+    (subst (λ (r : Stepped). AllTold (given ++ given_in (Some call) r) (w.history ++ e ∷ [])) (sym s.2) all)
 
 makes_tells : (w after : World) (given : List Given) (event : Event) (result : Stepped) → Makes w event result after →
     AllTold given w.history → AllTold (given ++ given_in (call_of w event) result) after.history

@@ -17,7 +17,7 @@ use Rattle.sysv_core.specs.Phase.{Phase, AtLook, AtPlace, AtTake}
 use Rattle.sysv_core.specs.Begin.{IsRefused, begun}
 use Rattle.sysv_core.specs.World.{World, opening, with_actor}
 use Rattle.sysv_core.specs.Run.{Happening, Preset, Given, Goes, Leads}
-use Rattle.sysv_core.specs.WorkedRun.{sender, receiver, hello, receive_up_to_100, send_hello, send_nothing, one_starts, two_starts, steps, the_happenings, the_answers, answer_of, hello_message, empty_message, take_by, look_for, place_hello, place_nothing, WorkedRun, after_turns, NoWrongReply, start_of, ExactFit}
+use Rattle.sysv_core.specs.WorkedRun.{sender, receiver, hello, receive_up_to_100, send_hello, send_nothing, one_starts, two_starts, steps, the_happenings, the_answers, one_is_told, two_is_told, hello_message, empty_message, take_by, look_for, place_hello, place_nothing, WorkedRun, after_turns, NoWrongReply, start_of, ExactFit}
 
 -- ---- the legal replies of the run
 
@@ -81,9 +81,9 @@ start_nothing (inr (inr h)) = omega (arith, ints)
 abbrev idle_at : (turns count : ℕ) → World
 idle_at turns count = record { history = after_turns turns; actors = (opening 16).actors; steps = count }
 
-abbrev calling_at : (turns count actor : ℕ) → Phase → (start : ℕ) → World
-calling_at turns count actor phase start =
-    record { history = after_turns turns; actors = with_actor (opening 16).actors actor (Some record { phase = phase; start = start }); steps = count }
+abbrev calling_at : (turns count actor : ℕ) → Phase → (start : ℕ) → Cred → Call → World
+calling_at turns count actor phase start cred call =
+    record { history = after_turns turns; actors = with_actor (opening 16).actors actor (Some record { phase = phase; start = start; cred = cred; asked = call }); steps = count }
 
 abbrev look_of : List ℕ → ℤ → Phase
 look_of text mtype = AtLook record { cred = sender; id = pos 0; mtype = mtype; bytes = text; seen = false }
@@ -107,35 +107,35 @@ goes_preset : Went (opening 16) Preset [] (idle_at 1 0)
 goes_preset = record { goes = (refl, (true, inl (refl, refl, refl))) }
 
 one_goes : (turns count : ℕ) (call : Call) → count < 2 ^ 62 → ¬ IsRefused call →
-    Went (idle_at turns count) (one_starts call) [] (calling_at turns (count + 1) 1 (begun sender call) count)
+    Went (idle_at turns count) (one_starts call) [] (calling_at turns (count + 1) 1 (begun sender call) count sender call)
 one_goes turns count call fresh allowed = record { goes = (stepped.Nothing, inr (fresh, inr (allowed, refl, refl)), refl) }
 
 two_goes : (turns count : ℕ) (call : Call) → count < 2 ^ 62 → ¬ IsRefused call →
-    Went (idle_at turns count) (two_starts call) [] (calling_at turns (count + 1) 2 (begun receiver call) count)
+    Went (idle_at turns count) (two_starts call) [] (calling_at turns (count + 1) 2 (begun receiver call) count receiver call)
 two_goes turns count call fresh allowed = record { goes = (stepped.Nothing, inr (fresh, inr (allowed, refl, refl)), refl) }
 
-goes_none : Went (calling_at 1 1 1 (take_of sender) 0) (steps 1) (answer_of 1 0 (outcome.Refused ENOMSG) (Some []) ∷ []) (idle_at 2 2)
+goes_none : Went (calling_at 1 1 1 (take_of sender) 0 sender receive_up_to_100) (steps 1) (one_is_told 0 receive_up_to_100 (outcome.Refused ENOMSG) (Some []) ∷ []) (idle_at 2 2)
 goes_none = record { goes = (_, inr (omega arith, (NoMatch 0, legal_none, refl, refl)), refl) }
 
-goes_look : Went (calling_at 2 3 1 (look_of hello (pos 5)) 2) (steps 1) [] (calling_at 3 4 1 (place_of hello (pos 5)) 2)
+goes_look : Went (calling_at 2 3 1 (look_of hello (pos 5)) 2 sender send_hello) (steps 1) [] (calling_at 3 4 1 (place_of hello (pos 5)) 2 sender send_hello)
 goes_look = record { goes = (stepped.Nothing, inr (omega arith, (Fits, legal_look, refl, refl)), refl) }
 
-goes_place : Went (calling_at 3 4 1 (place_of hello (pos 5)) 2) (steps 1) (answer_of 1 2 outcome.Zero None ∷ []) (idle_at 4 5)
+goes_place : Went (calling_at 3 4 1 (place_of hello (pos 5)) 2 sender send_hello) (steps 1) (one_is_told 2 send_hello outcome.Zero None ∷ []) (idle_at 4 5)
 goes_place = record { goes = (_, inr (omega arith, (Accepted 0, legal_place, refl, refl)), refl) }
 
-goes_second_look : Went (calling_at 4 6 1 (look_of [] (pos 2)) 5) (steps 1) [] (calling_at 5 7 1 (place_of [] (pos 2)) 5)
+goes_second_look : Went (calling_at 4 6 1 (look_of [] (pos 2)) 5 sender send_nothing) (steps 1) [] (calling_at 5 7 1 (place_of [] (pos 2)) 5 sender send_nothing)
 goes_second_look = record { goes = (stepped.Nothing, inr (omega arith, (Fits, legal_second_look, refl, refl)), refl) }
 
-goes_second_place : Went (calling_at 5 7 1 (place_of [] (pos 2)) 5) (steps 1) (answer_of 1 5 outcome.Zero None ∷ []) (idle_at 6 8)
+goes_second_place : Went (calling_at 5 7 1 (place_of [] (pos 2)) 5 sender send_nothing) (steps 1) (one_is_told 5 send_nothing outcome.Zero None ∷ []) (idle_at 6 8)
 goes_second_place = record { goes = (_, inr (omega arith, (Accepted 1, legal_second_place, refl, refl)), refl) }
 
-goes_take : Went (calling_at 6 9 2 (take_of receiver) 8) (steps 2) (answer_of 2 8 (outcome.Got (pos 5) 5) (Some hello) ∷ []) (idle_at 7 10)
+goes_take : Went (calling_at 6 9 2 (take_of receiver) 8 receiver receive_up_to_100) (steps 2) (two_is_told 8 receive_up_to_100 (outcome.Got (pos 5) 5) (Some hello) ∷ []) (idle_at 7 10)
 goes_take = record { goes = (_, inr (omega arith, (Taken hello_message, legal_take, refl, refl)), refl) }
 
-goes_second_take : Went (calling_at 7 11 2 (take_of receiver) 10) (steps 2) (answer_of 2 10 (outcome.Got (pos 2) 0) (Some []) ∷ []) (idle_at 8 12)
+goes_second_take : Went (calling_at 7 11 2 (take_of receiver) 10 receiver receive_up_to_100) (steps 2) (two_is_told 10 receive_up_to_100 (outcome.Got (pos 2) 0) (Some []) ∷ []) (idle_at 8 12)
 goes_second_take = record { goes = (_, inr (omega arith, (Taken empty_message, legal_second_take, refl, refl)), refl) }
 
-goes_third_take : Went (calling_at 8 13 2 (take_of receiver) 12) (steps 2) (answer_of 2 12 (outcome.Refused ENOMSG) (Some []) ∷ []) (idle_at 9 14)
+goes_third_take : Went (calling_at 8 13 2 (take_of receiver) 12 receiver receive_up_to_100) (steps 2) (two_is_told 12 receive_up_to_100 (outcome.Refused ENOMSG) (Some []) ∷ []) (idle_at 9 14)
 goes_third_take = record { goes = (_, inr (omega arith, (NoMatch 2, legal_third_take, refl, refl)), refl) }
 
 -- ---- the run
@@ -147,7 +147,7 @@ over : Led (idle_at 9 14) [] [] (idle_at 9 14)
 over = record { leads = (refl, refl) }
 
 receives_then : Led (idle_at 7 10) (two_starts receive_up_to_100 ∷ steps 2 ∷ two_starts receive_up_to_100 ∷ steps 2 ∷ [])
-    (answer_of 2 10 (outcome.Got (pos 2) 0) (Some []) ∷ answer_of 2 12 (outcome.Refused ENOMSG) (Some []) ∷ []) (idle_at 9 14)
+    (two_is_told 10 receive_up_to_100 (outcome.Got (pos 2) 0) (Some []) ∷ two_is_told 12 receive_up_to_100 (outcome.Refused ENOMSG) (Some []) ∷ []) (idle_at 9 14)
 receives_then = on (two_goes 7 10 receive_up_to_100 (omega arith) start_receive) (on goes_second_take
     (on (two_goes 8 12 receive_up_to_100 (omega arith) start_receive) (on goes_third_take over)))
 

@@ -1,19 +1,25 @@
--- The law of the answers: a call's answer is decided by its own turns. It answers with the turn that
--- ends it, by the reply of that turn; a send answers zero exactly where a place of it was accepted,
--- and a receive a message exactly where a take of it was given that message. No call is answered
--- twice, and each that made a turn which ends it is answered; each answer goes to the caller.
+-- The law of the answers: a call's answer is decided by what was asked and by its own turns. A call
+-- whose own arguments are refused makes no turn and answers at its start. Any other makes the turns
+-- that it asks for and answers with the turn that ends it, by the reply of that turn; a send answers
+-- zero exactly where a place of it was accepted, and a receive a message exactly where a take of it was
+-- given that message. Each answer is of a call that was started, and goes to its caller; no call is
+-- answered twice, and each that made a turn which ends it is answered.
 -- (POSIX.1-2017, msgsnd and msgrcv, RETURN VALUE and ERRORS; which refusal comes first is this
 -- profile's.)
-use Rattle.std.specs.Prelude.{◌≡◌, ◌⊎◌, ◌==◌, ◌&&◌, ℕ, Bool, true, false, List, [], ◌∷◌, ◌++◌, length, take, Option, None, Some, All, Contains, filter, if◌then◌else◌}
+use Rattle.std.specs.Prelude.{◌≡◌, ◌⊎◌, ◌==◌, ◌&&◌, ℕ, Bool, true, false, List, [], ◌∷◌, ◌++◌, length, take, None, Some, All, Contains, filter, if◌then◌else◌}
 use Rattle.std.specs.List.{list_any}
+use Rattle.sysv_model.specs.declared.cred.Cred.{Cred}
 use Rattle.sysv_model.specs.declared.errno.Errno.{Errno}
 use Rattle.sysv_model.specs.declared.errno.Errno.TheVariants.{EINVAL, EIDRM, EACCES, EAGAIN, ENOMSG, E2BIG}
-use Rattle.sysv_model.specs.History.{Who, Actor, Seat, Call, Take, Reply, Gone, Denied, Full, Fits, Accepted, NoMatch, TooLong, Taken, Entry, History}
+use Rattle.sysv_model.specs.History.{Who, Actor, Seat, Call as Turn, Look, Place, Take, Reply, Gone, Denied, Full, Fits, Accepted, NoMatch, TooLong, Taken, Entry, History}
+use Rattle.sysv_rules.specs.Asked.{selector_for}
 use Rattle.sysv_core.specs.declared.event.Outcome.TheVariants as outcome
 use Rattle.sysv_core.specs.declared.event.Answer.{Answer}
-use Rattle.sysv_core.specs.declared.event.Call.{Call as Started}
-use Rattle.sysv_core.specs.Begin.{IsRefused, body_back}
-use Rattle.sysv_core.specs.Run.{Given}
+use Rattle.sysv_core.specs.declared.event.Call.{Call}
+use Rattle.sysv_core.specs.declared.event.Event.TheVariants.{Start}
+use Rattle.sysv_core.specs.declared.event.Call.TheVariants.{Send, Receive}
+use Rattle.sysv_core.specs.Begin.{IsRefused, has_flag, body_back}
+use Rattle.sysv_core.specs.Run.{Happening, Happens, Started, Given}
 
 -- it is the same call
 abbrev pub is_call : Who → Who → Bool
@@ -25,6 +31,12 @@ is_call call other = false
 abbrev pub turns_of : Who → History → List Entry
 turns_of call h = filter (λ (e : Entry). is_call call e.who) h
 
+-- A send asks for room for its text and then to place it; a receive asks for the message that its type
+-- selects. Each does so with its caller's credentials, on the queue that it names.
+abbrev pub AsksFor : Cred → Call → Turn → Type 0
+AsksFor cred (Send id mtype flags text) turn = (turn ≡ Look id cred (length text)) ⊎ ((now : ℕ) × (turn ≡ Place id cred mtype text now))
+AsksFor cred (Receive id size mtype flags body) turn = (now : ℕ) × (turn ≡ Take id cred (selector_for mtype) size (has_flag 4096 flags) now)
+
 -- the reply to a turn of a send or a receive says that the identifier was live
 abbrev pub found_live : Reply → Bool
 found_live Gone = false
@@ -35,36 +47,33 @@ abbrev pub live_seen : List Entry → Bool
 live_seen turns = list_any (λ (e : Entry). found_live e.reply) turns
 
 -- a refusal: a receive gets the body that it brought back empty, and a send has none
-abbrev pub body_refused : Call → Option (List ℕ)
-body_refused (Take id cred selector size noerror now) = Some []
-body_refused call = None
-
 abbrev pub Refuses : Call → Errno → Answer → Type 0
-Refuses call why a = (a.outcome ≡ outcome.Refused why) × (a.body ≡ body_refused call)
+Refuses call why a = (a.result ≡ outcome.Refused why) × (a.body ≡ body_back call)
 
--- the turn with this reply ends its call with this answer
+-- a turn with this reply ends the call with this answer
 abbrev pub Ends : Bool → Call → Reply → Answer → Type 0
 Ends seen call Gone a = Refuses call (if seen then EIDRM else EINVAL) a
 Ends seen call Denied a = Refuses call EACCES a
-Ends seen call (Full freed) a = Refuses call EAGAIN a
-Ends seen call (NoMatch arrived) a = Refuses call ENOMSG a
-Ends seen call TooLong a = Refuses call E2BIG a
-Ends seen call (Accepted number) a = (a.outcome ≡ outcome.Zero) × (a.body ≡ None)
-Ends seen (Take id cred selector size noerror now) (Taken m) a =
-    (a.outcome ≡ outcome.Got m.mtype (length (take size m.bytes))) × (a.body ≡ Some (take size m.bytes))
+Ends seen (Send id mtype flags text) (Full freed) a = Refuses (Send id mtype flags text) EAGAIN a
+Ends seen (Send id mtype flags text) (Accepted number) a = (a.result ≡ outcome.Zero) × (a.body ≡ None)
+Ends seen (Receive id size mtype flags body) (NoMatch arrived) a = Refuses (Receive id size mtype flags body) ENOMSG a
+Ends seen (Receive id size mtype flags body) TooLong a = Refuses (Receive id size mtype flags body) E2BIG a
+Ends seen (Receive id size mtype flags body) (Taken m) a =
+    (a.result ≡ outcome.Got m.mtype (length (take size m.bytes))) × (a.body ≡ Some (take size m.bytes))
 Ends seen call reply a = ⊥
 
--- the answer to a call whose own arguments are refused
-abbrev pub IsOfStart : Answer → Type 0
-IsOfStart a = (call : Started) × IsRefused call × (a.outcome ≡ outcome.Refused EINVAL) × (a.body ≡ body_back call)
+-- the last of these turns ended the call with this answer; after each earlier one, a look that found
+-- room, it went on
+abbrev pub EndsWith : Call → List Entry → Answer → Type 0
+EndsWith call turns a =
+    (earlier : List Entry) × (last : Entry) × (turns ≡ earlier ++ last ∷ [])
+    × All (λ (e : Entry). e.reply ≡ Fits) earlier × Ends (live_seen earlier) call last.reply a
 
--- A call without a turn was refused at its start. Any other answers with its last turn; after each
--- earlier one, a look that found room, it went on.
-abbrev pub IsAnsweredBy : List Entry → Answer → Type 0
-IsAnsweredBy turns a =
-    ((turns ≡ []) × IsOfStart a)
-    ⊎ ((earlier : List Entry) × (last : Entry) × (turns ≡ earlier ++ last ∷ [])
-    × All (λ (e : Entry). e.reply ≡ Fits) earlier × Ends (live_seen earlier) last.call last.reply a)
+-- the answer to a call that made these turns
+abbrev pub IsAnsweredBy : Started → List Entry → Answer → Type 0
+IsAnsweredBy call turns a =
+    (IsRefused call.asked × (turns ≡ []) × Refuses call.asked EINVAL a)
+    ⊎ ((¬ IsRefused call.asked) × All (λ (e : Entry). AsksFor call.cred call.asked e.call) turns × EndsWith call.asked turns a)
 
 -- A turn with this reply ends its call: every one of a send or a receive but a look that found room.
 -- (A preset is of no call.)
@@ -80,7 +89,11 @@ ends_call reply = false
 
 -- the call that made the turn was answered
 abbrev pub IsTold : List Given → Entry → Type 0
-IsTold given e = (g : Given) × Contains given g × (g.who ≡ e.who)
+IsTold given e = (g : Given) × Contains given g × (g.call.who ≡ e.who)
+
+-- the list has the start of the call
+abbrev pub WasStarted : List Happening → Started → Type 0
+WasStarted list call = (actor : ℕ) × (start : ℕ) × (call.who ≡ Actor actor start) × Contains list (Happens (Start actor call.cred call.asked))
 
 -- the answer goes to the actor whose call it is of
 abbrev pub IsToCaller : Who → Answer → Type 0

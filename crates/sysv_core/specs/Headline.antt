@@ -1,8 +1,8 @@
 -- The headline. For every list of atomic steps of any number of senders and receivers: what the queue
 -- accepted is, each message once, what it delivered, discarded by removal or still holds; each receive
 -- takes the very message its selector names; messages of one type leave in the order of acceptance;
--- every answer is decided by the turns of its own call; and no call comes to its end without an
--- answer.
+-- every answer is decided by what its call asked for and by the turns of that call; and no call comes
+-- to its end without an answer.
 --
 -- It is said in three parts: a world stands for the list of what has happened in it; a step, a preset
 -- and a run of events lead from the world of a list to the world of the longer list, with the answers
@@ -17,7 +17,7 @@ use Rattle.sysv_core.specs.declared.event.Stepped.{Stepped}
 use Rattle.sysv_core.specs.World.{World}
 use Rattle.sysv_core.specs.Seen.{Seen}
 use Rattle.sysv_core.specs.Run.{Happening, Preset, Happens, Given, StandsFor, answers_in, answers_of}
-use Rattle.sysv_core.specs.AnswerLaw.{IsAnsweredBy, turns_of, ends_call, IsTold, IsToCaller}
+use Rattle.sysv_core.specs.AnswerLaw.{IsAnsweredBy, turns_of, ends_call, IsTold, WasStarted, IsToCaller}
 
 -- For every list that the world stood for, it now stands for that list and a preset.
 abbrev pub StandsWithPreset : Seen → Seen → Type 0
@@ -47,14 +47,15 @@ abbrev pub StandsWithEvents : Seen → List Event → List Answer → Seen → T
 StandsWithEvents old events answers new = (actors : ℕ) (list : List Happening) (given : List Given) →
     StandsFor actors list given old → RunsOn actors list given events answers new
 
--- what holds of each world to which a list of events leads, with the answers given on the way
-pub record Obeys (w : World) (given : List Given) : Type 0 where
+-- what holds of each list, the world to which it leads and the answers given on the way
+pub record Obeys (list : List Happening) (w : World) (given : List Given) : Type 0 where
   pub queue : QueueLaw w.history
-  pub answers : All (λ (g : Given). IsAnsweredBy (turns_of g.who w.history) g.answer) given
-  pub once : AllPairs (λ (f g : Given). f.who ≢ g.who) given
-  pub addressed : All (λ (g : Given). IsToCaller g.who g.answer) given
+  pub answers : All (λ (g : Given). IsAnsweredBy g.call (turns_of g.call.who w.history) g.answer) given
+  pub started : All (λ (g : Given). WasStarted list g.call) given
+  pub once : AllPairs (λ (f g : Given). f.call.who ≢ g.call.who) given
+  pub addressed : All (λ (g : Given). IsToCaller g.call.who g.answer) given
   pub told : All (λ (e : Entry). ends_call e.reply ≡ true → IsTold given e) w.history
 
 -- For every list that the world stands for, the world to which it leads obeys the laws.
 abbrev pub LawsHold : Seen → Type 0
-LawsHold seen = (actors : ℕ) (list : List Happening) (given : List Given) (s : StandsFor actors list given seen) → Obeys s.world given
+LawsHold seen = (actors : ℕ) (list : List Happening) (given : List Given) (s : StandsFor actors list given seen) → Obeys list s.world given

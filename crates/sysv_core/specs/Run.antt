@@ -3,6 +3,8 @@
 -- to which the list leads (this profile's).
 use Rattle.std.specs.Prelude.{◌≡◌, ℕ, Bool, List, [], ◌∷◌, ◌++◌, Option, Some, None, map}
 use Rattle.sysv_model.specs.History.{Who, Actor}
+use Rattle.sysv_model.specs.declared.cred.Cred.{Cred}
+use Rattle.sysv_core.specs.declared.event.Call.{Call}
 use Rattle.sysv_core.specs.declared.event.Event.{Event}
 use Rattle.sysv_core.specs.declared.event.Event.TheVariants.{Start, Step}
 use Rattle.sysv_core.specs.declared.event.Answer.{Answer}
@@ -16,30 +18,42 @@ pub data Happening : Type 0 where
   Preset : Happening
   Happens : (event : Event) → Happening
 
+-- a call that was started: by whom, with which credentials, and what was asked
+pub record Started : Type 0 where
+  pub who : Who
+  pub cred : Cred
+  pub asked : Call
+
 -- an answer, and the call that it is the answer of
 pub record Given : Type 0 where
-  pub who : Who
+  pub call : Started
   pub answer : Answer
 
--- the call that an event is about: the one that a start begins, or the one that the actor is in
-abbrev pub started_at : Option (Option Doing) → ℕ
-started_at None = 0
-started_at (Some None) = 0
-started_at (Some (Some doing)) = doing.start
+abbrev pub call_in : ℕ → Doing → Started
+call_in actor doing = record { who = Actor actor doing.start; cred = doing.cred; asked = doing.asked }
 
-abbrev pub call_of : World → Event → Who
-call_of w (Start actor cred call) = Actor actor w.steps
-call_of w (Step actor now) = Actor actor (started_at (actor_at w.actors actor))
+-- the call that the actor is in, if it is in one
+abbrev pub call_at : ℕ → Option (Option Doing) → Option Started
+call_at actor None = None
+call_at actor (Some None) = None
+call_at actor (Some (Some doing)) = Some (call_in actor doing)
+
+-- the call that an event is about: the one that a start begins, or the one that the actor is in
+abbrev pub call_of : World → Event → Option Started
+call_of w (Start actor cred call) = Some record { who = Actor actor w.steps; cred = cred; asked = call }
+call_of w (Step actor now) = call_at actor (actor_at w.actors actor)
 
 abbrev pub answers_in : Stepped → List Answer
 answers_in (stepped.Answer answer) = answer ∷ []
 answers_in stepped.Nothing = []
 answers_in stepped.Worn = []
 
-abbrev pub given_in : Who → Stepped → List Given
-given_in who (stepped.Answer answer) = record { who = who; answer = answer } ∷ []
-given_in who stepped.Nothing = []
-given_in who stepped.Worn = []
+-- what an event gave, as an answer of the call that it is about
+abbrev pub given_in : Option Started → Stepped → List Given
+given_in None result = []
+given_in (Some call) (stepped.Answer answer) = record { call = call; answer = answer } ∷ []
+given_in (Some call) stepped.Nothing = []
+given_in (Some call) stepped.Worn = []
 
 abbrev pub answers_of : List Given → List Answer
 answers_of given = map (λ (g : Given). g.answer) given

@@ -18,7 +18,7 @@ turn_call (AtTake r) now = Take r.id r.cred r.selector r.size r.noerror now
 
 -- the call is over with this outcome; a receive's body comes back
 abbrev pub answered : ℕ → Outcome → Option (List ℕ) → Option Phase × Stepped
-answered actor out body = (None, stepped.Answer record { actor = actor; outcome = out; body = body })
+answered actor out body = (None, stepped.Answer record { actor = actor; result = out; body = body })
 
 -- an identifier that is not live was removed since, where the call had found it live
 abbrev pub gone : Bool → Errno

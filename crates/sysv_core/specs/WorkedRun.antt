@@ -65,17 +65,26 @@ the_happenings =
     ∷ two_starts receive_up_to_100 ∷ steps 2 ∷ []
 
 -- the answers, in order, each of the call that the actor started at that step number
-abbrev pub answer_of : (actor start : ℕ) → Outcome → Option (List ℕ) → Given
-answer_of actor start out body = record { who = Actor actor start; answer = record { actor = actor; outcome = out; body = body } }
+abbrev pub one_is_told : (start : ℕ) → Call → Outcome → Option (List ℕ) → Given
+one_is_told start call out body = record {
+  call = record { who = Actor 1 start; cred = sender; asked = call };
+  answer = record { actor = 1; result = out; body = body };
+}
+
+abbrev pub two_is_told : (start : ℕ) → Call → Outcome → Option (List ℕ) → Given
+two_is_told start call out body = record {
+  call = record { who = Actor 2 start; cred = receiver; asked = call };
+  answer = record { actor = 2; result = out; body = body };
+}
 
 abbrev pub the_answers : List Given
 the_answers =
-    answer_of 1 0 (outcome.Refused ENOMSG) (Some [])
-    ∷ answer_of 1 2 outcome.Zero None
-    ∷ answer_of 1 5 outcome.Zero None
-    ∷ answer_of 2 8 (outcome.Got (pos 5) 5) (Some hello)
-    ∷ answer_of 2 10 (outcome.Got (pos 2) 0) (Some [])
-    ∷ answer_of 2 12 (outcome.Refused ENOMSG) (Some []) ∷ []
+    one_is_told 0 receive_up_to_100 (outcome.Refused ENOMSG) (Some [])
+    ∷ one_is_told 2 send_hello outcome.Zero None
+    ∷ one_is_told 5 send_nothing outcome.Zero None
+    ∷ two_is_told 8 receive_up_to_100 (outcome.Got (pos 5) 5) (Some hello)
+    ∷ two_is_told 10 receive_up_to_100 (outcome.Got (pos 2) 0) (Some [])
+    ∷ two_is_told 12 receive_up_to_100 (outcome.Refused ENOMSG) (Some []) ∷ []
 
 -- the two messages, and the turns at the slot with their replies
 abbrev pub hello_message : Message

@@ -18,11 +18,13 @@ use Rattle.sysv_core.specs.Phase.{Phase}
 use Rattle.sysv_core.specs.Begin.{IsRefused, begun, body_back}
 use Rattle.sysv_core.specs.Turn.{turn_call, after_turn}
 
--- a call under way: its phase, and the number of its start, which is the step number at which it
--- was started
+-- A call under way: its phase; the number of its start, which is the step number at which it was
+-- started; and what was started, with which credentials.
 pub record Doing : Type 0 where
   pub phase : Phase
   pub start : ℕ
+  pub cred : Cred
+  pub asked : Call
 
 pub record World : Type 0 where
   pub history : History
@@ -42,8 +44,9 @@ actor_at actors (suc place) = slice_get actors place
 abbrev pub with_actor : List (Option Doing) → ℕ → Option Doing → List (Option Doing)
 with_actor actors actor doing = slice_set actors (actor - 1) doing
 
-abbrev pub in_phase : ℕ → Option Phase → Option Doing
-in_phase start phase = option_map (λ (p : Phase). record { phase = p; start = start }) phase
+-- the same call in its next phase, if it has one
+abbrev pub in_phase : Doing → Option Phase → Option Doing
+in_phase doing phase = option_map (λ (p : Phase). record doing { phase = p }) phase
 
 -- the world stays as it was, and gives nothing
 abbrev pub StaysWith : World → Stepped → World → Type 0
@@ -52,10 +55,10 @@ StaysWith w given after = (given ≡ stepped.Nothing) × (after ≡ w)
 -- a start by an idle actor: refused at once, or the first phase
 abbrev pub Begins : World → ℕ → Cred → Call → Stepped → World → Type 0
 Begins w actor cred call given after =
-    (IsRefused call × (given ≡ stepped.Answer record { actor = actor; outcome = outcome.Refused EINVAL; body = body_back call })
+    (IsRefused call × (given ≡ stepped.Answer record { actor = actor; result = outcome.Refused EINVAL; body = body_back call })
     × (after ≡ record w { steps = w.steps + 1 }))
     ⊎ ((¬ IsRefused call) × (given ≡ stepped.Nothing)
-    × (after ≡ record w { actors = with_actor w.actors actor (Some record { phase = begun cred call; start = w.steps }); steps = w.steps + 1 }))
+    × (after ≡ record w { actors = with_actor w.actors actor (Some record { phase = begun cred call; start = w.steps; cred = cred; asked = call }); steps = w.steps + 1 }))
 
 -- a step of a call: one turn at the slot, with the legal reply
 abbrev pub Turns : World → ℕ → Doing → ℕ → Stepped → World → Type 0
@@ -64,7 +67,7 @@ Turns w actor doing now given after =
     × (given ≡ (after_turn actor doing.phase reply).1)
     × (after ≡ record {
       history = then_turn w.history (Actor actor doing.start) (turn_call doing.phase now) reply;
-      actors = with_actor w.actors actor (in_phase doing.start (after_turn actor doing.phase reply).0);
+      actors = with_actor w.actors actor (in_phase doing (after_turn actor doing.phase reply).0);
       steps = w.steps + 1;
     })
 

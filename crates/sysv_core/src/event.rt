@@ -63,7 +63,7 @@ pub struct Answer {
     /// Whose call it is.
     pub actor: u32,
     /// How it ended.
-    pub outcome: Outcome,
+    pub result: Outcome,
     /// The body that a receive brought, with the text that it was given, or empty after a refusal;
     /// `None` for every other call.
     pub body: Option<Body>,

@@ -125,7 +125,7 @@ fn answered(actor: u32, outcome: Outcome, body: Option<Body>) -> (Option<Phase>,
 {
     let answer = Answer {
         actor,
-        outcome,
+        result: outcome,
         body,
     };
     (None, Stepped::Answer(answer))

@@ -179,10 +179,10 @@ impl World {
                 Stepped::Nothing
             }
             Err(body) => {
-                let outcome = Outcome::Refused(Errno::EINVAL);
+                let result = Outcome::Refused(Errno::EINVAL);
                 Stepped::Answer(Answer {
                     actor,
-                    outcome,
+                    result,
                     body,
                 })
             }

@@ -121,7 +121,7 @@ record Turned (w : World) (place : ℕ) (d : Doing) (given : Stepped) (after : W
   reply : Reply
   legal : IsLegalReply w.history (turn_call d.phase 0) reply
   tells : given ≡ (after_turn (suc place) d.phase reply).1
-  actors : after.actors ≡ slice_set idle place (in_phase d.start (after_turn (suc place) d.phase reply).0)
+  actors : after.actors ≡ slice_set idle place (in_phase d (after_turn (suc place) d.phase reply).0)
 
 before_it : (place : ℕ) → suc place - 1 ≡ place
 before_it place = omega arith
@@ -134,22 +134,22 @@ turned w after place d given within calling s =
       reply = turn.0;
       legal = turn.1;
       tells = turn.2;
-      actors = ap (λ (x : World). x.actors) turn.3 ∙ (ap (λ i. slice_set w.actors i (in_phase d.start (after_turn (suc place) d.phase turn.0).0)) (before_it place)
-          ∙ (ap (λ xs. slice_set xs place (in_phase d.start (after_turn (suc place) d.phase turn.0).0)) calling
-          ∙ set_twice idle place (Some d) (in_phase d.start (after_turn (suc place) d.phase turn.0).0)));
+      actors = ap (λ (x : World). x.actors) turn.3 ∙ (ap (λ i. slice_set w.actors i (in_phase d (after_turn (suc place) d.phase turn.0).0)) (before_it place)
+          ∙ (ap (λ xs. slice_set xs place (in_phase d (after_turn (suc place) d.phase turn.0).0)) calling
+          ∙ set_twice idle place (Some d) (in_phase d (after_turn (suc place) d.phase turn.0).0)));
     }
 
 -- the turn ended the call: no actor is in one
 idle_again : (w after : World) (place : ℕ) (d : Doing) (given : Stepped) (t : Turned w place d given after) → (after_turn (suc place) d.phase t.reply).0 ≡ None → IsIdle after
-idle_again w after place d given t e = t.actors ∙ (ap (λ o. slice_set idle place (in_phase d.start o)) e ∙ set_back 16 place)
+idle_again w after place d given t e = t.actors ∙ (ap (λ o. slice_set idle place (in_phase d o)) e ∙ set_back 16 place)
 
 -- a send before its place is answered by one step more
-places : (n : ℕ) (s : Scene) (place start : ℕ) (send : Sending) (given : Stepped) (after : Scene) → place < 16 → IsCalling s.world place (record { phase = AtPlace send; start = start }) →
+places : (n : ℕ) (s : Scene) (place : ℕ) (d : Doing) (send : Sending) (given : Stepped) (after : Scene) → place < 16 → IsCalling s.world place (record d { phase = AtPlace send }) →
     GoesOn (suc n) s (suc place) stepped.Nothing given after → Ended given after
-places n s place start send given after within calling (mid, next, (inl worn, whole), more) =
+places n s place d send given after within calling (mid, next, (inl worn, whole), more) =
     worn_out n mid (suc place) next given after worn.1 (subst (λ (x : World). 2 ^ 62 ≤ x.steps) (sym worn.2) worn.0) more
-places n s place start send given after within calling (mid, next, (inr young, whole), more) =
-    let t = turned s.world mid.world place (record { phase = AtPlace send; start = start }) next within calling young.1 in
+places n s place d send given after within calling (mid, next, (inr young, whole), more) =
+    let t = turned s.world mid.world place (record d { phase = AtPlace send }) next within calling young.1 in
     elim (last_turn s.world.history (suc place) 0 (AtPlace send) t.reply t.legal) [
       | inl e ↦ over n mid (suc place) e.answer next given after (t.tells ∙ e.tells) (idle_again s.world mid.world place _ next t e.over) more
       | inr on ↦ absurd (never_on (suc place) send on.0 t.reply on.1)
@@ -163,8 +163,8 @@ calls n s place d given after within calling (mid, next, (inr young, whole), mor
     let t = turned s.world mid.world place d next within calling young.1 in
     elim (last_turn s.world.history (suc place) 0 d.phase t.reply t.legal) [
       | inl e ↦ over (suc n) mid (suc place) e.answer next given after (t.tells ∙ e.tells) (idle_again s.world mid.world place d next t e.over) more
-      | inr on ↦ places n mid place d.start on.0 given after within
-          (t.actors ∙ ap (λ o. slice_set idle place (in_phase d.start o)) on.1)
+      | inr on ↦ places n mid place d on.0 given after within
+          (t.actors ∙ ap (λ o. slice_set idle place (in_phase d o)) on.1)
           (subst (λ f. GoesOn (suc n) mid (suc place) f given after) (t.tells ∙ on.2) more)
     ]
 
@@ -203,7 +203,7 @@ starts_idle : (s mid : Scene) (place : ℕ) (cred : Cred) (call : Call) (first g
 starts_idle s mid place cred call first given after within free (inl refused) on =
     over 16 mid (suc place) _ first given after refused.1 (ap (λ (x : World). x.actors) refused.2 ∙ free) on
 starts_idle s mid place cred call first given after within free (inr begins) on =
-    let d : Doing = record { phase = begun cred call; start = s.world.steps } in
+    let d : Doing = record { phase = begun cred call; start = s.world.steps; cred = cred; asked = call } in
     calls 14 mid place d given after within
     (ap (λ (x : World). x.actors) begins.2 ∙ (ap (λ i. slice_set s.world.actors i (Some d)) (before_it place) ∙ ap (λ xs. slice_set xs place (Some d)) free))
     (subst (λ f. GoesOn 16 mid (suc place) f given after) begins.1 on)

@@ -79,7 +79,7 @@ head_for actor operation (outcome.Refused why) = head.Refused actor operation wh
 
 -- the line that is printed: the head, the bytes of a message as they are, and LF
 abbrev pub printed : ℕ → Operation → Stepped → List ℕ
-printed actor operation (stepped.Answer answer) = head_text (head_for answer.actor operation answer.outcome) ++ (unwrap_or answer.body [] ++ 10 ∷ [])
+printed actor operation (stepped.Answer answer) = head_text (head_for answer.actor operation answer.result) ++ (unwrap_or answer.body [] ++ 10 ∷ [])
 printed actor operation stepped.Worn = head_text (head.Worn actor) ++ 10 ∷ []
 printed actor operation stepped.Nothing = []
 

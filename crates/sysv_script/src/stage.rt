@@ -179,7 +179,7 @@ impl Stage {
             Stepped::Answer(answer) => {
                 let Answer {
                     actor,
-                    outcome,
+                    result: outcome,
                     body,
                 } = answer;
                 let head = head_of(actor, operation, outcome);

@@ -82,7 +82,7 @@ fn assert_nothing(rt: &impl Abort, stepped: Stepped) {
 fn assert_is(rt: &impl Abort, answer: &Answer, want: Want<'_>) {
     let (actor, outcome, text) = want;
     assert_eq!(rt; answer.actor, actor);
-    assert_eq!(rt; answer.outcome, outcome);
+    assert_eq!(rt; answer.result, outcome);
     match (&answer.body, text) {
         (None, None) => {}
         (Some(body), Some(text)) => {
