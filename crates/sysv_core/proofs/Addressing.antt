@@ -1,5 +1,5 @@
 -- Each answer goes to the actor whose call it is of.
-use Rattle.std.proofs.Common.{ℕ, inl, inr, List, [], ◌∷◌, Option, None, Some, refl, sym, subst}
+use Rattle.std.proofs.Common.{ℕ, inl, inr, List, [], ◌∷◌, Option, None, Some, refl, sym, ap, subst, ◌∙◌}
 use Rattle.std.specs.List.{All}
 use Rattle.std.proofs.lemmas.List.Elements.{All-nil, All-cons, All-append}
 use Rattle.sysv_model.specs.declared.cred.Cred.{Cred}
@@ -14,6 +14,7 @@ use Rattle.sysv_core.specs.Turn.{after_turn}
 use Rattle.sysv_core.specs.World.{World, Doing, actor_at, StartsAt, StepsAt, Makes, Steps}
 use Rattle.sysv_core.specs.Run.{Happening, Preset, Happens, Given, Goes, Leads, Started, call_of, call_in, call_at, given_in}
 use Rattle.sysv_core.specs.AnswerLaw.{IsToCaller}
+use Rattle.sysv_core.proofs.Answering.{worn_given}
 
 abbrev ToCaller : Given → Type 0
 ToCaller g = IsToCaller g.call.who g.answer
@@ -67,12 +68,8 @@ makes_gives w after (Start actor cred call) result m =
     given_to (record { who = Actor actor w.steps; cred = cred; asked = call }) result (start_is_for w after actor w.steps cred call result (actor_at w.actors actor) m)
 makes_gives w after (Step actor now) result m = step_gives w after actor now result (actor_at w.actors actor) m
 
-worn_gives : (call : Option Started) → All ToCaller (given_in call stepped.Worn)
-worn_gives None = All-nil ToCaller
-worn_gives (Some call) = All-nil ToCaller
-
 event_gives : (w after : World) (event : Event) (result : Stepped) → Steps w event result after → All ToCaller (given_in (call_of w event) result)
-event_gives w after event result (inl worn) = subst (λ r. All ToCaller (given_in (call_of w event) r)) (sym worn.1) (worn_gives (call_of w event))
+event_gives w after event result (inl worn) = subst (All ToCaller) (sym (ap (given_in (call_of w event)) worn.1 ∙ worn_given (call_of w event))) (All-nil ToCaller)
 event_gives w after event result (inr makes) = makes_gives w after event result makes.1
 
 goes_to_caller : (w after : World) (given : List Given) (x : Happening) → Goes w x given after → All ToCaller given

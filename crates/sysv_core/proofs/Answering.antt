@@ -1,31 +1,29 @@
 -- Every answer of a run is decided by the turns of its own call.
-use Rattle.std.proofs.Common.{◌≡◌, ◌≢◌, ℕ, zero, suc, ◌+◌, ◌-◌, ◌<◌, ◌==◌, ◌&&◌, ◌||◌, ◌⊎◌, inl, inr, Bool, true, false, cond, List, [], ◌∷◌, ◌++◌, Option, None, Some, refl, sym, ap, subst, ◌∙◌, arith, length, slice_get, slice_set, replicate, append_assoc, take}
+use Rattle.std.proofs.Common.{◌≡◌, ◌≢◌, ℕ, zero, suc, ◌+◌, ◌-◌, ◌<◌, ◌==◌, ◌&&◌, ◌⊎◌, inl, inr, Bool, true, false, cond, List, [], ◌∷◌, ◌++◌, Option, None, Some, refl, sym, ap, subst, ◌∙◌, arith, length, slice_get, slice_set, replicate, append_assoc}
 use Rattle.std.specs.List.{All, AllPairs, AllByRecursion, slice_index_or}
 use Rattle.std.proofs.lemmas.List.{append-nil}
-use Rattle.std.proofs.lemmas.List.Elements.{filter-append, All-nil, All-cons, All-push, All-from_recursion}
+use Rattle.std.proofs.lemmas.List.Elements.{filter-append, All-push, All-from_recursion}
 use Rattle.std.proofs.lemmas.List.Quantifiers.{all_pairs_push}
 use Rattle.std.proofs.lemmas.Bool.Decides.{nat_tests}
 use Rattle.sysv_model.specs.declared.cred.Cred.{Cred}
-use Rattle.sysv_model.specs.declared.errno.Errno.{Errno}
-use Rattle.sysv_model.specs.declared.errno.Errno.TheVariants.{EINVAL, EACCES, EAGAIN, ENOMSG, E2BIG}
-use Rattle.sysv_model.specs.Message.{Message}
-use Rattle.sysv_model.specs.History.{Who, Actor, Seat, Call as Turn, Look, Place, Take, Reply, Installed, Gone, Denied, Full, Fits, Accepted, NoMatch, TooLong, Taken, Entry, History}
+use Rattle.sysv_model.specs.declared.errno.Errno.TheVariants.{EINVAL}
+use Rattle.sysv_model.specs.History.{Who, Actor, Seat, Call as Turn, Reply, Installed, Gone, Denied, Full, Fits, Accepted, NoMatch, TooLong, Taken, Entry, History}
 use Rattle.sysv_queue.specs.LegalReply.{IsLegalReply}
 use Rattle.sysv_core.specs.declared.event.Call.{Call}
-use Rattle.sysv_core.specs.declared.event.Call.TheVariants as call
 use Rattle.sysv_core.specs.declared.event.Event.{Event}
 use Rattle.sysv_core.specs.declared.event.Event.TheVariants.{Start, Step}
 use Rattle.sysv_core.specs.declared.event.Answer.{Answer}
 use Rattle.sysv_core.specs.declared.event.Outcome.TheVariants as outcome
 use Rattle.sysv_core.specs.declared.event.Stepped.{Stepped}
 use Rattle.sysv_core.specs.declared.event.Stepped.TheVariants as stepped
-use Rattle.sysv_core.specs.Phase.{Phase, Sending, Receiving, AtLook, AtPlace, AtTake}
+use Rattle.sysv_core.specs.Phase.{Phase, Sending, AtLook, AtPlace, AtTake}
 use Rattle.sysv_core.specs.Begin.{IsRefused, begun, body_back}
 use Rattle.sysv_core.specs.Turn.{turn_call, after_turn, gone}
 use Rattle.sysv_core.specs.World.{World, Doing, opening, in_phase, StaysWith, StartsAt, StepsAt, Makes, Steps, Presets, preset_call}
 use Rattle.sysv_core.specs.Run.{Happening, Preset, Happens, Given, Goes, Leads, Started, call_of, call_in, call_at, given_in}
+use Rattle.sysv_core.proofs.Asking.{HasMade, begun_made, seen_in, made, turn_asked, turns_asked, Kind, kind_of, no_body, empty_body, send_full, send_placed, receive_none, receive_long, receive_taken, unseen}
 use Rattle.sysv_core.proofs.Lists.{get_set_same, get_set_other, same_place}
-use Rattle.sysv_core.specs.AnswerLaw.{is_call, turns_of, AsksFor, found_live, live_seen, Refuses, Ends, EndsWith, IsAnsweredBy}
+use Rattle.sysv_core.specs.AnswerLaw.{is_call, turns_of, AsksFor, live_seen, Refuses, Ends, IsAnsweredBy}
 
 -- ---- the turns of a call
 
@@ -72,24 +70,9 @@ its_own actor start = grind (arith, nat_tests)
 another_start : (a b s t : ℕ) → s ≢ t → is_call (Actor a s) (Actor b t) ≡ false
 another_start a b s t f = both_false (a == b) (s == t) (grind (arith, nat_tests, f))
 
--- a send as it was begun
-abbrev unseen : Sending → Sending
-unseen s = record s { seen = false }
-
--- what a call in this phase, started so, has made of turns
-abbrev HasMade : Cred → Call → Phase → List Entry → Type 0
-HasMade cred asked (AtLook s) turns = (begun cred asked ≡ AtLook s) × (turns ≡ []) × (s.seen ≡ false)
-HasMade cred asked (AtPlace s) turns =
-    (begun cred asked ≡ AtLook (unseen s)) × ((e : Entry) × (turns ≡ e ∷ []) × (e.call ≡ Look s.id s.cred (length s.bytes)) × (e.reply ≡ Fits)) × (s.seen ≡ true)
-HasMade cred asked (AtTake r) turns = (begun cred asked ≡ AtTake r) × (turns ≡ []) × (r.seen ≡ false)
-
 -- a call under way was not refused at its start
 abbrev IsGoing : Doing → List Entry → Type 0
 IsGoing d turns = (¬ IsRefused d.asked) × HasMade d.cred d.asked d.phase turns
-
-begun_made : (cred : Cred) (asked : Call) (turns : List Entry) → turns ≡ [] → HasMade cred asked (begun cred asked) turns
-begun_made cred (call.Send id mtype flags text) turns none = (refl, none, refl)
-begun_made cred (call.Receive id size mtype flags body) turns none = (refl, none, refl)
 
 -- ---- what holds on the way
 
@@ -304,133 +287,6 @@ module _ (w : World) (given : List Given) (place : ℕ) (d0 : Doing) (call : Tur
       (λ d e. elim (doings_after None place d e) [ inl new ↦ absurd (none_some d new.0) | inr old ↦ absurd (old.1 refl) ])
       (unanswered_doing w given place d0 at i.answered)
 
--- ---- the turns of each phase
-
-abbrev seen_in : Phase → Bool
-seen_in (AtLook s) = s.seen
-seen_in (AtPlace s) = s.seen
-seen_in (AtTake r) = r.seen
-
-none_made : (turns : List Entry) (seen : Bool) → turns ≡ [] → seen ≡ false → All (λ (e : Entry). e.reply ≡ Fits) turns × (live_seen turns ≡ seen)
-none_made turns seen none unseen =
-    (subst (λ ts. All (λ (e : Entry). e.reply ≡ Fits) ts) (sym none) (All-nil (λ (e : Entry). e.reply ≡ Fits)), ap live_seen none ∙ sym unseen)
-
-made : (cred : Cred) (asked : Call) (p : Phase) (turns : List Entry) → HasMade cred asked p turns → All (λ (e : Entry). e.reply ≡ Fits) turns × (live_seen turns ≡ seen_in p)
-made cred asked (AtLook s) turns m = none_made turns s.seen m.1 m.2
-made cred asked (AtPlace s) turns m =
-    let e = m.1 in (
-      subst (λ ts. All (λ (x : Entry). x.reply ≡ Fits) ts) (sym e.1) (All-cons (λ (x : Entry). x.reply ≡ Fits) e.0 [] e.3 (All-nil (λ (x : Entry). x.reply ≡ Fits))),
-      ap live_seen e.1 ∙ (ap (λ r. found_live r || false) e.3 ∙ sym m.2),
-    )
-made cred asked (AtTake r) turns m = none_made turns r.seen m.1 m.2
-
--- ---- what was asked
-
-abbrev sending_in : Sending → Phase → Sending
-sending_in s (AtLook x) = x
-sending_in s (AtPlace x) = x
-sending_in s (AtTake r) = s
-
-abbrev receiving_in : Receiving → Phase → Receiving
-receiving_in r (AtTake x) = x
-receiving_in r (AtLook s) = r
-receiving_in r (AtPlace s) = r
-
-looks : (cred : Cred) (asked : Call) (s : Sending) → begun cred asked ≡ AtLook s → AsksFor cred asked (Look s.id s.cred (length s.bytes))
-looks cred (call.Send id mtype flags text) s e = inl (ap (λ (x : Sending). Look x.id x.cred (length x.bytes)) (sym (ap (sending_in s) e)))
-looks cred (call.Receive id size mtype flags body) s e = absurd cc
-
-places : (cred : Cred) (asked : Call) (s : Sending) (now : ℕ) → begun cred asked ≡ AtLook s → AsksFor cred asked (Place s.id s.cred s.mtype s.bytes now)
-places cred (call.Send id mtype flags text) s now e = inr (now, ap (λ (x : Sending). Place x.id x.cred x.mtype x.bytes now) (sym (ap (sending_in s) e)))
-places cred (call.Receive id size mtype flags body) s now e = absurd cc
-
-takes : (cred : Cred) (asked : Call) (r : Receiving) (now : ℕ) → begun cred asked ≡ AtTake r → AsksFor cred asked (Take r.id r.cred r.selector r.size r.noerror now)
-takes cred (call.Send id mtype flags text) r now e = absurd cc
-takes cred (call.Receive id size mtype flags body) r now e = (now, ap (λ (x : Receiving). Take x.id x.cred x.selector x.size x.noerror now) (sym (ap (receiving_in r) e)))
-
--- the turn that is due is asked for, and so were those that were made
-turn_asked : (cred : Cred) (asked : Call) (p : Phase) (turns : List Entry) (now : ℕ) → HasMade cred asked p turns → AsksFor cred asked (turn_call p now)
-turn_asked cred asked (AtLook s) turns now m = looks cred asked s m.0
-turn_asked cred asked (AtPlace s) turns now m = places cred asked (unseen s) now m.0
-turn_asked cred asked (AtTake r) turns now m = takes cred asked r now m.0
-
-abbrev Asked : Cred → Call → List Entry → Type 0
-Asked cred asked turns = All (λ (e : Entry). AsksFor cred asked e.call) turns
-
-none_asked : (cred : Cred) (asked : Call) (turns : List Entry) → turns ≡ [] → Asked cred asked turns
-none_asked cred asked turns none = subst (Asked cred asked) (sym none) (All-nil (λ (e : Entry). AsksFor cred asked e.call))
-
-turns_asked : (cred : Cred) (asked : Call) (p : Phase) (turns : List Entry) → HasMade cred asked p turns → Asked cred asked turns
-turns_asked cred asked (AtLook s) turns m = none_asked cred asked turns m.1
-turns_asked cred asked (AtPlace s) turns m =
-    let e = m.1 in
-    subst (Asked cred asked) (sym e.1)
-    (All-cons (λ (x : Entry). AsksFor cred asked x.call) e.0 [] (subst (AsksFor cred asked) (sym e.2) (looks cred asked (unseen s) m.0)) (All-nil (λ (x : Entry). AsksFor cred asked x.call)))
-turns_asked cred asked (AtTake r) turns m = none_asked cred asked turns m.1
-
--- ---- the answers of a send, and those of a receive
-
-abbrev IsSend : Call → Type 0
-IsSend (call.Send id mtype flags text) = Unit {0}
-IsSend (call.Receive id size mtype flags body) = ⊥
-
--- a receive of at most this many bytes
-abbrev IsReceive : ℕ → Call → Type 0
-IsReceive n (call.Send id mtype flags text) = ⊥
-IsReceive n (call.Receive id size mtype flags body) = size ≡ n
-
-abbrev Kind : Phase → Call → Type 0
-Kind (AtLook s) asked = IsSend asked
-Kind (AtPlace s) asked = IsSend asked
-Kind (AtTake r) asked = IsReceive r.size asked
-
-is_send : (cred : Cred) (asked : Call) (s : Sending) → begun cred asked ≡ AtLook s → IsSend asked
-is_send cred (call.Send id mtype flags text) s e = tt
-is_send cred (call.Receive id size mtype flags body) s e = absurd cc
-
-is_receive : (cred : Cred) (asked : Call) (r : Receiving) → begun cred asked ≡ AtTake r → IsReceive r.size asked
-is_receive cred (call.Send id mtype flags text) r e = absurd cc
-is_receive cred (call.Receive id size mtype flags body) r e = ap (λ (x : Receiving). x.size) (ap (receiving_in r) e)
-
-kind_of : (cred : Cred) (asked : Call) (p : Phase) (turns : List Entry) → HasMade cred asked p turns → Kind p asked
-kind_of cred asked (AtLook s) turns m = is_send cred asked s m.0
-kind_of cred asked (AtPlace s) turns m = is_send cred asked (unseen s) m.0
-kind_of cred asked (AtTake r) turns m = is_receive cred asked r m.0
-
-abbrev refused_by : ℕ → Errno → Option (List ℕ) → Answer
-refused_by actor why body = record { actor = actor; result = outcome.Refused why; body = body }
-
--- no body comes back to a send, and an empty one to a receive
-no_body : (asked : Call) → IsSend asked → None ≡ body_back asked
-no_body (call.Send id mtype flags text) send = refl
-no_body (call.Receive id size mtype flags body) send = absurd send
-
-empty_body : (asked : Call) (n : ℕ) → IsReceive n asked → Some [] ≡ body_back asked
-empty_body (call.Send id mtype flags text) n receive = absurd receive
-empty_body (call.Receive id size mtype flags body) n receive = refl
-
-send_full : (asked : Call) (actor freed : ℕ) (seen : Bool) → IsSend asked → Ends seen asked (Full freed) (refused_by actor EAGAIN None)
-send_full (call.Send id mtype flags text) actor freed seen send = (refl, refl)
-send_full (call.Receive id size mtype flags body) actor freed seen send = absurd send
-
-send_placed : (asked : Call) (actor number : ℕ) (seen : Bool) → IsSend asked → Ends seen asked (Accepted number) record { actor = actor; result = outcome.Zero; body = None }
-send_placed (call.Send id mtype flags text) actor number seen send = (refl, refl)
-send_placed (call.Receive id size mtype flags body) actor number seen send = absurd send
-
-receive_none : (asked : Call) (n actor arrived : ℕ) (seen : Bool) → IsReceive n asked → Ends seen asked (NoMatch arrived) (refused_by actor ENOMSG (Some []))
-receive_none (call.Send id mtype flags text) n actor arrived seen receive = absurd receive
-receive_none (call.Receive id size mtype flags body) n actor arrived seen receive = (refl, refl)
-
-receive_long : (asked : Call) (n actor : ℕ) (seen : Bool) → IsReceive n asked → Ends seen asked TooLong (refused_by actor E2BIG (Some []))
-receive_long (call.Send id mtype flags text) n actor seen receive = absurd receive
-receive_long (call.Receive id size mtype flags body) n actor seen receive = (refl, refl)
-
-receive_taken : (asked : Call) (n actor : ℕ) (seen : Bool) (m : Message) → IsReceive n asked →
-    Ends seen asked (Taken m) record { actor = actor; result = outcome.Got m.mtype (length (take n m.bytes)); body = Some (take n m.bytes) }
-receive_taken (call.Send id mtype flags text) n actor seen m receive = absurd receive
-receive_taken (call.Receive id size mtype flags body) n actor seen m receive =
-    (ap (λ k. outcome.Got m.mtype (length (take k m.bytes))) (sym receive), ap (λ k. Some (take k m.bytes)) (sym receive))
-
 -- ---- a turn in each phase
 
 module _ (w : World) (given : List Given) (place : ℕ) (d0 : Doing) (now : ℕ) (i : Inv w given) (at : slice_get w.actors place ≡ Some (Some d0)) where
@@ -485,17 +341,17 @@ module _ (w : World) (given : List Given) (place : ℕ) (d0 : Doing) (now : ℕ)
 
 -- ---- a whole run
 
-before_it : (place : ℕ) → suc place - 1 ≡ place
+pub before_it : (place : ℕ) → suc place - 1 ≡ place
 before_it place = omega arith
 
 same_inv : (w after : World) (given more : List Given) → after ≡ w → more ≡ [] → Inv w given → Inv after (given ++ more)
 same_inv w after given more a m i = subst (λ v. Inv v (given ++ more)) (sym a) (subst (λ gs. Inv w (given ++ gs)) (sym m) (subst (Inv w) (sym (append-nil given)) i))
 
-nothing_given : (call : Option Started) → given_in call stepped.Nothing ≡ []
+pub nothing_given : (call : Option Started) → given_in call stepped.Nothing ≡ []
 nothing_given None = refl
 nothing_given (Some call) = refl
 
-worn_given : (call : Option Started) → given_in call stepped.Worn ≡ []
+pub worn_given : (call : Option Started) → given_in call stepped.Worn ≡ []
 worn_given None = refl
 worn_given (Some call) = refl
 

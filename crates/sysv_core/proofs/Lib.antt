@@ -1,6 +1,7 @@
 pub mod Lists
 pub mod SeenSteps
 pub mod KeptActors
+pub mod Asking
 pub mod Answering
 pub mod Starting
 pub mod Telling

@@ -12,7 +12,7 @@ use Rattle.sysv_core.specs.Seen.{Seen, IsSeenAs}
 use Rattle.sysv_queue.specs.LegalReply.{IsLegalHistory}
 use Rattle.sysv_queue.specs.QueueLaw.{QueueLaw}
 use Rattle.sysv_core.specs.Headline.{RunsOn, LawsHold}
-use Rattle.sysv_core.proofs.Answering.{answers_decided}
+use Rattle.sysv_core.proofs.Answering.{answers_decided, worn_given}
 use Rattle.sysv_core.proofs.Starting.{answered_started}
 use Rattle.sysv_core.proofs.Telling.{enders_told}
 use Rattle.sysv_core.proofs.Addressing.{all_to_callers}
@@ -43,13 +43,9 @@ makes_answers : (w after : World) (event : Event) (result : Stepped) → Makes w
 makes_answers w after (Start actor cred call) result m = answers_given (record { who = Actor actor w.steps; cred = cred; asked = call }) result
 makes_answers w after (Step actor now) result m = step_answers w after actor now result (actor_at w.actors actor) m
 
-worn_answers : (call : Option Started) → answers_of (given_in call stepped.Worn) ≡ []
-worn_answers None = refl
-worn_answers (Some call) = refl
-
 event_answers : (w after : World) (event : Event) (result : Stepped) → Steps w event result after → answers_of (given_in (call_of w event) result) ≡ answers_in result
 event_answers w after event result (inl worn) =
-    ap (λ r. answers_of (given_in (call_of w event) r)) worn.1 ∙ (worn_answers (call_of w event) ∙ sym (ap answers_in worn.1))
+    ap (λ r. answers_of (given_in (call_of w event) r)) worn.1 ∙ (ap answers_of (worn_given (call_of w event)) ∙ sym (ap answers_in worn.1))
 event_answers w after event result (inr makes) = makes_answers w after event result makes.1
 
 pub stands_preset : (n : ℕ) (es : List Happening) (given : List Given) (old new : Seen) (made : Bool) → StandsFor n es given old →

@@ -1,5 +1,5 @@
 -- Each answer is of a call whose start is in the list.
-use Rattle.std.proofs.Common.{◌≡◌, ◌≢◌, ℕ, zero, suc, ◌+◌, ◌-◌, ◌⊎◌, inl, inr, Bool, List, [], ◌∷◌, ◌++◌, Option, None, Some, refl, sym, ap, subst, ◌∙◌, arith, slice_get, slice_set, append_assoc}
+use Rattle.std.proofs.Common.{◌≡◌, ℕ, zero, suc, inl, inr, Bool, List, [], ◌∷◌, ◌++◌, Option, None, Some, refl, sym, ap, subst, ◌∙◌, slice_get, slice_set, append_assoc}
 use Rattle.std.specs.List.{All, Contains}
 use Rattle.std.proofs.lemmas.List.{append-nil}
 use Rattle.std.proofs.lemmas.List.Elements.{All-push, All-nil, All-weaker, Contains-append_left, Contains-push}
@@ -17,7 +17,7 @@ use Rattle.sysv_core.specs.World.{World, Doing, opening, in_phase, StaysWith, St
 use Rattle.sysv_core.specs.Run.{Happening, Preset, Happens, Started, Given, Goes, Leads, call_of, call_in, call_at, given_in}
 use Rattle.sysv_core.specs.AnswerLaw.{WasStarted}
 use Rattle.sysv_core.proofs.Lists.{get_set_same, get_set_other, same_place}
-use Rattle.sysv_core.proofs.Answering.{none_busy, one_next}
+use Rattle.sysv_core.proofs.Answering.{none_busy, one_next, nothing_given, worn_given, before_it}
 
 -- the start of the call that the actor at this place is in
 abbrev start_of : ℕ → Doing → Happening
@@ -57,19 +57,8 @@ given_started list given call (stepped.Answer a) all s = All-push (λ (g : Given
 given_started list given call stepped.Nothing all s = subst (AllStarted list) (sym (append-nil given)) all
 given_started list given call stepped.Worn all s = subst (AllStarted list) (sym (append-nil given)) all
 
-nothing_given : (call : Option Started) → given_in call stepped.Nothing ≡ []
-nothing_given None = refl
-nothing_given (Some call) = refl
-
-worn_given : (call : Option Started) → given_in call stepped.Worn ≡ []
-worn_given None = refl
-worn_given (Some call) = refl
-
 stays : (list : List Happening) (w after : World) (given : List Given) (call : Option Started) (result : Stepped) → StaysWith w result after → Inv list w given → Inv list after (given ++ given_in call result)
 stays list w after given call result s i = unmoved list w after given (given_in call result) (ap actors_of s.1) (ap (given_in call) s.0 ∙ nothing_given call) i
-
-before_it : (place : ℕ) → suc place - 1 ≡ place
-before_it place = omega arith
 
 -- one actor is in another call, or in none
 one_moves : (list : List Happening) (actors : List (Option Doing)) (place : ℕ) (was : Option Doing) (next : Option Doing) → slice_get actors place ≡ Some was →
