@@ -24,7 +24,7 @@ pub record Facts (h : History) : Type 0 where
   pub rises : (id : ℤ) → Rises (accepted id h)
   -- so are those of what was delivered below it
   pub gone_low : (id : ℤ) → AreBelow (arrived h) (delivered id h)
-  -- nothing is discarded yet
+  -- nothing is discarded
   pub kept : (id : ℤ) → discarded id h ≡ []
   -- nothing waits under an identifier that is not live
   pub others : (id : ℤ) → ¬ IsLive h id → waiting id h ≡ []

@@ -14,7 +14,7 @@ use Rattle.sysv_queue.proofs.Conserved.{conserved, all_accepted, each_once}
 use Rattle.sysv_queue.proofs.OneOwner.{one_owner}
 use Rattle.sysv_queue.proofs.InOrder.{leaves_in_order}
 
--- no legal turn removes a queue yet
+-- no legal turn removes a queue
 never_removes : (s : Slot) (call : Call) (reply : Reply) → Legal s call reply → (id : ℤ) → removes id call reply ≡ true → ⊥
 never_removes s (Remove at cred) reply l id e = absurd l
 never_removes s call reply l id e = cc
