@@ -16,13 +16,13 @@ pub struct Perm {
 /// What a live queue is beside its messages, `struct msqid_ds` (POSIX.1-2017, `sys/msg.h`).
 #[derive(Clone, Copy, PartialEq, Eq, Debug)]
 pub struct Attributes {
-    /// The identifier under which it lives.
+    /// The identifier under which it lives, not negative.
     pub id: i32,
     /// The key that it was made for, 0 for a private one.
     pub key: i32,
     /// Owner, creator and mode.
     pub perm: Perm,
-    /// The most bytes that may wait.
+    /// The most bytes that may wait, 0 to 65,536; 16,384 in a new queue.
     pub qbytes: u32,
     /// The process of the last send, 0 before one.
     pub lspid: u32,
@@ -74,7 +74,7 @@ pub struct SetTo {
     pub qbytes: u32,
 }
 
-/// One line of the list of queues.
+/// One line of the list of queues (this profile's: the standard has no such list).
 #[derive(Clone, Copy, PartialEq, Eq, Debug)]
 pub struct Row {
     /// The identifier.

@@ -5,8 +5,8 @@ use crate::no_memory::NoMemory;
 use std::alloc::Global;
 use std::marker::Model;
 
-/// The text of one message: a list of at most 8,256 bytes, with room for all of them from the
-/// start, so that nothing but `open` takes memory.
+/// The text of one message, `mtext` (POSIX.1-2017, `msgsnd`): a list of at most 8,256 bytes (this
+/// profile's), with room for all of them from the start, so that nothing but `open` takes memory.
 #[derive(Drop)]
 pub struct Body {
     bytes: Vec<u8>,

@@ -11,19 +11,33 @@ pub struct Flags(u32);
 
 bitflag_items! {
     impl Flags: u32 {
+        /// Others may execute; no call asks it.
         const OTHER_EXECUTE = 0o001;
+        /// Others may write.
         const OTHER_WRITE = 0o002;
+        /// Others may read.
         const OTHER_READ = 0o004;
+        /// The group may execute; no call asks it.
         const GROUP_EXECUTE = 0o010;
+        /// The group may write.
         const GROUP_WRITE = 0o020;
+        /// The group may read.
         const GROUP_READ = 0o040;
+        /// The user may execute; no call asks it.
         const USER_EXECUTE = 0o100;
+        /// The user may write.
         const USER_WRITE = 0o200;
+        /// The user may read.
         const USER_READ = 0o400;
+        /// Make a queue where none has the key.
         const IPC_CREAT = 512;
+        /// Only a new queue is wanted.
         const IPC_EXCL = 1024;
+        /// The call is not to wait.
         const IPC_NOWAIT = 2048;
+        /// A text that is longer than the size is cut.
         const MSG_NOERROR = 4096;
+        /// Any type but the one given (this profile's: a receive refuses it).
         const MSG_EXCEPT = 8192;
     }
 }

@@ -145,8 +145,8 @@ impl QueueSlot {
     }
 
     /// Makes a queue of `cred` under this identifier and key, with the low nine bits of `mode`, at
-    /// the moment `now` in seconds (POSIX.1-2017, `msgget`). `false`, with nothing changed, where a
-    /// queue is live.
+    /// the moment `now` in seconds (POSIX.1-2017, `msgget`). `id` is live from then on; it is not to
+    /// be negative, which the caller sees to. `false`, with nothing changed, where a queue is live.
     pub fn install(&mut self, id: i32, key: i32, cred: Cred, mode: u32, now: u64) -> bool
         ensures turn { MakesTurn self.old (Install id key cred mode now) (Installed result) self.new }
         ensures refused { result ≡ false → self.new ≡ self.old }
