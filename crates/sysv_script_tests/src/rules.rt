@@ -3,7 +3,7 @@
 use crate::language::run;
 
 /// Scripts with what they print. In each the queue is of user and group 1000 and has mode 0600.
-const RUNS: [(&[u8], &[u8]); 10] = [
+const RUNS: [(&[u8], &[u8]); 13] = [
     // by an exact type, by a bound, and the first that is left
     (
         b"preset
@@ -51,6 +51,18 @@ const RUNS: [(&[u8], &[u8]); 10] = [
 ",
     ),
     // a bound below the only type names nothing, and the message stays
+    (
+        b"preset
+1 snd 0 3 - =p
+2 rcv 0 9 -2 NOWAIT
+2 rcv 0 9 -3 NOWAIT
+",
+        b"1 snd = 0
+2 rcv ! ENOMSG
+2 rcv = 1 type 3 =p
+",
+    ),
+    // so does an exact type that no message has
     (
         b"preset
 1 snd 0 3 - =p
@@ -116,6 +128,21 @@ const RUNS: [(&[u8], &[u8]); 10] = [
 2 rcv = 0 type 1 =
 ",
     ),
+    // a call's own arguments come first, then the permission
+    (
+        b"preset
+as 3 5 5 7
+3 snd 0 1 NOWAIT *8193
+3 snd 0 0 NOWAIT =x
+3 snd 0 1 NOWAIT *8192
+1 snd 0 1 NOWAIT *8192
+",
+        b"3 snd ! EINVAL
+3 snd ! EINVAL
+3 snd ! EACCES
+1 snd = 0
+",
+    ),
     // a call's own arguments come first, then the permission, then the room
     (
         b"preset
@@ -160,6 +187,15 @@ as 3 1000 2000 7
 3 rcv ! EACCES
 3 rcv ! E2BIG
 3 rcv = 4 type 1 =long
+",
+    ),
+    // user 0 has write permission
+    (
+        b"preset
+as 3 0 0 1
+3 snd 0 1 NOWAIT =z
+",
+        b"3 snd = 0
 ",
     ),
     // user 0 has all permissions
