@@ -43,7 +43,7 @@ fn takes_any_pieces(rt: HostRuntime) -> Result<(), Fail> {
 
 #[test]
 fn says_that_the_reader_failed(rt: HostRuntime) -> Result<(), Fail> {
-    for good in 0..SCRIPT.len() {
+    for good in 0..=SCRIPT.len() {
         let mut reader = Pieces {
             rest: SCRIPT,
             piece: 5,
