@@ -87,9 +87,14 @@ mod tests {
     use super::*;
     use std::test::Fail;
 
+    /// What the words ask for. Memory is refused once at most.
+    fn asked_of(alloc: Global, words: &[&str]) -> Result<Task, AllocError> {
+        task_of(alloc, words).or_else(|_| task_of(alloc, words))
+    }
+
     #[test]
     fn understands_script_alone(rt: HostRuntime) -> Result<(), Fail> {
-        let understood = task_of(rt.alloc(), &["sysvmsg", "script"])?;
+        let understood = asked_of(rt.alloc(), &["sysvmsg", "script"])?;
         assert_eq!(rt; understood, Task::Script);
         for word in [
             "scripts",
@@ -101,12 +106,12 @@ mod tests {
             "--version",
             "",
         ] {
-            let asked = task_of(rt.alloc(), &["sysvmsg", word])?;
+            let asked = asked_of(rt.alloc(), &["sysvmsg", word])?;
             assert_eq!(rt; asked, Task::Explain, "{word}");
-            let beside = task_of(rt.alloc(), &["sysvmsg", "script", word])?;
+            let beside = asked_of(rt.alloc(), &["sysvmsg", "script", word])?;
             assert_eq!(rt; beside, Task::Explain, "{word}");
         }
-        assert_eq!(rt; task_of(rt.alloc(), &["sysvmsg"])?, Task::Explain);
+        assert_eq!(rt; asked_of(rt.alloc(), &["sysvmsg"])?, Task::Explain);
         Ok(())
     }
 }
