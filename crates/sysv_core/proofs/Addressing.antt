@@ -11,8 +11,8 @@ use Rattle.sysv_core.specs.declared.event.Stepped.{Stepped}
 use Rattle.sysv_core.specs.declared.event.Stepped.TheVariants as stepped
 use Rattle.sysv_core.specs.Phase.{Phase, AtLook, AtPlace, AtTake}
 use Rattle.sysv_core.specs.Turn.{after_turn}
-use Rattle.sysv_core.specs.World.{World, Doing, actor_at, StartsAt, StepsAt, Makes, Steps}
-use Rattle.sysv_core.specs.Run.{Happening, Preset, Happens, Given, Goes, Leads, Started, call_of, call_in, call_at, given_in}
+use Rattle.sysv_core.specs.World.{World, Started, Doing, actor_at, StartsAt, StepsAt, Makes, Steps}
+use Rattle.sysv_core.specs.Run.{Happening, Preset, Happens, Given, Goes, Leads, call_of, call_in, call_at, given_in}
 use Rattle.sysv_core.specs.AnswerLaw.{IsToCaller}
 use Rattle.sysv_core.proofs.Answering.{worn_given}
 

@@ -1,4 +1,4 @@
--- Every answer of a run is decided by the turns of its own call.
+-- Every answer of a run is decided by what was asked and by the turns of its own call.
 use Rattle.std.proofs.Common.{◌≡◌, ◌≢◌, ℕ, zero, suc, ◌+◌, ◌-◌, ◌<◌, ◌==◌, ◌&&◌, ◌⊎◌, inl, inr, Bool, true, false, cond, List, [], ◌∷◌, ◌++◌, Option, None, Some, refl, sym, ap, subst, ◌∙◌, arith, length, slice_get, slice_set, replicate, append_assoc}
 use Rattle.std.specs.List.{All, AllPairs, AllByRecursion, slice_index_or}
 use Rattle.std.proofs.lemmas.List.{append-nil}
@@ -19,8 +19,8 @@ use Rattle.sysv_core.specs.declared.event.Stepped.TheVariants as stepped
 use Rattle.sysv_core.specs.Phase.{Phase, Sending, AtLook, AtPlace, AtTake}
 use Rattle.sysv_core.specs.Begin.{IsRefused, begun, body_back}
 use Rattle.sysv_core.specs.Turn.{turn_call, after_turn, gone}
-use Rattle.sysv_core.specs.World.{World, Doing, opening, in_phase, StaysWith, StartsAt, StepsAt, Makes, Steps, Presets, preset_call}
-use Rattle.sysv_core.specs.Run.{Happening, Preset, Happens, Given, Goes, Leads, Started, call_of, call_in, call_at, given_in}
+use Rattle.sysv_core.specs.World.{World, Doing, opening, in_phase, starting, Started, StaysWith, StartsAt, StepsAt, Makes, Steps, Presets, preset_call}
+use Rattle.sysv_core.specs.Run.{Happening, Preset, Happens, Given, Goes, Leads, call_of, call_in, call_at, given_in}
 use Rattle.sysv_core.proofs.Asking.{HasMade, begun_made, seen_in, made, turn_asked, turns_asked, Kind, kind_of, no_body, empty_body, send_full, send_placed, receive_none, receive_long, receive_taken, unseen}
 use Rattle.sysv_core.proofs.Lists.{get_set_same, get_set_other, same_place}
 use Rattle.sysv_core.specs.AnswerLaw.{is_call, turns_of, AsksFor, live_seen, Refuses, Ends, IsAnsweredBy}
@@ -116,10 +116,10 @@ at_index P [] k d a l = absurd (omega arith)
 at_index P (x ∷ xs) zero d a l = a.0
 at_index P (x ∷ xs) (suc k) d a l = at_index P xs k d a.1 (omega arith)
 
-one_doing : (o : Option (Option Doing)) (c d : Doing) → o ≡ Some (Some c) → o ≡ Some (Some d) → c ≡ d
+pub one_doing : (o : Option (Option Doing)) (c d : Doing) → o ≡ Some (Some c) → o ≡ Some (Some d) → c ≡ d
 one_doing o c d a b = cc
 
-idle_or_busy : (o : Option (Option Doing)) (d : Doing) → o ≡ Some None → o ≡ Some (Some d) → ⊥
+pub idle_or_busy : (o : Option (Option Doing)) (d : Doing) → o ≡ Some None → o ≡ Some (Some d) → ⊥
 idle_or_busy o d a b = cc
 
 still_idle : (o : Option (Option Doing)) (d : Doing) → o ≡ Some None → o ≡ Some (Some d) → {A : Type 0} → A
@@ -129,11 +129,11 @@ one_call : (a b s t : ℕ) → Actor (suc a) s ≡ Actor (suc b) t → (a ≡ b)
 one_call a b s t e = let p : suc a ≡ suc b = cc in let q : s ≡ t = cc in (omega arith, q)
 
 -- the steps go on by one, and nothing else changes
-counted : (w : World) (given : List Given) → Inv w given → Inv (record w { steps = w.steps + 1 }) given
-counted w given i = record {
+counted : (w : World) (calls : List Started) (given : List Given) → Inv w given → Inv (record w { calls = calls; steps = w.steps + 1 }) given
+counted w calls given i = record {
   before = weaker_all (λ (e : Entry). IsBefore w.steps e.who) (λ (e : Entry). IsBefore (w.steps + 1) e.who) (λ e b. later_too w.steps e.who b) w.history i.before;
   doing = λ place d e. (omega (arith, (i.doing place d e).0), (i.doing place d e).1);
-  answered = weaker_all (WasAnswered w) (WasAnswered (record w { steps = w.steps + 1 })) (λ g a. record { place = a.place; start = a.start; is = a.is; before = omega (arith, a.before); by = a.by; over = a.over }) given i.answered;
+  answered = weaker_all (WasAnswered w) (WasAnswered (record w { calls = calls; steps = w.steps + 1 })) (λ g a. record { place = a.place; start = a.start; is = a.is; before = omega (arith, a.before); by = a.by; over = a.over }) given i.answered;
   once = i.once;
 }
 
@@ -166,20 +166,20 @@ unanswered_doing w given place d at a = weaker_all (WasAnswered w) (λ (g : Give
 
 -- ---- a start
 
-begin_refused : (w : World) (given : List Given) (place : ℕ) (cred : Cred) (asked : Call) (answer : Answer) → Inv w given → slice_get w.actors place ≡ Some None → IsRefused asked → Refuses asked EINVAL answer →
-    Inv (record w { steps = w.steps + 1 }) (given ++ record { call = record { who = Actor (suc place) w.steps; cred = cred; asked = asked }; answer = answer } ∷ [])
-begin_refused w given place cred asked answer i idle refused says =
-    told (record w { steps = w.steps + 1 }) given place w.steps cred asked answer (counted w given i) (omega arith)
+begin_refused : (w : World) (calls : List Started) (given : List Given) (place : ℕ) (cred : Cred) (asked : Call) (answer : Answer) → Inv w given → slice_get w.actors place ≡ Some None → IsRefused asked → Refuses asked EINVAL answer →
+    Inv (record w { calls = calls; steps = w.steps + 1 }) (given ++ record { call = record { who = Actor (suc place) w.steps; cred = cred; asked = asked }; answer = answer } ∷ [])
+begin_refused w calls given place cred asked answer i idle refused says =
+    told (record w { calls = calls; steps = w.steps + 1 }) given place w.steps cred asked answer (counted w calls given i) (omega arith)
     (inl (refused, no_turns place w.steps w.history i.before, says))
     (λ d at. absurd (idle_or_busy (slice_get w.actors place) d idle at))
     (unanswered_start w given place i.answered)
 
-begin_ok : (w : World) (given : List Given) (place : ℕ) (cred : Cred) (asked : Call) → Inv w given → slice_get w.actors place ≡ Some None → ¬ IsRefused asked →
-    Inv (record { history = w.history; actors = slice_set w.actors place (Some record { phase = begun cred asked; start = w.steps; cred = cred; asked = asked }); steps = w.steps + 1 }) given
-begin_ok w given place cred asked i idle allowed =
+begin_ok : (w : World) (calls : List Started) (given : List Given) (place : ℕ) (cred : Cred) (asked : Call) → Inv w given → slice_get w.actors place ≡ Some None → ¬ IsRefused asked →
+    Inv (record { history = w.history; calls = calls; actors = slice_set w.actors place (Some record { phase = begun cred asked; start = w.steps; cred = cred; asked = asked }); steps = w.steps + 1 }) given
+begin_ok w calls given place cred asked i idle allowed =
     let d0 : Doing = record { phase = begun cred asked; start = w.steps; cred = cred; asked = asked } in
-    let next : World = record { history = w.history; actors = slice_set w.actors place (Some d0); steps = w.steps + 1 } in
-    let c = counted w given i in
+    let next : World = record { history = w.history; calls = calls; actors = slice_set w.actors place (Some d0); steps = w.steps + 1 } in
+    let c = counted w calls given i in
     let here : slice_get next.actors place ≡ Some (Some d0) = get_set_same w.actors place (Some d0) None idle in
     let doings : (other : ℕ) (d : Doing) → slice_get next.actors other ≡ Some (Some d) → ((d ≡ d0) × (other ≡ place)) ⊎ ((slice_get w.actors other ≡ Some (Some d)) × (place ≢ other)) = λ other d e.
     elim (same_place place other) [
@@ -222,7 +222,7 @@ module _ (w : World) (given : List Given) (place : ℕ) (d0 : Doing) (call : Tur
   turn_entry = record { who = Actor (suc place) d0.start; call = call; reply = reply }
 
   abbrev after_it : Option Doing → World
-  after_it next = record { history = w.history ++ turn_entry ∷ []; actors = slice_set w.actors place next; steps = w.steps + 1 }
+  after_it next = record { history = w.history ++ turn_entry ∷ []; calls = w.calls; actors = slice_set w.actors place next; steps = w.steps + 1 }
 
   entries_before : AllByRecursion (λ (e : Entry). IsBefore (w.steps + 1) e.who) (w.history ++ turn_entry ∷ [])
   entries_before =
@@ -358,27 +358,26 @@ worn_given (Some call) = refl
 stays : (w after : World) (given : List Given) (call : Option Started) (result : Stepped) → StaysWith w result after → Inv w given → Inv after (given ++ given_in call result)
 stays w after given call result s i = same_inv w after given (given_in call result) s.1 (ap (given_in call) s.0 ∙ nothing_given call) i
 
--- the call that starts now
-abbrev starting : World → ℕ → Cred → Call → Option Started
-starting w actor cred asked = Some record { who = Actor actor w.steps; cred = cred; asked = asked }
 
 start_keeps : (w after : World) (given : List Given) (place : ℕ) (cred : Cred) (c : Call) (result : Stepped) (o : Option (Option Doing)) → slice_get w.actors place ≡ o →
-    StartsAt w (suc place) cred c o result after → Inv w given → Inv after (given ++ given_in (starting w (suc place) cred c) result)
-start_keeps w after given place cred c result None at s i = stays w after given (starting w (suc place) cred c) result s i
-start_keeps w after given place cred c result (Some (Some d)) at s i = stays w after given (starting w (suc place) cred c) result s i
+    StartsAt w (suc place) cred c o result after → Inv w given → Inv after (given ++ given_in (Some (starting w (suc place) cred c)) result)
+start_keeps w after given place cred c result None at s i = stays w after given (Some (starting w (suc place) cred c)) result s i
+start_keeps w after given place cred c result (Some (Some d)) at s i = stays w after given (Some (starting w (suc place) cred c)) result s i
 start_keeps w after given place cred c result (Some None) at (inl refused) i =
-    let who = starting w (suc place) cred c in
+    let who = Some (starting w (suc place) cred c) in
+    let calls = w.calls ++ starting w (suc place) cred c ∷ [] in
     let answer : Answer = record { actor = suc place; result = outcome.Refused EINVAL; body = body_back c } in
     subst (λ v. Inv v (given ++ given_in who result)) (sym refused.2)
-    (subst (λ (r : Stepped). Inv (record w { steps = w.steps + 1 }) (given ++ given_in who r)) (sym refused.1)
-    (begin_refused w given place cred c answer i at refused.0 (refl, refl)))
+    (subst (λ (r : Stepped). Inv (record w { calls = calls; steps = w.steps + 1 }) (given ++ given_in who r)) (sym refused.1)
+    (begin_refused w calls given place cred c answer i at refused.0 (refl, refl)))
 start_keeps w after given place cred c result (Some None) at (inr begun_now) i =
-    let who = starting w (suc place) cred c in
+    let who = Some (starting w (suc place) cred c) in
+    let calls = w.calls ++ starting w (suc place) cred c ∷ [] in
     let d0 : Doing = record { phase = begun cred c; start = w.steps; cred = cred; asked = c } in
-    let world : ℕ → World = λ n. record { history = w.history; actors = slice_set w.actors n (Some d0); steps = w.steps + 1 } in
+    let world : ℕ → World = λ n. record { history = w.history; calls = calls; actors = slice_set w.actors n (Some d0); steps = w.steps + 1 } in
     subst (λ v. Inv v (given ++ given_in who result)) (sym (begun_now.2 ∙ ap world (before_it place)))
     (subst (λ (r : Stepped). Inv (world place) (given ++ given_in who r)) (sym begun_now.1)
-    (subst (Inv (world place)) (sym (append-nil given)) (begin_ok w given place cred c i at begun_now.0)))
+    (subst (Inv (world place)) (sym (append-nil given)) (begin_ok w calls given place cred c i at begun_now.0)))
 
 step_keeps : (w after : World) (given : List Given) (place now : ℕ) (result : Stepped) (o : Option (Option Doing)) → slice_get w.actors place ≡ o →
     StepsAt w (suc place) now o result after → Inv w given → Inv after (given ++ given_in (call_at (suc place) o) result)
@@ -388,13 +387,13 @@ step_keeps w after given place now result (Some (Some d)) at s i =
     let who = Some (call_in (suc place) d) in
     let reply = s.0 in
     let e : Entry = record { who = Actor (suc place) d.start; call = turn_call d.phase now; reply = reply } in
-    let world : ℕ → World = λ n. record { history = w.history ++ e ∷ []; actors = slice_set w.actors n (in_phase d (after_turn (suc place) d.phase reply).0); steps = w.steps + 1 } in
+    let world : ℕ → World = λ n. record { history = w.history ++ e ∷ []; calls = w.calls; actors = slice_set w.actors n (in_phase d (after_turn (suc place) d.phase reply).0); steps = w.steps + 1 } in
     subst (λ v. Inv v (given ++ given_in who result)) (sym (s.3 ∙ ap world (before_it place)))
     (subst (λ (r : Stepped). Inv (world place) (given ++ given_in who r)) (sym s.2)
     (phase_keeps w given place d now i at d.phase reply refl s.1))
 
 makes_keeps : (w after : World) (given : List Given) (event : Event) (result : Stepped) → Makes w event result after → Inv w given → Inv after (given ++ given_in (call_of w event) result)
-makes_keeps w after given (Start zero cred c) result m i = stays w after given (starting w 0 cred c) result m i
+makes_keeps w after given (Start zero cred c) result m i = stays w after given (Some (starting w 0 cred c)) result m i
 makes_keeps w after given (Start (suc place) cred c) result m i = start_keeps w after given place cred c result (slice_get w.actors place) refl m i
 makes_keeps w after given (Step zero now) result m i = stays w after given None result m i
 makes_keeps w after given (Step (suc place) now) result m i = step_keeps w after given place now result (slice_get w.actors place) refl m i

@@ -38,7 +38,7 @@ module _ (one : NoTwoRepliesAreLegal) where
   turns_once : (w : World) (actor : ℕ) (doing : Doing) (now : ℕ) (r s : Stepped) (a b : World) → Turns w actor doing now r a → Turns w actor doing now s b → Same r s a b
   turns_once w actor doing now r s a b h k =
       let same : h.0 ≡ k.0 = one w.history (turn_call doing.phase now) h.0 k.0 h.1 k.1 in
-      let turned : Reply → World = λ reply. record {
+      let turned : Reply → World = λ reply. record w {
         history = then_turn w.history (Actor actor doing.start) (turn_call doing.phase now) reply;
         actors = with_actor w.actors actor (in_phase doing (after_turn actor doing.phase reply).0);
         steps = w.steps + 1;

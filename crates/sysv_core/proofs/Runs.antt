@@ -7,16 +7,16 @@ use Rattle.sysv_core.specs.declared.event.Answer.{Answer}
 use Rattle.sysv_core.specs.declared.event.Stepped.{Stepped}
 use Rattle.sysv_core.specs.declared.event.Stepped.TheVariants as stepped
 use Rattle.sysv_model.specs.History.{Actor, History}
-use Rattle.sysv_core.specs.World.{World, Doing, opening, actor_at, Steps, StepsAt, Makes, Presets}
+use Rattle.sysv_core.specs.World.{World, Started, Doing, opening, actor_at, Steps, StepsAt, Makes, Presets}
 use Rattle.sysv_core.specs.Seen.{Seen, IsSeenAs}
 use Rattle.sysv_queue.specs.LegalReply.{IsLegalHistory}
 use Rattle.sysv_queue.specs.QueueLaw.{QueueLaw}
 use Rattle.sysv_core.specs.Headline.{RunsOn, LawsHold}
 use Rattle.sysv_core.proofs.Answering.{answers_decided, worn_given}
-use Rattle.sysv_core.proofs.Starting.{answered_started}
+use Rattle.sysv_core.proofs.Starting.{calls_hold}
 use Rattle.sysv_core.proofs.Telling.{enders_told}
 use Rattle.sysv_core.proofs.Addressing.{all_to_callers}
-use Rattle.sysv_core.specs.Run.{Happening, Preset, Happens, Given, Goes, Leads, StandsFor, Started, call_of, call_in, call_at, given_in, answers_in, answers_of}
+use Rattle.sysv_core.specs.Run.{Happening, Preset, Happens, Given, Goes, Leads, StandsFor, call_of, call_in, call_at, given_in, answers_in, answers_of}
 
 pub leads_more : (w : World) (xs : List Happening) (x : Happening) (given more : List Given) (mid after : World) →
     Leads w xs given mid → Goes mid x more after → Leads w (xs ++ x ∷ []) (given ++ more) after
@@ -122,11 +122,14 @@ runs_on start new events done left answers u split worn n es given s =
 pub laws_hold : ((h : History) → IsLegalHistory h → QueueLaw h) → (seen : Seen) → LawsHold seen
 laws_hold law seen = λ n es given s.
     let decided = answers_decided n es given s.world s.led in
+    let calls = calls_hold n es given s.world s.led in
     record {
       queue = law s.world.history s.sight.slot.legal;
       answers = decided.0;
-      started = answered_started n es given s.world s.led;
+      started = calls.started;
       once = decided.1;
       addressed = all_to_callers es (opening n) s.world given s.led;
+      apart = calls.apart;
+      settled = calls.settled;
       told = enders_told n es given s.world s.led;
     }

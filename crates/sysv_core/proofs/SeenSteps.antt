@@ -1,5 +1,5 @@
 -- One event in a world of the definitions, told from what the world of the code is seen as.
-use Rattle.std.proofs.Common.{◌≡◌, ℕ, zero, suc, ◌+◌, ◌-◌, ◌<◌, ◌⊎◌, inl, inr, Bool, true, false, Option, None, Some, IsSome, refl, sym, ap, subst, ◌∙◌, arith, length, map, slice_get, slice_set, option_map}
+use Rattle.std.proofs.Common.{◌≡◌, ℕ, zero, suc, ◌+◌, ◌-◌, ◌<◌, ◌⊎◌, inl, inr, Bool, true, false, [], ◌∷◌, ◌++◌, Option, None, Some, IsSome, refl, sym, ap, subst, ◌∙◌, arith, length, map, slice_get, slice_set, option_map}
 use Rattle.std.proofs.lemmas.List.{length-map}
 use Rattle.std.proofs.lemmas.Option.{slice_get-map, slice_get_past}
 use Rattle.sysv_model.specs.declared.cred.Cred.{Cred}
@@ -16,7 +16,7 @@ use Rattle.sysv_core.specs.declared.event.Stepped.TheVariants as stepped
 use Rattle.sysv_core.specs.Phase.{Phase}
 use Rattle.sysv_core.specs.Begin.{IsRefused, begun, body_back}
 use Rattle.sysv_core.specs.Turn.{turn_call, after_turn}
-use Rattle.sysv_core.specs.World.{World, Doing, Makes, StartsAt, StepsAt, actor_at, with_actor, in_phase, Presets, preset_call}
+use Rattle.sysv_core.specs.World.{World, Doing, Makes, StartsAt, StepsAt, actor_at, with_actor, in_phase, starting, Presets, preset_call}
 use Rattle.sysv_core.specs.Seen.{Seen, IsSeenAs, phase_in}
 use Rattle.sysv_core.proofs.Lists.{map-slice_set}
 
@@ -78,7 +78,7 @@ module _ (w : World) (seen : Seen) (s : IsSeenAs w seen) where
       (after : World) × Makes w (Start actor cred call) (stepped.Answer record { actor = actor; result = outcome.Refused EINVAL; body = body_back call }) after
       × IsSeenAs after (record seen { steps = seen.steps + 1 })
   start_refused actor place cred call e h refused =
-      let after : World = record w { steps = w.steps + 1 } in
+      let after : World = record w { calls = w.calls ++ starting w actor cred call ∷ []; steps = w.steps + 1 } in
       let given : Stepped = stepped.Answer record { actor = actor; result = outcome.Refused EINVAL; body = body_back call } in (
         after,
         subst (λ o. StartsAt w actor cred call o given after) (sym (at actor place e ∙ idle_at place h)) (inl (refused, refl, refl)),
@@ -90,7 +90,7 @@ module _ (w : World) (seen : Seen) (s : IsSeenAs w seen) where
       × IsSeenAs after (record seen { phases = slice_set seen.phases place (Some (begun cred call)); steps = seen.steps + 1 })
   start_begun actor place cred call e h allowed =
       let d : Doing = record { phase = begun cred call; start = w.steps; cred = cred; asked = call } in
-      let after : World = record w { actors = with_actor w.actors actor (Some d); steps = w.steps + 1 } in (
+      let after : World = record w { calls = w.calls ++ starting w actor cred call ∷ []; actors = with_actor w.actors actor (Some d); steps = w.steps + 1 } in (
         after,
         subst (λ o. StartsAt w actor cred call o stepped.Nothing after) (sym (at actor place e ∙ idle_at place h)) (inr (allowed, refl, refl)),
         record { slot = s.slot; phases = placed actor place (Some d) e; steps = ap (λ n. n + 1) s.steps },
@@ -117,7 +117,7 @@ module _ (w : World) (seen : Seen) (s : IsSeenAs w seen) where
       let who : Who = Actor actor d.start in
       let same : d.phase ≡ p = found.2 in
       let turned : MakesTurn seen.slot (turn_call d.phase now) reply slot = subst (λ q. MakesTurn seen.slot (turn_call q now) reply slot) (sym same) turn in
-      let after : World = record {
+      let after : World = record w {
         history = then_turn w.history who (turn_call d.phase now) reply;
         actors = with_actor w.actors actor (in_phase d (after_turn actor d.phase reply).0);
         steps = w.steps + 1;

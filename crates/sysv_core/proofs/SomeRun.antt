@@ -17,7 +17,7 @@ use Rattle.sysv_core.specs.declared.event.Stepped.TheVariants as stepped
 use Rattle.sysv_core.specs.Phase.{Phase, AtLook, AtPlace, AtTake}
 use Rattle.sysv_core.specs.Begin.{IsRefused, has_flag, begun, body_back}
 use Rattle.sysv_core.specs.Turn.{turn_call, after_turn}
-use Rattle.sysv_core.specs.World.{World, Doing, Begins, Turns, StartsAt, StepsAt, Makes, actor_at, with_actor, in_phase, Presets, preset_call}
+use Rattle.sysv_core.specs.World.{World, Doing, Begins, Turns, StartsAt, StepsAt, Makes, actor_at, with_actor, in_phase, starting, Presets, preset_call}
 use Rattle.sysv_core.specs.Run.{Happening, Preset, Happens, Given, Goes, Leads, call_of, given_in}
 use Rattle.sysv_core.specs.SomeRun.{SomeStep, SomePreset, SomeRun}
 
@@ -64,12 +64,16 @@ begins_somewhere : (w : World) (actor : ℕ) (cred : Cred) (call : Call) → (gi
 begins_somewhere w actor cred call = elim (refused_or_not call) [
   | inl refused ↦ (
     stepped.Answer record { actor = actor; result = outcome.Refused EINVAL; body = body_back call },
-    record w { steps = w.steps + 1 },
+    record w { calls = w.calls ++ starting w actor cred call ∷ []; steps = w.steps + 1 },
     inl (refused, refl, refl),
   )
   | inr not ↦ (
     stepped.Nothing,
-    record w { actors = with_actor w.actors actor (Some record { phase = begun cred call; start = w.steps; cred = cred; asked = call }); steps = w.steps + 1 },
+    record w {
+      calls = w.calls ++ starting w actor cred call ∷ [];
+      actors = with_actor w.actors actor (Some record { phase = begun cred call; start = w.steps; cred = cred; asked = call });
+      steps = w.steps + 1;
+    },
     inr (not, refl, refl),
   )
 ]
@@ -93,7 +97,7 @@ module _ (some : SomeReplyIsLegal) where
   turns_somewhere w actor doing now =
       let found = some w.history (turn_call doing.phase now) (turn_there doing.phase now) in (
         (after_turn actor doing.phase found.0).1,
-        record {
+        record w {
           history = then_turn w.history (Actor actor doing.start) (turn_call doing.phase now) found.0;
           actors = with_actor w.actors actor (in_phase doing (after_turn actor doing.phase found.0).0);
           steps = w.steps + 1;

@@ -11,8 +11,8 @@ use Rattle.sysv_core.specs.declared.event.Event.TheVariants.{Start, Step}
 use Rattle.sysv_core.specs.declared.event.Stepped.{Stepped}
 use Rattle.sysv_core.specs.Phase.{Phase, AtLook, AtPlace, AtTake}
 use Rattle.sysv_core.specs.Turn.{turn_call, after_turn}
-use Rattle.sysv_core.specs.World.{World, Doing, opening, actor_at, StartsAt, StepsAt, Makes, Steps, Presets, preset_call}
-use Rattle.sysv_core.specs.Run.{Happening, Preset, Happens, Given, Goes, Leads, Started, call_of, call_in, call_at, given_in}
+use Rattle.sysv_core.specs.World.{World, Started, Doing, opening, actor_at, StartsAt, StepsAt, Makes, Steps, Presets, preset_call}
+use Rattle.sysv_core.specs.Run.{Happening, Preset, Happens, Given, Goes, Leads, call_of, call_in, call_at, given_in}
 use Rattle.sysv_core.specs.AnswerLaw.{ends_call, IsTold}
 
 abbrev Told : List Given → Entry → Type 0

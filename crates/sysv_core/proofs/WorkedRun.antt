@@ -1,8 +1,8 @@
 -- The worked run, one lemma for each of its happenings; the replies that are not legal at its turns.
-use Rattle.std.proofs.Common.{◌≡◌, ℕ, ℤ, pos, zero, suc, ◌+◌, ◌<◌, ◌≤◌, ◌^◌, inl, inr, true, false, List, [], ◌∷◌, ◌++◌, length, None, Some, refl, sym, ap, ◌∙◌, arith, slice_get}
+use Rattle.std.proofs.Common.{◌≡◌, ℕ, ℤ, pos, zero, suc, ◌+◌, ◌<◌, ◌≤◌, ◌^◌, inl, inr, true, false, List, [], ◌∷◌, ◌++◌, length, None, Some, refl, sym, ap, ◌∙◌, arith, slice_get, take}
 use Rattle.std.proofs.lemmas.Int.{ints}
 use Rattle.sysv_model.specs.declared.cred.Cred.{Cred}
-use Rattle.sysv_model.specs.declared.errno.Errno.TheVariants.{ENOMSG}
+use Rattle.sysv_model.specs.declared.errno.Errno.TheVariants.{EINVAL, ENOMSG}
 use Rattle.sysv_model.specs.Message.{Message}
 use Rattle.sysv_model.specs.Selector.{Any}
 use Rattle.sysv_model.specs.History.{Fits, Accepted, NoMatch, Taken}
@@ -15,9 +15,9 @@ use Rattle.sysv_core.specs.declared.event.Outcome.TheVariants as outcome
 use Rattle.sysv_core.specs.declared.event.Call.{Call}
 use Rattle.sysv_core.specs.Phase.{Phase, AtLook, AtPlace, AtTake}
 use Rattle.sysv_core.specs.Begin.{IsRefused, begun}
-use Rattle.sysv_core.specs.World.{World, opening, with_actor}
+use Rattle.sysv_core.specs.World.{World, Started, opening, with_actor}
 use Rattle.sysv_core.specs.Run.{Happening, Preset, Given, Goes, Leads}
-use Rattle.sysv_core.specs.WorkedRun.{sender, receiver, hello, receive_up_to_100, send_hello, send_nothing, one_starts, two_starts, steps, the_happenings, the_answers, one_is_told, two_is_told, hello_message, empty_message, take_by, look_for, place_hello, place_nothing, WorkedRun, after_turns, NoWrongReply, start_of, ExactFit}
+use Rattle.sysv_core.specs.WorkedRun.{sender, receiver, hello, receive_up_to_100, send_hello, send_nothing, one_starts, two_starts, steps, the_happenings, send_typeless, one_calls, two_calls, the_calls, the_answers, one_is_told, two_is_told, hello_message, empty_message, take_by, look_for, place_hello, place_nothing, WorkedRun, after_turns, NoWrongReply, start_of, ExactFit}
 
 -- ---- the legal replies of the run
 
@@ -77,13 +77,20 @@ start_nothing (inr (inr h)) = omega (arith, ints)
 
 -- ---- the worlds of the run
 
--- after that many turns and counted events, where no actor is in a call, and where one is
-abbrev idle_at : (turns count : ℕ) → World
-idle_at turns count = record { history = after_turns turns; actors = (opening 16).actors; steps = count }
+abbrev after_calls : ℕ → List Started
+after_calls count = take count the_calls
 
-abbrev calling_at : (turns count actor : ℕ) → Phase → (start : ℕ) → Cred → Call → World
-calling_at turns count actor phase start cred call =
-    record { history = after_turns turns; actors = with_actor (opening 16).actors actor (Some record { phase = phase; start = start; cred = cred; asked = call }); steps = count }
+-- after that many turns, calls and counted events, where no actor is in a call, and where one is
+abbrev idle_at : (turns : ℕ) → List Started → (count : ℕ) → World
+idle_at turns calls count = record { history = after_turns turns; calls = calls; actors = (opening 16).actors; steps = count }
+
+abbrev calling_at : (turns : ℕ) → List Started → (count actor : ℕ) → Phase → (start : ℕ) → Cred → Call → World
+calling_at turns calls count actor phase start cred call = record {
+  history = after_turns turns;
+  calls = calls;
+  actors = with_actor (opening 16).actors actor (Some record { phase = phase; start = start; cred = cred; asked = call });
+  steps = count;
+}
 
 abbrev look_of : List ℕ → ℤ → Phase
 look_of text mtype = AtLook record { cred = sender; id = pos 0; mtype = mtype; bytes = text; seen = false }
@@ -103,62 +110,78 @@ record Went (w : World) (x : Happening) (one : List Given) (mid : World) : Type 
 record Led (w : World) (xs : List Happening) (given : List Given) (after : World) : Type 0 where
   pub leads : Leads w xs given after
 
-goes_preset : Went (opening 16) Preset [] (idle_at 1 0)
+goes_preset : Went (opening 16) Preset [] (idle_at 1 [] 0)
 goes_preset = record { goes = (refl, (true, inl (refl, refl, refl))) }
 
-one_goes : (turns count : ℕ) (call : Call) → count < 2 ^ 62 → ¬ IsRefused call →
-    Went (idle_at turns count) (one_starts call) [] (calling_at turns (count + 1) 1 (begun sender call) count sender call)
-one_goes turns count call fresh allowed = record { goes = (stepped.Nothing, inr (fresh, inr (allowed, refl, refl)), refl) }
+one_goes : (turns : ℕ) (calls : List Started) (count : ℕ) (call : Call) → count < 2 ^ 62 → ¬ IsRefused call →
+    Went (idle_at turns calls count) (one_starts call) [] (calling_at turns (calls ++ one_calls count call ∷ []) (count + 1) 1 (begun sender call) count sender call)
+one_goes turns calls count call fresh allowed = record { goes = (stepped.Nothing, inr (fresh, inr (allowed, refl, refl)), refl) }
 
-two_goes : (turns count : ℕ) (call : Call) → count < 2 ^ 62 → ¬ IsRefused call →
-    Went (idle_at turns count) (two_starts call) [] (calling_at turns (count + 1) 2 (begun receiver call) count receiver call)
-two_goes turns count call fresh allowed = record { goes = (stepped.Nothing, inr (fresh, inr (allowed, refl, refl)), refl) }
+two_goes : (turns : ℕ) (calls : List Started) (count : ℕ) (call : Call) → count < 2 ^ 62 → ¬ IsRefused call →
+    Went (idle_at turns calls count) (two_starts call) [] (calling_at turns (calls ++ two_calls count call ∷ []) (count + 1) 2 (begun receiver call) count receiver call)
+two_goes turns calls count call fresh allowed = record { goes = (stepped.Nothing, inr (fresh, inr (allowed, refl, refl)), refl) }
 
-goes_none : Went (calling_at 1 1 1 (take_of sender) 0 sender receive_up_to_100) (steps 1) (one_is_told 0 receive_up_to_100 (outcome.Refused ENOMSG) (Some []) ∷ []) (idle_at 2 2)
+goes_none : Went (calling_at 1 (after_calls 1) 1 1 (take_of sender) 0 sender receive_up_to_100) (steps 1)
+    (one_is_told 0 receive_up_to_100 (outcome.Refused ENOMSG) (Some []) ∷ []) (idle_at 2 (after_calls 1) 2)
 goes_none = record { goes = (_, inr (omega arith, (NoMatch 0, legal_none, refl, refl)), refl) }
 
-goes_look : Went (calling_at 2 3 1 (look_of hello (pos 5)) 2 sender send_hello) (steps 1) [] (calling_at 3 4 1 (place_of hello (pos 5)) 2 sender send_hello)
+goes_look : Went (calling_at 2 (after_calls 2) 3 1 (look_of hello (pos 5)) 2 sender send_hello) (steps 1) []
+    (calling_at 3 (after_calls 2) 4 1 (place_of hello (pos 5)) 2 sender send_hello)
 goes_look = record { goes = (stepped.Nothing, inr (omega arith, (Fits, legal_look, refl, refl)), refl) }
 
-goes_place : Went (calling_at 3 4 1 (place_of hello (pos 5)) 2 sender send_hello) (steps 1) (one_is_told 2 send_hello outcome.Zero None ∷ []) (idle_at 4 5)
+goes_place : Went (calling_at 3 (after_calls 2) 4 1 (place_of hello (pos 5)) 2 sender send_hello) (steps 1)
+    (one_is_told 2 send_hello outcome.Zero None ∷ []) (idle_at 4 (after_calls 2) 5)
 goes_place = record { goes = (_, inr (omega arith, (Accepted 0, legal_place, refl, refl)), refl) }
 
-goes_second_look : Went (calling_at 4 6 1 (look_of [] (pos 2)) 5 sender send_nothing) (steps 1) [] (calling_at 5 7 1 (place_of [] (pos 2)) 5 sender send_nothing)
+goes_second_look : Went (calling_at 4 (after_calls 3) 6 1 (look_of [] (pos 2)) 5 sender send_nothing) (steps 1) []
+    (calling_at 5 (after_calls 3) 7 1 (place_of [] (pos 2)) 5 sender send_nothing)
 goes_second_look = record { goes = (stepped.Nothing, inr (omega arith, (Fits, legal_second_look, refl, refl)), refl) }
 
-goes_second_place : Went (calling_at 5 7 1 (place_of [] (pos 2)) 5 sender send_nothing) (steps 1) (one_is_told 5 send_nothing outcome.Zero None ∷ []) (idle_at 6 8)
+goes_second_place : Went (calling_at 5 (after_calls 3) 7 1 (place_of [] (pos 2)) 5 sender send_nothing) (steps 1)
+    (one_is_told 5 send_nothing outcome.Zero None ∷ []) (idle_at 6 (after_calls 3) 8)
 goes_second_place = record { goes = (_, inr (omega arith, (Accepted 1, legal_second_place, refl, refl)), refl) }
 
-goes_take : Went (calling_at 6 9 2 (take_of receiver) 8 receiver receive_up_to_100) (steps 2) (two_is_told 8 receive_up_to_100 (outcome.Got (pos 5) 5) (Some hello) ∷ []) (idle_at 7 10)
+goes_take : Went (calling_at 6 (after_calls 4) 9 2 (take_of receiver) 8 receiver receive_up_to_100) (steps 2)
+    (two_is_told 8 receive_up_to_100 (outcome.Got (pos 5) 5) (Some hello) ∷ []) (idle_at 7 (after_calls 4) 10)
 goes_take = record { goes = (_, inr (omega arith, (Taken hello_message, legal_take, refl, refl)), refl) }
 
-goes_second_take : Went (calling_at 7 11 2 (take_of receiver) 10 receiver receive_up_to_100) (steps 2) (two_is_told 10 receive_up_to_100 (outcome.Got (pos 2) 0) (Some []) ∷ []) (idle_at 8 12)
+goes_second_take : Went (calling_at 7 (after_calls 5) 11 2 (take_of receiver) 10 receiver receive_up_to_100) (steps 2)
+    (two_is_told 10 receive_up_to_100 (outcome.Got (pos 2) 0) (Some []) ∷ []) (idle_at 8 (after_calls 5) 12)
 goes_second_take = record { goes = (_, inr (omega arith, (Taken empty_message, legal_second_take, refl, refl)), refl) }
 
-goes_third_take : Went (calling_at 8 13 2 (take_of receiver) 12 receiver receive_up_to_100) (steps 2) (two_is_told 12 receive_up_to_100 (outcome.Refused ENOMSG) (Some []) ∷ []) (idle_at 9 14)
+goes_third_take : Went (calling_at 8 (after_calls 6) 13 2 (take_of receiver) 12 receiver receive_up_to_100) (steps 2)
+    (two_is_told 12 receive_up_to_100 (outcome.Refused ENOMSG) (Some []) ∷ []) (idle_at 9 (after_calls 6) 14)
 goes_third_take = record { goes = (_, inr (omega arith, (NoMatch 2, legal_third_take, refl, refl)), refl) }
+
+-- a send of type 0 is refused
+typeless_is_refused : IsRefused send_typeless
+typeless_is_refused = inl (omega (arith, ints))
+
+goes_typeless : Went (idle_at 9 (after_calls 6) 14) (one_starts send_typeless) (one_is_told 14 send_typeless (outcome.Refused EINVAL) None ∷ []) (idle_at 9 (after_calls 7) 15)
+goes_typeless = record { goes = (_, inr (omega arith, inl (typeless_is_refused, refl, refl)), refl) }
 
 -- ---- the run
 
 on : {w mid after : World} {x : Happening} {xs : List Happening} {one rest : List Given} → Went w x one mid → Led mid xs rest after → Led w (x ∷ xs) (one ++ rest) after
 on {w} {mid} {after} {x} {xs} {one} {rest} went led = record { leads = (mid, one, rest, went.goes, led.leads, refl) }
 
-over : Led (idle_at 9 14) [] [] (idle_at 9 14)
+over : Led (idle_at 9 (after_calls 7) 15) [] [] (idle_at 9 (after_calls 7) 15)
 over = record { leads = (refl, refl) }
 
-receives_then : Led (idle_at 7 10) (two_starts receive_up_to_100 ∷ steps 2 ∷ two_starts receive_up_to_100 ∷ steps 2 ∷ [])
-    (two_is_told 10 receive_up_to_100 (outcome.Got (pos 2) 0) (Some []) ∷ two_is_told 12 receive_up_to_100 (outcome.Refused ENOMSG) (Some []) ∷ []) (idle_at 9 14)
-receives_then = on (two_goes 7 10 receive_up_to_100 (omega arith) start_receive) (on goes_second_take
-    (on (two_goes 8 12 receive_up_to_100 (omega arith) start_receive) (on goes_third_take over)))
+receives_then : Led (idle_at 7 (after_calls 4) 10) (two_starts receive_up_to_100 ∷ steps 2 ∷ two_starts receive_up_to_100 ∷ steps 2 ∷ one_starts send_typeless ∷ [])
+    (two_is_told 10 receive_up_to_100 (outcome.Got (pos 2) 0) (Some []) ∷ two_is_told 12 receive_up_to_100 (outcome.Refused ENOMSG) (Some []) ∷ one_is_told 14 send_typeless (outcome.Refused EINVAL) None ∷ [])
+    (idle_at 9 (after_calls 7) 15)
+receives_then = on (two_goes 7 (after_calls 4) 10 receive_up_to_100 (omega arith) start_receive) (on goes_second_take
+    (on (two_goes 8 (after_calls 5) 12 receive_up_to_100 (omega arith) start_receive) (on goes_third_take (on goes_typeless over))))
 
 pub worked_run : WorkedRun
 worked_run =
-    let all : Led (opening 16) the_happenings the_answers (idle_at 9 14) =
-    on goes_preset (on (one_goes 1 0 receive_up_to_100 (omega arith) start_receive) (on goes_none
-    (on (one_goes 2 2 send_hello (omega arith) start_hello) (on goes_look (on goes_place
-    (on (one_goes 4 5 send_nothing (omega arith) start_nothing) (on goes_second_look (on goes_second_place
-    (on (two_goes 6 8 receive_up_to_100 (omega arith) start_receive) (on goes_take receives_then)))))))))) in
-    (idle_at 9 14, all.leads, refl)
+    let all : Led (opening 16) the_happenings the_answers (idle_at 9 (after_calls 7) 15) =
+    on goes_preset (on (one_goes 1 [] 0 receive_up_to_100 (omega arith) start_receive) (on goes_none
+    (on (one_goes 2 (after_calls 1) 2 send_hello (omega arith) start_hello) (on goes_look (on goes_place
+    (on (one_goes 4 (after_calls 2) 5 send_nothing (omega arith) start_nothing) (on goes_second_look (on goes_second_place
+    (on (two_goes 6 (after_calls 3) 8 receive_up_to_100 (omega arith) start_receive) (on goes_take receives_then)))))))))) in
+    (idle_at 9 (after_calls 7) 15, all.leads, refl, refl)
 
 -- ---- replies that are not legal
 

@@ -3,7 +3,8 @@
 -- that it asks for and answers with the turn that ends it, by the reply of that turn; a send answers
 -- zero exactly where a place of it was accepted, and a receive a message exactly where a take of it was
 -- given that message. Each answer is of a call that was started, and goes to its caller; no call is
--- answered twice, and each that made a turn which ends it is answered.
+-- answered twice, and each is answered or still under way. As long as no call waits, each acts as if
+-- IPC_NOWAIT were set.
 -- (POSIX.1-2017, msgsnd and msgrcv, RETURN VALUE and ERRORS; which refusal comes first is this
 -- profile's.)
 use Rattle.std.specs.Prelude.{◌≡◌, ◌⊎◌, ◌==◌, ◌&&◌, ℕ, Bool, true, false, List, [], ◌∷◌, ◌++◌, length, take, None, Some, All, Contains, filter, if◌then◌else◌}
@@ -16,23 +17,23 @@ use Rattle.sysv_rules.specs.Asked.{selector_for}
 use Rattle.sysv_core.specs.declared.event.Outcome.TheVariants as outcome
 use Rattle.sysv_core.specs.declared.event.Answer.{Answer}
 use Rattle.sysv_core.specs.declared.event.Call.{Call}
-use Rattle.sysv_core.specs.declared.event.Event.TheVariants.{Start}
 use Rattle.sysv_core.specs.declared.event.Call.TheVariants.{Send, Receive}
 use Rattle.sysv_core.specs.Begin.{IsRefused, has_flag, body_back}
-use Rattle.sysv_core.specs.Run.{Happening, Happens, Started, Given}
+use Rattle.sysv_core.specs.World.{World, Started, actor_at}
+use Rattle.sysv_core.specs.Run.{Given, call_at}
 
 -- it is the same call
 abbrev pub is_call : Who → Who → Bool
 is_call (Actor actor start) (Actor other when) = (actor == other) && (start == when)
 is_call (Seat number) (Seat other) = number == other
-is_call call other = false
+is_call who other = false
 
 -- the turns of a call, in order
 abbrev pub turns_of : Who → History → List Entry
-turns_of call h = filter (λ (e : Entry). is_call call e.who) h
+turns_of who h = filter (λ (e : Entry). is_call who e.who) h
 
--- A send asks for room for its text and then to place it; a receive asks for the message that its type
--- selects. Each does so with its caller's credentials, on the queue that it names.
+-- A turn of a send asks for room for its text, or places it; one of a receive asks for the message that
+-- its type selects. Each does so with its caller's credentials, on the queue that it names.
 abbrev pub AsksFor : Cred → Call → Turn → Type 0
 AsksFor cred (Send id mtype flags text) turn = (turn ≡ Look id cred (length text)) ⊎ ((now : ℕ) × (turn ≡ Place id cred mtype text now))
 AsksFor cred (Receive id size mtype flags body) turn = (now : ℕ) × (turn ≡ Take id cred (selector_for mtype) size (has_flag 4096 flags) now)
@@ -46,7 +47,7 @@ found_live reply = true
 abbrev pub live_seen : List Entry → Bool
 live_seen turns = list_any (λ (e : Entry). found_live e.reply) turns
 
--- a refusal: a receive gets the body that it brought back empty, and a send has none
+-- a refusal: a receive gets its body back empty, and a send gets none
 abbrev pub Refuses : Call → Errno → Answer → Type 0
 Refuses call why a = (a.result ≡ outcome.Refused why) × (a.body ≡ body_back call)
 
@@ -91,9 +92,13 @@ ends_call reply = false
 abbrev pub IsTold : List Given → Entry → Type 0
 IsTold given e = (g : Given) × Contains given g × (g.call.who ≡ e.who)
 
--- the list has the start of the call
-abbrev pub WasStarted : List Happening → Started → Type 0
-WasStarted list call = (actor : ℕ) × (start : ℕ) × (call.who ≡ Actor actor start) × Contains list (Happens (Start actor call.cred call.asked))
+-- the call was answered
+abbrev pub IsAnswered : List Given → Started → Type 0
+IsAnswered given call = (g : Given) × Contains given g × (g.call ≡ call)
+
+-- an actor is in the call
+abbrev pub IsUnderWay : World → Started → Type 0
+IsUnderWay w call = (actor : ℕ) × (call_at actor (actor_at w.actors actor) ≡ Some call)
 
 -- the answer goes to the actor whose call it is of
 abbrev pub IsToCaller : Who → Answer → Type 0

@@ -8,16 +8,16 @@
 -- and a run of events lead from the world of a list to the world of the longer list, with the answers
 -- of that run and no others; and each world of a list obeys the laws (what POSIX.1-2017 says of msgsnd
 -- and msgrcv, in this profile's steps).
-use Rattle.std.specs.Prelude.{◌≡◌, ◌≢◌, ◌⊎◌, ℕ, ◌≤◌, ◌^◌, true, List, [], ◌∷◌, ◌++◌, map, All, AllPairs}
+use Rattle.std.specs.Prelude.{◌≡◌, ◌≢◌, ◌⊎◌, ℕ, ◌≤◌, ◌^◌, true, List, [], ◌∷◌, ◌++◌, map, All, AllPairs, Contains}
 use Rattle.sysv_model.specs.History.{Entry}
 use Rattle.sysv_queue.specs.QueueLaw.{QueueLaw}
 use Rattle.sysv_core.specs.declared.event.Event.{Event}
 use Rattle.sysv_core.specs.declared.event.Answer.{Answer}
 use Rattle.sysv_core.specs.declared.event.Stepped.{Stepped}
-use Rattle.sysv_core.specs.World.{World}
+use Rattle.sysv_core.specs.World.{World, Started}
 use Rattle.sysv_core.specs.Seen.{Seen}
 use Rattle.sysv_core.specs.Run.{Happening, Preset, Happens, Given, StandsFor, answers_in, answers_of}
-use Rattle.sysv_core.specs.AnswerLaw.{IsAnsweredBy, turns_of, ends_call, IsTold, WasStarted, IsToCaller}
+use Rattle.sysv_core.specs.AnswerLaw.{IsAnsweredBy, turns_of, ends_call, IsTold, IsAnswered, IsUnderWay, IsToCaller}
 
 -- For every list that the world stood for, it now stands for that list and a preset.
 abbrev pub StandsWithPreset : Seen → Seen → Type 0
@@ -47,15 +47,17 @@ abbrev pub StandsWithEvents : Seen → List Event → List Answer → Seen → T
 StandsWithEvents old events answers new = (actors : ℕ) (list : List Happening) (given : List Given) →
     StandsFor actors list given old → RunsOn actors list given events answers new
 
--- what holds of each list, the world to which it leads and the answers given on the way
-pub record Obeys (list : List Happening) (w : World) (given : List Given) : Type 0 where
+-- what holds of each world to which a list of events leads, with the answers given on the way
+pub record Obeys (w : World) (given : List Given) : Type 0 where
   pub queue : QueueLaw w.history
   pub answers : All (λ (g : Given). IsAnsweredBy g.call (turns_of g.call.who w.history) g.answer) given
-  pub started : All (λ (g : Given). WasStarted list g.call) given
+  pub started : All (λ (g : Given). Contains w.calls g.call) given
   pub once : AllPairs (λ (f g : Given). f.call.who ≢ g.call.who) given
   pub addressed : All (λ (g : Given). IsToCaller g.call.who g.answer) given
+  pub apart : AllPairs (λ (c d : Started). c.who ≢ d.who) w.calls
+  pub settled : All (λ (c : Started). IsAnswered given c ⊎ IsUnderWay w c) w.calls
   pub told : All (λ (e : Entry). ends_call e.reply ≡ true → IsTold given e) w.history
 
 -- For every list that the world stands for, the world to which it leads obeys the laws.
 abbrev pub LawsHold : Seen → Type 0
-LawsHold seen = (actors : ℕ) (list : List Happening) (given : List Given) (s : StandsFor actors list given seen) → Obeys list s.world given
+LawsHold seen = (actors : ℕ) (list : List Happening) (given : List Given) (s : StandsFor actors list given seen) → Obeys s.world given

@@ -10,19 +10,13 @@ use Rattle.sysv_core.specs.declared.event.Event.TheVariants.{Start, Step}
 use Rattle.sysv_core.specs.declared.event.Answer.{Answer}
 use Rattle.sysv_core.specs.declared.event.Stepped.{Stepped}
 use Rattle.sysv_core.specs.declared.event.Stepped.TheVariants as stepped
-use Rattle.sysv_core.specs.World.{World, Doing, opening, actor_at, Steps, Presets}
+use Rattle.sysv_core.specs.World.{World, Started, Doing, opening, actor_at, starting, Steps, Presets}
 use Rattle.sysv_core.specs.Seen.{Seen, IsSeenAs}
 
 -- what can happen: a preset, or an event
 pub data Happening : Type 0 where
   Preset : Happening
   Happens : (event : Event) → Happening
-
--- a call that was started: by whom, with which credentials, and what was asked
-pub record Started : Type 0 where
-  pub who : Who
-  pub cred : Cred
-  pub asked : Call
 
 -- an answer, and the call that it is the answer of
 pub record Given : Type 0 where
@@ -38,9 +32,10 @@ call_at actor None = None
 call_at actor (Some None) = None
 call_at actor (Some (Some doing)) = Some (call_in actor doing)
 
--- the call that an event is about: the one that a start begins, or the one that the actor is in
+-- the call that an event is about: the one that a start begins, if it begins one, or the one that the
+-- actor is in
 abbrev pub call_of : World → Event → Option Started
-call_of w (Start actor cred call) = Some record { who = Actor actor w.steps; cred = cred; asked = call }
+call_of w (Start actor cred call) = Some (starting w actor cred call)
 call_of w (Step actor now) = call_at actor (actor_at w.actors actor)
 
 abbrev pub answers_in : Stepped → List Answer

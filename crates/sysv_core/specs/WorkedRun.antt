@@ -1,13 +1,14 @@
 -- The worked run: one run of a world of 16 actors from its opening, with each answer in its place.
 -- Actor 1 asks for a message where none is, sends one of type 5 with the text hello and one of type 2
--- with no text; actor 2 then receives three times. Every call has IPC_NOWAIT. It shows that the
--- definitions of a world, its steps and its legal replies have a run, and which one.
+-- with no text; actor 2 then receives three times; at last actor 1 sends one of type 0, which is
+-- refused at its start. Every call has IPC_NOWAIT. It shows that the definitions of a world, its steps
+-- and its legal replies have a run, and which one.
 --
 -- Below it stand replies that are no legal ones at its turns, and the sums of two messages that fill
 -- a queue to the byte.
 use Rattle.std.specs.Prelude.{◌≡◌, ◌≢◌, ℕ, pos, List, [], ◌∷◌, ◌++◌, true, false, length, take, Option, Some, None, codes}
 use Rattle.sysv_model.specs.declared.cred.Cred.{Cred}
-use Rattle.sysv_model.specs.declared.errno.Errno.TheVariants.{ENOMSG}
+use Rattle.sysv_model.specs.declared.errno.Errno.TheVariants.{EINVAL, ENOMSG}
 use Rattle.sysv_model.specs.declared.flags.Flags.{Flags}
 use Rattle.sysv_model.specs.Message.{Message}
 use Rattle.sysv_model.specs.Selector.{Any}
@@ -19,7 +20,7 @@ use Rattle.sysv_core.specs.declared.event.Event.TheVariants.{Start, Step}
 use Rattle.sysv_core.specs.declared.event.Outcome.{Outcome}
 use Rattle.sysv_core.specs.declared.event.Outcome.TheVariants as outcome
 use Rattle.sysv_core.specs.Begin.{IsRefused}
-use Rattle.sysv_core.specs.World.{World, opening, preset_call}
+use Rattle.sysv_core.specs.World.{World, Started, opening, preset_call}
 use Rattle.sysv_core.specs.Run.{Happening, Preset, Happens, Given, Leads}
 
 abbrev pub sender : Cred
@@ -44,6 +45,9 @@ send_hello = Send (pos 0) (pos 5) nowait hello
 abbrev pub send_nothing : Call
 send_nothing = Send (pos 0) (pos 2) nowait []
 
+abbrev pub send_typeless : Call
+send_typeless = Send (pos 0) (pos 0) nowait hello
+
 -- what happens: each call is its start and its steps, a receive one and a send two
 abbrev pub one_starts : Call → Happening
 one_starts call = Happens (Start 1 sender call)
@@ -62,20 +66,32 @@ the_happenings =
     ∷ one_starts send_nothing ∷ steps 1 ∷ steps 1
     ∷ two_starts receive_up_to_100 ∷ steps 2
     ∷ two_starts receive_up_to_100 ∷ steps 2
-    ∷ two_starts receive_up_to_100 ∷ steps 2 ∷ []
+    ∷ two_starts receive_up_to_100 ∷ steps 2
+    ∷ one_starts send_typeless ∷ []
 
--- the answers, in order, each of the call that the actor started at that step number
+-- the calls, each with the step number at which it was started
+abbrev pub one_calls : (start : ℕ) → Call → Started
+one_calls start call = record { who = Actor 1 start; cred = sender; asked = call }
+
+abbrev pub two_calls : (start : ℕ) → Call → Started
+two_calls start call = record { who = Actor 2 start; cred = receiver; asked = call }
+
+abbrev pub the_calls : List Started
+the_calls =
+    one_calls 0 receive_up_to_100
+    ∷ one_calls 2 send_hello
+    ∷ one_calls 5 send_nothing
+    ∷ two_calls 8 receive_up_to_100
+    ∷ two_calls 10 receive_up_to_100
+    ∷ two_calls 12 receive_up_to_100
+    ∷ one_calls 14 send_typeless ∷ []
+
+-- the answers, in order
 abbrev pub one_is_told : (start : ℕ) → Call → Outcome → Option (List ℕ) → Given
-one_is_told start call out body = record {
-  call = record { who = Actor 1 start; cred = sender; asked = call };
-  answer = record { actor = 1; result = out; body = body };
-}
+one_is_told start call out body = record { call = one_calls start call; answer = record { actor = 1; result = out; body = body } }
 
 abbrev pub two_is_told : (start : ℕ) → Call → Outcome → Option (List ℕ) → Given
-two_is_told start call out body = record {
-  call = record { who = Actor 2 start; cred = receiver; asked = call };
-  answer = record { actor = 2; result = out; body = body };
-}
+two_is_told start call out body = record { call = two_calls start call; answer = record { actor = 2; result = out; body = body } }
 
 abbrev pub the_answers : List Given
 the_answers =
@@ -84,7 +100,8 @@ the_answers =
     ∷ one_is_told 5 send_nothing outcome.Zero None
     ∷ two_is_told 8 receive_up_to_100 (outcome.Got (pos 5) 5) (Some hello)
     ∷ two_is_told 10 receive_up_to_100 (outcome.Got (pos 2) 0) (Some [])
-    ∷ two_is_told 12 receive_up_to_100 (outcome.Refused ENOMSG) (Some []) ∷ []
+    ∷ two_is_told 12 receive_up_to_100 (outcome.Refused ENOMSG) (Some [])
+    ∷ one_is_told 14 send_typeless (outcome.Refused EINVAL) None ∷ []
 
 -- the two messages, and the turns at the slot with their replies
 abbrev pub hello_message : Message
@@ -120,9 +137,9 @@ the_turns =
     ∷ turn_of 2 10 (take_by receiver) (Taken empty_message)
     ∷ turn_of 2 12 (take_by receiver) (NoMatch 2) ∷ []
 
--- The happenings lead from the opening world, by these turns, and give these answers.
+-- The happenings lead from the opening world, by these calls and turns, and give these answers.
 abbrev pub WorkedRun : Type 0
-WorkedRun = (w : World) × Leads (opening 16) the_happenings the_answers w × (w.history ≡ the_turns)
+WorkedRun = (w : World) × Leads (opening 16) the_happenings the_answers w × (w.calls ≡ the_calls) × (w.history ≡ the_turns)
 
 -- the slot's history after that many turns of the run
 abbrev pub after_turns : ℕ → History

@@ -1,11 +1,12 @@
--- A world: the history of its slot, what each actor does, and the number of counted events so far;
+-- A world: the history of its slot, the calls that were started, what each actor does, and the number
+-- of counted events so far;
 -- and what one event makes of it. An event is the start of an actor's call, or one step of it, which
 -- is one turn at the slot; a turn has the legal reply and adds one entry to the history (this
 -- profile's).
-use Rattle.std.specs.Prelude.{◌≡◌, ℕ, zero, suc, pos, ◌+◌, ◌-◌, ◌^◌, ◌<◌, ◌≤◌, ◌⊎◌, Bool, true, false, List, [], Option, Some, None, option_map, replicate, slice_get, slice_set}
+use Rattle.std.specs.Prelude.{◌≡◌, ℕ, zero, suc, pos, ◌+◌, ◌-◌, ◌^◌, ◌<◌, ◌≤◌, ◌⊎◌, Bool, true, false, List, [], ◌∷◌, ◌++◌, Option, Some, None, option_map, replicate, slice_get, slice_set}
 use Rattle.sysv_model.specs.declared.errno.Errno.TheVariants.{EINVAL}
 use Rattle.sysv_model.specs.declared.cred.Cred.{Cred}
-use Rattle.sysv_model.specs.History.{Actor, Call as Turn, Install, Reply, Installed, History, then_turn}
+use Rattle.sysv_model.specs.History.{Who, Actor, Call as Turn, Install, Reply, Installed, History, then_turn}
 use Rattle.sysv_model.specs.Live.{live}
 use Rattle.sysv_queue.specs.LegalReply.{IsLegalReply}
 use Rattle.sysv_core.specs.declared.event.Call.{Call}
@@ -18,8 +19,15 @@ use Rattle.sysv_core.specs.Phase.{Phase}
 use Rattle.sysv_core.specs.Begin.{IsRefused, begun, body_back}
 use Rattle.sysv_core.specs.Turn.{turn_call, after_turn}
 
--- A call under way: its phase; the number of its start, which is the step number at which it was
--- started; and what was started, with which credentials.
+-- a call that was started: by which actor at which step number, with which credentials, and what was
+-- asked
+pub record Started : Type 0 where
+  pub who : Who
+  pub cred : Cred
+  pub asked : Call
+
+-- a call under way: its phase; the number of its start, which is the step number at which it was
+-- started; and what was asked, with which credentials
 pub record Doing : Type 0 where
   pub phase : Phase
   pub start : ℕ
@@ -28,19 +36,20 @@ pub record Doing : Type 0 where
 
 pub record World : Type 0 where
   pub history : History
+  pub calls : List Started          -- all that were started, in order
   pub actors : List (Option Doing)  -- none where the actor is idle
   pub steps : ℕ
 
 -- the opening world of that many actors
 abbrev pub opening : ℕ → World
-opening actors = record { history = []; actors = replicate actors None; steps = 0 }
+opening actors = record { history = []; calls = []; actors = replicate actors None; steps = 0 }
 
 -- what the actor does, if there is such an actor; actors count from 1
 abbrev pub actor_at : List (Option Doing) → ℕ → Option (Option Doing)
 actor_at actors zero = None
 actor_at actors (suc place) = slice_get actors place
 
--- the actor's next phase, or none where it is idle from then on
+-- the actor's call from then on, or none where it is idle
 abbrev pub with_actor : List (Option Doing) → ℕ → Option Doing → List (Option Doing)
 with_actor actors actor doing = slice_set actors (actor - 1) doing
 
@@ -52,20 +61,28 @@ in_phase doing phase = option_map (λ (p : Phase). record doing { phase = p }) p
 abbrev pub StaysWith : World → Stepped → World → Type 0
 StaysWith w given after = (given ≡ stepped.Nothing) × (after ≡ w)
 
+-- the call that the actor starts now
+abbrev pub starting : World → ℕ → Cred → Call → Started
+starting w actor cred call = record { who = Actor actor w.steps; cred = cred; asked = call }
+
 -- a start by an idle actor: refused at once, or the first phase
 abbrev pub Begins : World → ℕ → Cred → Call → Stepped → World → Type 0
 Begins w actor cred call given after =
     (IsRefused call × (given ≡ stepped.Answer record { actor = actor; result = outcome.Refused EINVAL; body = body_back call })
-    × (after ≡ record w { steps = w.steps + 1 }))
+    × (after ≡ record w { calls = w.calls ++ starting w actor cred call ∷ []; steps = w.steps + 1 }))
     ⊎ ((¬ IsRefused call) × (given ≡ stepped.Nothing)
-    × (after ≡ record w { actors = with_actor w.actors actor (Some record { phase = begun cred call; start = w.steps; cred = cred; asked = call }); steps = w.steps + 1 }))
+    × (after ≡ record w {
+      calls = w.calls ++ starting w actor cred call ∷ [];
+      actors = with_actor w.actors actor (Some record { phase = begun cred call; start = w.steps; cred = cred; asked = call });
+      steps = w.steps + 1;
+    }))
 
 -- a step of a call: one turn at the slot, with the legal reply
 abbrev pub Turns : World → ℕ → Doing → ℕ → Stepped → World → Type 0
 Turns w actor doing now given after =
     (reply : Reply) × IsLegalReply w.history (turn_call doing.phase now) reply
     × (given ≡ (after_turn actor doing.phase reply).1)
-    × (after ≡ record {
+    × (after ≡ record w {
       history = then_turn w.history (Actor actor doing.start) (turn_call doing.phase now) reply;
       actors = with_actor w.actors actor (in_phase doing (after_turn actor doing.phase reply).0);
       steps = w.steps + 1;
