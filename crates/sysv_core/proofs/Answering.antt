@@ -358,7 +358,6 @@ worn_given (Some call) = refl
 stays : (w after : World) (given : List Given) (call : Option Started) (result : Stepped) → StaysWith w result after → Inv w given → Inv after (given ++ given_in call result)
 stays w after given call result s i = same_inv w after given (given_in call result) s.1 (ap (given_in call) s.0 ∙ nothing_given call) i
 
-
 start_keeps : (w after : World) (given : List Given) (place : ℕ) (cred : Cred) (c : Call) (result : Stepped) (o : Option (Option Doing)) → slice_get w.actors place ≡ o →
     StartsAt w (suc place) cred c o result after → Inv w given → Inv after (given ++ given_in (Some (starting w (suc place) cred c)) result)
 start_keeps w after given place cred c result None at s i = stays w after given (Some (starting w (suc place) cred c)) result s i

@@ -11,3 +11,4 @@ pub mod OneRun
 pub mod SomeRun
 pub mod WorkedRun
 pub mod WorkedSelection
+pub mod WorkedAnswers

@@ -1,13 +1,13 @@
 -- Each answer is of a call that was started, no two of which have one name; and each of these was
 -- answered or is under way.
-use Rattle.std.proofs.Common.{◌≡◌, ◌≢◌, ◌⊎◌, ◌<◌, ◌+◌, ◌-◌, inl, inr, ℕ, zero, suc, Bool, true, List, [], ◌∷◌, ◌++◌, Option, None, Some, refl, sym, ap, subst, ◌∙◌, arith, slice_get, slice_set, append_assoc}
+use Rattle.std.proofs.Common.{◌≡◌, ◌≢◌, ◌⊎◌, ◌<◌, ◌+◌, inl, inr, ℕ, zero, suc, Bool, true, List, [], ◌∷◌, ◌++◌, Option, None, Some, refl, sym, ap, subst, ◌∙◌, arith, slice_get, slice_set, append_assoc}
 use Rattle.std.specs.List.{All, AllPairs, Contains}
 use Rattle.std.proofs.Math.ListN.{get_or}
 use Rattle.std.proofs.lemmas.List.{append-nil}
 use Rattle.std.proofs.lemmas.List.Elements.{All-push, All-nil, All-weaker, All-get_or, Contains-append_left, Contains-push}
 use Rattle.std.proofs.lemmas.List.Quantifiers.{all_pairs_push}
 use Rattle.sysv_model.specs.declared.cred.Cred.{Cred}
-use Rattle.sysv_model.specs.History.{Who, Actor, Seat, Reply, Gone, Denied, Full, Fits, Accepted, NoMatch, TooLong, Taken, History}
+use Rattle.sysv_model.specs.History.{Actor, Reply, Gone, Denied, Full, Fits, Accepted, NoMatch, TooLong, Taken, History}
 use Rattle.sysv_queue.specs.LegalReply.{IsLegalReply}
 use Rattle.sysv_core.specs.declared.event.Answer.{Answer}
 use Rattle.sysv_core.specs.declared.event.Call.{Call}
@@ -18,7 +18,7 @@ use Rattle.sysv_core.specs.declared.event.Stepped.TheVariants as stepped
 use Rattle.sysv_core.specs.Phase.{Phase, AtLook, AtPlace, AtTake}
 use Rattle.sysv_core.specs.Begin.{begun}
 use Rattle.sysv_core.specs.Turn.{turn_call, after_turn}
-use Rattle.sysv_core.specs.World.{World, Started, Doing, opening, actor_at, in_phase, starting, StaysWith, StartsAt, StepsAt, Makes, Steps, Presets}
+use Rattle.sysv_core.specs.World.{World, Started, Doing, opening, in_phase, starting, StaysWith, StartsAt, StepsAt, Makes, Steps, Presets}
 use Rattle.sysv_core.specs.Run.{Happening, Preset, Happens, Given, Goes, Leads, call_of, call_in, call_at, given_in}
 use Rattle.sysv_core.specs.AnswerLaw.{IsAnswered, IsUnderWay}
 use Rattle.sysv_core.proofs.Lists.{get_set_same, get_set_other, same_place}

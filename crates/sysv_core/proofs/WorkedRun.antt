@@ -61,11 +61,11 @@ legal_third_take = (refl, may_read, none_is_named, refl)
 
 -- ---- no call of the run is refused at its start
 
-start_receive : ¬ IsRefused receive_up_to_100
+pub start_receive : ¬ IsRefused receive_up_to_100
 start_receive (inl h) = cc
 start_receive (inr h) = omega (arith, ints)
 
-start_hello : ¬ IsRefused send_hello
+pub start_hello : ¬ IsRefused send_hello
 start_hello (inl h) = omega (arith, ints)
 start_hello (inr (inl h)) = let over : 8192 < 5 = h in omega arith
 start_hello (inr (inr h)) = omega (arith, ints)
@@ -154,7 +154,7 @@ goes_third_take : Went (calling_at 8 (after_calls 6) 13 2 (take_of receiver) 12 
 goes_third_take = record { goes = (_, inr (omega arith, (NoMatch 2, legal_third_take, refl, refl)), refl) }
 
 -- a send of type 0 is refused
-typeless_is_refused : IsRefused send_typeless
+pub typeless_is_refused : IsRefused send_typeless
 typeless_is_refused = inl (omega (arith, ints))
 
 goes_typeless : Went (idle_at 9 (after_calls 6) 14) (one_starts send_typeless) (one_is_told 14 send_typeless (outcome.Refused EINVAL) None ∷ []) (idle_at 9 (after_calls 7) 15)

@@ -1,8 +1,8 @@
 -- The headline. For every list of atomic steps of any number of senders and receivers: what the queue
 -- accepted is, each message once, what it delivered, discarded by removal or still holds; each receive
 -- takes the very message its selector names; messages of one type leave in the order of acceptance;
--- every answer is decided by what its call asked for and by the turns of that call; and no call comes
--- to its end without an answer.
+-- every answer is decided by what its call asked for and by the turns of that call; and each call that
+-- was started is answered once, or still under way.
 --
 -- It is said in three parts: a world stands for the list of what has happened in it; a step, a preset
 -- and a run of events lead from the world of a list to the world of the longer list, with the answers

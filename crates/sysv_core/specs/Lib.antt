@@ -22,3 +22,4 @@ pub mod OneRun
 pub mod SomeRun
 pub mod WorkedRun
 pub mod WorkedSelection
+pub mod WorkedAnswers

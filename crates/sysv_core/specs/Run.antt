@@ -2,9 +2,7 @@
 -- that were given on the way. A world of the code stands for such a list when it is seen as the world
 -- to which the list leads (this profile's).
 use Rattle.std.specs.Prelude.{◌≡◌, ℕ, Bool, List, [], ◌∷◌, ◌++◌, Option, Some, None, map}
-use Rattle.sysv_model.specs.History.{Who, Actor}
-use Rattle.sysv_model.specs.declared.cred.Cred.{Cred}
-use Rattle.sysv_core.specs.declared.event.Call.{Call}
+use Rattle.sysv_model.specs.History.{Actor}
 use Rattle.sysv_core.specs.declared.event.Event.{Event}
 use Rattle.sysv_core.specs.declared.event.Event.TheVariants.{Start, Step}
 use Rattle.sysv_core.specs.declared.event.Answer.{Answer}

@@ -36,7 +36,7 @@ pub record Doing : Type 0 where
 
 pub record World : Type 0 where
   pub history : History
-  pub calls : List Started          -- all that were started, in order
+  pub calls : List Started  -- all that were started, in order
   pub actors : List (Option Doing)  -- none where the actor is idle
   pub steps : ℕ
 

@@ -4,6 +4,7 @@ ghost use Rattle.sysv_core.specs.OneRun.{OneStep, OnePreset, OneRun};
 ghost use Rattle.sysv_core.specs.SomeRun.{SomeStep, SomePreset, SomeRun};
 ghost use Rattle.sysv_core.specs.WorkedRun.{WorkedRun, NoWrongReply, ExactFit};
 ghost use Rattle.sysv_core.specs.WorkedSelection.{WorkedSelection};
+ghost use Rattle.sysv_core.specs.WorkedAnswers.{WorkedAnswers};
 
 use sysv_queue::laws::one_legal_reply;
 
@@ -51,6 +52,11 @@ pub fn no_wrong_reply()
 /// are the legal ones, and those that a wrong rule would give are not.
 pub fn worked_selection()
     ensures { WorkedSelection }
+{}
+
+/// At calls of the worked run the right answers are answers, and wrong ones are not.
+pub fn worked_answers()
+    ensures { WorkedAnswers }
 {}
 
 /// Two messages of 8,192 bytes fill the queue to the byte.
