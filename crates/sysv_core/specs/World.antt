@@ -1,8 +1,7 @@
 -- A world: the history of its slot, the calls that were started, what each actor does, and the number
--- of counted events so far;
--- and what one event makes of it. An event is the start of an actor's call, or one step of it, which
--- is one turn at the slot; a turn has the legal reply and adds one entry to the history (this
--- profile's).
+-- of counted events so far; and what one event makes of it. An event is the start of an actor's call, or
+-- one step of it, which is one turn at the slot; a turn has the legal reply and adds one entry to the
+-- history (this profile's).
 use Rattle.std.specs.Prelude.{◌≡◌, ℕ, zero, suc, pos, ◌+◌, ◌-◌, ◌^◌, ◌<◌, ◌≤◌, ◌⊎◌, Bool, true, false, List, [], ◌∷◌, ◌++◌, Option, Some, None, option_map, replicate, slice_get, slice_set}
 use Rattle.sysv_model.specs.declared.errno.Errno.TheVariants.{EINVAL}
 use Rattle.sysv_model.specs.declared.cred.Cred.{Cred}
