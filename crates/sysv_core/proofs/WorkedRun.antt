@@ -4,7 +4,7 @@ use Rattle.std.proofs.lemmas.Int.{ints}
 use Rattle.sysv_model.specs.declared.cred.Cred.{Cred}
 use Rattle.sysv_model.specs.declared.errno.Errno.TheVariants.{EINVAL, ENOMSG}
 use Rattle.sysv_model.specs.Message.{Message}
-use Rattle.sysv_model.specs.Selector.{Any}
+use Rattle.sysv_model.specs.declared.selector.Selector.TheVariants.{Any}
 use Rattle.sysv_model.specs.History.{Fits, Accepted, NoMatch, Taken}
 use Rattle.sysv_model.specs.Live.{live}
 use Rattle.sysv_queue.specs.Granted.{MayRead, MayWrite}

@@ -1,7 +1,7 @@
 -- The replies worked by hand are the legal ones.
 use Rattle.std.proofs.Common.{◌≡◌, ℕ, ℤ, pos, zero, suc, ◌<◌, ◌≤◌, ◌<ℤ◌, ◌≤ℤ◌, ◌^◌, inl, inr, false, List, [], ◌∷◌, Some, refl, arith, slice_get}
 use Rattle.std.proofs.lemmas.Int.{ints}
-use Rattle.sysv_model.specs.Selector.{Any, Exactly, UpTo}
+use Rattle.sysv_model.specs.declared.selector.Selector.TheVariants.{Any, Exactly, UpTo}
 use Rattle.sysv_model.specs.Live.{live}
 use Rattle.sysv_rules.specs.Qualifies.{QualifiesAt, type_at}
 use Rattle.sysv_rules.specs.Named.{IsNamed}

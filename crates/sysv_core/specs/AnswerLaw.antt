@@ -13,7 +13,7 @@ use Rattle.sysv_model.specs.declared.cred.Cred.{Cred}
 use Rattle.sysv_model.specs.declared.errno.Errno.{Errno}
 use Rattle.sysv_model.specs.declared.errno.Errno.TheVariants.{EINVAL, EIDRM, EACCES, EAGAIN, ENOMSG, E2BIG}
 use Rattle.sysv_model.specs.History.{Who, Actor, Seat, Call as Turn, Look, Place, Take, Reply, Gone, Denied, Full, Fits, Accepted, NoMatch, TooLong, Taken, Entry, History}
-use Rattle.sysv_rules.specs.Asked.{selector_for}
+use Rattle.sysv_model.specs.Selector.{selector_for}
 use Rattle.sysv_core.specs.declared.event.Outcome.TheVariants as outcome
 use Rattle.sysv_core.specs.declared.event.Answer.{Answer}
 use Rattle.sysv_core.specs.declared.event.Call.{Call}
@@ -36,7 +36,7 @@ turns_of who h = filter (λ (e : Entry). is_call who e.who) h
 -- its type selects. Each does so with its caller's credentials, on the queue that it names.
 abbrev pub AsksFor : Cred → Call → Turn → Type 0
 AsksFor cred (Send id mtype flags text) turn = (turn ≡ Look id cred (length text)) ⊎ ((now : ℕ) × (turn ≡ Place id cred mtype text now))
-AsksFor cred (Receive id size mtype flags body) turn = (now : ℕ) × (turn ≡ Take id cred (selector_for mtype) size (has_flag 4096 flags) now)
+AsksFor cred (Receive id size mtype flags body) turn = (now : ℕ) × (turn ≡ Take id cred (selector_for mtype flags) size (has_flag 4096 flags) now)
 
 -- the reply to a turn of a send or a receive says that the identifier was live
 abbrev pub found_live : Reply → Bool

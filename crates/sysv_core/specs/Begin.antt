@@ -5,7 +5,7 @@ use Rattle.std.specs.Prelude.{◌≡◌, ℕ, pos, ◌<◌, ◌<ℤ◌, ◌==◌
 use Rattle.std.specs.Int.RustNames.{bit_and}
 use Rattle.sysv_model.specs.declared.cred.Cred.{Cred}
 use Rattle.sysv_model.specs.declared.flags.Flags.{Flags}
-use Rattle.sysv_rules.specs.Asked.{selector_for}
+use Rattle.sysv_model.specs.Selector.{selector_for}
 use Rattle.sysv_core.specs.declared.event.Call.{Call}
 use Rattle.sysv_core.specs.declared.event.Call.TheVariants.{Send, Receive}
 use Rattle.sysv_core.specs.Phase.{Phase, AtLook, AtTake}
@@ -22,7 +22,7 @@ IsRefused (Receive id size mtype flags body) = (has_flag 8192 flags ≡ true) �
 
 abbrev pub begun : Cred → Call → Phase
 begun cred (Send id mtype flags body) = AtLook record { cred = cred; id = id; mtype = mtype; bytes = body; seen = false }
-begun cred (Receive id size mtype flags body) = AtTake record { cred = cred; id = id; selector = selector_for mtype; size = size; noerror = has_flag 4096 flags; seen = false }
+begun cred (Receive id size mtype flags body) = AtTake record { cred = cred; id = id; selector = selector_for mtype flags; size = size; noerror = has_flag 4096 flags; seen = false }
 
 -- a refused receive gives its body back empty
 abbrev pub body_back : Call → Option (List ℕ)

@@ -2,7 +2,7 @@
 -- profile's; the calls those of POSIX.1-2017, msgsnd and msgrcv).
 use Rattle.std.specs.Prelude.{ℕ, ℤ, Bool, List}
 use Rattle.sysv_model.specs.declared.cred.Cred.{Cred}
-use Rattle.sysv_model.specs.Selector.{Selector}
+use Rattle.sysv_model.specs.declared.selector.Selector.{Selector}
 
 -- a send; seen says that an earlier step of the call found the identifier live
 pub record Sending : Type 0 where

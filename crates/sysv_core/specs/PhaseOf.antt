@@ -1,5 +1,4 @@
 -- What the code keeps of a call stands for its phase (this profile's).
-use Rattle.sysv_rules.specs.Asked.{selector_of}
 use Rattle.sysv_core.specs.declared.phase.Send.{Send}
 use Rattle.sysv_core.specs.declared.phase.Receive.{Receive}
 use Rattle.sysv_core.specs.declared.phase.Phase.{Phase}
@@ -10,7 +9,7 @@ abbrev pub sending : Send → Sending
 sending s = record { cred = s.cred; id = s.id; mtype = s.mtype; bytes = s.body; seen = s.live_seen }
 
 abbrev pub receiving : Receive → Receiving
-receiving r = record { cred = r.cred; id = r.id; selector = selector_of r.selector; size = r.size; noerror = r.noerror; seen = r.live_seen }
+receiving r = record { cred = r.cred; id = r.id; selector = r.selector; size = r.size; noerror = r.noerror; seen = r.live_seen }
 
 abbrev pub phase_of : Phase → Stage
 phase_of (Look s) = AtLook (sending s)

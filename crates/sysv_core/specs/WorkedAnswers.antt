@@ -2,7 +2,7 @@
 -- by what it asked for and by its own turns.
 use Rattle.std.specs.Prelude.{ℕ, pos, List, [], ◌∷◌, false, Option, Some, None}
 use Rattle.sysv_model.specs.declared.errno.Errno.TheVariants.{EINVAL, EAGAIN, E2BIG}
-use Rattle.sysv_model.specs.Selector.{Exactly}
+use Rattle.sysv_model.specs.declared.selector.Selector.TheVariants.{Exactly}
 use Rattle.sysv_model.specs.History.{Call as Turn, Take, Reply, Full, Fits, Accepted, TooLong, Taken, Entry}
 use Rattle.sysv_core.specs.declared.event.Answer.{Answer}
 use Rattle.sysv_core.specs.declared.event.Outcome.{Outcome}

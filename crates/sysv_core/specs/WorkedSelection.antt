@@ -3,7 +3,8 @@
 -- type 2 with no text. The queue is of user and group 1000 and has mode 0600.
 use Rattle.std.specs.Prelude.{ℕ, pos, ◌^◌, true, false}
 use Rattle.sysv_model.specs.declared.cred.Cred.{Cred}
-use Rattle.sysv_model.specs.Selector.{Selector, Any, Exactly, UpTo}
+use Rattle.sysv_model.specs.declared.selector.Selector.{Selector}
+use Rattle.sysv_model.specs.declared.selector.Selector.TheVariants.{Any, Exactly, UpTo}
 use Rattle.sysv_model.specs.History.{Call as Turn, Look, Take, Reply, Denied, Full, Fits, NoMatch, TooLong, Taken}
 use Rattle.sysv_queue.specs.LegalReply.{IsLegalReply}
 use Rattle.sysv_core.specs.WorkedRun.{receiver, hello_message, empty_message, after_turns}

@@ -1,6 +1,10 @@
 pub mod Errors
 pub mod Message
+pub mod HasFlag
 pub mod Selector
 pub mod History
 pub mod Live
 pub mod Waiting
+pub mod Registry
+pub mod Pool
+pub mod Turn

@@ -1,8 +1,13 @@
--- What a receive asks for by its type argument (POSIX.1-2017, msgrcv): any message, one of exactly
--- this type, or one of a type that is at most this bound.
-use Rattle.std.specs.Prelude.{ℕ, ℤ}
+-- What a receive asks for by its type argument and its flags (POSIX.1-2017, msgrcv, DESCRIPTION): 0 asks
+-- for any message, a type above 0 for exactly that type, and one below 0 for a type that is at most its
+-- absolute value. The absolute value is that of whole numbers, so the least type there is asks for one
+-- up to 2^63. No flag changes what is asked for (this profile's).
+use Rattle.std.specs.Prelude.{ℤ, pos, int_lt, nat_abs, if◌then◌else◌}
+use Rattle.std.specs.Ordering.{int_eq}
+use Rattle.sysv_model.specs.declared.flags.Flags.{Flags}
+use Rattle.sysv_model.specs.declared.selector.Selector.{Selector}
+use Rattle.sysv_model.specs.declared.selector.Selector.TheVariants.{Any, Exactly, UpTo}
 
-pub data Selector : Type 0 where
-  Any : Selector
-  Exactly : (mtype : ℤ) → Selector
-  UpTo : (bound : ℕ) → Selector
+abbrev pub selector_for : ℤ → Flags → Selector
+selector_for mtype flags =
+    if int_eq mtype (pos 0) then Any else if int_lt (pos 0) mtype then Exactly mtype else UpTo (nat_abs mtype)

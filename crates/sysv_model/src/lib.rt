@@ -10,3 +10,4 @@ pub mod errno;
 pub mod flags;
 pub mod limits;
 pub mod no_memory;
+pub mod selector;

@@ -6,7 +6,7 @@ use Rattle.std.proofs.lemmas.List.Sorted.{IsPermutation-refl, IsPermutation-sym,
 use Rattle.std.proofs.lemmas.List.Elements.{All-contains_itself, All-weaker, Contains-append_left}
 use Rattle.sysv_model.specs.declared.cred.Cred.{Cred}
 use Rattle.sysv_model.specs.Message.{Message}
-use Rattle.sysv_model.specs.Selector.{Selector}
+use Rattle.sysv_model.specs.declared.selector.Selector.{Selector}
 use Rattle.sysv_model.specs.History.{Who, Call, Install, Place, Take, Reply, Installed, Accepted, Taken, Entry, History, then_turn, arrived}
 use Rattle.sysv_model.specs.Live.{live, HasId}
 use Rattle.sysv_model.specs.Waiting.{accepted, delivered, discarded, waiting, held}

@@ -2,7 +2,8 @@
 use Rattle.std.proofs.Common.{◌≡◌, ℕ, ℤ, zero, suc, ◌<◌, Bool, true, false, List, [], ◌∷◌, length, Option, Some, refl, sym, ap, subst, ◌∙◌, arith, slice_get, inl, inr}
 use Rattle.std.proofs.lemmas.List.{length-map}
 use Rattle.sysv_model.specs.Message.{Message}
-use Rattle.sysv_model.specs.Selector.{Selector, Any, Exactly, UpTo}
+use Rattle.sysv_model.specs.declared.selector.Selector.{Selector}
+use Rattle.sysv_model.specs.declared.selector.Selector.TheVariants.{Any, Exactly, UpTo}
 use Rattle.sysv_rules.specs.Qualifies.{QualifiesAt, NoneQualifies, type_at}
 use Rattle.sysv_rules.specs.Named.{IsNamed as IsNamedAmong}
 use Rattle.sysv_queue.specs.Slot.{Slot}

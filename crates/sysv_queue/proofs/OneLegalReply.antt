@@ -4,7 +4,7 @@ use Rattle.std.proofs.Common.{◌≡◌, ℕ, zero, suc, ℤ, ◌+◌, ◌<◌, 
 use Rattle.sysv_model.specs.declared.cred.Cred.{Cred}
 use Rattle.sysv_model.specs.declared.attributes.Attributes.{Attributes}
 use Rattle.sysv_model.specs.Message.{Message}
-use Rattle.sysv_model.specs.Selector.{Selector}
+use Rattle.sysv_model.specs.declared.selector.Selector.{Selector}
 use Rattle.sysv_model.specs.History.{Call, Install, Look, Place, Take, Reply, Installed, Gone, Denied, Full, Fits, Accepted, NoMatch, TooLong, Taken}
 use Rattle.sysv_model.specs.Live.{HasId}
 use Rattle.sysv_rules.specs.declared.permission.Want.{Want}

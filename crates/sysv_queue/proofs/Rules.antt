@@ -1,7 +1,7 @@
 -- The laws of the rules that the lemmas start from: what a caller wants is permitted or not, and a
 -- selector names one place of a list or none.
 use Rattle.std.specs.Prelude.{◌≡◌, ◌⊎◌, ℕ, ℤ, List}
-use Rattle.sysv_model.specs.Selector.{Selector}
+use Rattle.sysv_model.specs.declared.selector.Selector.{Selector}
 use Rattle.sysv_model.specs.declared.cred.Cred.{Cred}
 use Rattle.sysv_model.specs.declared.attributes.Perm.{Perm}
 use Rattle.sysv_rules.specs.declared.permission.Want.{Want}

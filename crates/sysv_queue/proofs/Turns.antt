@@ -6,7 +6,7 @@ use Rattle.std.proofs.lemmas.Grind.{flat_map-append}
 use Rattle.sysv_model.specs.declared.cred.Cred.{Cred}
 use Rattle.sysv_model.specs.declared.attributes.Attributes.{Attributes}
 use Rattle.sysv_model.specs.Message.{Message}
-use Rattle.sysv_model.specs.Selector.{Selector}
+use Rattle.sysv_model.specs.declared.selector.Selector.{Selector}
 use Rattle.sysv_model.specs.History.{Call, Install, Look, Place, Take, Reply, Installed, Gone, Denied, Full, Accepted, NoMatch, TooLong, Taken, Entry, History, announces_arrival, announces_room, arrived, freed}
 use Rattle.sysv_model.specs.Live.{live, live_after}
 use Rattle.sysv_model.specs.Waiting.{accepted, delivered, discarded, waiting, accepted_by, delivered_by, discarded_by}

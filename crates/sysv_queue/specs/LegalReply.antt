@@ -5,7 +5,7 @@
 use Rattle.std.specs.Prelude.{◌≡◌, ℕ, ℤ, ◌≤◌, ◌⊎◌, Bool, true, false, ◌∷◌, ◌++◌, length, None, Some, MatchOption, IsSome, slice_get}
 use Rattle.sysv_model.specs.declared.cred.Cred.{Cred}
 use Rattle.sysv_model.specs.Message.{Message}
-use Rattle.sysv_model.specs.Selector.{Selector}
+use Rattle.sysv_model.specs.declared.selector.Selector.{Selector}
 use Rattle.sysv_model.specs.History.{Call, Install, Probe, Look, Place, Take, ReadStat, Set, Remove, ReadRow, Reply, Installed, Gone, Denied, Full, Fits, Accepted, NoMatch, TooLong, Taken, Entry, History}
 use Rattle.sysv_model.specs.Live.{HasId}
 use Rattle.sysv_queue.specs.Slot.{Slot, slot_of}

@@ -5,7 +5,6 @@ pub use Rattle.sysv_model.specs.History
 pub use Rattle.sysv_model.specs.Live
 pub use Rattle.sysv_model.specs.Waiting
 pub use Rattle.sysv_rules.specs.Permission
-pub use Rattle.sysv_rules.specs.Asked
 pub use Rattle.sysv_rules.specs.Qualifies
 pub mod Slot
 pub mod Fits

@@ -2,7 +2,7 @@
 -- it names in the list of their types.
 use Rattle.std.specs.Prelude.{ℕ, ℤ, List, map}
 use Rattle.sysv_model.specs.Message.{Message}
-use Rattle.sysv_model.specs.Selector.{Selector}
+use Rattle.sysv_model.specs.declared.selector.Selector.{Selector}
 use Rattle.sysv_rules.specs.Named.{IsNamed as IsNamedAmong}
 
 -- the types of the messages, in their order

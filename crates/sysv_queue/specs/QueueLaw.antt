@@ -7,7 +7,7 @@ use Rattle.std.specs.Prelude.{◌≡◌, ◌≢◌, ℕ, ℤ, Bool, true, false,
 use Rattle.std.specs.Ordering.{int_eq}
 use Rattle.sysv_model.specs.Message.{Message}
 use Rattle.sysv_model.specs.declared.cred.Cred.{Cred}
-use Rattle.sysv_model.specs.Selector.{Selector}
+use Rattle.sysv_model.specs.declared.selector.Selector.{Selector}
 use Rattle.sysv_model.specs.History.{Who, Call, Install, Take, Remove, Reply, Installed, Taken, Discarded, Entry, History}
 use Rattle.sysv_model.specs.Live.{IsLive}
 use Rattle.sysv_model.specs.Waiting.{accepted, delivered, discarded, waiting, accepted_by, delivered_by}

@@ -3,7 +3,6 @@ ghost use Rattle.sysv_model.specs.Message.{Message};
 ghost use Rattle.sysv_model.specs.History.{Install, Place, Take, Installed, Taken};
 ghost use Rattle.sysv_model.specs.History.{Look as LookCall};
 ghost use Rattle.sysv_model.specs.Live.{HasId, sent_to, received_from};
-ghost use Rattle.sysv_rules.specs.Asked.{selector_of};
 ghost use Rattle.sysv_queue.specs.Fits.{bytes_of};
 ghost use Rattle.sysv_queue.specs.Granted.{IsGranted};
 ghost use Rattle.sysv_queue.specs.Named.{IsNamed};
@@ -236,7 +235,7 @@ impl QueueSlot {
 
     /// The place of the message that `sel` names.
     fn named(&self, sel: Selector) -> Option<usize>
-        ensures { MatchOption result ((place : ℕ) → ¬ IsNamed (selector_of sel) self.now.messages place) (IsNamed (selector_of sel) self.now.messages) }
+        ensures { MatchOption result ((place : ℕ) → ¬ IsNamed sel self.now.messages place) (IsNamed sel self.now.messages) }
     {
         select_plain(sel, &self.types)
     }
@@ -359,8 +358,8 @@ impl QueueSlot {
     ) -> Result<Delivery, TakeRefused>
         requires { self.old.freed < 2 ^ 63 }
         ensures taken { IfOk result (λ given. (m : Message) × Gives given m size out.new
-            × MakesTurn self.old (Take id cred (selector_of sel) size noerror now) (Taken m) self.new) }
-        ensures refused { IfErr result (λ why. MakesTurn self.old (Take id cred (selector_of sel) size noerror now) (untaken_reply why) self.new
+            × MakesTurn self.old (Take id cred sel size noerror now) (Taken m) self.new) }
+        ensures refused { IfErr result (λ why. MakesTurn self.old (Take id cred sel size noerror now) (untaken_reply why) self.new
             × (self.new ≡ self.old) × (out.new ≡ out.old)) }
     {
         if !self.is_live(id) {

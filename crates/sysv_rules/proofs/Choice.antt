@@ -3,7 +3,8 @@ use Rattle.std.proofs.Common.{◌≡◌, ℕ, zero, suc, ◌<◌, ◌≤◌, ◌
 use Rattle.std.proofs.lemmas.Int.{by_lt_z, ints}
 use Rattle.std.specs.Ordering.{int_eq}
 use Rattle.std.proofs.lemmas.Bool.Decides.{Decides-int_eq}
-use Rattle.sysv_model.specs.Selector.{Selector, Any, Exactly, UpTo}
+use Rattle.sysv_model.specs.declared.selector.Selector.{Selector}
+use Rattle.sysv_model.specs.declared.selector.Selector.TheVariants.{Any, Exactly, UpTo}
 use Rattle.sysv_rules.specs.Qualifies.{Qualifies, QualifiesAt, NoneQualifies, type_at}
 use Rattle.sysv_rules.specs.Named.{IsNamed, IsFirst}
 

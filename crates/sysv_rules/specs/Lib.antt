@@ -1,4 +1,3 @@
 pub mod Permission
-pub mod Asked
 pub mod Qualifies
 pub mod Named

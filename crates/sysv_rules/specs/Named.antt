@@ -2,7 +2,8 @@
 -- (POSIX.1-2017, msgrcv, DESCRIPTION). Its type qualifies. For any type and for an exact one no
 -- earlier place qualifies; for a bound no place has a lower type and no earlier place has the same.
 use Rattle.std.specs.Prelude.{◌≡◌, ◌<◌, ◌<ℤ◌, ℕ, ℤ, List, length}
-use Rattle.sysv_model.specs.Selector.{Selector, Any, Exactly, UpTo}
+use Rattle.sysv_model.specs.declared.selector.Selector.{Selector}
+use Rattle.sysv_model.specs.declared.selector.Selector.TheVariants.{Any, Exactly, UpTo}
 use Rattle.sysv_rules.specs.Qualifies.{QualifiesAt, type_at}
 
 -- the place qualifies, and no earlier one does

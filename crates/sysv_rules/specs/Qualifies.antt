@@ -1,6 +1,7 @@
 -- The types that a selector asks for (POSIX.1-2017, msgrcv, DESCRIPTION), compared as whole numbers.
 use Rattle.std.specs.Prelude.{◌≡◌, ◌<◌, ◌≤ℤ◌, ℕ, ℤ, pos, List, length, slice_index_or, ⊤}
-use Rattle.sysv_model.specs.Selector.{Selector, Any, Exactly, UpTo}
+use Rattle.sysv_model.specs.declared.selector.Selector.{Selector}
+use Rattle.sysv_model.specs.declared.selector.Selector.TheVariants.{Any, Exactly, UpTo}
 
 abbrev pub Qualifies : Selector → ℤ → Type 0
 Qualifies Any mtype = ⊤

@@ -1,7 +1,7 @@
 //! Laws over the definitions alone.
 
 ghost use Rattle.std.specs.Prelude.{◌≡◌, ◌⊎◌, ℕ, ℤ, List};
-ghost use Rattle.sysv_model.specs.Selector.{Selector};
+ghost use Rattle.sysv_model.specs.declared.selector.Selector.{Selector};
 ghost use Rattle.sysv_model.specs.declared.cred.Cred.{Cred};
 ghost use Rattle.sysv_model.specs.declared.attributes.Perm.{Perm};
 ghost use Rattle.sysv_rules.specs.declared.permission.Want.{Want};

@@ -17,22 +17,6 @@ fn assert_selects(rt: &impl Abort, types: &[i64], table: &[(i64, Option<usize>)]
 }
 
 #[test]
-fn a_type_argument_asks_for_its_kind(rt: HostRuntime) {
-    let table = [
-        (0, Selector::Any),
-        (1, Selector::Exactly(1)),
-        (MAX, Selector::Exactly(9_223_372_036_854_775_807)),
-        (-1, Selector::UpTo(1)),
-        (-MAX, Selector::UpTo(9_223_372_036_854_775_807)),
-        (MIN, Selector::UpTo(9_223_372_036_854_775_808)),
-    ];
-    for (mtype, sel) in table {
-        assert_eq!(rt; Selector::of(mtype, Flags::IPC_NOWAIT), sel, "{mtype}");
-        assert_eq!(rt; Selector::of(mtype, Flags::MSG_EXCEPT), sel, "{mtype}");
-    }
-}
-
-#[test]
 fn types_qualify_as_whole_numbers(rt: HostRuntime) {
     let table = [
         (Selector::Any, [true, true, true, true, true, true]),

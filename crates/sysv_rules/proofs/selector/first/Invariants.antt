@@ -1,8 +1,7 @@
 use Rattle.std.proofs.Common.{ℕ, ◌<◌}
-use Rattle.sysv_rules.specs.Asked.{selector_of}
 use Rattle.sysv_rules.specs.Qualifies.{QualifiesAt}
 use Rattle.sysv_rules.proofs.selector.first.Given as goal
 
 -- no place so far qualifies
 abbrev pub invariant-loop-place : goal.invariant-loop-place
-invariant-loop-place l = (earlier : ℕ) → earlier < l.place → ¬ QualifiesAt (selector_of l.sel) l.types earlier
+invariant-loop-place l = (earlier : ℕ) → earlier < l.place → ¬ QualifiesAt l.sel l.types earlier
