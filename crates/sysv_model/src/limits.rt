@@ -31,9 +31,6 @@ pub const BLOCKS_LEAST: u32 = 128;
 /// The most blocks of a pool of message text.
 pub const BLOCKS_MOST: u32 = 65536;
 
-/// The bytes of text that one block of a pool holds.
-pub const BLOCK_BYTES: usize = 64;
-
 /// The number of counted steps at which a world is worn out, 2^62.
 pub const WORN: u64 = 1 << 62;
 
@@ -53,7 +50,6 @@ mod tests {
         assert_eq!(rt; ACTORS_MOST, 1_024);
         assert_eq!(rt; BLOCKS_LEAST, 128);
         assert_eq!(rt; BLOCKS_MOST, 65_536);
-        assert_eq!(rt; BLOCK_BYTES, 64);
         assert_eq!(rt; WORN, 4_611_686_018_427_387_904);
     }
 }
