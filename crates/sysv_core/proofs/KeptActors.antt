@@ -1,6 +1,6 @@
--- The actors that the code keeps, as the phases that are seen; and how far one turn moves the slot's
+-- The actors that the code keeps, as the states that are seen; and how far one turn moves the slot's
 -- counts.
-use Rattle.std.proofs.Common.{◌≡◌, ℕ, ℤ, ◌+◌, ◌<◌, ◌≤◌, Bool, true, false, cond, List, [], ◌∷◌, ◌++◌, Option, None, Some, refl, sym, ap, ◌∙◌, arith, length, slice_get, slice_set, option_map, is_some}
+use Rattle.std.proofs.Common.{◌≡◌, ℕ, ℤ, ◌+◌, ◌<◌, ◌≤◌, Bool, true, false, cond, List, [], ◌∷◌, ◌++◌, Option, None, Some, refl, sym, ap, ◌∙◌, arith, length, slice_get, slice_set, length-set, option_map, is_some}
 use Rattle.std.specs.List.{slice_index_or}
 use Rattle.std.proofs.lemmas.List.{length-map}
 use Rattle.std.proofs.lemmas.List.Sums.{sum_by-append}
@@ -9,37 +9,50 @@ use Rattle.sysv_model.specs.declared.cred.Cred.{Cred}
 use Rattle.sysv_model.specs.History.{Actor, Call, Install, Reply, Installed, Entry, History, announces_arrival, announces_room, arrived, freed}
 use Rattle.sysv_queue.specs.Slot.{Slot}
 use Rattle.sysv_queue.specs.StandsFor.{StandsFor, MakesTurn}
-use Rattle.sysv_core.specs.declared.phase.Phase.{Phase}
-use Rattle.sysv_core.specs.Phase.{Phase as Stage}
-use Rattle.sysv_core.specs.PhaseOf.{phase_of}
-use Rattle.sysv_core.specs.Kept.{kept_phase, kept_phases}
+use Rattle.sysv_steps.specs.State.{State, Goes}
+use Rattle.sysv_steps.specs.Seen.{phase_of}
+use Rattle.sysv_core.specs.declared.doing.Doing.{Doing}
+use Rattle.sysv_core.specs.Kept.{state_kept, states_kept}
+use Rattle.sysv_core.specs.Seen.{Seen}
 use Rattle.sysv_core.proofs.Lists.{map-slice_set, slice_set-same, slice_set-twice}
 
-pub kept_some : (x : Option Phase) → is_some x ≡ true → (p : Stage) × (kept_phase x ≡ Some p)
+pub kept_some : (x : Option Doing) → is_some x ≡ true → (p : State) × (state_kept x ≡ Some p)
 kept_some None e = absurd cc
-kept_some (Some p) e = (phase_of p, refl)
+kept_some (Some p) e = (Goes (phase_of p.phase p.body), refl)
 
-pub kept_none : (x : Option Phase) → is_some x ≡ false → kept_phase x ≡ None
+pub kept_none : (x : Option Doing) → is_some x ≡ false → state_kept x ≡ None
 kept_none None e = refl
 kept_none (Some p) e = absurd cc
 
-module _ (items : List (Option Phase)) (phases : List (Option Stage)) (view : kept_phases items ≡ phases) (place : ℕ) (within : place < length phases) where
+module _ (items : List (Option Doing)) (states : List (Option State)) (view : states_kept items ≡ states) (place : ℕ) (within : place < length states) where
   inside : place < length items
-  inside = omega (arith, length-map items kept_phase, ap length view)
+  inside = omega (arith, length-map items state_kept, ap length view)
 
-  pub seen_at : (x : Option Phase) → x ≡ slice_index_or items place x → slice_get phases place ≡ Some (kept_phase x)
+  pub seen_at : (x : Option Doing) → x ≡ slice_index_or items place x → slice_get states place ≡ Some (state_kept x)
   seen_at x read =
       sym (ap (λ ps. slice_get ps place) view)
-      ∙ (slice_get-map kept_phase items place ∙ ap (option_map kept_phase) (slice_get_read items (length items) place x refl inside read))
+      ∙ (slice_get-map state_kept items place ∙ ap (option_map state_kept) (slice_get_read items (length items) place x refl inside read))
 
-  pub seen_set : (x : Option Phase) (p : Option Stage) → kept_phase x ≡ p → kept_phases (slice_set items place x) ≡ slice_set phases place p
-  seen_set x p e = map-slice_set kept_phase items place x ∙ (ap (λ ps. slice_set ps place (kept_phase x)) view ∙ ap (slice_set phases place) e)
+  pub seen_set : (x : Option Doing) (p : Option State) → state_kept x ≡ p → states_kept (slice_set items place x) ≡ slice_set states place p
+  seen_set x p e = map-slice_set state_kept items place x ∙ (ap (λ ps. slice_set ps place (state_kept x)) view ∙ ap (slice_set states place) e)
 
-  pub seen_taken : (x y : Option Phase) (p : Option Stage) → kept_phase y ≡ p → kept_phases (slice_set (slice_set items place x) place y) ≡ slice_set phases place p
-  seen_taken x y p e = ap kept_phases (slice_set-twice items place x y) ∙ seen_set y p e
+  pub seen_taken : (x y : Option Doing) (p : Option State) → state_kept y ≡ p → states_kept (slice_set (slice_set items place x) place y) ≡ slice_set states place p
+  seen_taken x y p e = ap states_kept (slice_set-twice items place x y) ∙ seen_set y p e
 
-  pub seen_same : (x : Option Phase) (p : Option Stage) → kept_phase x ≡ p → slice_get phases place ≡ Some p → kept_phases (slice_set items place x) ≡ phases
-  seen_same x p e there = seen_set x p e ∙ slice_set-same phases place p there
+  pub seen_same : (x : Option Doing) (p : Option State) → state_kept x ≡ p → slice_get states place ≡ Some p → states_kept (slice_set items place x) ≡ states
+  seen_same x p e there = seen_set x p e ∙ slice_set-same states place p there
+
+  -- what is put over a change at that place
+  pub seen_over : (x : Option Doing) (p : Option State) → slice_set (states_kept (slice_set items place x)) place p ≡ slice_set states place p
+  seen_over x p =
+      ap (λ ps. slice_set ps place p) (map-slice_set state_kept items place x)
+      ∙ (slice_set-twice (states_kept items) place (state_kept x) p ∙ ap (λ ps. slice_set ps place p) view)
+
+  pub still_within : (x : Option Doing) → place < length (states_kept (slice_set items place x))
+  still_within x = omega (arith, length-map (slice_set items place x) state_kept, length-set items place x, inside)
+
+pub same_seen : (a b : Slot) (s t : List (Option State)) (m n : ℕ) → a ≡ b → s ≡ t → m ≡ n → let x : Seen = record { slot = a; states = s; steps = m } in let y : Seen = record { slot = b; states = t; steps = n } in x ≡ y
+same_seen a b s t m n e f g = cc
 
 one_more : (b : Bool) → cond b 1 0 ≤ 1
 one_more true = omega arith

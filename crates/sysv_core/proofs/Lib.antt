@@ -1,14 +1,6 @@
 pub mod Lists
-pub mod SeenSteps
+pub mod Own
+pub mod Obeying
 pub mod KeptActors
-pub mod Asking
-pub mod Answering
-pub mod Starting
-pub mod Telling
-pub mod Addressing
+pub mod SeenSteps
 pub mod Runs
-pub mod OneRun
-pub mod SomeRun
-pub mod WorkedRun
-pub mod WorkedSelection
-pub mod WorkedAnswers

@@ -1,51 +1,155 @@
--- One event in a world of the definitions, told from what the world of the code is seen as.
-use Rattle.std.proofs.Common.{◌≡◌, ℕ, zero, suc, ◌+◌, ◌-◌, ◌<◌, ◌⊎◌, inl, inr, Bool, true, false, [], ◌∷◌, ◌++◌, Option, None, Some, IsSome, refl, sym, ap, subst, ◌∙◌, arith, length, map, slice_get, slice_set, option_map}
-use Rattle.std.proofs.lemmas.List.{length-map}
+-- One happening in a world of the definitions, told from what the world of the code is seen as.
+use Rattle.std.proofs.Common.{◌≡◌, ℕ, zero, suc, pos, ◌+◌, ◌-◌, ◌<◌, ◌⊎◌, inl, inr, Bool, true, false, cond, List, [], ◌∷◌, ◌++◌, Option, None, Some, IsSome, refl, sym, ap, subst, ◌∙◌, arith, length, map, slice_get, slice_set, option_map}
+use Rattle.std.proofs.lemmas.Grind.{flat_map-append}
+use Rattle.std.proofs.lemmas.List.{append-nil, length-map}
 use Rattle.std.proofs.lemmas.Option.{slice_get-map, slice_get_past}
 use Rattle.sysv_model.specs.declared.cred.Cred.{Cred}
 use Rattle.sysv_model.specs.declared.errno.Errno.TheVariants.{EINVAL}
-use Rattle.sysv_model.specs.History.{Who, Actor, Reply, Installed, then_turn}
+use Rattle.sysv_model.specs.declared.limits.TheConstants.{WORN}
+use Rattle.sysv_model.specs.History.{Who, Actor, Call, Reply, Installed, Gone, Denied, Full, Fits, Accepted, NoMatch, TooLong, Taken}
+use Rattle.sysv_model.specs.Pool.{released}
+use Rattle.sysv_model.specs.Turn.{Deed, AtSlot, AtRegistry, AtPool, OfSlot, asked_by, Turn, slot_entry, pool_entry, slot_history, pool_history}
 use Rattle.sysv_queue.specs.Slot.{Slot}
 use Rattle.sysv_queue.specs.LegalReply.{Legal}
 use Rattle.sysv_queue.specs.StandsFor.{MakesTurn, StandsFor as SlotStandsFor}
-use Rattle.sysv_core.specs.declared.event.Call.{Call}
+use Rattle.sysv_steps.specs.Call.{SystemCall, Msgsnd, Msgrcv}
+use Rattle.sysv_steps.specs.SlotAt.{slot_at}
+use Rattle.sysv_steps.specs.State.{Phase, AtLook, AtPlace, AtTake, Refused, State, Goes, Waits, Over}
+use Rattle.sysv_steps.specs.Begin.{is_refused, first, begin}
+use Rattle.sysv_steps.specs.Asks.{asks}
+use Rattle.sysv_steps.specs.Next.{next}
+use Rattle.sysv_steps.specs.Seen.{phase_of}
+use Rattle.sysv_core.specs.declared.doing.Doing.{Doing as Kept}
+use Rattle.sysv_core.specs.declared.doing.Led.{Led}
+use Rattle.sysv_core.specs.declared.doing.Led.TheVariants as led
+use Rattle.sysv_core.specs.declared.event.Call.{Call as Coded}
+use Rattle.sysv_core.specs.declared.event.Call.TheVariants as coded
 use Rattle.sysv_core.specs.declared.event.Event.TheVariants.{Start, Step}
-use Rattle.sysv_core.specs.declared.event.Outcome.TheVariants as outcome
 use Rattle.sysv_core.specs.declared.event.Stepped.{Stepped}
 use Rattle.sysv_core.specs.declared.event.Stepped.TheVariants as stepped
-use Rattle.sysv_core.specs.Phase.{Phase}
-use Rattle.sysv_core.specs.Begin.{IsRefused, begun, body_back}
-use Rattle.sysv_core.specs.Turn.{turn_call, after_turn}
-use Rattle.sysv_core.specs.World.{World, Doing, Makes, StartsAt, StepsAt, actor_at, with_actor, in_phase, starting, Presets, preset_call}
-use Rattle.sysv_core.specs.Seen.{Seen, IsSeenAs, phase_in}
-use Rattle.sysv_core.proofs.Lists.{map-slice_set}
+use Rattle.sysv_core.specs.World.{World, Started, Doing, Given, actor_at, with_actor, doing_in, given_in, in_state, with_call, with_turn, starting, begun, IsLegal, Continues, StartsAt, StepsAt, Presets, preset_call}
+use Rattle.sysv_core.specs.Answered.{receives, TellsEnding}
+use Rattle.sysv_core.specs.Asked.{asked_of}
+use Rattle.sysv_core.specs.Kept.{kept_led, told_by}
+use Rattle.sysv_core.specs.Led.{LeadsTo, is_receiving, TurnLeads}
+use Rattle.sysv_core.specs.Seen.{Seen, IsSeenAs, IsThere, IsToCaller, AreThere, Gives, Steps, state_in}
+use Rattle.sysv_core.proofs.Lists.{map-slice_set, get_set_same, get_set_other, same_place}
 
 -- ---- the actor at a place
 
-idle_in : (o : Option (Option Doing)) → option_map phase_in o ≡ Some None → o ≡ Some None
+idle_in : (o : Option (Option Doing)) → option_map state_in o ≡ Some None → o ≡ Some None
 idle_in None e = absurd cc
 idle_in (Some None) e = refl
 idle_in (Some (Some d)) e = absurd cc
 
-busy_in : (o : Option (Option Doing)) (p : Phase) → option_map phase_in o ≡ Some (Some p) → (d : Doing) × (o ≡ Some (Some d)) × (d.phase ≡ p)
-busy_in None p e = absurd cc
-busy_in (Some None) p e = absurd cc
-busy_in (Some (Some d)) p e = (d, refl, cc)
+busy_in : (o : Option (Option Doing)) (s : State) → option_map state_in o ≡ Some (Some s) → (d : Doing) × (o ≡ Some (Some d)) × (d.state ≡ s)
+busy_in None s e = absurd cc
+busy_in (Some None) s e = absurd cc
+busy_in (Some (Some d)) s e = (d, refl, cc)
+
+-- ---- what a start or a step leads to
+
+-- the call stands at a step of its own, or is over
+abbrev IsThereOrOver : SystemCall → State → Type 0
+IsThereOrOver asked (Over ending) = Unit {0}
+IsThereOrOver asked state = IsThere asked state
+
+begins_there : (cred : Cred) (call : Coded) (released : ℕ) (b : Bool) → is_refused (asked_of call) ≡ b → IsThereOrOver (asked_of call) (cond b (Over (Refused EINVAL)) (Goes (first cred (asked_of call) released)))
+begins_there cred call released true e = tt
+begins_there cred (coded.Send id mtype flags body) released false e = tt
+begins_there cred (coded.Receive id size mtype flags body) released false e = tt
+
+kind : (asked : SystemCall) (phase : Phase) → IsThere asked (Goes phase) → is_receiving phase ≡ receives asked
+kind (Msgsnd id mtype flags text) (AtLook send) h = refl
+kind (Msgsnd id mtype flags text) (AtPlace send blocks) h = refl
+kind (Msgrcv id size mtype flags) (AtTake receive) h = refl
+kind asked phase h = absurd h
+
+some_is : {x y : State} → Some x ≡ Some y → x ≡ y
+some_is e = cc
+
+there_next : (asked : SystemCall) (phase : Phase) (deed : Deed) (state : State) → IsThere asked (Goes phase) → next phase deed ≡ Some state → IsThereOrOver asked state
+there_next (Msgsnd id mtype flags text) (AtLook send) (AtSlot slot call Gone) state h e = subst (IsThereOrOver (Msgsnd id mtype flags text)) (some_is e) tt
+there_next (Msgsnd id mtype flags text) (AtLook send) (AtSlot slot call Denied) state h e = subst (IsThereOrOver (Msgsnd id mtype flags text)) (some_is e) tt
+there_next (Msgsnd id mtype flags text) (AtLook send) (AtSlot slot call (Full freed)) state h e = subst (IsThereOrOver (Msgsnd id mtype flags text)) (some_is e) tt
+there_next (Msgsnd id mtype flags text) (AtLook send) (AtSlot slot call Fits) state h e = subst (IsThereOrOver (Msgsnd id mtype flags text)) (some_is e) tt
+there_next (Msgsnd id mtype flags text) (AtPlace send blocks) (AtSlot slot call Gone) state h e = subst (IsThereOrOver (Msgsnd id mtype flags text)) (some_is e) tt
+there_next (Msgsnd id mtype flags text) (AtPlace send blocks) (AtSlot slot call Denied) state h e = subst (IsThereOrOver (Msgsnd id mtype flags text)) (some_is e) tt
+there_next (Msgsnd id mtype flags text) (AtPlace send blocks) (AtSlot slot call (Full freed)) state h e = subst (IsThereOrOver (Msgsnd id mtype flags text)) (some_is e) tt
+there_next (Msgsnd id mtype flags text) (AtPlace send blocks) (AtSlot slot call (Accepted number)) state h e = subst (IsThereOrOver (Msgsnd id mtype flags text)) (some_is e) tt
+there_next (Msgrcv id size mtype flags) (AtTake receive) (AtSlot slot call Gone) state h e = subst (IsThereOrOver (Msgrcv id size mtype flags)) (some_is e) tt
+there_next (Msgrcv id size mtype flags) (AtTake receive) (AtSlot slot call Denied) state h e = subst (IsThereOrOver (Msgrcv id size mtype flags)) (some_is e) tt
+there_next (Msgrcv id size mtype flags) (AtTake receive) (AtSlot slot call (NoMatch arrived)) state h e = subst (IsThereOrOver (Msgrcv id size mtype flags)) (some_is e) tt
+there_next (Msgrcv id size mtype flags) (AtTake receive) (AtSlot slot call TooLong) state h e = subst (IsThereOrOver (Msgrcv id size mtype flags)) (some_is e) tt
+there_next (Msgrcv id size mtype flags) (AtTake receive) (AtSlot slot call (Taken m)) state h e = subst (IsThereOrOver (Msgrcv id size mtype flags)) (some_is e) tt
+there_next (Msgsnd id mtype flags text) (AtLook send) (AtSlot slot call reply) state h e = absurd cc
+there_next (Msgsnd id mtype flags text) (AtLook send) (AtRegistry call reply) state h e = absurd cc
+there_next (Msgsnd id mtype flags text) (AtLook send) (AtPool call reply) state h e = absurd cc
+there_next (Msgsnd id mtype flags text) (AtPlace send blocks) (AtSlot slot call reply) state h e = absurd cc
+there_next (Msgsnd id mtype flags text) (AtPlace send blocks) (AtRegistry call reply) state h e = absurd cc
+there_next (Msgsnd id mtype flags text) (AtPlace send blocks) (AtPool call reply) state h e = absurd cc
+there_next (Msgrcv id size mtype flags) (AtTake receive) (AtSlot slot call reply) state h e = absurd cc
+there_next (Msgrcv id size mtype flags) (AtTake receive) (AtRegistry call reply) state h e = absurd cc
+there_next (Msgrcv id size mtype flags) (AtTake receive) (AtPool call reply) state h e = absurd cc
+there_next asked phase deed state h e = absurd h
+
+state_led : (call : Started) (b : Bool) (state : State) (l : Led) → LeadsTo b state l → state_in (doing_in call state) ≡ kept_led l
+state_led call b (Goes phase) (led.To doing) h = ap (λ p. Some (Goes p)) h
+state_led call b (Over ending) (led.Over result body) h = refl
+state_led call b (Goes phase) (led.Over result body) h = absurd h
+state_led call b (Waits wait) l h = absurd h
+state_led call b (Over ending) (led.To doing) h = absurd h
+
+-- what was led to is told
+tells_led : (w : World) (call : Started) (actor : ℕ) (state : State) (l : Led) → w.steps < WORN → IsToCaller call.who actor → LeadsTo (receives call.asked) state l →
+    Gives w (given_in call state) (told_by actor l)
+tells_led w call actor (Goes phase) (led.To doing) young own h = (young, refl)
+tells_led w call actor (Over ending) (led.Over result body) young own h =
+    let g : Given = record { call = call; ending = ending } in
+    (young, (g, refl, record { caller = own; ending = h }))
+tells_led w call actor (Goes phase) (led.Over result body) young own h = absurd h
+tells_led w call actor (Waits wait) l young own h = absurd h
+tells_led w call actor (Over ending) (led.To doing) young own h = absurd h
+
+-- ---- the actors after it
+
+one_doing : {x y : Doing} → Some x ≡ Some y → x ≡ y
+one_doing e = cc
+
+one_busy : {x y : Option Doing} → Some x ≡ Some y → x ≡ y
+one_busy e = cc
+
+abbrev IsAt : ℕ → Doing → Type 0
+IsAt place d = IsThere d.call.asked d.state × IsToCaller d.call.who (suc place)
+
+doing_there : (place : ℕ) (call : Started) (state : State) (d : Doing) → IsThereOrOver call.asked state → IsToCaller call.who (suc place) → doing_in call state ≡ Some d → IsAt place d
+doing_there place call (Goes phase) d h own e = subst (IsAt place) (one_doing e) (h, own)
+doing_there place call (Waits wait) d h own e = subst (IsAt place) (one_doing e) (h, own)
+doing_there place call (Over ending) d h own e = absurd cc
+
+there_still : (actors : List (Option Doing)) (place : ℕ) (was : Option Doing) (call : Started) (state : State) → slice_get actors place ≡ Some was → AreThere actors → IsThereOrOver call.asked state →
+    IsToCaller call.who (suc place) → AreThere (slice_set actors place (doing_in call state))
+there_still actors place was call state at all h own = λ p d here. elim (same_place place p) [
+  | inl same ↦
+      let got : Some (doing_in call state) ≡ Some (Some d) = sym (get_set_same actors place (doing_in call state) was at) ∙ subst (λ n. slice_get (slice_set actors place (doing_in call state)) n ≡ Some (Some d)) (sym same) here in
+      subst (λ n. IsAt n d) same (doing_there place call state d h own (one_busy got))
+  | inr apart ↦ all p d (sym (get_set_other actors place p (doing_in call state) apart) ∙ here)
+]
 
 module _ (w : World) (seen : Seen) (s : IsSeenAs w seen) where
-  kept_at : (place : ℕ) → option_map phase_in (slice_get w.actors place) ≡ slice_get seen.phases place
-  kept_at place = sym (slice_get-map phase_in w.actors place) ∙ ap (λ ps. slice_get ps place) s.phases
+  kept_at : (place : ℕ) → option_map state_in (slice_get w.actors place) ≡ slice_get seen.states place
+  kept_at place = sym (slice_get-map state_in w.actors place) ∙ ap (λ ps. slice_get ps place) s.states
 
-  idle_at : (place : ℕ) → slice_get seen.phases place ≡ Some None → slice_get w.actors place ≡ Some None
+  idle_at : (place : ℕ) → slice_get seen.states place ≡ Some None → slice_get w.actors place ≡ Some None
   idle_at place e = idle_in (slice_get w.actors place) (kept_at place ∙ e)
 
-  busy_at : (place : ℕ) (p : Phase) → slice_get seen.phases place ≡ Some (Some p) → (d : Doing) × (slice_get w.actors place ≡ Some (Some d)) × (d.phase ≡ p)
+  busy_at : (place : ℕ) (p : State) → slice_get seen.states place ≡ Some (Some p) → (d : Doing) × (slice_get w.actors place ≡ Some (Some d)) × (d.state ≡ p)
   busy_at place p e = busy_in (slice_get w.actors place) p (kept_at place ∙ e)
 
-  as_many : length w.actors ≡ length seen.phases
-  as_many = sym (length-map w.actors phase_in) ∙ ap length s.phases
+  as_many : length w.actors ≡ length seen.states
+  as_many = sym (length-map w.actors state_in) ∙ ap length s.states
 
-  absent : (actor : ℕ) → (actor ≡ 0) ⊎ (length seen.phases < actor) → actor_at w.actors actor ≡ None
+  absent : (actor : ℕ) → (actor ≡ 0) ⊎ (length seen.states < actor) → actor_at w.actors actor ≡ None
   absent zero h = refl
   absent (suc place) (inl e) = absurd (omega arith)
   absent (suc place) (inr e) = slice_get_past w.actors place (omega (arith, as_many))
@@ -55,84 +159,125 @@ module _ (w : World) (seen : Seen) (s : IsSeenAs w seen) where
   at zero place e = absurd (omega arith)
   at (suc n) place e = let same : n ≡ place = omega arith in ap (slice_get w.actors) same
 
-  placed : (actor place : ℕ) (d : Option Doing) → actor ≡ place + 1 → map phase_in (with_actor w.actors actor d) ≡ slice_set seen.phases place (phase_in d)
-  placed actor place d e =
-      let same : actor - 1 ≡ place = omega arith in
-      map-slice_set phase_in w.actors (actor - 1) d
-      ∙ (ap (λ i. slice_set (map phase_in w.actors) i (phase_in d)) same
-      ∙ ap (λ ps. slice_set ps place (phase_in d)) s.phases)
+  young_too : seen.steps < WORN → w.steps < WORN
+  young_too h = subst (λ n. n < WORN) (sym s.steps) h
+
+  -- ---- an event that is not possible
+
+  pub start_absent : (actor : ℕ) (cred : Cred) (call : Coded) → seen.steps < WORN → (actor ≡ 0) ⊎ (length seen.states < actor) →
+      (after : World) × Steps w (Start actor cred call) stepped.Nothing after × IsSeenAs after seen
+  start_absent actor cred call h none =
+      let young = young_too h in
+      (w, ([], inr (young, subst (λ o. StartsAt w actor cred (asked_of call) o [] w) (sym (absent actor none)) (refl, refl)), (young, refl)), s)
+
+  pub start_busy : (actor place : ℕ) (cred : Cred) (call : Coded) (p : State) → seen.steps < WORN → actor ≡ place + 1 → slice_get seen.states place ≡ Some (Some p) →
+      (after : World) × Steps w (Start actor cred call) stepped.Nothing after × IsSeenAs after seen
+  start_busy actor place cred call p h e there =
+      let young = young_too h in
+      let d = busy_at place p there in
+      (w, ([], inr (young, subst (λ o. StartsAt w actor cred (asked_of call) o [] w) (sym (at actor place e ∙ d.1)) (refl, refl)), (young, refl)), s)
+
+  pub step_absent : (actor now : ℕ) → seen.steps < WORN → (actor ≡ 0) ⊎ (length seen.states < actor) → (after : World) × Steps w (Step actor now) stepped.Nothing after × IsSeenAs after seen
+  step_absent actor now h none =
+      let young = young_too h in
+      (w, ([], inr (young, subst (λ o. StepsAt w actor now o [] w) (sym (absent actor none)) (refl, refl)), (young, refl)), s)
+
+  pub step_idle : (actor place now : ℕ) → seen.steps < WORN → actor ≡ place + 1 → slice_get seen.states place ≡ Some None →
+      (after : World) × Steps w (Step actor now) stepped.Nothing after × IsSeenAs after seen
+  step_idle actor place now h e there =
+      let young = young_too h in
+      (w, ([], inr (young, subst (λ o. StepsAt w actor now o [] w) (sym (at actor place e ∙ idle_at place there)) (refl, refl)), (young, refl)), s)
 
   -- ---- the start of a call
 
-  pub start_absent : (actor : ℕ) (cred : Cred) (call : Call) → (actor ≡ 0) ⊎ (length seen.phases < actor) →
-      (after : World) × Makes w (Start actor cred call) stepped.Nothing after × IsSeenAs after seen
-  start_absent actor cred call h = (w, subst (λ o. StartsAt w actor cred call o stepped.Nothing w) (sym (absent actor h)) (refl, refl), s)
+  set_states : (place : ℕ) (o : Option Doing) (p : Option State) → state_in o ≡ p → map state_in (slice_set w.actors place o) ≡ slice_set seen.states place p
+  set_states place o p e = map-slice_set state_in w.actors place o ∙ (ap (λ ps. slice_set ps place (state_in o)) s.states ∙ ap (slice_set seen.states place) e)
 
-  pub start_busy : (actor place : ℕ) (cred : Cred) (call : Call) (p : Phase) → actor ≡ place + 1 → slice_get seen.phases place ≡ Some (Some p) →
-      (after : World) × Makes w (Start actor cred call) stepped.Nothing after × IsSeenAs after seen
-  start_busy actor place cred call p e h =
-      let d = busy_at place p h in
-      (w, subst (λ o. StartsAt w actor cred call o stepped.Nothing w) (sym (at actor place e ∙ d.1)) (refl, refl), s)
-
-  pub start_refused : (actor place : ℕ) (cred : Cred) (call : Call) → actor ≡ place + 1 → slice_get seen.phases place ≡ Some None → IsRefused call →
-      (after : World) × Makes w (Start actor cred call) (stepped.Answer record { actor = actor; result = outcome.Refused EINVAL; body = body_back call }) after
-      × IsSeenAs after (record seen { steps = seen.steps + 1 })
-  start_refused actor place cred call e h refused =
-      let after : World = record w { calls = w.calls ++ starting w actor cred call ∷ []; steps = w.steps + 1 } in
-      let given : Stepped = stepped.Answer record { actor = actor; result = outcome.Refused EINVAL; body = body_back call } in (
-        after,
-        subst (λ o. StartsAt w actor cred call o given after) (sym (at actor place e ∙ idle_at place h)) (inl (refused, refl, refl)),
-        record { slot = s.slot; phases = s.phases; steps = ap (λ n. n + 1) s.steps },
+  start_here : (n place : ℕ) (cred : Cred) (call : Coded) (l : Led) → seen.steps < WORN → n ≡ place → slice_get seen.states place ≡ Some None →
+      LeadsTo (receives (asked_of call)) (begin cred (asked_of call) 0) l →
+      (after : World) × Steps w (Start (suc n) cred call) (told_by (suc n) l) after × IsSeenAs after (record seen { states = slice_set seen.states place (kept_led l); steps = seen.steps + 1 })
+  start_here n place cred call l h same there leads =
+      let young = young_too h in
+      let started = starting w (suc n) cred (asked_of call) in
+      let none : released (pool_history w.turns) ≡ 0 = ap released s.no_pool in
+      let state = begun started in
+      let to : LeadsTo (receives (asked_of call)) state l = subst (λ r. LeadsTo (receives (asked_of call)) (begin cred (asked_of call) r) l) (sym none) leads in
+      let idle : slice_get w.actors n ≡ Some None = ap (slice_get w.actors) same ∙ idle_at place there in
+      let there_now : IsThereOrOver (asked_of call) state = begins_there cred call (released (pool_history w.turns)) (is_refused (asked_of call)) refl in (
+        in_state (with_call w started) (suc n) started state,
+        (
+          given_in started state,
+          inr (young, subst (λ o. StartsAt w (suc n) cred (asked_of call) o (given_in started state) (in_state (with_call w started) (suc n) started state)) (sym idle) (refl, refl)),
+          tells_led w started (suc n) state l young refl to,
+        ),
+        record {
+          slot = s.slot;
+          states = set_states n (doing_in started state) (kept_led l) (state_led started (receives (asked_of call)) state l to) ∙ ap (λ k. slice_set seen.states k (kept_led l)) same;
+          there = there_still w.actors n None started state idle s.there there_now refl;
+          no_pool = s.no_pool;
+          steps = ap (λ k. k + 1) s.steps;
+        },
       )
 
-  pub start_begun : (actor place : ℕ) (cred : Cred) (call : Call) → actor ≡ place + 1 → slice_get seen.phases place ≡ Some None → ¬ IsRefused call →
-      (after : World) × Makes w (Start actor cred call) stepped.Nothing after
-      × IsSeenAs after (record seen { phases = slice_set seen.phases place (Some (begun cred call)); steps = seen.steps + 1 })
-  start_begun actor place cred call e h allowed =
-      let d : Doing = record { phase = begun cred call; start = w.steps; cred = cred; asked = call } in
-      let after : World = record w { calls = w.calls ++ starting w actor cred call ∷ []; actors = with_actor w.actors actor (Some d); steps = w.steps + 1 } in (
-        after,
-        subst (λ o. StartsAt w actor cred call o stepped.Nothing after) (sym (at actor place e ∙ idle_at place h)) (inr (allowed, refl, refl)),
-        record { slot = s.slot; phases = placed actor place (Some d) e; steps = ap (λ n. n + 1) s.steps },
-      )
+  pub start_idle : (actor place : ℕ) (cred : Cred) (call : Coded) (l : Led) → seen.steps < WORN → actor ≡ place + 1 → slice_get seen.states place ≡ Some None →
+      LeadsTo (receives (asked_of call)) (begin cred (asked_of call) 0) l →
+      (after : World) × Steps w (Start actor cred call) (told_by actor l) after × IsSeenAs after (record seen { states = slice_set seen.states place (kept_led l); steps = seen.steps + 1 })
+  start_idle zero place cred call l h e there leads = absurd (omega arith)
+  start_idle (suc n) place cred call l h e there leads = start_here n place cred call l h (omega arith) there leads
 
   -- ---- a step of a call
 
-  pub step_absent : (actor now : ℕ) → (actor ≡ 0) ⊎ (length seen.phases < actor) → (after : World) × Makes w (Step actor now) stepped.Nothing after × IsSeenAs after seen
-  step_absent actor now h = (w, subst (λ o. StepsAt w actor now o stepped.Nothing w) (sym (absent actor h)) (refl, refl), s)
+  more_slot : (who : Who) (call : Call) (reply : Reply) (slot : Slot) → MakesTurn seen.slot call reply slot →
+      SlotStandsFor (slot_history (slot_at (pos 0)) (w.turns ++ record { who = who; deed = AtSlot (slot_at (pos 0)) call reply } ∷ [])) slot
+  more_slot who call reply slot turn =
+      let t : Turn = record { who = who; deed = AtSlot (slot_at (pos 0)) call reply } in
+      subst (λ h. SlotStandsFor h slot) (sym (flat_map-append (λ (x : Turn). slot_entry (slot_at (pos 0)) x.who x.deed) w.turns (t ∷ [])))
+      (turn.stands (slot_history (slot_at (pos 0)) w.turns) who s.slot)
 
-  pub step_idle : (actor place now : ℕ) → actor ≡ place + 1 → slice_get seen.phases place ≡ Some None → (after : World) × Makes w (Step actor now) stepped.Nothing after × IsSeenAs after seen
-  step_idle actor place now e h = (w, subst (λ o. StepsAt w actor now o stepped.Nothing w) (sym (at actor place e ∙ idle_at place h)) (refl, refl), s)
+  no_pool_still : (who : Who) (slot : ℕ) (call : Call) (reply : Reply) → pool_history (w.turns ++ record { who = who; deed = AtSlot slot call reply } ∷ []) ≡ []
+  no_pool_still who slot call reply =
+      let t : Turn = record { who = who; deed = AtSlot slot call reply } in
+      flat_map-append (λ (x : Turn). pool_entry x.who x.deed) w.turns (t ∷ []) ∙ (append-nil (pool_history w.turns) ∙ s.no_pool)
 
-  phase_next : (doing : Doing) (o : Option Phase) → phase_in (in_phase doing o) ≡ o
-  phase_next doing None = refl
-  phase_next doing (Some p) = refl
-
-  pub step_turn : (actor place now : ℕ) (p : Phase) (reply : Reply) (slot : Slot) → actor ≡ place + 1 → slice_get seen.phases place ≡ Some (Some p) → MakesTurn seen.slot (turn_call p now) reply slot →
-      (after : World) × Makes w (Step actor now) (after_turn actor p reply).1 after
-      × IsSeenAs after (record { slot = slot; phases = slice_set seen.phases place (after_turn actor p reply).0; steps = seen.steps + 1 })
-  step_turn actor place now p reply slot e h turn =
-      let found = busy_at place p h in
-      let d = found.0 in
-      let who : Who = Actor actor d.start in
-      let same : d.phase ≡ p = found.2 in
-      let turned : MakesTurn seen.slot (turn_call d.phase now) reply slot = subst (λ q. MakesTurn seen.slot (turn_call q now) reply slot) (sym same) turn in
-      let after : World = record w {
-        history = then_turn w.history who (turn_call d.phase now) reply;
-        actors = with_actor w.actors actor (in_phase d (after_turn actor d.phase reply).0);
-        steps = w.steps + 1;
-      } in
-      let given : Stepped = (after_turn actor p reply).1 in (
+  step_doing : (n place now : ℕ) (p : Phase) (l : Led) (slot : Slot) → w.steps < WORN → n ≡ place → (d : Doing) → slice_get w.actors n ≡ Some (Some d) → d.state ≡ Goes p → IsThere d.call.asked (Goes p) →
+      IsToCaller d.call.who (suc n) → TurnLeads seen.slot p now l slot →
+      (after : World) × Steps w (Step (suc n) now) (told_by (suc n) l) after × IsSeenAs after (record { slot = slot; states = slice_set seen.states place (kept_led l); steps = seen.steps + 1 })
+  step_doing n place now p l slot young same d busy is at_step own turn =
+      let deed : Deed = AtSlot (slot_at (pos 0)) turn.call turn.reply in
+      let to : LeadsTo (receives d.call.asked) turn.state l = subst (λ b. LeadsTo b turn.state l) (kind d.call.asked p at_step) turn.leads in
+      let after : World = in_state (with_turn w d.call.who deed) (suc n) d.call turn.state in
+      let legal : IsLegal w.turns deed = subst (λ x. Legal x turn.call turn.reply) (sym s.slot.seen) turn.turn.legal in
+      let made : Continues w (suc n) now d.call (Goes p) (given_in d.call turn.state) after = (deed, turn.state, sym turn.asked, legal, turn.goes, refl, refl) in (
         after,
-        subst (λ o. StepsAt w actor now o given after) (sym (at actor place e ∙ found.1))
-            (reply, subst (λ x. Legal x (turn_call d.phase now) reply) (sym s.slot.seen) turned.legal, ap (λ q. (after_turn actor q reply).1) (sym same), refl),
+        (
+          given_in d.call turn.state,
+          inr (young, subst (λ o. StepsAt w (suc n) now o (given_in d.call turn.state) after) (sym busy) (subst (λ st. Continues w (suc n) now d.call st (given_in d.call turn.state) after) (sym is) made)),
+          tells_led w d.call (suc n) turn.state l young own to,
+        ),
         record {
-          slot = turned.stands w.history who s.slot;
-          phases = placed actor place (in_phase d (after_turn actor d.phase reply).0) e
-              ∙ ap (slice_set seen.phases place) (phase_next d (after_turn actor d.phase reply).0 ∙ ap (λ q. (after_turn actor q reply).0) same);
-          steps = ap (λ n. n + 1) s.steps;
+          slot = more_slot d.call.who turn.call turn.reply slot turn.turn;
+          states = set_states n (doing_in d.call turn.state) (kept_led l) (state_led d.call (receives d.call.asked) turn.state l to) ∙ ap (λ k. slice_set seen.states k (kept_led l)) same;
+          there = there_still w.actors n (Some d) d.call turn.state busy s.there (there_next d.call.asked p deed turn.state at_step turn.goes) own;
+          no_pool = no_pool_still d.call.who (slot_at (pos 0)) turn.call turn.reply;
+          steps = ap (λ k. k + 1) s.steps;
         },
       )
+
+  step_here : (n place now : ℕ) (p : Phase) (l : Led) (slot : Slot) → seen.steps < WORN → n ≡ place → slice_get seen.states place ≡ Some (Some (Goes p)) → TurnLeads seen.slot p now l slot →
+      (after : World) × Steps w (Step (suc n) now) (told_by (suc n) l) after × IsSeenAs after (record { slot = slot; states = slice_set seen.states place (kept_led l); steps = seen.steps + 1 })
+  step_here n place now p l slot h same there turn =
+      let young = young_too h in
+      let found = busy_at place (Goes p) there in
+      let busy : slice_get w.actors n ≡ Some (Some found.0) = ap (slice_get w.actors) same ∙ found.1 in
+      let is = s.there n found.0 busy in
+      step_doing n place now p l slot young same found.0 busy found.2 (subst (IsThere found.0.call.asked) found.2 is.0) is.1 turn
+
+  pub step_busy : (actor place now : ℕ) (p : Phase) (l : Led) (slot : Slot) → seen.steps < WORN → actor ≡ place + 1 → slice_get seen.states place ≡ Some (Some (Goes p)) → TurnLeads seen.slot p now l slot →
+      (after : World) × Steps w (Step actor now) (told_by actor l) after × IsSeenAs after (record { slot = slot; states = slice_set seen.states place (kept_led l); steps = seen.steps + 1 })
+  step_busy zero place now p l slot h e there turn = absurd (omega arith)
+  step_busy (suc n) place now p l slot h e there turn = step_here n place now p l slot h (omega arith) there turn
+
+-- ---- a preset
 
 taken_not_vacant : {X : Type 0} (o : Option X) → IsSome o → ¬ (o ≡ None)
 taken_not_vacant None taken vacant = cc
@@ -140,12 +285,15 @@ taken_not_vacant (Some x) taken vacant = cc
 
 pub presets : (w : World) (seen : Seen) → IsSeenAs w seen → (slot : Slot) (made : Bool) → MakesTurn seen.slot preset_call (Installed made) slot → (made ≡ false → slot ≡ seen.slot) →
     (after : World) × Presets w made after × IsSeenAs after (record seen { slot = slot })
-presets w seen s slot true turn stays =
+presets w seen s slot true turn same =
     let who : Who = Actor 0 0 in
-    let after : World = record w { history = then_turn w.history who preset_call (Installed true) } in
-    (after, inl (ap (λ (x : Slot). x.live) s.slot.seen ∙ turn.legal, refl, refl), record { slot = turn.stands w.history who s.slot; phases = s.phases; steps = s.steps })
-presets w seen s slot false turn stays = (
+    (
+      with_turn w who (AtSlot (slot_at (pos 0)) preset_call (Installed true)),
+      inl (ap (λ (x : Slot). x.live) s.slot.seen ∙ turn.legal, refl, refl),
+      record { slot = more_slot w seen s who preset_call (Installed true) slot turn; states = s.states; there = s.there; no_pool = no_pool_still w seen s who (slot_at (pos 0)) preset_call (Installed true); steps = s.steps },
+    )
+presets w seen s slot false turn same = (
   w,
   inr (λ vacant. taken_not_vacant seen.slot.live turn.legal (sym (ap (λ (x : Slot). x.live) s.slot.seen) ∙ vacant), refl, refl),
-  record { slot = subst (SlotStandsFor w.history) (sym (stays refl)) s.slot; phases = s.phases; steps = s.steps },
+  record { slot = subst (SlotStandsFor (slot_history (slot_at (pos 0)) w.turns)) (sym (same refl)) s.slot; states = s.states; there = s.there; no_pool = s.no_pool; steps = s.steps },
 )

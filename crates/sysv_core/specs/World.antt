@@ -1,47 +1,60 @@
--- A world: the history of its slot, the calls that were started, what each actor does, and the number
--- of counted events so far; and what one event makes of it. An event is the start of an actor's call, or
--- one step of it, which is one turn at the slot; a turn has the legal reply and adds one entry to the
--- history (this profile's).
-use Rattle.std.specs.Prelude.{◌≡◌, ℕ, zero, suc, pos, ◌+◌, ◌-◌, ◌^◌, ◌<◌, ◌≤◌, ◌⊎◌, Bool, true, false, List, [], ◌∷◌, ◌++◌, Option, Some, None, option_map, replicate, slice_get, slice_set}
-use Rattle.sysv_model.specs.declared.errno.Errno.TheVariants.{EINVAL}
+-- A world: the turns that were made in it, the calls that were started, what each actor does, and the
+-- number of counted events so far; and what one happening makes of it. A happening is a preset, the start
+-- of an actor's call, or one step of it: one turn at one object, which has a legal reply, or a look at the
+-- count for which the call waits (this profile's).
+use Rattle.std.specs.Prelude.{◌≡◌, ℕ, ℤ, zero, suc, pos, ◌+◌, ◌<◌, ◌≤◌, ◌⊎◌, Bool, true, false, List, [], ◌∷◌, ◌++◌, Option, Some, None, replicate, slice_get, slice_set}
 use Rattle.sysv_model.specs.declared.cred.Cred.{Cred}
-use Rattle.sysv_model.specs.History.{Who, Actor, Call as Turn, Install, Reply, Installed, History, then_turn}
+use Rattle.sysv_model.specs.declared.flags.TheConstants.Flags.{USER_READ, USER_WRITE}
+use Rattle.sysv_model.specs.declared.limits.TheConstants.{IPC_PRIVATE, WORN}
+use Rattle.sysv_model.specs.History.{Who, Actor, Call, Install, Installed, arrived, freed}
+use Rattle.sysv_model.specs.Registry.{settled}
+use Rattle.sysv_model.specs.Pool.{released}
 use Rattle.sysv_model.specs.Live.{live}
+use Rattle.sysv_model.specs.Turn.{Deed, AtSlot, AtRegistry, AtPool, asked_by, Turn, slot_history, registry_history, pool_history}
 use Rattle.sysv_queue.specs.LegalReply.{IsLegalReply}
-use Rattle.sysv_core.specs.declared.event.Call.{Call}
-use Rattle.sysv_core.specs.declared.event.Event.{Event}
-use Rattle.sysv_core.specs.declared.event.Event.TheVariants.{Start, Step}
-use Rattle.sysv_core.specs.declared.event.Outcome.TheVariants as outcome
-use Rattle.sysv_core.specs.declared.event.Stepped.{Stepped}
-use Rattle.sysv_core.specs.declared.event.Stepped.TheVariants as stepped
-use Rattle.sysv_core.specs.Phase.{Phase}
-use Rattle.sysv_core.specs.Begin.{IsRefused, begun, body_back}
-use Rattle.sysv_core.specs.Turn.{turn_call, after_turn}
+use Rattle.sysv_steps.specs.Call.{SystemCall}
+use Rattle.sysv_steps.specs.SlotAt.{slot_at}
+use Rattle.sysv_steps.specs.State.{Phase, Wait, Ending, State, Goes, Waits, Over}
+use Rattle.sysv_steps.specs.Begin.{begin}
+use Rattle.sysv_steps.specs.Asks.{asks}
+use Rattle.sysv_steps.specs.Next.{next}
+use Rattle.sysv_steps.specs.Resume.{Count, ArrivedOf, FreedOf, Settled, Released, awaited, goal_of, resume}
 
--- a call that was started: by which actor at which step number, with which credentials, and what was
--- asked
+-- what a world is opened with: its actors, the blocks of its pool, its first step number, and the
+-- generation of its identifiers
+pub record Opening : Type 0 where
+  pub actors : ℕ
+  pub blocks : ℕ
+  pub first : ℕ
+  pub generation : ℕ
+
+-- a call that was started: by which actor at which step number, with which credentials, what it is, and
+-- the released count at its start
 pub record Started : Type 0 where
   pub who : Who
   pub cred : Cred
-  pub asked : Call
+  pub asked : SystemCall
+  pub released : ℕ
 
--- a call under way: its phase; the number of its start, which is the step number at which it was
--- started; and what was asked, with which credentials
+-- a call under way, and where it stands
 pub record Doing : Type 0 where
-  pub phase : Phase
-  pub start : ℕ
-  pub cred : Cred
-  pub asked : Call
+  pub call : Started
+  pub state : State
 
 pub record World : Type 0 where
-  pub history : History
+  pub turns : List Turn  -- all that were made, in order
   pub calls : List Started  -- all that were started, in order
   pub actors : List (Option Doing)  -- none where the actor is idle
   pub steps : ℕ
 
--- the opening world of that many actors
-abbrev pub opening : ℕ → World
-opening actors = record { history = []; calls = []; actors = replicate actors None; steps = 0 }
+-- the world in which nothing has happened
+abbrev pub opening : Opening → World
+opening o = record { turns = []; calls = []; actors = replicate o.actors None; steps = o.first }
+
+-- a call that is over, and how it ended
+pub record Given : Type 0 where
+  pub call : Started
+  pub ending : Ending
 
 -- what the actor does, if there is such an actor; actors count from 1
 abbrev pub actor_at : List (Option Doing) → ℕ → Option (Option Doing)
@@ -50,71 +63,118 @@ actor_at actors (suc place) = slice_get actors place
 
 -- the actor's call from then on, or none where it is idle
 abbrev pub with_actor : List (Option Doing) → ℕ → Option Doing → List (Option Doing)
-with_actor actors actor doing = slice_set actors (actor - 1) doing
+with_actor actors zero doing = actors
+with_actor actors (suc place) doing = slice_set actors place doing
 
--- the same call in its next phase, if it has one
-abbrev pub in_phase : Doing → Option Phase → Option Doing
-in_phase doing phase = option_map (λ (p : Phase). record doing { phase = p }) phase
+-- ---- where a call goes
+
+-- a call that stands there, as its actor's and as one that is over
+abbrev pub doing_in : Started → State → Option Doing
+doing_in call (Goes phase) = Some record { call = call; state = Goes phase }
+doing_in call (Waits wait) = Some record { call = call; state = Waits wait }
+doing_in call (Over ending) = None
+
+abbrev pub given_in : Started → State → List Given
+given_in call (Goes phase) = []
+given_in call (Waits wait) = []
+given_in call (Over ending) = record { call = call; ending = ending } ∷ []
+
+-- the world once the actor's call stands there, by one more counted event
+abbrev pub in_state : World → ℕ → Started → State → World
+in_state w actor call state = record w { actors = with_actor w.actors actor (doing_in call state); steps = w.steps + 1 }
+
+abbrev pub with_call : World → Started → World
+with_call w call = record w { calls = w.calls ++ call ∷ [] }
+
+abbrev pub with_turn : World → Who → Deed → World
+with_turn w who deed = record w { turns = w.turns ++ record { who = who; deed = deed } ∷ [] }
 
 -- the world stays as it was, and gives nothing
-abbrev pub StaysWith : World → Stepped → World → Type 0
-StaysWith w given after = (given ≡ stepped.Nothing) × (after ≡ w)
+abbrev pub StaysWith : World → List Given → World → Type 0
+StaysWith w given after = (given ≡ []) × (after ≡ w)
+
+-- ---- the start of a call
 
 -- the call that the actor starts now
-abbrev pub starting : World → ℕ → Cred → Call → Started
-starting w actor cred call = record { who = Actor actor w.steps; cred = cred; asked = call }
+abbrev pub starting : World → ℕ → Cred → SystemCall → Started
+starting w actor cred asked = record { who = Actor actor w.steps; cred = cred; asked = asked; released = released (pool_history w.turns) }
 
--- a start by an idle actor: refused at once, or the first phase
-abbrev pub Begins : World → ℕ → Cred → Call → Stepped → World → Type 0
-Begins w actor cred call given after =
-    (IsRefused call × (given ≡ stepped.Answer record { actor = actor; result = outcome.Refused EINVAL; body = body_back call })
-    × (after ≡ record w { calls = w.calls ++ starting w actor cred call ∷ []; steps = w.steps + 1 }))
-    ⊎ ((¬ IsRefused call) × (given ≡ stepped.Nothing)
-    × (after ≡ record w {
-      calls = w.calls ++ starting w actor cred call ∷ [];
-      actors = with_actor w.actors actor (Some record { phase = begun cred call; start = w.steps; cred = cred; asked = call });
-      steps = w.steps + 1;
-    }))
+abbrev pub begun : Started → State
+begun call = begin call.cred call.asked call.released
 
--- a step of a call: one turn at the slot, with the legal reply
-abbrev pub Turns : World → ℕ → Doing → ℕ → Stepped → World → Type 0
-Turns w actor doing now given after =
-    (reply : Reply) × IsLegalReply w.history (turn_call doing.phase now) reply
-    × (given ≡ (after_turn actor doing.phase reply).1)
-    × (after ≡ record w {
-      history = then_turn w.history (Actor actor doing.start) (turn_call doing.phase now) reply;
-      actors = with_actor w.actors actor (in_phase doing (after_turn actor doing.phase reply).0);
-      steps = w.steps + 1;
-    })
+abbrev pub Begins : World → ℕ → Started → List Given → World → Type 0
+Begins w actor call given after = (given ≡ given_in call (begun call)) × (after ≡ in_state (with_call w call) actor call (begun call))
+
+-- ---- a step of a call
+
+-- the reply is the legal one at its object; the registry and the pool are not there yet
+abbrev pub IsLegal : List Turn → Deed → Type 0
+IsLegal turns (AtSlot slot call reply) = IsLegalReply (slot_history slot turns) call reply
+IsLegal turns (AtRegistry call reply) = ⊥
+IsLegal turns (AtPool call reply) = ⊥
+
+-- one turn of the call, which asks what it asks in that phase and goes where the reply leads
+abbrev pub Turns : World → ℕ → Started → Phase → ℕ → List Given → World → Type 0
+Turns w actor call phase now given after =
+    (deed : Deed) × (state : State) × (asked_by deed ≡ asks phase now) × IsLegal w.turns deed × (next phase deed ≡ Some state)
+    × (given ≡ given_in call state) × (after ≡ in_state (with_turn w call.who deed) actor call state)
+
+abbrev pub value_of : List Turn → Count → ℕ
+value_of turns (ArrivedOf slot) = arrived (slot_history slot turns)
+value_of turns (FreedOf slot) = freed (slot_history slot turns)
+value_of turns Settled = settled (registry_history turns)
+value_of turns Released = released (pool_history turns)
+
+-- the call looks at the count for which it waits: it goes on where its goal is reached, and else the world
+-- stays
+abbrev pub Looks : World → ℕ → Started → Wait → List Given → World → Type 0
+Looks w actor call wait given after =
+    ((goal_of wait ≤ value_of w.turns (awaited wait)) × (given ≡ [])
+    × (after ≡ in_state w actor call (Goes (resume wait (value_of w.turns (awaited wait))))))
+    ⊎ ((value_of w.turns (awaited wait) < goal_of wait) × StaysWith w given after)
+
+abbrev pub Continues : World → ℕ → ℕ → Started → State → List Given → World → Type 0
+Continues w actor now call (Goes phase) given after = Turns w actor call phase now given after
+Continues w actor now call (Waits wait) given after = Looks w actor call wait given after
+Continues w actor now call (Over ending) given after = StaysWith w given after
+
+-- ---- what can happen
+
+pub data Happening : Type 0 where
+  Preset : Happening
+  Start : (actor : ℕ) (cred : Cred) (asked : SystemCall) → Happening
+  Step : (actor now : ℕ) → Happening
 
 -- A start for an actor in a call, a step for an idle one and an actor that is not there leave the
 -- world as it was.
-abbrev pub StartsAt : World → ℕ → Cred → Call → Option (Option Doing) → Stepped → World → Type 0
-StartsAt w actor cred call None given after = StaysWith w given after
-StartsAt w actor cred call (Some (Some doing)) given after = StaysWith w given after
-StartsAt w actor cred call (Some None) given after = Begins w actor cred call given after
+abbrev pub StartsAt : World → ℕ → Cred → SystemCall → Option (Option Doing) → List Given → World → Type 0
+StartsAt w actor cred asked None given after = StaysWith w given after
+StartsAt w actor cred asked (Some (Some doing)) given after = StaysWith w given after
+StartsAt w actor cred asked (Some None) given after = Begins w actor (starting w actor cred asked) given after
 
-abbrev pub StepsAt : World → ℕ → ℕ → Option (Option Doing) → Stepped → World → Type 0
+abbrev pub StepsAt : World → ℕ → ℕ → Option (Option Doing) → List Given → World → Type 0
 StepsAt w actor now None given after = StaysWith w given after
 StepsAt w actor now (Some None) given after = StaysWith w given after
-StepsAt w actor now (Some (Some doing)) given after = Turns w actor doing now given after
+StepsAt w actor now (Some (Some doing)) given after = Continues w actor now doing.call doing.state given after
 
-abbrev pub Makes : World → Event → Stepped → World → Type 0
-Makes w (Start actor cred call) given after = StartsAt w actor cred call (actor_at w.actors actor) given after
-Makes w (Step actor now) given after = StepsAt w actor now (actor_at w.actors actor) given after
-
--- an event in a world: from step number 2^62 on every event finds it worn out and changes nothing
-abbrev pub Steps : World → Event → Stepped → World → Type 0
-Steps w event given after =
-    ((2 ^ 62 ≤ w.steps) × (given ≡ stepped.Worn) × (after ≡ w))
-    ⊎ ((w.steps < 2 ^ 62) × Makes w event given after)
-
--- the preset queue: private, of user and group 1000, mode 0600, made at moment 0 by no actor
-abbrev pub preset_call : Turn
-preset_call = Install (pos 0) (pos 0) record { uid = 1000; gid = 1000; pid = 0 } 384 0
+-- the preset queue: private, of user and group 1000, readable and writable by its user, made at moment 0
+-- by no actor
+abbrev pub preset_call : Call
+preset_call = Install (pos 0) IPC_PRIVATE record { uid = 1000; gid = 1000; pid = 0 } (USER_READ.0 + USER_WRITE.0) 0
 
 -- a preset makes it where no queue is live, and else changes nothing; it is not counted
 abbrev pub Presets : World → Bool → World → Type 0
 Presets w made after =
-    ((live w.history ≡ None) × (made ≡ true) × (after ≡ record w { history = then_turn w.history (Actor 0 0) preset_call (Installed true) }))
-    ⊎ (¬ (live w.history ≡ None) × (made ≡ false) × (after ≡ w))
+    ((live (slot_history (slot_at (pos 0)) w.turns) ≡ None) × (made ≡ true)
+    × (after ≡ with_turn w (Actor 0 0) (AtSlot (slot_at (pos 0)) preset_call (Installed true))))
+    ⊎ (¬ (live (slot_history (slot_at (pos 0)) w.turns) ≡ None) × (made ≡ false) × (after ≡ w))
+
+-- from step number 2^62 on a start or a step finds the world worn out and changes nothing
+abbrev pub Makes : World → Happening → List Given → World → Type 0
+Makes w Preset given after = (given ≡ []) × ((made : Bool) × Presets w made after)
+Makes w (Start actor cred asked) given after =
+    ((WORN ≤ w.steps) × StaysWith w given after)
+    ⊎ ((w.steps < WORN) × StartsAt w actor cred asked (actor_at w.actors actor) given after)
+Makes w (Step actor now) given after =
+    ((WORN ≤ w.steps) × StaysWith w given after)
+    ⊎ ((w.steps < WORN) × StepsAt w actor now (actor_at w.actors actor) given after)

@@ -2,8 +2,7 @@
 //! each.
 #![tactic(auto)]
 
+mod doing;
 pub mod event;
 pub mod laws;
-mod phase;
-mod turn;
 pub mod world;

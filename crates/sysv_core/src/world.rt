@@ -1,19 +1,17 @@
-ghost use Rattle.std.specs.Prelude.{ℕ, List, false, IsTrue, ◌≡◌, ◌≢◌, ◌+◌, ◌^◌, ◌<◌, ◌≤◌, ◌⊎◌, ◌↔◌, ◌++◌, ◌∷◌, [], length, IfOk, IfErr, MatchResult, Err, OnErr, MatchOption, Some, None, slice_set, slice_get, replicate};
+ghost use Rattle.std.specs.Prelude.{ℕ, List, false, IsTrue, ◌≡◌, ◌≢◌, ◌+◌, ◌^◌, ◌<◌, ◌≤◌, ◌⊎◌, ◌↔◌, ◌++◌, ◌∷◌, [], length, IfOk, IfErr, MatchResult, Err, MatchOption, Some, None, slice_set, slice_get, replicate};
+ghost use Rattle.sysv_model.specs.declared.limits.TheConstants.{ACTORS_MOST as most_actors, BLOCKS_LEAST as least_blocks, BLOCKS_MOST as most_blocks, WORN as worn};
 ghost use Rattle.sysv_core.specs.Headline.{StandsWithPreset, StandsWithEvent, StandsWithEvents, LawsHold};
-ghost use Rattle.sysv_core.specs.Run.{StandsFor};
-ghost use Rattle.sysv_core.specs.Seen.{IsSeenAs};
-ghost use Rattle.sysv_core.specs.World.{World as Model, opening, Steps, Makes, Presets};
+ghost use Rattle.sysv_core.specs.Seen.{StandsFor, PresetsSeen, StepsSeen};
+ghost use Rattle.sysv_core.specs.Kept.{kept_led, told_by};
 ghost use Rattle.sysv_core.specs.declared.event.Event.TheVariants.{Start, Step};
 
-use crate::event::{Answer, Call, Event, Outcome, Stepped};
-use crate::phase::{Phase, begin};
-use crate::turn::advance;
+use crate::doing::{Doing, Led, advance, begin};
+use crate::event::{Answer, Call, Event, Stepped};
+use crate::laws::every_run_obeys;
 use std::alloc::Global;
 use std::marker::Model;
 use sysv_model::cred::Cred;
-use sysv_model::errno::Errno;
 use sysv_model::limits::{ACTORS_MOST, BLOCKS_LEAST, BLOCKS_MOST, IPC_PRIVATE, WORN};
-use sysv_queue::laws::queue_law;
 use sysv_queue::slot::QueueSlot;
 use thiserror::Error;
 
@@ -41,7 +39,7 @@ const PRESET_MODE: u32 = 0o600;
 #[derive(Drop)]
 pub struct World {
     slot: QueueSlot,
-    actors: Vec<Option<Phase>>,
+    actors: Vec<Option<Doing>>,
     steps: u64,
 }
 
@@ -51,11 +49,11 @@ impl Model for World {
 
     ghost Value = { Seen };
 
-    ghost use Rattle.sysv_core.specs.Kept.{kept_phases};
+    ghost use Rattle.sysv_core.specs.Kept.{states_kept};
     ghost use Rattle.sysv_model.specs.History.{History};
     ghost use Rattle.sysv_queue.specs.StandsFor.{StandsFor};
 
-    ghost view = { λ w. record { slot = w.slot; phases = kept_phases w.actors.items; steps = w.steps } };
+    ghost view = { λ w. record { slot = w.slot; states = states_kept w.actors.items; steps = w.steps } };
 
     // The step number bounds the slot's counts.
     ghost invariant = { λ w. (w.steps ≤ 2 ^ 62) × (w.slot.arrived ≤ w.steps) × (w.slot.freed ≤ w.steps) × ((h : History) × StandsFor h w.slot) };
@@ -66,8 +64,8 @@ impl World {
     /// is checked against its range alone. `BadSize` where one of them is out of its range, `NoMemory`
     /// where memory was refused.
     pub fn open(alloc: Global, actors: u32, blocks: u32) -> Result<World, OpenRefused>
-        ensures opened { IfOk result (λ world. StandsFor actors [] [] world) }
-        ensures bad_size { (result ≡ Err OpenRefused.BadSize) ↔ ((actors < 1) ⊎ (1024 < actors) ⊎ (blocks < 128) ⊎ (65536 < blocks)) }
+        ensures opened { IfOk result (λ world. StandsFor record { actors = actors; blocks = blocks; first = 0; generation = 0 } [] [] world) }
+        ensures bad_size { (result ≡ Err OpenRefused.BadSize) ↔ ((actors < 1) ⊎ (most_actors < actors) ⊎ (blocks < least_blocks) ⊎ (most_blocks < blocks)) }
     {
         if actors < 1 || actors > ACTORS_MOST || blocks < BLOCKS_LEAST || blocks > BLOCKS_MOST {
             return Err(OpenRefused::BadSize);
@@ -87,16 +85,13 @@ impl World {
     /// for IPC_PRIVATE (POSIX.1-2017, `msgget`), by process 0. `false`, with nothing changed, where a
     /// queue is live. It is not counted, and takes no memory.
     pub fn preset(&mut self) -> bool
-        // For every list of events that the world stands for, it then stands for that list and a preset.
+        // For every list of happenings that the world stands for, it then stands for that list and a preset.
         ensures stands { StandsWithPreset self.old self.new }
-        ensures law { LawsHold self.new }
-        // What the preset makes of the world that the list leads to.
-        ensures single { (w : Model) → IsSeenAs w self.old →
-            (after : Model) × Presets w result after × IsSeenAs after self.new }
+        // What the preset makes of each world as which it is seen.
+        ensures single { PresetsSeen self.old result self.new }
         ensures live { IsTrue result ↔ (self.old.slot.live ≡ None) }
         ensures refused { result ≡ false → self.new ≡ self.old }
     {
-        queue_law();
         self.slot.install(0, IPC_PRIVATE, PRESET, PRESET_MODE, 0)
     }
 
@@ -105,34 +100,35 @@ impl World {
     /// possible in its actor's phase gives nothing and changes nothing. Once 2^62 events were counted
     /// the world is worn, and nothing changes any more. It takes no memory.
     pub fn step(&mut self, event: Event) -> Stepped
-        // For every list of events that the world stands for, it then stands for that list and the
+        // For every list of happenings that the world stands for, it then stands for that list and the
         // event, and gives what the run gives.
         ensures stands { StandsWithEvent self.old event result self.new }
-        ensures law { LawsHold self.new }
-        // What the event makes of the world that the list leads to.
-        ensures single { (w : Model) → IsSeenAs w self.old →
-            (after : Model) × Steps w event result after × IsSeenAs after self.new }
-        ensures worn { (result ≡ Stepped.Worn) ↔ (2 ^ 62 ≤ self.old.steps) }
+        // What the event makes of each world as which it is seen.
+        ensures single { StepsSeen self.old event result self.new }
+        ensures worn { (result ≡ Stepped.Worn) ↔ (worn ≤ self.old.steps) }
         ensures unchanged { result ≡ Stepped.Worn → self.new ≡ self.old }
     {
-        queue_law();
         if self.steps >= WORN {
             return Stepped::Worn;
         }
-        self.make(event)
+        match event {
+            Event::Start { actor, cred, call } => self.start(actor, cred, call),
+            Event::Step { actor, now } => self.turn(actor, now),
+        }
     }
 
     /// Lets the events happen in order, and answers what they gave, up to the end or to the first
     /// that finds the world worn; those after it are dropped. Where there is no room for all answers
     /// the events come back, and nothing has happened.
     pub fn run(&mut self, alloc: Global, events: Vec<Event>) -> Result<Vec<Answer>, Vec<Event>>
-        // For every list of events that the world stands for, it then stands for that list and the
+        // For every list of happenings that the world stands for, it then stands for that list and the
         // events done, and the answers are those of that run.
         ensures stands { IfOk result (λ answers. StandsWithEvents self.old events.items answers.items self.new) }
+        // Each world of a list obeys the laws.
         ensures law { LawsHold self.new }
         ensures refused { IfErr result (λ back. (back.items ≡ events.items) × (self.new ≡ self.old)) }
     {
-        queue_law();
+        every_run_obeys();
         let Ok(mut answers) = Vec::with_capacity(alloc, events.len()) else {
             return Err(events);
         };
@@ -146,24 +142,10 @@ impl World {
         Ok(answers)
     }
 
-    /// An event of a world that is not worn.
-    fn make(&mut self, event: Event) -> Stepped
-        requires { self.old.steps < 2 ^ 62 }
-        ensures single { (w : Model) → IsSeenAs w self.old →
-            (after : Model) × Makes w event result after × IsSeenAs after self.new }
-        ensures not_worn { result ≢ Stepped.Worn }
-    {
-        match event {
-            Event::Start { actor, cred, call } => self.start(actor, cred, call),
-            Event::Step { actor, now } => self.turn(actor, now),
-        }
-    }
-
     /// Starts a call of an idle actor.
     fn start(&mut self, actor: u32, cred: Cred, call: Call) -> Stepped
-        requires { self.old.steps < 2 ^ 62 }
-        ensures single { (w : Model) → IsSeenAs w self.old →
-            (after : Model) × Makes w (Start actor cred call) result after × IsSeenAs after self.new }
+        requires { self.old.steps < worn }
+        ensures single { StepsSeen self.old (Start actor cred call) result self.new }
         ensures not_worn { result ≢ Stepped.Worn }
     {
         let Some(place) = self.place_of(actor) else {
@@ -173,13 +155,39 @@ impl World {
             return Stepped::Nothing;
         }
         self.steps += 1;
-        match begin(cred, call) {
-            Ok(phase) => {
-                self.actors[place] = Some(phase);
+        self.settle(actor, place, begin(cred, call))
+    }
+
+    /// Makes one step of the actor's call.
+    fn turn(&mut self, actor: u32, now: u64) -> Stepped
+        requires { self.old.steps < worn }
+        ensures single { StepsSeen self.old (Step actor now) result self.new }
+        ensures not_worn { result ≢ Stepped.Worn }
+    {
+        let Some(place) = self.place_of(actor) else {
+            return Stepped::Nothing;
+        };
+        let Some(doing) = self.actors[place].take() else {
+            return Stepped::Nothing;
+        };
+        self.steps += 1;
+        let led = advance(&mut self.slot, doing, now);
+        self.settle(actor, place, led)
+    }
+
+    /// The actor goes on with its call, or is idle and its answer is given.
+    fn settle(&mut self, actor: u32, place: usize, led: Led) -> Stepped
+        requires { place < length self.old.states }
+        ensures kept { self.new ≡ record self.old { states = slice_set self.old.states place (kept_led led) } }
+        ensures told { result ≡ told_by actor led }
+    {
+        match led {
+            Led::To(doing) => {
+                self.actors[place] = Some(doing);
                 Stepped::Nothing
             }
-            Err(body) => {
-                let result = Outcome::Refused(Errno::EINVAL);
+            Led::Over(result, body) => {
+                self.actors[place] = None;
                 Stepped::Answer(Answer {
                     actor,
                     result,
@@ -189,29 +197,10 @@ impl World {
         }
     }
 
-    /// Makes one step of the actor's call.
-    fn turn(&mut self, actor: u32, now: u64) -> Stepped
-        requires { self.old.steps < 2 ^ 62 }
-        ensures single { (w : Model) → IsSeenAs w self.old →
-            (after : Model) × Makes w (Step actor now) result after × IsSeenAs after self.new }
-        ensures not_worn { result ≢ Stepped.Worn }
-    {
-        let Some(place) = self.place_of(actor) else {
-            return Stepped::Nothing;
-        };
-        let Some(phase) = self.actors[place].take() else {
-            return Stepped::Nothing;
-        };
-        self.steps += 1;
-        let (next, stepped) = advance(&mut self.slot, actor, phase, now);
-        self.actors[place] = next;
-        stepped
-    }
-
     /// Where the actor stands in the list, if there is such an actor.
     fn place_of(&self, actor: u32) -> Option<usize>
-        ensures { MatchOption result ((actor ≡ 0) ⊎ (length self.now.phases < actor))
-            (λ place. (actor ≡ place + 1) × (place < length self.now.phases)) }
+        ensures { MatchOption result ((actor ≡ 0) ⊎ (length self.now.states < actor))
+            (λ place. (actor ≡ place + 1) × (place < length self.now.states)) }
     {
         let place = (actor as usize).checked_sub(1)?;
         (place < self.actors.len()).then_some(place)
@@ -219,14 +208,14 @@ impl World {
 }
 
 /// That many idle actors.
-fn idle(alloc: Global, actors: usize) -> Result<Vec<Option<Phase>>, OpenRefused>
-    ensures { MatchResult result (λ phases. phases.items ≡ replicate actors None) (λ e. e ≡ OpenRefused.NoMemory) }
+fn idle(alloc: Global, actors: usize) -> Result<Vec<Option<Doing>>, OpenRefused>
+    ensures { MatchResult result (λ made. made.items ≡ replicate actors None) (λ e. e ≡ OpenRefused.NoMemory) }
 {
-    let mut phases = Vec::with_capacity(alloc, actors).map_err(|_| OpenRefused::NoMemory)?;
+    let mut idle = Vec::with_capacity(alloc, actors).map_err(|_| OpenRefused::NoMemory)?;
     for _ in 0..actors {
-        phases.push(None).map_err(|_| OpenRefused::NoMemory)?;
+        idle.push(None).map_err(|_| OpenRefused::NoMemory)?;
     }
-    Ok(phases)
+    Ok(idle)
 }
 
 #[cfg(test)]

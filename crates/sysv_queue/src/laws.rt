@@ -1,7 +1,8 @@
 //! Laws over the definitions alone.
 
-ghost use Rattle.sysv_model.specs.History.{History};
-ghost use Rattle.sysv_queue.specs.LegalReply.{IsLegalHistory};
+ghost use Rattle.std.specs.Prelude.{[], ◌∷◌, ◌++◌};
+ghost use Rattle.sysv_model.specs.History.{Entry, History};
+ghost use Rattle.sysv_queue.specs.LegalReply.{IsLegalReply, IsLegalHistory};
 ghost use Rattle.sysv_queue.specs.OneReply.{SomeReplyIsLegal, NoTwoRepliesAreLegal};
 ghost use Rattle.sysv_queue.specs.QueueLaw.{QueueLaw};
 
@@ -16,6 +17,12 @@ pub fn one_legal_reply()
     named_or_none();
     one_named();
 }
+
+/// No entry is a legal history, and a legal history with one more legal reply is one.
+pub fn legal_history()
+    ensures empty { IsLegalHistory [] }
+    ensures more { (h : History) (e : Entry) → IsLegalHistory h → IsLegalReply h e.call e.reply → IsLegalHistory (h ++ e ∷ []) }
+{}
 
 /// Each history of legal replies obeys the queue law.
 pub fn queue_law()

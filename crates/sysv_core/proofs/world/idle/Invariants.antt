@@ -2,4 +2,4 @@ use Rattle.std.proofs.Common.{◌≡◌, None, replicate}
 use Rattle.sysv_core.proofs.world.idle.Given as goal
 
 abbrev pub invariant-loop : goal.invariant-loop
-invariant-loop l = l.phases.items ≡ replicate l.counter None
+invariant-loop l = l.idle.items ≡ replicate l.counter None

@@ -4,7 +4,7 @@ use Rattle.sysv_queue.specs.StandsFor.{MakesTurn}
 use Rattle.sysv_core.specs.World.{preset_call}
 use Rattle.sysv_core.specs.Seen.{Seen}
 use Rattle.sysv_core.proofs.SeenSteps.{presets}
-use Rattle.sysv_core.proofs.Runs.{laws_hold, stands_preset}
+use Rattle.sysv_core.proofs.Runs.{stands_preset}
 use Rattle.sysv_core.proofs.KeptActors.{install_keeps_counts}
 use Rattle.sysv_core.proofs.world.World.preset.Goals as goal
 
@@ -18,10 +18,7 @@ returns-clause-single c = λ w s.
     let made = presets w c.args.self.now s c.install.new.self c.install.result
     (subst (λ slot. MakesTurn slot preset_call (Installed c.install.result) c.install.new.self) (ap (λ (v : Seen). v.slot) c.self.view_is) c.install.ensures.turn)
     (λ e. c.install.ensures.refused e ∙ ap (λ (v : Seen). v.slot) c.self.view_is) in
-    rw (ap (λ (v : Seen). v.phases) c.self.view_is, ap (λ (v : Seen). v.steps) c.self.view_is) made
+    rw (ap (λ (v : Seen). v.states) c.self.view_is, ap (λ (v : Seen). v.steps) c.self.view_is) made
 
 pub returns-clause-stands : goal.returns-clause-stands
-returns-clause-stands c = λ n es given s. stands_preset n es given c.args.self.now _ c.install.result s (returns-clause-single c)
-
-pub returns-clause-law : goal.returns-clause-law
-returns-clause-law c = laws_hold c.queue_law.ensures _
+returns-clause-stands c = λ o es given s. stands_preset o es given c.args.self.now _ c.install.result s (returns-clause-single c)

@@ -1,5 +1,6 @@
 use Rattle.std.proofs.Common.{◌≡◌, ◌<◌, ◌++◌, ◌∷◌, [], length, length-append, vec_len, vec_capacity, sym, ap, subst, ◌∙◌, rules, arith, refl, append_assoc, inl, inr}
 use Rattle.std.proofs.lemmas.List.{append-nil, length_push}
+use Rattle.sysv_core.specs.declared.event.Stepped.TheVariants.{Nothing, Answer}
 use Rattle.sysv_core.proofs.Lists.{none_in}
 use Rattle.sysv_core.proofs.Runs.{laws_hold, UnderWay, under_way, goes_on, runs_on}
 use Rattle.sysv_core.proofs.world.World.run.Goals as goal
@@ -24,7 +25,7 @@ loop-event-preserved-in-Nothing c =
       few = omega (arith, i.few, length_push c.loop-event.yielded c.in-Some.event);
       room = i.room;
       going = subst (UnderWay c.args.self.now c.step.new.self (c.loop-event.yielded ++ c.in-Some.event ∷ [])) (append-nil c.loop-event.answers.items)
-          (goes_on c.args.self.now c.loop-event.self c.step.new.self c.loop-event.yielded c.loop-event.answers.items c.in-Some.event [] i.going c.in-Nothing.ensures.stands);
+          (goes_on c.args.self.now c.loop-event.self c.step.new.self c.loop-event.yielded c.loop-event.answers.items c.in-Some.event Nothing i.going c.in-Nothing.ensures.stands);
     }
 
 pub unwrap-requires : goal.unwrap-requires
@@ -47,7 +48,7 @@ loop-event-preserved c =
       few = omega (arith, i.few, longer, length_push c.loop-event.yielded c.in-Some.event);
       room = omega (arith, i.room, c.push.ensures.capacity);
       going = subst (UnderWay c.args.self.now c.step.new.self (c.loop-event.yielded ++ c.in-Some.event ∷ [])) (sym pushed)
-          (goes_on c.args.self.now c.loop-event.self c.step.new.self c.loop-event.yielded c.loop-event.answers.items c.in-Some.event (c.in-Answer.answer ∷ []) i.going c.in-Answer.ensures.stands);
+          (goes_on c.args.self.now c.loop-event.self c.step.new.self c.loop-event.yielded c.loop-event.answers.items c.in-Some.event (Answer c.in-Answer.answer) i.going c.in-Answer.ensures.stands);
     }
 
 pub returns-clause-stands : goal.returns-clause-stands
@@ -64,7 +65,7 @@ returns-clause-stands c =
     ]
 
 pub returns-in_default-clause-law : goal.returns-in_default-clause-law
-returns-in_default-clause-law c = laws_hold c.queue_law.ensures _
+returns-in_default-clause-law c = laws_hold c.every_run_obeys.ensures _
 
 pub returns-clause-law : goal.returns-clause-law
-returns-clause-law c = laws_hold c.queue_law.ensures _
+returns-clause-law c = laws_hold c.every_run_obeys.ensures _

@@ -1,17 +1,17 @@
 use Rattle.std.proofs.Common.{rules}
-use Rattle.sysv_core.proofs.Runs.{laws_hold, stands_step, worn_step, makes_step}
+use Rattle.sysv_core.specs.declared.event.Event.TheVariants.{Start, Step}
+use Rattle.sysv_core.specs.declared.event.Stepped.TheVariants.{Worn}
+use Rattle.sysv_core.proofs.Runs.{stands_step, worn_step}
 use Rattle.sysv_core.proofs.world.World.step.Goals as goal
 
+pub returns-then-self-ge-WORN-clause-single : goal.returns-then-self-ge-WORN-clause-single
+returns-then-self-ge-WORN-clause-single c = worn_step c.args.self.now c.args.event (search rules)
+
 pub returns-then-self-ge-WORN-clause-stands : goal.returns-then-self-ge-WORN-clause-stands
-returns-then-self-ge-WORN-clause-stands c = λ n es given s.
-    stands_step n es given c.args.self.now c.args.self.now c.args.event _ s (worn_step c.args.self.now c.args.event (search rules))
+returns-then-self-ge-WORN-clause-stands c = stands_step c.args.self.now c.args.self.now c.args.event Worn (worn_step c.args.self.now c.args.event (search rules))
 
-pub returns-clause-stands : goal.returns-clause-stands
-returns-clause-stands c = λ n es given s.
-    stands_step n es given c.args.self.now c.make.new.self c.args.event c.make.result s (makes_step c.args.self.now c.make.new.self c.args.event c.make.result (search rules) c.make.ensures.single)
+pub returns-in-Start-clause-stands : goal.returns-in-Start-clause-stands
+returns-in-Start-clause-stands c = rw c.in-Start.is (stands_step c.args.self.now c.start.new.self (Start c.in-Start.actor c.in-Start.cred c.in-Start.call) c.start.result c.start.ensures.single)
 
-pub returns-then-self-ge-WORN-clause-law : goal.returns-then-self-ge-WORN-clause-law
-returns-then-self-ge-WORN-clause-law c = laws_hold c.queue_law.ensures _
-
-pub returns-clause-law : goal.returns-clause-law
-returns-clause-law c = laws_hold c.queue_law.ensures _
+pub returns-in-Step-clause-stands : goal.returns-in-Step-clause-stands
+returns-in-Step-clause-stands c = rw c.in-Step.is (stands_step c.args.self.now c.turn.new.self (Step c.in-Step.actor c.in-Step.now) c.turn.result c.turn.ensures.single)

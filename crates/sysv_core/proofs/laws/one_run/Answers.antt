@@ -1,5 +1,0 @@
-use Rattle.sysv_core.proofs.OneRun as run
-use Rattle.sysv_core.proofs.laws.one_run.Goals as goal
-
-pub returns : goal.returns
-returns c = run.one_run c.one_legal_reply.ensures.one

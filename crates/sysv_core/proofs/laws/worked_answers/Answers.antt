@@ -1,5 +1,0 @@
-use Rattle.sysv_core.proofs.WorkedAnswers as answers
-use Rattle.sysv_core.proofs.laws.worked_answers.Goals as goal
-
-pub returns : goal.returns
-returns c = answers.worked_answers

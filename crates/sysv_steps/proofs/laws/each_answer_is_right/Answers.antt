@@ -1,0 +1,22 @@
+use Rattle.std.proofs.Common.{ℕ, List}
+use Rattle.sysv_model.specs.declared.cred.Cred.{Cred}
+use Rattle.sysv_model.specs.Turn.{Deed}
+use Rattle.sysv_steps.specs.Call.{SystemCall, Msgget, Msgsnd, Msgrcv, MsgctlStat, MsgctlSet, MsgctlRmid}
+use Rattle.sysv_steps.specs.State.{Ending, Over}
+use Rattle.sysv_steps.specs.Begin.{begin}
+use Rattle.sysv_steps.specs.Played.{Plays}
+use Rattle.sysv_steps.specs.Answers.{IsRightAnswer}
+use Rattle.sysv_steps.proofs.Sends.{send_at}
+use Rattle.sysv_steps.proofs.Receives.{receive_at}
+use Rattle.sysv_steps.proofs.laws.each_answer_is_right.Goals as goal
+
+right : (cred : Cred) (asked : SystemCall) (released : ℕ) (deeds : List Deed) (ending : Ending) → Plays (begin cred asked released) deeds (Over ending) → IsRightAnswer asked deeds ending
+right cred (Msgsnd id mtype flags text) released deeds ending p = send_at id mtype flags text cred released deeds (Over ending) p
+right cred (Msgrcv id size mtype flags) released deeds ending p = receive_at id size mtype flags cred released deeds (Over ending) p
+right cred (Msgget key flags) released deeds ending p = tt
+right cred (MsgctlStat id) released deeds ending p = tt
+right cred (MsgctlSet id to) released deeds ending p = tt
+right cred (MsgctlRmid id) released deeds ending p = tt
+
+pub returns : goal.returns
+returns c = right

@@ -1,0 +1,45 @@
+-- The start of a call. One whose own arguments are refused ends at once with EINVAL (POSIX.1-2017,
+-- msgsnd and msgrcv, ERRORS; that a receive refuses MSG_EXCEPT is this profile's), and any other goes to
+-- its first step. A send reads the released count at its start.
+use Rattle.std.specs.Prelude.{ℕ, ℤ, pos, ◌||◌, Bool, true, false, length, int_lt, nat_lt, if◌then◌else◌}
+use Rattle.sysv_model.specs.declared.cred.Cred.{Cred}
+use Rattle.sysv_model.specs.declared.errno.Errno.TheVariants.{EINVAL}
+use Rattle.sysv_model.specs.declared.flags.Flags.{Flags}
+use Rattle.sysv_model.specs.declared.flags.TheConstants.Flags.{IPC_NOWAIT, MSG_NOERROR, MSG_EXCEPT}
+use Rattle.sysv_model.specs.declared.limits.TheConstants.{MESSAGE_BYTES}
+use Rattle.sysv_model.specs.HasFlag.{has_flag}
+use Rattle.sysv_model.specs.Selector.{selector_for}
+use Rattle.sysv_steps.specs.Call.{SystemCall, Msgget, Msgsnd, Msgrcv, MsgctlStat, MsgctlSet, MsgctlRmid}
+use Rattle.sysv_steps.specs.State.{Phase, AtBegin, AtLook, AtTake, AtStat, AtSet, AtRemove, State, Goes, Over, Refused}
+
+-- a type below 1, a text of more than 8,192 bytes, an identifier below 0; for a receive MSG_EXCEPT
+abbrev pub is_refused : SystemCall → Bool
+is_refused (Msgget key flags) = false
+is_refused (Msgsnd id mtype flags text) = int_lt mtype (pos 1) || nat_lt MESSAGE_BYTES (length text) || int_lt id (pos 0)
+is_refused (Msgrcv id size mtype flags) = has_flag MSG_EXCEPT flags || int_lt id (pos 0)
+is_refused (MsgctlStat id) = int_lt id (pos 0)
+is_refused (MsgctlSet id to) = int_lt id (pos 0)
+is_refused (MsgctlRmid id) = int_lt id (pos 0)
+
+-- the first step
+abbrev pub first : Cred → SystemCall → ℕ → Phase
+first cred (Msgget key flags) released = AtBegin record { cred = cred; key = key; flags = flags }
+first cred (Msgsnd id mtype flags text) released =
+    AtLook record { cred = cred; id = id; mtype = mtype; text = text; nowait = has_flag IPC_NOWAIT flags; released = released; seen = false }
+first cred (Msgrcv id size mtype flags) released =
+    AtTake record {
+      cred = cred;
+      id = id;
+      selector = selector_for mtype flags;
+      size = size;
+      noerror = has_flag MSG_NOERROR flags;
+      nowait = has_flag IPC_NOWAIT flags;
+      seen = false;
+    }
+first cred (MsgctlStat id) released = AtStat cred id
+first cred (MsgctlSet id to) released = AtSet cred id to
+first cred (MsgctlRmid id) released = AtRemove cred id
+
+-- where a call stands once it was started
+abbrev pub begin : Cred → SystemCall → ℕ → State
+begin cred call released = if is_refused call then Over (Refused EINVAL) else Goes (first cred call released)

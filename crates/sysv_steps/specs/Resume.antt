@@ -1,0 +1,31 @@
+-- The end of a wait: the value of the count that ended it is at least the goal, and the call goes on at
+-- the step that it names (this profile's). Only a wait for blocks keeps the value, which is then the
+-- released count as the call read it last.
+use Rattle.std.specs.Prelude.{ℕ}
+use Rattle.sysv_steps.specs.SlotAt.{slot_at}
+use Rattle.sysv_steps.specs.State.{Wait, OnSettled, OnFreed, OnReleased, OnArrived, Phase, AtBegin, AtLook, AtTake}
+
+-- a count that rises: of a slot, or of the registry or the pool
+pub data Count : Type 0 where
+  ArrivedOf : (slot : ℕ) → Count
+  FreedOf : (slot : ℕ) → Count
+  Settled : Count
+  Released : Count
+
+abbrev pub awaited : Wait → Count
+awaited (OnSettled goal get) = Settled
+awaited (OnFreed goal send) = FreedOf (slot_at send.id)
+awaited (OnReleased goal send) = Released
+awaited (OnArrived goal receive) = ArrivedOf (slot_at receive.id)
+
+abbrev pub goal_of : Wait → ℕ
+goal_of (OnSettled goal get) = goal
+goal_of (OnFreed goal send) = goal
+goal_of (OnReleased goal send) = goal
+goal_of (OnArrived goal receive) = goal
+
+abbrev pub resume : Wait → ℕ → Phase
+resume (OnSettled goal get) value = AtBegin get
+resume (OnFreed goal send) value = AtLook send
+resume (OnReleased goal send) value = AtLook (record send { released = value })
+resume (OnArrived goal receive) value = AtTake receive

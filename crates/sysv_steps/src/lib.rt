@@ -1,0 +1,10 @@
+//! The steps of the calls of System V message queues: a machine that asks and is told, and touches no
+//! object itself. Who drives it makes the turns and keeps the texts. `specs/` has the table of steps
+//! whole; in code there are msgsnd and msgrcv.
+#![tactic(auto)]
+
+pub mod ending;
+pub mod laws;
+pub mod receive;
+pub mod send;
+pub mod state;
