@@ -4,3 +4,5 @@ pub mod Obeying
 pub mod KeptActors
 pub mod SeenSteps
 pub mod Runs
+pub mod OneRun
+pub mod SomeRun

@@ -14,7 +14,7 @@ use Rattle.sysv_queue.specs.LegalReply.{Legal}
 use Rattle.sysv_queue.specs.StandsFor.{MakesTurn, StandsFor as SlotStandsFor}
 use Rattle.sysv_steps.specs.Call.{SystemCall, Msgsnd, Msgrcv}
 use Rattle.sysv_steps.specs.SlotAt.{slot_at}
-use Rattle.sysv_steps.specs.State.{Phase, AtLook, AtPlace, AtTake, Refused, State, Goes, Waits, Over}
+use Rattle.sysv_steps.specs.State.{Phase, AtLook, AtPlace, AtTake, Ending, Id, Zero, Got, Told, Refused, State, Goes, Waits, Over}
 use Rattle.sysv_steps.specs.Begin.{is_refused, first, begin}
 use Rattle.sysv_steps.specs.Asks.{asks}
 use Rattle.sysv_steps.specs.Next.{next}
@@ -32,7 +32,7 @@ use Rattle.sysv_core.specs.Answered.{receives, TellsEnding}
 use Rattle.sysv_core.specs.Asked.{asked_of}
 use Rattle.sysv_core.specs.Kept.{kept_led, told_by}
 use Rattle.sysv_core.specs.Led.{LeadsTo, is_receiving, TurnLeads}
-use Rattle.sysv_core.specs.Seen.{Seen, IsSeenAs, IsThere, IsToCaller, AreThere, Gives, Steps, state_in}
+use Rattle.sysv_core.specs.Seen.{Seen, IsSeenAs, IsThere, IsCoded, IsToCaller, AreThere, Gives, Steps, state_in}
 use Rattle.sysv_core.proofs.Lists.{map-slice_set, get_set_same, get_set_other, same_place}
 
 -- ---- the actor at a place
@@ -49,15 +49,28 @@ busy_in (Some (Some d)) s e = (d, refl, cc)
 
 -- ---- what a start or a step leads to
 
+-- the code tells such endings
+abbrev pub CanTell : Ending → Type 0
+CanTell Zero = Unit {0}
+CanTell (Got mtype text) = Unit {0}
+CanTell (Refused why) = Unit {0}
+CanTell (Id id) = ⊥
+CanTell (Told stat) = ⊥
+
 -- the call stands at a step of its own, or is over
-abbrev IsThereOrOver : SystemCall → State → Type 0
-IsThereOrOver asked (Over ending) = Unit {0}
+abbrev pub IsThereOrOver : SystemCall → State → Type 0
+IsThereOrOver asked (Over ending) = CanTell ending
 IsThereOrOver asked state = IsThere asked state
 
-begins_there : (cred : Cred) (call : Coded) (released : ℕ) (b : Bool) → is_refused (asked_of call) ≡ b → IsThereOrOver (asked_of call) (cond b (Over (Refused EINVAL)) (Goes (first cred (asked_of call) released)))
-begins_there cred call released true e = tt
-begins_there cred (coded.Send id mtype flags body) released false e = tt
-begins_there cred (coded.Receive id size mtype flags body) released false e = tt
+pub begins_there : (cred : Cred) (asked : SystemCall) (released : ℕ) (b : Bool) → IsCoded asked → is_refused asked ≡ b → IsThereOrOver asked (cond b (Over (Refused EINVAL)) (Goes (first cred asked released)))
+begins_there cred asked released true coded e = tt
+begins_there cred (Msgsnd id mtype flags text) released false coded e = tt
+begins_there cred (Msgrcv id size mtype flags) released false coded e = tt
+begins_there cred asked released false coded e = absurd coded
+
+pub coded_is : (call : Coded) → IsCoded (asked_of call)
+coded_is (coded.Send id mtype flags body) = tt
+coded_is (coded.Receive id size mtype flags body) = tt
 
 kind : (asked : SystemCall) (phase : Phase) → IsThere asked (Goes phase) → is_receiving phase ≡ receives asked
 kind (Msgsnd id mtype flags text) (AtLook send) h = refl
@@ -68,7 +81,7 @@ kind asked phase h = absurd h
 some_is : {x y : State} → Some x ≡ Some y → x ≡ y
 some_is e = cc
 
-there_next : (asked : SystemCall) (phase : Phase) (deed : Deed) (state : State) → IsThere asked (Goes phase) → next phase deed ≡ Some state → IsThereOrOver asked state
+pub there_next : (asked : SystemCall) (phase : Phase) (deed : Deed) (state : State) → IsThere asked (Goes phase) → next phase deed ≡ Some state → IsThereOrOver asked state
 there_next (Msgsnd id mtype flags text) (AtLook send) (AtSlot slot call Gone) state h e = subst (IsThereOrOver (Msgsnd id mtype flags text)) (some_is e) tt
 there_next (Msgsnd id mtype flags text) (AtLook send) (AtSlot slot call Denied) state h e = subst (IsThereOrOver (Msgsnd id mtype flags text)) (some_is e) tt
 there_next (Msgsnd id mtype flags text) (AtLook send) (AtSlot slot call (Full freed)) state h e = subst (IsThereOrOver (Msgsnd id mtype flags text)) (some_is e) tt
@@ -127,7 +140,7 @@ doing_there place call (Goes phase) d h own e = subst (IsAt place) (one_doing e)
 doing_there place call (Waits wait) d h own e = subst (IsAt place) (one_doing e) (h, own)
 doing_there place call (Over ending) d h own e = absurd cc
 
-there_still : (actors : List (Option Doing)) (place : ℕ) (was : Option Doing) (call : Started) (state : State) → slice_get actors place ≡ Some was → AreThere actors → IsThereOrOver call.asked state →
+pub there_still : (actors : List (Option Doing)) (place : ℕ) (was : Option Doing) (call : Started) (state : State) → slice_get actors place ≡ Some was → AreThere actors → IsThereOrOver call.asked state →
     IsToCaller call.who (suc place) → AreThere (slice_set actors place (doing_in call state))
 there_still actors place was call state at all h own = λ p d here. elim (same_place place p) [
   | inl same ↦
@@ -203,7 +216,7 @@ module _ (w : World) (seen : Seen) (s : IsSeenAs w seen) where
       let state = begun started in
       let to : LeadsTo (receives (asked_of call)) state l = subst (λ r. LeadsTo (receives (asked_of call)) (begin cred (asked_of call) r) l) (sym none) leads in
       let idle : slice_get w.actors n ≡ Some None = ap (slice_get w.actors) same ∙ idle_at place there in
-      let there_now : IsThereOrOver (asked_of call) state = begins_there cred call (released (pool_history w.turns)) (is_refused (asked_of call)) refl in (
+      let there_now : IsThereOrOver (asked_of call) state = begins_there cred (asked_of call) (released (pool_history w.turns)) (is_refused (asked_of call)) (coded_is call) refl in (
         in_state (with_call w started) (suc n) started state,
         (
           given_in started state,

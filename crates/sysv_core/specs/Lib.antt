@@ -23,3 +23,5 @@ pub mod Kept
 pub mod Led
 pub mod AnswerLaw
 pub mod Headline
+pub mod OneRun
+pub mod SomeRun

@@ -71,6 +71,12 @@ IsThere (Msgsnd id mtype flags text) (Goes (AtPlace send blocks)) = ⊤
 IsThere (Msgrcv id size mtype flags) (Goes (AtTake receive)) = ⊤
 IsThere asked state = ⊥
 
+-- the code has such calls
+abbrev pub IsCoded : SystemCall → Type 0
+IsCoded (Msgsnd id mtype flags text) = ⊤
+IsCoded (Msgrcv id size mtype flags) = ⊤
+IsCoded asked = ⊥
+
 -- each actor is in such a call of its own
 abbrev pub AreThere : List (Option Doing) → Type 0
 AreThere actors = (place : ℕ) (d : Doing) → slice_get actors place ≡ Some (Some d) → IsThere d.call.asked d.state × IsToCaller d.call.who (suc place)

@@ -1,15 +1,47 @@
 //! Laws over the definitions alone.
 
 ghost use Rattle.sysv_core.specs.Headline.{EveryRunObeys};
+ghost use Rattle.sysv_core.specs.OneRun.{OneStep, OnePreset, OneRun};
+ghost use Rattle.sysv_core.specs.SomeRun.{SomeStep, SomePreset, SomeRun};
 
-use sysv_queue::laws::{legal_history, queue_law};
+use sysv_queue::laws::{legal_history, one_legal_reply, queue_law};
 use sysv_steps::laws::each_answer_is_right;
 
-/// Every list of happenings leads from every opening only to worlds that obey the laws.
+/// The headline: every list of happenings leads from every opening only to worlds that obey the laws.
 pub fn every_run_obeys()
     ensures { EveryRunObeys }
 {
     legal_history();
     queue_law();
     each_answer_is_right();
+}
+
+/// An event, and a preset, makes one world at most of a world, and gives one result.
+pub fn one_step()
+    ensures step { OneStep }
+    ensures preset { OnePreset }
+{
+    one_legal_reply();
+}
+
+/// Each event, and each preset, leads somewhere from a world whose actors are in sends and receives.
+pub fn some_step()
+    ensures step { SomeStep }
+    ensures preset { SomePreset }
+{
+    one_legal_reply();
+}
+
+/// Each list of presets, starts of sends and receives, and steps leads somewhere from an opening.
+pub fn some_run()
+    ensures { SomeRun }
+{
+    one_legal_reply();
+}
+
+/// A list of happenings leads to one world at most, with one list of endings.
+pub fn one_run()
+    ensures { OneRun }
+{
+    one_legal_reply();
 }

@@ -1,0 +1,5 @@
+use Rattle.sysv_core.proofs.OneRun as once
+use Rattle.sysv_core.proofs.laws.one_run.Goals as goal
+
+pub returns : goal.returns
+returns c = once.one_run c.one_legal_reply.ensures.one

@@ -1,0 +1,5 @@
+use Rattle.sysv_core.proofs.OneRun as once
+use Rattle.sysv_core.proofs.laws.one_step.Goals as goal
+
+pub returns : goal.returns
+returns c = record { step = once.one_step c.one_legal_reply.ensures.one; preset = once.one_preset }

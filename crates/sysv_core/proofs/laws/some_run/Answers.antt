@@ -1,0 +1,5 @@
+use Rattle.sysv_core.proofs.SomeRun as somewhere
+use Rattle.sysv_core.proofs.laws.some_run.Goals as goal
+
+pub returns : goal.returns
+returns c = somewhere.some_run c.one_legal_reply.ensures.some

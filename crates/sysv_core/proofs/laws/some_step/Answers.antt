@@ -1,0 +1,5 @@
+use Rattle.sysv_core.proofs.SomeRun as somewhere
+use Rattle.sysv_core.proofs.laws.some_step.Goals as goal
+
+pub returns : goal.returns
+returns c = record { step = somewhere.some_step c.one_legal_reply.ensures.some; preset = somewhere.some_preset c.one_legal_reply.ensures.some }

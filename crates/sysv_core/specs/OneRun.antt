@@ -1,0 +1,20 @@
+-- An event in a world, and a preset, leads to one world at most, and gives one result. So a list of
+-- happenings leads from a world to one world at most, with one list of endings: what a world does is
+-- decided by what happens in it (this profile's).
+use Rattle.std.specs.Prelude.{◌≡◌, Bool, List}
+use Rattle.sysv_core.specs.declared.event.Event.{Event}
+use Rattle.sysv_core.specs.declared.event.Stepped.{Stepped}
+use Rattle.sysv_core.specs.World.{World, Happening, Given, Presets}
+use Rattle.sysv_core.specs.Run.{Leads}
+use Rattle.sysv_core.specs.Seen.{Steps}
+
+abbrev pub OneStep : Type 0
+OneStep = (w after other : World) (event : Event) (result given : Stepped) →
+    Steps w event result after → Steps w event given other → (result ≡ given) × (after ≡ other)
+
+abbrev pub OnePreset : Type 0
+OnePreset = (w after other : World) (made did : Bool) → Presets w made after → Presets w did other → (made ≡ did) × (after ≡ other)
+
+abbrev pub OneRun : Type 0
+OneRun = (w after other : World) (list : List Happening) (given told : List Given) →
+    Leads w list given after → Leads w list told other → (given ≡ told) × (after ≡ other)
