@@ -1,5 +1,5 @@
 -- A text prints something in whole: line by line, each of which does something or is bad.
-use Rattle.std.proofs.Common.{◌≡◌, ◌+◌, ◌-◌, ◌≤◌, ◌<◌, ◌⊎◌, ℕ, zero, suc, inl, inr, Bool, true, false, List, [], ◌∷◌, ◌++◌, Some, length, get_or, refl, ap, ◌∙◌, arith}
+use Rattle.std.proofs.Common.{◌≡◌, ◌+◌, ◌-◌, ◌≤◌, ◌<◌, ◌⊎◌, ℕ, zero, suc, inl, inr, Bool, true, false, List, [], ◌∷◌, ◌++◌, Some, None, length, get_or, replicate, slice_get, refl, ap, ◌∙◌, arith}
 use Rattle.std.proofs.lemmas.List.{length-set}
 use Rattle.sysv_model.specs.declared.cred.Cred.{Cred}
 use Rattle.sysv_core.specs.declared.event.Call.{Call}
@@ -7,7 +7,8 @@ use Rattle.sysv_core.specs.declared.event.Event.{Event}
 use Rattle.sysv_core.specs.declared.event.Event.TheVariants.{Start, Step}
 use Rattle.sysv_core.specs.declared.event.Stepped.{Stepped}
 use Rattle.sysv_core.specs.declared.event.Stepped.TheVariants as stepped
-use Rattle.sysv_core.specs.World.{World, Presets}
+use Rattle.sysv_core.specs.World.{World, Doing, Presets}
+use Rattle.sysv_core.specs.Seen.{AreThere}
 use Rattle.sysv_core.specs.SomeRun.{SomeStep, SomePreset}
 use Rattle.sysv_script.specs.Faults.{bad_line_text}
 use Rattle.sysv_script.specs.Lines.{Says}
@@ -36,9 +37,9 @@ first_line text some = elim (splits_or_not 10 text) [
 
 -- ---- a line
 
--- each of the 16 actors has credentials
+-- each of the 16 actors has credentials, and is idle or in a send or a receive of its own
 abbrev IsManned : Scene → Type 0
-IsManned s = length s.creds ≡ 16
+IsManned s = (length s.creds ≡ 16) × AreThere s.world.actors
 
 -- the line does something, and leaves a scene of 16 actors
 record LineDone (s : Scene) (line : List ℕ) : Type 0 where
@@ -48,11 +49,11 @@ record LineDone (s : Scene) (line : List ℕ) : Type 0 where
   manned : IsManned after
 
 -- a preset makes the queue, or comes too late
-presets_or_not : (s : Scene) (line : List ℕ) (made : Bool) (after : World) → Presets s.world made after → IsManned s → Says line MakesPreset → LineDone s line ⊎ IsBad s line
-presets_or_not s line true after p manned says =
-    inl (record { out = []; after = in_world s after; does = (MakesPreset, says, (p, refl, refl)); manned = manned })
-presets_or_not s line false after (inl made) manned says = let never : false ≡ true = made.1 in absurd cc
-presets_or_not s line false after (inr late) manned says = inr (inr (says, inr (late.0, refl, refl)))
+presets_or_not : (s : Scene) (line : List ℕ) (made : Bool) (after : World) → Presets s.world made after → AreThere after.actors → IsManned s → Says line MakesPreset → LineDone s line ⊎ IsBad s line
+presets_or_not s line true after p there manned says =
+    inl (record { out = []; after = in_world s after; does = (MakesPreset, says, (p, refl, refl)); manned = (manned.0, there) })
+presets_or_not s line false after (inl made) there manned says = let never : false ≡ true = made.1 in absurd cc
+presets_or_not s line false after (inr late) there manned says = inr (inr (says, inr (late.0, refl, refl)))
 
 -- the text prints something in whole
 abbrev PrintsWhole : Scene → ℕ → List ℕ → Type 0
@@ -65,53 +66,54 @@ goes_first s n text first few does more =
 
 module _ (some : SomeStep) (preset : SomePreset) where
   -- an event leaves a scene with the credentials as they were
-  advances : (s : Scene) (event : Event) → (given : Stepped) × (after : Scene) × Advances s event given after × (after.creds ≡ s.creds)
-  advances s event =
-      let step = some s.world event in
-      (step.0, in_world s step.1, (step.2, refl), refl)
+  advances : (s : Scene) (event : Event) → AreThere s.world.actors → (given : Stepped) × (after : Scene) × Advances s event given after × ((after.creds ≡ s.creds) × AreThere after.world.actors)
+  advances s event all =
+      let step = some s.world event all in
+      (step.0, in_world s step.1, (step.2, refl), (refl, step.3))
 
   -- a call goes on for at most that many steps
-  goes_on : (n : ℕ) (s : Scene) (actor : ℕ) (first : Stepped) → (given : Stepped) × (after : Scene) × GoesOn n s actor first given after × (after.creds ≡ s.creds)
-  goes_on zero s actor stepped.Nothing = (stepped.Nothing, s, (refl, refl), refl)
-  goes_on zero s actor (stepped.Answer answer) = (stepped.Answer answer, s, (refl, refl), refl)
-  goes_on zero s actor stepped.Worn = (stepped.Worn, s, (refl, refl), refl)
-  goes_on (suc n) s actor stepped.Nothing =
-      let step = advances s (Step actor 0) in
-      let more = goes_on n step.1 actor step.0 in
-      (more.0, more.1, (step.1, step.0, step.2, more.2), more.3 ∙ step.3)
-  goes_on (suc n) s actor (stepped.Answer answer) = (stepped.Answer answer, s, (refl, refl), refl)
-  goes_on (suc n) s actor stepped.Worn = (stepped.Worn, s, (refl, refl), refl)
+  goes_on : (n : ℕ) (s : Scene) (actor : ℕ) (first : Stepped) → AreThere s.world.actors → (given : Stepped) × (after : Scene) × GoesOn n s actor first given after × ((after.creds ≡ s.creds) × AreThere after.world.actors)
+  goes_on zero s actor stepped.Nothing all = (stepped.Nothing, s, (refl, refl), (refl, all))
+  goes_on zero s actor (stepped.Answer answer) all = (stepped.Answer answer, s, (refl, refl), (refl, all))
+  goes_on zero s actor stepped.Worn all = (stepped.Worn, s, (refl, refl), (refl, all))
+  goes_on (suc n) s actor stepped.Nothing all =
+      let step = advances s (Step actor 0) all in
+      let more = goes_on n step.1 actor step.0 step.3.1 in
+      (more.0, more.1, (step.1, step.0, step.2, more.2), (more.3.0 ∙ step.3.0, more.3.1))
+  goes_on (suc n) s actor (stepped.Answer answer) all = (stepped.Answer answer, s, (refl, refl), (refl, all))
+  goes_on (suc n) s actor stepped.Worn all = (stepped.Worn, s, (refl, refl), (refl, all))
 
   -- a call of an actor that has credentials runs
-  call_runs : (s : Scene) (actor : ℕ) (call : Call) (cred : Cred) → cred_at s.creds actor ≡ Some cred → (given : Stepped) × (after : Scene) × CallRuns s actor call given after × (after.creds ≡ s.creds)
-  call_runs s actor call cred held =
-      let start = advances s (Start actor cred call) in
-      let more = goes_on 16 start.1 actor start.0 in
-      (more.0, more.1, (cred, start.1, start.0, held, start.2, more.2), more.3 ∙ start.3)
+  call_runs : (s : Scene) (actor : ℕ) (call : Call) (cred : Cred) → AreThere s.world.actors → cred_at s.creds actor ≡ Some cred →
+      (given : Stepped) × (after : Scene) × CallRuns s actor call given after × ((after.creds ≡ s.creds) × AreThere after.world.actors)
+  call_runs s actor call cred all held =
+      let start = advances s (Start actor cred call) all in
+      let more = goes_on 16 start.1 actor start.0 start.3.1 in
+      (more.0, more.1, (cred, start.1, start.0, held, start.2, more.2), (more.3.0 ∙ start.3.0, more.3.1))
 
   -- a line that starts a call does it
   start_does : (s : Scene) (line : List ℕ) (actor : ℕ) (call : Call) → IsManned s → 1 ≤ actor → actor ≤ 16 → Says line (Starts actor call) → LineDone s line
   start_does s line actor call manned least most says =
       let cred : Cred = get_or s.creds (actor - 1) (first_cred 0) in
-      let held = cred_held s.creds actor (first_cred 0) least (omega (arith, most, manned)) in
-      let run = call_runs s actor call cred held in
+      let held = cred_held s.creds actor (first_cred 0) least (omega (arith, most, manned.0)) in
+      let run = call_runs s actor call cred manned.1 held in
       record {
         out = printed actor (operation_of call) run.0;
         after = run.1;
         does = (Starts actor call, says, (refl, (run.0, run.2, refl)));
-        manned = ap length run.3 ∙ manned;
+        manned = (ap length run.3.0 ∙ manned.0, run.3.1);
       }
 
   -- a line that says something does it, or it is a preset that comes too late
   line_goes : (s : Scene) (line : List ℕ) (said : Said) → IsManned s → Says line said → LineDone s line ⊎ IsBad s line
   line_goes s line Nothing manned says = inl (record { out = []; after = s; does = (Nothing, says, (refl, refl, refl)); manned = manned })
-  line_goes s line MakesPreset manned says = let made = preset s.world in presets_or_not s line made.0 made.1 made.2 manned says
+  line_goes s line MakesPreset manned says = let made = preset s.world manned.1 in presets_or_not s line made.0 made.1 made.2 made.3 manned says
   line_goes s line (GivesCred actor cred) manned says =
       inl (record {
         out = [];
         after = record s { creds = with_cred s.creds actor cred };
         does = (GivesCred actor cred, says, (refl, refl, refl));
-        manned = length-set s.creds (actor - 1) cred ∙ manned;
+        manned = (length-set s.creds (actor - 1) cred ∙ manned.0, manned.1);
       })
   line_goes s line (Starts actor call) manned says = inl (start_does s line actor call manned says.1.least says.1.most says)
 
@@ -139,9 +141,14 @@ module _ (some : SomeStep) (preset : SomePreset) where
         ]
   ]
 
+  none_busy : (n place : ℕ) (d : Doing) → slice_get (replicate n None) place ≡ Some (Some d) → ⊥
+  none_busy zero place d e = cc
+  none_busy (suc n) zero d e = cc
+  none_busy (suc n) (suc place) d e = none_busy n place d e
+
   -- the 16 actors have credentials at first
   opening_manned : IsManned opening_scene
-  opening_manned = refl
+  opening_manned = (refl, λ place d e. absurd (none_busy 16 place d e))
 
   pub each_text_prints : EachTextPrints
   each_text_prints text = prints_bounded (length text) 1 opening_scene text (omega arith) opening_manned

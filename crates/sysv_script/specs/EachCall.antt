@@ -1,7 +1,8 @@
 -- A line that starts a call prints a line: from the opening scene on, each call of one of the 16 actors
 -- is answered within the steps that it makes, or finds the world worn out (this project's script
 -- language).
-use Rattle.std.specs.Prelude.{◌≡◌, ◌≤◌, ◌^◌, ◌⊎◌, ⊤, ℕ, Bool, List, None, replicate}
+use Rattle.std.specs.Prelude.{◌≡◌, ◌≤◌, ◌⊎◌, ⊤, ℕ, Bool, List, None, replicate}
+use Rattle.sysv_model.specs.declared.limits.TheConstants.{WORN}
 use Rattle.sysv_core.specs.declared.event.Call.{Call}
 use Rattle.sysv_core.specs.declared.event.Stepped.{Stepped}
 use Rattle.sysv_core.specs.declared.event.Stepped.TheVariants as stepped
@@ -9,7 +10,7 @@ use Rattle.sysv_script.specs.ScriptRun.{Said, Scene, opening_scene, CallRuns, Li
 
 -- no actor is in a call, or the world is worn out
 abbrev pub IsReady : Scene → Type 0
-IsReady s = (s.world.actors ≡ replicate 16 None) ⊎ (2 ^ 62 ≤ s.world.steps)
+IsReady s = (s.world.actors ≡ replicate 16 None) ⊎ (WORN ≤ s.world.steps)
 
 -- there is a line to print: an answer, or that the world is worn out
 abbrev pub IsTold : Stepped → Type 0

@@ -17,7 +17,8 @@ use Rattle.sysv_script.specs.declared.head.Operation.TheVariants.{Send, Receive}
 use Rattle.sysv_script.specs.declared.head.Head.{Head}
 use Rattle.sysv_script.specs.declared.head.Head.TheVariants as head
 use Rattle.sysv_script.specs.Heads.{head_text}
-use Rattle.sysv_core.specs.World.{World, opening, Steps, Presets}
+use Rattle.sysv_core.specs.World.{World, opening, Presets}
+use Rattle.sysv_core.specs.Seen.{Steps}
 
 -- what a line says
 pub data Said : Type 0 where
@@ -37,7 +38,7 @@ first_cred actor = record { uid = 1000; gid = 1000; pid = 100 + actor }
 
 -- a world of 16 actors in which nothing has happened, and the actors 1 to 16 as they are at first
 abbrev pub opening_scene : Scene
-opening_scene = record { world = opening 16; creds = map first_cred (range_with_len 1 16) }
+opening_scene = record { world = opening record { actors = 16; blocks = 1024; first = 0; generation = 0 }; creds = map first_cred (range_with_len 1 16) }
 
 -- the credentials of an actor, if there is such an actor; actors count from 1
 abbrev pub cred_at : List Cred → ℕ → Option Cred
