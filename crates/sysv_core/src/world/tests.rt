@@ -2,6 +2,8 @@
 //! list of events with its answers.
 
 use super::*;
+use crate::event::Outcome;
+use sysv_model::errno::Errno;
 use bitflags::Flags as _;
 use std::process::Abort;
 use sysv_model::body::Body;
