@@ -1,96 +1,67 @@
-//! Advances and reads, by one thread and by four.
-ghost use Rattle.std.specs.Prelude.{◌≡◌};
-ghost use Rattle.std.specs.Thread.{IsSync};
-
-use crate::figures::{nanos_since, ratio};
-use anyhow::Result;
+//! Single steps, by one thread and by four.
+use crate::part::{Part, STEPS, Step, time_of};
+use crate::place::Place;
+use bench_figures::show;
 use std::alloc::Global;
-use std::thread::{Threads, join};
-use std::time::{Clock, Instant};
-use sysv_eventcount::{Eventcount, Seat};
-
-/// How often each thread steps.
-const TIMES: u64 = 2_000_000;
-
-/// What a thread does.
-#[derive(Clone, Copy)]
-enum Kind {
-    Advance,
-    Read,
-}
-
-fn step_often(count: &Eventcount, mut seat: Seat, kind: Kind) -> u64
-    requires { seat.counter ≡ count.now }
-{
-    let mut last = 0;
-    for _ in 0..TIMES {
-        last = match kind {
-            Kind::Advance => count.advance(&mut seat).unwrap_or(0),
-            Kind::Read => count.read(&mut seat),
-        };
-    }
-    last
-}
-
-fn step_by_two<R: Threads + Sync>(
-    rt: &R,
-    count: &Eventcount,
-    one: Seat,
-    two: Seat,
-    kind: Kind,
-) -> (u64, u64)
-    requires one { one.counter ≡ count.now }
-    requires two { two.counter ≡ count.now }
-{
-    join(
-        rt,
-        || step_often(count, one, kind),
-        || step_often(count, two, kind),
-    )
-}
+use std::io;
+use std::sync::Wait;
+use std::thread::Threads;
+use std::time::Clock;
+use sysv_eventcount::Eventcount;
 
 // The nanoseconds that one thread takes for its steps.
-fn time_of_one<R: Clock>(rt: &R, alloc: Global, kind: Kind) -> Result<u64> {
-    let (count, seat) = Eventcount::open(alloc, 0)?;
-    let start = Instant::now(rt)?;
-    step_often(&count, seat, kind);
-    Ok(nanos_since(rt, start)?)
+fn by_one<R: Threads + Wait + Clock + Sync>(rt: &R, alloc: Global, step: Step) -> Option<u64> {
+    let (count, seat) = Eventcount::open(alloc, 0).ok()?;
+    let place = Place::new(&count, seat);
+    time_of(rt, &mut [Part::Steps(place, step)])
 }
 
 // The nanoseconds that four threads take, each for as many steps.
-fn time_of_four<R: Threads + Clock + Sync>(rt: &R, alloc: Global, kind: Kind) -> Result<u64> {
-    let (count, mut first) = Eventcount::open(alloc, 0)?;
-    let second = count.split(&mut first)?;
-    let third = count.split(&mut first)?;
-    let fourth = count.split(&mut first)?;
-    let start = Instant::now(rt)?;
-    join(
-        rt,
-        || -> (u64, u64)
-            requires { IsSync R.row × (first.counter ≡ count) × (second.counter ≡ count) }
-        { step_by_two(rt, &count, first, second, kind) },
-        || -> (u64, u64)
-            requires { IsSync R.row × (third.counter ≡ count) × (fourth.counter ≡ count) }
-        { step_by_two(rt, &count, third, fourth, kind) },
-    );
-    Ok(nanos_since(rt, start)?)
+fn by_four<R: Threads + Wait + Clock + Sync>(rt: &R, alloc: Global, step: Step) -> Option<u64> {
+    let (count, seat) = Eventcount::open(alloc, 0).ok()?;
+    let mut first = Place::new(&count, seat);
+    let second = first.split()?;
+    let third = first.split()?;
+    let fourth = first.split()?;
+    let (one, two) = (Part::Steps(first, step), Part::Steps(second, step));
+    let (three, four) = (Part::Steps(third, step), Part::Steps(fourth, step));
+    time_of(rt, &mut [one, two, three, four])
 }
 
-// Shows the nanoseconds that a step takes, by one thread and by four.
-fn show<R: Threads + Clock + Print + Sync>(
+/// Shows what each step takes.
+pub(crate) fn measure<R: Threads + Wait + Clock + Print + Sync>(
     rt: &R,
     alloc: Global,
-    name: &str,
-    kind: Kind,
-) -> Result<()> {
-    let one = ratio(alloc, time_of_one(rt, alloc, kind)?, TIMES)?;
-    let four = ratio(alloc, time_of_four(rt, alloc, kind)?, 4 * TIMES)?;
-    println!(rt; "{name}: one thread {one} ns a step, four threads {four} ns a step")?;
-    Ok(())
-}
-
-/// Shows what an advance takes, and a read.
-pub(crate) fn measure<R: Threads + Clock + Print + Sync>(rt: &R, alloc: Global) -> Result<()> {
-    show(rt, alloc, "advance", Kind::Advance)?;
-    show(rt, alloc, "read", Kind::Read)
+) -> io::Result<()> {
+    let (advance, both, read) = (Step::Advance, Step::AdvanceAndWake, Step::Read);
+    let unit = "ns a step";
+    show(
+        rt,
+        "advance, one thread",
+        by_one(rt, alloc, advance),
+        STEPS,
+        unit,
+    )?;
+    show(
+        rt,
+        "advance, four threads",
+        by_four(rt, alloc, advance),
+        4 * STEPS,
+        unit,
+    )?;
+    show(
+        rt,
+        "advance and wake, one thread",
+        by_one(rt, alloc, both),
+        STEPS,
+        unit,
+    )?;
+    show(rt, "read, one thread", by_one(rt, alloc, read), STEPS, unit)?;
+    show(
+        rt,
+        "read, four threads",
+        by_four(rt, alloc, read),
+        4 * STEPS,
+        unit,
+    )
 }
