@@ -1,7 +1,6 @@
 //! How figures are shown.
-use std::env;
 use std::env::Env;
-use std::io;
+use std::{env, io};
 
 /// Whether the program was given a word. Where it was not, this prints the one line that says so.
 pub fn is_asked<R: Env + Alloc + Print>(rt: &R, name: &str) -> io::Result<bool> {

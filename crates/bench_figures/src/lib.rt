@@ -30,4 +30,4 @@ mod figure;
 mod watch;
 
 pub use figure::{is_asked, show};
-pub use watch::Watch;
+pub use watch::{Watch, processor_nanos};

@@ -1,5 +1,5 @@
 //! How time is taken.
-use std::time::{Clock, Instant};
+use std::time::{Clock, CpuClock, Instant};
 
 /// A clock that was started.
 #[derive(Clone, Copy)]
@@ -19,4 +19,10 @@ impl Watch {
         let passed = self.begun.elapsed(rt).ok()?;
         Some(u64::try_from(passed.as_nanos()).unwrap_or(u64::MAX))
     }
+}
+
+/// The nanoseconds of processor time that all threads have used.
+pub fn processor_nanos(rt: &impl CpuClock) -> Option<u64> {
+    let used = rt.process_cpu_time().ok()?;
+    Some(u64::try_from(used.as_nanos()).unwrap_or(u64::MAX))
 }

@@ -1,11 +1,11 @@
 //! What one thread of a measurement does, and the time that some of them take together.
 use crate::locked::LockedCount;
 use crate::place::Place;
-use bench_figures::Watch;
+use bench_figures::{Watch, processor_nanos};
 use std::sync::Wait;
 use std::thread;
 use std::thread::{Threads, for_each_mut};
-use std::time::{Clock, Duration};
+use std::time::{Clock, CpuClock, Duration};
 
 /// How often a thread takes a single step.
 pub(crate) const STEPS: u64 = 2_000_000;
@@ -104,4 +104,15 @@ pub(crate) fn time_of<R: Threads + Wait + Clock + Sync>(rt: &R, parts: &mut [Par
     let watch = Watch::start(rt)?;
     for_each_mut(rt, parts, THREADS, &|_, part| part.act(rt));
     watch.nanos(rt)
+}
+
+/// Likewise, and answers the nanoseconds of processor time that all threads used.
+pub(crate) fn processor_time_of<R: Threads + Wait + Clock + CpuClock + Sync>(
+    rt: &R,
+    parts: &mut [Part],
+) -> Option<u64> {
+    let before = processor_nanos(rt)?;
+    time_of(rt, parts)?;
+    let after = processor_nanos(rt)?;
+    Some(after.saturating_sub(before))
 }

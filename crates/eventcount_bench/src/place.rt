@@ -28,9 +28,7 @@ impl<'a> Place<'a> {
     }
 
     pub(crate) fn advance(&mut self) {
-        let Ok(_) = self.count.advance(&mut self.seat) else {
-            return;
-        };
+        let _ = self.count.advance(&mut self.seat);
     }
 
     pub(crate) fn wake(&self, rt: &impl Wait) {

@@ -1,7 +1,7 @@
 //! Waits that sleep: a ping-pong of two threads over two eventcounts, the same over two locked counts, and a wait of a
 //! second.
 use crate::locked::LockedCount;
-use crate::part::{Game, Part, ROUNDS, time_of};
+use crate::part::{Game, Part, ROUNDS, processor_time_of, time_of};
 use crate::place::Place;
 use bench_figures::show;
 use std::alloc::Global;
@@ -15,22 +15,36 @@ use sysv_eventcount::Eventcount;
 const REPEATS: u32 = 5;
 
 // The nanoseconds of all rounds over two eventcounts.
-fn over_counts<R: Threads + Wait + Clock + Sync>(rt: &R, alloc: Global) -> Option<u64> {
-    let (ping, ping_seat) = Eventcount::open(alloc, 1).ok()?;
-    let (pong, pong_seat) = Eventcount::open(alloc, 0).ok()?;
-    let mut ping_one = Place::new(&ping, ping_seat);
-    let mut pong_one = Place::new(&pong, pong_seat);
-    let ping_two = ping_one.split()?;
-    let pong_two = pong_one.split()?;
+fn over_places<R: Threads + Wait + Clock + Sync>(
+    rt: &R,
+    mut ping: Place,
+    mut pong: Place,
+) -> Option<u64> {
+    let other_ping = ping.split()?;
+    let other_pong = pong.split()?;
     let one = Game {
-        heard: ping_one,
-        said: pong_one,
+        heard: ping,
+        said: pong,
     };
     let two = Game {
-        heard: pong_two,
-        said: ping_two,
+        heard: other_pong,
+        said: other_ping,
     };
     time_of(rt, &mut [Part::Play(one), Part::Play(two)])
+}
+
+fn over_counts<R: Threads + Wait + Clock + Sync>(rt: &R, alloc: Global) -> Option<u64> {
+    let Ok((ping, ping_seat)) = Eventcount::open(alloc, 1) else {
+        return None;
+    };
+    let Ok((pong, pong_seat)) = Eventcount::open(alloc, 0) else {
+        return None;
+    };
+    over_places(
+        rt,
+        Place::new(&ping, ping_seat),
+        Place::new(&pong, pong_seat),
+    )
 }
 
 // The same over two locked counts.
@@ -47,17 +61,19 @@ fn over_locks<R: Threads + Wait + Clock + Sync>(rt: &R) -> Option<u64> {
 }
 
 // The nanoseconds of processor time that all threads use while one waits for a second.
+fn used_at<R: Threads + Wait + Clock + CpuClock + Sync>(rt: &R, mut waiting: Place) -> Option<u64> {
+    let rousing = waiting.split()?;
+    processor_time_of(rt, &mut [Part::Sleep(waiting), Part::Rouse(rousing)])
+}
+
 fn used_by_a_wait<R: Threads + Wait + Clock + CpuClock + Sync>(
     rt: &R,
     alloc: Global,
 ) -> Option<u64> {
-    let (count, seat) = Eventcount::open(alloc, 0).ok()?;
-    let mut waiting = Place::new(&count, seat);
-    let rousing = waiting.split()?;
-    let before = rt.process_cpu_time().ok()?;
-    time_of(rt, &mut [Part::Sleep(waiting), Part::Rouse(rousing)])?;
-    let used = rt.process_cpu_time().ok()?.checked_sub(before)?;
-    u64::try_from(used.as_nanos()).ok()
+    let Ok((count, seat)) = Eventcount::open(alloc, 0) else {
+        return None;
+    };
+    used_at(rt, Place::new(&count, seat))
 }
 
 /// Shows all of them, each kind of ping-pong a few times in turn.

@@ -9,23 +9,33 @@ use std::thread::Threads;
 use std::time::Clock;
 use sysv_eventcount::Eventcount;
 
-// The nanoseconds that one thread takes for its steps.
-fn by_one<R: Threads + Wait + Clock + Sync>(rt: &R, alloc: Global, step: Step) -> Option<u64> {
-    let (count, seat) = Eventcount::open(alloc, 0).ok()?;
-    let place = Place::new(&count, seat);
-    time_of(rt, &mut [Part::Steps(place, step)])
+// The nanoseconds that some threads take, each for all steps, with places split off from the first.
+fn time_at<R: Threads + Wait + Clock + Sync>(
+    rt: &R,
+    alloc: Global,
+    mut first: Place,
+    threads: usize,
+    step: Step,
+) -> Option<u64> {
+    let mut parts = Vec::new(alloc);
+    for _ in 1..threads {
+        let place = first.split()?;
+        parts.push(Part::Steps(place, step)).ok()?;
+    }
+    parts.push(Part::Steps(first, step)).ok()?;
+    time_of(rt, &mut parts)
 }
 
-// The nanoseconds that four threads take, each for as many steps.
-fn by_four<R: Threads + Wait + Clock + Sync>(rt: &R, alloc: Global, step: Step) -> Option<u64> {
-    let (count, seat) = Eventcount::open(alloc, 0).ok()?;
-    let mut first = Place::new(&count, seat);
-    let second = first.split()?;
-    let third = first.split()?;
-    let fourth = first.split()?;
-    let (one, two) = (Part::Steps(first, step), Part::Steps(second, step));
-    let (three, four) = (Part::Steps(third, step), Part::Steps(fourth, step));
-    time_of(rt, &mut [one, two, three, four])
+fn time_by<R: Threads + Wait + Clock + Sync>(
+    rt: &R,
+    alloc: Global,
+    threads: usize,
+    step: Step,
+) -> Option<u64> {
+    let Ok((count, seat)) = Eventcount::open(alloc, 0) else {
+        return None;
+    };
+    time_at(rt, alloc, Place::new(&count, seat), threads, step)
 }
 
 /// Shows what each step takes.
@@ -38,29 +48,35 @@ pub(crate) fn measure<R: Threads + Wait + Clock + Print + Sync>(
     show(
         rt,
         "advance, one thread",
-        by_one(rt, alloc, advance),
+        time_by(rt, alloc, 1, advance),
         STEPS,
         unit,
     )?;
     show(
         rt,
         "advance, four threads",
-        by_four(rt, alloc, advance),
+        time_by(rt, alloc, 4, advance),
         4 * STEPS,
         unit,
     )?;
     show(
         rt,
         "advance and wake, one thread",
-        by_one(rt, alloc, both),
+        time_by(rt, alloc, 1, both),
         STEPS,
         unit,
     )?;
-    show(rt, "read, one thread", by_one(rt, alloc, read), STEPS, unit)?;
+    show(
+        rt,
+        "read, one thread",
+        time_by(rt, alloc, 1, read),
+        STEPS,
+        unit,
+    )?;
     show(
         rt,
         "read, four threads",
-        by_four(rt, alloc, read),
+        time_by(rt, alloc, 4, read),
         4 * STEPS,
         unit,
     )
