@@ -11,20 +11,21 @@ pub fn is_asked<R: Env + Alloc + Print>(rt: &R, name: &str) -> io::Result<bool> 
     Ok(false)
 }
 
-/// Prints `measured` divided by `by` with two decimals, rounded down, in a line of its own, as in
-/// `advance, one thread: 9.12 ns a step`. A `by` of 0 counts as 1.
+/// Prints `measured` divided by `by` with two decimals, rounded down, in a line of its own, as `advance, one thread:
+/// 9.12 ns a step`. A `by` of 0 counts as 1.
 pub fn show(
     rt: &impl Print,
     what: &str,
+    how: &str,
     measured: Option<u64>,
     by: u64,
     unit: &str,
 ) -> io::Result<()> {
     let Some(measured) = measured else {
-        return println!(rt; "{what}: not measured, since something was refused");
+        return println!(rt; "{what}, {how}: not measured, since something was refused");
     };
     let hundredths = u128::from(measured) * 100 / u128::from(by.max(1));
     let units = hundredths / 100;
     let rest = hundredths % 100;
-    println!(rt; "{what}: {units}.{rest:02} {unit}")
+    println!(rt; "{what}, {how}: {units}.{rest:02} {unit}")
 }

@@ -1,7 +1,7 @@
 //! What one thread of a measurement does, and the time that some of them take together.
 use crate::locked::LockedCount;
 use crate::place::Place;
-use bench_figures::{Watch, processor_nanos};
+use bench_figures::{Time, Watch};
 use std::sync::Wait;
 use std::thread;
 use std::thread::{Threads, for_each_mut};
@@ -14,7 +14,7 @@ pub(crate) const STEPS: u64 = 2_000_000;
 pub(crate) const ROUNDS: u64 = 100_000;
 
 /// At most so many threads run at a time.
-const THREADS: usize = 4;
+const THREADS: usize = 2;
 
 /// A single step.
 #[derive(Clone, Copy)]
@@ -24,6 +24,13 @@ pub(crate) enum Step {
     Read,
 }
 
+/// Takes a step over and over.
+#[derive(Drop)]
+pub(crate) struct Stepper<'a> {
+    pub(crate) place: Place<'a>,
+    pub(crate) step: Step,
+}
+
 /// One side of a ping-pong: it waits for the one count, and advances the other.
 #[derive(Drop)]
 pub(crate) struct Game<'a> {
@@ -31,11 +38,19 @@ pub(crate) struct Game<'a> {
     pub(crate) said: Place<'a>,
 }
 
+impl<'a> Game<'a> {
+    /// The other side.
+    pub(crate) fn other(&mut self) -> Option<Game<'a>> {
+        let heard = self.said.split()?;
+        let said = self.heard.split()?;
+        Some(Game { heard, said })
+    }
+}
+
 /// What a thread does.
 #[derive(Drop)]
 pub(crate) enum Part<'a> {
-    /// Takes a step over and over.
-    Steps(Place<'a>, Step),
+    Steps(Stepper<'a>),
     /// Plays all rounds.
     Play(Game<'a>),
     PlayLocked(&'a LockedCount, &'a LockedCount),
@@ -48,14 +63,20 @@ pub(crate) enum Part<'a> {
 impl Part<'_> {
     fn act<R: Wait + Clock>(&mut self, rt: &R) {
         match self {
-            Part::Steps(place, Step::Advance) => advance_often(place),
-            Part::Steps(place, Step::AdvanceAndWake) => wake_often(rt, place),
-            Part::Steps(place, Step::Read) => read_often(place),
+            Part::Steps(stepper) => step_often(rt, stepper),
             Part::Play(game) => play(rt, game),
             Part::PlayLocked(heard, said) => play_locked(rt, heard, said),
             Part::Sleep(place) => place.hear(rt, 1),
             Part::Rouse(place) => rouse(rt, place),
         }
+    }
+}
+
+fn step_often(rt: &impl Wait, stepper: &mut Stepper) {
+    match stepper.step {
+        Step::Advance => advance_often(&mut stepper.place),
+        Step::AdvanceAndWake => wake_often(rt, &mut stepper.place),
+        Step::Read => read_often(&mut stepper.place),
     }
 }
 
@@ -100,19 +121,12 @@ fn rouse<R: Wait + Clock>(rt: &R, place: &mut Place) {
 }
 
 /// Has each part in a thread of its own, and answers the nanoseconds until the last has ended.
-pub(crate) fn time_of<R: Threads + Wait + Clock + Sync>(rt: &R, parts: &mut [Part]) -> Option<u64> {
-    let watch = Watch::start(rt)?;
-    for_each_mut(rt, parts, THREADS, &|_, part| part.act(rt));
-    watch.nanos(rt)
-}
-
-/// Likewise, and answers the nanoseconds of processor time that all threads used.
-pub(crate) fn processor_time_of<R: Threads + Wait + Clock + CpuClock + Sync>(
+pub(crate) fn time_of<R: Threads + Wait + Clock + CpuClock + Sync>(
     rt: &R,
+    time: Time,
     parts: &mut [Part],
 ) -> Option<u64> {
-    let before = processor_nanos(rt)?;
-    time_of(rt, parts)?;
-    let after = processor_nanos(rt)?;
-    Some(after.saturating_sub(before))
+    let watch = Watch::start(rt, time)?;
+    for_each_mut(rt, parts, THREADS, &|_, part| part.act(rt));
+    watch.nanos(rt)
 }
