@@ -26,8 +26,14 @@ impl LockedCount {
     }
 
     /// Waits until the count is at least `goal`.
-    pub(crate) fn await_at_least<R: Wait>(&self, rt: &R, goal: u64) {
-        let value = self.value.lock(rt);
-        self.advanced.wait_while(rt, value, |value| *value < goal);
+    pub(crate) fn await_at_least(&self, rt: &impl Wait, goal: u64) {
+        let mut value = self.value.lock(rt);
+        for _ in rt.forever() {
+            if *value >= goal {
+                return;
+            }
+            value = self.advanced.wait(rt, value);
+        }
+        unreachable!()
     }
 }

@@ -1,23 +1,19 @@
 //! Measures eventcounts beside std's `Mutex` and `Condvar`. Without the argument `run` it measures nothing.
 #![tactic(auto)]
 
-mod figures;
 mod locked;
+mod part;
+mod place;
 mod rounds;
-mod sleeping;
 mod steps;
 
-use anyhow::Result;
-use std::env;
+use bench_figures::is_asked;
+use std::io;
 
-fn main(rt: HostRuntime) -> Result<()> {
-    let asked = env::args(&rt)?.nth(1);
-    if asked.is_none() {
-        println!(rt; "eventcount_bench: give the word run, and it measures")?;
-        return Ok(());
+fn main(rt: HostRuntime) -> io::Result<()> {
+    if is_asked(&rt, "eventcount_bench")? {
+        steps::measure(&rt, rt.alloc())?;
+        rounds::measure(&rt, rt.alloc())?;
     }
-    let alloc = rt.alloc();
-    steps::measure(&rt, alloc)?;
-    rounds::measure(&rt, alloc)?;
-    sleeping::measure(&rt, alloc)
+    Ok(())
 }

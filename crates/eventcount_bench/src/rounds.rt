@@ -1,94 +1,104 @@
-//! A ping-pong of two threads over two eventcounts, and the same over two locked counts.
-ghost use Rattle.std.specs.Prelude.{◌≡◌};
-
-use crate::figures::{nanos_since, ratio};
+//! Waits that sleep: a ping-pong of two threads over two eventcounts, the same over two locked counts, and a wait of a
+//! second.
 use crate::locked::LockedCount;
-use anyhow::Result;
+use crate::part::{Game, Part, ROUNDS, time_of};
+use crate::place::Place;
+use bench_figures::{Time, show};
 use std::alloc::Global;
+use std::io;
 use std::sync::Wait;
-use std::thread::{Threads, join};
-use std::time::{Clock, Instant};
-use sysv_eventcount::{Eventcount, Seat};
+use std::thread::Threads;
+use std::time::{Clock, CpuClock};
+use sysv_eventcount::Eventcount;
 
-/// How often the ball goes there and back.
-const ROUNDS: u64 = 100_000;
-
-/// How often the two are measured in turn.
+/// How often the two kinds of ping-pong are measured in turn.
 const REPEATS: u32 = 5;
 
-fn play(
-    rt: &impl Wait,
-    hear: &Eventcount,
-    mut hearing: Seat,
-    say: &Eventcount,
-    mut saying: Seat,
-) -> bool
-    requires hearing { hearing.counter ≡ hear.now }
-    requires saying { saying.counter ≡ say.now }
-{
-    for round in 0..ROUNDS {
-        hear.await_at_least(rt, &mut hearing, round + 1);
-        if say.advance(&mut saying).is_err() {
-            return false;
-        }
-        say.wake(rt);
-    }
-    true
-}
-
-fn play_locked(rt: &impl Wait, hear: &LockedCount, say: &LockedCount) {
-    for round in 0..ROUNDS {
-        hear.await_at_least(rt, round + 1);
-        say.advance(rt);
-    }
-}
-
 // The nanoseconds of all rounds over two eventcounts.
-fn time_of_eventcounts<R: Threads + Wait + Clock + Sync>(rt: &R, alloc: Global) -> Result<u64> {
-    let (ping, mut ping_one) = Eventcount::open(alloc, 1)?;
-    let (pong, mut pong_one) = Eventcount::open(alloc, 0)?;
-    let ping_two = ping.split(&mut ping_one)?;
-    let pong_two = pong.split(&mut pong_one)?;
-    let start = Instant::now(rt)?;
-    join(
-        rt,
-        || play(rt, &ping, ping_one, &pong, pong_one),
-        || play(rt, &pong, pong_two, &ping, ping_two),
-    );
-    Ok(nanos_since(rt, start)?)
+fn over_places<R: Threads + Wait + Clock + CpuClock + Sync>(rt: &R, mut one: Game) -> Option<u64> {
+    let two = one.other()?;
+    time_of(rt, Time::Passed, &mut [Part::Play(one), Part::Play(two)])
+}
+
+fn over_counts<R: Threads + Wait + Clock + CpuClock + Sync>(rt: &R, alloc: Global) -> Option<u64> {
+    let Ok((ping, ping_seat)) = Eventcount::open(alloc, 1) else {
+        return None;
+    };
+    let Ok((pong, pong_seat)) = Eventcount::open(alloc, 0) else {
+        return None;
+    };
+    let heard = Place::new(&ping, ping_seat);
+    let said = Place::new(&pong, pong_seat);
+    over_places(rt, Game { heard, said })
 }
 
 // The same over two locked counts.
-fn time_of_locks<R: Threads + Wait + Clock + Sync>(rt: &R) -> Result<u64> {
+fn over_locks<R: Threads + Wait + Clock + CpuClock + Sync>(rt: &R) -> Option<u64> {
     let ping = LockedCount::new(1);
     let pong = LockedCount::new(0);
-    let start = Instant::now(rt)?;
-    join(
+    time_of(
         rt,
-        || play_locked(rt, &ping, &pong),
-        || play_locked(rt, &pong, &ping),
-    );
-    Ok(nanos_since(rt, start)?)
+        Time::Passed,
+        &mut [
+            Part::PlayLocked(&ping, &pong),
+            Part::PlayLocked(&pong, &ping),
+        ],
+    )
 }
 
-// Shows one measurement of each, and their ratio.
-fn show<R: Threads + Wait + Clock + Print + Sync>(rt: &R, alloc: Global) -> Result<()> {
-    let counts = time_of_eventcounts(rt, alloc)?;
-    let locks = time_of_locks(rt)?;
-    let count_time = ratio(alloc, counts, ROUNDS)?;
-    let lock_time = ratio(alloc, locks, ROUNDS)?;
-    let share = ratio(alloc, counts, locks)?;
-    println!(rt; "round: eventcounts {count_time} ns, locks {lock_time} ns, ratio {share}")?;
-    Ok(())
+// The nanoseconds of processor time that all threads use while one waits for a second.
+fn used_at<R: Threads + Wait + Clock + CpuClock + Sync>(rt: &R, mut waiting: Place) -> Option<u64> {
+    let rousing = waiting.split()?;
+    time_of(
+        rt,
+        Time::Processor,
+        &mut [Part::Sleep(waiting), Part::Rouse(rousing)],
+    )
 }
 
-/// Shows both kinds of ping-pong, a few times in turn.
-pub(crate) fn measure<R: Threads + Wait + Clock + Print + Sync>(
+fn used_by_a_wait<R: Threads + Wait + Clock + CpuClock + Sync>(
     rt: &R,
     alloc: Global,
-) -> Result<()> {
+) -> Option<u64> {
+    let Ok((count, seat)) = Eventcount::open(alloc, 0) else {
+        return None;
+    };
+    used_at(rt, Place::new(&count, seat))
+}
+
+fn show_rounds<R: Threads + Wait + Clock + CpuClock + Print + Sync>(
+    rt: &R,
+    alloc: Global,
+) -> io::Result<()> {
+    let counts = over_counts(rt, alloc);
+    let locks = over_locks(rt);
+    show(rt, "ping-pong", "eventcounts", counts, ROUNDS, "ns a round")?;
+    show(rt, "ping-pong", "locks", locks, ROUNDS, "ns a round")?;
+    show(
+        rt,
+        "ping-pong",
+        "eventcounts beside locks",
+        counts,
+        locks.unwrap_or(0),
+        "times",
+    )
+}
+
+/// Shows all of them, each kind of ping-pong a few times in turn.
+pub(crate) fn measure<R: Threads + Wait + Clock + CpuClock + Print + Sync>(
+    rt: &R,
+    alloc: Global,
+) -> io::Result<()> {
     for _ in 0..REPEATS {
-        show(rt, alloc)?;
+        show_rounds(rt, alloc)?;
     }
-    Ok(())
+    let used = used_by_a_wait(rt, alloc);
+    show(
+        rt,
+        "a wait of a second",
+        "processor time",
+        used,
+        1000,
+        "microseconds",
+    )
 }

@@ -247,7 +247,7 @@ weighs first slots id me s kept _ at _ =
     let n : ℕ = get_or s.words 0 0 in
     let allowances = kept.1.allowances in
     let part = at-le-sum_by (λ (u : View). u.allowance) s.views id me.0 at in
-    (me.0, keeps, tt, placed first n id me me.0 s kept (weighing_keeps first n id s.views me.0 kept.1 at), (refl, omega arith))
+    (me.0, keeps, tt, placed first n id me me.0 s kept (weighing_keeps first n id s.views me.0 kept.1 at), (refl, omega arith, none_twice first n id s.views me.0 kept.1 at))
 
 pub splits : (first id : ℕ) (v : View) → v.cleared ≡ false → 64 ≤ v.allowance → Splits (OneWord first) id v (left_of v) (given_of v)
 splits first id v idle enough s kept at = (kept.0, splitting_keeps first (get_or s.words 0 0) id s.views v kept.1 at idle enough)

@@ -3,6 +3,7 @@ use Rattle.std.specs.Prelude.{◌≡◌, ℕ, ◌+◌, ◌-◌, ◌/◌, ◌^◌
 use Rattle.atomic_table.specs.Table.{Me, Step}
 use Rattle.sysv_eventcount.specs.declared.view.View.{View}
 use Rattle.sysv_eventcount.specs.Counter.{Teaches}
+use Rattle.sysv_eventcount.specs.Numbers.{NoneTwice}
 
 abbrev pub Mine : Type 0
 Mine = Me (Unit {0}) View
@@ -32,9 +33,9 @@ Clears st m n m' = (m' ≡ (after_clearing n m.0, m.1)) × Informs m.0 n
 abbrev pub Adds : Step (Unit {0}) → Mine → ℕ → Mine → Type 0
 Adds st m n m' = (m' ≡ (after_adding n m.0, m.1)) × Informs m.0 n × Informs (after_adding n m.0) (n + 1)
 
--- a load that changes nothing, and tells that the allowance is a part of the whole
+-- a load that changes nothing, and tells that the allowance is a part of the whole and that no number was found twice
 abbrev pub Weighs : Step (Unit {0}) → Mine → ℕ → Mine → Type 0
-Weighs st m n m' = (m' ≡ m) × (m.0.allowance ≤ 2 ^ 61)
+Weighs st m n m' = (m' ≡ m) × (m.0.allowance ≤ 2 ^ 61) × NoneTwice m.0.own
 
 -- what a split leaves
 abbrev pub left_of : View → View

@@ -1,6 +1,7 @@
 //! Eventcounts.
 ghost use Rattle.std.specs.Prelude.{◌≡◌, ◌-◌, ◌^◌, ◌<◌, ◌≤◌, IfOk, OnOk, OnErr, IsErr, IsErrOf, ◌↔◌};
 ghost use Rattle.sysv_eventcount.specs.Counter.{opened, saw, added, after_split, split_off, after_join, Learns, MeetsWear};
+ghost use Rattle.sysv_eventcount.specs.Numbers.{NoneTwice};
 ghost use Rattle.sysv_eventcount.specs.Waits.{value_of, Tells};
 
 use crate::awaited::Awaited;
@@ -48,15 +49,18 @@ impl Eventcount {
         ensures ok { IfOk result (λ s. (s ≡ split_off seat.old) × (seat.new ≡ after_split seat.old)) }
         ensures too_many { IsErr result ↔ (seat.old.allowance < 64) }
         ensures err { OnErr result (seat.new ≡ seat.old) }
+        ensures same { seat.new.counter ≡ seat.old.counter }
     {
         self.word.split(seat)
     }
 
-    /// Takes in another seat of this eventcount: what it has seen, its advances and its allowance.
+    /// Takes in another seat of this eventcount: what it has seen, its advances and its allowance. No number is then in
+    /// the list of its advances twice.
     pub fn join(&self, seat: &mut Seat, other: Seat)
         requires seat { seat.old.counter ≡ self.now }
         requires other { other.counter ≡ self.now }
-        ensures { seat.new ≡ after_join seat.old other }
+        ensures joined { seat.new ≡ after_join seat.old other }
+        ensures once { NoneTwice seat.new.own }
     {
         self.word.join(seat, other);
     }
@@ -79,6 +83,7 @@ impl Eventcount {
         ensures learned { IfOk result (λ n. Learns seat.new n) }
         ensures not_worn { OnOk result (seat.old.seen < 2 ^ 62) }
         ensures worn { OnErr result (MeetsWear seat.old seat.new) }
+        ensures same { seat.new.counter ≡ seat.old.counter }
     {
         let before = self.word.add(seat)?;
         Ok(before + 1)

@@ -2,7 +2,7 @@
 use thiserror::Error;
 
 /// Why an eventcount or a sequencer was not opened.
-#[derive(Debug, Drop, Error)]
+#[derive(Clone, Copy, Debug, PartialEq, Eq, Error)]
 pub enum OpenRefused {
     #[error("out of memory")]
     NoMemory,
@@ -11,11 +11,11 @@ pub enum OpenRefused {
 }
 
 /// The seat's allowance is too small to be split.
-#[derive(Debug, Drop, Error)]
+#[derive(Clone, Copy, Debug, PartialEq, Eq, Error)]
 #[error("the allowance is too small to be split")]
 pub struct TooMany;
 
 /// The word has reached 2^62. Nothing was added.
-#[derive(Debug, Drop, Error)]
+#[derive(Clone, Copy, Debug, PartialEq, Eq, Error)]
 #[error("the count is worn out")]
 pub struct Worn;

@@ -42,15 +42,18 @@ impl Sequencer {
         ensures ok { IfOk result (λ s. (s ≡ split_off seat.old) × (seat.new ≡ after_split seat.old)) }
         ensures too_many { IsErr result ↔ (seat.old.allowance < 64) }
         ensures err { OnErr result (seat.new ≡ seat.old) }
+        ensures same { seat.new.counter ≡ seat.old.counter }
     {
         self.word.split(seat)
     }
 
-    /// Takes in another seat of this sequencer: what it has seen, its tickets and its allowance.
+    /// Takes in another seat of this sequencer: what it has seen, its tickets and its allowance. No number is then in the
+    /// list of its tickets twice.
     pub fn join(&self, seat: &mut Seat, other: Seat)
         requires seat { seat.old.counter ≡ self.now }
         requires other { other.counter ≡ self.now }
-        ensures { seat.new ≡ after_join seat.old other }
+        ensures joined { seat.new ≡ after_join seat.old other }
+        ensures once { NoneTwice seat.new.own }
     {
         self.word.join(seat, other);
     }
@@ -65,6 +68,7 @@ impl Sequencer {
         ensures once { IfOk result (λ _. NoneTwice seat.new.own) }
         ensures not_worn { OnOk result (seat.old.seen < 2 ^ 62) }
         ensures worn { OnErr result (MeetsWear seat.old seat.new) }
+        ensures same { seat.new.counter ≡ seat.old.counter }
     {
         self.word.add(seat)
     }

@@ -1,5 +1,6 @@
 //! The word of an eventcount or a sequencer, with all its steps.
 ghost use Rattle.std.specs.Prelude.{◌≡◌, ◌+◌, ◌^◌, ◌<◌, ◌≤◌, IfOk, OnOk, OnErr, IsErr, IsErrOf, ◌↔◌};
+ghost use Rattle.sysv_eventcount.specs.Numbers.{NoneTwice};
 ghost use Rattle.sysv_eventcount.specs.Counter.{opened, saw, added, after_split, split_off, after_join, Learns, MeetsWear};
 
 use crate::refusals::{OpenRefused, TooMany, Worn};
@@ -62,6 +63,7 @@ impl Word {
         ensures ok { IfOk result (λ s. (s ≡ split_off seat.old) × (seat.new ≡ after_split seat.old)) }
         ensures too_many { IsErr result ↔ (seat.old.allowance < 64) }
         ensures err { OnErr result (seat.new ≡ seat.old) }
+        ensures same { seat.new.counter ≡ seat.old.counter }
     {
         if seat.allowance < PART {
             return Err(TooMany);
@@ -78,7 +80,8 @@ impl Word {
     pub(crate) fn join(&self, seat: &mut Seat, other: Seat)
         requires seat { seat.old.counter ≡ self.now }
         requires other { other.counter ≡ self.now }
-        ensures { seat.new ≡ after_join seat.old other }
+        ensures joined { seat.new ≡ after_join seat.old other }
+        ensures once { NoneTwice seat.new.own }
     {
         let Seat { token, allowance } = other;
         self.table.shared.join_seat::<Merge>(&mut seat.token, token);
@@ -102,6 +105,7 @@ impl Word {
         ensures learned { IfOk result (λ n. Learns seat.old n × Learns seat.new (n + 1)) }
         ensures not_worn { OnOk result (seat.old.seen < 2 ^ 62) }
         ensures worn { OnErr result (MeetsWear seat.old seat.new) }
+        ensures same { seat.new.counter ≡ seat.old.counter }
     {
         let found = self.table.shared.load::<Clearing>(&mut seat.token, 0);
         if found >= LIMIT {

@@ -1,4 +1,6 @@
-use Rattle.std.proofs.Common.{rules}
+use Rattle.std.proofs.Common.{rules, sym, subst}
+use Rattle.sysv_eventcount.specs.Numbers.{NoneTwice}
+use Rattle.sysv_eventcount.specs.Steps.{Mine}
 use Rattle.sysv_eventcount.proofs.Keeping.{joins, weighs}
 use Rattle.sysv_eventcount.proofs.word.Word.join.Goals as goal
 
@@ -13,3 +15,8 @@ join_seat-requires c = (
 
 pub load-requires : goal.load-requires
 load-requires c = (search rules, search rules, weighs _ _ _ _)
+
+pub returns-clause-once : goal.returns-clause-once
+returns-clause-once c =
+    let told = c.load.ensures.2 in
+    subst (λ (m : Mine). NoneTwice m.0.own) (sym told.0) told.2
