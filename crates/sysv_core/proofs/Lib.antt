@@ -6,3 +6,6 @@ pub mod SeenSteps
 pub mod Runs
 pub mod OneRun
 pub mod SomeRun
+pub mod WorkedRun
+pub mod WorkedSelection
+pub mod WorkedAnswers

@@ -25,3 +25,6 @@ pub mod AnswerLaw
 pub mod Headline
 pub mod OneRun
 pub mod SomeRun
+pub mod WorkedRun
+pub mod WorkedSelection
+pub mod WorkedAnswers

@@ -1,0 +1,68 @@
+-- What the answer law admits and refuses at the worked run's send.
+use Rattle.std.proofs.Common.{◌≡◌, ℕ, zero, suc, ◌<◌, inl, inr, pos, true, false, List, [], ◌∷◌, None, Some, refl, sym, ap, subst, ◌∙◌, arith}
+use Rattle.std.specs.List.{Contains}
+use Rattle.sysv_model.specs.declared.errno.Errno.TheVariants.{EAGAIN}
+use Rattle.sysv_model.specs.History.{Who, Actor, Full}
+use Rattle.sysv_model.specs.Turn.{Deed, AtSlot, deeds_of}
+use Rattle.sysv_steps.specs.State.{Phase, AtPlace, Wait, Ending, Zero, Refused, State, Goes, Waits, Over}
+use Rattle.sysv_steps.specs.Played.{Plays, begins, steps}
+use Rattle.sysv_steps.specs.Answers.{EachAnswerIsRight}
+use Rattle.sysv_core.specs.World.{Started, Given, begun}
+use Rattle.sysv_core.specs.AnswerLaw.{Fate, IsMade, ended, standing}
+use Rattle.sysv_core.specs.WorkedRun.{send_hello, look_for, one_ends, the_calls, the_answers}
+use Rattle.sysv_core.specs.WorkedAnswers.{the_send, the_end, going_on, still_placing, look_fits, accepts, WorkedAnswers}
+
+its_play : Plays (begun the_send) (look_fits ∷ accepts 0 ∷ []) (Over Zero)
+its_play = steps (accepts 0) 0 (Over Zero) (steps look_fits 0 still_placing begins refl refl) refl refl
+
+no_answer : (state : State) → [] ≡ ended state → None ≡ standing state → ⊥
+no_answer (Goes phase) e f = cc
+no_answer (Waits wait) e f = cc
+no_answer (Over ending) e f = cc
+
+one_answer : (x : Ending) (state : State) → x ∷ [] ≡ ended state → state ≡ Over x
+one_answer x (Goes phase) e = absurd cc
+one_answer x (Waits wait) e = absurd cc
+one_answer x (Over ending) e = let same : ending ≡ x = cc in ap Over same
+
+two_answers : (x y : Ending) (state : State) → x ∷ y ∷ [] ≡ ended state → ⊥
+two_answers x y (Goes phase) e = cc
+two_answers x y (Waits wait) e = cc
+two_answers x y (Over ending) e = cc
+
+over_and_going : (x : Ending) (s state : State) → x ∷ [] ≡ ended state → Some s ≡ standing state → ⊥
+over_and_going x s (Goes phase) e f = cc
+over_and_going x s (Waits wait) e f = cc
+over_and_going x s (Over ending) e f = cc
+
+-- no call of the run is actor 3's
+none_of_three : (place : ℕ) → (call : Started) × Contains the_calls call × (Actor 3 place ≡ call.who) → ⊥
+none_of_three place (call, (zero, low, is), name) = let e = ap (λ (c : Started). c.who) is in cc
+none_of_three place (call, (suc zero, low, is), name) = let e = ap (λ (c : Started). c.who) is in cc
+none_of_three place (call, (suc (suc zero), low, is), name) = let e = ap (λ (c : Started). c.who) is in cc
+none_of_three place (call, (suc (suc (suc zero)), low, is), name) = let e = ap (λ (c : Started). c.who) is in cc
+none_of_three place (call, (suc (suc (suc (suc zero))), low, is), name) = let e = ap (λ (c : Started). c.who) is in cc
+none_of_three place (call, (suc (suc (suc (suc (suc zero)))), low, is), name) = let e = ap (λ (c : Started). c.who) is in cc
+none_of_three place (call, (suc (suc (suc (suc (suc (suc zero))))), low, is), name) = let e = ap (λ (c : Started). c.who) is in cc
+none_of_three place (call, (suc (suc (suc (suc (suc (suc (suc k)))))), low, is), name) = omega (arith, low)
+
+nobody : (deed : Deed) → ¬ IsMade the_calls (record { who = Actor 3 0; deed = deed })
+nobody deed (inl preset) = cc
+nobody deed (inr by) = none_of_three 0 by
+
+pub worked_answers : EachAnswerIsRight → WorkedAnswers
+worked_answers right = record {
+  plays = its_play;
+  admitted = record { state = Over Zero; plays = its_play; answered = refl; stands = refl };
+  full_sent = λ p. let r = right the_send.cred the_send.asked 0 _ _ p in let accepted = r.zero.0 refl in cc;
+  unanswered = λ f. no_answer f.state f.answered f.stands;
+  answered_wrongly = λ f.
+      let is = one_answer (Refused EAGAIN) f.state f.answered in
+      let p = subst (Plays (begun the_send) (deeds_of the_send.who the_end.turns)) is f.plays in
+      let r = right the_send.cred the_send.asked 0 _ _ p in
+      let full = (r.again.0 refl).1 in
+      cc;
+  answered_twice = λ f. two_answers Zero Zero f.state f.answered;
+  goes_on = λ f. over_and_going Zero still_placing f.state f.answered f.stands;
+  by_nobody = nobody;
+}

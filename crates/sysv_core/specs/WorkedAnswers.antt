@@ -1,0 +1,45 @@
+-- What the answer law admits and refuses, at the send of hello in the worked run: it started at step number
+-- 2, looked, placed its text and was answered zero.
+use Rattle.std.specs.Prelude.{ℕ, pos, List, [], ◌∷◌, ◌++◌, true, Some}
+use Rattle.sysv_model.specs.declared.errno.Errno.TheVariants.{EAGAIN}
+use Rattle.sysv_model.specs.History.{Who, Actor, Fits, Accepted, Full}
+use Rattle.sysv_model.specs.Turn.{Deed, AtSlot, Turn}
+use Rattle.sysv_steps.specs.State.{Phase, AtPlace, Ending, Zero, Refused, State, Goes, Over}
+use Rattle.sysv_steps.specs.Played.{Plays}
+use Rattle.sysv_core.specs.World.{World, Started, Given, opening, with_actor, begun}
+use Rattle.sysv_core.specs.AnswerLaw.{Fate, IsMade}
+use Rattle.sysv_core.specs.WorkedRun.{hello, send_hello, place_hello, look_for, one_calls, one_ends, the_calls, the_turns, the_answers, of_16}
+
+abbrev pub the_send : Started
+the_send = one_calls 2 send_hello
+
+-- the world after the run: every actor is idle
+abbrev pub the_end : World
+the_end = record { turns = the_turns; calls = the_calls; actors = (opening of_16).actors; steps = 15 }
+
+-- the same, but actor 1 is in that call still, where it stood after its look
+abbrev pub still_placing : State
+still_placing = Goes (AtPlace record { cred = the_send.cred; id = pos 0; mtype = pos 5; text = hello; nowait = true; released = 0; seen = true } 0)
+
+abbrev pub going_on : World
+going_on = record the_end { actors = with_actor (opening of_16).actors 1 (Some record { call = the_send; state = still_placing }) }
+
+abbrev pub look_fits : Deed
+look_fits = AtSlot 0 (look_for 5) Fits
+
+abbrev pub accepts : ℕ → Deed
+accepts number = AtSlot 0 place_hello (Accepted number)
+
+pub record WorkedAnswers : Type 0 where
+  -- the call plays its own turns to the answer that it was given
+  pub plays : Plays (begun the_send) (look_fits ∷ accepts 0 ∷ []) (Over Zero)
+  pub admitted : Fate the_end the_answers the_send
+  -- a full queue is not answered zero
+  pub full_sent : ¬ Plays (begun the_send) (AtSlot 0 (look_for 5) (Full 0) ∷ []) (Over Zero)
+  -- a call that was answered has one answer, that one, and its actor is not in it
+  pub unanswered : ¬ Fate the_end [] the_send
+  pub answered_wrongly : ¬ Fate the_end (one_ends 2 send_hello (Refused EAGAIN) ∷ []) the_send
+  pub answered_twice : ¬ Fate the_end (the_answers ++ one_ends 2 send_hello Zero ∷ []) the_send
+  pub goes_on : ¬ Fate going_on the_answers the_send
+  -- a turn of nobody's call
+  pub by_nobody : (deed : Deed) → ¬ IsMade the_calls (record { who = Actor 3 0; deed = deed })

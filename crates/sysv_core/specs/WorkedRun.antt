@@ -1,0 +1,201 @@
+-- The worked run: one run of a world of 16 actors from its opening, with each answer in its place.
+-- Actor 1 asks for a message where none is, sends one of type 5 with the text hello and one of type 2
+-- with no text; actor 2 then receives three times; at last actor 1 sends one of type 0, which is
+-- refused at its start. Every call has IPC_NOWAIT. It shows that the definitions of a world, its steps
+-- and its legal replies have a run, and which one.
+--
+-- Below it stand replies that are no legal ones at its turns, and the sums of two messages that fill
+-- a queue to the byte.
+use Rattle.std.specs.Prelude.{◌≡◌, ◌≢◌, ℕ, pos, List, [], ◌∷◌, ◌++◌, true, false, length, take, map, codes}
+use Rattle.sysv_model.specs.declared.cred.Cred.{Cred}
+use Rattle.sysv_model.specs.declared.errno.Errno.TheVariants.{EINVAL, ENOMSG}
+use Rattle.sysv_model.specs.declared.flags.Flags.{Flags}
+use Rattle.sysv_model.specs.declared.flags.TheConstants.Flags.{IPC_NOWAIT}
+use Rattle.sysv_model.specs.declared.selector.Selector.TheVariants.{Any}
+use Rattle.sysv_model.specs.Message.{Message}
+use Rattle.sysv_model.specs.History.{Actor, Call, Look, Place, Take, Reply, Installed, Gone, Full, Fits, Accepted, NoMatch, Taken, Entry, History}
+use Rattle.sysv_model.specs.Turn.{AtSlot, Turn}
+use Rattle.sysv_queue.specs.LegalReply.{IsLegalReply}
+use Rattle.sysv_steps.specs.Call.{SystemCall, Msgsnd, Msgrcv}
+use Rattle.sysv_steps.specs.SlotAt.{slot_at}
+use Rattle.sysv_steps.specs.State.{Ending, Zero, Got, Refused}
+use Rattle.sysv_steps.specs.Begin.{is_refused}
+use Rattle.sysv_core.specs.World.{World, Opening, Started, Given, Happening, Preset, Start, Step, opening, preset_call}
+use Rattle.sysv_core.specs.Run.{Leads}
+
+abbrev pub sender : Cred
+sender = record { uid = 1000; gid = 1000; pid = 101 }
+
+abbrev pub receiver : Cred
+receiver = record { uid = 1000; gid = 1000; pid = 102 }
+
+abbrev pub nowait : Flags
+nowait = IPC_NOWAIT
+
+abbrev pub hello : List ℕ
+hello = codes "hello"
+
+-- the calls
+abbrev pub receive_up_to_100 : SystemCall
+receive_up_to_100 = Msgrcv (pos 0) 100 (pos 0) nowait
+
+abbrev pub send_hello : SystemCall
+send_hello = Msgsnd (pos 0) (pos 5) nowait hello
+
+abbrev pub send_nothing : SystemCall
+send_nothing = Msgsnd (pos 0) (pos 2) nowait []
+
+abbrev pub send_typeless : SystemCall
+send_typeless = Msgsnd (pos 0) (pos 0) nowait hello
+
+-- what happens: each call is its start and its steps, a receive one and a send two
+abbrev pub one_starts : SystemCall → Happening
+one_starts call = Start 1 sender call
+
+abbrev pub two_starts : SystemCall → Happening
+two_starts call = Start 2 receiver call
+
+abbrev pub steps : ℕ → Happening
+steps actor = Step actor 0
+
+abbrev pub the_happenings : List Happening
+the_happenings =
+    Preset
+    ∷ one_starts receive_up_to_100 ∷ steps 1
+    ∷ one_starts send_hello ∷ steps 1 ∷ steps 1
+    ∷ one_starts send_nothing ∷ steps 1 ∷ steps 1
+    ∷ two_starts receive_up_to_100 ∷ steps 2
+    ∷ two_starts receive_up_to_100 ∷ steps 2
+    ∷ two_starts receive_up_to_100 ∷ steps 2
+    ∷ one_starts send_typeless ∷ []
+
+-- the calls, each with the step number at which it was started
+abbrev pub one_calls : (start : ℕ) → SystemCall → Started
+one_calls start call = record { who = Actor 1 start; cred = sender; asked = call; released = 0 }
+
+abbrev pub two_calls : (start : ℕ) → SystemCall → Started
+two_calls start call = record { who = Actor 2 start; cred = receiver; asked = call; released = 0 }
+
+abbrev pub the_calls : List Started
+the_calls =
+    one_calls 0 receive_up_to_100
+    ∷ one_calls 2 send_hello
+    ∷ one_calls 5 send_nothing
+    ∷ two_calls 8 receive_up_to_100
+    ∷ two_calls 10 receive_up_to_100
+    ∷ two_calls 12 receive_up_to_100
+    ∷ one_calls 14 send_typeless ∷ []
+
+-- how they end, in order
+abbrev pub one_ends : (start : ℕ) → SystemCall → Ending → Given
+one_ends start call ending = record { call = one_calls start call; ending = ending }
+
+abbrev pub two_ends : (start : ℕ) → SystemCall → Ending → Given
+two_ends start call ending = record { call = two_calls start call; ending = ending }
+
+abbrev pub the_answers : List Given
+the_answers =
+    one_ends 0 receive_up_to_100 (Refused ENOMSG)
+    ∷ one_ends 2 send_hello Zero
+    ∷ one_ends 5 send_nothing Zero
+    ∷ two_ends 8 receive_up_to_100 (Got (pos 5) hello)
+    ∷ two_ends 10 receive_up_to_100 (Got (pos 2) [])
+    ∷ two_ends 12 receive_up_to_100 (Refused ENOMSG)
+    ∷ one_ends 14 send_typeless (Refused EINVAL) ∷ []
+
+-- the two messages, and the turns at the slot with their replies
+abbrev pub hello_message : Message
+hello_message = record { number = 0; sender = 101; mtype = pos 5; bytes = hello }
+
+abbrev pub empty_message : Message
+empty_message = record { number = 1; sender = 101; mtype = pos 2; bytes = [] }
+
+abbrev pub turn_of : (actor start : ℕ) → Call → Reply → Entry
+turn_of actor start call reply = record { who = Actor actor start; call = call; reply = reply }
+
+abbrev pub take_by : Cred → Call
+take_by cred = Take (pos 0) cred Any 100 false 0
+
+abbrev pub look_for : ℕ → Call
+look_for size = Look (pos 0) sender size
+
+abbrev pub place_hello : Call
+place_hello = Place (pos 0) sender (pos 5) hello 0
+
+abbrev pub place_nothing : Call
+place_nothing = Place (pos 0) sender (pos 2) [] 0
+
+abbrev pub the_entries : History
+the_entries =
+    turn_of 0 0 preset_call (Installed true)
+    ∷ turn_of 1 0 (take_by sender) (NoMatch 0)
+    ∷ turn_of 1 2 (look_for 5) Fits
+    ∷ turn_of 1 2 place_hello (Accepted 0)
+    ∷ turn_of 1 5 (look_for 0) Fits
+    ∷ turn_of 1 5 place_nothing (Accepted 1)
+    ∷ turn_of 2 8 (take_by receiver) (Taken hello_message)
+    ∷ turn_of 2 10 (take_by receiver) (Taken empty_message)
+    ∷ turn_of 2 12 (take_by receiver) (NoMatch 2) ∷ []
+
+abbrev pub the_turns : List Turn
+the_turns = map (λ (e : Entry). record { who = e.who; deed = AtSlot (slot_at (pos 0)) e.call e.reply }) the_entries
+
+-- a world of 16 actors
+abbrev pub of_16 : Opening
+of_16 = record { actors = 16; blocks = 128; first = 0; generation = 0 }
+
+-- The happenings lead from the opening world, by these calls and turns, and give these answers.
+abbrev pub WorkedRun : Type 0
+WorkedRun = (w : World) × Leads (opening of_16) the_happenings the_answers w × (w.calls ≡ the_calls) × (w.turns ≡ the_turns)
+
+-- the slot's history after that many turns of the run
+abbrev pub after_turns : ℕ → History
+after_turns count = take count the_entries
+
+-- the replies that each turn of the run may not have, by the turn before which they would come
+pub record NoWrongReply : Type 0 where
+  -- the identifier is live from the preset on: no call is told that it is gone
+  pub first_take_gone : ¬ IsLegalReply (after_turns 1) (take_by sender) Gone
+  pub look_gone : ¬ IsLegalReply (after_turns 2) (look_for 5) Gone
+  pub place_gone : ¬ IsLegalReply (after_turns 3) place_hello Gone
+  pub take_gone : ¬ IsLegalReply (after_turns 6) (take_by receiver) Gone
+  -- before anything was sent no message is taken, and there is room
+  pub taken_early : (m : Message) → ¬ IsLegalReply (after_turns 1) (take_by sender) (Taken m)
+  pub look_full : (freed : ℕ) → ¬ IsLegalReply (after_turns 2) (look_for 5) (Full freed)
+  pub place_full : (freed : ℕ) → ¬ IsLegalReply (after_turns 3) place_hello (Full freed)
+  -- an accepted message has the number of those accepted before it, and no other
+  pub place_numbered : (number : ℕ) → number ≢ 1 → ¬ IsLegalReply (after_turns 5) place_nothing (Accepted number)
+  -- the first receive after the sends finds a message, and it is the first one, as it was sent
+  pub take_none : (arrived : ℕ) → ¬ IsLegalReply (after_turns 6) (take_by receiver) (NoMatch arrived)
+  pub take_another : (m : Message) → m ≢ hello_message → ¬ IsLegalReply (after_turns 6) (take_by receiver) (Taken m)
+  -- the second gives the other one, the third none
+  pub take_again : ¬ IsLegalReply (after_turns 7) (take_by receiver) (Taken hello_message)
+  pub take_third : (m : Message) → ¬ IsLegalReply (after_turns 8) (take_by receiver) (Taken m)
+
+-- A text of 8,192 bytes is sent, and one of a byte more is refused. Two such texts fill the queue's
+-- 16,384 bytes to the byte: after the first the second fits, and after both one byte more does not,
+-- while a message of no bytes still does.
+abbrev pub send_of : List ℕ → Call
+send_of text = Place (pos 0) sender (pos 1) text 0
+
+abbrev pub start_of : List ℕ → SystemCall
+start_of text = Msgsnd (pos 0) (pos 1) nowait text
+
+abbrev pub with_first : List ℕ → History
+with_first first = after_turns 1 ++ turn_of 1 0 (send_of first) (Accepted 0) ∷ []
+
+abbrev pub with_both : List ℕ → List ℕ → History
+with_both first second = with_first first ++ turn_of 1 3 (send_of second) (Accepted 1) ∷ []
+
+pub record FillsExactly (first second : List ℕ) : Type 0 where
+  pub starts : is_refused (start_of first) ≡ false
+  pub longer_is_refused : (text : List ℕ) → length text ≡ 8193 → is_refused (start_of text) ≡ true
+  pub first_fits : IsLegalReply (after_turns 1) (send_of first) (Accepted 0)
+  pub second_looks : IsLegalReply (with_first first) (look_for 8192) Fits
+  pub second_fits : IsLegalReply (with_first first) (send_of second) (Accepted 1)
+  pub byte_is_too_much : (text : List ℕ) → length text ≡ 1 → IsLegalReply (with_both first second) (send_of text) (Full 0)
+  pub byte_is_not_placed : (text : List ℕ) (number : ℕ) → length text ≡ 1 → ¬ IsLegalReply (with_both first second) (send_of text) (Accepted number)
+  pub nothing_fits : IsLegalReply (with_both first second) (send_of []) (Accepted 2)
+
+abbrev pub ExactFit : Type 0
+ExactFit = (first second : List ℕ) → length first ≡ 8192 → length second ≡ 8192 → FillsExactly first second
