@@ -8,3 +8,5 @@ pub mod laws;
 pub mod receive;
 pub mod send;
 pub mod state;
+#[cfg(test)]
+mod tests;

@@ -35,14 +35,7 @@ impl Sending {
     /// The start of a send of `size` bytes, where the released count is `released`. It is refused with
     /// EINVAL where the type is below 1, the size above 8,192 or the identifier negative
     /// (POSIX.1-2017, `msgsnd`, ERRORS), and else goes to its look.
-    pub fn begin(
-        cred: Cred,
-        id: i32,
-        mtype: i64,
-        flags: Flags,
-        size: usize,
-        released: u64,
-    ) -> State
+    pub fn begin(cred: Cred, id: i32, mtype: i64, flags: Flags, size: usize, released: u64) -> State
         ensures { (text : List ℕ) → length text ≡ size → begins cred (Msgsnd id mtype flags text) released ≡ state_of result text }
     {
         if mtype < 1 || size > MESSAGE_BYTES || id < 0 {
