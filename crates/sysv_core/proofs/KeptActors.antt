@@ -51,8 +51,9 @@ module _ (items : List (Option Doing)) (states : List (Option State)) (view : st
   pub still_within : (x : Option Doing) → place < length (states_kept (slice_set items place x))
   still_within x = omega (arith, length-map (slice_set items place x) state_kept, length-set items place x, inside)
 
-pub same_seen : (a b : Slot) (s t : List (Option State)) (m n : ℕ) → a ≡ b → s ≡ t → m ≡ n → let x : Seen = record { slot = a; states = s; steps = m } in let y : Seen = record { slot = b; states = t; steps = n } in x ≡ y
-same_seen a b s t m n e f g = cc
+pub same_seen : (a b : Slot) (s t : List (Option State)) (m n k l : ℕ) → a ≡ b → s ≡ t → m ≡ n → k ≡ l →
+    let x : Seen = record { slot = a; states = s; steps = m; blocks = k } in let y : Seen = record { slot = b; states = t; steps = n; blocks = l } in x ≡ y
+same_seen a b s t m n k l e f g h = cc
 
 one_more : (b : Bool) → cond b 1 0 ≤ 1
 one_more true = omega arith

@@ -99,7 +99,7 @@ OthersStay who turns more = (other : Who) → is_same other who ≡ false → de
 module _ (w : World) (given : List Given) (turns : List Turn) (calls : List Started) (place : ℕ) (was : Option Doing) (call : Started) (state : State)
     (there : slice_get w.actors place ≡ Some was) (within : IsIn call.who was) (stay : OthersStay call.who w.turns turns) where
   abbrev moved : World
-  moved = record { turns = turns; calls = calls; actors = slice_set w.actors place (doing_in call state); steps = w.steps + 1 }
+  moved = record { turns = turns; calls = calls; actors = slice_set w.actors place (doing_in call state); steps = w.steps + 1; blocks = w.blocks }
 
   other_fate : (c : Started) → is_same c.who call.who ≡ false → Fate w given c → Fate moved (given ++ given_in call state) c
   other_fate c apart f = record {
@@ -178,7 +178,7 @@ module _ (w : World) (given : List Given) (i : Inv w given) (place : ℕ) (d : D
       record { plays = subst (Plays (begun d.call) (deeds_of d.call.who w.turns)) s.0 f.plays; quiet = f.answered ∙ s.1 }
 
   goes_on : (turns : List Turn) (state : State) → AreLegal turns → OthersStay d.call.who w.turns turns → Stands turns given d.call state → All (IsMade w.calls) turns →
-      Inv (record { turns = turns; calls = w.calls; actors = slice_set w.actors place (doing_in d.call state); steps = w.steps + 1 }) (given ++ given_in d.call state)
+      Inv (record { turns = turns; calls = w.calls; actors = slice_set w.actors place (doing_in d.call state); steps = w.steps + 1; blocks = w.blocks }) (given ++ given_in d.call state)
   goes_on turns state legal stay s made = record {
     legal = legal;
     fates = λ c has. elim (same_or_not c.who d.call.who (is_same c.who d.call.who) refl) [
@@ -235,7 +235,7 @@ module _ (w : World) (given : List Given) (i : Inv w given) (place : ℕ) (there
     quiet = no_endings call.who given (λ g has. not_same call.who g.call.who (λ e. is_new g.call (All-contains (λ (x : Given). Contains w.calls x.call) given g i.known has) (sym e)));
   }
 
-  starts : Inv (record { turns = w.turns; calls = w.calls ++ call ∷ []; actors = slice_set w.actors place (doing_in call (begun call)); steps = w.steps + 1 }) (given ++ given_in call (begun call))
+  starts : Inv (record { turns = w.turns; calls = w.calls ++ call ∷ []; actors = slice_set w.actors place (doing_in call (begun call)); steps = w.steps + 1; blocks = w.blocks }) (given ++ given_in call (begun call))
   starts =
       let calls = w.calls ++ call ∷ [] in
       let stay : OthersStay call.who w.turns w.turns = λ other apart. refl in

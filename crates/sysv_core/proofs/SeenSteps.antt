@@ -229,6 +229,7 @@ module _ (w : World) (seen : Seen) (s : IsSeenAs w seen) where
           there = there_still w.actors n None started state idle s.there there_now refl;
           no_pool = s.no_pool;
           steps = ap (λ k. k + 1) s.steps;
+          blocks = s.blocks;
         },
       )
 
@@ -254,7 +255,7 @@ module _ (w : World) (seen : Seen) (s : IsSeenAs w seen) where
 
   step_doing : (n place now : ℕ) (p : Phase) (l : Led) (slot : Slot) → w.steps < WORN → n ≡ place → (d : Doing) → slice_get w.actors n ≡ Some (Some d) → d.state ≡ Goes p → IsThere d.call.asked (Goes p) →
       IsToCaller d.call.who (suc n) → TurnLeads seen.slot p now l slot →
-      (after : World) × Steps w (Step (suc n) now) (told_by (suc n) l) after × IsSeenAs after (record { slot = slot; states = slice_set seen.states place (kept_led l); steps = seen.steps + 1 })
+      (after : World) × Steps w (Step (suc n) now) (told_by (suc n) l) after × IsSeenAs after (record { slot = slot; states = slice_set seen.states place (kept_led l); steps = seen.steps + 1; blocks = seen.blocks })
   step_doing n place now p l slot young same d busy is at_step own turn =
       let deed : Deed = AtSlot (slot_at (pos 0)) turn.call turn.reply in
       let to : LeadsTo (receives d.call.asked) turn.state l = subst (λ b. LeadsTo b turn.state l) (kind d.call.asked p at_step) turn.leads in
@@ -273,11 +274,12 @@ module _ (w : World) (seen : Seen) (s : IsSeenAs w seen) where
           there = there_still w.actors n (Some d) d.call turn.state busy s.there (there_next d.call.asked p deed turn.state at_step turn.goes) own;
           no_pool = no_pool_still d.call.who (slot_at (pos 0)) turn.call turn.reply;
           steps = ap (λ k. k + 1) s.steps;
+          blocks = s.blocks;
         },
       )
 
   step_here : (n place now : ℕ) (p : Phase) (l : Led) (slot : Slot) → seen.steps < WORN → n ≡ place → slice_get seen.states place ≡ Some (Some (Goes p)) → TurnLeads seen.slot p now l slot →
-      (after : World) × Steps w (Step (suc n) now) (told_by (suc n) l) after × IsSeenAs after (record { slot = slot; states = slice_set seen.states place (kept_led l); steps = seen.steps + 1 })
+      (after : World) × Steps w (Step (suc n) now) (told_by (suc n) l) after × IsSeenAs after (record { slot = slot; states = slice_set seen.states place (kept_led l); steps = seen.steps + 1; blocks = seen.blocks })
   step_here n place now p l slot h same there turn =
       let young = young_too h in
       let found = busy_at place (Goes p) there in
@@ -286,7 +288,7 @@ module _ (w : World) (seen : Seen) (s : IsSeenAs w seen) where
       step_doing n place now p l slot young same found.0 busy found.2 (subst (IsThere found.0.call.asked) found.2 is.0) is.1 turn
 
   pub step_busy : (actor place now : ℕ) (p : Phase) (l : Led) (slot : Slot) → seen.steps < WORN → actor ≡ place + 1 → slice_get seen.states place ≡ Some (Some (Goes p)) → TurnLeads seen.slot p now l slot →
-      (after : World) × Steps w (Step actor now) (told_by actor l) after × IsSeenAs after (record { slot = slot; states = slice_set seen.states place (kept_led l); steps = seen.steps + 1 })
+      (after : World) × Steps w (Step actor now) (told_by actor l) after × IsSeenAs after (record { slot = slot; states = slice_set seen.states place (kept_led l); steps = seen.steps + 1; blocks = seen.blocks })
   step_busy zero place now p l slot h e there turn = absurd (omega arith)
   step_busy (suc n) place now p l slot h e there turn = step_here n place now p l slot h (omega arith) there turn
 
@@ -303,10 +305,10 @@ presets w seen s slot true turn same =
     (
       with_turn w who (AtSlot (slot_at (pos 0)) preset_call (Installed true)),
       inl (ap (λ (x : Slot). x.live) s.slot.seen ∙ turn.legal, refl, refl),
-      record { slot = more_slot w seen s who preset_call (Installed true) slot turn; states = s.states; there = s.there; no_pool = no_pool_still w seen s who (slot_at (pos 0)) preset_call (Installed true); steps = s.steps },
+      record { slot = more_slot w seen s who preset_call (Installed true) slot turn; states = s.states; there = s.there; no_pool = no_pool_still w seen s who (slot_at (pos 0)) preset_call (Installed true); steps = s.steps; blocks = s.blocks },
     )
 presets w seen s slot false turn same = (
   w,
   inr (λ vacant. taken_not_vacant seen.slot.live turn.legal (sym (ap (λ (x : Slot). x.live) s.slot.seen) ∙ vacant), refl, refl),
-  record { slot = subst (SlotStandsFor (slot_history (slot_at (pos 0)) w.turns)) (sym (same refl)) s.slot; states = s.states; there = s.there; no_pool = s.no_pool; steps = s.steps },
+  record { slot = subst (SlotStandsFor (slot_history (slot_at (pos 0)) w.turns)) (sym (same refl)) s.slot; states = s.states; there = s.there; no_pool = s.no_pool; steps = s.steps; blocks = s.blocks },
 )

@@ -66,7 +66,7 @@ after_calls count = take count the_calls
 
 -- after that many turns, calls and counted events, where no actor is in a call, and where one is
 abbrev pub idle_at : (turns calls count : ℕ) → World
-idle_at turns calls count = record { turns = take turns the_turns; calls = after_calls calls; actors = replicate 16 None; steps = count }
+idle_at turns calls count = record { turns = take turns the_turns; calls = after_calls calls; actors = replicate 16 None; steps = count; blocks = 128 }
 
 abbrev pub calling_at : (turns calls count actor : ℕ) → Started → Phase → World
 calling_at turns calls count actor call phase = record {
@@ -74,6 +74,7 @@ calling_at turns calls count actor call phase = record {
   calls = after_calls calls;
   actors = with_actor (replicate 16 None) actor (Some record { call = call; state = Goes phase });
   steps = count;
+  blocks = 128;
 }
 
 abbrev look_of : List ℕ → ℤ → Phase

@@ -59,6 +59,7 @@ pub record Seen : Type 0 where
   pub slot : Slot
   pub states : List (Option State)
   pub steps : ℕ
+  pub blocks : ℕ
 
 -- where the call under way stands
 abbrev pub state_in : Option Doing → Option State
@@ -88,6 +89,7 @@ pub record IsSeenAs (w : World) (seen : Seen) : Type 0 where
   -- no turn was made at the pool
   pub no_pool : pool_history w.turns ≡ []
   pub steps : w.steps ≡ seen.steps
+  pub blocks : w.blocks ≡ seen.blocks
 
 -- what a preset, and an event, makes of each world as which the code's world is seen
 abbrev pub PresetsSeen : Seen → Bool → Seen → Type 0
@@ -101,3 +103,7 @@ pub record StandsFor (o : Opening) (list : List Happening) (given : List Given) 
   pub world : World
   pub led : Leads (opening o) list given world
   pub sight : IsSeenAs world seen
+
+-- the number is that of the blocks with which each opening that the world stands for was made
+abbrev pub IsOpenedWith : Seen → ℕ → Type 0
+IsOpenedWith seen blocks = (o : Opening) (list : List Happening) (given : List Given) → StandsFor o list given seen → blocks ≡ o.blocks

@@ -15,7 +15,7 @@ the_send = one_calls 2 send_hello
 
 -- the world after the run: every actor is idle
 abbrev pub the_end : World
-the_end = record { turns = the_turns; calls = the_calls; actors = (opening of_16).actors; steps = 15 }
+the_end = record { turns = the_turns; calls = the_calls; actors = (opening of_16).actors; steps = 15; blocks = 128 }
 
 -- the same, but actor 1 is in that call still, where it stood after its look
 abbrev pub still_placing : State

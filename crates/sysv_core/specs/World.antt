@@ -46,10 +46,11 @@ pub record World : Type 0 where
   pub calls : List Started  -- all that were started, in order
   pub actors : List (Option Doing)  -- none where the actor is idle
   pub steps : ℕ
+  pub blocks : ℕ  -- those that it was opened with; there is no pool yet
 
 -- the world in which nothing has happened
 abbrev pub opening : Opening → World
-opening o = record { turns = []; calls = []; actors = replicate o.actors None; steps = o.first }
+opening o = record { turns = []; calls = []; actors = replicate o.actors None; steps = o.first; blocks = o.blocks }
 
 -- a call that is over, and how it ended
 pub record Given : Type 0 where

@@ -1,7 +1,7 @@
 ghost use Rattle.std.specs.Prelude.{ℕ, List, false, IsTrue, ◌≡◌, ◌≢◌, ◌+◌, ◌^◌, ◌<◌, ◌≤◌, ◌⊎◌, ◌↔◌, ◌++◌, ◌∷◌, [], length, IfOk, IfErr, MatchResult, Err, MatchOption, Some, None, slice_set, slice_get, replicate};
 ghost use Rattle.sysv_model.specs.declared.limits.TheConstants.{ACTORS_MOST as most_actors, BLOCKS_LEAST as least_blocks, BLOCKS_MOST as most_blocks, WORN as worn};
 ghost use Rattle.sysv_core.specs.Headline.{StandsWithPreset, StandsWithEvent, StandsWithEvents, LawsHold};
-ghost use Rattle.sysv_core.specs.Seen.{StandsFor, PresetsSeen, StepsSeen};
+ghost use Rattle.sysv_core.specs.Seen.{StandsFor, PresetsSeen, StepsSeen, IsOpenedWith};
 ghost use Rattle.sysv_core.specs.Kept.{kept_led, told_by};
 ghost use Rattle.sysv_core.specs.declared.event.Event.TheVariants.{Start, Step};
 
@@ -35,12 +35,13 @@ const PRESET: Cred = Cred {
 
 const PRESET_MODE: u32 = 0o600;
 
-/// One queue slot and its actors, which make their calls step by step. Actors count from 1.
-#[derive(Drop)]
+/// One queue slot and its actors, which make their calls step by step. Actors count from 1. A world can't be
+/// dropped: it ends by `end`.
 pub struct World {
     slot: QueueSlot,
     actors: Vec<Option<Doing>>,
     steps: u64,
+    blocks: u32,
 }
 
 impl Model for World {
@@ -53,7 +54,7 @@ impl Model for World {
     ghost use Rattle.sysv_model.specs.History.{History};
     ghost use Rattle.sysv_queue.specs.StandsFor.{StandsFor};
 
-    ghost view = { λ w. record { slot = w.slot; states = states_kept w.actors.items; steps = w.steps } };
+    ghost view = { λ w. record { slot = w.slot; states = states_kept w.actors.items; steps = w.steps; blocks = w.blocks } };
 
     // The step number bounds the slot's counts.
     ghost invariant = { λ w. (w.steps ≤ 2 ^ 62) × (w.slot.arrived ≤ w.steps) × (w.slot.freed ≤ w.steps) × ((h : History) × StandsFor h w.slot) };
@@ -78,6 +79,7 @@ impl World {
             slot,
             actors,
             steps: 0,
+            blocks,
         })
     }
 
@@ -140,6 +142,20 @@ impl World {
             }
         }
         Ok(answers)
+    }
+
+    /// Ends the world, with all that it holds, and answers the blocks that it was opened with. It takes no
+    /// memory.
+    pub fn end(self) -> u32
+        ensures { IsOpenedWith self result }
+    {
+        let World {
+            slot: _slot,
+            actors: _actors,
+            steps: _steps,
+            blocks: opened,
+        } = self;
+        opened
     }
 
     /// Starts a call of an idle actor.

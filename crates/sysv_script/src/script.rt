@@ -73,6 +73,7 @@ pub fn run_script<R: Read, W: Write>(
         return Err(ScriptFault::NoMemory);
     };
     let run = run_lines(alloc, &mut stage, &mut input, &mut output, reader, writer);
+    stage.end();
     output.hand_out(writer)?;
     run
 }

@@ -27,7 +27,6 @@ const STEPS_MOST: u32 = 16;
 const MOMENT: u64 = 0;
 
 /// The world of a script, its actors' credentials, and a body for the next receive.
-#[derive(Drop)]
 pub(crate) struct Stage {
     world: World,
     /// The credentials of actor A stand at place A - 1.
@@ -40,13 +39,23 @@ impl Stage {
     pub(crate) fn open(alloc: Global) -> Result<Stage, NoMemory>
         ensures { IfOk result (λ stage. IsSceneOf opening_scene stage) }
     {
-        let world = World::open(alloc, SCRIPT_ACTORS, SCRIPT_BLOCKS).map_err(|_| NoMemory)?;
         let spare = Some(Body::open(alloc)?);
+        let world = World::open(alloc, SCRIPT_ACTORS, SCRIPT_BLOCKS).map_err(|_| NoMemory)?;
         Ok(Stage {
             world,
             creds: first_creds(),
             spare,
         })
+    }
+
+    /// Ends the script's world.
+    pub(crate) fn end(self) {
+        let Stage {
+            world,
+            creds: _creds,
+            spare: _spare,
+        } = self;
+        let _blocks = world.end();
     }
 
     /// Does what a line says, and composes its answer. `false` for a `preset` that comes too late.

@@ -145,6 +145,7 @@ fn a_send_and_a_receive_run_between_look_and_place(rt: HostRuntime) {
     let got = Outcome::Got { mtype: 5, len: 5 };
     assert_receives(&rt, alloc, &mut world, (2, got, Some(b"hello")));
     assert_receives(&rt, alloc, &mut world, (2, no_message, Some(b"")));
+    assert_eq!(rt; world.end(), 128);
 }
 
 #[test]
@@ -159,6 +160,7 @@ fn a_place_finds_that_the_room_is_gone(rt: HostRuntime) {
     let full = Outcome::Refused(Errno::EAGAIN);
     assert_answer(&rt, world.step(step(1)), (1, full, None));
     assert_sends(&rt, alloc, &mut world, 2, b"");
+    assert_eq!(rt; world.end(), 128);
 }
 
 #[test]
@@ -192,6 +194,7 @@ fn a_receive_takes_what_it_names(rt: HostRuntime) {
     let call = receive_of(&rt, alloc, 9, 0, Flags::MSG_EXCEPT);
     let invalid = Outcome::Refused(Errno::EINVAL);
     assert_answer(&rt, world.step(start(2, call)), (2, invalid, Some(b"")));
+    assert_eq!(rt; world.end(), 128);
 }
 
 #[test]
@@ -221,6 +224,7 @@ fn a_stranger_is_denied(rt: HostRuntime) {
     assert_answer(&rt, world.step(step(2)), (2, denied, None));
     let none = Outcome::Refused(Errno::ENOMSG);
     assert_receives(&rt, alloc, &mut world, (1, none, Some(b"")));
+    assert_eq!(rt; world.end(), 128);
 }
 
 #[test]
@@ -243,17 +247,22 @@ fn what_is_not_possible_gives_nothing(rt: HostRuntime) {
     assert_receives(&rt, alloc, &mut world, (2, got, Some(b"kept")));
     let no_message = Outcome::Refused(Errno::ENOMSG);
     assert_receives(&rt, alloc, &mut world, (2, no_message, Some(b"")));
+    assert_eq!(rt; world.end(), 128);
 }
 
 #[test]
 fn a_size_out_of_range_opens_no_world(rt: HostRuntime) {
     for (actors, blocks) in [(0, 128), (1025, 128), (1, 127), (1, 65_537)] {
-        let why = World::open(rt.alloc(), actors, blocks).err();
-        assert_eq!(rt; why, Some(OpenRefused::BadSize), "{actors} {blocks}");
+        match World::open(rt.alloc(), actors, blocks) {
+            Ok(_) => panic!(rt; "a world of {actors} actors and {blocks} blocks"),
+            Err(why) => assert_eq!(rt; why, OpenRefused::BadSize, "{actors} {blocks}"),
+        }
     }
     for (actors, blocks) in [(1, 128), (1024, 65_536)] {
-        let why = World::open(rt.alloc(), actors, blocks).err();
-        assert_ne!(rt; why, Some(OpenRefused::BadSize), "{actors} {blocks}");
+        match World::open(rt.alloc(), actors, blocks) {
+            Ok(world) => assert_eq!(rt; world.end(), blocks),
+            Err(why) => assert_eq!(rt; why, OpenRefused::NoMemory, "{actors} {blocks}"),
+        }
     }
 }
 
@@ -307,4 +316,5 @@ fn six_calls_have_six_answers(rt: HostRuntime) {
     for (answer, want) in answers.iter().zip(wants) {
         assert_is(&rt, answer, want);
     }
+    assert_eq!(rt; world.end(), 128);
 }

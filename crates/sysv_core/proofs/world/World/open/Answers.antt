@@ -20,5 +20,6 @@ returns-clause-opened c =
         there = λ place d e. absurd (none_busy c.args.actors place d e);
         no_pool = refl;
         steps = refl;
+        blocks = refl;
       };
     }

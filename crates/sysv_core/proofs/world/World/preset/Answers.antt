@@ -18,7 +18,7 @@ returns-clause-single c = λ w s.
     let made = presets w c.args.self.now s c.install.new.self c.install.result
     (subst (λ slot. MakesTurn slot preset_call (Installed c.install.result) c.install.new.self) (ap (λ (v : Seen). v.slot) c.self.view_is) c.install.ensures.turn)
     (λ e. c.install.ensures.refused e ∙ ap (λ (v : Seen). v.slot) c.self.view_is) in
-    rw (ap (λ (v : Seen). v.states) c.self.view_is, ap (λ (v : Seen). v.steps) c.self.view_is) made
+    rw (ap (λ (v : Seen). v.states) c.self.view_is, ap (λ (v : Seen). v.steps) c.self.view_is, ap (λ (v : Seen). v.blocks) c.self.view_is) made
 
 pub returns-clause-stands : goal.returns-clause-stands
 returns-clause-stands c = λ o es given s. stands_preset o es given c.args.self.now _ c.install.result s (returns-clause-single c)

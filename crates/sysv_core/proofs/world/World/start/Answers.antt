@@ -19,4 +19,4 @@ returns-clause-single c = λ w s.
     let idle = kept_none x (sym c.is_some.ensures ∙ c.if-is_some.false) in
     let there = seen_at c.self.inside.actors.items c.args.self.now.states view c.in-Some.place c.in-Some.ensures.1 x c.index.ensures ∙ ap Some idle in
     let begins = start_idle w c.args.self.now s c.args.actor c.in-Some.place c.args.cred c.args.call c.begin.result (search rules) c.in-Some.ensures.0 there c.begin.ensures in
-    rw (c.settle.ensures.told, c.settle.ensures.kept, view, ap (λ (v : Seen). v.slot) c.self.view_is, ap (λ (v : Seen). v.steps) c.self.view_is) begins
+    rw (c.settle.ensures.told, c.settle.ensures.kept, view, ap (λ (v : Seen). v.slot) c.self.view_is, ap (λ (v : Seen). v.steps) c.self.view_is, ap (λ (v : Seen). v.blocks) c.self.view_is) begins

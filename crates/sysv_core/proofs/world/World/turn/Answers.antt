@@ -15,7 +15,7 @@ returns-in_default-take-clause-single c = λ w s.
     let there = seen_at c.self.inside.actors.items c.args.self.now.states view c.in-Some.place c.in-Some.ensures.1 x c.index_mut.ensures.value ∙ ap Some idle in
     let states = seen_same c.self.inside.actors.items c.args.self.now.states view c.in-Some.place c.in-Some.ensures.1 c.take.new.self None (ap state_kept c.take.ensures.after) there in
     let stays = step_idle w c.args.self.now s c.args.actor c.in-Some.place c.args.now (search rules) c.in-Some.ensures.0 there in
-    rw (states, ap (λ (v : Seen). v.slot) c.self.view_is, ap (λ (v : Seen). v.steps) c.self.view_is) stays
+    rw (states, ap (λ (v : Seen). v.slot) c.self.view_is, ap (λ (v : Seen). v.steps) c.self.view_is, ap (λ (v : Seen). v.blocks) c.self.view_is) stays
 
 pub invariant_of-self-2 : goal.invariant_of-self-2
 invariant_of-self-2 c =
@@ -39,4 +39,4 @@ returns-clause-single c = λ w s.
     let turn = subst (λ slot. TurnLeads slot (phase_of d.phase d.body) c.args.now c.advance-led.result c.advance-led.new.slot) (ap (λ (v : Seen). v.slot) c.self.view_is) c.advance-led.ensures in
     let goes = step_busy w c.args.self.now s c.args.actor c.in-Some.place c.args.now (phase_of d.phase d.body) c.advance-led.result c.advance-led.new.slot (search rules) c.in-Some.ensures.0 there turn in
     let over = seen_over c.self.inside.actors.items c.args.self.now.states view c.in-Some.place c.in-Some.ensures.1 c.take.new.self (kept_led c.advance-led.result) in
-    rw (c.settle.ensures.told, c.settle.ensures.kept, over, ap (λ (v : Seen). v.steps) c.self.view_is) goes
+    rw (c.settle.ensures.told, c.settle.ensures.kept, over, ap (λ (v : Seen). v.steps) c.self.view_is, ap (λ (v : Seen). v.blocks) c.self.view_is) goes
