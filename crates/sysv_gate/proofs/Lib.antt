@@ -1,0 +1,7 @@
+pub mod Sums
+pub mod Counting
+pub mod Histories
+pub mod Keeping
+pub mod Stepping
+pub mod Opening
+pub mod Turning

@@ -1,0 +1,18 @@
+//! A gate round an object, after Reed and Kanodia's mutual exclusion by a sequencer and an eventcount: threads call the
+//! object one turn at a time, in the order of their tickets, and all turns make one history.
+#![tactic(auto)]
+
+mod closing;
+mod gate;
+mod object;
+mod place;
+mod refusals;
+mod rule;
+mod seat;
+mod view;
+
+pub use closing::Closing;
+pub use gate::Gate;
+pub use object::Object;
+pub use refusals::{OpenRefused, TryRefused, Worn};
+pub use seat::Seat;
