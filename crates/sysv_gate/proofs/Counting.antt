@@ -59,3 +59,13 @@ marked_by false n d was le now = grind (arith, nat_tests)
 pub not_true : (b : Bool) → ¬ (b ≡ true) → b ≡ false
 not_true true h = absurd (h refl)
 not_true false h = refl
+
+-- a number below 2^62 makes no mark
+pub low_mark : (b : Bool) (n : ℕ) → n < 2 ^ 62 → (b || nat_le (2 ^ 62) n) ≡ b
+low_mark true n low = refl
+low_mark false n low = grind (arith, nat_tests)
+
+-- a number from 2^62 on does
+pub high_mark : (b : Bool) (n : ℕ) → 2 ^ 62 ≤ n → (b || nat_le (2 ^ 62) n) ≡ true
+high_mark true n high = refl
+high_mark false n high = grind (arith, nat_tests)

@@ -5,3 +5,4 @@ pub mod Keeping
 pub mod Stepping
 pub mod Opening
 pub mod Turning
+pub mod AtTheEnd

@@ -1,5 +1,5 @@
 -- What a seat learns from step to step of a call.
-use Rattle.std.proofs.Common.{◌≡◌, ◌≢◌, ℕ, ◌+◌, ◌<◌, ◌^◌, true, false, List, [], ◌∷◌, ◌++◌, length, sym, ap, ◌∙◌, subst, arith, append_assoc, Option, Some}
+use Rattle.std.proofs.Common.{◌≡◌, ◌≢◌, ℕ, ◌+◌, ◌<◌, ◌≤◌, ◌^◌, true, false, List, [], ◌∷◌, ◌++◌, length, sym, ap, ◌∙◌, subst, arith, append_assoc, Option, Some}
 use Rattle.std.specs.Prelude.{nat_lt}
 use Rattle.std.proofs.lemmas.Bool.Decides.{nat_tests}
 use Rattle.sysv_gate.specs.declared.view.View.{View}
@@ -9,10 +9,10 @@ use Rattle.sysv_gate.specs.declared.place.Place.{Place}
 use Rattle.sysv_gate.specs.Numbers.{times}
 use Rattle.sysv_gate.specs.History.{BeginsWith, after_all, IsLegal, HasItsOwn, Moves, AreUpTo, AreBelow}
 use Rattle.sysv_gate.specs.Rule.{Spot, put}
-use Rattle.sysv_gate.specs.Steps.{Mine, looked, turn_of, ended, Looks, HasTurn, after_turn}
-use Rattle.sysv_gate.specs.Turns.{Looked, InTurn, SawMore, HasMade}
+use Rattle.sysv_gate.specs.Steps.{Mine, weighed, looked, entered, turn_of, ended, Looks, HasTurn, after_turn}
+use Rattle.sysv_gate.specs.Turns.{Looked, TurnCame, SawMore, HasMade}
 use Rattle.atomic_table.specs.Table.{rest}
-use Rattle.sysv_gate.proofs.Counting.{times-one}
+use Rattle.sysv_gate.proofs.Counting.{times-one, low_mark, high_mark}
 use Rattle.sysv_gate.proofs.Histories.{begins_self, legal-snoc, rises}
 
 pub begins_trans : {A : Type 0} (xs ys zs : List A) → BeginsWith xs ys → BeginsWith ys zs → BeginsWith xs zs
@@ -52,8 +52,28 @@ module _ {O C R : Type 0} where
               λ i. ((view ∙ (λ j. record m.0 { seen = log; in_turn = stays j })) i, slots i);
         }
 
+    -- a seat without a ticket looks
+    pub idle_look : (m : Mine O C R) (n : ℕ) (m' : Mine O C R) → m.0.tickets ≡ [] → Looked moves o m n m' → SawMore m.0 m'
+    idle_look m n m' empty look = record { log = look.log; longer = look.longer; is = look.other (ap (times n) empty) }
+
+    pub look_legal : (m : Mine O C R) (n : ℕ) (m' : Mine O C R) → m.0.tickets ≡ [] → Looked moves o m n m' → IsLegal moves o m'.0.seen
+    look_legal m n m' empty look = subst (λ (x : Mine O C R). IsLegal moves o x.0.seen) (sym (look.other (ap (times n) empty))) look.legal
+
+    pub look_count : (m : Mine O C R) (n : ℕ) (m' : Mine O C R) → m.0.tickets ≡ [] → Looked moves o m n m' → n ≡ m'.0.first + length m'.0.seen
+    look_count m n m' empty look = subst (λ (x : Mine O C R). n ≡ x.0.first + length x.0.seen) (sym (look.other (ap (times n) empty))) look.count
+
+    -- the ticket that was served is drawn, and the turn has come
+    pub came_at_once : (m : Mine O C R) (n : ℕ) (m' m'' : Mine O C R) → m.0.tickets ≡ [] → Looked moves o m n m' → m''.0 ≡ entered n m'.0 → HasTurn moves o m'' → TurnCame moves o m.0 n m''
+    came_at_once m n m' m'' empty look drew turn = record {
+      log = look.log;
+      longer = look.longer;
+      count = look.count;
+      view = drew ∙ ap (λ (x : Mine O C R). entered n x.0) (look.other (ap (times n) empty));
+      turn = turn;
+    }
+
     -- a turn that came after more was seen
-    pub turn_later : (v : View O C R) (ticket : ℕ) (m m' : Mine O C R) → SawMore v m → InTurn moves o m.0 ticket m' → InTurn moves o v ticket m'
+    pub turn_later : (v : View O C R) (ticket : ℕ) (m m' : Mine O C R) → SawMore v m → TurnCame moves o m.0 ticket m' → TurnCame moves o v ticket m'
     turn_later v ticket m m' saw came =
         let log : List (Turn O C R) = saw.log in
         let is : m.0 ≡ record v { seen = log } = ap (λ (x : Mine O C R). x.0) saw.is in record {
@@ -75,6 +95,14 @@ module _ {O C R : Type 0} where
   -- a seat that waits has seen no less than it has seen
   pub saw_nothing : (m : Mine O C R) → m.1 ≡ [] → SawMore m.0 m
   saw_nothing m bare = record { log = m.0.seen; longer = begins_self m.0.seen; is = λ i. (m.0, bare i) }
+
+  -- a ticket below 2^62 leaves the view
+  pub unweighed : (m m' : Mine O C R) (n : ℕ) → m' ≡ (weighed n m.0, m.1) → n < 2 ^ 62 → m' ≡ m
+  unweighed m m' n is low = is ∙ (λ i. (record m.0 { worn = low_mark m.0.worn n low i }, m.1))
+
+  -- a ticket from 2^62 on marks it
+  pub weighed_out : (m m' : Mine O C R) (n : ℕ) → m.1 ≡ [] → m' ≡ (weighed n m.0, m.1) → 2 ^ 62 ≤ n → m' ≡ (record m.0 { worn = true }, [])
+  weighed_out m m' n bare is high = is ∙ (λ i. (record m.0 { worn = high_mark m.0.worn n high i }, bare i))
 
   -- what was in the slot
   pub object_out : (xs ys : List (ℕ × Spot O C R)) (s : Spot O C R) (o : O) (last : Option (Done C R)) (p : Place O C R) → xs ≡ (0, s) ∷ ys → xs ≡ (0, put o last) ∷ [] → s ≡ Some p → p.object ≡ o

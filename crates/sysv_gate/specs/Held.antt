@@ -2,6 +2,9 @@
 -- numbers, and it knows the gate's key.
 use Rattle.std.specs.Prelude.{◌≡◌, ◌≤◌, false, [], Some}
 use Rattle.sysv_gate.specs.declared.seat.Seat.TheInside.{Inside}
+use Rattle.atomic_table.specs.declared.shared.Seat.{Seat}
+use Rattle.sysv_gate.specs.declared.view.View.{View}
+use Rattle.sysv_gate.specs.Rule.{Spot}
 use Rattle.sysv_gate.specs.Gates.{Holding}
 use Rattle.sysv_gate.specs.Numbers.{times}
 
@@ -23,3 +26,12 @@ module _ {O C R : Type 0} where
     pub opening : s.token.me.0.opening ≡ Some s.key.value.opening.value
     pub first : s.token.me.0.first ≡ s.key.value.first
     pub named : 1 ≤ times s.token.me.0.number s.token.me.0.numbers
+
+  -- the token of a seat between two calls
+  pub record Rests (h : Holding O C R) (token : Seat (Spot O C R) (View O C R)) : Type 0 where
+    pub table : token.table_id ≡ h.gate.table
+    pub opening : token.me.0.opening ≡ Some h.gate.opening
+    pub first : token.me.0.first ≡ h.gate.first
+    pub numbers : token.me.0.numbers ≡ h.numbers
+    pub seen : token.me.0.seen ≡ h.seen
+    pub own : token.me.0.own ≡ h.own

@@ -5,3 +5,5 @@ pub mod Steps
 pub mod Gates
 pub mod Held
 pub mod Turns
+pub mod Refusals
+pub mod Closings

@@ -2,7 +2,9 @@
 use Rattle.std.specs.Prelude.{◌≡◌, ℕ, ◌+◌, ◌<◌, ◌^◌, true, false, List, [], ◌∷◌, length, Some}
 use Rattle.atomic_table.specs.declared.shared.Seat.{Seat}
 use Rattle.sysv_gate.specs.declared.view.View.{View}
-use Rattle.sysv_gate.specs.declared.view.Turn.{Turn}
+use Rattle.sysv_gate.specs.declared.view.Turn as view
+use Rattle.sysv_gate.specs.declared.turns.Entry.{Entry}
+use Rattle.sysv_gate.specs.declared.turns.Entry.TheVariants.{Turn, Busy, Worn}
 use Rattle.sysv_gate.specs.Numbers.{times}
 use Rattle.sysv_gate.specs.History.{BeginsWith, IsLegal, HasItsOwn}
 use Rattle.sysv_gate.specs.Rule.{Spot}
@@ -32,13 +34,13 @@ module _ {O C R : Type 0} where
 
   -- the seat has seen more, and waits as before
   pub record SawMore (v : View O C R) (m : Mine O C R) : Type 0 where
-    pub log : List (Turn O C R)
+    pub log : List (view.Turn O C R)
     pub longer : BeginsWith log v.seen
     pub is : m ≡ (record v { seen = log }, [])
 
   -- the seat's turn has come
-  pub record InTurn (moves : O → C → R → O → Type 0) (opening : O) (v : View O C R) (ticket : ℕ) (m : Mine O C R) : Type 0 where
-    pub log : List (Turn O C R)
+  pub record TurnCame (moves : O → C → R → O → Type 0) (opening : O) (v : View O C R) (ticket : ℕ) (m : Mine O C R) : Type 0 where
+    pub log : List (view.Turn O C R)
     pub longer : BeginsWith log v.seen
     pub count : ticket ≡ v.first + length log
     pub view : m.0 ≡ record v { seen = log; tickets = ticket ∷ []; in_turn = true }
@@ -47,12 +49,18 @@ module _ {O C R : Type 0} where
   -- The seat has looked which ticket is served, and it is n. Where that is the seat's own, its turn has come, and else it
   -- waits as before
   pub record Looked (moves : O → C → R → O → Type 0) (opening : O) (m : Mine O C R) (n : ℕ) (m' : Mine O C R) : Type 0 where
-    pub log : List (Turn O C R)
+    pub log : List (view.Turn O C R)
     pub longer : BeginsWith log m.0.seen
     pub count : n ≡ m.0.first + length log
     pub legal : IsLegal moves opening log
-    pub mine : m.0.tickets ≡ n ∷ [] → InTurn moves opening m.0 n m'
+    pub mine : m.0.tickets ≡ n ∷ [] → TurnCame moves opening m.0 n m'
     pub other : times n m.0.tickets ≡ 0 → m' ≡ (record m.0 { seen = log }, [])
+
+  -- What came of a try. The turn has come, or the seat has seen more, or it has found that the tickets have reached 2^62
+  abbrev pub Entered : (O → C → R → O → Type 0) → O → Mine O C R → Entry → Mine O C R → Type 0
+  Entered moves opening m Turn m' = (ticket : ℕ) × TurnCame moves opening m.0 ticket m' × (ticket < 2 ^ 62) × (m.0.worn ≡ false)
+  Entered moves opening m Busy m' = SawMore m.0 m' × IsLegal moves opening m'.0.seen
+  Entered moves opening m Worn m' = HasWorn m m'
 
   -- the turn was made
   pub record HasMade (moves : O → C → R → O → Type 0) (opening : O) (v : View O C R) (call : C) (reply : R) (m : Mine O C R) : Type 0 where

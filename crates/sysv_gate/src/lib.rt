@@ -2,6 +2,7 @@
 //! object one turn at a time, in the order of their tickets, and all turns make one history.
 #![tactic(auto)]
 
+mod board;
 mod closing;
 mod gate;
 mod object;
@@ -9,6 +10,7 @@ mod place;
 mod refusals;
 mod rule;
 mod seat;
+mod turns;
 mod view;
 
 pub use closing::Closing;

@@ -1,18 +1,16 @@
 //! The seats of gates.
+ghost use Rattle.sysv_gate.specs.Held.{Rests};
+
+use crate::board::Token;
 use crate::object::Object;
-use crate::place::Place;
 use crate::rule::Key;
-use crate::view::View;
 use std::marker::Model;
 use std::snapshot::Snapshot;
 
 /// The right to take turns at one gate, and what its holder knows of the history there. It is used only with the gate
 /// that gave it. A seat may go to another thread.
 pub struct Seat<O: Object> {
-    pub(crate) token: atomic_table::Seat<
-        Option<Place<O, O::Call, O::Reply>>,
-        View<O, O::Call, O::Reply>,
-    >,
+    pub(crate) token: Token<O>,
     pub(crate) key: Snapshot<Key<O>>,
 }
 
@@ -31,5 +29,14 @@ impl<O: Object> Model for Seat<O> {
 impl<O: Object> Drop for Seat<O> {
     fn drop(self) {
         let Seat { token: _, key: _ } = self;
+    }
+}
+
+impl<O: Object> Seat<O> {
+    pub(crate) fn into_token(self) -> Token<O>
+        ensures { Rests self result }
+    {
+        let Seat { token, key: _ } = self;
+        token
     }
 }

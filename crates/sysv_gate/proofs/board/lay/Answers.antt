@@ -1,7 +1,7 @@
 use Rattle.std.proofs.Common.{rules, ◌≡◌, [], ◌∷◌, None}
 use Rattle.sysv_gate.specs.Rule.{put}
 use Rattle.sysv_gate.proofs.Opening.{starts}
-use Rattle.sysv_gate.proofs.gate.lay.Goals as goal
+use Rattle.sysv_gate.proofs.board.lay.Goals as goal
 
 pub new-requires : goal.new-requires
 new-requires g c =
