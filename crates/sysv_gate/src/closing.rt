@@ -1,6 +1,7 @@
 //! What is left of a gate.
 
 /// What a closed gate gives back.
+#[derive(Debug, Drop)]
 pub struct Closing<O> {
     /// The object after all turns. It is `None` only where a seat still holds the ticket whose turn it is.
     pub object: Option<O>,

@@ -87,6 +87,7 @@ impl<O: Object> Gate<O> {
         call: O::Call,
     ) -> Result<O::Reply, Worn<O::Call>>
         requires { seat.old.gate ≡ self.now }
+        ensures gate { seat.new.gate ≡ self.now }
         ensures ok { IfOk result (λ r. Answers (Moves O.meaning O.counted) seat.old call r seat.new) }
         ensures not_worn { OnOk result (seat.old.worn ≡ false) }
         ensures worn { IfErr result (λ w. (w.call ≡ call) × (seat.new ≡ marked seat.old)) }
@@ -109,6 +110,7 @@ impl<O: Object> Gate<O> {
         call: O::Call,
     ) -> Result<O::Reply, TryRefused<O::Call>>
         requires { seat.old.gate ≡ self.now }
+        ensures gate { seat.new.gate ≡ self.now }
         ensures ok { IfOk result (λ r. Answers (Moves O.meaning O.counted) seat.old call r seat.new) }
         ensures not_worn { OnOk result (seat.old.worn ≡ false) }
         ensures err { IfErr result (λ e. Refuses (Moves O.meaning O.counted) seat.old call e seat.new) }

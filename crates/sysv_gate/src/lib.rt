@@ -10,6 +10,8 @@ mod place;
 mod refusals;
 mod rule;
 mod seat;
+#[cfg(test)]
+mod tests;
 mod turns;
 mod view;
 
