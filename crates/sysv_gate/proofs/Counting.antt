@@ -60,6 +60,10 @@ pub not_true : (b : Bool) → ¬ (b ≡ true) → b ≡ false
 not_true true h = absurd (h refl)
 not_true false h = refl
 
+-- a list of one number does not have another
+pub another : (x n : ℕ) → times n (x ∷ []) ≡ cond (x == n) 1 0 → ¬ (x ≡ n) → times n (x ∷ []) ≡ 0
+another x n e apart = grind (arith, nat_tests)
+
 -- a number below 2^62 makes no mark
 pub low_mark : (b : Bool) (n : ℕ) → n < 2 ^ 62 → (b || nat_le (2 ^ 62) n) ≡ b
 low_mark true n low = refl

@@ -4,6 +4,7 @@ use Rattle.std.proofs.lemmas.List.{append-nil, nil_from_length}
 use Rattle.std.proofs.lemmas.Bool.Decides.{nat_tests}
 use Rattle.sysv_gate.specs.declared.view.Turn.{Turn}
 use Rattle.sysv_gate.specs.Numbers.{times, NoneTwice}
+use Rattle.sysv_gate.proofs.Counting.{times-append}
 use Rattle.sysv_gate.specs.History.{BeginsWith, after_all, IsLegal, made_at}
 
 module _ {A : Type 0} where
@@ -35,6 +36,17 @@ module _ {O C R : Type 0} where
     pub rises : (f : O → ℕ) → ((o : O) (c : C) (r : R) (o' : O) → moves o c r o' → f o' ≤ f o + 1) → (o : O) (ts : List (Turn O C R)) → IsLegal moves o ts → f (after_all o ts) ≤ f o + length ts
     rises f each o [] legal = omega arith
     rises f each o (u ∷ us) legal = let first = each o u.call u.reply u.after legal.0 in let more = rises f each u.after us legal.1 in omega arith
+
+  -- who has no number has made no turn
+  pub made_at-nobody : (ts : List (Turn O C R)) (p : ℕ) → made_at [] ts p ≡ 0
+  made_at-nobody [] p = refl
+  made_at-nobody (u ∷ us) zero = refl
+  made_at-nobody (u ∷ us) (suc p) = made_at-nobody us p
+
+  pub made_at-append : (one two : List ℕ) (ts : List (Turn O C R)) (p : ℕ) → made_at (one ++ two) ts p ≡ made_at one ts p + made_at two ts p
+  made_at-append one two [] p = omega arith
+  made_at-append one two (u ∷ us) zero = times-append u.by one two
+  made_at-append one two (u ∷ us) (suc p) = made_at-append one two us p
 
   module _ (numbers : List ℕ) where
     pub made_at-le : NoneTwice numbers → (ts : List (Turn O C R)) (p : ℕ) → made_at numbers ts p ≤ 1

@@ -1,20 +1,21 @@
 -- The rule is kept when one view changes, and the log stays or grows by one turn.
-use Rattle.std.proofs.Common.{◌≡◌, ◌≢◌, ℕ, ◌+◌, ◌^◌, ◌<◌, ◌≤◌, ◌==◌, cond, true, false, List, [], ◌∷◌, ◌++◌, length, set, sym, ap, ◌∙◌, subst, arith, length-append}
+use Rattle.std.proofs.Common.{◌≡◌, ◌≢◌, ℕ, ◌+◌, ◌^◌, ◌<◌, ◌≤◌, ◌==◌, cond, true, false, List, [], ◌∷◌, ◌++◌, length, set, sym, ap, ◌∙◌, subst, arith, length-append, length-set, ⊎_elim, Some, refl}
 use Rattle.std.specs.Prelude.{sum_by, Option}
 use mathlib.Core.Bool.{true≢false}
 use mathlib.Core.Logic.{dite}
 use native.Mathlib.Decide.{ℕ_discrete}
 use mathlib.Core.Option.{some}
 use lib.ListN.{get_elem?}
+use Rattle.atomic_table.proofs.Lists.{at_set}
 use Rattle.sysv_gate.specs.declared.view.View.{View}
 use Rattle.sysv_gate.specs.declared.view.Turn.{Turn}
 use Rattle.sysv_gate.specs.declared.place.Done.{Done}
 use Rattle.sysv_gate.specs.Numbers.{times, once_between, NoneTwice}
 use Rattle.sysv_gate.specs.History.{BeginsWith, after_all, made_at, HasItsOwn}
-use Rattle.sysv_gate.specs.Rule.{Homes, put, IsHome, Fits, IsKept}
+use Rattle.sysv_gate.specs.Rule.{Homes, put, IsHome, bearers, Fits, IsKept}
 use Rattle.sysv_gate.specs.Steps.{turn_of, ended}
 use Rattle.sysv_gate.proofs.Sums.{set_at, one_there, each_set, each_before, sum_by-set_at, at-le-sum_by, two-le-sum_by}
-use Rattle.sysv_gate.proofs.Counting.{times-snoc, times-one, the-one, once_between-drop, once_between-le, first_between, not_true}
+use Rattle.sysv_gate.proofs.Counting.{times-snoc, times-one, the-one, once_between-drop, once_between-le, first_between, not_true, another}
 use Rattle.sysv_gate.proofs.Histories.{begins_self, begins_snoc, after_all-snoc, legal-snoc, made_at-le, made_at-mine, made_at-theirs}
 
 module _ {O C R : Type 0} (moves : O → C → R → O → Type 0) (opening : O) (first : ℕ) where
@@ -25,7 +26,7 @@ module _ {O C R : Type 0} (moves : O → C → R → O → Type 0) (opening : O)
   Log = List (Turn O C R)
 
   -- who holds the ticket that is served holds it alone
-  served_alone : (log : Log) (drawn id : ℕ) (homes : Homes O C R) (views : List V) (v : V) → IsKept moves opening first log drawn homes views → get_elem? views id ≡ some v
+  pub served_alone : (log : Log) (drawn id : ℕ) (homes : Homes O C R) (views : List V) (v : V) → IsKept moves opening first log drawn homes views → get_elem? views id ≡ some v
       → 1 ≤ times (first + length log) v.tickets → (k : ℕ) (u : V) → k ≢ id → get_elem? views k ≡ some u → u.in_turn ≡ false
   served_alone log drawn id homes views v kept at holds k u other there =
       not_true u.in_turn
@@ -68,18 +69,37 @@ module _ {O C R : Type 0} (moves : O → C → R → O → Type 0) (opening : O)
       let own = (kept.each id v at).own in
       (own, λ p. let is = own p in let le = made_at-le v.numbers (numbers_once log drawn id homes views v kept at) log p in omega arith)
 
+  -- a change of a view that keeps its numbers changes no number of bearers
+  pub same_bearers : (views : List V) (id : ℕ) (v w : V) → get_elem? views id ≡ some v → w.numbers ≡ v.numbers → (x : ℕ) → bearers x (set views id w) ≡ bearers x views
+  same_bearers views id v w at same x =
+      let here : times x w.numbers ≡ times x v.numbers = ap (times x) same in
+      let sums = sum_by-set_at (λ (u : V). times x u.numbers) views id v w at in
+      omega arith
+
+  pub still_nameless : (views : List V) (id : ℕ) (v w : V) → get_elem? views id ≡ some v → w.numbers ≡ v.numbers → w.opening ≡ v.opening
+      → ((i : ℕ) (u : V) → get_elem? views i ≡ some u → (o : O) → u.opening ≡ Some o → u.numbers ≡ [] → bearers i views ≡ 0)
+      → (i : ℕ) (u : V) → get_elem? (set views id w) i ≡ some u → (o : O) → u.opening ≡ Some o → u.numbers ≡ [] → bearers i (set views id w) ≡ 0
+  still_nameless views id v w at same opens before i u there o is empty =
+      same_bearers views id v w at same i
+      ∙ ⊎_elim
+      (λ t.
+      let old = before id v at o (sym opens ∙ ap (λ (a : V). a.opening) t.1 ∙ is) (sym same ∙ ap (λ (a : V). a.numbers) t.1 ∙ empty) in
+      subst (λ (k : ℕ). bearers k views ≡ 0) (sym t.0) old)
+      (λ t. before i u t.1 o is empty) (at_set views id i w u there)
+
   wider : (log : Log) (drawn drawn' : ℕ) → drawn ≤ drawn' → (v : V) → Fits opening first log drawn v → Fits opening first log drawn' v
-  wider log drawn drawn' le v fits = record { start = fits.start; seen = fits.seen; turn = fits.turn; own = fits.own; worn = λ mark. let limit = fits.worn mark in omega arith }
+  wider log drawn drawn' le v fits = record { start = fits.start; seen = fits.seen; also = fits.also; turn = fits.turn; own = fits.own; worn = λ mark. let limit = fits.worn mark in omega arith }
 
   -- The log stays: the tickets may be drawn further, by what the view draws, and the slot stays where nobody begins a turn
   pub stays : (log : Log) (drawn drawn' id : ℕ) (homes homes' : Homes O C R) (views : List V) (v w : V) → IsKept moves opening first log drawn homes views → get_elem? views id ≡ some v
       → drawn ≤ drawn' → drawn' ≤ 2 ^ 62
       → w.numbers ≡ v.numbers
+      → w.opening ≡ v.opening
       → ((x : ℕ) → times x w.tickets + once_between (first + length log) drawn x ≡ times x v.tickets + once_between (first + length log) drawn' x)
       → (w.in_turn ≡ false → (v.in_turn ≡ false) × (homes' ≡ homes))
       → Fits opening first log drawn' w
       → IsKept moves opening first log drawn' homes' (set views id w)
-  stays log drawn drawn' id homes homes' views v w kept at le limit same tickets idle fits =
+  stays log drawn drawn' id homes homes' views v w kept at le limit same opens tickets idle fits =
       let order = kept.order in record {
         legal = kept.legal;
         tickets = λ x.
@@ -89,11 +109,10 @@ module _ {O C R : Type 0} (moves : O → C → R → O → Type 0) (opening : O)
             omega arith;
         order = omega arith;
         limit = limit;
-        apart = λ x.
-            let before = kept.apart x in
-            let here : times x w.numbers ≡ times x v.numbers = ap (times x) same in
-            let sums = sum_by-set_at (λ (u : V). times x u.numbers) views id v w at in
-            omega arith;
+        apart = λ x. let before = kept.apart x in let still = same_bearers views id v w at same x in omega arith;
+        unused = λ x le. same_bearers views id v w at same x ∙ kept.unused x (subst (λ (n : ℕ). n ≤ x) (length-set views id w) le);
+        nameless = still_nameless views id v w at same opens kept.nameless;
+        known = λ x nobody. kept.known x (sym (same_bearers views id v w at same x) ∙ nobody);
         each = each_set (Fits opening first log drawn) (Fits opening first log drawn') views id w kept.each (λ k u _ _ fit. wider log drawn drawn' le u fit) fits;
         home = λ none.
             let stood = idle (none id w (set_at views id v w at)) in
@@ -112,6 +131,7 @@ module _ {O C R : Type 0} (moves : O → C → R → O → Type 0) (opening : O)
       record {
         start = fits.start;
         seen = begins_snoc log u.seen t fits.seen;
+        also = begins_snoc log u.also t fits.also;
         turn = λ turn. absurd (true≢false (sym turn ∙ served_alone log drawn id homes views v kept at holds k u other there));
         own = λ p. fits.own p ∙ sym (made_at-theirs u.numbers log t p theirs);
         worn = fits.worn;
@@ -124,6 +144,7 @@ module _ {O C R : Type 0} (moves : O → C → R → O → Type 0) (opening : O)
       let t : Turn O C R = turn_of v call reply after in record {
         start = fits.start;
         seen = subst (λ (l : Log). BeginsWith (log ++ t ∷ []) (l ++ t ∷ [])) (sym whole) (begins_self (log ++ t ∷ []));
+        also = begins_snoc log v.also t fits.also;
         turn = λ turn. absurd (true≢false (sym turn));
         own = λ p.
             let before = fits.own p in
@@ -167,10 +188,13 @@ module _ {O C R : Type 0} (moves : O → C → R → O → Type 0) (opening : O)
               subst (λ (n : ℕ). sum_by (λ (u : V). times x u.tickets) (set views id w) ≡ once_between n drawn x) (sym long) after;
           order = omega arith;
           limit = kept.limit;
-          apart = λ x.
-              let before = kept.apart x in
-              let sums = sum_by-set_at (λ (u : V). times x u.numbers) views id v w at in
-              omega arith;
+          apart = λ x. let before = kept.apart x in let still = same_bearers views id v w at refl x in omega arith;
+          unused = λ x le. same_bearers views id v w at refl x ∙ kept.unused x (subst (λ (n : ℕ). n ≤ x) (length-set views id w) le);
+          nameless = still_nameless views id v w at refl refl kept.nameless;
+          known = λ x nobody p.
+              let nobody_before : bearers x views ≡ 0 = sym (same_bearers views id v w at refl x) ∙ nobody in
+              made_at-theirs (x ∷ []) log t p (another x v.number (times-one v.number x) (λ e. let all = at-le-sum_by (λ (u : V). times x u.numbers) views id v at in let mine = subst (λ (n : ℕ). 1 ≤ times n v.numbers) (sym e) named in absurd (omega arith)))
+              ∙ kept.known x nobody_before p;
           each = each_set (Fits opening first log drawn) (Fits opening first (log ++ t ∷ []) drawn) views id w kept.each (others_fit log drawn id homes views v call reply after kept at holds named)
               (ended_fits log drawn v call reply after fits whole (omega arith));
           home = λ _. (last, subst (λ (o : O). get_elem? homes' 0 ≡ some (some (put o last))) (sym (after_all-snoc opening log t)) home);

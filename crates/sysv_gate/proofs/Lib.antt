@@ -5,4 +5,6 @@ pub mod Keeping
 pub mod Stepping
 pub mod Opening
 pub mod Turning
+pub mod Seating
 pub mod AtTheEnd
+pub mod Agreeing

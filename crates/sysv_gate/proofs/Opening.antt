@@ -3,11 +3,13 @@ use Rattle.std.proofs.Common.{◌≡◌, ℕ, ◌+◌, ◌^◌, ◌≤◌, List,
 use Rattle.std.specs.Prelude.{Some, None, sum_by}
 use mathlib.Core.Bool.{true≢false}
 use mathlib.Core.Option.{some, some-ne-none}
+use lib.ListN.{get_elem?}
+use Rattle.std.proofs.lemmas.Bool.Decides.{nat_tests}
 use Rattle.atomic_table.specs.Table.{opening}
 use Rattle.atomic_table.proofs.Lists.{at_snoc}
 use Rattle.sysv_gate.specs.declared.view.View.{View}
 use Rattle.sysv_gate.specs.Numbers.{times, once_between}
-use Rattle.sysv_gate.specs.Rule.{Spot, put, Fits, IsKept, Gated, start}
+use Rattle.sysv_gate.specs.Rule.{Spot, put, bearers, Fits, IsKept, Gated, start}
 use Rattle.sysv_gate.proofs.Counting.{once_between-same, times-one, one-le-one}
 
 module _ {O C R : Type 0} (moves : O → C → R → O → Type 0) where
@@ -15,10 +17,17 @@ module _ {O C R : Type 0} (moves : O → C → R → O → Type 0) where
   fits_start o first = record {
     start = λ p is. let shown : Some o ≡ Some p = is in let same : p ≡ o = cc in (same, refl);
     seen = ([], refl);
+    also = ([], refl);
     turn = λ turn. absurd (true≢false (sym turn));
     own = λ p. refl;
     worn = λ mark. absurd (true≢false (sym mark));
   }
+
+  nobody_else : (first : ℕ) (o : O) (x : ℕ) → 1 ≤ x → bearers x (start {C = C} {R = R} o first ∷ []) ≡ 0
+  nobody_else first o x le = let e = times-one x 0 in grind (arith, nat_tests)
+
+  named_first : (o : O) (first i : ℕ) (v : View O C R) → get_elem? (start o first ∷ []) i ≡ some v → v.numbers ≡ [] → ⊥
+  named_first o first i v at empty = ⊎_elim (λ t. some-ne-none v (sym t)) (λ t. let e : 0 ∷ [] ≡ [] = ap (λ (u : View O C R). u.numbers) t ∙ empty in cc) (at_snoc [] (start o first) v i at)
 
   kept_at_start : (o : O) (first : ℕ) → first ≤ 2 ^ 62 → IsKept {C = C} {R = R} moves o first [] first (some (put o None) ∷ []) (start o first ∷ [])
   kept_at_start o first le = record {
@@ -27,6 +36,9 @@ module _ {O C R : Type 0} (moves : O → C → R → O → Type 0) where
     order = omega arith;
     limit = le;
     apart = λ x. omega (arith, times-one x 0, one-le-one 0 x);
+    unused = λ x le. nobody_else first o x le;
+    nameless = λ i v at p is empty. absurd (named_first o first i v at empty);
+    known = λ x none p. refl;
     each = λ i v at. ⊎_elim (λ t. absurd (some-ne-none v (sym t))) (λ t. subst (Fits o first [] first) t (fits_start o first)) (at_snoc [] (start o first) v i at);
     home = λ _. (None, refl);
   }

@@ -50,7 +50,7 @@ module _ {O C R : Type 0} (moves : O → C → R → O → Type 0) (opening : O)
   )
 
   -- a step on the word with the ticket that is served
-  on_serving : (s : St) (log : Log) (served : ℕ) (homes : Homes O C R) (views : List V) → length s.words ≡ 32 → length homes ≡ 1 → served ≡ first + length log
+  pub on_serving : (s : St) (log : Log) (served : ℕ) (homes : Homes O C R) (views : List V) → length s.words ≡ 32 → length homes ≡ 1 → served ≡ first + length log
       → IsKept moves opening first log (get_or s.words 16 0) homes views → Holds record { words = set s.words 0 served; homes = homes; views = views }
   on_serving s log served homes views wide one serves kept = (
     length-set s.words 0 served ∙ wide,
@@ -73,8 +73,8 @@ module _ {O C R : Type 0} (moves : O → C → R → O → Type 0) (opening : O)
         keeps,
         tt,
         on_ticket s log n s.homes (set s.views id w) held.0 held.1 held.2.1
-            (stays moves opening first log n n id s.homes s.homes s.views me.0 w kept at (omega arith) kept.limit refl (λ x. refl) (λ idle. (idle, refl))
-            (record { start = fits.start; seen = fits.seen; turn = fits.turn; own = fits.own; worn = marked_by me.0.worn n n fits.worn (omega arith) })),
+            (stays moves opening first log n n id s.homes s.homes s.views me.0 w kept at (omega arith) kept.limit refl refl (λ x. refl) (λ idle. (idle, refl))
+            (record { start = fits.start; seen = fits.seen; also = fits.also; turn = fits.turn; own = fits.own; worn = marked_by me.0.worn n n fits.worn (omega arith) })),
         (refl, fits.worn),
       )
 
@@ -104,15 +104,15 @@ module _ {O C R : Type 0} (moves : O → C → R → O → Type 0) (opening : O)
         tt,
         subst (λ (m : ℕ). Holds (stepped s 16 m id me.1 w keeps)) more
             (on_ticket s log (n + 1) s.homes (set s.views id w) held.0 held.1 held.2.1
-            (stays moves opening first log n (n + 1) id s.homes s.homes s.views me.0 w kept at (omega arith) (omega arith) refl (λ x. one_more (first + length log) n x me.0.tickets order empty) (λ _. (idle, refl))
-            (record { start = fits.start; seen = fits.seen; turn = λ turn. absurd (true≢false (sym turn ∙ idle)); own = fits.own; worn = λ mark. let limit = fits.worn mark in omega arith }))),
+            (stays moves opening first log n (n + 1) id s.homes s.homes s.views me.0 w kept at (omega arith) (omega arith) refl refl (λ x. one_more (first + length log) n x me.0.tickets order empty) (λ _. (idle, refl))
+            (record { start = fits.start; seen = fits.seen; also = fits.also; turn = λ turn. absurd (true≢false (sym turn ∙ idle)); own = fits.own; worn = λ mark. let limit = fits.worn mark in omega arith }))),
         ((λ _. (refl, unmarked log n me.0 fits (omega arith))), λ miss. absurd (miss hit)),
       ))
       (λ miss. (
         me.0,
         keeps,
         tt,
-        on_ticket s log n s.homes (set s.views id me.0) held.0 held.1 held.2.1 (stays moves opening first log n n id s.homes s.homes s.views me.0 me.0 kept at (omega arith) kept.limit refl (λ x. refl) (λ turn. (turn, refl)) fits),
+        on_ticket s log n s.homes (set s.views id me.0) held.0 held.1 held.2.1 (stays moves opening first log n n id s.homes s.homes s.views me.0 me.0 kept at (omega arith) kept.limit refl refl (λ x. refl) (λ turn. (turn, refl)) fits),
         ((λ hit. absurd (miss hit)), λ _. refl),
       ))
 
@@ -141,8 +141,8 @@ module _ {O C R : Type 0} (moves : O → C → R → O → Type 0) (opening : O)
         log,
         home.1,
         on_serving s log n (set s.homes 0 none) (set s.views id w) held.0 (length-set s.homes 0 none ∙ held.1) serves
-            (stays moves opening first log drawn drawn id s.homes (set s.homes 0 none) s.views me.0 w kept at (omega arith) kept.limit refl (λ x. refl) (λ turn. absurd (true≢false turn))
-            (record { start = fits.start; seen = begins_self log; turn = λ _. (has, refl); own = fits.own; worn = fits.worn })),
+            (stays moves opening first log drawn drawn id s.homes (set s.homes 0 none) s.views me.0 w kept at (omega arith) kept.limit refl refl (λ x. refl) (λ turn. absurd (true≢false turn))
+            (record { start = fits.start; seen = begins_self log; also = fits.also; turn = λ _. (has, refl); own = fits.own; worn = fits.worn })),
         fits.seen,
         serves,
         kept.legal,
@@ -161,8 +161,8 @@ module _ {O C R : Type 0} (moves : O → C → R → O → Type 0) (opening : O)
         log,
         tt,
         on_serving s log n s.homes (set s.views id w) held.0 held.1 serves
-            (stays moves opening first log drawn drawn id s.homes s.homes s.views me.0 w kept at (omega arith) kept.limit refl (λ x. refl) (λ _. (idle, refl))
-            (record { start = fits.start; seen = begins_self log; turn = λ turn. absurd (true≢false (sym turn)); own = fits.own; worn = fits.worn })),
+            (stays moves opening first log drawn drawn id s.homes s.homes s.views me.0 w kept at (omega arith) kept.limit refl refl (λ x. refl) (λ _. (idle, refl))
+            (record { start = fits.start; seen = begins_self log; also = fits.also; turn = λ turn. absurd (true≢false (sym turn)); own = fits.own; worn = fits.worn })),
         fits.seen,
         serves,
         kept.legal,
@@ -222,8 +222,8 @@ module _ {O C R : Type 0} (moves : O → C → R → O → Type 0) (opening : O)
         home.1,
         subst (λ (m : ℕ). Holds (stepped s 16 m id me.1 w (takes 0 (put (after_all opening log) home.0)))) more
             (on_ticket s log (n + 1) out (set s.views id w) held.0 (length-set s.homes 0 maybe.none ∙ held.1) held.2.1
-            (stays moves opening first log n (n + 1) id s.homes out s.views me.0 w kept at (omega arith) (omega arith) refl (λ x. one_more (first + length log) n x me.0.tickets order empty) (λ turn. absurd (true≢false turn))
-            (record { start = fits.start; seen = fits.seen; turn = λ _. (has, whole); own = fits.own; worn = λ mark. let limit = fits.worn mark in omega arith }))),
+            (stays moves opening first log n (n + 1) id s.homes out s.views me.0 w kept at (omega arith) (omega arith) refl refl (λ x. one_more (first + length log) n x me.0.tickets order empty) (λ turn. absurd (true≢false turn))
+            (record { start = fits.start; seen = fits.seen; also = fits.also; turn = λ _. (has, whole); own = fits.own; worn = λ mark. let limit = fits.worn mark in omega arith }))),
         λ p is.
             let same : opening ≡ p = sym (fits.start p is).0 in (
               (λ _. (
@@ -246,7 +246,7 @@ module _ {O C R : Type 0} (moves : O → C → R → O → Type 0) (opening : O)
         me.0,
         keeps,
         tt,
-        on_ticket s log n s.homes (set s.views id me.0) held.0 held.1 held.2.1 (stays moves opening first log n n id s.homes s.homes s.views me.0 me.0 kept at (omega arith) kept.limit refl (λ x. refl) (λ turn. (turn, refl)) fits),
+        on_ticket s log n s.homes (set s.views id me.0) held.0 held.1 held.2.1 (stays moves opening first log n n id s.homes s.homes s.views me.0 me.0 kept at (omega arith) kept.limit refl refl (λ x. refl) (λ turn. (turn, refl)) fits),
         λ p is. ((λ hit. absurd (miss hit)), λ _. refl),
       ))
 

@@ -1,8 +1,8 @@
 -- What contracts see of a gate and of a seat of it, and what the calls do to a seat.
-use Rattle.std.specs.Prelude.{◌≡◌, ℕ, Bool, true, false, List, [], ◌∷◌, ◌++◌, length}
+use Rattle.std.specs.Prelude.{◌≡◌, ℕ, ◌||◌, Bool, true, false, List, [], ◌∷◌, ◌++◌, length}
 use Rattle.atomic_table.specs.Seated.{TableId}
 use Rattle.sysv_gate.specs.declared.view.Turn.{Turn}
-use Rattle.sysv_gate.specs.History.{IsLegal, HasItsOwn}
+use Rattle.sysv_gate.specs.History.{BeginsWith, IsLegal, HasItsOwn}
 
 -- a gate: which it is, the object that it was opened with, and its first ticket
 pub record Gateway (O : Type 0) : Type 0 where
@@ -49,6 +49,20 @@ module _ {O C R : Type 0} where
     pub made : after ≡ made call reply object (saw others before)
     pub legal : IsLegal moves after.gate.opening after.seen
     pub own : HasItsOwn after.numbers after.own after.seen
+
+  -- the seat that was split off: it has a number of its own, has seen what its origin has seen, and has made no turn
+  abbrev pub split_off : ℕ → Holding O C R → Holding O C R
+  split_off number h = record h { number = number; numbers = number ∷ []; own = [] }
+
+  -- One seat has taken in another. It has seen a legal history that begins with what either had seen, and has the turns
+  -- and the numbers of both
+  pub record Joins (moves : O → C → R → O → Type 0) (one two after : Holding O C R) : Type 0 where
+    pub seen : List (Turn O C R)
+    pub begins_one : BeginsWith seen one.seen
+    pub begins_two : BeginsWith seen two.seen
+    pub joined : after ≡ record one { seen = seen; own = one.own ++ two.own; numbers = one.numbers ++ two.numbers; worn = one.worn || two.worn }
+    pub legal : IsLegal moves one.gate.opening seen
+    pub own : HasItsOwn after.numbers after.own seen
 
   -- the seat has seen more, which is legal, and is else what it was
   pub record SeesMore (moves : O → C → R → O → Type 0) (before after : Holding O C R) : Type 0 where

@@ -23,6 +23,7 @@ module _ {O C R : Type 0} where
     pub no_slot : s.token.me.1 ≡ []
     pub no_ticket : s.token.me.0.tickets ≡ []
     pub no_turn : s.token.me.0.in_turn ≡ false
+    pub nothing_else : s.token.me.0.also ≡ []
     pub opening : s.token.me.0.opening ≡ Some s.key.value.opening.value
     pub first : s.token.me.0.first ≡ s.key.value.first
     pub named : 1 ≤ times s.token.me.0.number s.token.me.0.numbers
@@ -35,3 +36,7 @@ module _ {O C R : Type 0} where
     pub numbers : token.me.0.numbers ≡ h.numbers
     pub seen : token.me.0.seen ≡ h.seen
     pub own : token.me.0.own ≡ h.own
+    pub worn : token.me.0.worn ≡ h.worn
+    pub no_slot : token.me.1 ≡ []
+    pub no_ticket : token.me.0.tickets ≡ []
+    pub no_turn : token.me.0.in_turn ≡ false

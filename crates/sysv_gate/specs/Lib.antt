@@ -7,3 +7,4 @@ pub mod Held
 pub mod Turns
 pub mod Refusals
 pub mod Closings
+pub mod Laws

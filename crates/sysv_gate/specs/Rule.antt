@@ -35,19 +35,28 @@ module _ {O C R : Type 0} where
   pub record Fits (opening : O) (first : ℕ) (log : List (Turn O C R)) (drawn : ℕ) (v : View O C R) : Type 0 where
     pub start : (o : O) → v.opening ≡ Some o → (o ≡ opening) × (v.first ≡ first)
     pub seen : BeginsWith log v.seen
+    pub also : BeginsWith log v.also
     pub turn : v.in_turn ≡ true → (1 ≤ times (first + length log) v.tickets) × (v.seen ≡ log)
     pub own : (p : ℕ) → times p v.own ≡ made_at v.numbers log p
     pub worn : v.worn ≡ true → 2 ^ 62 ≤ drawn
 
+  -- how many views bear the number
+  abbrev pub bearers : ℕ → List (View O C R) → ℕ
+  bearers x views = sum_by (λ v. times x v.numbers) views
+
   -- The log is legal. Each ticket from the one that is served to below the one that is drawn next is held by just one
-  -- view, and no other ticket by any. No number belongs to two views. Where no view is in turn, the object after the log
-  -- is at home
+  -- view, and no other ticket by any. No number belongs to two views, or to a view that is still to come; an
+  -- unspent view without a number may take its place's own; and each turn was made under a number of some view. Where no
+  -- view is in turn, the object after the log is at home
   pub record IsKept (moves : O → C → R → O → Type 0) (opening : O) (first : ℕ) (log : List (Turn O C R)) (drawn : ℕ) (homes : Homes O C R) (views : List (View O C R)) : Type 0 where
     pub legal : IsLegal moves opening log
     pub tickets : (x : ℕ) → sum_by (λ v. times x v.tickets) views ≡ once_between (first + length log) drawn x
     pub order : first + length log ≤ drawn
     pub limit : drawn ≤ 2 ^ 62
-    pub apart : (x : ℕ) → sum_by (λ v. times x v.numbers) views ≤ 1
+    pub apart : (x : ℕ) → bearers x views ≤ 1
+    pub unused : (x : ℕ) → length views ≤ x → bearers x views ≡ 0
+    pub nameless : (i : ℕ) (v : View O C R) → get_elem? views i ≡ some v → (o : O) → v.opening ≡ Some o → v.numbers ≡ [] → bearers i views ≡ 0
+    pub known : (x : ℕ) → bearers x views ≡ 0 → (p : ℕ) → made_at (x ∷ []) log p ≡ 0
     pub each : (i : ℕ) (v : View O C R) → get_elem? views i ≡ some v → Fits opening first log drawn v
     pub home : ((i : ℕ) (v : View O C R) → get_elem? views i ≡ some v → v.in_turn ≡ false) → IsHome (after_all opening log) homes
 
@@ -66,6 +75,7 @@ module _ {O C R : Type 0} where
     number = 0;
     numbers = 0 ∷ [];
     seen = [];
+    also = [];
     own = [];
     tickets = [];
     in_turn = false;

@@ -38,6 +38,26 @@ module _ {O C R : Type 0} where
     in_turn = false;
   }
 
+  -- what a split gives: a seat that has seen as much, without turns of its own, and without a number yet
+  abbrev pub newcomer : View O C R → View O C R
+  newcomer v = record v { number = 0; numbers = []; also = []; own = []; tickets = []; in_turn = false }
+
+  -- a load that gives a seat its number
+  abbrev pub named : ℕ → View O C R → View O C R
+  named number v = record v { number = number; numbers = number ∷ [] }
+
+  -- two views in one
+  abbrev pub both_of : View O C R → View O C R → View O C R
+  both_of v w = record v { also = w.seen; own = v.own ++ w.own; numbers = v.numbers ++ w.numbers; worn = v.worn || w.worn }
+
+  -- what is left of a view that was joined into another
+  abbrev pub spent : View O C R
+  spent = record { opening = None; first = 0; number = 0; numbers = []; seen = []; also = []; own = []; tickets = []; in_turn = false; worn = false }
+
+  -- a load after a join, which shows a log that both had seen a beginning of
+  abbrev pub merged : List (Turn O C R) → View O C R → View O C R
+  merged log v = record v { seen = log; also = [] }
+
 module _ (O C R : Type 0) where
   abbrev pub Mine : Type 0
   Mine = Me (Spot O C R) (View O C R)
@@ -51,6 +71,9 @@ module _ {O C R : Type 0} where
 
   abbrev pub Draws : At O C R → Mine O C R → ℕ → Mine O C R → Type 0
   Draws st m n m' = (n ≡ st.first → (m' ≡ (drew n m.0, m.1)) × (m.0.worn ≡ false)) × (¬ (n ≡ st.first) → m' ≡ m)
+
+  abbrev pub Names : At O C R → Mine O C R → ℕ → Mine O C R → Type 0
+  Names st m n m' = (number : ℕ) × (m' ≡ (named number m.0, m.1))
 
   -- what a seat knows that has the turn, and with it the object after all that it has seen
   pub record HasTurn (moves : O → C → R → O → Type 0) (opening : O) (m : Mine O C R) : Type 0 where
@@ -72,6 +95,18 @@ module _ {O C R : Type 0} where
     abbrev pub Enters : At O C R → Mine O C R → ℕ → Mine O C R → Type 0
     Enters st m n m' = (opening : O) → m.0.opening ≡ Some opening
         → (n ≡ st.first → (m'.0 ≡ entered n m.0) × HasTurn moves opening m' × (m.0.worn ≡ false)) × (¬ (n ≡ st.first) → m' ≡ m)
+
+  -- what a look after a join tells
+  pub record Gathers (moves : O → C → R → O → Type 0) (opening : O) (m m' : Mine O C R) : Type 0 where
+    pub log : List (Turn O C R)
+    pub one : BeginsWith log m.0.seen
+    pub two : BeginsWith log m.0.also
+    pub is : m' ≡ (merged log m.0, m.1)
+    pub legal : IsLegal moves opening log
+    pub own : HasItsOwn m.0.numbers m.0.own log
+
+  abbrev pub Merges : (O → C → R → O → Type 0) → At O C R → Mine O C R → ℕ → Mine O C R → Type 0
+  Merges moves st m n m' = (opening : O) → m.0.opening ≡ Some opening → Gathers moves opening m m'
 
   -- the turn that the slot in hand tells of
   abbrev pub told : View O C R → O → Option (Done C R) → View O C R

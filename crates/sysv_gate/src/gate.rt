@@ -1,7 +1,7 @@
 //! Gates.
-ghost use Rattle.std.specs.Prelude.{◌≡◌, ◌^◌, ◌≤◌, false, IfOk, IfErr, OnOk};
+ghost use Rattle.std.specs.Prelude.{◌≡◌, ℕ, ◌^◌, ◌≤◌, false, IfOk, IfErr, OnOk};
 ghost use Rattle.sysv_gate.specs.History.{Moves, AreUpTo};
-ghost use Rattle.sysv_gate.specs.Gates.{opened, marked, Answers};
+ghost use Rattle.sysv_gate.specs.Gates.{opened, marked, split_off, Answers, Joins};
 ghost use Rattle.sysv_gate.specs.Refusals.{HandsBack, Refuses};
 ghost use Rattle.sysv_gate.specs.Closings.{Closes};
 ghost use Rattle.sysv_gate.specs.declared.refusals.OpenRefused.TheVariants.{NoMemory};
@@ -10,7 +10,7 @@ use crate::board::{Board, LIMIT, OBJECT, SERVING, TICKET, lay, object_in};
 use crate::closing::Closing;
 use crate::object::Object;
 use crate::refusals::{OpenRefused, TryRefused, Worn};
-use crate::rule::Key;
+use crate::rule::{Gathering, Key, Merging, Naming, Sharing};
 use crate::seat::Seat;
 use crate::turns::Entry;
 use std::alloc::Global;
@@ -26,7 +26,7 @@ pub struct Gate<O: Object> {
 }
 
 impl<O: Object> Model for Gate<O> {
-    ghost use Rattle.std.specs.Prelude.{◌≡◌, ◌^◌};
+    ghost use Rattle.std.specs.Prelude.{◌≡◌, ℕ, ◌^◌};
     ghost use Rattle.sysv_gate.specs.Gates.{Gateway};
     ghost use Rattle.sysv_gate.specs.History.{AreUpTo};
 
@@ -125,6 +125,37 @@ impl<O: Object> Gate<O> {
     /// Ends the sleep of each thread that waits for its turn. Those whose ticket is not served sleep again.
     pub fn wake(&self, _rt: &impl Wait) {
         self.table.shared.wake_all(SERVING);
+    }
+
+    /// Gives a new seat, which has seen what this one has seen, and has made no turn. It may go to another thread.
+    pub fn split(&self, seat: &mut Seat<O>) -> Seat<O>
+        requires { seat.old.gate ≡ self.now }
+        ensures gate { result.gate ≡ self.now }
+        ensures same { seat.new ≡ seat.old }
+        ensures new { (n : ℕ) × (result ≡ split_off n seat.old) }
+    {
+        let mut token = self.table.shared.split_seat::<Sharing>(&mut seat.token);
+        self.table.shared.load::<Naming>(&mut token, SERVING);
+        Seat {
+            token,
+            key: Snapshot::of(&self.key),
+        }
+    }
+
+    /// Takes in another seat of this gate: what it has seen, and its turns.
+    pub fn join(&self, seat: &mut Seat<O>, other: Seat<O>)
+        requires seat { seat.old.gate ≡ self.now }
+        requires other { other.gate ≡ self.now }
+        ensures gate { seat.new.gate ≡ self.now }
+        ensures joined { Joins (Moves O.meaning O.counted) seat.old other seat.new }
+    {
+        let token = other.into_token();
+        self.table
+            .shared
+            .join_seat::<Gathering>(&mut seat.token, token);
+        self.table
+            .shared
+            .load::<Merging<O>>(&mut seat.token, SERVING);
     }
 
     /// Gives the object back, and the number of its turns.

@@ -5,6 +5,7 @@
 mod board;
 mod closing;
 mod gate;
+mod laws;
 mod object;
 mod place;
 mod refusals;
@@ -17,6 +18,7 @@ mod view;
 
 pub use closing::Closing;
 pub use gate::Gate;
+pub use laws::{no_turn_of_two_seats, one_history, one_turn_at_a_time};
 pub use object::Object;
 pub use refusals::{OpenRefused, TryRefused, Worn};
 pub use seat::Seat;

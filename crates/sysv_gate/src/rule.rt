@@ -2,7 +2,7 @@
 use crate::object::Object;
 use crate::place::Place;
 use crate::view::View;
-use atomic_table::{Play, TableRule};
+use atomic_table::{Join, Play, Split, TableRule};
 use std::marker::PhantomData;
 use std::snapshot::Snapshot;
 
@@ -86,4 +86,48 @@ impl<O, C, R> Play<Option<Place<O, C, R>>, View<O, C, R>> for Ending {
     ghost use Rattle.sysv_gate.specs.Steps.{Ends};
 
     ghost then = { Ends };
+}
+
+/// A load that gives a new seat its number.
+pub(crate) struct Naming;
+
+impl<O, C, R> Play<Option<Place<O, C, R>>, View<O, C, R>> for Naming {
+    ghost use Rattle.sysv_gate.specs.Steps.{Names};
+
+    ghost then = { Names };
+}
+
+/// A load after a join, which shows a history that both seats had seen a beginning of.
+pub(crate) struct Merging<O> {
+    object: PhantomData<O>,
+}
+
+impl<O: Object> Play<Option<Place<O, O::Call, O::Reply>>, View<O, O::Call, O::Reply>>
+    for Merging<O> {
+    ghost use Rattle.sysv_gate.specs.History.{Moves};
+    ghost use Rattle.sysv_gate.specs.Steps.{Merges};
+
+    ghost then = { Merges (Moves O.meaning O.counted) };
+}
+
+/// A new seat comes from another.
+pub(crate) struct Sharing;
+
+impl<O, C, R> Split<View<O, C, R>> for Sharing {
+    ghost use Rattle.sysv_gate.specs.Steps.{newcomer};
+
+    ghost left = { λ v. v };
+
+    ghost right = { newcomer };
+}
+
+/// One seat takes in another.
+pub(crate) struct Gathering;
+
+impl<O, C, R> Join<View<O, C, R>> for Gathering {
+    ghost use Rattle.sysv_gate.specs.Steps.{both_of, spent};
+
+    ghost both = { both_of };
+
+    ghost spent = { spent };
 }

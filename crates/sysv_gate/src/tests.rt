@@ -192,3 +192,23 @@ fn spend(rt: &impl Abort, drawer: Option<Drawer>) {
         assert!(rt; number_of(kept) > 0);
     }
 }
+
+// A seat that was split off sees what its origin has seen, and a join brings the turns of both together.
+#[test]
+fn seats_come_and_go(rt: HostRuntime) -> Result<(), Fail> {
+    let (gate, mut seat) = opened(&rt, 100).ok_or("no memory")?;
+    assert!(rt; matches!(&gate.try_call(&mut seat, 1), Ok(0)));
+    let mut other = gate.split(&mut seat);
+    assert!(rt; matches!(&gate.try_call(&mut other, 2), Ok(1)));
+    assert!(rt; matches!(&gate.call(&rt, &mut seat, 3), Ok(3)));
+    let third = gate.split(&mut other);
+    gate.join(&mut seat, other);
+    gate.join(&mut seat, third);
+    assert!(rt; matches!(&gate.try_call(&mut seat, 4), Ok(6)));
+    let closing = gate.close(seat);
+    assert_eq!(rt;
+        (closing.turns, closing.object.map(|sum| sum.sum)),
+        (4, Some(10))
+    );
+    Ok(())
+}

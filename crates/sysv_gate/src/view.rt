@@ -23,6 +23,8 @@ pub struct View<O, C, R> {
     pub numbers: LinkedList<u64>,
     /// The history that the seat has seen.
     pub seen: LinkedList<Turn<O, C, R>>,
+    /// What another seat had seen that was joined into this one, until the next look.
+    pub also: LinkedList<Turn<O, C, R>>,
     /// The places in the history of the turns that were made under its numbers.
     pub own: LinkedList<u64>,
     /// The ticket that the seat holds, if it holds one.
