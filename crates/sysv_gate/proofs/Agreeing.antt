@@ -35,7 +35,7 @@ module _ {O C R : Type 0} where
         let mine = (kept.each i v at).own p in
         let theirs = (kept.each k w there).own p in
         let apart = made_by_one v.numbers w.numbers
-            (λ x. let all = kept.apart x in let two = two-le-sum_by (λ (u : View O C R). times x u.numbers) views i k v w other at there in omega arith) log p in
+        (λ x. let all = kept.apart x in let two = two-le-sum_by (λ (u : View O C R). times x u.numbers) views i k v w other at there in omega arith) log p in
         omega arith
 
     pub one_history : OneHistory {C = C} {R = R} moves

@@ -8,3 +8,4 @@ pub mod Turning
 pub mod Seating
 pub mod AtTheEnd
 pub mod Agreeing
+pub mod Crossing

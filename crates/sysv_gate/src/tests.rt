@@ -1,5 +1,7 @@
 ghost use Rattle.std.specs.Prelude.{◌≡◌, ℕ, ◌+◌, ◌%◌, ◌^◌, ◌≤◌, ◌<◌, IfSome};
 
+mod threads;
+
 use crate::{Gate, Object, OpenRefused, Seat, TryRefused};
 use std::process::Abort;
 use std::test::Fail;
