@@ -1,0 +1,45 @@
+-- The rule's laws.
+use Rattle.std.proofs.Common.{◌≡◌, ◌⊎◌, inl, inr, ⊎_elim, ℕ, zero, suc, ◌+◌, ◌≤◌, List, [], ◌∷◌, ◌++◌, refl, sym, ap, ◌∙◌, subst, arith}
+use mathlib.Core.Option.{some}
+use lib.ListN.{get_elem?}
+use Rattle.sysv_gate.specs.declared.view.View.{View}
+use Rattle.sysv_gate.specs.declared.view.Turn.{Turn}
+use Rattle.sysv_gate.specs.Numbers.{times}
+use Rattle.sysv_gate.specs.History.{BeginsWith, made_at}
+use Rattle.sysv_gate.specs.Laws.{OneTurnAtATime, NoTurnOfTwoSeats, OneHistory}
+use Rattle.sysv_gate.proofs.Sums.{two-le-sum_by}
+use Rattle.sysv_gate.proofs.Keeping.{served_alone}
+
+-- of two beginnings of a list the one begins the other
+begin_each_other : {A : Type 0} (xs ys xs' ys' : List A) → xs ++ xs' ≡ ys ++ ys' → BeginsWith xs ys ⊎ BeginsWith ys xs
+begin_each_other [] ys xs' ys' same = inr (ys, refl)
+begin_each_other (x ∷ xs) [] xs' ys' same = inl (x ∷ xs, refl)
+begin_each_other {A} (x ∷ xs) (y ∷ ys) xs' ys' same =
+    let first : x ≡ y = cc in
+    let rest : xs ++ xs' ≡ ys ++ ys' = cc in
+    ⊎_elim (λ (b : BeginsWith xs ys). inl (b.0, λ i. first i ∷ b.1 i)) (λ (b : BeginsWith ys xs). inr (b.0, λ i. sym first i ∷ b.1 i)) (begin_each_other xs ys xs' ys' rest)
+
+module _ {O C R : Type 0} where
+  made_by_one : (one two : List ℕ) → ((x : ℕ) → times x one + times x two ≤ 1) → (ts : List (Turn O C R)) (p : ℕ) → made_at one ts p + made_at two ts p ≤ 1
+  made_by_one one two apart [] p = omega arith
+  made_by_one one two apart (u ∷ us) zero = apart u.by
+  made_by_one one two apart (u ∷ us) (suc p) = made_by_one one two apart us p
+
+  module _ (moves : O → C → R → O → Type 0) where
+    pub one_turn : OneTurnAtATime {C = C} {R = R} moves
+    one_turn opening first log drawn homes views kept i k v w other at there turn =
+        served_alone moves opening first log drawn i homes views v kept at ((kept.each i v at).turn turn).0 k w other there
+
+    pub no_turn_of_two : NoTurnOfTwoSeats {C = C} {R = R} moves
+    no_turn_of_two opening first log drawn homes views kept i k v w other at there p =
+        let mine = (kept.each i v at).own p in
+        let theirs = (kept.each k w there).own p in
+        let apart = made_by_one v.numbers w.numbers
+        (λ x. let all = kept.apart x in let two = two-le-sum_by (λ (u : View O C R). times x u.numbers) views i k v w other at there in omega arith) log p in
+        omega arith
+
+    pub one_history : OneHistory {C = C} {R = R} moves
+    one_history opening first log drawn homes views kept i k v w other at there =
+        let one = (kept.each i v at).seen in
+        let two = (kept.each k w there).seen in
+        begin_each_other v.seen w.seen one.0 two.0 (sym one.1 ∙ two.1)

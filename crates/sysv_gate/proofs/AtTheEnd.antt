@@ -1,0 +1,100 @@
+-- What is known of a table that was closed.
+use Rattle.std.proofs.Common.{◌≡◌, ◌≢◌, ℕ, zero, suc, ◌+◌, ◌-◌, ◌<◌, List, [], ◌∷◌, length, get_or, refl, sym, ap, ◌∙◌, subst, arith}
+use Rattle.std.specs.Prelude.{Option, Some, None, IfSome, IfNone}
+use mathlib.Core.Option.{some, some-injective, some-ne-none}
+use lib.ListN.{get_elem?}
+use Rattle.atomic_table.specs.Table.{Final, Seen}
+use Rattle.atomic_table.specs.declared.shared.Seat.{Seat}
+use Rattle.sysv_gate.specs.declared.closing.Closing.{Closing}
+use Rattle.sysv_gate.specs.declared.view.View.{View}
+use Rattle.sysv_gate.specs.declared.view.Turn.{Turn}
+use Rattle.sysv_gate.specs.Numbers.{times}
+use Rattle.sysv_gate.specs.History.{BeginsWith, IsLegal, after_all, HasItsOwn}
+use Rattle.sysv_gate.specs.Rule.{Spot, put, Gated}
+use Rattle.sysv_gate.specs.Gates.{Holding}
+use Rattle.sysv_gate.specs.Held.{Rests}
+use Rattle.sysv_gate.specs.Closings.{held_object, ATurnIsDue, Closes}
+use Rattle.sysv_gate.proofs.Sums.{some_part}
+use Rattle.sysv_gate.proofs.Counting.{once_between-first}
+use Rattle.sysv_gate.proofs.Keeping.{no_ticket_no_turn, own_turns}
+
+read_at : (xs : List ℕ) (i a : ℕ) → get_elem? xs i ≡ some a → get_or xs i 0 ≡ a
+read_at [] i a at = absurd (some-ne-none a (sym at))
+read_at (x ∷ xs) zero a at = some-injective x a at
+read_at (x ∷ xs) (suc i) a at = read_at xs i a at
+
+module _ {O C R : Type 0} (moves : O → C → R → O → Type 0) where
+  -- what is known under one spelling of the key is known under another
+  pub spelled : (o o' : O) (f f' id : ℕ) (v : View O C R) (ws : List ℕ) (xs : List (Spot O C R)) → o ≡ o' → f ≡ f' → Final (Seen (Gated moves o f) id v) ws xs → Final (Seen (Gated moves o' f') id v) ws xs
+  spelled o o' f f' id v ws xs same_object same_first final = subst (λ (n : ℕ). Final (Seen (Gated moves o' n) id v) ws xs) same_first (subst (λ (p : O). Final (Seen (Gated moves p f) id v) ws xs) same_object final)
+
+  -- what the last state of the table tells a seat that rests
+  pub record Ended (h : Holding O C R) (served next : ℕ) (spot : Spot O C R) : Type 0 where
+    pub log : List (Turn O C R)
+    pub legal : IsLegal moves h.gate.opening log
+    pub longer : BeginsWith log h.seen
+    pub own : HasItsOwn h.numbers h.own log
+    pub count : served ≡ h.gate.first + length log
+    pub whole : served ≡ next → held_object spot ≡ Some (after_all h.gate.opening log)
+    pub due : served ≢ next → ATurnIsDue moves h.gate log
+
+  pub ended : (h : Holding O C R) (token : Seat (Spot O C R) (View O C R)) (ws : List ℕ) (xs : List (Spot O C R)) (served next : ℕ) (spot : Spot O C R) → Rests h token
+      → Final (Seen (Gated moves h.gate.opening h.gate.first) token.id token.me.0) ws xs → get_elem? ws 0 ≡ some served → get_elem? ws 16 ≡ some next → get_elem? xs 0 ≡ some spot → Ended h served next spot
+  ended h token ws xs served next spot rests final at_serving at_next at_spot =
+      let s = final.0 in
+      let held = final.1.0 in
+      let at = final.1.1 in
+      let log : List (Turn O C R) = held.2.0 in
+      let kept = held.2.2 in
+      let opening : O = h.gate.opening in
+      let first : ℕ = h.gate.first in
+      let drawn : ℕ = get_or s.words 16 0 in
+      let same_served : get_or s.words 0 0 ≡ served = ap (λ (l : List ℕ). get_or l 0 0) final.2 ∙ read_at ws 0 served at_serving in
+      let same_next : drawn ≡ next = ap (λ (l : List ℕ). get_or l 16 0) final.2 ∙ read_at ws 16 next at_next in
+      let count : served ≡ first + length log = sym same_served ∙ held.2.1 in
+      let order = kept.order in
+      let own = own_turns moves opening first log drawn token.id s.homes s.views token.me.0 kept at in
+      record {
+        log = log;
+        legal = kept.legal;
+        longer = subst (BeginsWith log) rests.seen (kept.each token.id token.me.0 at).seen;
+        own = subst (λ (l : List ℕ). HasItsOwn h.numbers l log) rests.own (subst (λ (l : List ℕ). HasItsOwn l token.me.0.own log) rests.numbers own);
+        count = count;
+        whole = λ all.
+            let home = kept.home (no_ticket_no_turn moves opening first log drawn s.homes s.views kept (omega arith)) in
+            let back : get_elem? xs 0 ≡ some (put (after_all opening log) home.0) = final.4 0 (put (after_all opening log) home.0) home.1 in
+            ap held_object (some-injective spot (put (after_all opening log) home.0) (sym at_spot ∙ back));
+        due = λ more.
+            let s' : ℕ = first + length log in
+            let less : s' < drawn = omega arith in
+            let all = kept.tickets s' in
+            let holder = some_part (λ (v : View O C R). times s' v.tickets) s.views (omega (arith, once_between-first s' drawn less)) in
+            (drawn, s.homes, s.views, kept, holder);
+      }
+
+  pub closes_whole : (h : Holding O C R) (served next : ℕ) (spot : Spot O C R) (c : Closing O) → Ended h served next spot → served ≡ next → c.object ≡ held_object spot → c.rest ≡ None → c.turns ≡ served - h.gate.first → Closes moves h c
+  closes_whole h served next spot c end all object rest turns =
+      let count = end.count in
+      let is : c.object ≡ Some (after_all h.gate.opening end.log) = object ∙ end.whole all in
+      record {
+        log = end.log;
+        legal = end.legal;
+        longer = end.longer;
+        own = end.own;
+        turns = turns ∙ (omega arith);
+        object = subst (λ (x : Option O). IfSome x (λ o. (o ≡ after_all h.gate.opening end.log) × (c.rest ≡ None))) (sym is) (refl, rest);
+        due = subst (λ (x : Option O). IfNone x (ATurnIsDue moves h.gate end.log)) (sym is) tt;
+      }
+
+  pub closes_due : (h : Holding O C R) (served next : ℕ) (spot : Spot O C R) (c : Closing O) → Ended h served next spot → served ≢ next → c.object ≡ None → c.turns ≡ served - h.gate.first → Closes moves h c
+  closes_due h served next spot c end more object turns =
+      let count = end.count in
+      record {
+        log = end.log;
+        legal = end.legal;
+        longer = end.longer;
+        own = end.own;
+        turns = turns ∙ (omega arith);
+        object = subst (λ (x : Option O). IfSome x (λ o. (o ≡ after_all h.gate.opening end.log) × (c.rest ≡ None))) (sym object) tt;
+        due = subst (λ (x : Option O). IfNone x (ATurnIsDue moves h.gate end.log)) (sym object) (end.due more);
+      }

@@ -1,0 +1,78 @@
+-- A seat may go to another thread, and threads may share a gate, where its object may cross threads.
+use Rattle.std.proofs.Common.{List, [], ◌∷◌}
+use denote.RattleType.{RattleType}
+use denote.Param.{param}
+use denote.Param.Send.{IsSend, IsSync, AllSend, sendable, view_send, view_sync, part_keyless}
+use Rattle.sysv_gate.specs.declared.object.Object.{Ghosts}
+use Rattle.sysv_gate.specs.History.{Moves}
+use Rattle.sysv_gate.specs.Rule.{Gated, start}
+use denote.Struct.Field.{row_field, u64-field}
+use Rattle.std.specs.contracts.option.Option as option
+use Rattle.std.proofs.option.Option.TheSendSync as crossing
+use denote.Struct.Tuple.{parts, type_at, TupleAt}
+use denote.Param.SendFields.{FieldsHave, declared_send, declared_sync, as_row_send, as_row_sync}
+use Rattle.std.specs.contracts.snapshot.Snapshot as snapshot
+use Rattle.atomic_table.specs.contracts.shared.Seat as token
+use Rattle.atomic_table.proofs.shared.Seat.TheSendSync as tokens
+use Rattle.atomic_table.specs.contracts.owned.Table as table
+use Rattle.atomic_table.proofs.owned.Table.TheSendSync as tables
+use Rattle.std.specs.contracts.alloc.Global as heap
+use Rattle.std.proofs.alloc.Global.TheSendSync as heaps
+use Rattle.std.proofs.Crossing.{frees}
+use Rattle.sysv_gate.specs.contracts.rule.Gating as gating
+use Rattle.sysv_gate.specs.contracts.view.View as view
+use Rattle.sysv_gate.specs.contracts.place.Done as done
+use Rattle.sysv_gate.specs.contracts.place.Place as place
+use Rattle.sysv_gate.specs.contracts.rule.Key as key
+use Rattle.sysv_gate.specs.contracts.seat.Seat as seat
+use Rattle.sysv_gate.specs.contracts.seat.Seat.TheInside as inside
+use Rattle.sysv_gate.specs.contracts.gate.Gate as gate
+use Rattle.sysv_gate.specs.contracts.gate.Gate.TheInside as within
+
+snapshot_send : (T : RattleType) → IsSend (snapshot.the_row T)
+snapshot_send T = record { owned = λ d vs. ((λ vss. (tt, ((λ uss. (tt, tt)), tt))), tt); leaving = λ k d w. tt }
+
+snapshot_sync : (T : RattleType) → IsSync (snapshot.the_row T)
+snapshot_sync T = record { shared = λ d b o κ q. part_keyless (snapshot.the_row T) (snapshot_send T) q d b o }
+
+done_send : (C R : RattleType) → IsSend (done.the_row C R)
+done_send C R = declared_send (done.the_type C R) (as_row_send (snapshot.the_field C) (snapshot_send C), (as_row_send (snapshot.the_field R) (snapshot_send R), tt))
+
+key_send : (O : RattleType) → IsSend (key.the_row O)
+key_send O = declared_send (key.the_type O) (as_row_send (snapshot.the_field O) (snapshot_send O), (as_row_send u64-field (search sendable), tt))
+
+place_send : (O C R : RattleType) → IsSend O → IsSend (place.the_row O C R)
+place_send O C R s = declared_send (place.the_type O C R) (as_row_send (row_field O) s, (as_row_send (option.the_field (done.the_row C R)) (crossing.the_field_send (done.the_row C R) (done_send C R)), tt))
+
+spot_send : (O C R : RattleType) → IsSend O → IsSend (option.the_row (place.the_row O C R))
+spot_send O C R s = crossing.the_send (place.the_row O C R) (place_send O C R s)
+
+key_sync : (O : RattleType) → IsSync (key.the_row O)
+key_sync O = declared_sync (key.the_type O) (as_row_sync (snapshot.the_field O) (snapshot_sync O), (as_row_sync u64-field (search sendable), tt))
+
+inside_send : (O C R : RattleType) (g : Ghosts O.Denot C.Denot R.Denot) → IsSend O → IsSend (inside.the_row O C R g)
+inside_send O C R g s = declared_send (inside.the_type O C R g) (
+  as_row_send (token.the_field (option.the_row (place.the_row O C R)) (view.the_row O C R)) (tokens.the_send (option.the_row (place.the_row O C R)) (view.the_row O C R) (spot_send O C R s)),
+  (as_row_send (snapshot.the_field (key.the_row O)) (snapshot_send (key.the_row O)), tt),
+)
+
+pub seat_send : (O C R : RattleType) (g : Ghosts O.Denot C.Denot R.Denot) → IsSend O → IsSend (seat.the_row O C R g)
+seat_send O C R g s = view_send (inside.the_row O C R g) _ _ _ _ (inside_send O C R g s)
+
+pub gate_sync : (O C R : RattleType) (g : Ghosts O.Denot C.Denot R.Denot) → IsSend O → IsSync (gate.the_row O C R g)
+gate_sync O C R g s = view_sync (within.the_row O C R g) _ _ _ _
+    (declared_sync (within.the_type O C R g) (
+      tables.the_sync (option.the_row (place.the_row O C R)) (view.the_row O C R) (key.the_row O) (gating.the_row O) heap.the_row (record { holds = λ k. Gated (Moves g.meaning g.counted) k.opening.value k.first; first = λ k. start k.opening.value k.first }) _ (spot_send O C R s) heaps.the_send heaps.the_sync frees,
+      (key_sync O, tt),
+    ))
+
+-- what a closure captures goes to another thread where each part may
+parts_send : (Ts : List RattleType) → AllSend Ts → FieldsHave IsSend (parts Ts)
+parts_send [] s = tt
+parts_send (T ∷ Ts) s = (as_row_send (row_field T) s.0, parts_send Ts s.1)
+
+pub captured_send : (Ts : List RattleType) → AllSend Ts → IsSend (TupleAt [] Ts)
+captured_send Ts s = declared_send (type_at [] Ts) (parts_send Ts s)
+
+-- `search` finds them
+pub ruleset crossing_gates = (seat_send, gate_sync)

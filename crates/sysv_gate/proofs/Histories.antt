@@ -1,0 +1,67 @@
+-- Histories that grow by one turn.
+use Rattle.std.proofs.Common.{◌≡◌, ℕ, zero, suc, ◌+◌, ◌≤◌, ◌==◌, cond, List, [], ◌∷◌, ◌++◌, length, sym, refl, ap, ◌∙◌, arith, append_assoc, length-append}
+use Rattle.std.proofs.lemmas.List.{append-nil, nil_from_length}
+use Rattle.std.proofs.lemmas.Bool.Decides.{nat_tests}
+use Rattle.sysv_gate.specs.declared.view.Turn.{Turn}
+use Rattle.sysv_gate.specs.Numbers.{times, NoneTwice}
+use Rattle.sysv_gate.proofs.Counting.{times-append}
+use Rattle.sysv_gate.specs.History.{BeginsWith, after_all, IsLegal, made_at}
+
+module _ {A : Type 0} where
+  pub begins_self : (xs : List A) → BeginsWith xs xs
+  begins_self xs = ([], sym (append-nil xs))
+
+  pub begins_snoc : (whole part : List A) (x : A) → BeginsWith whole part → BeginsWith (whole ++ x ∷ []) part
+  begins_snoc whole part x b = (b.0 ++ x ∷ [], ap (λ (l : List A). l ++ x ∷ []) b.1 ∙ append_assoc part b.0 (x ∷ []))
+
+  -- a beginning that is as long as the whole is the whole
+  pub begins_whole : (whole part : List A) → BeginsWith whole part → length whole ≤ length part → part ≡ whole
+  begins_whole whole part b le =
+      let more : List A = b.0 in
+      let e : length whole ≡ length part + length more = ap length b.1 ∙ length-append part more in
+      let none : more ≡ [] = nil_from_length more (omega arith) in
+      sym (b.1 ∙ ap (λ (l : List A). part ++ l) none ∙ append-nil part)
+
+module _ {O C R : Type 0} where
+  pub after_all-snoc : (o : O) (ts : List (Turn O C R)) (t : Turn O C R) → after_all o (ts ++ t ∷ []) ≡ t.after
+  after_all-snoc o [] t = refl
+  after_all-snoc o (u ∷ us) t = after_all-snoc u.after us t
+
+  module _ (moves : O → C → R → O → Type 0) where
+    pub legal-snoc : (o : O) (ts : List (Turn O C R)) (t : Turn O C R) → IsLegal moves o ts → moves (after_all o ts) t.call t.reply t.after → IsLegal moves o (ts ++ t ∷ [])
+    legal-snoc o [] t legal move = (move, tt)
+    legal-snoc o (u ∷ us) t legal move = (legal.0, legal-snoc u.after us t legal.1 move)
+
+    -- what rises by one at most in each turn rises by the number of turns at most
+    pub rises : (f : O → ℕ) → ((o : O) (c : C) (r : R) (o' : O) → moves o c r o' → f o' ≤ f o + 1) → (o : O) (ts : List (Turn O C R)) → IsLegal moves o ts → f (after_all o ts) ≤ f o + length ts
+    rises f each o [] legal = omega arith
+    rises f each o (u ∷ us) legal = let first = each o u.call u.reply u.after legal.0 in let more = rises f each u.after us legal.1 in omega arith
+
+  -- who has no number has made no turn
+  pub made_at-nobody : (ts : List (Turn O C R)) (p : ℕ) → made_at [] ts p ≡ 0
+  made_at-nobody [] p = refl
+  made_at-nobody (u ∷ us) zero = refl
+  made_at-nobody (u ∷ us) (suc p) = made_at-nobody us p
+
+  pub made_at-append : (one two : List ℕ) (ts : List (Turn O C R)) (p : ℕ) → made_at (one ++ two) ts p ≡ made_at one ts p + made_at two ts p
+  made_at-append one two [] p = omega arith
+  made_at-append one two (u ∷ us) zero = times-append u.by one two
+  made_at-append one two (u ∷ us) (suc p) = made_at-append one two us p
+
+  module _ (numbers : List ℕ) where
+    pub made_at-le : NoneTwice numbers → (ts : List (Turn O C R)) (p : ℕ) → made_at numbers ts p ≤ 1
+    made_at-le none [] p = omega arith
+    made_at-le none (u ∷ us) zero = none u.by
+    made_at-le none (u ∷ us) (suc p) = made_at-le none us p
+
+    pub made_at-mine : (ts : List (Turn O C R)) (t : Turn O C R) (p : ℕ) → times t.by numbers ≡ 1 → made_at numbers (ts ++ t ∷ []) p ≡ made_at numbers ts p + cond (length ts == p) 1 0
+    made_at-mine [] t zero mine = mine
+    made_at-mine [] t (suc p) mine = grind (arith, nat_tests)
+    made_at-mine (u ∷ us) t zero mine = grind (arith, nat_tests)
+    made_at-mine (u ∷ us) t (suc p) mine = let r = made_at-mine us t p mine in grind (arith, nat_tests)
+
+    pub made_at-theirs : (ts : List (Turn O C R)) (t : Turn O C R) (p : ℕ) → times t.by numbers ≡ 0 → made_at numbers (ts ++ t ∷ []) p ≡ made_at numbers ts p
+    made_at-theirs [] t zero theirs = theirs
+    made_at-theirs [] t (suc p) theirs = refl
+    made_at-theirs (u ∷ us) t zero theirs = refl
+    made_at-theirs (u ∷ us) t (suc p) theirs = made_at-theirs us t p theirs

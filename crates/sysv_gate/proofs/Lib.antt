@@ -1,0 +1,11 @@
+pub mod Sums
+pub mod Counting
+pub mod Histories
+pub mod Keeping
+pub mod Stepping
+pub mod Opening
+pub mod Turning
+pub mod Seating
+pub mod AtTheEnd
+pub mod Agreeing
+pub mod Crossing

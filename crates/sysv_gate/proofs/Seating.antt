@@ -1,0 +1,284 @@
+-- How seats come, and how one is joined into another.
+use Rattle.std.proofs.Common.{◌≡◌, ◌≢◌, ℕ, zero, suc, ◌+◌, ◌^◌, ◌<◌, ◌≤◌, ◌||◌, Bool, true, false, List, [], ◌∷◌, ◌++◌, ◌⊎◌, inl, inr, ⊎_elim, length, set, get_or, refl, sym, ap, ◌∙◌, subst, arith, length-set, length-append, Option, Some, None}
+use Rattle.std.specs.Prelude.{sum_by}
+use mathlib.Core.Bool.{true≢false}
+use mathlib.Core.Logic.{dite}
+use native.Mathlib.Decide.{ℕ_discrete}
+use mathlib.Core.Option.{none, some, some-injective, some-ne-none}
+use lib.ListN.{get_elem?}
+use Rattle.std.proofs.lemmas.List.Sums.{sum_by_push}
+use Rattle.atomic_table.specs.Table.{State, step, keeps, stepped, Allows, Splits, Joins}
+use Rattle.atomic_table.proofs.Lists.{at_set, at_longer, at_snoc, set_else, set_again}
+use Rattle.sysv_gate.specs.declared.view.View.{View}
+use Rattle.sysv_gate.specs.declared.view.Turn.{Turn}
+use Rattle.sysv_gate.specs.Numbers.{times}
+use Rattle.sysv_gate.specs.History.{BeginsWith, IsLegal, made_at, HasItsOwn}
+use Rattle.sysv_gate.specs.Rule.{Homes, Spot, bearers, Fits, IsKept, Gated}
+use Rattle.sysv_gate.specs.Gates.{Gateway, Holding}
+use Rattle.sysv_gate.specs.Gates.{Joins as Joined}
+use Rattle.sysv_gate.specs.Steps.{Mine, newcomer, named, both_of, spent, merged, Names, Gathers, Merges}
+use Rattle.sysv_gate.proofs.Sums.{set_at, each_set, each_before, sum_by-set_at}
+use Rattle.sysv_gate.proofs.Counting.{times-one, times-append, one-le-one, another}
+use Rattle.sysv_gate.proofs.Histories.{begins_self, made_at-nobody, made_at-append}
+use Rattle.sysv_gate.proofs.Keeping.{own_turns, stays}
+use Rattle.sysv_gate.proofs.Stepping.{on_serving}
+
+module _ {A : Type 0} where
+  at_below : (xs : List A) (i : ℕ) (a : A) → get_elem? xs i ≡ some a → i < length xs
+  at_below [] i a at = absurd (some-ne-none a (sym at))
+  at_below (x ∷ xs) zero a at = omega arith
+  at_below (x ∷ xs) (suc i) a at = let r = at_below xs i a at in omega arith
+
+  at_snoc_place : (xs : List A) (b a : A) (k : ℕ) → get_elem? (xs ++ b ∷ []) k ≡ some a → (get_elem? xs k ≡ some a) ⊎ ((k ≡ length xs) × (b ≡ a))
+  at_snoc_place [] b a zero at = inr (refl, some-injective b a at)
+  at_snoc_place [] b a (suc k) at = absurd (some-ne-none a (sym at))
+  at_snoc_place (x ∷ xs) b a zero at = inl at
+  at_snoc_place (x ∷ xs) b a (suc k) at = ⊎_elim inl (λ t. inr (ap suc t.0, t.1)) (at_snoc_place xs b a k at)
+
+module _ {O C R : Type 0} (moves : O → C → R → O → Type 0) (opening : O) (first : ℕ) where
+  abbrev V : Type 0
+  V = View O C R
+
+  abbrev Log : Type 0
+  Log = List (Turn O C R)
+
+  abbrev St : Type 0
+  St = State (Spot O C R) V
+
+  abbrev M : Type 0
+  M = Mine O C R
+
+  abbrev Holds : St → Type 0
+  Holds = Gated moves opening first
+
+  -- a number that was none's becomes the seat's
+  naming_keeps : (log : Log) (drawn id : ℕ) (homes : Homes O C R) (views : List V) (v : V) (o : O) → IsKept moves opening first log drawn homes views → get_elem? views id ≡ some v → v.opening ≡ Some o → v.numbers ≡ [] → v.in_turn ≡ false
+      → IsKept moves opening first log drawn homes (set views id (named id v))
+  naming_keeps log drawn id homes views v o kept at knows empty idle =
+      let w : V = named id v in
+      let fits = kept.each id v at in
+      let nobody : bearers id views ≡ 0 = kept.nameless id v at o knows empty in
+      let more : (x : ℕ) → bearers x (set views id w) ≡ bearers x views + times x (id ∷ []) = λ x.
+      let sums = sum_by-set_at (λ (u : V). times x u.numbers) views id v w at in
+      let bare : times x v.numbers ≡ 0 = ap (times x) empty in
+      omega arith in
+      let apart_from : (x : ℕ) → id ≢ x → times x (id ∷ []) ≡ 0 = λ x ne. another id x (times-one x id) ne in
+      let below = at_below views id v at in
+      record {
+        legal = kept.legal;
+        tickets = λ x. let before = kept.tickets x in let sums = sum_by-set_at (λ (u : V). times x u.tickets) views id v w at in omega arith;
+        order = kept.order;
+        limit = kept.limit;
+        apart = λ x.
+            let now = more x in
+            let before = kept.apart x in
+            dite (ℕ_discrete id x) (λ e. let free : bearers x views ≡ 0 = subst (λ (n : ℕ). bearers n views ≡ 0) e nobody in omega (arith, times-one x id, one-le-one id x))
+            (λ ne. let other = apart_from x ne in omega arith);
+        unused = λ x le.
+            let long : length (set views id w) ≡ length views = length-set views id w in
+            let now = more x in
+            let before = kept.unused x (omega arith) in
+            let other = apart_from x (λ e. omega arith) in
+            omega arith;
+        nameless = λ i u there p is bare.
+            ⊎_elim
+            (λ t. let clash : id ∷ [] ≡ [] = ap (λ (a : V). a.numbers) t.1 ∙ bare in absurd (cc))
+            (λ t. let ne = t.0 in let now = more i in let before = kept.nameless i u t.1 p is bare in let other = apart_from i (λ e. ne (sym e)) in omega arith) (at_set views id i w u there);
+        known = λ x free p. let now = more x in let before : bearers x views ≡ 0 = omega arith in kept.known x before p;
+        each = each_set (Fits opening first log drawn) (Fits opening first log drawn) views id w kept.each (λ k u _ _ fit. fit)
+            (record {
+              start = fits.start;
+              seen = fits.seen;
+              also = fits.also;
+              turn = λ turn. absurd (true≢false (sym turn ∙ idle));
+              own = λ p. fits.own p ∙ ap (λ (l : List ℕ). made_at l log p) empty ∙ made_at-nobody log p ∙ sym (kept.known id nobody p);
+              worn = fits.worn;
+            });
+        home = λ turns. kept.home (each_before (λ (u : V). u.in_turn ≡ false) views id v w at turns idle);
+      }
+
+  pub names : (slots id : ℕ) (me : M) (o : O) → me.0.opening ≡ Some o → me.0.numbers ≡ [] → me.0.in_turn ≡ false → Allows Holds slots id me 0 (λ n. n) (Names (step slots 0 0 0 none) me)
+  names slots id me o knows empty idle s held _ at _ =
+      let w : V = named id me.0 in
+      let log : Log = held.2.0 in (
+        w,
+        keeps,
+        tt,
+        on_serving moves opening first s log (get_or s.words 0 0) s.homes (set s.views id w) held.0 held.1 held.2.1
+            (naming_keeps log (get_or s.words 16 0) id s.homes s.views me.0 o held.2.2 at knows empty idle),
+        (id, refl),
+      )
+
+  -- a seat comes that has seen what another has
+  coming_keeps : (log : Log) (drawn id : ℕ) (homes : Homes O C R) (views : List V) (v : V) → IsKept moves opening first log drawn homes views → get_elem? views id ≡ some v → IsKept moves opening first log drawn homes (views ++ newcomer v ∷ [])
+  coming_keeps log drawn id homes views v kept at =
+      let w : V = newcomer v in
+      let fits = kept.each id v at in
+      let same : (x : ℕ) → bearers x (views ++ w ∷ []) ≡ bearers x views = λ x. let sums = sum_by_push (λ (u : V). times x u.numbers) views w in omega arith in
+      record {
+        legal = kept.legal;
+        tickets = λ x. let before = kept.tickets x in let sums = sum_by_push (λ (u : V). times x u.tickets) views w in omega arith;
+        order = kept.order;
+        limit = kept.limit;
+        apart = λ x. let before = kept.apart x in let now = same x in omega arith;
+        unused = λ x le. let long : length (views ++ w ∷ []) ≡ length views + 1 = length-append views (w ∷ []) in same x ∙ kept.unused x (omega arith);
+        nameless = λ i u there o is bare. same i ∙ ⊎_elim (λ t. kept.nameless i u t o is bare) (λ t. kept.unused i (let e = t.0 in omega arith)) (at_snoc_place views w u i there);
+        known = λ x free p. kept.known x (sym (same x) ∙ free) p;
+        each = λ k u there.
+            ⊎_elim (λ t. kept.each k u t)
+            (λ t.
+            subst (Fits opening first log drawn) t
+            (record {
+              start = fits.start;
+              seen = fits.seen;
+              also = (log, refl);
+              turn = λ turn. absurd (true≢false (sym turn));
+              own = λ p. sym (made_at-nobody log p);
+              worn = fits.worn;
+            })) (at_snoc views w u k there);
+        home = λ turns. kept.home (λ k u there. turns k u (at_longer views (w ∷ []) k u there));
+      }
+
+  pub splits : (id : ℕ) (v : V) → Splits Holds id v v (newcomer v)
+  splits id v s held at =
+      let log : Log = held.2.0 in
+      let come = coming_keeps log (get_or s.words 16 0) id s.homes s.views v held.2.2 at in
+      (held.0, held.1, (log, held.2.1, subst (λ (l : List V). IsKept moves opening first log (get_or s.words 16 0) s.homes (l ++ newcomer v ∷ [])) (sym (set_again s.views id v at)) come))
+
+  -- one seat takes in another
+  joining_keeps : (log : Log) (drawn id other : ℕ) (homes : Homes O C R) (views : List V) (v w : V) → IsKept moves opening first log drawn homes views → get_elem? views id ≡ some v → other ≢ id
+      → get_elem? (set views id (both_of v w)) other ≡ some w → 1 ≤ times v.number v.numbers → v.in_turn ≡ false → w.tickets ≡ [] → w.in_turn ≡ false
+      → IsKept moves opening first log drawn homes (set (set views id (both_of v w)) other spent)
+  joining_keeps log drawn id other homes views v w kept at apart still named idle empty idle' =
+      let b : V = both_of v w in
+      let middle : List V = set views id b in
+      let there : get_elem? views other ≡ some w = sym (set_else views id other b apart) ∙ still in
+      let fits = kept.each id v at in
+      let fits' = kept.each other w there in
+      let same : (x : ℕ) → bearers x (set middle other spent) ≡ bearers x views = λ x.
+      let sums = sum_by-set_at (λ (u : V). times x u.numbers) views id v b at in
+      let sums' = sum_by-set_at (λ (u : V). times x u.numbers) middle other w spent still in
+      omega (arith, times-append x v.numbers w.numbers) in
+      let both_fits : Fits opening first log drawn b = record {
+        start = fits.start;
+        seen = fits.seen;
+        also = fits'.seen;
+        turn = λ turn. absurd (true≢false (sym turn ∙ idle));
+        own = λ p. let mine = fits.own p in let theirs = fits'.own p in omega (arith, times-append p v.own w.own, made_at-append v.numbers w.numbers log p);
+        worn = either_worn v.worn w.worn drawn fits.worn fits'.worn;
+      } in
+      record {
+        legal = kept.legal;
+        tickets = λ x.
+            let before = kept.tickets x in
+            let bare : times x w.tickets ≡ 0 = ap (times x) empty in
+            let sums = sum_by-set_at (λ (u : V). times x u.tickets) views id v b at in
+            let sums' = sum_by-set_at (λ (u : V). times x u.tickets) middle other w spent still in
+            omega arith;
+        order = kept.order;
+        limit = kept.limit;
+        apart = λ x. let before = kept.apart x in let now = same x in omega arith;
+        unused = λ x le. same x ∙ kept.unused x (subst (λ (n : ℕ). n ≤ x) (length-set middle other spent ∙ length-set views id b) le);
+        nameless = λ i u here o is bare.
+            same i
+            ∙ ⊎_elim (λ t. let clash : None ≡ Some o = ap (λ (a : V). a.opening) t.1 ∙ is in absurd (cc))
+            (λ t.
+            ⊎_elim
+            (λ r.
+            let none_left : times v.number (v.numbers ++ w.numbers) ≡ 0 = ap (times v.number) (ap (λ (a : V). a.numbers) r.1 ∙ bare) in
+            absurd (omega (arith, times-append v.number v.numbers w.numbers)))
+            (λ r. kept.nameless i u r.1 o is bare) (at_set views id i b u t.1)) (at_set middle other i spent u here);
+        known = λ x free p. kept.known x (sym (same x) ∙ free) p;
+        each = each_set (Fits opening first log drawn) (Fits opening first log drawn) middle other spent
+            (each_set (Fits opening first log drawn) (Fits opening first log drawn) views id b kept.each (λ k u _ _ fit. fit) both_fits) (λ k u _ _ fit. fit)
+            (record {
+              start = λ o is. absurd (cc);
+              seen = (log, refl);
+              also = (log, refl);
+              turn = λ turn. absurd (true≢false (sym turn));
+              own = λ p. sym (made_at-nobody log p);
+              worn = λ mark. absurd (true≢false (sym mark));
+            });
+        home = λ turns. kept.home (each_before (λ (u : V). u.in_turn ≡ false) views id v b at (each_before (λ (u : V). u.in_turn ≡ false) middle other w spent still turns idle') idle);
+      }
+    where
+      either_worn : (a b : Bool) (d : ℕ) → (a ≡ true → 2 ^ 62 ≤ d) → (b ≡ true → 2 ^ 62 ≤ d) → (a || b) ≡ true → 2 ^ 62 ≤ d
+      either_worn true b d one two mark = one refl
+      either_worn false b d one two mark = two mark
+
+  pub joins : (id other : ℕ) (v w : V) → 1 ≤ times v.number v.numbers → v.in_turn ≡ false → w.tickets ≡ [] → w.in_turn ≡ false → Joins Holds id v other w (both_of v w) spent
+  joins id other v w named idle empty idle' s held at apart still =
+      let log : Log = held.2.0 in
+      (held.0, held.1, (log, held.2.1, joining_keeps log (get_or s.words 16 0) id other s.homes s.views v w held.2.2 at apart still named idle empty idle'))
+
+  pub merges : (slots id : ℕ) (me : M) → me.0.in_turn ≡ false → Allows Holds slots id me 0 (λ n. n) (Merges moves (step slots 0 0 0 none) me)
+  merges slots id me idle s held _ at _ =
+      let log : Log = held.2.0 in
+      let kept = held.2.2 in
+      let fits = kept.each id me.0 at in
+      let drawn : ℕ = get_or s.words 16 0 in
+      let w : V = merged log me.0 in (
+        w,
+        keeps,
+        tt,
+        on_serving moves opening first s log (get_or s.words 0 0) s.homes (set s.views id w) held.0 held.1 held.2.1
+            (stays moves opening first log drawn drawn id s.homes s.homes s.views me.0 w kept at (omega arith) kept.limit refl refl (λ x. refl) (λ _. (idle, refl))
+            (record { start = fits.start; seen = begins_self log; also = (log, refl); turn = λ turn. absurd (true≢false (sym turn ∙ idle)); own = fits.own; worn = fits.worn })),
+        λ o is.
+            let same : opening ≡ o = sym (fits.start o is).0 in
+            record { log = log; one = fits.seen; two = fits.also; is = refl; legal = subst (λ (p : O). IsLegal moves p log) same kept.legal; own = own_turns moves opening first log drawn id s.homes s.views me.0 kept at },
+      )
+
+module _ {O C R : Type 0} where
+  -- what a seat has after it took in another and looked
+  pub record Gathered (moves : O → C → R → O → Type 0) (o : O) (v w : View O C R) (slots : List (ℕ × Spot O C R)) (m : Mine O C R) : Type 0 where
+    pub log : List (Turn O C R)
+    pub one : BeginsWith log v.seen
+    pub two : BeginsWith log w.seen
+    pub is : m ≡ (merged log (both_of v w), slots)
+    pub legal : IsLegal moves o log
+    pub own : HasItsOwn (v.numbers ++ w.numbers) (v.own ++ w.own) log
+
+  pub gathered : (moves : O → C → R → O → Type 0) (o : O) (v w : View O C R) (slots : List (ℕ × Spot O C R)) (m m' : Mine O C R) → m ≡ (both_of v w, slots) → Gathers moves o m m' → Gathered moves o v w slots m'
+  gathered moves o v w slots m m' both told =
+      let log : List (Turn O C R) = told.log in record {
+        log = log;
+        one = subst (λ (x : Mine O C R). BeginsWith log x.0.seen) both told.one;
+        two = subst (λ (x : Mine O C R). BeginsWith log x.0.also) both told.two;
+        is = told.is ∙ ap (λ (x : Mine O C R). (merged log x.0, x.1)) both;
+        legal = told.legal;
+        own = subst (λ (x : Mine O C R). HasItsOwn x.0.numbers x.0.own log) both told.own;
+      }
+
+  pub still_named : (v w : View O C R) (m : Mine O C R) (slots : List (ℕ × Spot O C R)) (log : List (Turn O C R)) → m ≡ (merged log (both_of v w), slots) → 1 ≤ times v.number v.numbers → 1 ≤ times m.0.number m.0.numbers
+  still_named v w m slots log is named =
+      let more : 1 ≤ times v.number (v.numbers ++ w.numbers) = omega (arith, times-append v.number v.numbers w.numbers) in
+      subst (λ (x : Mine O C R). 1 ≤ times x.0.number x.0.numbers) (sym is) more
+
+  pub record Shows (h : Holding O C R) (v : View O C R) : Type 0 where
+    pub number : v.number ≡ h.number
+    pub numbers : v.numbers ≡ h.numbers
+    pub seen : v.seen ≡ h.seen
+    pub own : v.own ≡ h.own
+    pub worn : v.worn ≡ h.worn
+
+  pub joins_holding : (moves : O → C → R → O → Type 0) (one two : Holding O C R) (gate : Gateway O) (v w : View O C R) (slots : List (ℕ × Spot O C R)) (m : Mine O C R) → gate ≡ one.gate → Shows one v
+      → w.numbers ≡ two.numbers → w.seen ≡ two.seen → w.own ≡ two.own → w.worn ≡ two.worn → Gathered moves one.gate.opening v w slots m
+      → Joined moves one two (record { gate = gate; number = m.0.number; numbers = m.0.numbers; seen = m.0.seen; own = m.0.own; worn = m.0.worn })
+  joins_holding moves one two gate v w slots m same shows numbers seen own worn told =
+      let log : List (Turn O C R) = told.log in
+      let is = told.is in record {
+        seen = log;
+        begins_one = subst (BeginsWith log) shows.seen told.one;
+        begins_two = subst (BeginsWith log) seen told.two;
+        joined = λ i. record {
+          gate = same i;
+          number = (ap (λ (x : Mine O C R). x.0.number) is ∙ shows.number) i;
+          numbers = (ap (λ (x : Mine O C R). x.0.numbers) is ∙ (λ j. shows.numbers j ++ numbers j)) i;
+          seen = ap (λ (x : Mine O C R). x.0.seen) is i;
+          own = (ap (λ (x : Mine O C R). x.0.own) is ∙ (λ j. shows.own j ++ own j)) i;
+          worn = (ap (λ (x : Mine O C R). x.0.worn) is ∙ (λ j. shows.worn j || worn j)) i;
+        };
+        legal = told.legal;
+        own = subst (λ (x : Mine O C R). HasItsOwn x.0.numbers x.0.own log) (sym is) told.own;
+      }

@@ -1,0 +1,290 @@
+-- Each kind of step keeps the rule.
+use Rattle.std.proofs.Common.{◌≡◌, ℕ, ◌+◌, ◌%◌, ◌^◌, ◌<◌, ◌≤◌, eqb, Bool, true, false, List, [], ◌∷◌, ◌++◌, length, set, get_or, sym, refl, ap, ◌∙◌, subst, arith, length-set, length-append, get_or-set_same, get_or-set_other}
+use Rattle.std.specs.Prelude.{Option, Some, nat_lt}
+use mathlib.Core.Bool.{true≢false}
+use mathlib.Core.Option.{none, some}
+use mathlib.Core.Option as maybe
+use lib.ListN.{get_elem?}
+use prog.Atomic.{either}
+use Rattle.atomic_table.specs.Table.{State, step, keeps, takes, gives, Act, Valid, stepped, carried_after, Allows}
+use Rattle.atomic_table.proofs.Lists.{set_here, exchanged}
+use Rattle.sysv_gate.specs.declared.view.View.{View}
+use Rattle.sysv_gate.specs.declared.view.Turn.{Turn}
+use Rattle.sysv_gate.specs.declared.place.Done.{Done}
+use Rattle.sysv_gate.specs.Numbers.{times, once_between}
+use Rattle.sysv_gate.specs.History.{BeginsWith, after_all, IsLegal, HasItsOwn}
+use Rattle.sysv_gate.specs.Rule.{Homes, Spot, put, IsHome, Fits, IsKept, Gated}
+use Rattle.sysv_gate.specs.Steps.{weighed, drew, looked, entered, turn_of, ended, Mine, Weighs, Draws, Turns, Enters, Ends}
+use Rattle.sysv_gate.proofs.Sums.{set_at}
+use Rattle.sysv_gate.proofs.Counting.{times-one, times-same, once_between-next, holds_some, marked_by, not_true}
+use Rattle.sysv_gate.proofs.Histories.{begins_self, begins_whole}
+use Rattle.sysv_gate.proofs.Keeping.{nobody_in_turn, no_ticket_no_turn, own_turns, stays, grows}
+
+module _ {O C R : Type 0} (moves : O → C → R → O → Type 0) (opening : O) (first : ℕ) where
+  abbrev V : Type 0
+  V = View O C R
+
+  abbrev Log : Type 0
+  Log = List (Turn O C R)
+
+  abbrev St : Type 0
+  St = State (Spot O C R) V
+
+  abbrev M : Type 0
+  M = Mine O C R
+
+  abbrev Holds : St → Type 0
+  Holds = Gated moves opening first
+
+  -- what a step owes at one state
+  abbrev Goes : St → ℕ → ℕ → M → (ℕ → M → Type 0) → ℕ → Type 0
+  Goes s i id me then m = (w : V) × (a : Act (Spot O C R)) × Valid s.homes me.1 a × Holds (stepped s i m id me.1 w a) × then (get_or s.words i 0) (w, carried_after me.1 a)
+
+  -- a step on the word with the ticket that is drawn next
+  on_ticket : (s : St) (log : Log) (drawn : ℕ) (homes : Homes O C R) (views : List V) → length s.words ≡ 32 → length homes ≡ 1 → get_or s.words 0 0 ≡ first + length log
+      → IsKept moves opening first log drawn homes views → Holds record { words = set s.words 16 drawn; homes = homes; views = views }
+  on_ticket s log drawn homes views wide one serves kept = (
+    length-set s.words 16 drawn ∙ wide,
+    one,
+    (log, get_or-set_other s.words 16 0 drawn 0 (λ e. omega arith) ∙ serves, subst (λ (n : ℕ). IsKept moves opening first log n homes views) (sym (get_or-set_same s.words 16 drawn 0 (omega arith))) kept),
+  )
+
+  -- a step on the word with the ticket that is served
+  pub on_serving : (s : St) (log : Log) (served : ℕ) (homes : Homes O C R) (views : List V) → length s.words ≡ 32 → length homes ≡ 1 → served ≡ first + length log
+      → IsKept moves opening first log (get_or s.words 16 0) homes views → Holds record { words = set s.words 0 served; homes = homes; views = views }
+  on_serving s log served homes views wide one serves kept = (
+    length-set s.words 0 served ∙ wide,
+    one,
+    (
+      log,
+      get_or-set_same s.words 0 served 0 (omega arith) ∙ serves,
+      subst (λ (n : ℕ). IsKept moves opening first log n homes views) (sym (get_or-set_other s.words 0 16 served 0 (λ e. omega arith))) kept,
+    ),
+  )
+
+  pub weighs : (slots id : ℕ) (me : M) → Allows Holds slots id me 16 (λ n. n) (Weighs (step slots 16 0 0 none) me)
+  weighs slots id me s held _ at _ =
+      let n : ℕ = get_or s.words 16 0 in
+      let log : Log = held.2.0 in
+      let kept = held.2.2 in
+      let fits = kept.each id me.0 at in
+      let w : V = weighed n me.0 in (
+        w,
+        keeps,
+        tt,
+        on_ticket s log n s.homes (set s.views id w) held.0 held.1 held.2.1
+            (stays moves opening first log n n id s.homes s.homes s.views me.0 w kept at (omega arith) kept.limit refl refl (λ x. refl) (λ idle. (idle, refl))
+            (record { start = fits.start; seen = fits.seen; also = fits.also; turn = fits.turn; own = fits.own; worn = marked_by me.0.worn n n fits.worn (omega arith) })),
+        (refl, fits.worn),
+      )
+
+  -- a view whose tickets reach 2^62 nowhere is not marked
+  unmarked : (log : Log) (drawn : ℕ) (v : V) → Fits opening first log drawn v → drawn < 2 ^ 62 → v.worn ≡ false
+  unmarked log drawn v fits less = not_true v.worn (λ mark. let limit = fits.worn mark in absurd (omega arith))
+
+  -- what a new ticket does to the held ones
+  one_more : (s n x : ℕ) (tickets : List ℕ) → s ≤ n → tickets ≡ [] → times x (n ∷ []) + once_between s n x ≡ times x tickets + once_between s (n + 1) x
+  one_more s n x tickets le empty = let gone : times x tickets ≡ 0 = ap (times x) empty in omega (arith, times-one x n, once_between-next s n x le)
+
+  pub draws : (slots id : ℕ) (me : M) (ticket next : ℕ) → next ≡ ticket + 1 → ticket < 2 ^ 62 → me.0.tickets ≡ [] → me.0.in_turn ≡ false
+      → Allows Holds slots id me 16 (λ n. either (eqb n ticket) next n) (Draws (step slots 16 ticket next none) me)
+  draws slots id me ticket next up low empty idle s held _ at _ =
+      let n : ℕ = get_or s.words 16 0 in
+      let log : Log = held.2.0 in
+      let kept = held.2.2 in
+      let fits = kept.each id me.0 at in
+      let order = kept.order in
+      let then = Draws (step slots 16 ticket next none) me in
+      exchanged n ticket next (Goes s 16 id me then)
+      (λ hit.
+      let w : V = drew n me.0 in
+      let more : n + 1 ≡ next = omega arith in (
+        w,
+        keeps,
+        tt,
+        subst (λ (m : ℕ). Holds (stepped s 16 m id me.1 w keeps)) more
+            (on_ticket s log (n + 1) s.homes (set s.views id w) held.0 held.1 held.2.1
+            (stays moves opening first log n (n + 1) id s.homes s.homes s.views me.0 w kept at (omega arith) (omega arith) refl refl (λ x. one_more (first + length log) n x me.0.tickets order empty) (λ _. (idle, refl))
+            (record { start = fits.start; seen = fits.seen; also = fits.also; turn = λ turn. absurd (true≢false (sym turn ∙ idle)); own = fits.own; worn = λ mark. let limit = fits.worn mark in omega arith }))),
+        ((λ _. (refl, unmarked log n me.0 fits (omega arith))), λ miss. absurd (miss hit)),
+      ))
+      (λ miss. (
+        me.0,
+        keeps,
+        tt,
+        on_ticket s log n s.homes (set s.views id me.0) held.0 held.1 held.2.1 (stays moves opening first log n n id s.homes s.homes s.views me.0 me.0 kept at (omega arith) kept.limit refl refl (λ x. refl) (λ turn. (turn, refl)) fits),
+        ((λ hit. absurd (miss hit)), λ _. refl),
+      ))
+
+  -- the object is at home, and the seat takes it
+  taken : (s : St) (log : Log) (drawn id : ℕ) (v : V) → IsKept moves opening first log drawn s.homes s.views
+      → ((k : ℕ) (u : V) → get_elem? s.views k ≡ some u → u.in_turn ≡ false) → IsHome (after_all opening log) s.homes
+  taken s log drawn id v kept nobody = kept.home nobody
+
+  -- a look, where b says whether the seat holds the ticket that is served
+  looks_as : (b : Bool) (id : ℕ) (me : M) (s : St) → Holds s → get_elem? s.views id ≡ some me.0 → me.0.in_turn ≡ false → me.1 ≡ []
+      → nat_lt 0 (times (get_or s.words 0 0) me.0.tickets) ≡ b
+      → (a : Act (Spot O C R)) × (log : Log) × Valid s.homes me.1 a × Holds (stepped s 0 (get_or s.words 0 0) id me.1 (record me.0 { seen = log; in_turn = b }) a) × BeginsWith log me.0.seen
+      × (get_or s.words 0 0 ≡ first + length log) × IsLegal moves opening log
+      × (b ≡ true → (last : Option (Done C R)) × (carried_after me.1 a ≡ (0, put (after_all opening log) last) ∷ [])) × (b ≡ false → carried_after me.1 a ≡ me.1)
+  looks_as true id me s held at idle bare holds =
+      let n : ℕ = get_or s.words 0 0 in
+      let log : Log = held.2.0 in
+      let kept = held.2.2 in
+      let fits = kept.each id me.0 at in
+      let drawn : ℕ = get_or s.words 16 0 in
+      let serves : n ≡ first + length log = held.2.1 in
+      let has : 1 ≤ times (first + length log) me.0.tickets = subst (λ (m : ℕ). 1 ≤ times m me.0.tickets) serves (holds_some _ holds) in
+      let home = kept.home (nobody_in_turn moves opening first log drawn id s.homes s.views me.0 kept at has idle) in
+      let w : V = record me.0 { seen = log; in_turn = true } in (
+        takes 0 (put (after_all opening log) home.0),
+        log,
+        home.1,
+        on_serving s log n (set s.homes 0 none) (set s.views id w) held.0 (length-set s.homes 0 none ∙ held.1) serves
+            (stays moves opening first log drawn drawn id s.homes (set s.homes 0 none) s.views me.0 w kept at (omega arith) kept.limit refl refl (λ x. refl) (λ turn. absurd (true≢false turn))
+            (record { start = fits.start; seen = begins_self log; also = fits.also; turn = λ _. (has, refl); own = fits.own; worn = fits.worn })),
+        fits.seen,
+        serves,
+        kept.legal,
+        (λ _. (home.0, ap (λ (xs : List (ℕ × Spot O C R)). (0, put (after_all opening log) home.0) ∷ xs) bare)),
+        λ turn. absurd (true≢false turn),
+      )
+  looks_as false id me s held at idle bare holds =
+      let n : ℕ = get_or s.words 0 0 in
+      let log : Log = held.2.0 in
+      let kept = held.2.2 in
+      let fits = kept.each id me.0 at in
+      let drawn : ℕ = get_or s.words 16 0 in
+      let serves : n ≡ first + length log = held.2.1 in
+      let w : V = record me.0 { seen = log; in_turn = false } in (
+        keeps,
+        log,
+        tt,
+        on_serving s log n s.homes (set s.views id w) held.0 held.1 serves
+            (stays moves opening first log drawn drawn id s.homes s.homes s.views me.0 w kept at (omega arith) kept.limit refl refl (λ x. refl) (λ _. (idle, refl))
+            (record { start = fits.start; seen = begins_self log; also = fits.also; turn = λ turn. absurd (true≢false (sym turn)); own = fits.own; worn = fits.worn })),
+        fits.seen,
+        serves,
+        kept.legal,
+        (λ turn. absurd (true≢false (sym turn))),
+        λ _. refl,
+      )
+
+  pub looks : (slots id : ℕ) (me : M) → me.0.in_turn ≡ false → me.1 ≡ [] → Allows Holds slots id me 0 (λ n. n) (Turns moves (step slots 0 0 0 none) me)
+  looks slots id me idle bare s held _ at _ =
+      let n : ℕ = get_or s.words 0 0 in
+      let kept = held.2.2 in
+      let fits = kept.each id me.0 at in
+      let b : Bool = nat_lt 0 (times n me.0.tickets) in
+      let went = looks_as b id me s held at idle bare refl in
+      let log : Log = went.1 in (
+        looked n log me.0,
+        went.0,
+        went.2,
+        went.3,
+        λ o is.
+            let start = fits.start o is in
+            let same : opening ≡ o = sym start.0 in
+            let counted : n ≡ me.0.first + length log = went.5 ∙ ap (λ (m : ℕ). m + length log) (sym start.1) in
+            let legal : IsLegal moves o log = subst (λ (p : O). IsLegal moves p log) same went.6 in (
+              record { log = log; longer = went.4; count = counted; view = refl },
+              legal,
+              (λ turn.
+                  let out = went.7 turn in
+                  record { legal = legal; out = (out.0, out.1 ∙ ap (λ (p : O). (0, put (after_all p log) out.0) ∷ []) same) }),
+              went.8,
+            ),
+      )
+
+  pub enters : (slots id : ℕ) (me : M) (ticket next : ℕ) (o : O) → next ≡ ticket + 1 → ticket < 2 ^ 62 → me.0.opening ≡ Some o → ticket ≡ me.0.first + length me.0.seen → me.0.tickets ≡ [] → me.0.in_turn ≡ false
+      → me.1 ≡ [] → Allows Holds slots id me 16 (λ n. either (eqb n ticket) next n) (Enters moves (step slots 16 ticket next none) me)
+  enters slots id me ticket next o up low knows count empty idle bare s held _ at _ =
+      let n : ℕ = get_or s.words 16 0 in
+      let log : Log = held.2.0 in
+      let kept = held.2.2 in
+      let fits = kept.each id me.0 at in
+      let order = kept.order in
+      let start = fits.start o knows in
+      let same_first : me.0.first ≡ first = start.1 in
+      let then = Enters moves (step slots 16 ticket next none) me in
+      exchanged n ticket next (Goes s 16 id me then)
+      (λ hit.
+      let w : V = entered n me.0 in
+      let more : n + 1 ≡ next = omega arith in
+      let whole : me.0.seen ≡ log = begins_whole log me.0.seen fits.seen (omega arith) in
+      let long : length me.0.seen ≡ length log = ap length whole in
+      let served : n ≡ first + length log = omega arith in
+      let home = kept.home (no_ticket_no_turn moves opening first log n s.homes s.views kept (omega arith)) in
+      let out = set s.homes 0 maybe.none in
+      let has : 1 ≤ times (first + length log) (n ∷ []) = subst (λ (m : ℕ). 1 ≤ times m (n ∷ [])) served (times-same n) in (
+        w,
+        takes 0 (put (after_all opening log) home.0),
+        home.1,
+        subst (λ (m : ℕ). Holds (stepped s 16 m id me.1 w (takes 0 (put (after_all opening log) home.0)))) more
+            (on_ticket s log (n + 1) out (set s.views id w) held.0 (length-set s.homes 0 maybe.none ∙ held.1) held.2.1
+            (stays moves opening first log n (n + 1) id s.homes out s.views me.0 w kept at (omega arith) (omega arith) refl refl (λ x. one_more (first + length log) n x me.0.tickets order empty) (λ turn. absurd (true≢false turn))
+            (record { start = fits.start; seen = fits.seen; also = fits.also; turn = λ _. (has, whole); own = fits.own; worn = λ mark. let limit = fits.worn mark in omega arith }))),
+        λ p is.
+            let same : opening ≡ p = sym (fits.start p is).0 in (
+              (λ _. (
+                refl,
+                record {
+                  legal = subst (λ (l : Log). IsLegal moves p l) (sym whole) (subst (λ (q : O). IsLegal moves q log) same kept.legal);
+                  out = (
+                    home.0,
+                    ap (λ (xs : List (ℕ × Spot O C R)). (0, put (after_all opening log) home.0) ∷ xs) bare
+                        ∙ ap (λ (l : Log). (0, put (after_all opening l) home.0) ∷ []) (sym whole)
+                        ∙ ap (λ (q : O). (0, put (after_all q me.0.seen) home.0) ∷ []) same,
+                  );
+                },
+                unmarked log n me.0 fits (omega arith),
+              )),
+              λ miss. absurd (miss hit),
+            ),
+      ))
+      (λ miss. (
+        me.0,
+        keeps,
+        tt,
+        on_ticket s log n s.homes (set s.views id me.0) held.0 held.1 held.2.1 (stays moves opening first log n n id s.homes s.homes s.views me.0 me.0 kept at (omega arith) kept.limit refl refl (λ x. refl) (λ turn. (turn, refl)) fits),
+        λ p is. ((λ hit. absurd (miss hit)), λ _. refl),
+      ))
+
+  abbrev Ending : ℕ → ℕ → M → Type 0
+  Ending slots id me = Allows Holds slots id me 0 (λ n. (n + 1) % 2 ^ 64) (Ends (step slots 0 1 0 none) me)
+
+  ends_at : (slots id : ℕ) (v : V) (o : O) (ticket : ℕ) (after : O) (done : Done C R) → v.opening ≡ Some o → v.tickets ≡ ticket ∷ [] → v.in_turn ≡ true → 1 ≤ times v.number v.numbers
+      → moves (after_all o v.seen) done.call.value done.reply.value after → Ending slots id (v, (0, put after (Some done)) ∷ [])
+  ends_at slots id v o ticket after done knows one turn named move s held _ at _ =
+      let n : ℕ = get_or s.words 0 0 in
+      let drawn : ℕ = get_or s.words 16 0 in
+      let log : Log = held.2.0 in
+      let kept = held.2.2 in
+      let fits = kept.each id v at in
+      let limit = kept.limit in
+      let whole = (fits.turn turn).1 in
+      let t : Turn O C R = turn_of v done.call.value done.reply.value after in
+      let w : V = ended v done.call.value done.reply.value after in
+      let homes : Homes O C R = set s.homes 0 (some (put after (Some done))) in
+      let wide : length s.homes ≡ 1 = held.1 in
+      let back : get_elem? homes 0 ≡ some (some (put after (Some done))) = set_here s.homes 0 (some (put after (Some done))) (omega arith) in
+      let same : o ≡ opening = (fits.start o knows).0 in
+      let grown = grows moves opening first log drawn id ticket s.homes homes s.views v done.call.value done.reply.value after (Some done) kept at one turn named
+      (subst (λ (p : O). moves (after_all p v.seen) done.call.value done.reply.value after) same move) back in
+      let less = grown.0 in
+      let serves : n ≡ first + length log = held.2.1 in
+      let next : n + 1 ≡ first + length (log ++ t ∷ []) = omega (arith, length-append log (t ∷ [])) in
+      let small : n + 1 ≡ (n + 1) % 18446744073709551616 = omega arith in
+      let here = set_at s.views id v w at in
+      let own = own_turns moves opening first (log ++ t ∷ []) drawn id homes (set s.views id w) w grown.1 here in (
+        w,
+        gives,
+        tt,
+        subst (λ (m : ℕ). Holds record { words = set s.words 0 m; homes = homes; views = set s.views id w }) small
+            (on_serving s (log ++ t ∷ []) (n + 1) homes (set s.views id w) held.0 (length-set s.homes 0 (some (put after (Some done))) ∙ held.1) next grown.1),
+        (refl, subst (λ (l : Log). HasItsOwn v.numbers (v.own ++ length v.seen ∷ []) (l ++ t ∷ [])) (sym whole) own),
+      )
+
+  pub ends : (slots id : ℕ) (me : M) (v : V) (o : O) (ticket : ℕ) (after : O) (done : Done C R) → me ≡ (v, (0, put after (Some done)) ∷ []) → v.opening ≡ Some o → v.tickets ≡ ticket ∷ [] → v.in_turn ≡ true
+      → 1 ≤ times v.number v.numbers → moves (after_all o v.seen) done.call.value done.reply.value after → Ending slots id me
+  ends slots id me v o ticket after done has knows one turn named move = subst (Ending slots id) (sym has) (ends_at slots id v o ticket after done knows one turn named move)

@@ -1,0 +1,136 @@
+-- What a seat learns from step to step of a call.
+use Rattle.std.proofs.Common.{◌≡◌, ◌≢◌, ℕ, ◌+◌, ◌<◌, ◌≤◌, ◌^◌, true, false, List, [], ◌∷◌, ◌++◌, length, sym, ap, ◌∙◌, subst, arith, append_assoc, Option, Some}
+use Rattle.std.specs.Prelude.{nat_lt}
+use Rattle.std.proofs.lemmas.Bool.Decides.{nat_tests}
+use Rattle.sysv_gate.specs.declared.view.View.{View}
+use Rattle.sysv_gate.specs.declared.view.Turn.{Turn}
+use Rattle.sysv_gate.specs.declared.place.Done.{Done}
+use Rattle.sysv_gate.specs.declared.place.Place.{Place}
+use Rattle.sysv_gate.specs.Numbers.{times}
+use Rattle.sysv_gate.specs.History.{BeginsWith, after_all, IsLegal, HasItsOwn, Moves, AreUpTo, AreBelow}
+use Rattle.sysv_gate.specs.Rule.{Spot, put}
+use Rattle.sysv_gate.specs.Steps.{Mine, weighed, looked, entered, turn_of, ended, Looks, HasTurn, after_turn}
+use Rattle.sysv_gate.specs.Turns.{Looked, TurnCame, SawMore, HasMade}
+use Rattle.atomic_table.specs.Table.{rest}
+use Rattle.sysv_gate.proofs.Counting.{times-one, low_mark, high_mark}
+use Rattle.sysv_gate.proofs.Histories.{begins_self, legal-snoc, rises}
+
+pub begins_trans : {A : Type 0} (xs ys zs : List A) → BeginsWith xs ys → BeginsWith ys zs → BeginsWith xs zs
+begins_trans {A} xs ys zs long short = (short.0 ++ long.0, long.1 ∙ ap (λ (l : List A). l ++ long.0) short.1 ∙ append_assoc zs short.0 long.0)
+
+one_held : (n : ℕ) (tickets : List ℕ) → tickets ≡ n ∷ [] → nat_lt 0 (times n tickets) ≡ true
+one_held n tickets is = let e : times n tickets ≡ times n (n ∷ []) = ap (times n) is in grind (arith, nat_tests, times-one n n)
+
+-- another ticket is not this one
+pub not_held : (n t : ℕ) (tickets : List ℕ) → tickets ≡ t ∷ [] → n ≢ t → times n tickets ≡ 0
+not_held n t tickets is other = let e : times n tickets ≡ times n (t ∷ []) = ap (times n) is in grind (arith, nat_tests, times-one n t)
+
+module _ {O C R : Type 0} where
+  module _ (moves : O → C → R → O → Type 0) (o : O) where
+    pub look_tells : (m : Mine O C R) (n : ℕ) (m' : Mine O C R) → m.1 ≡ [] → m.0.in_turn ≡ false
+        → Looks m n m' × IsLegal moves o m'.0.seen × (m'.0.in_turn ≡ true → HasTurn moves o m') × (m'.0.in_turn ≡ false → m'.1 ≡ m.1) → Looked moves o m n m'
+    look_tells m n m' bare idle told =
+        let log : List (Turn O C R) = told.0.log in
+        let view : m'.0 ≡ looked n log m.0 = told.0.view in
+        let turns : m'.0.in_turn ≡ nat_lt 0 (times n m.0.tickets) = ap (λ (v : View O C R). v.in_turn) view in record {
+          log = log;
+          longer = told.0.longer;
+          count = told.0.count;
+          legal = subst (λ (v : View O C R). IsLegal moves o v.seen) view told.1;
+          mine = λ held.
+              let now = one_held n m.0.tickets held in record {
+                log = log;
+                longer = told.0.longer;
+                count = told.0.count;
+                view = view ∙ (λ i. record m.0 { seen = log; tickets = held i; in_turn = now i });
+                turn = told.2 (turns ∙ now);
+              };
+          other = λ none_held.
+              let still : nat_lt 0 (times n m.0.tickets) ≡ false = ap (λ (k : ℕ). nat_lt 0 k) none_held in
+              let stays : nat_lt 0 (times n m.0.tickets) ≡ m.0.in_turn = still ∙ sym idle in
+              let slots : m'.1 ≡ [] = told.3 (turns ∙ still) ∙ bare in
+              λ i. ((view ∙ (λ j. record m.0 { seen = log; in_turn = stays j })) i, slots i);
+        }
+
+    -- a seat without a ticket looks
+    pub idle_look : (m : Mine O C R) (n : ℕ) (m' : Mine O C R) → m.0.tickets ≡ [] → Looked moves o m n m' → SawMore m.0 m'
+    idle_look m n m' empty look = record { log = look.log; longer = look.longer; is = look.other (ap (times n) empty) }
+
+    pub look_legal : (m : Mine O C R) (n : ℕ) (m' : Mine O C R) → m.0.tickets ≡ [] → Looked moves o m n m' → IsLegal moves o m'.0.seen
+    look_legal m n m' empty look = subst (λ (x : Mine O C R). IsLegal moves o x.0.seen) (sym (look.other (ap (times n) empty))) look.legal
+
+    pub look_count : (m : Mine O C R) (n : ℕ) (m' : Mine O C R) → m.0.tickets ≡ [] → Looked moves o m n m' → n ≡ m'.0.first + length m'.0.seen
+    look_count m n m' empty look = subst (λ (x : Mine O C R). n ≡ x.0.first + length x.0.seen) (sym (look.other (ap (times n) empty))) look.count
+
+    -- the ticket that was served is drawn, and the turn has come
+    pub came_at_once : (m : Mine O C R) (n : ℕ) (m' m'' : Mine O C R) → m.0.tickets ≡ [] → Looked moves o m n m' → m''.0 ≡ entered n m'.0 → HasTurn moves o m'' → TurnCame moves o m.0 n m''
+    came_at_once m n m' m'' empty look drew turn = record {
+      log = look.log;
+      longer = look.longer;
+      count = look.count;
+      view = drew ∙ ap (λ (x : Mine O C R). entered n x.0) (look.other (ap (times n) empty));
+      turn = turn;
+    }
+
+    -- a turn that came after more was seen
+    pub turn_later : (v : View O C R) (ticket : ℕ) (m m' : Mine O C R) → SawMore v m → TurnCame moves o m.0 ticket m' → TurnCame moves o v ticket m'
+    turn_later v ticket m m' saw came =
+        let log : List (Turn O C R) = saw.log in
+        let is : m.0 ≡ record v { seen = log } = ap (λ (x : Mine O C R). x.0) saw.is in record {
+          log = came.log;
+          longer = begins_trans came.log log v.seen (subst (λ (u : View O C R). BeginsWith came.log u.seen) is came.longer) saw.longer;
+          count = subst (λ (u : View O C R). ticket ≡ u.first + length came.log) is came.count;
+          view = came.view ∙ ap (λ (u : View O C R). record u { seen = came.log; tickets = ticket ∷ []; in_turn = true }) is;
+          turn = came.turn;
+        }
+
+  pub saw_later : (v : View O C R) (m m' : Mine O C R) → SawMore v m → SawMore m.0 m' → SawMore v m'
+  saw_later v m m' saw more =
+      let is : m.0 ≡ record v { seen = saw.log } = ap (λ (x : Mine O C R). x.0) saw.is in record {
+        log = more.log;
+        longer = begins_trans more.log saw.log v.seen (subst (λ (u : View O C R). BeginsWith more.log u.seen) is more.longer) saw.longer;
+        is = more.is ∙ ap (λ (u : View O C R). (record u { seen = more.log }, [])) is;
+      }
+
+  -- a seat that waits has seen no less than it has seen
+  pub saw_nothing : (m : Mine O C R) → m.1 ≡ [] → SawMore m.0 m
+  saw_nothing m bare = record { log = m.0.seen; longer = begins_self m.0.seen; is = λ i. (m.0, bare i) }
+
+  -- a ticket below 2^62 leaves the view
+  pub unweighed : (m m' : Mine O C R) (n : ℕ) → m' ≡ (weighed n m.0, m.1) → n < 2 ^ 62 → m' ≡ m
+  unweighed m m' n is low = is ∙ (λ i. (record m.0 { worn = low_mark m.0.worn n low i }, m.1))
+
+  -- a ticket from 2^62 on marks it
+  pub weighed_out : (m m' : Mine O C R) (n : ℕ) → m.1 ≡ [] → m' ≡ (weighed n m.0, m.1) → 2 ^ 62 ≤ n → m' ≡ (record m.0 { worn = true }, [])
+  weighed_out m m' n bare is high = is ∙ (λ i. (record m.0 { worn = high_mark m.0.worn n high i }, bare i))
+
+  -- what was in the slot
+  pub object_out : (xs ys : List (ℕ × Spot O C R)) (s : Spot O C R) (o : O) (last : Option (Done C R)) (p : Place O C R) → xs ≡ (0, s) ∷ ys → xs ≡ (0, put o last) ∷ [] → s ≡ Some p → p.object ≡ o
+  object_out xs ys s o last p had out is =
+      let pair : (0, s) ≡ (0, put o last) = cc in
+      let spot : s ≡ put o last = ap (λ (x : ℕ × Spot O C R). x.1) pair in
+      let place : p ≡ record { object = o; last = last } = cc in
+      ap (λ (q : Place O C R). q.object) place
+
+  -- the slot was read and filled again
+  pub refilled : (m mid m' : Mine O C R) (s t x : Spot O C R) → m.1 ≡ (0, s) ∷ [] → mid ≡ (m.0, (0, t) ∷ rest m.1) → m' ≡ (mid.0, (0, x) ∷ rest mid.1) → m' ≡ (m.0, (0, x) ∷ [])
+  refilled m mid m' s t x out read filled = filled ∙ ap (λ (n : Mine O C R). (n.0, (0, x) ∷ rest n.1)) read ∙ ap (λ (xs : List (ℕ × Spot O C R)). (m.0, (0, x) ∷ rest xs)) out
+
+  pub made_turn : (moves : O → C → R → O → Type 0) (o : O) (v : View O C R) (m m' : Mine O C R) (after : O) (done : Done C R) (call : C) (reply : R) → m ≡ (v, (0, put after (Some done)) ∷ []) → done.call.value ≡ call
+      → done.reply.value ≡ reply → m' ≡ (after_turn m.0 m.1, rest m.1) → HasItsOwn m'.0.numbers m'.0.own m'.0.seen → IsLegal moves o v.seen → moves (after_all o v.seen) call reply after → HasMade moves o v call reply m'
+  made_turn moves o v m m' after done call reply filled asked answered goes own legal move =
+      let is : m' ≡ (ended v call reply after, []) =
+      goes ∙ ap (λ (n : Mine O C R). (after_turn n.0 n.1, rest n.1)) filled ∙ (λ i. (ended v (asked i) (answered i) after, [])) in record {
+        object = after;
+        is = is;
+        legal = subst (λ (n : Mine O C R). IsLegal moves o n.0.seen) (sym is) (legal-snoc moves o v.seen (turn_of v call reply after) legal move);
+        own = own;
+      }
+
+  -- the counts of an object that began within 2^61, after fewer than 2^62 turns
+  pub counts_low : (meaning : O → C → R → O → Type 0) (counted : O → ℕ × ℕ) (o : O) (ts : List (Turn O C R)) → IsLegal (Moves meaning counted) o ts → AreUpTo (2 ^ 61) (counted o) → length ts < 2 ^ 62
+      → AreBelow (2 ^ 63) (counted (after_all o ts))
+  counts_low meaning counted o ts legal low room =
+      let one = rises (Moves meaning counted) (λ (p : O). (counted p).0) (λ p c r q move. move.1.1) o ts legal in
+      let two = rises (Moves meaning counted) (λ (p : O). (counted p).1) (λ p c r q move. move.1.3) o ts legal in
+      (omega arith, omega arith)

@@ -1,0 +1,5 @@
+use Rattle.sysv_gate.proofs.Agreeing.{one_turn}
+use Rattle.sysv_gate.proofs.laws.one_turn_at_a_time.Goals as goal
+
+pub returns : goal.returns
+returns g c = one_turn _

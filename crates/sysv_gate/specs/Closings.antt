@@ -1,0 +1,34 @@
+-- What a gate gives back when it is closed.
+use Rattle.std.specs.Prelude.{◌≡◌, ℕ, ◌+◌, ◌≤◌, List, length, Option, Some, None, IfSome, IfNone}
+use mathlib.Core.Option.{some}
+use lib.ListN.{get_elem?}
+use Rattle.sysv_gate.specs.declared.closing.Closing.{Closing}
+use Rattle.sysv_gate.specs.declared.view.View.{View}
+use Rattle.sysv_gate.specs.declared.view.Turn.{Turn}
+use Rattle.sysv_gate.specs.Numbers.{times}
+use Rattle.sysv_gate.specs.History.{BeginsWith, IsLegal, after_all, HasItsOwn}
+use Rattle.sysv_gate.specs.Rule.{Spot, Homes, IsKept}
+use Rattle.sysv_gate.specs.Gates.{Gateway, Holding}
+
+-- the object in the slot
+abbrev pub held_object : {O C R : Type 0} → Spot O C R → Option O
+held_object None = None
+held_object (Some place) = Some place.object
+
+module _ {O C R : Type 0} where
+  -- a seat still holds the ticket that comes after these turns
+  abbrev pub ATurnIsDue : (O → C → R → O → Type 0) → Gateway O → List (Turn O C R) → Type 0
+  ATurnIsDue moves gate log =
+      (drawn : ℕ) × (homes : Homes O C R) × (views : List (View O C R)) × IsKept moves gate.opening gate.first log drawn homes views
+      × ((i : ℕ) × (v : View O C R) × (get_elem? views i ≡ some v) × (1 ≤ times (gate.first + length log) v.tickets))
+
+  -- There is one legal history of all turns, which begins with all that the seat had seen, and has just those turns of
+  -- the seat that it knows of. Their number comes back, and the object after them, but where a turn is still due
+  pub record Closes (moves : O → C → R → O → Type 0) (seat : Holding O C R) (c : Closing O) : Type 0 where
+    pub log : List (Turn O C R)
+    pub legal : IsLegal moves seat.gate.opening log
+    pub longer : BeginsWith log seat.seen
+    pub own : HasItsOwn seat.numbers seat.own log
+    pub turns : c.turns ≡ length log
+    pub object : IfSome c.object (λ o. (o ≡ after_all seat.gate.opening log) × (c.rest ≡ None))
+    pub due : IfNone c.object (ATurnIsDue moves seat.gate log)

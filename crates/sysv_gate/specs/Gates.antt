@@ -1,0 +1,71 @@
+-- What contracts see of a gate and of a seat of it, and what the calls do to a seat.
+use Rattle.std.specs.Prelude.{◌≡◌, ℕ, ◌||◌, Bool, true, false, List, [], ◌∷◌, ◌++◌, length}
+use Rattle.atomic_table.specs.Seated.{TableId}
+use Rattle.sysv_gate.specs.declared.view.Turn.{Turn}
+use Rattle.sysv_gate.specs.History.{BeginsWith, IsLegal, HasItsOwn}
+
+-- a gate: which it is, the object that it was opened with, and its first ticket
+pub record Gateway (O : Type 0) : Type 0 where
+  pub table : TableId
+  pub opening : O
+  pub first : ℕ
+
+-- What a seat has: whose seat it is, its number, the numbers of the seats that were joined into it with its own, the
+-- history that it has seen, the places of its own turns in it, and whether it has found the tickets worn out
+pub record Holding (O C R : Type 0) : Type 0 where
+  pub gate : Gateway O
+  pub number : ℕ
+  pub numbers : List ℕ
+  pub seen : List (Turn O C R)
+  pub own : List ℕ
+  pub worn : Bool
+
+module _ {O C R : Type 0} where
+  -- the first seat has seen nothing yet
+  abbrev pub opened : Gateway O → Holding O C R
+  opened gate = record { gate = gate; number = 0; numbers = 0 ∷ []; seen = []; own = []; worn = false }
+
+  -- the seat has found that the tickets have reached 2^62
+  abbrev pub marked : Holding O C R → Holding O C R
+  marked h = record h { worn = true }
+
+  -- the seat after it has seen more turns of others
+  abbrev pub saw : List (Turn O C R) → Holding O C R → Holding O C R
+  saw more h = record h { seen = h.seen ++ more }
+
+  -- the seat after a turn of its own, which is the last of the history that it has seen
+  abbrev pub made : C → R → O → Holding O C R → Holding O C R
+  made call reply after h = record h {
+    seen = h.seen ++ record { by = h.number; call = call; reply = reply; after = after } ∷ [];
+    own = h.own ++ length h.seen ∷ [];
+  }
+
+  -- The call was answered in a turn of the seat's own. The history that the seat has seen is legal; it begins with all
+  -- that the seat had seen, goes on with the turns of others, and ends with this call and this reply. Of the seat's own
+  -- turns it has just those that the seat knows of, each once, and the new one is the last
+  pub record Answers (moves : O → C → R → O → Type 0) (before : Holding O C R) (call : C) (reply : R) (after : Holding O C R) : Type 0 where
+    pub others : List (Turn O C R)
+    pub object : O
+    pub made : after ≡ made call reply object (saw others before)
+    pub legal : IsLegal moves after.gate.opening after.seen
+    pub own : HasItsOwn after.numbers after.own after.seen
+
+  -- the seat that was split off: it has a number of its own, has seen what its origin has seen, and has made no turn
+  abbrev pub split_off : ℕ → Holding O C R → Holding O C R
+  split_off number h = record h { number = number; numbers = number ∷ []; own = [] }
+
+  -- One seat has taken in another. It has seen a legal history that begins with what either had seen, and has the turns
+  -- and the numbers of both
+  pub record Joins (moves : O → C → R → O → Type 0) (one two after : Holding O C R) : Type 0 where
+    pub seen : List (Turn O C R)
+    pub begins_one : BeginsWith seen one.seen
+    pub begins_two : BeginsWith seen two.seen
+    pub joined : after ≡ record one { seen = seen; own = one.own ++ two.own; numbers = one.numbers ++ two.numbers; worn = one.worn || two.worn }
+    pub legal : IsLegal moves one.gate.opening seen
+    pub own : HasItsOwn after.numbers after.own seen
+
+  -- the seat has seen more, which is legal, and is else what it was
+  pub record SeesMore (moves : O → C → R → O → Type 0) (before after : Holding O C R) : Type 0 where
+    pub others : List (Turn O C R)
+    pub seen : after ≡ saw others before
+    pub legal : IsLegal moves after.gate.opening after.seen

@@ -1,0 +1,42 @@
+-- How a seat is kept between two calls: no slot is out with it, it has no ticket and no turn, its number is one of its
+-- numbers, and it knows the gate's key.
+use Rattle.std.specs.Prelude.{◌≡◌, ◌≤◌, false, [], Some}
+use Rattle.sysv_gate.specs.declared.seat.Seat.TheInside.{Inside}
+use Rattle.atomic_table.specs.declared.shared.Seat.{Seat}
+use Rattle.sysv_gate.specs.declared.view.View.{View}
+use Rattle.sysv_gate.specs.Rule.{Spot}
+use Rattle.sysv_gate.specs.Gates.{Holding}
+use Rattle.sysv_gate.specs.Numbers.{times}
+
+module _ {O C R : Type 0} where
+  abbrev pub held : Inside O C R → Holding O C R
+  held s = record {
+    gate = record { table = s.token.table_id; opening = s.key.value.opening.value; first = s.key.value.first };
+    number = s.token.me.0.number;
+    numbers = s.token.me.0.numbers;
+    seen = s.token.me.0.seen;
+    own = s.token.me.0.own;
+    worn = s.token.me.0.worn;
+  }
+
+  pub record IsAtRest (s : Inside O C R) : Type 0 where
+    pub no_slot : s.token.me.1 ≡ []
+    pub no_ticket : s.token.me.0.tickets ≡ []
+    pub no_turn : s.token.me.0.in_turn ≡ false
+    pub nothing_else : s.token.me.0.also ≡ []
+    pub opening : s.token.me.0.opening ≡ Some s.key.value.opening.value
+    pub first : s.token.me.0.first ≡ s.key.value.first
+    pub named : 1 ≤ times s.token.me.0.number s.token.me.0.numbers
+
+  -- the token of a seat between two calls
+  pub record Rests (h : Holding O C R) (token : Seat (Spot O C R) (View O C R)) : Type 0 where
+    pub table : token.table_id ≡ h.gate.table
+    pub opening : token.me.0.opening ≡ Some h.gate.opening
+    pub first : token.me.0.first ≡ h.gate.first
+    pub numbers : token.me.0.numbers ≡ h.numbers
+    pub seen : token.me.0.seen ≡ h.seen
+    pub own : token.me.0.own ≡ h.own
+    pub worn : token.me.0.worn ≡ h.worn
+    pub no_slot : token.me.1 ≡ []
+    pub no_ticket : token.me.0.tickets ≡ []
+    pub no_turn : token.me.0.in_turn ≡ false

@@ -1,0 +1,28 @@
+-- What the rule of a gate means for all seats together.
+use Rattle.std.specs.Prelude.{◌≡◌, ◌⊎◌, ℕ, ◌+◌, ◌≤◌, List, true, false}
+use mathlib.Core.Option.{some}
+use lib.ListN.{get_elem?}
+use Rattle.sysv_gate.specs.declared.view.View.{View}
+use Rattle.sysv_gate.specs.declared.view.Turn.{Turn}
+use Rattle.sysv_gate.specs.Numbers.{times}
+use Rattle.sysv_gate.specs.History.{BeginsWith}
+use Rattle.sysv_gate.specs.Rule.{Homes, IsKept}
+
+module _ {O C R : Type 0} (moves : O → C → R → O → Type 0) where
+  -- what is so of any two seats of a gate, whatever its state is
+  abbrev pub OfTwoSeats : (View O C R → View O C R → Type 0) → Type 0
+  OfTwoSeats fact =
+      (opening : O) (first : ℕ) (log : List (Turn O C R)) (drawn : ℕ) (homes : Homes O C R) (views : List (View O C R)) → IsKept moves opening first log drawn homes views
+      → (i k : ℕ) (v w : View O C R) → ¬ (k ≡ i) → get_elem? views i ≡ some v → get_elem? views k ≡ some w → fact v w
+
+  -- where it is one seat's turn, it is not another's
+  abbrev pub OneTurnAtATime : Type 0
+  OneTurnAtATime = OfTwoSeats (λ v w. v.in_turn ≡ true → w.in_turn ≡ false)
+
+  -- no turn of the history is two seats' own
+  abbrev pub NoTurnOfTwoSeats : Type 0
+  NoTurnOfTwoSeats = OfTwoSeats (λ v w. (place : ℕ) → times place v.own + times place w.own ≤ 1)
+
+  -- what one seat has seen begins what the other has seen, or the other way round
+  abbrev pub OneHistory : Type 0
+  OneHistory = OfTwoSeats (λ v w. BeginsWith v.seen w.seen ⊎ BeginsWith w.seen v.seen)

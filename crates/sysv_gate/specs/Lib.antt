@@ -1,0 +1,10 @@
+pub mod Numbers
+pub mod History
+pub mod Rule
+pub mod Steps
+pub mod Gates
+pub mod Held
+pub mod Turns
+pub mod Refusals
+pub mod Closings
+pub mod Laws

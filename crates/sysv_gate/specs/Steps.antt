@@ -1,0 +1,122 @@
+-- What the steps on the words do to a view, and what they tell the seat.
+use Rattle.std.specs.Prelude.{◌≡◌, ℕ, ◌+◌, ◌^◌, ◌≤◌, ◌||◌, true, false, List, [], ◌∷◌, ◌++◌, length, nat_le, nat_lt, Option, Some, None}
+use Rattle.atomic_table.specs.Table.{Me, Step, rest}
+use Rattle.sysv_gate.specs.declared.view.View.{View}
+use Rattle.sysv_gate.specs.declared.view.Turn.{Turn}
+use Rattle.sysv_gate.specs.declared.place.Done.{Done}
+use Rattle.sysv_gate.specs.Numbers.{times}
+use Rattle.sysv_gate.specs.History.{BeginsWith, after_all, IsLegal, HasItsOwn}
+use Rattle.sysv_gate.specs.Rule.{Spot, put}
+
+module _ {O C R : Type 0} where
+  -- a load of the ticket that is drawn next marks the view where it finds 2^62
+  abbrev pub weighed : ℕ → View O C R → View O C R
+  weighed n v = record v { worn = v.worn || nat_le (2 ^ 62) n }
+
+  -- a compare-exchange that wins draws the ticket
+  abbrev pub drew : ℕ → View O C R → View O C R
+  drew ticket v = record v { tickets = ticket ∷ [] }
+
+  -- a load of the ticket that is served shows the log, and begins the turn where the view holds that ticket
+  abbrev pub looked : ℕ → List (Turn O C R) → View O C R → View O C R
+  looked n log v = record v { seen = log; in_turn = nat_lt 0 (times n v.tickets) }
+
+  -- a compare-exchange that draws the very ticket that is served begins the turn at once
+  abbrev pub entered : ℕ → View O C R → View O C R
+  entered ticket v = record v { tickets = ticket ∷ []; in_turn = true }
+
+  -- the turn that the view makes
+  abbrev pub turn_of : View O C R → C → R → O → Turn O C R
+  turn_of v call reply after = record { by = v.number; call = call; reply = reply; after = after }
+
+  -- the addition that ends the turn
+  abbrev pub ended : View O C R → C → R → O → View O C R
+  ended v call reply after = record v {
+    seen = v.seen ++ turn_of v call reply after ∷ [];
+    own = v.own ++ length v.seen ∷ [];
+    tickets = [];
+    in_turn = false;
+  }
+
+  -- what a split gives: a seat that has seen as much, without turns of its own, and without a number yet
+  abbrev pub newcomer : View O C R → View O C R
+  newcomer v = record v { number = 0; numbers = []; also = []; own = []; tickets = []; in_turn = false }
+
+  -- a load that gives a seat its number
+  abbrev pub named : ℕ → View O C R → View O C R
+  named number v = record v { number = number; numbers = number ∷ [] }
+
+  -- two views in one
+  abbrev pub both_of : View O C R → View O C R → View O C R
+  both_of v w = record v { also = w.seen; own = v.own ++ w.own; numbers = v.numbers ++ w.numbers; worn = v.worn || w.worn }
+
+  -- what is left of a view that was joined into another
+  abbrev pub spent : View O C R
+  spent = record { opening = None; first = 0; number = 0; numbers = []; seen = []; also = []; own = []; tickets = []; in_turn = false; worn = false }
+
+  -- a load after a join, which shows a log that both had seen a beginning of
+  abbrev pub merged : List (Turn O C R) → View O C R → View O C R
+  merged log v = record v { seen = log; also = [] }
+
+module _ (O C R : Type 0) where
+  abbrev pub Mine : Type 0
+  Mine = Me (Spot O C R) (View O C R)
+
+  abbrev pub At : Type 0
+  At = Step (Spot O C R)
+
+module _ {O C R : Type 0} where
+  abbrev pub Weighs : At O C R → Mine O C R → ℕ → Mine O C R → Type 0
+  Weighs st m n m' = (m' ≡ (weighed n m.0, m.1)) × (m.0.worn ≡ true → 2 ^ 62 ≤ n)
+
+  abbrev pub Draws : At O C R → Mine O C R → ℕ → Mine O C R → Type 0
+  Draws st m n m' = (n ≡ st.first → (m' ≡ (drew n m.0, m.1)) × (m.0.worn ≡ false)) × (¬ (n ≡ st.first) → m' ≡ m)
+
+  abbrev pub Names : At O C R → Mine O C R → ℕ → Mine O C R → Type 0
+  Names st m n m' = (number : ℕ) × (m' ≡ (named number m.0, m.1))
+
+  -- what a seat knows that has the turn, and with it the object after all that it has seen
+  pub record HasTurn (moves : O → C → R → O → Type 0) (opening : O) (m : Mine O C R) : Type 0 where
+    pub legal : IsLegal moves opening m.0.seen
+    pub out : (last : Option (Done C R)) × (m.1 ≡ (0, put (after_all opening m.0.seen) last) ∷ [])
+
+  -- what a look tells of the log
+  pub record Looks (m : Mine O C R) (n : ℕ) (m' : Mine O C R) : Type 0 where
+    pub log : List (Turn O C R)
+    pub longer : BeginsWith log m.0.seen
+    pub count : n ≡ m.0.first + length log
+    pub view : m'.0 ≡ looked n log m.0
+
+  module _ (moves : O → C → R → O → Type 0) where
+    abbrev pub Turns : At O C R → Mine O C R → ℕ → Mine O C R → Type 0
+    Turns st m n m' = (opening : O) → m.0.opening ≡ Some opening
+        → Looks m n m' × IsLegal moves opening m'.0.seen × (m'.0.in_turn ≡ true → HasTurn moves opening m') × (m'.0.in_turn ≡ false → m'.1 ≡ m.1)
+
+    abbrev pub Enters : At O C R → Mine O C R → ℕ → Mine O C R → Type 0
+    Enters st m n m' = (opening : O) → m.0.opening ≡ Some opening
+        → (n ≡ st.first → (m'.0 ≡ entered n m.0) × HasTurn moves opening m' × (m.0.worn ≡ false)) × (¬ (n ≡ st.first) → m' ≡ m)
+
+  -- what a look after a join tells
+  pub record Gathers (moves : O → C → R → O → Type 0) (opening : O) (m m' : Mine O C R) : Type 0 where
+    pub log : List (Turn O C R)
+    pub one : BeginsWith log m.0.seen
+    pub two : BeginsWith log m.0.also
+    pub is : m' ≡ (merged log m.0, m.1)
+    pub legal : IsLegal moves opening log
+    pub own : HasItsOwn m.0.numbers m.0.own log
+
+  abbrev pub Merges : (O → C → R → O → Type 0) → At O C R → Mine O C R → ℕ → Mine O C R → Type 0
+  Merges moves st m n m' = (opening : O) → m.0.opening ≡ Some opening → Gathers moves opening m m'
+
+  -- the turn that the slot in hand tells of
+  abbrev pub told : View O C R → O → Option (Done C R) → View O C R
+  told v o None = v
+  told v o (Some done) = ended v done.call.value done.reply.value o
+
+  abbrev pub after_turn : View O C R → List (ℕ × Spot O C R) → View O C R
+  after_turn v [] = v
+  after_turn v ((k, None) ∷ xs) = v
+  after_turn v ((k, Some place) ∷ xs) = told v place.object place.last
+
+  abbrev pub Ends : At O C R → Mine O C R → ℕ → Mine O C R → Type 0
+  Ends st m n m' = (m' ≡ (after_turn m.0 m.1, rest m.1)) × HasItsOwn m'.0.numbers m'.0.own m'.0.seen

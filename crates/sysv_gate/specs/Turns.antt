@@ -1,0 +1,70 @@
+-- What the parts of a call ask of a seat, and what they leave.
+use Rattle.std.specs.Prelude.{◌≡◌, ℕ, ◌+◌, ◌<◌, ◌^◌, true, false, List, [], ◌∷◌, length, Some}
+use Rattle.atomic_table.specs.declared.shared.Seat.{Seat}
+use Rattle.sysv_gate.specs.declared.view.View.{View}
+use Rattle.sysv_gate.specs.declared.view.Turn as view
+use Rattle.sysv_gate.specs.declared.turns.Entry.{Entry}
+use Rattle.sysv_gate.specs.declared.turns.Entry.TheVariants.{Turn, Busy, Worn}
+use Rattle.sysv_gate.specs.Numbers.{times}
+use Rattle.sysv_gate.specs.History.{BeginsWith, IsLegal, HasItsOwn}
+use Rattle.sysv_gate.specs.Rule.{Spot}
+use Rattle.sysv_gate.specs.Gates.{Gateway}
+use Rattle.sysv_gate.specs.Steps.{Mine, drew, ended, HasTurn}
+
+module _ {O C R : Type 0} where
+  -- the token is one of this gate
+  abbrev pub IsOf : Gateway O → Seat (Spot O C R) (View O C R) → Type 0
+  IsOf gate token = (token.table_id ≡ gate.table) × (token.me.0.opening ≡ Some gate.opening) × (token.me.0.first ≡ gate.first)
+
+  -- it is the same token after a step
+  abbrev pub IsSameToken : Seat (Spot O C R) (View O C R) → Seat (Spot O C R) (View O C R) → Type 0
+  IsSameToken before after = (after.table_id ≡ before.table_id) × (after.id ≡ before.id)
+
+  -- no slot is out with the seat, and it has these tickets and no turn
+  abbrev pub Waits : List ℕ → Mine O C R → Type 0
+  Waits tickets m = (m.1 ≡ []) × (m.0.tickets ≡ tickets) × (m.0.in_turn ≡ false)
+
+  -- the seat has drawn the ticket
+  abbrev pub HasDrawn : Mine O C R → ℕ → Mine O C R → Type 0
+  HasDrawn m ticket m' = (m' ≡ (drew ticket m.0, [])) × (ticket < 2 ^ 62) × (m.0.worn ≡ false)
+
+  -- the seat has found that the tickets have reached 2^62
+  abbrev pub HasWorn : Mine O C R → Mine O C R → Type 0
+  HasWorn m m' = m' ≡ (record m.0 { worn = true }, [])
+
+  -- the seat has seen more, and waits as before
+  pub record SawMore (v : View O C R) (m : Mine O C R) : Type 0 where
+    pub log : List (view.Turn O C R)
+    pub longer : BeginsWith log v.seen
+    pub is : m ≡ (record v { seen = log }, [])
+
+  -- the seat's turn has come
+  pub record TurnCame (moves : O → C → R → O → Type 0) (opening : O) (v : View O C R) (ticket : ℕ) (m : Mine O C R) : Type 0 where
+    pub log : List (view.Turn O C R)
+    pub longer : BeginsWith log v.seen
+    pub count : ticket ≡ v.first + length log
+    pub view : m.0 ≡ record v { seen = log; tickets = ticket ∷ []; in_turn = true }
+    pub turn : HasTurn moves opening m
+
+  -- The seat has looked which ticket is served, and it is n. Where that is the seat's own, its turn has come, and else it
+  -- waits as before
+  pub record Looked (moves : O → C → R → O → Type 0) (opening : O) (m : Mine O C R) (n : ℕ) (m' : Mine O C R) : Type 0 where
+    pub log : List (view.Turn O C R)
+    pub longer : BeginsWith log m.0.seen
+    pub count : n ≡ m.0.first + length log
+    pub legal : IsLegal moves opening log
+    pub mine : m.0.tickets ≡ n ∷ [] → TurnCame moves opening m.0 n m'
+    pub other : times n m.0.tickets ≡ 0 → m' ≡ (record m.0 { seen = log }, [])
+
+  -- What came of a try. The turn has come, or the seat has seen more, or it has found that the tickets have reached 2^62
+  abbrev pub Entered : (O → C → R → O → Type 0) → O → Mine O C R → Entry → Mine O C R → Type 0
+  Entered moves opening m Turn m' = (ticket : ℕ) × TurnCame moves opening m.0 ticket m' × (ticket < 2 ^ 62) × (m.0.worn ≡ false)
+  Entered moves opening m Busy m' = SawMore m.0 m' × IsLegal moves opening m'.0.seen
+  Entered moves opening m Worn m' = HasWorn m m'
+
+  -- the turn was made
+  pub record HasMade (moves : O → C → R → O → Type 0) (opening : O) (v : View O C R) (call : C) (reply : R) (m : Mine O C R) : Type 0 where
+    pub object : O
+    pub is : m ≡ (ended v call reply object, [])
+    pub legal : IsLegal moves opening m.0.seen
+    pub own : HasItsOwn m.0.numbers m.0.own m.0.seen

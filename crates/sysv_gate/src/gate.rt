@@ -1,0 +1,186 @@
+//! Gates.
+ghost use Rattle.std.specs.Prelude.{◌≡◌, ℕ, ◌^◌, ◌≤◌, false, IfOk, IfErr, OnOk};
+ghost use Rattle.sysv_gate.specs.History.{Moves, AreUpTo};
+ghost use Rattle.sysv_gate.specs.Gates.{opened, marked, split_off, Answers, Joins};
+ghost use Rattle.sysv_gate.specs.Refusals.{HandsBack, Refuses};
+ghost use Rattle.sysv_gate.specs.Closings.{Closes};
+ghost use Rattle.sysv_gate.specs.declared.refusals.OpenRefused.TheVariants.{NoMemory};
+
+use crate::board::{Board, LIMIT, OBJECT, SERVING, TICKET, lay, object_in};
+use crate::closing::Closing;
+use crate::object::Object;
+use crate::refusals::{OpenRefused, TryRefused, Worn};
+use crate::rule::{Gathering, Key, Merging, Naming, Sharing};
+use crate::seat::Seat;
+use crate::turns::Entry;
+use std::alloc::Global;
+use std::marker::Model;
+use std::snapshot::Snapshot;
+use std::sync::Wait;
+
+/// An object that threads call one turn at a time. They share the gate by reference, and each takes turns with a seat of
+/// its own.
+pub struct Gate<O: Object> {
+    pub(crate) table: Board<O>,
+    key: Key<O>,
+}
+
+impl<O: Object> Model for Gate<O> {
+    ghost use Rattle.std.specs.Prelude.{◌≡◌, ℕ, ◌^◌};
+    ghost use Rattle.sysv_gate.specs.Gates.{Gateway};
+    ghost use Rattle.sysv_gate.specs.History.{AreUpTo};
+
+    ghost Value = { Gateway O };
+
+    ghost view = { λ g. record { table = g.table.shared.table_id; opening = g.key.opening.value; first = g.key.first } };
+
+    ghost invariant = { λ g. (g.table.shared.key ≡ g.key) × (g.table.shared.table_id.words ≡ 32) × (g.table.shared.table_id.slots ≡ 1) × AreUpTo (2 ^ 61) (O.counted g.key.opening.value) };
+}
+
+impl<O: Object> Gate<O> {
+    /// A gate whose tickets begin at 0, and its first seat. Where there is no memory the object comes back.
+    pub fn open(alloc: Global, object: O) -> Result<(Gate<O>, Seat<O>), OpenRefused<O>>
+        requires { AreUpTo (2 ^ 61) (O.counted object) }
+        ensures ok { IfOk result (λ o. (o.0.opening ≡ object) × (o.0.first ≡ 0) × (o.1 ≡ opened o.0)) }
+        ensures err { IfErr result (λ e. e ≡ NoMemory object) }
+    {
+        Gate::starting_at(alloc, object, 0)
+    }
+
+    /// A gate whose tickets begin at `first`, and its first seat. `BadStart` comes where `first` is above 2^62, and
+    /// `NoMemory` where there is no memory. The object comes back in either.
+    pub fn starting_at(
+        alloc: Global,
+        object: O,
+        first: u64,
+    ) -> Result<(Gate<O>, Seat<O>), OpenRefused<O>>
+        requires { AreUpTo (2 ^ 61) (O.counted object) }
+        ensures ok { IfOk result (λ o. (o.0.opening ≡ object) × (o.0.first ≡ first) × (o.1 ≡ opened o.0) × (first ≤ 2 ^ 62)) }
+        ensures err { IfErr result (λ e. HandsBack first object e) }
+    {
+        if first > LIMIT {
+            return Err(OpenRefused::BadStart(object));
+        }
+        let key = Key {
+            opening: Snapshot::of(&object),
+            first,
+        };
+        match lay(alloc, object, first, &key) {
+            Ok((table, token)) => {
+                let seat = Seat {
+                    token,
+                    key: Snapshot::of(&key),
+                };
+                Ok((Gate { table, key }, seat))
+            }
+            Err(object) => Err(OpenRefused::NoMemory(object)),
+        }
+    }
+
+    /// Makes the call in a turn of the seat's own, and answers the object's reply. It waits until the seat's ticket is
+    /// served: it looks some times, and then sleeps. `Worn` comes only where the tickets have reached 2^62, and then the
+    /// object is untouched; the seat is answered `Worn` from then on.
+    pub fn call(
+        &self,
+        rt: &impl Wait,
+        seat: &mut Seat<O>,
+        call: O::Call,
+    ) -> Result<O::Reply, Worn<O::Call>>
+        requires { seat.old.gate ≡ self.now }
+        ensures gate { seat.new.gate ≡ self.now }
+        ensures ok { IfOk result (λ r. Answers (Moves O.meaning O.counted) seat.old call r seat.new) }
+        ensures not_worn { OnOk result (seat.old.worn ≡ false) }
+        ensures worn { IfErr result (λ w. (w.call ≡ call) × (seat.new ≡ marked seat.old)) }
+    {
+        let Some(ticket) = self.draw(rt, &mut seat.token) else {
+            return Err(Worn { call });
+        };
+        self.reach(rt, &mut seat.token, ticket);
+        let reply = self.serve(&mut seat.token, call);
+        self.wake_after(ticket);
+        Ok(reply)
+    }
+
+    /// Makes the call where no other seat has the turn or waits for it, and answers the object's reply. It never waits.
+    /// `Busy` comes where another seat holds a ticket, or draws one first. `Worn` comes as from `call`. In both the
+    /// object is untouched by this call. It wakes nobody: call `wake` afterwards where threads may wait for their turn.
+    pub fn try_call(
+        &self,
+        seat: &mut Seat<O>,
+        call: O::Call,
+    ) -> Result<O::Reply, TryRefused<O::Call>>
+        requires { seat.old.gate ≡ self.now }
+        ensures gate { seat.new.gate ≡ self.now }
+        ensures ok { IfOk result (λ r. Answers (Moves O.meaning O.counted) seat.old call r seat.new) }
+        ensures not_worn { OnOk result (seat.old.worn ≡ false) }
+        ensures err { IfErr result (λ e. Refuses (Moves O.meaning O.counted) seat.old call e seat.new) }
+    {
+        match self.enter(&mut seat.token) {
+            Entry::Turn => Ok(self.serve(&mut seat.token, call)),
+            Entry::Busy => Err(TryRefused::Busy(call)),
+            Entry::Worn => Err(TryRefused::Worn(call)),
+        }
+    }
+
+    /// Ends the sleep of each thread that waits for its turn. Those whose ticket is not served sleep again.
+    pub fn wake(&self, _rt: &impl Wait) {
+        self.table.shared.wake_all(SERVING);
+    }
+
+    /// Gives a new seat, which has seen what this one has seen, and has made no turn. It may go to another thread.
+    pub fn split(&self, seat: &mut Seat<O>) -> Seat<O>
+        requires { seat.old.gate ≡ self.now }
+        ensures gate { result.gate ≡ self.now }
+        ensures same { seat.new ≡ seat.old }
+        ensures new { (n : ℕ) × (result ≡ split_off n seat.old) }
+    {
+        let mut token = self.table.shared.split_seat::<Sharing>(&mut seat.token);
+        self.table.shared.load::<Naming>(&mut token, SERVING);
+        Seat {
+            token,
+            key: Snapshot::of(&self.key),
+        }
+    }
+
+    /// Takes in another seat of this gate: what it has seen, and its turns.
+    pub fn join(&self, seat: &mut Seat<O>, other: Seat<O>)
+        requires seat { seat.old.gate ≡ self.now }
+        requires other { other.gate ≡ self.now }
+        ensures gate { seat.new.gate ≡ self.now }
+        ensures joined { Joins (Moves O.meaning O.counted) seat.old other seat.new }
+    {
+        let token = other.into_token();
+        self.table
+            .shared
+            .join_seat::<Gathering>(&mut seat.token, token);
+        self.table
+            .shared
+            .load::<Merging<O>>(&mut seat.token, SERVING);
+    }
+
+    /// Gives the object back, and the number of its turns.
+    pub fn close(self, seat: Seat<O>) -> Closing<O>
+        requires { seat.gate ≡ self }
+        ensures { Closes (Moves O.meaning O.counted) seat result }
+    {
+        let Gate { table, key } = self;
+        let mut closed = table.close_with(seat.into_token());
+        let served = closed.word(SERVING);
+        let next = closed.word(TICKET);
+        let left = object_in(closed.take(OBJECT));
+        closed.free();
+        let turns = served - key.first;
+        if served != next {
+            return Closing {
+                object: None,
+                rest: left,
+                turns,
+            };
+        }
+        Closing {
+            object: left,
+            rest: None,
+            turns,
+        }
+    }
+}

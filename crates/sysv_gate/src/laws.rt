@@ -1,0 +1,20 @@
+//! What the rule of a gate means for all its seats together.
+ghost use Rattle.sysv_gate.specs.History.{Moves};
+ghost use Rattle.sysv_gate.specs.Laws.{OneTurnAtATime, NoTurnOfTwoSeats, OneHistory};
+
+use crate::object::Object;
+
+/// It is one seat's turn at a time.
+pub fn one_turn_at_a_time<O: Object>()
+    ensures { OneTurnAtATime (Moves O.meaning O.counted) }
+{}
+
+/// No turn belongs to two seats.
+pub fn no_turn_of_two_seats<O: Object>()
+    ensures { NoTurnOfTwoSeats (Moves O.meaning O.counted) }
+{}
+
+/// All seats have seen beginnings of one history.
+pub fn one_history<O: Object>()
+    ensures { OneHistory (Moves O.meaning O.counted) }
+{}

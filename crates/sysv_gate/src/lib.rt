@@ -1,0 +1,24 @@
+//! A gate round an object, after Reed and Kanodia's mutual exclusion by a sequencer and an eventcount: threads call the
+//! object one turn at a time, in the order of their tickets, and all turns make one history.
+#![tactic(auto)]
+
+mod board;
+mod closing;
+mod gate;
+mod laws;
+mod object;
+mod place;
+mod refusals;
+mod rule;
+mod seat;
+#[cfg(test)]
+mod tests;
+mod turns;
+mod view;
+
+pub use closing::Closing;
+pub use gate::Gate;
+pub use laws::{no_turn_of_two_seats, one_history, one_turn_at_a_time};
+pub use object::Object;
+pub use refusals::{OpenRefused, TryRefused, Worn};
+pub use seat::Seat;

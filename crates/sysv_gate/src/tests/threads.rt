@@ -1,0 +1,93 @@
+//! Seats in several threads.
+ghost use Rattle.std.specs.Prelude.{◌≡◌, IfSome};
+ghost use Rattle.std.specs.Thread.{IsSync};
+
+use super::{Sum, opened};
+use crate::{Gate, Seat};
+use std::sync::Wait;
+use std::test::Fail;
+use std::thread::{Threads, join};
+
+/// What each of the threads does so often.
+const TIMES: u64 = 10_000;
+
+// Calls over and over, and answers the greatest sum before.
+fn call_often(rt: &impl Wait, gate: &Gate<Sum>, mut seat: Seat<Sum>) -> Option<(Seat<Sum>, u64)>
+    requires { seat.gate ≡ gate.now }
+    ensures { IfSome result (λ d. d.0.gate ≡ gate.now) }
+{
+    let mut last = 0;
+    for _ in 0..TIMES {
+        last = gate.call(rt, &mut seat, 3).ok()?;
+    }
+    Some((seat, last))
+}
+
+// The same by two threads, whose seats are joined.
+fn call_by_two<R: Threads + Wait + Sync>(
+    rt: &R,
+    gate: &Gate<Sum>,
+    one: Seat<Sum>,
+    two: Seat<Sum>,
+) -> Option<(Seat<Sum>, u64)>
+    requires one { one.gate ≡ gate.now }
+    requires two { two.gate ≡ gate.now }
+    ensures { IfSome result (λ d. d.0.gate ≡ gate.now) }
+{
+    let (first, second) = join(
+        rt,
+        || -> Option<(Seat<Sum>, u64)>
+            requires { one.gate ≡ gate.now }
+            ensures { IfSome result (λ d. d.0.gate ≡ gate.entry.now) }
+        { call_often(rt, gate, one) },
+        || -> Option<(Seat<Sum>, u64)>
+            requires { two.gate ≡ gate.now }
+            ensures { IfSome result (λ d. d.0.gate ≡ gate.entry.now) }
+        { call_often(rt, gate, two) },
+    );
+    let (mut seat, last) = first?;
+    let (other, later) = second?;
+    gate.join(&mut seat, other);
+    Some((seat, last.max(later)))
+}
+
+// The same by four.
+fn call_by_four<R: Threads + Wait + Sync>(
+    rt: &R,
+    gate: &Gate<Sum>,
+    mut first: Seat<Sum>,
+) -> Option<(Seat<Sum>, u64)>
+    requires { first.gate ≡ gate.now }
+    ensures { IfSome result (λ d. d.0.gate ≡ gate.now) }
+{
+    let second = gate.split(&mut first);
+    let third = gate.split(&mut first);
+    let fourth = gate.split(&mut first);
+    let (one, two) = join(
+        rt,
+        || -> Option<(Seat<Sum>, u64)>
+            requires { IsSync R.row × (first.gate ≡ gate.now) × (second.gate ≡ gate.now) }
+            ensures { IfSome result (λ d. d.0.gate ≡ gate.entry.now) }
+        { call_by_two(rt, gate, first, second) },
+        || -> Option<(Seat<Sum>, u64)>
+            requires { IsSync R.row × (third.gate ≡ gate.now) × (fourth.gate ≡ gate.now) }
+            ensures { IfSome result (λ d. d.0.gate ≡ gate.entry.now) }
+        { call_by_two(rt, gate, third, fourth) },
+    );
+    let (mut seat, last) = one?;
+    let (other, later) = two?;
+    gate.join(&mut seat, other);
+    Some((seat, last.max(later)))
+}
+
+#[test]
+fn four_threads_take_all_their_turns(rt: HostRuntime) -> Result<(), Fail> {
+    let (gate, seat) = opened(&rt, 7).ok_or("no memory")?;
+    let Some((seat, last)) = call_by_four(&rt, &gate, seat) else {
+        panic!(rt; "each call is served")
+    };
+    let closing = gate.close(seat);
+    let sum = closing.object.ok_or("the object is at home")?.sum;
+    assert_eq!(rt; (last, closing.turns, sum), (119_997, 40_000, 120_000));
+    Ok(())
+}

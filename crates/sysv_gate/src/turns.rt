@@ -1,0 +1,175 @@
+//! The parts of a call, each of which makes some steps on the table.
+ghost use Rattle.std.specs.Prelude.{◌≡◌, ◌≢◌, ℕ, ◌^◌, ◌<◌, ◌≤◌, true, [], ◌∷◌, length, IfSome, IfNone};
+ghost use Rattle.sysv_gate.specs.History.{Moves};
+ghost use Rattle.sysv_gate.specs.Steps.{HasTurn};
+ghost use Rattle.sysv_gate.specs.Turns.{IsOf, IsSameToken, Waits, Looked, HasDrawn, HasWorn, SawMore, TurnCame, HasMade, Entered};
+ghost use Rattle.sysv_gate.specs.Numbers.{times};
+
+use crate::board::{LIMIT, OBJECT, SERVING, TICKET, Token};
+use crate::gate::Gate;
+use crate::object::Object;
+use crate::place::{Done, Place};
+use crate::rule::{Drawing, Ending, Entering, Looking, Weighing};
+use std::hint;
+use std::snapshot::Snapshot;
+use std::sync::Wait;
+
+/// So often a waiter looks before it sleeps.
+const SPINS: u64 = 1024;
+
+/// A sleep compares the low 32 bits of the word.
+const LOW_BITS: u64 = 0xffff_ffff;
+
+// What came of a try to enter.
+pub(crate) enum Entry {
+    Turn,
+    Busy,
+    Worn,
+}
+
+impl<O: Object> Gate<O> {
+    // Draws a ticket. `None` comes where the tickets have reached 2^62.
+    pub(crate) fn draw(&self, rt: &impl Wait, token: &mut Token<O>) -> Option<u64>
+        requires table { IsOf self.now token.old }
+        requires idle { Waits [] token.old.me }
+        ensures same { IsSameToken token.old token.new }
+        ensures drawn { IfSome result (λ t. HasDrawn token.old.me t token.new.me) }
+        ensures worn { IfNone result (HasWorn token.old.me token.new.me) }
+    {
+        for _ in rt.forever() {
+            let next = self.table.shared.load::<Weighing>(token, TICKET);
+            if next >= LIMIT {
+                return None;
+            }
+            let found = self
+                .table
+                .shared
+                .compare_exchange::<Drawing>(token, TICKET, next, next + 1);
+            if found == next {
+                return Some(next);
+            }
+        }
+        unreachable!()
+    }
+
+    // Draws the ticket that is served, where no other seat holds it, and so begins the turn.
+    pub(crate) fn enter(&self, token: &mut Token<O>) -> Entry
+        requires table { IsOf self.now token.old }
+        requires idle { Waits [] token.old.me }
+        ensures same { IsSameToken token.old token.new }
+        ensures entered { Entered (Moves O.meaning O.counted) self.now.opening token.old.me result token.new.me }
+    {
+        let next = self.table.shared.load::<Weighing>(token, TICKET);
+        if next >= LIMIT {
+            return Entry::Worn;
+        }
+        let served = self.look(token);
+        if served != next {
+            return Entry::Busy;
+        }
+        let found = self
+            .table
+            .shared
+            .compare_exchange::<Entering<O>>(token, TICKET, served, served + 1);
+        if found != served {
+            return Entry::Busy;
+        }
+        Entry::Turn
+    }
+
+    // Waits until the ticket is served.
+    pub(crate) fn reach(&self, rt: &impl Wait, token: &mut Token<O>, ticket: u64)
+        requires table { IsOf self.now token.old }
+        requires waits { Waits (ticket ∷ []) token.old.me }
+        ensures same { IsSameToken token.old token.new }
+        ensures turn { TurnCame (Moves O.meaning O.counted) self.now.opening token.old.me.0 ticket token.new.me }
+    {
+        for _ in rt.forever() {
+            let served = self.spin(token, ticket);
+            if served == ticket {
+                return;
+            }
+            self.table
+                .shared
+                .park(rt, SERVING, (served & LOW_BITS) as u32);
+        }
+        unreachable!()
+    }
+
+    // Looks some times whether the ticket is served, and answers the one that is.
+    fn spin(&self, token: &mut Token<O>, ticket: u64) -> u64
+        requires table { IsOf self.now token.old }
+        requires waits { Waits (ticket ∷ []) token.old.me }
+        ensures same { IsSameToken token.old token.new }
+        ensures turn { result ≡ ticket → TurnCame (Moves O.meaning O.counted) self.now.opening token.old.me.0 ticket token.new.me }
+        ensures waits { result ≢ ticket → SawMore token.old.me.0 token.new.me }
+    {
+        let mut served = self.look(token);
+        for _ in 1..SPINS {
+            if served == ticket {
+                break;
+            }
+            hint::spin_loop();
+            served = self.look(token);
+        }
+        served
+    }
+
+    // Looks which ticket is served. Where it is the seat's, the turn begins.
+    fn look(&self, token: &mut Token<O>) -> u64
+        requires table { IsOf self.now token.old }
+        requires idle { Waits token.old.me.0.tickets token.old.me }
+        ensures same { IsSameToken token.old token.new }
+        ensures looked { Looked (Moves O.meaning O.counted) self.now.opening token.old.me result token.new.me }
+    {
+        self.table.shared.load::<Looking<O>>(token, SERVING)
+    }
+
+    // Makes the turn: takes the object out of the slot, calls it, gives it home, and enters the turn into the history.
+    pub(crate) fn serve(&self, token: &mut Token<O>, call: O::Call) -> O::Reply
+        requires table { IsOf self.now token.old }
+        requires turn { HasTurn (Moves O.meaning O.counted) self.now.opening token.old.me }
+        requires ticket { (t : ℕ) × (token.old.me.0.tickets ≡ t ∷ []) × (token.old.me.0.in_turn ≡ true) }
+        requires named { 1 ≤ times token.old.me.0.number token.old.me.0.numbers }
+        requires room { length token.old.me.0.seen < 2 ^ 62 }
+        ensures same { IsSameToken token.old token.new }
+        ensures made { HasMade (Moves O.meaning O.counted) self.now.opening token.old.me.0 call result token.new.me }
+    {
+        let shared = &self.table.shared;
+        let Some(
+            Place {
+                mut object,
+                last: _,
+            },
+        ) = shared.exchange(token, OBJECT, None)
+        else {
+            unreachable!()
+        };
+        let asked = Snapshot::of(&call);
+        let reply = object.apply(call);
+        let last = Done {
+            call: asked,
+            reply: Snapshot::of(&reply),
+        };
+        let left = shared.exchange(
+            token,
+            OBJECT,
+            Some(Place {
+                object,
+                last: Some(last),
+            }),
+        );
+        let None = left else { unreachable!() };
+        shared.fetch_add::<Ending>(token, SERVING, 1);
+        reply
+    }
+
+    // Wakes those who wait, where a ticket after this one was drawn.
+    pub(crate) fn wake_after(&self, ticket: u64)
+        requires { ticket < 2 ^ 62 }
+    {
+        if self.table.shared.peek(TICKET) > ticket + 1 {
+            self.table.shared.wake_all(SERVING);
+        }
+    }
+}

@@ -1,0 +1,36 @@
+//! What a seat knows. No value of these types is made: they exist in proofs alone.
+use std::collections::LinkedList;
+
+/// One turn at the object.
+pub struct Turn<O, C, R> {
+    /// The number of the seat that made it.
+    pub by: u64,
+    pub call: C,
+    pub reply: R,
+    /// The object after it.
+    pub after: O,
+}
+
+/// What one seat knows of its gate.
+pub struct View<O, C, R> {
+    /// The object that the gate was opened with, where the seat was not joined into another.
+    pub opening: Option<O>,
+    /// The gate's first ticket.
+    pub first: u64,
+    /// The number under which the seat makes its turns.
+    pub number: u64,
+    /// That number, and those of the seats that were joined into this one.
+    pub numbers: LinkedList<u64>,
+    /// The history that the seat has seen.
+    pub seen: LinkedList<Turn<O, C, R>>,
+    /// What another seat had seen that was joined into this one, until the next look.
+    pub also: LinkedList<Turn<O, C, R>>,
+    /// The places in the history of the turns that were made under its numbers.
+    pub own: LinkedList<u64>,
+    /// The ticket that the seat holds, if it holds one.
+    pub tickets: LinkedList<u64>,
+    /// Whether it is the seat's turn.
+    pub in_turn: bool,
+    /// Whether the seat has found that the tickets have reached 2^62.
+    pub worn: bool,
+}
