@@ -1,4 +1,5 @@
 pub mod Errors
+pub mod Blocks
 pub mod Message
 pub mod Selector
 pub mod History

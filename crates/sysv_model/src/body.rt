@@ -1,6 +1,7 @@
 ghost use Rattle.std.specs.Prelude.{◌≡◌, ◌+◌, ◌<◌, ◌≤◌, [], ◌++◌, length, slice_get, Some, IfOk, true, false, if◌then◌else◌};
+ghost use Rattle.sysv_model.specs.Blocks.{block_of};
 
-use crate::limits::BODY_ROOM;
+use crate::limits::{BLOCK_BYTES, BODY_ROOM};
 use crate::no_memory::NoMemory;
 use std::alloc::Global;
 use std::marker::Model;
@@ -67,6 +68,29 @@ impl Body {
     {
         self.bytes[i]
     }
+
+    /// The bytes from `64 * k` on, at most 64 of them: the blocks 0, 1, 2 and so on, one behind the
+    /// other, are the text. Beyond the end a block is empty.
+    pub fn block(&self, k: u32) -> &[u8]
+        ensures { result.now ≡ block_of k self.now }
+    {
+        block_in(&self.bytes, k)
+    }
+}
+
+/// The block of `bytes` with number `k`.
+fn block_in(bytes: &[u8], k: u32) -> &[u8]
+    ensures { result.now ≡ block_of k bytes.now }
+{
+    let start = k as usize * BLOCK_BYTES;
+    if start >= bytes.len() {
+        return &[];
+    }
+    let behind = &bytes[start..];
+    if behind.len() <= BLOCK_BYTES {
+        return behind;
+    }
+    &behind[..BLOCK_BYTES]
 }
 
 #[cfg(test)]
@@ -111,6 +135,18 @@ mod tests {
             );
             assert_eq!(rt; body.len(), left, "{piece} after {held}");
         }
+    }
+
+    #[test]
+    fn a_text_is_read_by_blocks(rt: HostRuntime) {
+        let mut body = open_body(&rt, rt.alloc());
+        let text = [b'x'; 130];
+        assert!(rt; body.push_piece(&text));
+        let table = [(0, 64), (1, 64), (2, 2), (3, 0), (u32::MAX, 0)];
+        for (k, len) in table {
+            assert_eq!(rt; body.block(k).len(), len, "block {k}");
+        }
+        assert_eq!(rt; body.block(2), b"xx".as_slice());
     }
 
     #[test]

@@ -10,6 +10,9 @@ pub const MESSAGE_BYTES: usize = 8192;
 /// too long can be read, and refused.
 pub const BODY_ROOM: usize = 8256;
 
+/// The bytes of a block, by which a text is read.
+pub const BLOCK_BYTES: usize = 64;
+
 /// The most messages that wait on one queue.
 pub const QUEUE_MESSAGES: usize = 256;
 
@@ -40,6 +43,7 @@ mod tests {
         assert_eq!(rt; IPC_PRIVATE, 0);
         assert_eq!(rt; MESSAGE_BYTES, 8_192);
         assert_eq!(rt; BODY_ROOM, 8_256);
+        assert_eq!(rt; BLOCK_BYTES, 64);
         assert_eq!(rt; QUEUE_MESSAGES, 256);
         assert_eq!(rt; QBYTES_AT_CREATION, 16_384);
         assert_eq!(rt; QBYTES_MOST, 65_536);
