@@ -1,0 +1,4 @@
+pub mod NumberLemmas
+pub mod StreamLemmas
+pub mod HeadLemmas
+pub mod RequestLemmas

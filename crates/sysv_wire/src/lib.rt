@@ -1,0 +1,12 @@
+//! The frames of a session: requests and replies as bytes, read from any reader and written to any
+//! writer. `specs/` has the spelling of each, and what a reader answers to bytes that spell none.
+#![tactic(auto)]
+
+pub mod fault;
+mod fields;
+pub mod frame;
+mod input;
+mod number;
+mod output;
+pub mod request;
+pub mod requests;
