@@ -2,3 +2,4 @@ pub mod NumberLemmas
 pub mod StreamLemmas
 pub mod HeadLemmas
 pub mod RequestLemmas
+pub mod ReplyLemmas

@@ -17,6 +17,9 @@ pub const REPLY_LEAST: u32 = 3;
 /// The greatest length of a reply: that of a receive's with a text of 8,192 bytes.
 pub const REPLY_MOST: u32 = 8203;
 
+/// The greatest mode of a queue, nine bits.
+pub const MODE_MOST: u16 = 0o777;
+
 /// What a request asks for and a reply answers.
 #[derive(Clone, Copy, PartialEq, Eq, Debug)]
 pub enum Op {

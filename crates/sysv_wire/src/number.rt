@@ -71,3 +71,19 @@ pub(crate) fn only_i32(bytes: &[u8]) -> i32
 {
     take_i32(bytes).0
 }
+
+/// The number that these eight bytes are.
+pub(crate) fn only_u64(bytes: &[u8]) -> u64
+    requires { length bytes.now ≡ 8 }
+    ensures { bytes.now ≡ u64_bytes result }
+{
+    take_u64(bytes).0
+}
+
+/// The signed number that these eight bytes are.
+pub(crate) fn only_i64(bytes: &[u8]) -> i64
+    requires { length bytes.now ≡ 8 }
+    ensures { bytes.now ≡ i64_bytes result }
+{
+    take_i64(bytes).0
+}
