@@ -1,5 +1,5 @@
 -- What a head is refused for, and where it breaks off.
-use Rattle.std.proofs.Common.{◌≡◌, ℕ, ◌<◌, ◌≤◌, List, ◌++◌, length, Option, refl, inr}
+use Rattle.std.proofs.Common.{◌≡◌, ℕ, ◌^◌, ◌<◌, ◌≤◌, List, ◌++◌, length, Option, refl, inr}
 use Rattle.std.specs.Io.KnownBytes.{Consumes}
 use Rattle.sysv_wire.specs.declared.fault.Fault.{Fault}
 use Rattle.sysv_wire.specs.declared.fault.Fault.TheVariants.{Truncated, TooLong, BadOp, BadField, Read}
@@ -7,12 +7,12 @@ use Rattle.sysv_wire.specs.Faults.{Faults, Breaks, IsShorter, LengthFault, HeadF
 use Rattle.sysv_wire.specs.Numbers.{u32_bytes}
 use Rattle.sysv_wire.proofs.StreamLemmas.{Faults-after}
 
-pub head_refused : (least most n : ℕ) (fault : Fault) (a b : Option (List ℕ)) → Consumes a b (u32_bytes n) → LengthFault least most n fault → Faults (HeadFault least most) fault a b
-head_refused least most n TooLong a b first why = (u32_bytes n, first, (n, why, refl), tt)
-head_refused least most n BadField a b first why = (u32_bytes n, first, (n, why, refl), tt)
-head_refused least most n Truncated a b first why = absurd why
-head_refused least most n BadOp a b first why = absurd why
-head_refused least most n Read a b first why = absurd why
+pub head_refused : (least most n : ℕ) (fault : Fault) (a b : Option (List ℕ)) → n < 2 ^ 32 → Consumes a b (u32_bytes n) → LengthFault least most n fault → Faults (HeadFault least most) fault a b
+head_refused least most n TooLong a b small first why = (u32_bytes n, first, (n, small, why, refl), tt)
+head_refused least most n BadField a b small first why = (u32_bytes n, first, (n, small, why, refl), tt)
+head_refused least most n Truncated a b small first why = absurd why
+head_refused least most n BadOp a b small first why = absurd why
+head_refused least most n Read a b small first why = absurd why
 
 breaks_head : (least most n : ℕ) (fault : Fault) → least ≤ n → n ≤ most → (taken : List ℕ) → Breaks (IsShorter least) fault taken → HeadFault least most fault (u32_bytes n ++ taken)
 breaks_head least most n Truncated low high taken why = inr (n, taken, low, high, why, refl)

@@ -1,5 +1,5 @@
 -- Replies whose fields have no meaning, those that break off, and those that are whole.
-use Rattle.std.proofs.Common.{◌≡◌, ℕ, ℤ, ◌+◌, ◌-◌, ◌<◌, ◌≤◌, List, [], ◌∷◌, ◌++◌, length, get_or, Option, Some, Ok, cond, true, false, refl, sym, ap, subst, ◌∙◌, append_assoc, append-nil, arith, length-append, inl, inr}
+use Rattle.std.proofs.Common.{◌≡◌, ℕ, ℤ, ◌+◌, ◌-◌, ◌^◌, ◌<◌, ◌≤◌, List, [], ◌∷◌, ◌++◌, length, get_or, Option, Some, Ok, cond, true, false, refl, sym, ap, subst, ◌∙◌, append_assoc, append-nil, arith, length-append, inl, inr}
 use Rattle.std.specs.Io.KnownBytes.{Consumes}
 use Rattle.std.proofs.KnownBytes.{Consumes-trans}
 use Rattle.sysv_wire.specs.declared.fault.Fault.{Fault}
@@ -26,24 +26,24 @@ pub length-i32_bytes : (z : ℤ) → length (i32_bytes z) ≡ 4
 unfolding i32_bytes
 length-i32_bytes z = refl
 
-pub wide_row : (row : Line) (mark : ℕ) (rest : List ℕ) → rest ≡ row_fields row → MODE_MOST < row.mode → IsWideAt 13 (mark ∷ rest)
+pub wide_row : (row : Line) (mark : ℕ) (rest : List ℕ) → rest ≡ row_fields row → MODE_MOST < row.mode → row.mode < 2 ^ 16 → IsWideAt 13 (mark ∷ rest)
 unfolding row_fields
-wide_row row mark rest e wide =
+wide_row row mark rest e wide fits =
     let front = i32_bytes row.id ++ (i32_bytes row.key ++ u32_bytes row.uid) in
     let after = u32_bytes row.cbytes ++ u32_bytes row.qnum in
     let parts : rest ≡ front ++ (u16_bytes row.mode ++ after) = e ∙ simp append_assoc in
     let len : length front ≡ 12 = omega (arith, length-append (i32_bytes row.id) (i32_bytes row.key ++ u32_bytes row.uid), length-append (i32_bytes row.key) (u32_bytes row.uid), length-i32_bytes row.id, length-i32_bytes row.key, length-u32_bytes row.uid) in
-    (mark ∷ front, row.mode, after, ap (λ l. mark ∷ l) parts, omega (arith, len), wide)
+    (mark ∷ front, row.mode, after, ap (λ l. mark ∷ l) parts, omega (arith, len), wide, fits)
 
-pub wide_stat : (stat : Told) (fields : List ℕ) → fields ≡ stat_fields stat → MODE_MOST < stat.perm.mode → IsWideAt 20 fields
+pub wide_stat : (stat : Told) (fields : List ℕ) → fields ≡ stat_fields stat → MODE_MOST < stat.perm.mode → stat.perm.mode < 2 ^ 16 → IsWideAt 20 fields
 unfolding stat_fields perm_fields
-wide_stat stat fields e wide =
+wide_stat stat fields e wide fits =
     let perm = stat.perm in
     let front = i32_bytes stat.key ++ (u32_bytes perm.uid ++ (u32_bytes perm.gid ++ (u32_bytes perm.cuid ++ u32_bytes perm.cgid))) in
     let after = count_fields stat ++ time_fields stat in
     let parts : fields ≡ front ++ (u16_bytes perm.mode ++ after) = e ∙ simp append_assoc in
     let len : length front ≡ 20 = omega (arith, length-append (i32_bytes stat.key) (u32_bytes perm.uid ++ (u32_bytes perm.gid ++ (u32_bytes perm.cuid ++ u32_bytes perm.cgid))), length-append (u32_bytes perm.uid) (u32_bytes perm.gid ++ (u32_bytes perm.cuid ++ u32_bytes perm.cgid)), length-append (u32_bytes perm.gid) (u32_bytes perm.cuid ++ u32_bytes perm.cgid), length-append (u32_bytes perm.cuid) (u32_bytes perm.cgid), length-i32_bytes stat.key, length-u32_bytes perm.uid, length-u32_bytes perm.gid, length-u32_bytes perm.cuid, length-u32_bytes perm.cgid) in
-    (front, perm.mode, after, parts, len, wide)
+    (front, perm.mode, after, parts, len, wide, fits)
 
 -- fewer bytes than are left
 breaks_rest : (op : Op) (error n m : ℕ) (done : List ℕ) (fault : Fault) → length done + n ≤ m → (taken : List ℕ) → Breaks (IsShorter n) fault taken → RestFault op error m fault (done ++ taken)

@@ -1,7 +1,7 @@
 -- What a reader has taken of the input where it tells a fault (this profile's order): the length is
 -- judged first, then the version, the operation and the length that the operation wants, and then
 -- comes the rest of the frame.
-use Rattle.std.specs.Prelude.{◌≡◌, ◌≢◌, ◌<◌, ◌≤◌, ◌+◌, ◌⊎◌, ⊤, ℕ, List, [], ◌∷◌, ◌++◌, length, Option}
+use Rattle.std.specs.Prelude.{◌≡◌, ◌≢◌, ◌<◌, ◌≤◌, ◌+◌, ◌^◌, ◌⊎◌, ⊤, ℕ, List, [], ◌∷◌, ◌++◌, length, Option}
 use Rattle.std.specs.Io.KnownBytes.{Consumes, IsAtEnd}
 use Rattle.sysv_wire.specs.declared.fault.Fault.{Fault}
 use Rattle.sysv_wire.specs.declared.fault.Fault.TheVariants.{Truncated, TooLong, BadOp, BadField, Read}
@@ -54,8 +54,8 @@ LengthFault least most n Read = ⊥
 
 abbrev pub HeadFault : ℕ → ℕ → Fault → List ℕ → Type 0
 HeadFault least most Truncated taken = IsPartLength taken ⊎ IsPartHead least most taken
-HeadFault least most TooLong taken = (n : ℕ) × LengthFault least most n TooLong × (taken ≡ u32_bytes n)
-HeadFault least most BadField taken = (n : ℕ) × LengthFault least most n BadField × (taken ≡ u32_bytes n)
+HeadFault least most TooLong taken = (n : ℕ) × (n < 2 ^ 32) × LengthFault least most n TooLong × (taken ≡ u32_bytes n)
+HeadFault least most BadField taken = (n : ℕ) × (n < 2 ^ 32) × LengthFault least most n BadField × (taken ≡ u32_bytes n)
 HeadFault least most BadOp taken = ⊥
 HeadFault least most Read taken = ⊤
 

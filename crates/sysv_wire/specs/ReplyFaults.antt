@@ -2,7 +2,7 @@
 -- length is judged first, then the version, the operation and the length that the operation wants with
 -- this error; then comes the rest of the frame, and once all of it is there the error, the mark of a row
 -- and the mode are judged.
-use Rattle.std.specs.Prelude.{◌≡◌, ◌≢◌, ◌<◌, ◌≤◌, ◌+◌, ◌-◌, ◌⊎◌, ⊤, ℕ, List, [], ◌∷◌, ◌++◌, length}
+use Rattle.std.specs.Prelude.{◌≡◌, ◌≢◌, ◌<◌, ◌≤◌, ◌+◌, ◌-◌, ◌^◌, ◌⊎◌, ⊤, ℕ, List, [], ◌∷◌, ◌++◌, length}
 use Rattle.sysv_model.specs.Errors.{number_of}
 use Rattle.sysv_model.specs.declared.errno.Errno.{Errno}
 use Rattle.sysv_wire.specs.declared.fault.Fault.{Fault}
@@ -35,7 +35,7 @@ IsNoError number = (number ≢ 0) × ((error : Errno) → number_of error ≢ nu
 -- behind so many bytes stands a mode of more than nine bits
 abbrev pub IsWideAt : ℕ → List ℕ → Type 0
 IsWideAt place fields = (before : List ℕ) × (mode : ℕ) × (after : List ℕ)
-    × (fields ≡ before ++ (u16_bytes mode ++ after)) × (length before ≡ place) × (MODE_MOST < mode)
+    × (fields ≡ before ++ (u16_bytes mode ++ after)) × (length before ≡ place) × (MODE_MOST < mode) × (mode < 2 ^ 16)
 
 -- a row that is marked by another number than 0 where nothing follows, and than 1 where it does
 abbrev pub IsBadMark : List ℕ → Type 0
