@@ -1,5 +1,5 @@
 -- Replies whose fields have no meaning, those that break off, and those that are whole.
-use Rattle.std.proofs.Common.{◌≡◌, ℕ, ℤ, ◌+◌, ◌-◌, ◌^◌, ◌<◌, ◌≤◌, List, [], ◌∷◌, ◌++◌, length, get_or, Option, Some, Ok, cond, true, false, refl, sym, ap, subst, ◌∙◌, append_assoc, append-nil, arith, length-append, inl, inr}
+use Rattle.std.proofs.Common.{◌≡◌, ℕ, ℤ, ◌+◌, ◌-◌, ◌^◌, ◌<◌, ◌≤◌, List, [], ◌∷◌, ◌++◌, length, get_or, Option, Some, Ok, cond, true, false, refl, sym, ap, subst, ◌∙◌, append_assoc, append-nil, arith, length-append, inr}
 use Rattle.std.specs.Io.KnownBytes.{Consumes}
 use Rattle.std.proofs.KnownBytes.{Consumes-trans}
 use Rattle.sysv_wire.specs.declared.fault.Fault.{Fault}
@@ -12,7 +12,7 @@ use Rattle.sysv_wire.specs.Reading.{ReadsReply}
 use Rattle.sysv_model.specs.declared.attributes.Row.{Row as Line}
 use Rattle.sysv_model.specs.declared.attributes.Stat.{Stat as Told}
 use Rattle.sysv_wire.specs.declared.frame.TheConstants.{VERSION, REPLY_MOST, MODE_MOST}
-use Rattle.sysv_wire.specs.Numbers.{u16_bytes, u32_bytes, u64_bytes, i32_bytes, i64_bytes}
+use Rattle.sysv_wire.specs.Numbers.{u16_bytes, u32_bytes, i32_bytes}
 use Rattle.sysv_wire.specs.Replies.{IsAnswer, IsRestLength, perm_fields, count_fields, time_fields, stat_fields, row_fields, outcome_fields, outcome_text, gives_text, error_number, reply_spelling}
 use Rattle.sysv_wire.specs.ReplyFaults.{IsWideAt, RestFault, ReplyFault}
 use Rattle.sysv_wire.proofs.RequestLemmas.{frame_whole}

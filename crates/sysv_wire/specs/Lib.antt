@@ -6,3 +6,4 @@ pub mod Replies
 pub mod Faults
 pub mod ReplyFaults
 pub mod Reading
+pub mod OneSpelling

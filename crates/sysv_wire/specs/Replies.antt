@@ -1,11 +1,14 @@
 -- The one spelling of each reply (this profile's): the operation, the number of the error or 0, and then
 -- the fields of what is answered in order, and behind those of a receive's the message's text. A refusal
 -- has no fields.
-use Rattle.std.specs.Prelude.{◌≡◌, ◌≤◌, ◌+◌, ◌==◌, ⊤, ◌⊎◌, ℕ, Bool, true, false, List, [], ◌∷◌, ◌++◌, Option, None, Some, MatchBool, if◌then◌else◌}
+use Rattle.std.specs.Prelude.{◌≡◌, ◌≤◌, ◌<◌, ◌^◌, ◌==◌, length, ⊤, ◌⊎◌, ℕ, Bool, true, false, List, [], ◌∷◌, ◌++◌, None, Some, MatchBool, if◌then◌else◌}
+use Rattle.std.specs.Int.{w32, w64}
+use Rattle.std.specs.Int.RustNames.{FitsSigned}
 use Rattle.sysv_model.specs.Errors.{number_of}
 use Rattle.sysv_model.specs.declared.attributes.Perm.{Perm}
 use Rattle.sysv_model.specs.declared.attributes.Row.{Row as Line}
 use Rattle.sysv_model.specs.declared.attributes.Stat.{Stat as Told}
+use Rattle.sysv_model.specs.declared.limits.TheConstants.{MESSAGE_BYTES}
 use Rattle.sysv_wire.specs.declared.frame.Op.{Op}
 use Rattle.sysv_wire.specs.declared.frame.Op.TheVariants as op
 use Rattle.sysv_wire.specs.declared.frame.TheConstants.{VERSION, MODE_MOST}
@@ -14,6 +17,30 @@ use Rattle.sysv_wire.specs.declared.reply.Outcome.TheVariants.{Refused, Hello, G
 use Rattle.sysv_wire.specs.declared.reply.Reply.{Reply}
 use Rattle.sysv_wire.specs.Frames.{op_number, frame}
 use Rattle.sysv_wire.specs.Numbers.{u16_bytes, u32_bytes, u64_bytes, i32_bytes, i64_bytes}
+
+pub record FitsStat (stat : Told) : Type 0 where
+  pub key : FitsSigned w32 stat.key
+  pub uid : stat.perm.uid < 2 ^ 32
+  pub gid : stat.perm.gid < 2 ^ 32
+  pub cuid : stat.perm.cuid < 2 ^ 32
+  pub cgid : stat.perm.cgid < 2 ^ 32
+  pub mode : stat.perm.mode < 2 ^ 16
+  pub cbytes : stat.cbytes < 2 ^ 32
+  pub qnum : stat.qnum < 2 ^ 32
+  pub qbytes : stat.qbytes < 2 ^ 32
+  pub lspid : stat.lspid < 2 ^ 32
+  pub lrpid : stat.lrpid < 2 ^ 32
+  pub stime : stat.stime < 2 ^ 64
+  pub rtime : stat.rtime < 2 ^ 64
+  pub ctime : stat.ctime < 2 ^ 64
+
+pub record FitsRow (row : Line) : Type 0 where
+  pub id : FitsSigned w32 row.id
+  pub key : FitsSigned w32 row.key
+  pub uid : row.uid < 2 ^ 32
+  pub mode : row.mode < 2 ^ 16
+  pub cbytes : row.cbytes < 2 ^ 32
+  pub qnum : row.qnum < 2 ^ 32
 
 abbrev pub error_number : Outcome → ℕ
 error_number (Refused error) = number_of error
@@ -105,3 +132,20 @@ IsAnswerLength op.Row n = (n ≡ 1) ⊎ (n ≡ 23)
 -- a reply of the operation with this error may have so many bytes behind the error
 abbrev pub IsRestLength : Op → ℕ → ℕ → Type 0
 IsRestLength o error n = MatchBool (error == 0) (IsAnswerLength o n) (n ≡ 0)
+
+-- the numbers are in the ranges of their types
+abbrev pub FitsOutcome : Outcome → Type 0
+FitsOutcome (Refused error) = ⊤
+FitsOutcome Hello = ⊤
+FitsOutcome (Get id) = FitsSigned w32 id
+FitsOutcome Snd = ⊤
+FitsOutcome (Rcv mtype) = FitsSigned w64 mtype
+FitsOutcome (Stat stat) = FitsStat stat
+FitsOutcome Set = ⊤
+FitsOutcome Rm = ⊤
+FitsOutcome (Row None) = ⊤
+FitsOutcome (Row (Some row)) = FitsRow row
+
+-- the reply is one that its operation may give, and it and its text can be sent
+abbrev pub FitsReply : Reply → List ℕ → Type 0
+FitsReply reply text = IsAnswer reply.op reply.result × FitsOutcome reply.result × (length text ≤ MESSAGE_BYTES)

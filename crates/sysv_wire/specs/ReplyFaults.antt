@@ -2,7 +2,7 @@
 -- length is judged first, then the version, the operation and the length that the operation wants with
 -- this error; then comes the rest of the frame, and once all of it is there the error, the mark of a row
 -- and the mode are judged.
-use Rattle.std.specs.Prelude.{◌≡◌, ◌≢◌, ◌<◌, ◌≤◌, ◌+◌, ◌-◌, ◌^◌, ◌⊎◌, ⊤, ℕ, List, [], ◌∷◌, ◌++◌, length}
+use Rattle.std.specs.Prelude.{◌≡◌, ◌≢◌, ◌<◌, ◌≤◌, ◌-◌, ◌^◌, ◌⊎◌, ⊤, ℕ, List, [], ◌∷◌, ◌++◌, length}
 use Rattle.sysv_model.specs.Errors.{number_of}
 use Rattle.sysv_model.specs.declared.errno.Errno.{Errno}
 use Rattle.sysv_wire.specs.declared.fault.Fault.{Fault}

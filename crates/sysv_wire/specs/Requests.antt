@@ -1,8 +1,9 @@
 -- The one spelling of each request (this profile's): its fields in order, and behind those of a send its
 -- text.
-use Rattle.std.specs.Prelude.{◌≡◌, ◌≤◌, ◌+◌, ℕ, Bool, true, false, List, [], ◌∷◌, ◌++◌, MatchBool, if◌then◌else◌}
-use Rattle.sysv_model.specs.declared.attributes.SetTo.{SetTo}
-use Rattle.sysv_model.specs.declared.cred.Cred.{Cred}
+use Rattle.std.specs.Prelude.{◌≡◌, ◌≤◌, ◌<◌, ◌+◌, ◌^◌, ℕ, length, Bool, true, false, List, [], ◌∷◌, ◌++◌, MatchBool, if◌then◌else◌}
+use Rattle.std.specs.Int.{w32, w64}
+use Rattle.std.specs.Int.RustNames.{FitsSigned}
+use Rattle.sysv_model.specs.declared.limits.TheConstants.{BODY_ROOM}
 use Rattle.sysv_wire.specs.declared.frame.Op.{Op}
 use Rattle.sysv_wire.specs.declared.frame.Op.TheVariants as op
 use Rattle.sysv_wire.specs.declared.frame.TheConstants.{VERSION}
@@ -66,3 +67,18 @@ fields_len op.Row = 4
 -- a request of the operation may have this length: a text may have any
 abbrev pub IsRequestLength : Op → ℕ → Type 0
 IsRequestLength o n = MatchBool (has_text o) (2 + fields_len o ≤ n) (n ≡ 2 + fields_len o)
+
+-- the numbers are in the ranges of their types
+abbrev pub FitsAsk : Ask → Type 0
+FitsAsk (Hello cred) = (cred.uid < 2 ^ 32) × (cred.gid < 2 ^ 32) × (cred.pid < 2 ^ 32)
+FitsAsk (Get key flags) = FitsSigned w32 key × (flags.0 < 2 ^ 32)
+FitsAsk (Snd id mtype flags) = FitsSigned w32 id × FitsSigned w64 mtype × (flags.0 < 2 ^ 32)
+FitsAsk (Rcv id size mtype flags) = FitsSigned w32 id × (size < 2 ^ 32) × FitsSigned w64 mtype × (flags.0 < 2 ^ 32)
+FitsAsk (Stat id) = FitsSigned w32 id
+FitsAsk (Set id to) = FitsSigned w32 id × (to.uid < 2 ^ 32) × (to.gid < 2 ^ 32) × (to.mode < 2 ^ 32) × (to.qbytes < 2 ^ 32)
+FitsAsk (Rm id) = FitsSigned w32 id
+FitsAsk (Row slot) = slot < 2 ^ 32
+
+-- the request and its text can be sent
+abbrev pub FitsRequest : Request → List ℕ → Type 0
+FitsRequest request text = FitsAsk request.ask × (length text ≤ BODY_ROOM)

@@ -6,6 +6,7 @@ pub mod fault;
 mod fields;
 pub mod frame;
 mod input;
+pub mod laws;
 mod number;
 mod outcome;
 mod output;
