@@ -6,3 +6,5 @@ pub mod ReplyLemmas
 pub mod Apart
 pub mod OneRequest
 pub mod OneReply
+pub mod RequestAnswer
+pub mod ReplyAnswer

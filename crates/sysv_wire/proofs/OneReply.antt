@@ -38,7 +38,7 @@ errno_back EOVERFLOW = refl
 errno_same : (e f : Errno) → number_of e ≡ number_of f → e ≡ f
 errno_same e f h = sym (errno_back e) ∙ ap errno_at h ∙ errno_back f
 
-some_error : (e : Errno) → number_of e ≡ 0 → ⊥
+pub some_error : (e : Errno) → number_of e ≡ 0 → ⊥
 some_error EPERM h = omega (arith, h)
 some_error ENOENT h = omega (arith, h)
 some_error E2BIG h = omega (arith, h)
@@ -142,7 +142,7 @@ row_same r s p q e =
     ap (λ n. line n r.key r.uid r.mode r.cbytes r.qnum) v.0 ∙ ap (λ n. line s.id n r.uid r.mode r.cbytes r.qnum) w.0 ∙ ap (λ n. line s.id s.key n r.mode r.cbytes r.qnum) x.0
     ∙ ap (λ n. line s.id s.key s.uid n r.cbytes r.qnum) y.0 ∙ ap (λ n. line s.id s.key s.uid s.mode n r.qnum) z.0 ∙ ap (λ n. line s.id s.key s.uid s.mode s.cbytes n) u
 
-row_number : (n : ℕ) (r : Option Line) → IsAnswer n (Row r) → n ≡ 7
+pub row_number : (n : ℕ) (r : Option Line) → IsAnswer n (Row r) → n ≡ 7
 row_number n None h = h
 row_number n (Some r) h = h.0
 
@@ -188,7 +188,7 @@ short_fields Rm = omega arith
 short_fields (Row None) = omega arith
 short_fields (Row (Some r)) = omega arith
 
-short_reply : (n : ℕ) (a : Outcome) (text : List ℕ) → length text ≤ 8192 → length (VERSION ∷ n ∷ error_number a ∷ (outcome_fields a ++ outcome_text a text)) < 2 ^ 32
+pub short_reply : (n : ℕ) (a : Outcome) (text : List ℕ) → length text ≤ 8192 → length (VERSION ∷ n ∷ error_number a ∷ (outcome_fields a ++ outcome_text a text)) < 2 ^ 32
 short_reply n a text h =
     omega (arith, length-append (outcome_fields a) (outcome_text a text), short_fields a, short_text a text h)
 

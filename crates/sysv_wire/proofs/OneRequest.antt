@@ -15,14 +15,14 @@ use Rattle.sysv_wire.specs.OneSpelling.{OneRequest}
 use Rattle.sysv_wire.specs.Requests.{FitsAsk, ask_fields, ask_text, fields_len, has_text, op_of}
 use Rattle.sysv_wire.proofs.Apart.{fronts_alike, rests_alike, frames_alike, u32_same, i32_same, u32_step, i32_step, i64_step}
 
-abbrev op_at : ℕ → Op
+abbrev pub op_at : ℕ → Op
 op_at n =
     cond (eqb n 0) op.Hello (cond (eqb n 1) op.Get (cond (eqb n 2) op.Snd (cond (eqb n 3) op.Rcv (cond (eqb n 4) op.Stat (cond (eqb n 5) op.Set (cond (eqb n 6) op.Rm op.Row))))))
 
 abbrev asked : Ask → Request
 asked a = record { ask = a }
 
-op_back : (o : Op) → op_at (op_number o) ≡ o
+pub op_back : (o : Op) → op_at (op_number o) ≡ o
 op_back op.Hello = refl
 op_back op.Get = refl
 op_back op.Snd = refl

@@ -26,24 +26,37 @@ pub length-i32_bytes : (z : ℤ) → length (i32_bytes z) ≡ 4
 unfolding i32_bytes
 length-i32_bytes z = refl
 
-pub wide_row : (row : Line) (mark : ℕ) (rest : List ℕ) → rest ≡ row_fields row → MODE_MOST < row.mode → row.mode < 2 ^ 16 → IsWideAt 13 (mark ∷ rest)
+-- behind so many bytes stands this mode
+abbrev pub HasModeAt : ℕ → List ℕ → ℕ → Type 0
+HasModeAt place fields mode = (before : List ℕ) × (after : List ℕ) × (fields ≡ before ++ (u16_bytes mode ++ after)) × (length before ≡ place)
+
+pub row_mode : (row : Line) (mark : ℕ) (rest : List ℕ) → rest ≡ row_fields row → HasModeAt 13 (mark ∷ rest) row.mode
 unfolding row_fields
-wide_row row mark rest e wide fits =
+row_mode row mark rest e =
     let front = i32_bytes row.id ++ (i32_bytes row.key ++ u32_bytes row.uid) in
     let after = u32_bytes row.cbytes ++ u32_bytes row.qnum in
     let parts : rest ≡ front ++ (u16_bytes row.mode ++ after) = e ∙ simp append_assoc in
     let len : length front ≡ 12 = omega (arith, length-append (i32_bytes row.id) (i32_bytes row.key ++ u32_bytes row.uid), length-append (i32_bytes row.key) (u32_bytes row.uid), length-i32_bytes row.id, length-i32_bytes row.key, length-u32_bytes row.uid) in
-    (mark ∷ front, row.mode, after, ap (λ l. mark ∷ l) parts, omega (arith, len), wide, fits)
+    (mark ∷ front, after, ap (λ l. mark ∷ l) parts, omega (arith, len))
 
-pub wide_stat : (stat : Told) (fields : List ℕ) → fields ≡ stat_fields stat → MODE_MOST < stat.perm.mode → stat.perm.mode < 2 ^ 16 → IsWideAt 20 fields
+pub stat_mode : (stat : Told) (fields : List ℕ) → fields ≡ stat_fields stat → HasModeAt 20 fields stat.perm.mode
 unfolding stat_fields perm_fields
-wide_stat stat fields e wide fits =
+stat_mode stat fields e =
     let perm = stat.perm in
     let front = i32_bytes stat.key ++ (u32_bytes perm.uid ++ (u32_bytes perm.gid ++ (u32_bytes perm.cuid ++ u32_bytes perm.cgid))) in
     let after = count_fields stat ++ time_fields stat in
     let parts : fields ≡ front ++ (u16_bytes perm.mode ++ after) = e ∙ simp append_assoc in
     let len : length front ≡ 20 = omega (arith, length-append (i32_bytes stat.key) (u32_bytes perm.uid ++ (u32_bytes perm.gid ++ (u32_bytes perm.cuid ++ u32_bytes perm.cgid))), length-append (u32_bytes perm.uid) (u32_bytes perm.gid ++ (u32_bytes perm.cuid ++ u32_bytes perm.cgid)), length-append (u32_bytes perm.gid) (u32_bytes perm.cuid ++ u32_bytes perm.cgid), length-append (u32_bytes perm.cuid) (u32_bytes perm.cgid), length-i32_bytes stat.key, length-u32_bytes perm.uid, length-u32_bytes perm.gid, length-u32_bytes perm.cuid, length-u32_bytes perm.cgid) in
-    (front, perm.mode, after, parts, len, wide, fits)
+    (front, after, parts, len)
+
+wide_at : (place : ℕ) (fields : List ℕ) (mode : ℕ) → HasModeAt place fields mode → MODE_MOST < mode → mode < 2 ^ 16 → IsWideAt place fields
+wide_at place fields mode h wide fits = (h.0, mode, h.1, h.2, h.3, wide, fits)
+
+pub wide_row : (row : Line) (mark : ℕ) (rest : List ℕ) → rest ≡ row_fields row → MODE_MOST < row.mode → row.mode < 2 ^ 16 → IsWideAt 13 (mark ∷ rest)
+wide_row row mark rest e wide fits = wide_at 13 (mark ∷ rest) row.mode (row_mode row mark rest e) wide fits
+
+pub wide_stat : (stat : Told) (fields : List ℕ) → fields ≡ stat_fields stat → MODE_MOST < stat.perm.mode → stat.perm.mode < 2 ^ 16 → IsWideAt 20 fields
+wide_stat stat fields e wide fits = wide_at 20 fields stat.perm.mode (stat_mode stat fields e) wide fits
 
 -- fewer bytes than are left
 breaks_rest : (op : Op) (error n m : ℕ) (done : List ℕ) (fault : Fault) → length done + n ≤ m → (taken : List ℕ) → Breaks (IsShorter n) fault taken → RestFault op error m fault (done ++ taken)

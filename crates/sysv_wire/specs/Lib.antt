@@ -7,3 +7,4 @@ pub mod Faults
 pub mod ReplyFaults
 pub mod Reading
 pub mod OneSpelling
+pub mod OneAnswer
