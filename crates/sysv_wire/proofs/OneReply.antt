@@ -13,7 +13,7 @@ use Rattle.sysv_wire.specs.declared.reply.Outcome.TheVariants.{Refused, Hello, G
 use Rattle.sysv_wire.specs.declared.reply.Reply.{Reply}
 use Rattle.sysv_wire.specs.Numbers.{u16_bytes, u32_bytes, u64_bytes, i32_bytes, i64_bytes}
 use Rattle.sysv_wire.specs.OneSpelling.{OneReply}
-use Rattle.sysv_wire.specs.Replies.{FitsStat, FitsRow, FitsOutcome, IsAnswer, error_number, perm_fields, count_fields, time_fields, stat_fields, row_fields, outcome_fields, outcome_text, gives_text}
+use Rattle.sysv_wire.specs.Replies.{FitsPerm, FitsStat, FitsRow, FitsOutcome, IsAnswer, error_number, perm_fields, count_fields, time_fields, stat_fields, row_fields, outcome_fields, outcome_text, gives_text}
 use Rattle.sysv_wire.proofs.Apart.{fronts_alike, rests_alike, frames_alike, u16_same, u32_same, u64_same, u16_step, u32_step, u64_step, i32_step, i64_step}
 
 errno_at : ℕ → Errno
@@ -68,11 +68,9 @@ length-count_fields : (s t : Told) → length (count_fields s) ≡ length (count
 unfolding count_fields u32_bytes
 length-count_fields s t = refl
 
-perm_same : (s t : Told) → FitsStat s → FitsStat t → perm_fields s.perm ≡ perm_fields t.perm → s.perm ≡ t.perm
+perm_same : (a b : Perm) → FitsPerm a → FitsPerm b → perm_fields a ≡ perm_fields b → a ≡ b
 unfolding perm_fields
-perm_same s t p q e =
-    let a = s.perm in
-    let b = t.perm in
+perm_same a b p q e =
     let v = u32_step a.uid b.uid _ _ p.uid q.uid e in
     let w = u32_step a.gid b.gid _ _ p.gid q.gid v.1 in
     let x = u32_step a.cuid b.cuid _ _ p.cuid q.cuid w.1 in
@@ -114,7 +112,7 @@ unfolding stat_fields
 stat_same s t p q e =
     let k = i32_step s.key t.key _ _ p.key q.key e in
     let len = length-perm_fields s.perm t.perm in
-    let m = perm_same s t p q (fronts_alike (perm_fields s.perm) (perm_fields t.perm) _ _ len k.1) in
+    let m = perm_same s.perm t.perm p.perm q.perm (fronts_alike (perm_fields s.perm) (perm_fields t.perm) _ _ len k.1) in
     let behind = rests_alike (perm_fields s.perm) (perm_fields t.perm) _ _ len k.1 in
     let sizes = length-count_fields s t in
     let c = counts_same s t p q (fronts_alike (count_fields s) (count_fields t) _ _ sizes behind) in

@@ -10,9 +10,9 @@ use Rattle.sysv_wire.specs.declared.request.Ask.{Ask}
 use Rattle.sysv_wire.specs.declared.request.Ask.TheVariants.{Hello, Get, Snd, Rcv, Stat, Set, Rm, Row}
 use Rattle.sysv_wire.specs.declared.request.Request.{Request}
 use Rattle.sysv_wire.specs.Frames.{op_number}
-use Rattle.sysv_wire.specs.Numbers.{u32_bytes, i32_bytes, i64_bytes}
 use Rattle.sysv_wire.specs.OneSpelling.{OneRequest}
 use Rattle.sysv_wire.specs.Requests.{FitsAsk, ask_fields, ask_text, fields_len, has_text, op_of}
+use Rattle.sysv_wire.proofs.RequestLemmas.{length-ask_fields}
 use Rattle.sysv_wire.proofs.Apart.{fronts_alike, rests_alike, frames_alike, u32_same, i32_same, u32_step, i32_step, i64_step}
 
 abbrev pub op_at : ℕ → Op
@@ -44,17 +44,6 @@ flags n = record { 0 = n }
 
 abbrev to : ℕ → ℕ → ℕ → ℕ → SetTo
 to u g m q = record { uid = u; gid = g; mode = m; qbytes = q }
-
-pub length-ask_fields : (a : Ask) → length (ask_fields a) ≡ fields_len (op_of a)
-unfolding ask_fields u32_bytes i32_bytes i64_bytes
-length-ask_fields (Hello c) = refl
-length-ask_fields (Get key f) = refl
-length-ask_fields (Snd id mtype f) = refl
-length-ask_fields (Rcv id size mtype f) = refl
-length-ask_fields (Stat id) = refl
-length-ask_fields (Set id t) = refl
-length-ask_fields (Rm id) = refl
-length-ask_fields (Row slot) = refl
 
 pub ask_same : (a b : Ask) → FitsAsk a → FitsAsk b → op_of a ≡ op_of b → ask_fields a ≡ ask_fields b → a ≡ b
 unfolding ask_fields

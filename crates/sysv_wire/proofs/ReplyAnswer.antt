@@ -17,6 +17,7 @@ use Rattle.sysv_wire.specs.declared.reply.Reply.{Reply}
 use Rattle.sysv_wire.specs.Frames.{op_number, frame}
 use Rattle.sysv_wire.specs.Numbers.{u16_bytes, u32_bytes, u64_bytes, i32_bytes, i64_bytes}
 use Rattle.sysv_wire.specs.OneAnswer.{ReplyAt, OneAnswerToReplies}
+use Rattle.sysv_wire.specs.Reading.{ReadsReply}
 use Rattle.sysv_wire.specs.Replies.{FitsReply, FitsOutcome, IsAnswer, IsAnswerLength, IsRestLength, error_number, perm_fields, count_fields, time_fields, stat_fields, row_fields, outcome_fields, outcome_text, reply_spelling}
 use Rattle.sysv_wire.specs.ReplyFaults.{IsNoError, IsWideAt, IsBadMark, IsBadAnswer, IsReplyRest, ReplyFault}
 use Rattle.sysv_wire.proofs.Apart.{rests_alike, frames_alike, u16_step}
@@ -220,7 +221,7 @@ bad_not op.Rcv a text bytes h fits err same bad = bad
 bad_not op.Set a text bytes h fits err same bad = bad
 bad_not op.Rm a text bytes h fits err same bad = bad
 bad_not op.Stat (Stat s) text bytes h fits err same bad =
-    wide_not 20 bytes s.perm.mode (stat_mode s bytes (same ∙ append-nil (stat_fields s))) h.1 fits.mode bad
+    wide_not 20 bytes s.perm.mode (stat_mode s bytes (same ∙ append-nil (stat_fields s))) h.1 fits.perm.mode bad
 bad_not op.Stat (Refused e) text bytes h fits err same bad = some_error e err
 bad_not op.Stat (Row r) text bytes h fits err same bad = absurd (omega (arith, row_number 4 r h))
 bad_not op.Stat a text bytes h fits err same bad = absurd (omega (arith, h))
@@ -362,3 +363,18 @@ same_answer input a b h k u (inr f) = bad_alone input a (bad_of input (subst (Re
 
 pub one_answer : OneAnswerToReplies
 one_answer input a b h k = same_answer input a b h k (answer_verdict input a h) (answer_verdict input b k)
+
+-- what was read fits what there was, or the reader has failed
+pub reply_only : (input : List ℕ) (new : Option (List ℕ)) (result answer : Result (Option Reply) Fault) (text : List ℕ) → ReadsReply (Some input) new result text → ReplyAt input answer
+    → (result ≡ answer) ⊎ (result ≡ Err Read)
+reply_only input None (Ok (Some r)) answer text h k = absurd h.0
+reply_only input None (Ok None) answer text h k = absurd h.0
+reply_only input None (Err f) answer text h k = absurd h.1
+reply_only input (Some rest) (Ok (Some r)) answer text h k = inl (one_answer input (Ok (Some r)) answer (text, rest, h.1, h.0) k)
+reply_only input (Some rest) (Ok None) answer text h k = inl (one_answer input (Ok None) answer (h.0 ∙ h.1) k)
+reply_only input (Some rest) (Err Truncated) answer text h k =
+    inl (one_answer input (Err Truncated) answer (subst (ReplyFault Truncated) (sym (h.1 ∙ ap (λ l. h.0 ++ l) h.3 ∙ append-nil h.0)) h.2) k)
+reply_only input (Some rest) (Err TooLong) answer text h k = inl (one_answer input (Err TooLong) answer (h.0, rest, h.2, h.1) k)
+reply_only input (Some rest) (Err BadOp) answer text h k = inl (one_answer input (Err BadOp) answer (h.0, rest, h.2, h.1) k)
+reply_only input (Some rest) (Err BadField) answer text h k = inl (one_answer input (Err BadField) answer (h.0, rest, h.2, h.1) k)
+reply_only input (Some rest) (Err Read) answer text h k = inr refl

@@ -6,14 +6,15 @@ use Rattle.sysv_wire.specs.declared.fault.Fault.{Fault}
 use Rattle.sysv_wire.specs.declared.fault.Fault.TheVariants.{Truncated, TooLong, BadOp, BadField, Read}
 use Rattle.sysv_wire.specs.declared.frame.Op.{Op}
 use Rattle.sysv_wire.specs.declared.reply.Outcome.{Outcome}
+use Rattle.sysv_wire.specs.declared.reply.Outcome.TheVariants.{Refused, Hello, Get, Snd, Rcv, Stat, Set, Rm, Row}
 use Rattle.sysv_wire.specs.Faults.{Faults, Breaks, IsShorter}
 use Rattle.sysv_wire.specs.Frames.{op_number, frame}
 use Rattle.sysv_wire.specs.Reading.{ReadsReply}
 use Rattle.sysv_model.specs.declared.attributes.Row.{Row as Line}
 use Rattle.sysv_model.specs.declared.attributes.Stat.{Stat as Told}
 use Rattle.sysv_wire.specs.declared.frame.TheConstants.{VERSION, REPLY_MOST, MODE_MOST}
-use Rattle.sysv_wire.specs.Numbers.{u16_bytes, u32_bytes, i32_bytes}
-use Rattle.sysv_wire.specs.Replies.{IsAnswer, IsRestLength, perm_fields, count_fields, time_fields, stat_fields, row_fields, outcome_fields, outcome_text, gives_text, error_number, reply_spelling}
+use Rattle.sysv_wire.specs.Numbers.{u16_bytes, u32_bytes, i32_bytes, i64_bytes}
+use Rattle.sysv_wire.specs.Replies.{FitsOutcome, IsAnswer, IsRestLength, perm_fields, count_fields, time_fields, stat_fields, row_fields, outcome_fields, outcome_text, gives_text, error_number, reply_spelling}
 use Rattle.sysv_wire.specs.ReplyFaults.{IsWideAt, RestFault, ReplyFault}
 use Rattle.sysv_wire.proofs.RequestLemmas.{frame_whole}
 use Rattle.sysv_wire.proofs.StreamLemmas.{Faults-after}
@@ -99,17 +100,30 @@ triple_is (a ∷ b ∷ []) e = absurd (omega (arith, e))
 triple_is (a ∷ b ∷ d ∷ []) e = refl
 triple_is (a ∷ b ∷ d ∷ x ∷ rest) e = absurd (omega (arith, e))
 
+-- a text that came in a reply is one that a message may have
+text_short : (a : Outcome) (text : List ℕ) (n : ℕ) → text ≡ outcome_text a text → n ≡ length (outcome_fields a ++ outcome_text a text) → n ≤ 8200 → length text ≤ 8192
+unfolding i64_bytes
+text_short (Rcv t) text n empty len most = omega (arith, len, most, length-append (i64_bytes t) text)
+text_short (Refused e) text n empty len most = let none = ap length empty in omega (arith, none)
+text_short Hello text n empty len most = let none = ap length empty in omega (arith, none)
+text_short (Get i) text n empty len most = let none = ap length empty in omega (arith, none)
+text_short Snd text n empty len most = let none = ap length empty in omega (arith, none)
+text_short (Stat s) text n empty len most = let none = ap length empty in omega (arith, none)
+text_short Set text n empty len most = let none = ap length empty in omega (arith, none)
+text_short Rm text n empty len most = let none = ap length empty in omega (arith, none)
+text_short (Row r) text n empty len most = let none = ap length empty in omega (arith, none)
+
 -- a reply that was read is spelled by what was taken
 pub reply_read : (result : Outcome) (n rest : ℕ) (op : Op) (version number error told : ℕ) (head text : List ℕ) (a b c : Option (List ℕ)) → head ≡ version ∷ number ∷ error ∷ [] → version ≡ VERSION → op_number op ≡ number
-    → 3 ≤ n → rest ≡ n - 3 → told ≡ op_number op → rest ≡ length (outcome_fields result ++ outcome_text result text) → IsAnswer (op_number op) result → error_number result ≡ error → text ≡ outcome_text result text
+    → 3 ≤ n → n ≤ REPLY_MOST → rest ≡ n - 3 → told ≡ op_number op → rest ≡ length (outcome_fields result ++ outcome_text result text) → IsAnswer (op_number op) result → FitsOutcome result → error_number result ≡ error → text ≡ outcome_text result text
     → Consumes a b (u32_bytes n ++ head) → Consumes b c (outcome_fields result ++ outcome_text result text) → ReadsReply a c (Ok (Some record { op = told; result = result })) text
-reply_read result n rest op version number error told head text a b c h v o low e t len answer err empty first second =
+reply_read result n rest op version number error told head text a b c h v o low high e t len answer fits err empty first second =
     let behind = outcome_fields result ++ outcome_text result text in
     let whole : (u32_bytes n ++ head) ++ behind ≡ frame (VERSION ∷ told ∷ error_number result ∷ behind) =
     head_then n op version number error head behind h v o ∙ ap (λ x. u32_bytes n ++ (VERSION ∷ op_number op ∷ x ∷ behind)) (sym err)
     ∙ ap (λ x. u32_bytes n ++ (VERSION ∷ x ∷ error_number result ∷ behind)) (sym t)
     ∙ frame_whole n (VERSION ∷ told ∷ error_number result ∷ behind) (omega arith) in
-    (subst (Consumes a c) whole (Consumes-trans a b c (u32_bytes n ++ head) behind first second), subst (λ (x : ℕ). IsAnswer x result) (sym t) answer, empty)
+    (subst (Consumes a c) whole (Consumes-trans a b c (u32_bytes n ++ head) behind first second), (subst (λ (x : ℕ). IsAnswer x result) (sym t) answer, fits, text_short result text rest empty len (omega (arith, e, high))), empty)
 
 -- the head of a reply and its fields, and then its text
 spelled_head : (number error : ℕ) (fields text : List ℕ) → (u32_bytes (3 + length fields + length text) ++ (VERSION ∷ number ∷ error ∷ fields)) ++ text ≡ frame (VERSION ∷ number ∷ error ∷ (fields ++ text))

@@ -1,6 +1,6 @@
 -- An input tells by four numbers which kind of answer fits it: its length, the length that stands at its
 -- front, and the two bytes behind that.
-use Rattle.std.proofs.Common.{◌≡◌, ◌≢◌, ℕ, ◌+◌, ◌^◌, ◌<◌, ◌≤◌, Bool, true, false, cond, eqb, ltb, leb, List, [], ◌∷◌, ◌++◌, length, get_or, take, Option, None, Some, Result, Ok, Err, refl, sym, ap, ◌∙◌, append_assoc, arith, length-append, inl, inr}
+use Rattle.std.proofs.Common.{◌≡◌, ◌⊎◌, ◌≢◌, ℕ, ◌+◌, ◌^◌, ◌<◌, ◌≤◌, Bool, true, false, cond, eqb, ltb, leb, List, [], ◌∷◌, ◌++◌, length, get_or, take, Option, None, Some, Result, Ok, Err, refl, sym, subst, ap, ◌∙◌, append_assoc, append-nil, arith, length-append, inl, inr}
 use Rattle.std.specs.Int.{w32, from_be_bytes}
 use Rattle.std.proofs.lemmas.Bool.Decides.{nat_tests}
 use Rattle.std.proofs.lemmas.List.{take_at}
@@ -16,8 +16,10 @@ use Rattle.sysv_wire.specs.Faults.{RequestFault}
 use Rattle.sysv_wire.specs.Frames.{op_number, frame}
 use Rattle.sysv_wire.specs.Numbers.{u32_bytes}
 use Rattle.sysv_wire.specs.OneAnswer.{RequestAt, OneAnswerToRequests}
+use Rattle.sysv_wire.specs.Reading.{ReadsRequest}
 use Rattle.sysv_wire.specs.Requests.{IsRequestLength, ask_fields, ask_text, fields_len, has_text, op_of, request_spelling}
-use Rattle.sysv_wire.proofs.OneRequest.{op_at, op_back, length-ask_fields, one_request}
+use Rattle.sysv_wire.proofs.OneRequest.{op_at, op_back, one_request}
+use Rattle.sysv_wire.proofs.RequestLemmas.{length-ask_fields}
 
 data Verdict : Type 0 where
   Whole : Verdict
@@ -231,3 +233,18 @@ same_answer input (Err f) (Ok None) h k e = absurd cc
 
 pub one_answer : OneAnswerToRequests
 one_answer input a b h k = same_answer input a b h k (sym (answer_verdict input a h) ∙ answer_verdict input b k)
+
+-- what was read fits what there was, or the reader has failed
+pub request_only : (input : List ℕ) (new : Option (List ℕ)) (result answer : Result (Option Request) Fault) (text : List ℕ) → ReadsRequest (Some input) new result text → RequestAt input answer
+    → (result ≡ answer) ⊎ (result ≡ Err Read)
+request_only input None (Ok (Some r)) answer text h k = absurd h.0
+request_only input None (Ok None) answer text h k = absurd h.0
+request_only input None (Err f) answer text h k = absurd h.1
+request_only input (Some rest) (Ok (Some r)) answer text h k = inl (one_answer input (Ok (Some r)) answer (text, rest, h.1, h.0) k)
+request_only input (Some rest) (Ok None) answer text h k = inl (one_answer input (Ok None) answer (h.0 ∙ h.1) k)
+request_only input (Some rest) (Err Truncated) answer text h k =
+    inl (one_answer input (Err Truncated) answer (subst (RequestFault Truncated) (sym (h.1 ∙ ap (λ l. h.0 ++ l) h.3 ∙ append-nil h.0)) h.2) k)
+request_only input (Some rest) (Err TooLong) answer text h k = inl (one_answer input (Err TooLong) answer (h.0, rest, h.2, h.1) k)
+request_only input (Some rest) (Err BadOp) answer text h k = inl (one_answer input (Err BadOp) answer (h.0, rest, h.2, h.1) k)
+request_only input (Some rest) (Err BadField) answer text h k = inl (one_answer input (Err BadField) answer (h.0, rest, h.2, h.1) k)
+request_only input (Some rest) (Err Read) answer text h k = inr refl

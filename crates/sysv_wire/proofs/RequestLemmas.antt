@@ -8,10 +8,11 @@ use Rattle.sysv_wire.specs.declared.frame.Op.{Op}
 use Rattle.sysv_wire.specs.declared.frame.TheConstants.{VERSION, REQUEST_MOST}
 use Rattle.sysv_wire.specs.Faults.{Faults, Breaks, IsShorter, RequestFault}
 use Rattle.sysv_wire.specs.Frames.{op_number, frame}
-use Rattle.sysv_wire.specs.Numbers.{u32_bytes}
+use Rattle.sysv_wire.specs.Numbers.{u32_bytes, i32_bytes, i64_bytes}
 use Rattle.sysv_wire.specs.Reading.{ReadsRequest}
-use Rattle.sysv_wire.specs.Requests.{IsRequestLength, fields_len, ask_fields, ask_text, has_text, op_of, request_spelling}
+use Rattle.sysv_wire.specs.Requests.{FitsAsk, IsRequestLength, fields_len, ask_fields, ask_text, has_text, op_of, request_spelling}
 use Rattle.sysv_wire.specs.declared.request.Ask.{Ask}
+use Rattle.sysv_wire.specs.declared.request.Ask.TheVariants.{Hello, Get, Snd, Rcv, Stat, Set, Rm, Row}
 use Rattle.sysv_wire.proofs.StreamLemmas.{Faults-after}
 
 -- fewer bytes than are left
@@ -68,12 +69,35 @@ spelled_head version number fields text =
     append_assoc (u32_bytes (2 + length fields + length text)) (version ∷ number ∷ fields) text
     ∙ frame_whole (2 + length fields + length text) (version ∷ number ∷ (fields ++ text)) (omega (arith, length-append fields text))
 
+pub length-ask_fields : (a : Ask) → length (ask_fields a) ≡ fields_len (op_of a)
+unfolding ask_fields u32_bytes i32_bytes i64_bytes
+length-ask_fields (Hello c) = refl
+length-ask_fields (Get key f) = refl
+length-ask_fields (Snd id mtype f) = refl
+length-ask_fields (Rcv id size mtype f) = refl
+length-ask_fields (Stat id) = refl
+length-ask_fields (Set id t) = refl
+length-ask_fields (Rm id) = refl
+length-ask_fields (Row slot) = refl
+
+-- a text that came in a request has room in a body
+text_short : (a : Ask) (text : List ℕ) (n : ℕ) → text ≡ ask_text (op_of a) text → n ≡ 2 + length (ask_fields a ++ ask_text (op_of a) text) → n ≤ 8274 → length text ≤ 8256
+text_short (Snd i t f) text n empty len most = omega (arith, len, most, length-append (ask_fields (Snd i t f)) text, length-ask_fields (Snd i t f))
+text_short (Hello c) text n empty len most = let none = ap length empty in omega (arith, none)
+text_short (Get k f) text n empty len most = let none = ap length empty in omega (arith, none)
+text_short (Rcv i s t f) text n empty len most = let none = ap length empty in omega (arith, none)
+text_short (Stat i) text n empty len most = let none = ap length empty in omega (arith, none)
+text_short (Set i t) text n empty len most = let none = ap length empty in omega (arith, none)
+text_short (Rm i) text n empty len most = let none = ap length empty in omega (arith, none)
+text_short (Row i) text n empty len most = let none = ap length empty in omega (arith, none)
+
 pub request_read : (ask : Ask) (n : ℕ) (op : Op) (version number : ℕ) (head text : List ℕ) (a b c : Option (List ℕ)) → head ≡ version ∷ number ∷ [] → version ≡ VERSION → op_number op ≡ number
-    → n ≡ 2 + length (ask_fields ask ++ ask_text op text) → op_of ask ≡ op → text ≡ ask_text op text → Consumes a b (u32_bytes n ++ head) → Consumes b c (ask_fields ask ++ ask_text op text)
+    → n ≤ 8274 → FitsAsk ask → n ≡ 2 + length (ask_fields ask ++ ask_text op text) → op_of ask ≡ op → text ≡ ask_text op text → Consumes a b (u32_bytes n ++ head) → Consumes b c (ask_fields ask ++ ask_text op text)
     → ReadsRequest a c (Ok (Some record { ask = ask })) text
-request_read ask n op version number head text a b c h v o len same empty first second = (
+request_read ask n op version number head text a b c h v o most fits len same empty first second = (
   subst (λ x. Consumes a c (frame (VERSION ∷ op_number x ∷ (ask_fields ask ++ ask_text x text)))) (sym same)
       (request_whole n op version number head (ask_fields ask ++ ask_text op text) a b c h v o len first second),
+  (fits, text_short ask text n (subst (λ x. text ≡ ask_text x text) (sym same) empty) (subst (λ x. n ≡ 2 + length (ask_fields ask ++ ask_text x text)) (sym same) len) most),
   subst (λ x. text ≡ ask_text x text) (sym same) empty,
 )
 

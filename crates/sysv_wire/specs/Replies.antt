@@ -18,13 +18,16 @@ use Rattle.sysv_wire.specs.declared.reply.Reply.{Reply}
 use Rattle.sysv_wire.specs.Frames.{op_number, frame}
 use Rattle.sysv_wire.specs.Numbers.{u16_bytes, u32_bytes, u64_bytes, i32_bytes, i64_bytes}
 
+pub record FitsPerm (perm : Perm) : Type 0 where
+  pub uid : perm.uid < 2 ^ 32
+  pub gid : perm.gid < 2 ^ 32
+  pub cuid : perm.cuid < 2 ^ 32
+  pub cgid : perm.cgid < 2 ^ 32
+  pub mode : perm.mode < 2 ^ 16
+
 pub record FitsStat (stat : Told) : Type 0 where
   pub key : FitsSigned w32 stat.key
-  pub uid : stat.perm.uid < 2 ^ 32
-  pub gid : stat.perm.gid < 2 ^ 32
-  pub cuid : stat.perm.cuid < 2 ^ 32
-  pub cgid : stat.perm.cgid < 2 ^ 32
-  pub mode : stat.perm.mode < 2 ^ 16
+  pub perm : FitsPerm stat.perm
   pub cbytes : stat.cbytes < 2 ^ 32
   pub qnum : stat.qnum < 2 ^ 32
   pub qbytes : stat.qbytes < 2 ^ 32

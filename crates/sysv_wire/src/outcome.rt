@@ -2,7 +2,7 @@
 ghost use Rattle.std.specs.Prelude.{◌≡◌, ◌≢◌, ◌≤◌, ◌+◌, ◌++◌, ◌∷◌, ◌⊎◌, [], length, false, IfOk, IfErr};
 ghost use Rattle.sysv_model.specs.Errors.{number_of};
 ghost use Rattle.sysv_wire.specs.Frames.{op_number};
-ghost use Rattle.sysv_wire.specs.Replies.{IsAnswer, IsAnswerLength, error_number, gives_text, outcome_fields, perm_fields, row_fields, stat_fields};
+ghost use Rattle.sysv_wire.specs.Replies.{FitsOutcome, FitsPerm, FitsRow, FitsStat, IsAnswer, IsAnswerLength, error_number, gives_text, outcome_fields, perm_fields, row_fields, stat_fields};
 ghost use Rattle.sysv_wire.specs.ReplyFaults.{IsBadAnswer, IsBadMark, IsNoError, IsWideAt};
 
 use crate::fault::Fault;
@@ -39,6 +39,7 @@ pub(crate) fn outcome_of(op: Op, fields: &[u8]) -> Result<Outcome, Fault>
     requires len { IsAnswerLength op (length fields.now) }
     requires other { op ≢ Op.Rcv }
     ensures answer { IfOk result (λ outcome. IsAnswer (op_number op) outcome) }
+    ensures fits { IfOk result FitsOutcome }
     ensures error { IfOk result (λ outcome. error_number outcome ≡ 0) }
     ensures text { IfOk result (λ outcome. gives_text outcome ≡ false) }
     ensures spelled { IfOk result (λ outcome. fields.now ≡ outcome_fields outcome) }
@@ -71,6 +72,7 @@ pub(crate) fn outcome_of(op: Op, fields: &[u8]) -> Result<Outcome, Fault>
 fn marked_row(mark: u8, rest: &[u8]) -> Result<Outcome, Fault>
     requires { (length rest.now ≡ 0) ⊎ (length rest.now ≡ 22) }
     ensures answer { IfOk result (λ outcome. IsAnswer 7 outcome) }
+    ensures fits { IfOk result FitsOutcome }
     ensures error { IfOk result (λ outcome. error_number outcome ≡ 0) }
     ensures text { IfOk result (λ outcome. gives_text outcome ≡ false) }
     ensures spelled { IfOk result (λ outcome. mark ∷ rest.now ≡ outcome_fields outcome) }
@@ -97,7 +99,8 @@ fn marked_row(mark: u8, rest: &[u8]) -> Result<Outcome, Fault>
 #[tactic(auto, unfolding(crate::specs::Replies::row_fields))]
 fn row_of(fields: &[u8]) -> Row
     requires { length fields.now ≡ 22 }
-    ensures { fields.now ≡ row_fields result }
+    ensures spelled { fields.now ≡ row_fields result }
+    ensures fits { FitsRow result }
 {
     let (id, fields) = take_i32(fields);
     let (key, fields) = take_i32(fields);
@@ -120,6 +123,7 @@ fn row_of(fields: &[u8]) -> Row
 fn take_perm(fields: &[u8]) -> (Perm, &[u8])
     requires { 18 ≤ length fields.now }
     ensures spelled { fields.now ≡ perm_fields result.0 ++ result.1.now }
+    ensures fits { FitsPerm result.0 }
     ensures len { length fields.now ≡ 18 + length result.1.now }
 {
     let (uid, fields) = take_u32(fields);
@@ -141,7 +145,8 @@ fn take_perm(fields: &[u8]) -> (Perm, &[u8])
 #[tactic(auto, using(std::proofs::Common::append_assoc), unfolding(crate::specs::Replies::stat_fields, crate::specs::Replies::count_fields, crate::specs::Replies::time_fields))]
 fn stat_of(fields: &[u8]) -> Stat
     requires { length fields.now ≡ 66 }
-    ensures { fields.now ≡ stat_fields result }
+    ensures spelled { fields.now ≡ stat_fields result }
+    ensures fits { FitsStat result }
 {
     let (key, fields) = take_i32(fields);
     let (perm, fields) = take_perm(fields);

@@ -1,11 +1,12 @@
 //! Replies, read and written.
-ghost use Rattle.std.specs.Prelude.{◌≡◌, ◌≢◌, ◌≤◌, ◌+◌, ◌-◌, ◌++◌, ◌∷◌, [], ℕ, List, length, ◌==◌, ◌↔◌, true, false, IsTrue, IfOk, IfErr, OnOk, OnErr};
+ghost use Rattle.std.specs.Prelude.{◌≡◌, ◌≢◌, ◌≤◌, ◌+◌, ◌-◌, ◌++◌, ◌∷◌, ◌⊎◌, [], ℕ, List, Option, Some, Result, Err, length, ◌==◌, ◌↔◌, true, false, IsTrue, IfOk, IfErr, OnOk, OnErr};
 ghost use Rattle.std.specs.Io.KnownBytes.{Appends, Consumes};
 ghost use Rattle.sysv_wire.specs.Faults.{Faults};
 ghost use Rattle.sysv_wire.specs.Frames.{op_number};
 ghost use Rattle.sysv_wire.specs.Numbers.{u32_bytes};
+ghost use Rattle.sysv_wire.specs.OneAnswer.{ReplyAt};
 ghost use Rattle.sysv_wire.specs.Reading.{ReadsReply};
-ghost use Rattle.sysv_wire.specs.Replies.{IsAnswer, IsAnswerLength, IsRestLength, count_fields, error_number, gives_text, outcome_fields, outcome_text, perm_fields, reply_spelling, row_fields, stat_fields, time_fields};
+ghost use Rattle.sysv_wire.specs.Replies.{FitsOutcome, IsAnswer, IsAnswerLength, IsRestLength, count_fields, error_number, gives_text, outcome_fields, outcome_text, perm_fields, reply_spelling, row_fields, stat_fields, time_fields};
 ghost use Rattle.sysv_wire.specs.ReplyFaults.{AnswerFault, RestFault};
 ghost use Rattle.sysv_wire.specs.Streams.{AppendsPrefix};
 
@@ -76,6 +77,7 @@ fn read_fields<R: Read>(reader: &mut R, op: Op, rest: usize) -> Result<Outcome, 
     ensures taken { IfOk result (λ outcome. Consumes (R.remaining reader.old) (R.remaining reader.new) (outcome_fields outcome)) }
     ensures len { IfOk result (λ outcome. length (outcome_fields outcome) ≡ rest) }
     ensures answer { IfOk result (λ outcome. IsAnswer (op_number op) outcome) }
+    ensures fits { IfOk result FitsOutcome }
     ensures error { IfOk result (λ outcome. error_number outcome ≡ 0) }
     ensures text { IfOk result (λ outcome. gives_text outcome ≡ false) }
     ensures fault { IfErr result (λ fault. Faults (RestFault op 0 rest) fault (R.remaining reader.old) (R.remaining reader.new)) }
@@ -94,6 +96,7 @@ fn read_message<R: Read>(reader: &mut R, rest: usize, text: &mut Body) -> Result
     ensures taken { IfOk result (λ outcome. Consumes (R.remaining reader.old) (R.remaining reader.new) (outcome_fields outcome ++ text.new)) }
     ensures len { IfOk result (λ outcome. length (outcome_fields outcome ++ text.new) ≡ rest) }
     ensures answer { IfOk result (λ outcome. IsAnswer 3 outcome) }
+    ensures fits { IfOk result FitsOutcome }
     ensures error { IfOk result (λ outcome. error_number outcome ≡ 0) }
     ensures text { IfOk result (λ outcome. gives_text outcome ≡ true) }
     ensures fault { IfErr result (λ fault. Faults (RestFault Op.Rcv 0 rest) fault (R.remaining reader.old) (R.remaining reader.new)) }
@@ -119,6 +122,7 @@ fn read_rest<R: Read>(
     ensures taken { IfOk result (λ outcome. Consumes (R.remaining reader.old) (R.remaining reader.new) (outcome_fields outcome ++ outcome_text outcome text.new)) }
     ensures len { IfOk result (λ outcome. rest ≡ length (outcome_fields outcome ++ outcome_text outcome text.new)) }
     ensures answer { IfOk result (λ outcome. IsAnswer (op_number op) outcome) }
+    ensures fits { IfOk result FitsOutcome }
     ensures error { IfOk result (λ outcome. error_number outcome ≡ error) }
     ensures text { IfOk result (λ outcome. text.new ≡ outcome_text outcome text.new) }
     ensures fault { IfErr result (λ fault. Faults (RestFault op error rest) fault (R.remaining reader.old) (R.remaining reader.new)) }
@@ -141,6 +145,16 @@ fn read_rest<R: Read>(
 /// all is read the error, the mark of a row that is there and the mode. Where the input ends within the
 /// frame it is `Truncated`, and where the reader fails it is `Read`.
 pub fn read_reply<R: Read>(reader: &mut R, text: &mut Body) -> Result<Option<Reply>, Fault>
+    ensures reads { ReadsReply (R.remaining reader.old) (R.remaining reader.new) result text.new }
+    // The answer that fits what the reader had left is given, unless the reader fails.
+    ensures only { (input : List ℕ) (answer : Result (Option Reply) Fault) → R.remaining reader.old ≡ Some input → ReplyAt input answer →
+        (result ≡ answer) ⊎ (result ≡ Err Fault.Read) }
+{
+    next_reply(reader, text)
+}
+
+/// The same, by what was taken of the input.
+fn next_reply<R: Read>(reader: &mut R, text: &mut Body) -> Result<Option<Reply>, Fault>
     ensures { ReadsReply (R.remaining reader.old) (R.remaining reader.new) result text.new }
 {
     text.clear();

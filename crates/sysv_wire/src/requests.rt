@@ -1,11 +1,12 @@
 //! Requests, read and written.
-ghost use Rattle.std.specs.Prelude.{◌≡◌, ◌≤◌, ◌+◌, ◌-◌, ◌<◌, ◌++◌, ◌∷◌, [], ℕ, List, length, IfOk, IfErr, OnOk, OnErr};
+ghost use Rattle.std.specs.Prelude.{◌≡◌, ◌≤◌, ◌+◌, ◌-◌, ◌<◌, ◌++◌, ◌∷◌, ◌⊎◌, [], ℕ, List, Option, Some, Result, Err, length, IfOk, IfErr, OnOk, OnErr};
 ghost use Rattle.std.specs.Io.KnownBytes.{Appends, Consumes};
 ghost use Rattle.sysv_wire.specs.Faults.{Faults, Breaks, IsShorter, OpFault};
 ghost use Rattle.sysv_wire.specs.Frames.{op_number};
 ghost use Rattle.sysv_wire.specs.Numbers.{u32_bytes};
+ghost use Rattle.sysv_wire.specs.OneAnswer.{RequestAt};
 ghost use Rattle.sysv_wire.specs.Reading.{ReadsRequest};
-ghost use Rattle.sysv_wire.specs.Requests.{IsRequestLength, ask_fields, ask_text, fields_len, has_text, op_of, request_spelling};
+ghost use Rattle.sysv_wire.specs.Requests.{FitsAsk, IsRequestLength, ask_fields, ask_text, fields_len, has_text, op_of, request_spelling};
 ghost use Rattle.sysv_wire.specs.Streams.{AppendsPrefix};
 
 use crate::fault::{Fault, WriteFault};
@@ -76,6 +77,7 @@ fn ask_of(op: Op, fields: &[u8]) -> Ask
     requires { length fields.now ≡ fields_len op }
     ensures op { op_of result ≡ op }
     ensures spelled { fields.now ≡ ask_fields result }
+    ensures fits { FitsAsk result }
 {
     match op {
         Op::Hello => hello_of(fields),
@@ -94,6 +96,7 @@ fn hello_of(fields: &[u8]) -> Ask
     requires { length fields.now ≡ fields_len Op.Hello }
     ensures op { op_of result ≡ Op.Hello }
     ensures spelled { fields.now ≡ ask_fields result }
+    ensures fits { FitsAsk result }
 {
     let (uid, fields) = take_u32(fields);
     let (gid, fields) = take_u32(fields);
@@ -106,6 +109,7 @@ fn get_of(fields: &[u8]) -> Ask
     requires { length fields.now ≡ fields_len Op.Get }
     ensures op { op_of result ≡ Op.Get }
     ensures spelled { fields.now ≡ ask_fields result }
+    ensures fits { FitsAsk result }
 {
     let (key, fields) = take_i32(fields);
     let flags = Flags::from_bits_retain(only_u32(fields));
@@ -117,6 +121,7 @@ fn snd_of(fields: &[u8]) -> Ask
     requires { length fields.now ≡ fields_len Op.Snd }
     ensures op { op_of result ≡ Op.Snd }
     ensures spelled { fields.now ≡ ask_fields result }
+    ensures fits { FitsAsk result }
 {
     let (id, fields) = take_i32(fields);
     let (mtype, fields) = take_i64(fields);
@@ -129,6 +134,7 @@ fn rcv_of(fields: &[u8]) -> Ask
     requires { length fields.now ≡ fields_len Op.Rcv }
     ensures op { op_of result ≡ Op.Rcv }
     ensures spelled { fields.now ≡ ask_fields result }
+    ensures fits { FitsAsk result }
 {
     let (id, fields) = take_i32(fields);
     let (size, fields) = take_u32(fields);
@@ -147,6 +153,7 @@ fn stat_of(fields: &[u8]) -> Ask
     requires { length fields.now ≡ fields_len Op.Stat }
     ensures op { op_of result ≡ Op.Stat }
     ensures spelled { fields.now ≡ ask_fields result }
+    ensures fits { FitsAsk result }
 {
     Ask::Stat {
         id: only_i32(fields),
@@ -158,6 +165,7 @@ fn set_of(fields: &[u8]) -> Ask
     requires { length fields.now ≡ fields_len Op.Set }
     ensures op { op_of result ≡ Op.Set }
     ensures spelled { fields.now ≡ ask_fields result }
+    ensures fits { FitsAsk result }
 {
     let (id, fields) = take_i32(fields);
     let (uid, fields) = take_u32(fields);
@@ -178,6 +186,7 @@ fn rm_of(fields: &[u8]) -> Ask
     requires { length fields.now ≡ fields_len Op.Rm }
     ensures op { op_of result ≡ Op.Rm }
     ensures spelled { fields.now ≡ ask_fields result }
+    ensures fits { FitsAsk result }
 {
     Ask::Rm {
         id: only_i32(fields),
@@ -189,6 +198,7 @@ fn row_of(fields: &[u8]) -> Ask
     requires { length fields.now ≡ fields_len Op.Row }
     ensures op { op_of result ≡ Op.Row }
     ensures spelled { fields.now ≡ ask_fields result }
+    ensures fits { FitsAsk result }
 {
     Ask::Row {
         slot: only_u32(fields),
@@ -202,6 +212,7 @@ fn read_ask<R: Read>(reader: &mut R, whole: u32, op: Op, text: &mut Body) -> Res
     requires empty { text.old ≡ [] }
     ensures taken { IfOk result (λ ask. Consumes (R.remaining reader.old) (R.remaining reader.new) (ask_fields ask ++ ask_text op text.new)) }
     ensures op { IfOk result (λ ask. op_of ask ≡ op) }
+    ensures fits { IfOk result FitsAsk }
     ensures len { IfOk result (λ ask. whole ≡ 2 + length (ask_fields ask ++ ask_text op text.new)) }
     ensures text { OnOk result (text.new ≡ ask_text op text.new) }
     ensures fault { IfErr result (λ fault. Faults (Breaks (IsShorter (whole - 2))) fault (R.remaining reader.old) (R.remaining reader.new)) }
@@ -224,6 +235,16 @@ fn read_ask<R: Read>(reader: &mut R, whole: u32, op: Op, text: &mut Body) -> Res
 /// judged first, then the version, the operation and the length that it wants; where the input ends
 /// within the frame it is `Truncated`, and where the reader fails it is `Read`.
 pub fn read_request<R: Read>(reader: &mut R, text: &mut Body) -> Result<Option<Request>, Fault>
+    ensures reads { ReadsRequest (R.remaining reader.old) (R.remaining reader.new) result text.new }
+    // The answer that fits what the reader had left is given, unless the reader fails.
+    ensures only { (input : List ℕ) (answer : Result (Option Request) Fault) → R.remaining reader.old ≡ Some input → RequestAt input answer →
+        (result ≡ answer) ⊎ (result ≡ Err Fault.Read) }
+{
+    next_request(reader, text)
+}
+
+/// The same, by what was taken of the input.
+fn next_request<R: Read>(reader: &mut R, text: &mut Body) -> Result<Option<Request>, Fault>
     ensures { ReadsRequest (R.remaining reader.old) (R.remaining reader.new) result text.new }
 {
     text.clear();
