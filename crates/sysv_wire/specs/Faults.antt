@@ -52,6 +52,7 @@ LengthFault least most n Truncated = ⊥
 LengthFault least most n BadOp = ⊥
 LengthFault least most n Read = ⊥
 
+-- why a head is refused, whose length is to be within these limits
 abbrev pub HeadFault : ℕ → ℕ → Fault → List ℕ → Type 0
 HeadFault least most Truncated taken = IsPartLength taken ⊎ IsPartHead least most taken
 HeadFault least most TooLong taken = (n : ℕ) × (n < 2 ^ 32) × LengthFault least most n TooLong × (taken ≡ u32_bytes n)
@@ -81,6 +82,7 @@ abbrev pub IsPartRequest : List ℕ → Type 0
 IsPartRequest taken = (n : ℕ) × (op : Op) × (part : List ℕ) × (n ≤ REQUEST_MOST) × IsRequestLength op n
     × (2 + length part < n) × (taken ≡ u32_bytes n ++ (VERSION ∷ op_number op ∷ part))
 
+-- why a request is refused: for its length, for what is judged with it, or as the input ends within it
 abbrev pub RequestFault : Fault → List ℕ → Type 0
 RequestFault Truncated taken = HeadFault REQUEST_LEAST REQUEST_MOST Truncated taken ⊎ IsPartRequest taken
 RequestFault TooLong taken = HeadFault REQUEST_LEAST REQUEST_MOST TooLong taken

@@ -17,6 +17,7 @@ ReadsRequest old new (Ok (Some request)) text =
 ReadsRequest old new (Ok None) text = Consumes old new [] × IsAtEnd new × (text ≡ [])
 ReadsRequest old new (Err fault) text = Faults RequestFault fault old new
 
+-- the same of a reply, which is one that its operation may give
 abbrev pub ReadsReply : Option (List ℕ) → Option (List ℕ) → Result (Option Reply) Fault → List ℕ → Type 0
 ReadsReply old new (Ok (Some reply)) text =
     Consumes old new (reply_spelling reply text) × FitsReply reply text × (text ≡ outcome_text reply.result text)

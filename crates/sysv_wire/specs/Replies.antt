@@ -18,6 +18,7 @@ use Rattle.sysv_wire.specs.declared.reply.Reply.{Reply}
 use Rattle.sysv_wire.specs.Frames.{op_number, frame}
 use Rattle.sysv_wire.specs.Numbers.{u16_bytes, u32_bytes, u64_bytes, i32_bytes, i64_bytes}
 
+-- the numbers are in the ranges of their types
 pub record FitsPerm (perm : Perm) : Type 0 where
   pub uid : perm.uid < 2 ^ 32
   pub gid : perm.gid < 2 ^ 32
@@ -45,6 +46,7 @@ pub record FitsRow (row : Line) : Type 0 where
   pub cbytes : row.cbytes < 2 ^ 32
   pub qnum : row.qnum < 2 ^ 32
 
+-- the number of the error, 0 where there is none
 abbrev pub error_number : Outcome → ℕ
 error_number (Refused error) = number_of error
 error_number Hello = 0
@@ -68,9 +70,11 @@ count_fields stat = u32_bytes stat.cbytes ++ (u32_bytes stat.qnum ++ (u32_bytes 
 unfoldable pub time_fields : Told → List ℕ
 time_fields stat = u64_bytes stat.stime ++ (u64_bytes stat.rtime ++ u64_bytes stat.ctime)
 
+-- a queue's attributes
 unfoldable pub stat_fields : Told → List ℕ
 stat_fields stat = i32_bytes stat.key ++ (perm_fields stat.perm ++ (count_fields stat ++ time_fields stat))
 
+-- a row that is there
 unfoldable pub row_fields : Line → List ℕ
 row_fields row = i32_bytes row.id ++ (i32_bytes row.key ++ (u32_bytes row.uid ++ (u16_bytes row.mode ++ (u32_bytes row.cbytes ++ u32_bytes row.qnum))))
 
@@ -103,6 +107,7 @@ gives_text (Row row) = false
 abbrev pub outcome_text : Outcome → List ℕ → List ℕ
 outcome_text outcome text = if gives_text outcome then text else []
 
+-- the one spelling of a reply
 abbrev pub reply_spelling : Reply → List ℕ → List ℕ
 reply_spelling reply text =
     frame (VERSION ∷ reply.op ∷ error_number reply.result ∷ (outcome_fields reply.result ++ outcome_text reply.result text))

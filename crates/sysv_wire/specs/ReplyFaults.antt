@@ -43,7 +43,8 @@ IsBadMark [] = ⊥
 IsBadMark (mark ∷ []) = mark ≢ 0
 IsBadMark (mark ∷ byte ∷ bytes) = mark ≢ 1
 
--- the fields of what the operation gives have no meaning
+-- the fields of what the operation gives have no meaning: the mode of attributes stands behind 20 bytes,
+-- that of a row behind its mark and 12 more
 abbrev pub IsBadAnswer : Op → List ℕ → Type 0
 IsBadAnswer op.Stat fields = IsWideAt 20 fields
 IsBadAnswer op.Row fields = IsBadMark fields ⊎ IsWideAt 13 fields
@@ -72,7 +73,7 @@ abbrev pub IsReplyRest : Fault → List ℕ → Type 0
 IsReplyRest fault taken = (n : ℕ) × (op : Op) × (error : ℕ) × (rest : List ℕ) × (REPLY_LEAST ≤ n) × (n ≤ REPLY_MOST) × IsRestLength op error (n - REPLY_LEAST)
     × RestFault op error (n - REPLY_LEAST) fault rest × (taken ≡ u32_bytes n ++ (VERSION ∷ op_number op ∷ error ∷ rest))
 
--- the length is refused, or what is judged with it, or the rest
+-- why a reply is refused: for its length, for what is judged with it, or for the rest
 abbrev pub ReplyFault : Fault → List ℕ → Type 0
 ReplyFault Truncated taken = HeadFault REPLY_LEAST REPLY_MOST Truncated taken ⊎ IsReplyRest Truncated taken
 ReplyFault TooLong taken = HeadFault REPLY_LEAST REPLY_MOST TooLong taken

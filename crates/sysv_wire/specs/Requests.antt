@@ -13,6 +13,7 @@ use Rattle.sysv_wire.specs.declared.request.Request.{Request}
 use Rattle.sysv_wire.specs.Frames.{op_number, frame}
 use Rattle.sysv_wire.specs.Numbers.{u32_bytes, i32_bytes, i64_bytes}
 
+-- the operation that is asked for
 abbrev pub op_of : Ask → Op
 op_of (Hello cred) = op.Hello
 op_of (Get key flags) = op.Get
@@ -49,6 +50,7 @@ has_text op.Row = false
 abbrev pub ask_text : Op → List ℕ → List ℕ
 ask_text o text = if has_text o then text else []
 
+-- the one spelling of a request
 abbrev pub request_spelling : Request → List ℕ → List ℕ
 request_spelling request text =
     frame (VERSION ∷ op_number (op_of request.ask) ∷ (ask_fields request.ask ++ ask_text (op_of request.ask) text))

@@ -8,7 +8,7 @@ use crate::fault::Fault;
 use crate::number::take_u32;
 use std::io::Read;
 use sysv_model::body::Body;
-use sysv_model::limits::BLOCK_BYTES;
+use sysv_model::limits::{BLOCK_BYTES, BODY_ROOM};
 
 /// Reads until the bytes are full or the input ends; the number of bytes that came.
 pub(crate) fn fill<R: Read>(reader: &mut R, bytes: &mut [u8]) -> Result<usize, Fault>
@@ -95,7 +95,7 @@ pub(crate) fn read_head<R: Read>(
 /// Reads a text of this many bytes into an empty body.
 pub(crate) fn read_text<R: Read>(reader: &mut R, len: usize, text: &mut Body) -> Result<(), Fault>
     requires empty { text.old ≡ [] }
-    requires room { len ≤ 8256 }
+    requires room { len ≤ BODY_ROOM }
     ensures taken { OnOk result (Consumes (R.remaining reader.old) (R.remaining reader.new) text.new × (length text.new ≡ len)) }
     ensures fault { IfErr result (λ fault. Faults (Breaks (IsShorter len)) fault (R.remaining reader.old) (R.remaining reader.new)) }
 {

@@ -26,6 +26,9 @@ use sysv_model::limits::MESSAGE_BYTES;
 /// The most bytes that the fields of a reply take, its text not counted.
 const FIELDS_MOST: usize = 66;
 
+/// The most bytes behind the error of a reply.
+const REST_MOST: usize = 8200;
+
 /// Judges the version, the operation and then the length that the operation wants with this error; the
 /// operation, and the bytes behind the error.
 fn judge(length: u32, version: u8, number: u8, error: u8) -> Result<(Op, usize), Fault>
@@ -91,7 +94,7 @@ fn read_fields<R: Read>(reader: &mut R, op: Op, rest: usize) -> Result<Outcome, 
 /// Reads so many bytes, which are the type and the text of a message.
 fn read_message<R: Read>(reader: &mut R, rest: usize, text: &mut Body) -> Result<Outcome, Fault>
     requires least { 8 ≤ rest }
-    requires most { rest ≤ 8200 }
+    requires most { rest ≤ REST_MOST }
     requires empty { text.old ≡ [] }
     ensures taken { IfOk result (λ outcome. Consumes (R.remaining reader.old) (R.remaining reader.new) (outcome_fields outcome ++ text.new)) }
     ensures len { IfOk result (λ outcome. length (outcome_fields outcome ++ text.new) ≡ rest) }
@@ -117,7 +120,7 @@ fn read_rest<R: Read>(
     text: &mut Body,
 ) -> Result<Outcome, Fault>
     requires len { IsRestLength op error rest }
-    requires most { rest ≤ 8200 }
+    requires most { rest ≤ REST_MOST }
     requires empty { text.old ≡ [] }
     ensures taken { IfOk result (λ outcome. Consumes (R.remaining reader.old) (R.remaining reader.new) (outcome_fields outcome ++ outcome_text outcome text.new)) }
     ensures len { IfOk result (λ outcome. rest ≡ length (outcome_fields outcome ++ outcome_text outcome text.new)) }

@@ -22,6 +22,7 @@ use sysv_model::attributes::SetTo;
 use sysv_model::body::Body;
 use sysv_model::cred::Cred;
 use sysv_model::flags::Flags;
+use sysv_model::limits::BODY_ROOM;
 
 /// The most bytes that the fields of a request take, its text not counted.
 const FIELDS_MOST: usize = 20;
@@ -282,7 +283,7 @@ pub fn write_request<W: Write>(
 /// The length, the version, the operation and the fields of a request, whose text has this many bytes.
 fn head_of(op: Op, fields: &Fields, text_len: usize) -> Fields
     requires fields { length fields.now ≤ FIELDS_MOST }
-    requires text { text_len ≤ 8256 }
+    requires text { text_len ≤ BODY_ROOM }
     ensures { result ≡ u32_bytes (2 + length fields.now + text_len) ++ (VERSION ∷ op_number op ∷ fields.now) }
 {
     let mut frame = Fields::new();
