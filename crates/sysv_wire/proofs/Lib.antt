@@ -1,0 +1,10 @@
+pub mod NumberLemmas
+pub mod StreamLemmas
+pub mod HeadLemmas
+pub mod RequestLemmas
+pub mod ReplyLemmas
+pub mod Apart
+pub mod OneRequest
+pub mod OneReply
+pub mod RequestAnswer
+pub mod ReplyAnswer

@@ -1,0 +1,380 @@
+-- An input tells by five numbers which kind of answer fits it: its length, the length that stands at its
+-- front, and the three bytes behind that. Where they tell of a whole reply, its fields decide.
+use Rattle.std.proofs.Common.{◌≡◌, ◌≢◌, ◌⊎◌, ℕ, ◌+◌, ◌-◌, ◌^◌, ◌<◌, ◌≤◌, Bool, true, false, cond, eqb, ltb, leb, MatchBool, List, [], ◌∷◌, ◌++◌, length, get_or, take, Option, None, Some, Result, Ok, Err, refl, sym, ap, subst, ◌∙◌, append_assoc, append-nil, arith, length-append, inl, inr}
+use Rattle.std.specs.Int.{w32, from_be_bytes}
+use Rattle.std.proofs.lemmas.Bool.Decides.{nat_tests}
+use Rattle.std.proofs.lemmas.List.{take_at}
+use Rattle.std.proofs.lemmas.Nat.{from_be_bytes-to_be_bytes_4}
+use Rattle.sysv_model.specs.Errors.{number_of}
+use Rattle.sysv_model.specs.declared.attributes.Row.{Row as Line}
+use Rattle.sysv_wire.specs.declared.fault.Fault.{Fault}
+use Rattle.sysv_wire.specs.declared.fault.Fault.TheVariants.{Truncated, TooLong, BadOp, BadField, Read}
+use Rattle.sysv_wire.specs.declared.frame.Op.{Op}
+use Rattle.sysv_wire.specs.declared.frame.Op.TheVariants as op
+use Rattle.sysv_wire.specs.declared.reply.Outcome.{Outcome}
+use Rattle.sysv_wire.specs.declared.reply.Outcome.TheVariants.{Refused, Hello, Get, Snd, Rcv, Stat, Set, Rm, Row}
+use Rattle.sysv_wire.specs.declared.reply.Reply.{Reply}
+use Rattle.sysv_wire.specs.Frames.{op_number, frame}
+use Rattle.sysv_wire.specs.Numbers.{u16_bytes, u32_bytes, u64_bytes, i32_bytes, i64_bytes}
+use Rattle.sysv_wire.specs.OneAnswer.{ReplyAt, OneAnswerToReplies}
+use Rattle.sysv_wire.specs.Reading.{ReadsReply}
+use Rattle.sysv_wire.specs.Replies.{FitsReply, FitsOutcome, IsAnswer, IsAnswerLength, IsRestLength, error_number, perm_fields, count_fields, time_fields, stat_fields, row_fields, outcome_fields, outcome_text, reply_spelling}
+use Rattle.sysv_wire.specs.ReplyFaults.{IsNoError, IsWideAt, IsBadMark, IsBadAnswer, IsReplyRest, ReplyFault}
+use Rattle.sysv_wire.proofs.Apart.{rests_alike, frames_alike, u16_step}
+use Rattle.sysv_wire.proofs.OneRequest.{op_at, op_back}
+use Rattle.sysv_wire.proofs.OneReply.{some_error, row_number, short_reply, one_reply}
+use Rattle.sysv_wire.proofs.ReplyLemmas.{HasModeAt, row_mode, stat_mode}
+use Rattle.sysv_wire.proofs.RequestLemmas.{frame_whole}
+use Rattle.sysv_wire.proofs.RequestAnswer.{at_least, not_at_least, the_same, not_the_same, number_small}
+
+data Verdict : Type 0 where
+  Whole : Verdict
+  End : Verdict
+  Told : Fault → Verdict
+
+fits_answer : Op → ℕ → Bool
+fits_answer op.Hello n = eqb n 0
+fits_answer op.Get n = eqb n 4
+fits_answer op.Snd n = eqb n 0
+fits_answer op.Rcv n = leb 8 n
+fits_answer op.Stat n = eqb n 66
+fits_answer op.Set n = eqb n 0
+fits_answer op.Rm n = eqb n 0
+fits_answer op.Row n = cond (eqb n 1) true (eqb n 23)
+
+fits_rest : Op → ℕ → ℕ → Bool
+fits_rest o e n = cond (eqb e 0) (fits_answer o n) (eqb n 0)
+
+one_of : (n : ℕ) → (n ≡ 1) ⊎ (n ≡ 23) → cond (eqb n 1) true (eqb n 23) ≡ true
+one_of n h = grind (arith, nat_tests)
+
+none_of : (n : ℕ) → ¬ ((n ≡ 1) ⊎ (n ≡ 23)) → cond (eqb n 1) true (eqb n 23) ≡ false
+none_of n h =
+    let a : n ≢ 1 = λ e. h (inl e) in
+    let b : n ≢ 23 = λ e. h (inr e) in
+    grind (arith, nat_tests)
+
+answer_fits : (o : Op) (n : ℕ) → IsAnswerLength o n → fits_answer o n ≡ true
+unfolding fits_answer
+answer_fits op.Hello n h = the_same n 0 h
+answer_fits op.Get n h = the_same n 4 h
+answer_fits op.Snd n h = the_same n 0 h
+answer_fits op.Rcv n h = at_least 8 n h
+answer_fits op.Stat n h = the_same n 66 h
+answer_fits op.Set n h = the_same n 0 h
+answer_fits op.Rm n h = the_same n 0 h
+answer_fits op.Row n h = one_of n h
+
+answer_fits_not : (o : Op) (n : ℕ) → ¬ IsAnswerLength o n → fits_answer o n ≡ false
+unfolding fits_answer
+answer_fits_not op.Hello n h = not_the_same n 0 h
+answer_fits_not op.Get n h = not_the_same n 4 h
+answer_fits_not op.Snd n h = not_the_same n 0 h
+answer_fits_not op.Rcv n h = not_at_least 8 n h
+answer_fits_not op.Stat n h = not_the_same n 66 h
+answer_fits_not op.Set n h = not_the_same n 0 h
+answer_fits_not op.Rm n h = not_the_same n 0 h
+answer_fits_not op.Row n h = none_of n h
+
+rest_fits_by : (b : Bool) (o : Op) (n : ℕ) → MatchBool b (IsAnswerLength o n) (n ≡ 0) → cond b (fits_answer o n) (eqb n 0) ≡ true
+rest_fits_by true o n h = answer_fits o n h
+rest_fits_by false o n h = the_same n 0 h
+
+rest_fits_not_by : (b : Bool) (o : Op) (n : ℕ) → ¬ MatchBool b (IsAnswerLength o n) (n ≡ 0) → cond b (fits_answer o n) (eqb n 0) ≡ false
+rest_fits_not_by true o n h = answer_fits_not o n h
+rest_fits_not_by false o n h = not_the_same n 0 h
+
+rest_fits : (o : Op) (e n : ℕ) → IsRestLength o e n → fits_rest (op_at (op_number o)) e n ≡ true
+unfolding fits_rest
+rest_fits o e n h = ap (λ x. fits_rest x e n) (op_back o) ∙ rest_fits_by (eqb e 0) o n h
+
+rest_fits_not : (o : Op) (e n : ℕ) → ¬ IsRestLength o e n → fits_rest (op_at (op_number o)) e n ≡ false
+unfolding fits_rest
+rest_fits_not o e n h = ap (λ x. fits_rest x e n) (op_back o) ∙ rest_fits_not_by (eqb e 0) o n h
+
+verdict_of : ℕ → ℕ → ℕ → ℕ → ℕ → Verdict
+verdict_of len n v o e =
+    cond (eqb len 0) End (cond (ltb len 4) (Told Truncated) (cond (ltb 8203 n) (Told TooLong) (cond (ltb n 3) (Told BadField) (cond (ltb len 7) (Told Truncated)
+    (cond (eqb v 1) (cond (ltb 7 o) (Told BadOp) (cond (fits_rest (op_at o) e (n - 3)) (cond (ltb len (4 + n)) (Told Truncated) Whole) (Told BadField))) (Told BadField))))))
+
+v_part : (len n v o e : ℕ) → 0 < len → len < 4 → verdict_of len n v o e ≡ Told Truncated
+unfolding verdict_of
+v_part len n v o e a b = grind (arith, nat_tests)
+
+v_long : (len n v o e : ℕ) → 4 ≤ len → 8203 < n → verdict_of len n v o e ≡ Told TooLong
+unfolding verdict_of
+v_long len n v o e a b = grind (arith, nat_tests)
+
+v_short : (len n v o e : ℕ) → 4 ≤ len → n < 3 → verdict_of len n v o e ≡ Told BadField
+unfolding verdict_of
+v_short len n v o e a b = grind (arith, nat_tests)
+
+v_head : (len n v o e : ℕ) → 4 ≤ len → 3 ≤ n → n ≤ 8203 → len < 7 → verdict_of len n v o e ≡ Told Truncated
+unfolding verdict_of
+v_head len n v o e a b c d = grind (arith, nat_tests)
+
+v_version : (len n v o e : ℕ) → 7 ≤ len → 3 ≤ n → n ≤ 8203 → v ≢ 1 → verdict_of len n v o e ≡ Told BadField
+unfolding verdict_of
+v_version len n v o e a b c d = grind (arith, nat_tests)
+
+v_op : (len n v o e : ℕ) → 7 ≤ len → 3 ≤ n → n ≤ 8203 → v ≡ 1 → 7 < o → verdict_of len n v o e ≡ Told BadOp
+unfolding verdict_of
+v_op len n v o e a b c d f = grind (arith, nat_tests)
+
+v_length : (len n v o e : ℕ) → 7 ≤ len → 3 ≤ n → n ≤ 8203 → v ≡ 1 → o ≤ 7 → fits_rest (op_at o) e (n - 3) ≡ false → verdict_of len n v o e ≡ Told BadField
+unfolding verdict_of
+v_length len n v o e a b c d f g = grind (arith, nat_tests)
+
+v_rest : (len n v o e : ℕ) → 7 ≤ len → 3 ≤ n → n ≤ 8203 → v ≡ 1 → o ≤ 7 → fits_rest (op_at o) e (n - 3) ≡ true → len < 4 + n → verdict_of len n v o e ≡ Told Truncated
+unfolding verdict_of
+v_rest len n v o e a b c d f g h = grind (arith, nat_tests)
+
+v_whole : (len n v o e : ℕ) → 7 ≤ len → 3 ≤ n → n ≤ 8203 → v ≡ 1 → o ≤ 7 → fits_rest (op_at o) e (n - 3) ≡ true → 4 + n ≤ len → verdict_of len n v o e ≡ Whole
+unfolding verdict_of
+v_whole len n v o e a b c d f g h = grind (arith, nat_tests)
+
+verdict : List ℕ → Verdict
+verdict input = verdict_of (length input) (from_be_bytes w32 (take 4 input)) (get_or input 4 0) (get_or input 5 0) (get_or input 6 0)
+
+verdict_head : (n : ℕ) (rest : List ℕ) → n < 2 ^ 32 → verdict (u32_bytes n ++ rest) ≡ verdict_of (4 + length rest) n (get_or rest 0 0) (get_or rest 1 0) (get_or rest 2 0)
+unfolding verdict u32_bytes
+verdict_head n rest small =
+    let number : from_be_bytes w32 (take 4 (u32_bytes n ++ rest)) ≡ n = ap (from_be_bytes w32) (take_at (u32_bytes n) rest 4 refl) ∙ from_be_bytes-to_be_bytes_4 n small in
+    let len : length (u32_bytes n ++ rest) ≡ 4 + length rest = length-append (u32_bytes n) rest in
+    ap (λ m. verdict_of (length (u32_bytes n ++ rest)) m (get_or rest 0 0) (get_or rest 1 0) (get_or rest 2 0)) number
+    ∙ ap (λ l. verdict_of l n (get_or rest 0 0) (get_or rest 1 0) (get_or rest 2 0)) len
+
+verdict_op : (n v o e : ℕ) (rest : List ℕ) → n ≤ 8203 → verdict (u32_bytes n ++ (v ∷ o ∷ e ∷ rest)) ≡ verdict_of (7 + length rest) n v o e
+verdict_op n v o e rest most =
+    let len : 4 + length (v ∷ o ∷ e ∷ rest) ≡ 7 + length rest = omega arith in
+    verdict_head n (v ∷ o ∷ e ∷ rest) (omega arith) ∙ ap (λ l. verdict_of l n v o e) len
+
+-- a reply has a length that its operation wants with its error
+reply_fits : (m : ℕ) (a : Outcome) (text : List ℕ) → IsAnswer m a → length text ≤ 8192 → fits_rest (op_at m) (error_number a) (length (outcome_fields a ++ outcome_text a text)) ≡ true
+unfolding fits_rest fits_answer stat_fields perm_fields count_fields time_fields row_fields u16_bytes u32_bytes u64_bytes i32_bytes i64_bytes
+reply_fits m (Refused e) text h k = ap (λ b. cond b (fits_answer (op_at m) 0) true) (not_the_same (number_of e) 0 (some_error e))
+reply_fits m Hello text h k = ap (λ x. fits_rest (op_at x) 0 0) h
+reply_fits m (Get i) text h k = ap (λ x. fits_rest (op_at x) 0 4) h
+reply_fits m Snd text h k = ap (λ x. fits_rest (op_at x) 0 0) h
+reply_fits m (Rcv t) text h k =
+    let n = length (i64_bytes t ++ text) in ap (λ x. fits_rest (op_at x) 0 n) h ∙ at_least 8 n (omega (arith, length-append (i64_bytes t) text))
+reply_fits m (Stat s) text h k = ap (λ x. fits_rest (op_at x) 0 66) h.0
+reply_fits m Set text h k = ap (λ x. fits_rest (op_at x) 0 0) h
+reply_fits m Rm text h k = ap (λ x. fits_rest (op_at x) 0 0) h
+reply_fits m (Row None) text h k = ap (λ x. fits_rest (op_at x) 0 1) h
+reply_fits m (Row (Some r)) text h k = ap (λ x. fits_rest (op_at x) 0 23) h.0
+
+number_fits : (m : ℕ) (a : Outcome) → IsAnswer m a → m ≤ 7
+number_fits m (Refused e) h = h
+number_fits m (Row r) h = omega (arith, row_number m r h)
+number_fits m a h = omega (arith, h)
+
+reply_small : (a : Outcome) (text : List ℕ) → length text ≤ 8192 → length (outcome_fields a ++ outcome_text a text) ≤ 8200
+unfolding stat_fields perm_fields count_fields time_fields row_fields u16_bytes u32_bytes u64_bytes i32_bytes i64_bytes
+reply_small (Rcv t) text k = omega (arith, k)
+reply_small (Row None) text k = omega arith
+reply_small (Row (Some r)) text k = omega arith
+reply_small a text k = omega arith
+
+whole_verdict : (r : Reply) (text rest : List ℕ) → FitsReply r text → verdict (reply_spelling r text ++ rest) ≡ Whole
+unfolding frame
+whole_verdict r text rest h =
+    let e = error_number r.result in
+    let behind = outcome_fields r.result ++ outcome_text r.result text in
+    let n = 3 + length behind in
+    let len : length (1 ∷ r.op ∷ e ∷ behind) ≡ n = omega arith in
+    let most : n ≤ 8203 = omega (arith, reply_small r.result text h.2) in
+    let left : n - 3 ≡ length behind = omega arith in
+    let parts : reply_spelling r text ++ rest ≡ u32_bytes n ++ (1 ∷ r.op ∷ e ∷ (behind ++ rest)) =
+    append_assoc (u32_bytes (length (1 ∷ r.op ∷ e ∷ behind))) (1 ∷ r.op ∷ e ∷ behind) rest ∙ ap (λ m. u32_bytes m ++ (1 ∷ r.op ∷ e ∷ (behind ++ rest))) len in
+    ap verdict parts ∙ verdict_op n 1 r.op e (behind ++ rest) most
+    ∙ v_whole (7 + length (behind ++ rest)) n 1 r.op e (omega arith) (omega arith) most refl (number_fits r.op r.result h.0) (ap (fits_rest (op_at r.op) e) left ∙ reply_fits r.op r.result text h.0 h.2) (omega (arith, length-append behind rest))
+
+-- ---- fields that no reply has
+
+mode_same : (place : ℕ) (fields : List ℕ) (m n : ℕ) → HasModeAt place fields m → HasModeAt place fields n → m < 2 ^ 16 → n < 2 ^ 16 → m ≡ n
+mode_same place fields m n h k p q =
+    let both : h.0 ++ (u16_bytes m ++ h.1) ≡ k.0 ++ (u16_bytes n ++ k.1) = sym h.2 ∙ k.2 in
+    (u16_step m n h.1 k.1 p q (rests_alike h.0 k.0 _ _ (h.3 ∙ sym k.3) both)).0
+
+wide_not : (place : ℕ) (fields : List ℕ) (mode : ℕ) → HasModeAt place fields mode → mode ≤ 511 → mode < 2 ^ 16 → IsWideAt place fields → ⊥
+wide_not place fields mode h low fits wide =
+    let same = mode_same place fields mode wide.1 h (wide.0, wide.2, wide.3, wide.4) fits wide.6 in
+    let high = wide.5 in
+    omega (arith, same, high)
+
+mark_not : (row : Line) → IsBadMark (1 ∷ (row_fields row ++ [])) → ⊥
+unfolding row_fields i32_bytes
+mark_not row bad = bad refl
+
+short_not : IsWideAt 13 (0 ∷ []) → ⊥
+short_not wide =
+    let all = ap length wide.3 in
+    let len = wide.4 in
+    omega (arith, all, len, length-append wide.0 (u16_bytes wide.1 ++ wide.2))
+
+bad_not : (o : Op) (a : Outcome) (text bytes : List ℕ) → IsAnswer (op_number o) a → FitsOutcome a → error_number a ≡ 0 → bytes ≡ outcome_fields a ++ outcome_text a text → IsBadAnswer o bytes → ⊥
+bad_not op.Hello a text bytes h fits err same bad = bad
+bad_not op.Get a text bytes h fits err same bad = bad
+bad_not op.Snd a text bytes h fits err same bad = bad
+bad_not op.Rcv a text bytes h fits err same bad = bad
+bad_not op.Set a text bytes h fits err same bad = bad
+bad_not op.Rm a text bytes h fits err same bad = bad
+bad_not op.Stat (Stat s) text bytes h fits err same bad =
+    wide_not 20 bytes s.perm.mode (stat_mode s bytes (same ∙ append-nil (stat_fields s))) h.1 fits.perm.mode bad
+bad_not op.Stat (Refused e) text bytes h fits err same bad = some_error e err
+bad_not op.Stat (Row r) text bytes h fits err same bad = absurd (omega (arith, row_number 4 r h))
+bad_not op.Stat a text bytes h fits err same bad = absurd (omega (arith, h))
+bad_not op.Row (Refused e) text bytes h fits err same bad = some_error e err
+bad_not op.Row (Row None) text bytes h fits err same (inl mark) = subst IsBadMark same mark refl
+bad_not op.Row (Row None) text bytes h fits err same (inr wide) = short_not (subst (IsWideAt 13) same wide)
+bad_not op.Row (Row (Some r)) text bytes h fits err same (inl mark) = mark_not r (subst IsBadMark same mark)
+bad_not op.Row (Row (Some r)) text bytes h fits err same (inr wide) =
+    wide_not 13 (1 ∷ (row_fields r ++ [])) r.mode (row_mode r 1 (row_fields r ++ []) (append-nil (row_fields r))) h.1 fits.mode (subst (IsWideAt 13) same wide)
+bad_not op.Row a text bytes h fits err same bad = absurd (omega (arith, h))
+
+no_error_not : (a : Outcome) (e : ℕ) → e ≡ error_number a → IsNoError e → ⊥
+no_error_not (Refused f) e same h = h.1 f (sym same)
+no_error_not a e same h = h.0 same
+
+late_case : (o : Op) (e : ℕ) (a : Outcome) (text bytes : List ℕ) → IsAnswer (op_number o) a → FitsOutcome a → e ≡ error_number a → bytes ≡ outcome_fields a ++ outcome_text a text
+    → IsNoError e ⊎ ((e ≡ 0) × IsBadAnswer o bytes) → ⊥
+late_case o e a text bytes h fits errors fields (inl unknown) = no_error_not a e errors unknown
+late_case o e a text bytes h fits errors fields (inr bad) = bad_not o a text bytes h fits (sym errors ∙ bad.0) fields bad.1
+
+late_not : (r : Reply) (text rest taken behind : List ℕ) → FitsReply r text → IsReplyRest BadField taken → taken ++ behind ≡ reply_spelling r text ++ rest → ⊥
+late_not r text rest taken behind fits (n, o, e, bytes, low, high, wanted, why, spelled) both =
+    let len : n ≡ length (1 ∷ op_number o ∷ e ∷ bytes) = omega (arith, why.0) in
+    let whole : taken ≡ frame (1 ∷ op_number o ∷ e ∷ bytes) = spelled ∙ frame_whole n (1 ∷ op_number o ∷ e ∷ bytes) len in
+    let f = frames_alike (1 ∷ op_number o ∷ e ∷ bytes) (1 ∷ r.op ∷ error_number r.result ∷ (outcome_fields r.result ++ outcome_text r.result text)) behind rest
+    (omega (arith, len, high)) (short_reply r.op r.result text fits.2) (sym (ap (λ l. l ++ behind) whole) ∙ both) in
+    let ops : op_number o ≡ r.op = cc (f.0) in
+    let errors : e ≡ error_number r.result = cc (f.0) in
+    let fields : bytes ≡ outcome_fields r.result ++ outcome_text r.result text = cc (f.0) in
+    late_case o e r.result text bytes (subst (λ (x : ℕ). IsAnswer x r.result) (sym ops) fits.0) fits.1 errors fields why.1
+
+-- ---- the answers
+
+code : Result (Option Reply) Fault → Verdict
+code (Ok (Some r)) = Whole
+code (Ok None) = End
+code (Err f) = Told f
+
+broken_verdict : (input : List ℕ) → ReplyFault Truncated input → verdict input ≡ Told Truncated
+unfolding verdict
+broken_verdict input (inl (inl h)) = v_part (length input) _ _ _ _ h.0 h.1
+broken_verdict input (inl (inr h)) =
+    let n = h.0 in
+    let part = h.1 in
+    ap verdict h.5 ∙ verdict_head n part (omega (arith, h.3)) ∙ v_head (4 + length part) n (get_or part 0 0) (get_or part 1 0) (get_or part 2 0) (omega arith) h.2 h.3 (omega (arith, h.4))
+broken_verdict input (inr (n, o, e, part, low, high, wanted, why, spelled)) =
+    ap verdict spelled ∙ verdict_op n 1 (op_number o) e part high
+    ∙ v_rest (7 + length part) n 1 (op_number o) e (omega arith) low high refl (number_small o) (rest_fits o e (n - 3) wanted) (omega (arith, why))
+
+long_verdict : (input taken rest : List ℕ) → ReplyFault TooLong taken → input ≡ taken ++ rest → verdict input ≡ Told TooLong
+long_verdict input taken rest h e =
+    let n = h.0 in
+    ap verdict (e ∙ ap (λ l. l ++ rest) h.3) ∙ verdict_head n rest h.1 ∙ v_long (4 + length rest) n (get_or rest 0 0) (get_or rest 1 0) (get_or rest 2 0) (omega arith) h.2
+
+-- behind a length, a version, an operation and an error
+behind_head : (n v o x : ℕ) (taken rest : List ℕ) → taken ≡ u32_bytes n ++ (v ∷ o ∷ x ∷ []) → taken ++ rest ≡ u32_bytes n ++ (v ∷ o ∷ x ∷ rest)
+behind_head n v o x taken rest e = ap (λ l. l ++ rest) e ∙ append_assoc (u32_bytes n) (v ∷ o ∷ x ∷ []) rest
+
+op_verdict : (input taken rest : List ℕ) → ReplyFault BadOp taken → input ≡ taken ++ rest → verdict input ≡ Told BadOp
+op_verdict input taken rest (n, v, o, x, head, why) e =
+    ap verdict (e ∙ behind_head n v o x taken rest head.2) ∙ verdict_op n v o x rest head.1 ∙ v_op (7 + length rest) n v o x (omega arith) head.0 head.1 why.0 why.1
+
+-- all of a reply is there, and its fields have no meaning
+record Late (input : List ℕ) : Type 0 where
+  taken : List ℕ
+  rest : List ℕ
+  why : IsReplyRest BadField taken
+  parts : input ≡ taken ++ rest
+  told : verdict input ≡ Whole
+
+late_verdict : (input taken rest : List ℕ) → IsReplyRest BadField taken → input ≡ taken ++ rest → verdict input ≡ Whole
+late_verdict input taken rest (n, o, x, bytes, low, high, wanted, why, spelled) e =
+    let parts : taken ++ rest ≡ u32_bytes n ++ (1 ∷ op_number o ∷ x ∷ (bytes ++ rest)) = ap (λ l. l ++ rest) spelled ∙ append_assoc (u32_bytes n) (1 ∷ op_number o ∷ x ∷ bytes) rest in
+    ap verdict (e ∙ parts) ∙ verdict_op n 1 (op_number o) x (bytes ++ rest) high
+    ∙ v_whole (7 + length (bytes ++ rest)) n 1 (op_number o) x (omega arith) low high refl (number_small o) (rest_fits o x (n - 3) wanted) (omega (arith, why.0, length-append bytes rest))
+
+field_verdict : (input taken rest : List ℕ) → ReplyFault BadField taken → input ≡ taken ++ rest → (verdict input ≡ Told BadField) ⊎ Late input
+field_verdict input taken rest (inl (inl h)) e =
+    let n = h.0 in
+    inl (ap verdict (e ∙ ap (λ l. l ++ rest) h.3) ∙ verdict_head n rest h.1 ∙ v_short (4 + length rest) n (get_or rest 0 0) (get_or rest 1 0) (get_or rest 2 0) (omega arith) h.2)
+field_verdict input taken rest (inl (inr (n, v, o, x, head, inl other))) e =
+    inl (ap verdict (e ∙ behind_head n v o x taken rest head.2) ∙ verdict_op n v o x rest head.1 ∙ v_version (7 + length rest) n v o x (omega arith) head.0 head.1 other)
+field_verdict input taken rest (inl (inr (n, v, o, x, head, inr (same, (named, number, wrong))))) e =
+    inl (ap verdict (e ∙ behind_head n v o x taken rest head.2) ∙ verdict_op n v o x rest head.1
+    ∙ v_length (7 + length rest) n v o x (omega arith) head.0 head.1 same (omega (arith, number, number_small named)) (ap (λ y. fits_rest (op_at y) x (n - 3)) (sym number) ∙ rest_fits_not named x (n - 3) wrong))
+field_verdict input taken rest (inr late) e = inr (record { taken = taken; rest = rest; why = late; parts = e; told = late_verdict input taken rest late e })
+
+-- where fields have no meaning, no other answer fits
+bad_alone : (input : List ℕ) (b : Result (Option Reply) Fault) → (verdict input ≡ Told BadField) ⊎ Late input → ReplyAt input b → b ≡ Err BadField
+unfolding verdict verdict_of
+bad_alone input (Ok (Some r)) (inl e) k = let x : Whole ≡ Told BadField = sym (ap verdict k.3 ∙ whole_verdict r k.0 k.1 k.2) ∙ e in absurd cc
+bad_alone input (Ok (Some r)) (inr late) k = absurd (late_not r k.0 k.1 late.taken late.rest k.2 late.why (sym late.parts ∙ k.3))
+bad_alone input (Ok None) (inl e) k = let x : End ≡ Told BadField = sym (ap verdict k) ∙ e in absurd cc
+bad_alone input (Ok None) (inr late) k = let x : End ≡ Whole = sym (ap verdict k) ∙ late.told in absurd cc
+bad_alone input (Err BadField) h k = refl
+bad_alone input (Err Truncated) (inl e) k = let x : Told Truncated ≡ Told BadField = sym (broken_verdict input k) ∙ e in absurd cc
+bad_alone input (Err Truncated) (inr late) k = let x : Told Truncated ≡ Whole = sym (broken_verdict input k) ∙ late.told in absurd cc
+bad_alone input (Err TooLong) (inl e) k = let x : Told TooLong ≡ Told BadField = sym (long_verdict input k.0 k.1 k.2 k.3) ∙ e in absurd cc
+bad_alone input (Err TooLong) (inr late) k = let x : Told TooLong ≡ Whole = sym (long_verdict input k.0 k.1 k.2 k.3) ∙ late.told in absurd cc
+bad_alone input (Err BadOp) (inl e) k = let x : Told BadOp ≡ Told BadField = sym (op_verdict input k.0 k.1 k.2 k.3) ∙ e in absurd cc
+bad_alone input (Err BadOp) (inr late) k = let x : Told BadOp ≡ Whole = sym (op_verdict input k.0 k.1 k.2 k.3) ∙ late.told in absurd cc
+bad_alone input (Err Read) h k = absurd k
+
+-- what the numbers tell of an answer: of a field without meaning too little
+answer_verdict : (input : List ℕ) (a : Result (Option Reply) Fault) → ReplyAt input a → (verdict input ≡ code a) ⊎ (a ≡ Err BadField)
+unfolding verdict verdict_of code
+answer_verdict input (Ok (Some r)) h = inl (ap verdict h.3 ∙ whole_verdict r h.0 h.1 h.2)
+answer_verdict input (Ok None) h = inl (ap verdict h)
+answer_verdict input (Err Truncated) h = inl (broken_verdict input h)
+answer_verdict input (Err TooLong) h = inl (long_verdict input h.0 h.1 h.2 h.3)
+answer_verdict input (Err BadOp) h = inl (op_verdict input h.0 h.1 h.2 h.3)
+answer_verdict input (Err BadField) h = inr refl
+answer_verdict input (Err Read) h = absurd h
+
+abbrev refused : Fault → Result (Option Reply) Fault
+refused f = Err f
+
+same_code : (input : List ℕ) (a b : Result (Option Reply) Fault) → ReplyAt input a → ReplyAt input b → code a ≡ code b → a ≡ b
+unfolding code
+same_code input (Ok (Some r)) (Ok (Some s)) h k e =
+    ap (λ x. Ok (Some x)) (one_reply r s h.0 k.0 h.1 k.1 h.2 k.2 (sym h.3 ∙ k.3)).0
+same_code input (Ok None) (Ok None) h k e = refl
+same_code input (Err f) (Err g) h k e = let faults : f ≡ g = cc (e) in ap refused faults
+same_code input (Ok (Some r)) (Ok None) h k e = absurd cc
+same_code input (Ok (Some r)) (Err g) h k e = absurd cc
+same_code input (Ok None) (Ok (Some s)) h k e = absurd cc
+same_code input (Ok None) (Err g) h k e = absurd cc
+same_code input (Err f) (Ok (Some s)) h k e = absurd cc
+same_code input (Err f) (Ok None) h k e = absurd cc
+
+-- the field without meaning that the first answer tells of
+bad_of : (input : List ℕ) → ReplyAt input (Err BadField) → (verdict input ≡ Told BadField) ⊎ Late input
+bad_of input h = field_verdict input h.0 h.1 h.2 h.3
+
+same_answer : (input : List ℕ) (a b : Result (Option Reply) Fault) → ReplyAt input a → ReplyAt input b → (verdict input ≡ code a) ⊎ (a ≡ Err BadField) → (verdict input ≡ code b) ⊎ (b ≡ Err BadField) → a ≡ b
+same_answer input a b h k (inl e) (inl f) = same_code input a b h k (sym e ∙ f)
+same_answer input a b h k (inr e) v = e ∙ sym (bad_alone input b (bad_of input (subst (ReplyAt input) e h)) k)
+same_answer input a b h k u (inr f) = bad_alone input a (bad_of input (subst (ReplyAt input) f k)) h ∙ sym f
+
+pub one_answer : OneAnswerToReplies
+one_answer input a b h k = same_answer input a b h k (answer_verdict input a h) (answer_verdict input b k)
+
+-- what was read fits what there was, or the reader has failed
+pub reply_only : (input : List ℕ) (new : Option (List ℕ)) (result answer : Result (Option Reply) Fault) (text : List ℕ) → ReadsReply (Some input) new result text → ReplyAt input answer
+    → (result ≡ answer) ⊎ (result ≡ Err Read)
+reply_only input None (Ok (Some r)) answer text h k = absurd h.0
+reply_only input None (Ok None) answer text h k = absurd h.0
+reply_only input None (Err f) answer text h k = absurd h.1
+reply_only input (Some rest) (Ok (Some r)) answer text h k = inl (one_answer input (Ok (Some r)) answer (text, rest, h.1, h.0) k)
+reply_only input (Some rest) (Ok None) answer text h k = inl (one_answer input (Ok None) answer (h.0 ∙ h.1) k)
+reply_only input (Some rest) (Err Truncated) answer text h k =
+    inl (one_answer input (Err Truncated) answer (subst (ReplyFault Truncated) (sym (h.1 ∙ ap (λ l. h.0 ++ l) h.3 ∙ append-nil h.0)) h.2) k)
+reply_only input (Some rest) (Err TooLong) answer text h k = inl (one_answer input (Err TooLong) answer (h.0, rest, h.2, h.1) k)
+reply_only input (Some rest) (Err BadOp) answer text h k = inl (one_answer input (Err BadOp) answer (h.0, rest, h.2, h.1) k)
+reply_only input (Some rest) (Err BadField) answer text h k = inl (one_answer input (Err BadField) answer (h.0, rest, h.2, h.1) k)
+reply_only input (Some rest) (Err Read) answer text h k = inr refl

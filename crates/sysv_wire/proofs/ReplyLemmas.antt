@@ -1,0 +1,152 @@
+-- Replies whose fields have no meaning, those that break off, and those that are whole.
+use Rattle.std.proofs.Common.{◌≡◌, ℕ, ℤ, ◌+◌, ◌-◌, ◌^◌, ◌<◌, ◌≤◌, List, [], ◌∷◌, ◌++◌, length, get_or, Option, Some, Ok, cond, true, false, refl, sym, ap, subst, ◌∙◌, append_assoc, append-nil, arith, length-append, inr}
+use Rattle.std.specs.Io.KnownBytes.{Consumes}
+use Rattle.std.proofs.KnownBytes.{Consumes-trans}
+use Rattle.sysv_wire.specs.declared.fault.Fault.{Fault}
+use Rattle.sysv_wire.specs.declared.fault.Fault.TheVariants.{Truncated, TooLong, BadOp, BadField, Read}
+use Rattle.sysv_wire.specs.declared.frame.Op.{Op}
+use Rattle.sysv_wire.specs.declared.reply.Outcome.{Outcome}
+use Rattle.sysv_wire.specs.declared.reply.Outcome.TheVariants.{Refused, Hello, Get, Snd, Rcv, Stat, Set, Rm, Row}
+use Rattle.sysv_wire.specs.Faults.{Faults, Breaks, IsShorter}
+use Rattle.sysv_wire.specs.Frames.{op_number, frame}
+use Rattle.sysv_wire.specs.Reading.{ReadsReply}
+use Rattle.sysv_model.specs.declared.attributes.Row.{Row as Line}
+use Rattle.sysv_model.specs.declared.attributes.Stat.{Stat as Told}
+use Rattle.sysv_wire.specs.declared.frame.TheConstants.{VERSION, REPLY_MOST, MODE_MOST}
+use Rattle.sysv_wire.specs.Numbers.{u16_bytes, u32_bytes, i32_bytes, i64_bytes}
+use Rattle.sysv_wire.specs.Replies.{FitsOutcome, IsAnswer, IsRestLength, perm_fields, count_fields, time_fields, stat_fields, row_fields, outcome_fields, outcome_text, gives_text, error_number, reply_spelling}
+use Rattle.sysv_wire.specs.ReplyFaults.{IsWideAt, RestFault, ReplyFault}
+use Rattle.sysv_wire.proofs.RequestLemmas.{frame_whole}
+use Rattle.sysv_wire.proofs.StreamLemmas.{Faults-after}
+
+pub length-u32_bytes : (n : ℕ) → length (u32_bytes n) ≡ 4
+unfolding u32_bytes
+length-u32_bytes n = refl
+
+pub length-i32_bytes : (z : ℤ) → length (i32_bytes z) ≡ 4
+unfolding i32_bytes
+length-i32_bytes z = refl
+
+-- behind so many bytes stands this mode
+abbrev pub HasModeAt : ℕ → List ℕ → ℕ → Type 0
+HasModeAt place fields mode = (before : List ℕ) × (after : List ℕ) × (fields ≡ before ++ (u16_bytes mode ++ after)) × (length before ≡ place)
+
+pub row_mode : (row : Line) (mark : ℕ) (rest : List ℕ) → rest ≡ row_fields row → HasModeAt 13 (mark ∷ rest) row.mode
+unfolding row_fields
+row_mode row mark rest e =
+    let front = i32_bytes row.id ++ (i32_bytes row.key ++ u32_bytes row.uid) in
+    let after = u32_bytes row.cbytes ++ u32_bytes row.qnum in
+    let parts : rest ≡ front ++ (u16_bytes row.mode ++ after) = e ∙ simp append_assoc in
+    let len : length front ≡ 12 = omega (arith, length-append (i32_bytes row.id) (i32_bytes row.key ++ u32_bytes row.uid), length-append (i32_bytes row.key) (u32_bytes row.uid), length-i32_bytes row.id, length-i32_bytes row.key, length-u32_bytes row.uid) in
+    (mark ∷ front, after, ap (λ l. mark ∷ l) parts, omega (arith, len))
+
+pub stat_mode : (stat : Told) (fields : List ℕ) → fields ≡ stat_fields stat → HasModeAt 20 fields stat.perm.mode
+unfolding stat_fields perm_fields
+stat_mode stat fields e =
+    let perm = stat.perm in
+    let front = i32_bytes stat.key ++ (u32_bytes perm.uid ++ (u32_bytes perm.gid ++ (u32_bytes perm.cuid ++ u32_bytes perm.cgid))) in
+    let after = count_fields stat ++ time_fields stat in
+    let parts : fields ≡ front ++ (u16_bytes perm.mode ++ after) = e ∙ simp append_assoc in
+    let len : length front ≡ 20 = omega (arith, length-append (i32_bytes stat.key) (u32_bytes perm.uid ++ (u32_bytes perm.gid ++ (u32_bytes perm.cuid ++ u32_bytes perm.cgid))), length-append (u32_bytes perm.uid) (u32_bytes perm.gid ++ (u32_bytes perm.cuid ++ u32_bytes perm.cgid)), length-append (u32_bytes perm.gid) (u32_bytes perm.cuid ++ u32_bytes perm.cgid), length-append (u32_bytes perm.cuid) (u32_bytes perm.cgid), length-i32_bytes stat.key, length-u32_bytes perm.uid, length-u32_bytes perm.gid, length-u32_bytes perm.cuid, length-u32_bytes perm.cgid) in
+    (front, after, parts, len)
+
+wide_at : (place : ℕ) (fields : List ℕ) (mode : ℕ) → HasModeAt place fields mode → MODE_MOST < mode → mode < 2 ^ 16 → IsWideAt place fields
+wide_at place fields mode h wide fits = (h.0, mode, h.1, h.2, h.3, wide, fits)
+
+pub wide_row : (row : Line) (mark : ℕ) (rest : List ℕ) → rest ≡ row_fields row → MODE_MOST < row.mode → row.mode < 2 ^ 16 → IsWideAt 13 (mark ∷ rest)
+wide_row row mark rest e wide fits = wide_at 13 (mark ∷ rest) row.mode (row_mode row mark rest e) wide fits
+
+pub wide_stat : (stat : Told) (fields : List ℕ) → fields ≡ stat_fields stat → MODE_MOST < stat.perm.mode → stat.perm.mode < 2 ^ 16 → IsWideAt 20 fields
+wide_stat stat fields e wide fits = wide_at 20 fields stat.perm.mode (stat_mode stat fields e) wide fits
+
+-- fewer bytes than are left
+breaks_rest : (op : Op) (error n m : ℕ) (done : List ℕ) (fault : Fault) → length done + n ≤ m → (taken : List ℕ) → Breaks (IsShorter n) fault taken → RestFault op error m fault (done ++ taken)
+breaks_rest op error n m done Truncated fits taken why = omega (arith, length-append done taken)
+breaks_rest op error n m done Read fits taken why = tt
+breaks_rest op error n m done TooLong fits taken why = absurd why
+breaks_rest op error n m done BadOp fits taken why = absurd why
+breaks_rest op error n m done BadField fits taken why = absurd why
+
+pub rest_broken : (op : Op) (error n m : ℕ) (done : List ℕ) (fault : Fault) (a b c : Option (List ℕ)) → length done + n ≤ m → Consumes a b done → Faults (Breaks (IsShorter n)) fault b c → Faults (RestFault op error m) fault a c
+rest_broken op error n m done fault a b c fits first second =
+    Faults-after (Breaks (IsShorter n)) (RestFault op error m) fault a b c done first second (breaks_rest op error n m done fault fits)
+
+-- a head of three bytes, and what is behind it
+head_then : (n : ℕ) (op : Op) (version number error : ℕ) (head taken : List ℕ) → head ≡ version ∷ number ∷ error ∷ [] → version ≡ VERSION → op_number op ≡ number
+    → (u32_bytes n ++ head) ++ taken ≡ u32_bytes n ++ (VERSION ∷ op_number op ∷ error ∷ taken)
+head_then n op version number error head taken h v o =
+    append_assoc (u32_bytes n) head taken ∙ ap (λ l. u32_bytes n ++ (l ++ taken)) (h ∙ ap (λ x. x ∷ number ∷ error ∷ []) v ∙ ap (λ x. VERSION ∷ x ∷ error ∷ []) (sym o))
+
+faults_reply : (n : ℕ) (op : Op) (error : ℕ) (fault : Fault) → 3 ≤ n → n ≤ REPLY_MOST → IsRestLength op error (n - 3) → (taken : List ℕ) → RestFault op error (n - 3) fault taken
+    → ReplyFault fault (u32_bytes n ++ (VERSION ∷ op_number op ∷ error ∷ taken))
+faults_reply n op error Truncated low high wanted taken why = inr (n, op, error, taken, low, high, wanted, why, refl)
+faults_reply n op error BadField low high wanted taken why = inr (n, op, error, taken, low, high, wanted, why, refl)
+faults_reply n op error Read low high wanted taken why = tt
+faults_reply n op error TooLong low high wanted taken why = absurd why
+faults_reply n op error BadOp low high wanted taken why = absurd why
+
+pub reply_broken : (n rest : ℕ) (op : Op) (version number error : ℕ) (head : List ℕ) (fault : Fault) (a b c : Option (List ℕ)) → head ≡ version ∷ number ∷ error ∷ [] → version ≡ VERSION → op_number op ≡ number
+    → 3 ≤ n → n ≤ REPLY_MOST → rest ≡ n - 3 → IsRestLength op error rest → Consumes a b (u32_bytes n ++ head) → Faults (RestFault op error rest) fault b c → Faults ReplyFault fault a c
+reply_broken n rest op version number error head fault a b c h v o low high e wanted first second =
+    Faults-after (RestFault op error rest) ReplyFault fault a b c (u32_bytes n ++ head) first second
+    (λ taken why. subst (ReplyFault fault) (sym (head_then n op version number error head taken h v o))
+    (faults_reply n op error fault low high (subst (IsRestLength op error) e wanted) taken (subst (λ (k : ℕ). RestFault op error k fault taken) e why)))
+
+-- three bytes, one after the other
+pub triple_is : (head : List ℕ) → length head ≡ 3 → head ≡ get_or head 0 0 ∷ get_or head 1 0 ∷ get_or head 2 0 ∷ []
+triple_is [] e = absurd (omega (arith, e))
+triple_is (a ∷ []) e = absurd (omega (arith, e))
+triple_is (a ∷ b ∷ []) e = absurd (omega (arith, e))
+triple_is (a ∷ b ∷ d ∷ []) e = refl
+triple_is (a ∷ b ∷ d ∷ x ∷ rest) e = absurd (omega (arith, e))
+
+-- a text that came in a reply is one that a message may have
+text_short : (a : Outcome) (text : List ℕ) (n : ℕ) → text ≡ outcome_text a text → n ≡ length (outcome_fields a ++ outcome_text a text) → n ≤ 8200 → length text ≤ 8192
+unfolding i64_bytes
+text_short (Rcv t) text n empty len most = omega (arith, len, most, length-append (i64_bytes t) text)
+text_short (Refused e) text n empty len most = let none = ap length empty in omega (arith, none)
+text_short Hello text n empty len most = let none = ap length empty in omega (arith, none)
+text_short (Get i) text n empty len most = let none = ap length empty in omega (arith, none)
+text_short Snd text n empty len most = let none = ap length empty in omega (arith, none)
+text_short (Stat s) text n empty len most = let none = ap length empty in omega (arith, none)
+text_short Set text n empty len most = let none = ap length empty in omega (arith, none)
+text_short Rm text n empty len most = let none = ap length empty in omega (arith, none)
+text_short (Row r) text n empty len most = let none = ap length empty in omega (arith, none)
+
+-- a reply that was read is spelled by what was taken
+pub reply_read : (result : Outcome) (n rest : ℕ) (op : Op) (version number error told : ℕ) (head text : List ℕ) (a b c : Option (List ℕ)) → head ≡ version ∷ number ∷ error ∷ [] → version ≡ VERSION → op_number op ≡ number
+    → 3 ≤ n → n ≤ REPLY_MOST → rest ≡ n - 3 → told ≡ op_number op → rest ≡ length (outcome_fields result ++ outcome_text result text) → IsAnswer (op_number op) result → FitsOutcome result → error_number result ≡ error → text ≡ outcome_text result text
+    → Consumes a b (u32_bytes n ++ head) → Consumes b c (outcome_fields result ++ outcome_text result text) → ReadsReply a c (Ok (Some record { op = told; result = result })) text
+reply_read result n rest op version number error told head text a b c h v o low high e t len answer fits err empty first second =
+    let behind = outcome_fields result ++ outcome_text result text in
+    let whole : (u32_bytes n ++ head) ++ behind ≡ frame (VERSION ∷ told ∷ error_number result ∷ behind) =
+    head_then n op version number error head behind h v o ∙ ap (λ x. u32_bytes n ++ (VERSION ∷ op_number op ∷ x ∷ behind)) (sym err)
+    ∙ ap (λ x. u32_bytes n ++ (VERSION ∷ x ∷ error_number result ∷ behind)) (sym t)
+    ∙ frame_whole n (VERSION ∷ told ∷ error_number result ∷ behind) (omega arith) in
+    (subst (Consumes a c) whole (Consumes-trans a b c (u32_bytes n ++ head) behind first second), (subst (λ (x : ℕ). IsAnswer x result) (sym t) answer, fits, text_short result text rest empty len (omega (arith, e, high))), empty)
+
+-- the head of a reply and its fields, and then its text
+spelled_head : (number error : ℕ) (fields text : List ℕ) → (u32_bytes (3 + length fields + length text) ++ (VERSION ∷ number ∷ error ∷ fields)) ++ text ≡ frame (VERSION ∷ number ∷ error ∷ (fields ++ text))
+spelled_head number error fields text =
+    append_assoc (u32_bytes (3 + length fields + length text)) (VERSION ∷ number ∷ error ∷ fields) text
+    ∙ frame_whole (3 + length fields + length text) (VERSION ∷ number ∷ error ∷ (fields ++ text)) (omega (arith, length-append fields text))
+
+reply_is : (number : ℕ) (result : Outcome) (fields text head : List ℕ) → fields ≡ outcome_fields result
+    → head ≡ u32_bytes (3 + length fields + length (outcome_text result text)) ++ (VERSION ∷ number ∷ error_number result ∷ fields) → head ++ outcome_text result text ≡ reply_spelling record { op = number; result = result } text
+reply_is number result fields text head f h =
+    ap (λ l. l ++ outcome_text result text) h ∙ spelled_head number (error_number result) fields (outcome_text result text)
+    ∙ ap (λ l. frame (VERSION ∷ number ∷ error_number result ∷ (l ++ outcome_text result text))) f
+
+pub reply_with_text : (number : ℕ) (result : Outcome) (fields text head bytes : List ℕ) (size : ℕ) → fields ≡ outcome_fields result → gives_text result ≡ true
+    → bytes ≡ head → size ≡ length text → head ≡ u32_bytes (3 + length fields + size) ++ (VERSION ∷ number ∷ error_number result ∷ fields) → bytes ++ text ≡ reply_spelling record { op = number; result = result } text
+reply_with_text number result fields text head bytes size f has b s h =
+    let kept : outcome_text result text ≡ text = ap (λ x. cond x text []) has in
+    let all : head ≡ u32_bytes (3 + length fields + length (outcome_text result text)) ++ (VERSION ∷ number ∷ error_number result ∷ fields) = rw kept (rw (← s) h) in
+    ap (λ l. l ++ text) b ∙ ap (λ l. head ++ l) (sym kept) ∙ reply_is number result fields text head f all
+
+pub reply_without_text : (number : ℕ) (result : Outcome) (fields text head bytes : List ℕ) → fields ≡ outcome_fields result → gives_text result ≡ false
+    → bytes ≡ head → head ≡ u32_bytes (3 + length fields + 0) ++ (VERSION ∷ number ∷ error_number result ∷ fields) → bytes ≡ reply_spelling record { op = number; result = result } text
+reply_without_text number result fields text head bytes f has b h =
+    let none : outcome_text result text ≡ [] = ap (λ x. cond x text []) has in
+    let all : head ≡ u32_bytes (3 + length fields + length (outcome_text result text)) ++ (VERSION ∷ number ∷ error_number result ∷ fields) = rw none h in
+    b ∙ sym (append-nil head) ∙ ap (λ l. head ++ l) (sym none) ∙ reply_is number result fields text head f all

@@ -1,0 +1,79 @@
+-- What is read and written one after the other.
+use Rattle.std.proofs.Common.{◌≡◌, ℕ, ◌+◌, ◌-◌, ◌*◌, ◌≤◌, List, ◌++◌, length, take, drop, Option, Result, Ok, Err, sym, ap, subst, ◌∙◌, append_assoc, arith, length-append, take-append-drop}
+use borrow.Rule.Slice.PartMut.{put_mid, post_of}
+use lib.Seq.{take-append-add, take-add, take-take}
+use Rattle.std.proofs.lemmas.List.{length-take-le, take-append-le}
+use Rattle.std.specs.Io.KnownBytes.{Appends, Consumes}
+use Rattle.std.specs.Prelude.{OnOk, OnErr}
+use Rattle.std.proofs.KnownBytes.{Appends-trans, Consumes-trans}
+use Rattle.sysv_wire.specs.declared.fault.Fault.{Fault}
+use Rattle.sysv_wire.specs.Faults.{Faults}
+use Rattle.sysv_wire.specs.Streams.{AppendsPrefix}
+
+-- a prefix that was counted
+pub AppendsPrefix-take : (a b : Option (List ℕ)) (count : ℕ) (bytes : List ℕ) → Appends a b (take count bytes) → AppendsPrefix a b bytes
+AppendsPrefix-take a b count bytes so_far = (take count bytes, (drop count bytes, sym (take-append-drop count bytes)), so_far)
+
+-- something, and then a prefix of the next
+pub AppendsPrefix-after : (a b c : Option (List ℕ)) (done bytes more : List ℕ) → Appends a b done → AppendsPrefix b c bytes → AppendsPrefix a c (done ++ (bytes ++ more))
+AppendsPrefix-after a b c done bytes more first second =
+    let whole : done ++ (bytes ++ more) ≡ (done ++ second.0) ++ (second.1.0 ++ more) =
+    ap (λ l. done ++ (l ++ more)) second.1.1 ∙ ap (λ l. done ++ l) (append_assoc second.0 second.1.0 more) ∙ sym (append_assoc done second.0 (second.1.0 ++ more)) in
+    (done ++ second.0, (second.1.0 ++ more, whole), Appends-trans a b c done second.0 first second.2)
+
+-- what stands at the front after more bytes came behind the first a
+pub came : (a n k : ℕ) (xs ys : List ℕ) → a ≤ length xs → n ≤ length ys → take (a + n) (put_mid a k xs ys) ≡ take a xs ++ take n ys
+came a n k xs ys within fits =
+    let len : length (take a xs) ≡ a = length-take-le a xs within in
+    ap (λ m. take (m + n) (put_mid a k xs ys)) (sym len) ∙ take-append-add (take a xs) (ys ++ post_of a k xs) n ∙ ap (λ l. take a xs ++ l) (take-append-le n ys (post_of a k xs) fits)
+
+pub length_came : (a n k : ℕ) (xs ys : List ℕ) → a ≤ length xs → n ≤ length ys → a + n ≤ length (put_mid a k xs ys)
+length_came a n k xs ys within fits =
+    omega (arith, length-take-le a xs within, length-append (take a xs) (ys ++ post_of a k xs), length-append ys (post_of a k xs))
+
+-- the prefix that was written, and then a prefix of what is left
+pub went : (bytes : List ℕ) (written count : ℕ) → count ≤ length bytes - written
+    → take written bytes ++ take count (take (length bytes - written) (drop written bytes)) ≡ take (written + count) bytes
+went bytes written count fits =
+    ap (λ more. take written bytes ++ more) (take-take count (length bytes - written) (drop written bytes) fits)
+    ∙ sym (take-add written count bytes)
+
+pub OnErr-from : {T E P : Type 0} (r : Result T E) → P → OnErr r P
+OnErr-from (Ok x) p = tt
+OnErr-from (Err e) p = p
+
+-- some bytes, and then a fault
+pub Faults-after : (IsWhy IsWhole : Fault → List ℕ → Type 0) (fault : Fault) (a b c : Option (List ℕ)) (done : List ℕ) → Consumes a b done → Faults IsWhy fault b c
+    → ((taken : List ℕ) → IsWhy fault taken → IsWhole fault (done ++ taken)) → Faults IsWhole fault a c
+Faults-after IsWhy IsWhole fault a b c done first second lift =
+    (done ++ second.0, Consumes-trans a b c done second.0 first second.1, lift second.0 second.2, second.3)
+
+-- the blocks so far and the next one
+pub block_more : (k : ℕ) (text : List ℕ) → take (k * 64) text ++ take 64 (drop (k * 64) text) ≡ take ((k + 1) * 64) text
+block_more k text = let more : k * 64 + 64 ≡ (k + 1) * 64 = omega arith in sym (take-add (k * 64) 64 text) ∙ ap (λ n. take n text) more
+
+-- the blocks so far, the next one and the others
+pub block_parts : (k : ℕ) (text : List ℕ) → text ≡ take (k * 64) text ++ (take 64 (drop (k * 64) text) ++ drop 64 (drop (k * 64) text))
+block_parts k text = sym (ap (λ l. take (k * 64) text ++ l) (take-append-drop 64 (drop (k * 64) text)) ∙ take-append-drop (k * 64) text)
+
+-- a prefix of some bytes is one of those with more behind them
+pub AppendsPrefix-longer : (a b : Option (List ℕ)) (bytes more : List ℕ) → AppendsPrefix a b bytes → AppendsPrefix a b (bytes ++ more)
+AppendsPrefix-longer a b bytes more first =
+    (first.0, (first.1.0 ++ more, ap (λ l. l ++ more) first.1.1 ∙ append_assoc first.0 first.1.0 more), first.2)
+
+-- some bytes, and then a prefix of others
+pub AppendsPrefix-next : {T E : Type 0} (r : Result T E) (a b c : Option (List ℕ)) (done bytes : List ℕ) → Appends a b done → OnErr r (AppendsPrefix b c bytes) → OnErr r (AppendsPrefix a c (done ++ bytes))
+AppendsPrefix-next (Ok x) a b c done bytes first second = tt
+AppendsPrefix-next (Err e) a b c done bytes first second =
+    (done ++ second.0, (second.1.0, ap (λ l. done ++ l) second.1.1 ∙ sym (append_assoc done second.0 second.1.0)), Appends-trans a b c done second.0 first second.2)
+
+pub Appends-next : {T E : Type 0} (r : Result T E) (a b c : Option (List ℕ)) (done bytes : List ℕ) → Appends a b done → OnOk r (Appends b c bytes) → OnOk r (Appends a c (done ++ bytes))
+Appends-next (Ok x) a b c done bytes first second = Appends-trans a b c done bytes first second
+Appends-next (Err e) a b c done bytes first second = tt
+
+-- what was written, by another name
+pub Appends-as : {T E : Type 0} (r : Result T E) (a b : Option (List ℕ)) (bytes other : List ℕ) → bytes ≡ other → OnOk r (Appends a b bytes) → OnOk r (Appends a b other)
+Appends-as r a b bytes other e first = subst (λ l. OnOk r (Appends a b l)) e first
+
+pub AppendsPrefix-as : {T E : Type 0} (r : Result T E) (a b : Option (List ℕ)) (bytes other : List ℕ) → bytes ≡ other → OnErr r (AppendsPrefix a b bytes) → OnErr r (AppendsPrefix a b other)
+AppendsPrefix-as r a b bytes other e first = subst (λ l. OnErr r (AppendsPrefix a b l)) e first

@@ -1,0 +1,13 @@
+-- What came so far is the text, and less is left each time.
+use Rattle.std.proofs.Common.{◌≡◌, ◌+◌, length}
+use Rattle.std.specs.Io.KnownBytes.{Consumes}
+use Rattle.sysv_wire.proofs.input.read_text.Given as goal
+
+abbrev pub invariant-loop-left : goal.invariant-loop-left
+invariant-loop-left g l = record {
+  count : length l.text + l.left ≡ l.len;
+  so_far : Consumes (g.R.Read.remaining l.initial.reader) (g.R.Read.remaining l.reader) l.text;
+}
+
+abbrev pub decreases-loop-left : goal.decreases-loop-left
+decreases-loop-left g l = l.left

@@ -1,0 +1,92 @@
+-- What a reader has taken of the input where it tells a fault (this profile's order): the length is
+-- judged first, then the version, the operation and the length that the operation wants, and then
+-- comes the rest of the frame.
+use Rattle.std.specs.Prelude.{◌≡◌, ◌≢◌, ◌<◌, ◌≤◌, ◌+◌, ◌^◌, ◌⊎◌, ⊤, ℕ, List, [], ◌∷◌, ◌++◌, length, Option}
+use Rattle.std.specs.Io.KnownBytes.{Consumes, IsAtEnd}
+use Rattle.sysv_wire.specs.declared.fault.Fault.{Fault}
+use Rattle.sysv_wire.specs.declared.fault.Fault.TheVariants.{Truncated, TooLong, BadOp, BadField, Read}
+use Rattle.sysv_wire.specs.declared.frame.Op.{Op}
+use Rattle.sysv_wire.specs.declared.frame.TheConstants.{VERSION, REQUEST_LEAST, REQUEST_MOST}
+use Rattle.sysv_wire.specs.Frames.{op_number}
+use Rattle.sysv_wire.specs.Numbers.{u32_bytes}
+use Rattle.sysv_wire.specs.Requests.{IsRequestLength}
+
+-- after this fault the input is at its end
+abbrev pub EndsAt : Fault → Option (List ℕ) → Type 0
+EndsAt Truncated new = IsAtEnd new
+EndsAt TooLong new = ⊤
+EndsAt BadOp new = ⊤
+EndsAt BadField new = ⊤
+EndsAt Read new = ⊤
+
+-- the bytes that were taken are why this fault is told
+abbrev pub Faults : (Fault → List ℕ → Type 0) → Fault → Option (List ℕ) → Option (List ℕ) → Type 0
+Faults IsWhy fault old new = (taken : List ℕ) × Consumes old new taken × IsWhy fault taken × EndsAt fault new
+
+-- the input ended within some bytes, or could not be read
+abbrev pub Breaks : (List ℕ → Type 0) → Fault → List ℕ → Type 0
+Breaks IsPart Truncated taken = IsPart taken
+Breaks IsPart Read taken = ⊤
+Breaks IsPart TooLong taken = ⊥
+Breaks IsPart BadOp taken = ⊥
+Breaks IsPart BadField taken = ⊥
+
+-- fewer bytes than these
+abbrev pub IsShorter : ℕ → List ℕ → Type 0
+IsShorter n taken = length taken < n
+
+-- a part of a length: one to three bytes
+abbrev pub IsPartLength : List ℕ → Type 0
+IsPartLength taken = (0 < length taken) × (length taken < 4)
+
+-- A head is a length within the limits and the bytes behind it that are judged with it, as many as the
+-- least length.
+abbrev pub IsPartHead : ℕ → ℕ → List ℕ → Type 0
+IsPartHead least most taken = (n : ℕ) × (part : List ℕ) × (least ≤ n) × (n ≤ most) × (length part < least) × (taken ≡ u32_bytes n ++ part)
+
+-- why a length is refused
+abbrev pub LengthFault : ℕ → ℕ → ℕ → Fault → Type 0
+LengthFault least most n TooLong = most < n
+LengthFault least most n BadField = n < least
+LengthFault least most n Truncated = ⊥
+LengthFault least most n BadOp = ⊥
+LengthFault least most n Read = ⊥
+
+-- why a head is refused, whose length is to be within these limits
+abbrev pub HeadFault : ℕ → ℕ → Fault → List ℕ → Type 0
+HeadFault least most Truncated taken = IsPartLength taken ⊎ IsPartHead least most taken
+HeadFault least most TooLong taken = (n : ℕ) × (n < 2 ^ 32) × LengthFault least most n TooLong × (taken ≡ u32_bytes n)
+HeadFault least most BadField taken = (n : ℕ) × (n < 2 ^ 32) × LengthFault least most n BadField × (taken ≡ u32_bytes n)
+HeadFault least most BadOp taken = ⊥
+HeadFault least most Read taken = ⊤
+
+-- another version, or a length that is not the operation's
+abbrev pub IsBadRequest : ℕ → ℕ → ℕ → Type 0
+IsBadRequest n version number = (version ≢ VERSION) ⊎ ((version ≡ VERSION) × ((op : Op) × (op_number op ≡ number) × ¬ IsRequestLength op n))
+
+-- why a request with this length, version and operation is refused
+abbrev pub OpFault : ℕ → ℕ → ℕ → Fault → Type 0
+OpFault n version number BadField = IsBadRequest n version number
+OpFault n version number BadOp = (version ≡ VERSION) × (7 < number)
+OpFault n version number Truncated = ⊥
+OpFault n version number TooLong = ⊥
+OpFault n version number Read = ⊥
+
+-- a request's length within the limits, its version and its operation
+abbrev pub IsRequestHead : ℕ → ℕ → ℕ → List ℕ → Type 0
+IsRequestHead n version number taken =
+    (REQUEST_LEAST ≤ n) × (n ≤ REQUEST_MOST) × (taken ≡ u32_bytes n ++ version ∷ number ∷ [])
+
+-- a request's head, and not all of the rest
+abbrev pub IsPartRequest : List ℕ → Type 0
+IsPartRequest taken = (n : ℕ) × (op : Op) × (part : List ℕ) × (n ≤ REQUEST_MOST) × IsRequestLength op n
+    × (2 + length part < n) × (taken ≡ u32_bytes n ++ (VERSION ∷ op_number op ∷ part))
+
+-- why a request is refused: for its length, for what is judged with it, or as the input ends within it
+abbrev pub RequestFault : Fault → List ℕ → Type 0
+RequestFault Truncated taken = HeadFault REQUEST_LEAST REQUEST_MOST Truncated taken ⊎ IsPartRequest taken
+RequestFault TooLong taken = HeadFault REQUEST_LEAST REQUEST_MOST TooLong taken
+RequestFault BadOp taken = (n : ℕ) × (version : ℕ) × (number : ℕ) × IsRequestHead n version number taken × OpFault n version number BadOp
+RequestFault BadField taken = HeadFault REQUEST_LEAST REQUEST_MOST BadField taken
+    ⊎ ((n : ℕ) × (version : ℕ) × (number : ℕ) × IsRequestHead n version number taken × OpFault n version number BadField)
+RequestFault Read taken = ⊤

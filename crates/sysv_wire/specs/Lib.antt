@@ -1,0 +1,10 @@
+pub mod Numbers
+pub mod Streams
+pub mod Frames
+pub mod Requests
+pub mod Replies
+pub mod Faults
+pub mod ReplyFaults
+pub mod Reading
+pub mod OneSpelling
+pub mod OneAnswer

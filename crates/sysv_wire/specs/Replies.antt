@@ -1,0 +1,159 @@
+-- The one spelling of each reply (this profile's): the operation, the number of the error or 0, and then
+-- the fields of what is answered in order, and behind those of a receive's the message's text. A refusal
+-- has no fields.
+use Rattle.std.specs.Prelude.{◌≡◌, ◌≤◌, ◌<◌, ◌^◌, ◌==◌, length, ⊤, ◌⊎◌, ℕ, Bool, true, false, List, [], ◌∷◌, ◌++◌, None, Some, MatchBool, if◌then◌else◌}
+use Rattle.std.specs.Int.{w32, w64}
+use Rattle.std.specs.Int.RustNames.{FitsSigned}
+use Rattle.sysv_model.specs.Errors.{number_of}
+use Rattle.sysv_model.specs.declared.attributes.Perm.{Perm}
+use Rattle.sysv_model.specs.declared.attributes.Row.{Row as Line}
+use Rattle.sysv_model.specs.declared.attributes.Stat.{Stat as Told}
+use Rattle.sysv_model.specs.declared.limits.TheConstants.{MESSAGE_BYTES}
+use Rattle.sysv_wire.specs.declared.frame.Op.{Op}
+use Rattle.sysv_wire.specs.declared.frame.Op.TheVariants as op
+use Rattle.sysv_wire.specs.declared.frame.TheConstants.{VERSION, MODE_MOST}
+use Rattle.sysv_wire.specs.declared.reply.Outcome.{Outcome}
+use Rattle.sysv_wire.specs.declared.reply.Outcome.TheVariants.{Refused, Hello, Get, Snd, Rcv, Stat, Set, Rm, Row}
+use Rattle.sysv_wire.specs.declared.reply.Reply.{Reply}
+use Rattle.sysv_wire.specs.Frames.{op_number, frame}
+use Rattle.sysv_wire.specs.Numbers.{u16_bytes, u32_bytes, u64_bytes, i32_bytes, i64_bytes}
+
+-- the numbers are in the ranges of their types
+pub record FitsPerm (perm : Perm) : Type 0 where
+  pub uid : perm.uid < 2 ^ 32
+  pub gid : perm.gid < 2 ^ 32
+  pub cuid : perm.cuid < 2 ^ 32
+  pub cgid : perm.cgid < 2 ^ 32
+  pub mode : perm.mode < 2 ^ 16
+
+pub record FitsStat (stat : Told) : Type 0 where
+  pub key : FitsSigned w32 stat.key
+  pub perm : FitsPerm stat.perm
+  pub cbytes : stat.cbytes < 2 ^ 32
+  pub qnum : stat.qnum < 2 ^ 32
+  pub qbytes : stat.qbytes < 2 ^ 32
+  pub lspid : stat.lspid < 2 ^ 32
+  pub lrpid : stat.lrpid < 2 ^ 32
+  pub stime : stat.stime < 2 ^ 64
+  pub rtime : stat.rtime < 2 ^ 64
+  pub ctime : stat.ctime < 2 ^ 64
+
+pub record FitsRow (row : Line) : Type 0 where
+  pub id : FitsSigned w32 row.id
+  pub key : FitsSigned w32 row.key
+  pub uid : row.uid < 2 ^ 32
+  pub mode : row.mode < 2 ^ 16
+  pub cbytes : row.cbytes < 2 ^ 32
+  pub qnum : row.qnum < 2 ^ 32
+
+-- the number of the error, 0 where there is none
+abbrev pub error_number : Outcome → ℕ
+error_number (Refused error) = number_of error
+error_number Hello = 0
+error_number (Get id) = 0
+error_number Snd = 0
+error_number (Rcv mtype) = 0
+error_number (Stat stat) = 0
+error_number Set = 0
+error_number Rm = 0
+error_number (Row row) = 0
+
+-- owner, creator and mode
+unfoldable pub perm_fields : Perm → List ℕ
+perm_fields perm = u32_bytes perm.uid ++ (u32_bytes perm.gid ++ (u32_bytes perm.cuid ++ (u32_bytes perm.cgid ++ u16_bytes perm.mode)))
+
+-- what waits, what may wait, and who came last
+unfoldable pub count_fields : Told → List ℕ
+count_fields stat = u32_bytes stat.cbytes ++ (u32_bytes stat.qnum ++ (u32_bytes stat.qbytes ++ (u32_bytes stat.lspid ++ u32_bytes stat.lrpid)))
+
+-- the moments
+unfoldable pub time_fields : Told → List ℕ
+time_fields stat = u64_bytes stat.stime ++ (u64_bytes stat.rtime ++ u64_bytes stat.ctime)
+
+-- a queue's attributes
+unfoldable pub stat_fields : Told → List ℕ
+stat_fields stat = i32_bytes stat.key ++ (perm_fields stat.perm ++ (count_fields stat ++ time_fields stat))
+
+-- a row that is there
+unfoldable pub row_fields : Line → List ℕ
+row_fields row = i32_bytes row.id ++ (i32_bytes row.key ++ (u32_bytes row.uid ++ (u16_bytes row.mode ++ (u32_bytes row.cbytes ++ u32_bytes row.qnum))))
+
+-- the fields without a text: a row that is there is marked by 1, one that is not by 0
+abbrev pub outcome_fields : Outcome → List ℕ
+outcome_fields (Refused error) = []
+outcome_fields Hello = []
+outcome_fields (Get id) = i32_bytes id
+outcome_fields Snd = []
+outcome_fields (Rcv mtype) = i64_bytes mtype
+outcome_fields (Stat stat) = stat_fields stat
+outcome_fields Set = []
+outcome_fields Rm = []
+outcome_fields (Row None) = 0 ∷ []
+outcome_fields (Row (Some row)) = 1 ∷ row_fields row
+
+-- a text stands behind the fields: with a receive's alone
+abbrev pub gives_text : Outcome → Bool
+gives_text (Rcv mtype) = true
+gives_text (Refused error) = false
+gives_text Hello = false
+gives_text (Get id) = false
+gives_text Snd = false
+gives_text (Stat stat) = false
+gives_text Set = false
+gives_text Rm = false
+gives_text (Row row) = false
+
+-- the text, if there is one
+abbrev pub outcome_text : Outcome → List ℕ → List ℕ
+outcome_text outcome text = if gives_text outcome then text else []
+
+-- the one spelling of a reply
+abbrev pub reply_spelling : Reply → List ℕ → List ℕ
+reply_spelling reply text =
+    frame (VERSION ∷ reply.op ∷ error_number reply.result ∷ (outcome_fields reply.result ++ outcome_text reply.result text))
+
+-- The operation with this number may answer so: any may be refused, and modes have nine bits.
+abbrev pub IsAnswer : ℕ → Outcome → Type 0
+IsAnswer number (Refused error) = number ≤ 7
+IsAnswer number Hello = number ≡ op_number op.Hello
+IsAnswer number (Get id) = number ≡ op_number op.Get
+IsAnswer number Snd = number ≡ op_number op.Snd
+IsAnswer number (Rcv mtype) = number ≡ op_number op.Rcv
+IsAnswer number (Stat stat) = (number ≡ op_number op.Stat) × (stat.perm.mode ≤ MODE_MOST)
+IsAnswer number Set = number ≡ op_number op.Set
+IsAnswer number Rm = number ≡ op_number op.Rm
+IsAnswer number (Row None) = number ≡ op_number op.Row
+IsAnswer number (Row (Some row)) = (number ≡ op_number op.Row) × (row.mode ≤ MODE_MOST)
+
+-- what an operation gives takes this many bytes behind the error: a receive's has its text behind its
+-- fields, and a row may be there or not
+abbrev pub IsAnswerLength : Op → ℕ → Type 0
+IsAnswerLength op.Hello n = n ≡ 0
+IsAnswerLength op.Get n = n ≡ 4
+IsAnswerLength op.Snd n = n ≡ 0
+IsAnswerLength op.Rcv n = 8 ≤ n
+IsAnswerLength op.Stat n = n ≡ 66
+IsAnswerLength op.Set n = n ≡ 0
+IsAnswerLength op.Rm n = n ≡ 0
+IsAnswerLength op.Row n = (n ≡ 1) ⊎ (n ≡ 23)
+
+-- a reply of the operation with this error may have so many bytes behind the error
+abbrev pub IsRestLength : Op → ℕ → ℕ → Type 0
+IsRestLength o error n = MatchBool (error == 0) (IsAnswerLength o n) (n ≡ 0)
+
+-- the numbers are in the ranges of their types
+abbrev pub FitsOutcome : Outcome → Type 0
+FitsOutcome (Refused error) = ⊤
+FitsOutcome Hello = ⊤
+FitsOutcome (Get id) = FitsSigned w32 id
+FitsOutcome Snd = ⊤
+FitsOutcome (Rcv mtype) = FitsSigned w64 mtype
+FitsOutcome (Stat stat) = FitsStat stat
+FitsOutcome Set = ⊤
+FitsOutcome Rm = ⊤
+FitsOutcome (Row None) = ⊤
+FitsOutcome (Row (Some row)) = FitsRow row
+
+-- the reply is one that its operation may give, and it and its text can be sent
+abbrev pub FitsReply : Reply → List ℕ → Type 0
+FitsReply reply text = IsAnswer reply.op reply.result × FitsOutcome reply.result × (length text ≤ MESSAGE_BYTES)

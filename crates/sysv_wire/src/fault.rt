@@ -1,0 +1,28 @@
+//! Why a frame is not read or written.
+use thiserror::Error;
+
+/// Why no request or no reply is read.
+#[derive(Clone, Copy, PartialEq, Eq, Debug, Error)]
+pub enum Fault {
+    /// The input ends within a frame.
+    #[error("the input ends within a frame")]
+    Truncated,
+    /// The length is above the limit.
+    #[error("a frame is too long")]
+    TooLong,
+    /// The operation is none of the eight.
+    #[error("an operation is not known")]
+    BadOp,
+    /// Another field has no meaning: the length for the operation, the version, and in a reply the
+    /// error, the mark of a row that is there, or a mode.
+    #[error("a field has no meaning")]
+    BadField,
+    /// The reader failed.
+    #[error("the input cannot be read")]
+    Read,
+}
+
+/// A frame is not written: the writer failed, or took no byte. It took a prefix of the frame.
+#[derive(Clone, Copy, PartialEq, Eq, Debug, Error)]
+#[error("a frame cannot be written")]
+pub struct WriteFault;

@@ -1,0 +1,78 @@
+//! What all frames have: their limits, their version and their operation.
+ghost use Rattle.std.specs.Prelude.{◌≡◌, ◌<◌, IfSome, IfNone};
+ghost use Rattle.sysv_wire.specs.Frames.{op_number};
+
+/// The version of the frames, their first byte behind the length.
+pub const VERSION: u8 = 1;
+
+/// The least length of a request.
+pub const REQUEST_LEAST: u32 = 2;
+
+/// The greatest length of a request: that of a send with a text of 8,256 bytes.
+pub const REQUEST_MOST: u32 = 8274;
+
+/// The least length of a reply.
+pub const REPLY_LEAST: u32 = 3;
+
+/// The greatest length of a reply: that of a receive's with a text of 8,192 bytes.
+pub const REPLY_MOST: u32 = 8203;
+
+/// The greatest mode of a queue, nine bits.
+pub const MODE_MOST: u16 = 0o777;
+
+/// What a request asks for and a reply answers.
+#[derive(Clone, Copy, PartialEq, Eq, Debug)]
+pub enum Op {
+    /// Says who makes the calls of a session.
+    Hello,
+    /// `msgget`.
+    Get,
+    /// `msgsnd`.
+    Snd,
+    /// `msgrcv`.
+    Rcv,
+    /// `msgctl` with `IPC_STAT`.
+    Stat,
+    /// `msgctl` with `IPC_SET`.
+    Set,
+    /// `msgctl` with `IPC_RMID`.
+    Rm,
+    /// Asks for one line of the list of queues.
+    Row,
+}
+
+impl Op {
+    /// The operation's number, 0 to 7.
+    pub fn number(self) -> u8
+        ensures { result ≡ op_number self }
+    {
+        match self {
+            Op::Hello => 0,
+            Op::Get => 1,
+            Op::Snd => 2,
+            Op::Rcv => 3,
+            Op::Stat => 4,
+            Op::Set => 5,
+            Op::Rm => 6,
+            Op::Row => 7,
+        }
+    }
+
+    /// The operation with this number, if it is one of 0 to 7.
+    pub fn of(number: u8) -> Option<Op>
+        ensures some { IfSome result (λ op. op_number op ≡ number) }
+        ensures none { IfNone result (7 < number) }
+    {
+        match number {
+            0 => Some(Op::Hello),
+            1 => Some(Op::Get),
+            2 => Some(Op::Snd),
+            3 => Some(Op::Rcv),
+            4 => Some(Op::Stat),
+            5 => Some(Op::Set),
+            6 => Some(Op::Rm),
+            7 => Some(Op::Row),
+            _ => None,
+        }
+    }
+}

@@ -1,0 +1,173 @@
+//! What a reply answers, from its fields.
+ghost use Rattle.std.specs.Prelude.{◌≡◌, ◌≢◌, ◌≤◌, ◌+◌, ◌++◌, ◌∷◌, ◌⊎◌, [], length, false, IfOk, IfErr};
+ghost use Rattle.sysv_model.specs.Errors.{number_of};
+ghost use Rattle.sysv_wire.specs.Frames.{op_number};
+ghost use Rattle.sysv_wire.specs.Replies.{FitsOutcome, FitsPerm, FitsRow, FitsStat, IsAnswer, IsAnswerLength, error_number, gives_text, outcome_fields, perm_fields, row_fields, stat_fields};
+ghost use Rattle.sysv_wire.specs.ReplyFaults.{IsBadAnswer, IsBadMark, IsNoError, IsWideAt};
+
+use crate::fault::Fault;
+use crate::frame::{MODE_MOST, Op};
+use crate::number::{only_i32, only_u32, only_u64, take_i32, take_u16, take_u32, take_u64};
+use crate::reply::Outcome;
+use sysv_model::attributes::{Perm, Row, Stat};
+use sysv_model::errno::Errno;
+
+/// The error with this number, which is not 0.
+pub(crate) fn errno_of(number: u8) -> Result<Errno, Fault>
+    requires { number ≢ 0 }
+    ensures ok { IfOk result (λ error. number_of error ≡ number) }
+    ensures err { IfErr result (λ fault. (fault ≡ Fault.BadField) × IsNoError number) }
+{
+    match number {
+        1 => Ok(Errno::EPERM),
+        2 => Ok(Errno::ENOENT),
+        7 => Ok(Errno::E2BIG),
+        11 => Ok(Errno::EAGAIN),
+        13 => Ok(Errno::EACCES),
+        17 => Ok(Errno::EEXIST),
+        22 => Ok(Errno::EINVAL),
+        28 => Ok(Errno::ENOSPC),
+        42 => Ok(Errno::ENOMSG),
+        43 => Ok(Errno::EIDRM),
+        75 => Ok(Errno::EOVERFLOW),
+        _ => Err(Fault::BadField),
+    }
+}
+
+/// What an operation gives whose answer has no text, from the fields.
+pub(crate) fn outcome_of(op: Op, fields: &[u8]) -> Result<Outcome, Fault>
+    requires len { IsAnswerLength op (length fields.now) }
+    requires other { op ≢ Op.Rcv }
+    ensures answer { IfOk result (λ outcome. IsAnswer (op_number op) outcome) }
+    ensures fits { IfOk result FitsOutcome }
+    ensures error { IfOk result (λ outcome. error_number outcome ≡ 0) }
+    ensures text { IfOk result (λ outcome. gives_text outcome ≡ false) }
+    ensures spelled { IfOk result (λ outcome. fields.now ≡ outcome_fields outcome) }
+    ensures err { IfErr result (λ fault. (fault ≡ Fault.BadField) × IsBadAnswer op fields.now) }
+{
+    match op {
+        Op::Hello => Ok(Outcome::Hello),
+        Op::Get => Ok(Outcome::Get {
+            id: only_i32(fields),
+        }),
+        Op::Snd => Ok(Outcome::Snd),
+        Op::Rcv => unreachable!(),
+        Op::Stat => {
+            let stat = stat_of(fields);
+            if stat.perm.mode > MODE_MOST {
+                return Err(Fault::BadField);
+            }
+            Ok(Outcome::Stat(stat))
+        }
+        Op::Set => Ok(Outcome::Set),
+        Op::Rm => Ok(Outcome::Rm),
+        Op::Row => match fields {
+            [] => unreachable!(),
+            [mark, rest @ ..] => marked_row(*mark, rest),
+        },
+    }
+}
+
+/// What a row's mark and the bytes behind it say.
+fn marked_row(mark: u8, rest: &[u8]) -> Result<Outcome, Fault>
+    requires { (length rest.now ≡ 0) ⊎ (length rest.now ≡ 22) }
+    ensures answer { IfOk result (λ outcome. IsAnswer 7 outcome) }
+    ensures fits { IfOk result FitsOutcome }
+    ensures error { IfOk result (λ outcome. error_number outcome ≡ 0) }
+    ensures text { IfOk result (λ outcome. gives_text outcome ≡ false) }
+    ensures spelled { IfOk result (λ outcome. mark ∷ rest.now ≡ outcome_fields outcome) }
+    ensures err { IfErr result (λ fault. (fault ≡ Fault.BadField) × (IsBadMark (mark ∷ rest.now) ⊎ IsWideAt 13 (mark ∷ rest.now))) }
+{
+    if rest.is_empty() {
+        return if mark == 0 {
+            Ok(Outcome::Row(None))
+        } else {
+            Err(Fault::BadField)
+        };
+    }
+    if mark != 1 {
+        return Err(Fault::BadField);
+    }
+    let row = row_of(rest);
+    if row.mode > MODE_MOST {
+        return Err(Fault::BadField);
+    }
+    Ok(Outcome::Row(Some(row)))
+}
+
+/// The row whose fields these are.
+#[tactic(auto, unfolding(crate::specs::Replies::row_fields))]
+fn row_of(fields: &[u8]) -> Row
+    requires { length fields.now ≡ 22 }
+    ensures spelled { fields.now ≡ row_fields result }
+    ensures fits { FitsRow result }
+{
+    let (id, fields) = take_i32(fields);
+    let (key, fields) = take_i32(fields);
+    let (uid, fields) = take_u32(fields);
+    let (mode, fields) = take_u16(fields);
+    let (cbytes, fields) = take_u32(fields);
+    let qnum = only_u32(fields);
+    Row {
+        id,
+        key,
+        uid,
+        mode,
+        cbytes,
+        qnum,
+    }
+}
+
+/// Owner, creator and mode at the front, and what is behind them.
+#[tactic(auto, using(std::proofs::Common::append_assoc), unfolding(crate::specs::Replies::perm_fields))]
+fn take_perm(fields: &[u8]) -> (Perm, &[u8])
+    requires { 18 ≤ length fields.now }
+    ensures spelled { fields.now ≡ perm_fields result.0 ++ result.1.now }
+    ensures fits { FitsPerm result.0 }
+    ensures len { length fields.now ≡ 18 + length result.1.now }
+{
+    let (uid, fields) = take_u32(fields);
+    let (gid, fields) = take_u32(fields);
+    let (cuid, fields) = take_u32(fields);
+    let (cgid, fields) = take_u32(fields);
+    let (mode, fields) = take_u16(fields);
+    let perm = Perm {
+        uid,
+        gid,
+        cuid,
+        cgid,
+        mode,
+    };
+    (perm, fields)
+}
+
+/// The attributes whose fields these are.
+#[tactic(auto, using(std::proofs::Common::append_assoc), unfolding(crate::specs::Replies::stat_fields, crate::specs::Replies::count_fields, crate::specs::Replies::time_fields))]
+fn stat_of(fields: &[u8]) -> Stat
+    requires { length fields.now ≡ 66 }
+    ensures spelled { fields.now ≡ stat_fields result }
+    ensures fits { FitsStat result }
+{
+    let (key, fields) = take_i32(fields);
+    let (perm, fields) = take_perm(fields);
+    let (cbytes, fields) = take_u32(fields);
+    let (qnum, fields) = take_u32(fields);
+    let (qbytes, fields) = take_u32(fields);
+    let (lspid, fields) = take_u32(fields);
+    let (lrpid, fields) = take_u32(fields);
+    let (stime, fields) = take_u64(fields);
+    let (rtime, fields) = take_u64(fields);
+    let ctime = only_u64(fields);
+    Stat {
+        key,
+        perm,
+        cbytes,
+        qnum,
+        qbytes,
+        lspid,
+        lrpid,
+        stime,
+        rtime,
+        ctime,
+    }
+}

@@ -1,0 +1,325 @@
+//! Replies, read and written.
+ghost use Rattle.std.specs.Prelude.{◌≡◌, ◌≢◌, ◌≤◌, ◌+◌, ◌-◌, ◌++◌, ◌∷◌, ◌⊎◌, [], ℕ, List, Option, Some, Result, Err, length, ◌==◌, ◌↔◌, true, false, IsTrue, IfOk, IfErr, OnOk, OnErr};
+ghost use Rattle.std.specs.Io.KnownBytes.{Appends, Consumes};
+ghost use Rattle.sysv_wire.specs.Faults.{Faults};
+ghost use Rattle.sysv_wire.specs.Frames.{op_number};
+ghost use Rattle.sysv_wire.specs.Numbers.{u32_bytes};
+ghost use Rattle.sysv_wire.specs.OneAnswer.{ReplyAt};
+ghost use Rattle.sysv_wire.specs.Reading.{ReadsReply};
+ghost use Rattle.sysv_wire.specs.Replies.{FitsOutcome, IsAnswer, IsAnswerLength, IsRestLength, count_fields, error_number, gives_text, outcome_fields, outcome_text, perm_fields, reply_spelling, row_fields, stat_fields, time_fields};
+ghost use Rattle.sysv_wire.specs.ReplyFaults.{AnswerFault, RestFault};
+ghost use Rattle.sysv_wire.specs.Streams.{AppendsPrefix};
+
+use crate::fault::{Fault, WriteFault};
+use crate::fields::Fields;
+use crate::frame::{Op, REPLY_MOST, VERSION};
+use crate::input::{fill_all, read_head, read_text};
+use crate::number::only_i64;
+use crate::outcome::{errno_of, outcome_of};
+use crate::output::{write_both, write_out};
+use crate::reply::{Outcome, Reply};
+use std::io::{Read, Write};
+use sysv_model::attributes::{Perm, Row, Stat};
+use sysv_model::body::Body;
+use sysv_model::limits::MESSAGE_BYTES;
+
+/// The most bytes that the fields of a reply take, its text not counted.
+const FIELDS_MOST: usize = 66;
+
+/// The most bytes behind the error of a reply.
+const REST_MOST: usize = 8200;
+
+/// Judges the version, the operation and then the length that the operation wants with this error; the
+/// operation, and the bytes behind the error.
+fn judge(length: u32, version: u8, number: u8, error: u8) -> Result<(Op, usize), Fault>
+    requires { 3 ≤ length }
+    ensures version { OnOk result (version ≡ VERSION) }
+    ensures op { IfOk result (λ found. op_number found.0 ≡ number) }
+    ensures rest { IfOk result (λ found. (found.1 ≡ length - 3) × IsRestLength found.0 error found.1) }
+    ensures fault { IfErr result (AnswerFault length version number error) }
+{
+    if version != VERSION {
+        return Err(Fault::BadField);
+    }
+    let Some(op) = Op::of(number) else {
+        return Err(Fault::BadOp);
+    };
+    let rest = length as usize - 3;
+    let is_wanted = if error == 0 {
+        may_take(op, rest)
+    } else {
+        rest == 0
+    };
+    if is_wanted {
+        Ok((op, rest))
+    } else {
+        Err(Fault::BadField)
+    }
+}
+
+/// Whether what an operation gives may take so many bytes.
+fn may_take(op: Op, rest: usize) -> bool
+    ensures { IsTrue result ↔ IsAnswerLength op rest }
+{
+    match op {
+        Op::Hello => rest == 0,
+        Op::Get => rest == 4,
+        Op::Snd => rest == 0,
+        Op::Rcv => rest >= 8,
+        Op::Stat => rest == 66,
+        Op::Set => rest == 0,
+        Op::Rm => rest == 0,
+        Op::Row => rest == 1 || rest == 23,
+    }
+}
+
+/// Reads so many bytes, which are the fields of what an operation other than a receive gives.
+fn read_fields<R: Read>(reader: &mut R, op: Op, rest: usize) -> Result<Outcome, Fault>
+    requires len { IsAnswerLength op rest }
+    requires other { op ≢ Op.Rcv }
+    ensures taken { IfOk result (λ outcome. Consumes (R.remaining reader.old) (R.remaining reader.new) (outcome_fields outcome)) }
+    ensures len { IfOk result (λ outcome. length (outcome_fields outcome) ≡ rest) }
+    ensures answer { IfOk result (λ outcome. IsAnswer (op_number op) outcome) }
+    ensures fits { IfOk result FitsOutcome }
+    ensures error { IfOk result (λ outcome. error_number outcome ≡ 0) }
+    ensures text { IfOk result (λ outcome. gives_text outcome ≡ false) }
+    ensures fault { IfErr result (λ fault. Faults (RestFault op 0 rest) fault (R.remaining reader.old) (R.remaining reader.new)) }
+{
+    let mut fields = [0; FIELDS_MOST];
+    let fields = &mut fields[..rest];
+    fill_all(reader, fields)?;
+    outcome_of(op, fields)
+}
+
+/// Reads so many bytes, which are the type and the text of a message.
+fn read_message<R: Read>(reader: &mut R, rest: usize, text: &mut Body) -> Result<Outcome, Fault>
+    requires least { 8 ≤ rest }
+    requires most { rest ≤ REST_MOST }
+    requires empty { text.old ≡ [] }
+    ensures taken { IfOk result (λ outcome. Consumes (R.remaining reader.old) (R.remaining reader.new) (outcome_fields outcome ++ text.new)) }
+    ensures len { IfOk result (λ outcome. length (outcome_fields outcome ++ text.new) ≡ rest) }
+    ensures answer { IfOk result (λ outcome. IsAnswer 3 outcome) }
+    ensures fits { IfOk result FitsOutcome }
+    ensures error { IfOk result (λ outcome. error_number outcome ≡ 0) }
+    ensures text { IfOk result (λ outcome. gives_text outcome ≡ true) }
+    ensures fault { IfErr result (λ fault. Faults (RestFault Op.Rcv 0 rest) fault (R.remaining reader.old) (R.remaining reader.new)) }
+{
+    let mut bytes = [0; 8];
+    fill_all(reader, &mut bytes)?;
+    let mtype = only_i64(&bytes);
+    read_text(reader, rest - 8, text)?;
+    Ok(Outcome::Rcv { mtype })
+}
+
+/// Reads what stands behind the error of a reply.
+fn read_rest<R: Read>(
+    reader: &mut R,
+    op: Op,
+    error: u8,
+    rest: usize,
+    text: &mut Body,
+) -> Result<Outcome, Fault>
+    requires len { IsRestLength op error rest }
+    requires most { rest ≤ REST_MOST }
+    requires empty { text.old ≡ [] }
+    ensures taken { IfOk result (λ outcome. Consumes (R.remaining reader.old) (R.remaining reader.new) (outcome_fields outcome ++ outcome_text outcome text.new)) }
+    ensures len { IfOk result (λ outcome. rest ≡ length (outcome_fields outcome ++ outcome_text outcome text.new)) }
+    ensures answer { IfOk result (λ outcome. IsAnswer (op_number op) outcome) }
+    ensures fits { IfOk result FitsOutcome }
+    ensures error { IfOk result (λ outcome. error_number outcome ≡ error) }
+    ensures text { IfOk result (λ outcome. text.new ≡ outcome_text outcome text.new) }
+    ensures fault { IfErr result (λ fault. Faults (RestFault op error rest) fault (R.remaining reader.old) (R.remaining reader.new)) }
+{
+    if error != 0 {
+        let error = errno_of(error)?;
+        return Ok(Outcome::Refused(error));
+    }
+    match op {
+        Op::Rcv => read_message(reader, rest, text),
+        _ => read_fields(reader, op, rest),
+    }
+}
+
+/// Reads one reply; `None` where the input ends before its first byte. The text of a receive's is then
+/// in `text`, which is empty with any other reply and at the end; after a fault nothing is said of it.
+///
+/// No byte behind the reply is read, and none at all behind what a fault is told of. The length is
+/// judged first, then the version, the operation and the length that it wants with this error, and once
+/// all is read the error, the mark of a row that is there and the mode. Where the input ends within the
+/// frame it is `Truncated`, and where the reader fails it is `Read`.
+pub fn read_reply<R: Read>(reader: &mut R, text: &mut Body) -> Result<Option<Reply>, Fault>
+    ensures reads { ReadsReply (R.remaining reader.old) (R.remaining reader.new) result text.new }
+    // The answer that fits what the reader had left is given, unless the reader fails.
+    ensures only { (input : List ℕ) (answer : Result (Option Reply) Fault) → R.remaining reader.old ≡ Some input → ReplyAt input answer →
+        (result ≡ answer) ⊎ (result ≡ Err Fault.Read) }
+{
+    next_reply(reader, text)
+}
+
+/// The same, by what was taken of the input.
+fn next_reply<R: Read>(reader: &mut R, text: &mut Body) -> Result<Option<Reply>, Fault>
+    ensures { ReadsReply (R.remaining reader.old) (R.remaining reader.new) result text.new }
+{
+    text.clear();
+    let mut head = [0; 3];
+    let Some(length) = read_head(reader, REPLY_MOST, &mut head)? else {
+        return Ok(None);
+    };
+    let (op, rest) = judge(length, head[0], head[1], head[2])?;
+    let result = read_rest(reader, op, head[2], rest, text)?;
+    Ok(Some(Reply {
+        op: op.number(),
+        result,
+    }))
+}
+
+/// Writes one reply, and with a receive's the text, by `write` alone; with any other reply the text is
+/// ignored. `WriteFault` where the writer fails or takes no byte, and then it took a prefix of the
+/// reply.
+pub fn write_reply<W: Write>(writer: &mut W, reply: &Reply, text: &Body) -> Result<(), WriteFault>
+    requires answer { IsAnswer reply.now.op reply.now.result }
+    requires text { length text.now ≤ MESSAGE_BYTES }
+    ensures ok { OnOk result (Appends (W.contents writer.old) (W.contents writer.new) (reply_spelling reply.now text.now)) }
+    ensures err { OnErr result (AppendsPrefix (W.contents writer.old) (W.contents writer.new) (reply_spelling reply.now text.now)) }
+{
+    let fields = fields_of(&reply.result);
+    if takes_text(&reply.result) {
+        let head = head_of(reply, &fields, text.len());
+        write_both(writer, head.bytes(), text)
+    } else {
+        let head = head_of(reply, &fields, 0);
+        write_out(writer, head.bytes())
+    }
+}
+
+/// Whether a reply has a text behind its fields.
+fn takes_text(outcome: &Outcome) -> bool
+    ensures { result ≡ gives_text outcome.now }
+{
+    matches!(outcome, Outcome::Rcv { .. })
+}
+
+/// The number of the error, 0 where there is none.
+fn error_of(outcome: &Outcome) -> u8
+    ensures { result ≡ error_number outcome.now }
+{
+    match outcome {
+        Outcome::Refused(error) => error.number(),
+        Outcome::Hello => 0,
+        Outcome::Get { .. } => 0,
+        Outcome::Snd => 0,
+        Outcome::Rcv { .. } => 0,
+        Outcome::Stat(_) => 0,
+        Outcome::Set => 0,
+        Outcome::Rm => 0,
+        Outcome::Row(_) => 0,
+    }
+}
+
+/// The length, the version, the operation, the error and the fields of a reply, whose text has this many
+/// bytes.
+fn head_of(reply: &Reply, fields: &Fields, text_len: usize) -> Fields
+    requires fields { length fields.now ≤ FIELDS_MOST }
+    requires text { text_len ≤ MESSAGE_BYTES }
+    ensures { result ≡ u32_bytes (3 + length fields.now + text_len) ++ (VERSION ∷ reply.now.op ∷ error_number reply.now.result ∷ fields.now) }
+{
+    let mut frame = Fields::new();
+    frame.put_u32((3 + fields.bytes().len() + text_len) as u32);
+    frame.put_u8(VERSION);
+    frame.put_u8(reply.op);
+    frame.put_u8(error_of(&reply.result));
+    frame.put(fields.bytes());
+    frame
+}
+
+/// The fields of what is answered.
+fn fields_of(outcome: &Outcome) -> Fields
+    ensures fields { result ≡ outcome_fields outcome.now }
+    ensures most { length result ≤ FIELDS_MOST }
+{
+    let mut fields = Fields::new();
+    match *outcome {
+        Outcome::Refused(_) => {}
+        Outcome::Hello => {}
+        Outcome::Get { id } => fields.put_i32(id),
+        Outcome::Snd => {}
+        Outcome::Rcv { mtype } => fields.put_i64(mtype),
+        Outcome::Stat(stat) => put_stat(&mut fields, stat),
+        Outcome::Set => {}
+        Outcome::Rm => {}
+        Outcome::Row(None) => fields.put_u8(0),
+        Outcome::Row(Some(row)) => {
+            fields.put_u8(1);
+            put_row(&mut fields, row);
+        }
+    }
+    fields
+}
+
+/// Puts a row at the end.
+#[tactic(auto, using(std::proofs::Common::append_assoc), unfolding(crate::specs::Replies::row_fields))]
+fn put_row(fields: &mut Fields, row: Row)
+    requires { length fields.old ≤ 1 }
+    ensures after { fields.new ≡ fields.old ++ row_fields row }
+    ensures len { length fields.new ≡ length fields.old + 22 }
+{
+    fields.put_i32(row.id);
+    fields.put_i32(row.key);
+    fields.put_u32(row.uid);
+    fields.put_u16(row.mode);
+    fields.put_u32(row.cbytes);
+    fields.put_u32(row.qnum);
+}
+
+/// Puts a queue's attributes where nothing stands yet.
+#[tactic(auto, using(std::proofs::Common::append_assoc), unfolding(crate::specs::Replies::stat_fields))]
+fn put_stat(fields: &mut Fields, stat: Stat)
+    requires { length fields.old ≡ 0 }
+    ensures after { fields.new ≡ fields.old ++ stat_fields stat }
+    ensures len { length fields.new ≡ 66 }
+{
+    fields.put_i32(stat.key);
+    put_perm(fields, stat.perm);
+    put_counts(fields, stat);
+    put_times(fields, stat);
+}
+
+/// Puts owner, creator and mode at the end.
+#[tactic(auto, using(std::proofs::Common::append_assoc), unfolding(crate::specs::Replies::perm_fields))]
+fn put_perm(fields: &mut Fields, perm: Perm)
+    requires { length fields.old ≤ 4 }
+    ensures after { fields.new ≡ fields.old ++ perm_fields perm }
+    ensures len { length fields.new ≡ length fields.old + 18 }
+{
+    fields.put_u32(perm.uid);
+    fields.put_u32(perm.gid);
+    fields.put_u32(perm.cuid);
+    fields.put_u32(perm.cgid);
+    fields.put_u16(perm.mode);
+}
+
+/// Puts what waits, what may wait and who came last at the end.
+#[tactic(auto, using(std::proofs::Common::append_assoc), unfolding(crate::specs::Replies::count_fields))]
+fn put_counts(fields: &mut Fields, stat: Stat)
+    requires { length fields.old ≤ 22 }
+    ensures after { fields.new ≡ fields.old ++ count_fields stat }
+    ensures len { length fields.new ≡ length fields.old + 20 }
+{
+    fields.put_u32(stat.cbytes);
+    fields.put_u32(stat.qnum);
+    fields.put_u32(stat.qbytes);
+    fields.put_u32(stat.lspid);
+    fields.put_u32(stat.lrpid);
+}
+
+/// Puts the moments at the end.
+#[tactic(auto, using(std::proofs::Common::append_assoc), unfolding(crate::specs::Replies::time_fields))]
+fn put_times(fields: &mut Fields, stat: Stat)
+    requires { length fields.old ≤ 42 }
+    ensures after { fields.new ≡ fields.old ++ time_fields stat }
+    ensures len { length fields.new ≡ length fields.old + 24 }
+{
+    fields.put_u64(stat.stime);
+    fields.put_u64(stat.rtime);
+    fields.put_u64(stat.ctime);
+}

@@ -1,0 +1,360 @@
+//! Requests, read and written.
+ghost use Rattle.std.specs.Prelude.{◌≡◌, ◌≤◌, ◌+◌, ◌-◌, ◌<◌, ◌++◌, ◌∷◌, ◌⊎◌, [], ℕ, List, Option, Some, Result, Err, length, IfOk, IfErr, OnOk, OnErr};
+ghost use Rattle.std.specs.Io.KnownBytes.{Appends, Consumes};
+ghost use Rattle.sysv_wire.specs.Faults.{Faults, Breaks, IsShorter, OpFault};
+ghost use Rattle.sysv_wire.specs.Frames.{op_number};
+ghost use Rattle.sysv_wire.specs.Numbers.{u32_bytes};
+ghost use Rattle.sysv_wire.specs.OneAnswer.{RequestAt};
+ghost use Rattle.sysv_wire.specs.Reading.{ReadsRequest};
+ghost use Rattle.sysv_wire.specs.Requests.{FitsAsk, IsRequestLength, ask_fields, ask_text, fields_len, has_text, op_of, request_spelling};
+ghost use Rattle.sysv_wire.specs.Streams.{AppendsPrefix};
+
+use crate::fault::{Fault, WriteFault};
+use crate::fields::Fields;
+use crate::frame::{Op, REQUEST_MOST, VERSION};
+use crate::input::{fill_all, read_head, read_text};
+use crate::number::{only_i32, only_u32, take_i32, take_i64, take_u32};
+use crate::output::{write_both, write_out};
+use crate::request::{Ask, Request};
+use bitflags::Flags as Set;
+use std::io::{Read, Write};
+use sysv_model::attributes::SetTo;
+use sysv_model::body::Body;
+use sysv_model::cred::Cred;
+use sysv_model::flags::Flags;
+use sysv_model::limits::BODY_ROOM;
+
+/// The most bytes that the fields of a request take, its text not counted.
+const FIELDS_MOST: usize = 20;
+
+/// The bytes that the fields of a request take, its text not counted.
+fn len_of(op: Op) -> usize
+    ensures { result ≡ fields_len op }
+{
+    match op {
+        Op::Hello => 12,
+        Op::Get => 8,
+        Op::Snd => 16,
+        Op::Rcv | Op::Set => 20,
+        Op::Stat | Op::Rm | Op::Row => 4,
+    }
+}
+
+/// Whether a request has a text behind its fields.
+fn takes_text(op: Op) -> bool
+    ensures { result ≡ has_text op }
+{
+    matches!(op, Op::Snd)
+}
+
+/// Judges the version, the operation and then the length that the operation wants.
+fn judge(length: u32, version: u8, number: u8) -> Result<Op, Fault>
+    ensures version { OnOk result (version ≡ VERSION) }
+    ensures op { IfOk result (λ op. (op_number op ≡ number) × IsRequestLength op length) }
+    ensures fault { IfErr result (OpFault length version number) }
+{
+    if version != VERSION {
+        return Err(Fault::BadField);
+    }
+    let Some(op) = Op::of(number) else {
+        return Err(Fault::BadOp);
+    };
+    let length = length as usize;
+    let least = 2 + len_of(op);
+    let is_wanted = if takes_text(op) {
+        length >= least
+    } else {
+        length == least
+    };
+    if is_wanted {
+        Ok(op)
+    } else {
+        Err(Fault::BadField)
+    }
+}
+
+/// The request whose fields these are.
+fn ask_of(op: Op, fields: &[u8]) -> Ask
+    requires { length fields.now ≡ fields_len op }
+    ensures op { op_of result ≡ op }
+    ensures spelled { fields.now ≡ ask_fields result }
+    ensures fits { FitsAsk result }
+{
+    match op {
+        Op::Hello => hello_of(fields),
+        Op::Get => get_of(fields),
+        Op::Snd => snd_of(fields),
+        Op::Rcv => rcv_of(fields),
+        Op::Stat => stat_of(fields),
+        Op::Set => set_of(fields),
+        Op::Rm => rm_of(fields),
+        Op::Row => row_of(fields),
+    }
+}
+
+#[tactic(auto, unfolding(crate::specs::Requests::ask_fields))]
+fn hello_of(fields: &[u8]) -> Ask
+    requires { length fields.now ≡ fields_len Op.Hello }
+    ensures op { op_of result ≡ Op.Hello }
+    ensures spelled { fields.now ≡ ask_fields result }
+    ensures fits { FitsAsk result }
+{
+    let (uid, fields) = take_u32(fields);
+    let (gid, fields) = take_u32(fields);
+    let pid = only_u32(fields);
+    Ask::Hello(Cred { uid, gid, pid })
+}
+
+#[tactic(auto, unfolding(crate::specs::Requests::ask_fields))]
+fn get_of(fields: &[u8]) -> Ask
+    requires { length fields.now ≡ fields_len Op.Get }
+    ensures op { op_of result ≡ Op.Get }
+    ensures spelled { fields.now ≡ ask_fields result }
+    ensures fits { FitsAsk result }
+{
+    let (key, fields) = take_i32(fields);
+    let flags = Flags::from_bits_retain(only_u32(fields));
+    Ask::Get { key, flags }
+}
+
+#[tactic(auto, unfolding(crate::specs::Requests::ask_fields))]
+fn snd_of(fields: &[u8]) -> Ask
+    requires { length fields.now ≡ fields_len Op.Snd }
+    ensures op { op_of result ≡ Op.Snd }
+    ensures spelled { fields.now ≡ ask_fields result }
+    ensures fits { FitsAsk result }
+{
+    let (id, fields) = take_i32(fields);
+    let (mtype, fields) = take_i64(fields);
+    let flags = Flags::from_bits_retain(only_u32(fields));
+    Ask::Snd { id, mtype, flags }
+}
+
+#[tactic(auto, unfolding(crate::specs::Requests::ask_fields))]
+fn rcv_of(fields: &[u8]) -> Ask
+    requires { length fields.now ≡ fields_len Op.Rcv }
+    ensures op { op_of result ≡ Op.Rcv }
+    ensures spelled { fields.now ≡ ask_fields result }
+    ensures fits { FitsAsk result }
+{
+    let (id, fields) = take_i32(fields);
+    let (size, fields) = take_u32(fields);
+    let (mtype, fields) = take_i64(fields);
+    let flags = Flags::from_bits_retain(only_u32(fields));
+    Ask::Rcv {
+        id,
+        size,
+        mtype,
+        flags,
+    }
+}
+
+#[tactic(auto, unfolding(crate::specs::Requests::ask_fields))]
+fn stat_of(fields: &[u8]) -> Ask
+    requires { length fields.now ≡ fields_len Op.Stat }
+    ensures op { op_of result ≡ Op.Stat }
+    ensures spelled { fields.now ≡ ask_fields result }
+    ensures fits { FitsAsk result }
+{
+    Ask::Stat {
+        id: only_i32(fields),
+    }
+}
+
+#[tactic(auto, unfolding(crate::specs::Requests::ask_fields))]
+fn set_of(fields: &[u8]) -> Ask
+    requires { length fields.now ≡ fields_len Op.Set }
+    ensures op { op_of result ≡ Op.Set }
+    ensures spelled { fields.now ≡ ask_fields result }
+    ensures fits { FitsAsk result }
+{
+    let (id, fields) = take_i32(fields);
+    let (uid, fields) = take_u32(fields);
+    let (gid, fields) = take_u32(fields);
+    let (mode, fields) = take_u32(fields);
+    let qbytes = only_u32(fields);
+    let to = SetTo {
+        uid,
+        gid,
+        mode,
+        qbytes,
+    };
+    Ask::Set { id, to }
+}
+
+#[tactic(auto, unfolding(crate::specs::Requests::ask_fields))]
+fn rm_of(fields: &[u8]) -> Ask
+    requires { length fields.now ≡ fields_len Op.Rm }
+    ensures op { op_of result ≡ Op.Rm }
+    ensures spelled { fields.now ≡ ask_fields result }
+    ensures fits { FitsAsk result }
+{
+    Ask::Rm {
+        id: only_i32(fields),
+    }
+}
+
+#[tactic(auto, unfolding(crate::specs::Requests::ask_fields))]
+fn row_of(fields: &[u8]) -> Ask
+    requires { length fields.now ≡ fields_len Op.Row }
+    ensures op { op_of result ≡ Op.Row }
+    ensures spelled { fields.now ≡ ask_fields result }
+    ensures fits { FitsAsk result }
+{
+    Ask::Row {
+        slot: only_u32(fields),
+    }
+}
+
+/// Reads the fields of a request with a whole length, and its text.
+fn read_ask<R: Read>(reader: &mut R, whole: u32, op: Op, text: &mut Body) -> Result<Ask, Fault>
+    requires wanted { IsRequestLength op whole }
+    requires most { whole ≤ REQUEST_MOST }
+    requires empty { text.old ≡ [] }
+    ensures taken { IfOk result (λ ask. Consumes (R.remaining reader.old) (R.remaining reader.new) (ask_fields ask ++ ask_text op text.new)) }
+    ensures op { IfOk result (λ ask. op_of ask ≡ op) }
+    ensures fits { IfOk result FitsAsk }
+    ensures len { IfOk result (λ ask. whole ≡ 2 + length (ask_fields ask ++ ask_text op text.new)) }
+    ensures text { OnOk result (text.new ≡ ask_text op text.new) }
+    ensures fault { IfErr result (λ fault. Faults (Breaks (IsShorter (whole - 2))) fault (R.remaining reader.old) (R.remaining reader.new)) }
+{
+    let mut fields = [0; FIELDS_MOST];
+    let len = len_of(op);
+    let fields = &mut fields[..len];
+    fill_all(reader, fields)?;
+    let ask = ask_of(op, fields);
+    if takes_text(op) {
+        read_text(reader, whole as usize - 2 - len, text)?;
+    }
+    Ok(ask)
+}
+
+/// Reads one request; `None` where the input ends before its first byte. The text of a send is then in
+/// `text`, which is empty with any other request and at the end; after a fault nothing is said of it.
+///
+/// No byte behind the request is read, and none at all behind what a fault is told of. The length is
+/// judged first, then the version, the operation and the length that it wants; where the input ends
+/// within the frame it is `Truncated`, and where the reader fails it is `Read`.
+pub fn read_request<R: Read>(reader: &mut R, text: &mut Body) -> Result<Option<Request>, Fault>
+    ensures reads { ReadsRequest (R.remaining reader.old) (R.remaining reader.new) result text.new }
+    // The answer that fits what the reader had left is given, unless the reader fails.
+    ensures only { (input : List ℕ) (answer : Result (Option Request) Fault) → R.remaining reader.old ≡ Some input → RequestAt input answer →
+        (result ≡ answer) ⊎ (result ≡ Err Fault.Read) }
+{
+    next_request(reader, text)
+}
+
+/// The same, by what was taken of the input.
+fn next_request<R: Read>(reader: &mut R, text: &mut Body) -> Result<Option<Request>, Fault>
+    ensures { ReadsRequest (R.remaining reader.old) (R.remaining reader.new) result text.new }
+{
+    text.clear();
+    let mut head = [0; 2];
+    let Some(length) = read_head(reader, REQUEST_MOST, &mut head)? else {
+        return Ok(None);
+    };
+    let op = judge(length, head[0], head[1])?;
+    let ask = read_ask(reader, length, op, text)?;
+    Ok(Some(Request { ask }))
+}
+
+/// Writes one request, and with a send the text, by `write` alone; with any other request the text is
+/// ignored. `WriteFault` where the writer fails or takes no byte, and then it took a prefix of the
+/// request.
+pub fn write_request<W: Write>(
+    writer: &mut W,
+    request: &Request,
+    text: &Body,
+) -> Result<(), WriteFault>
+    ensures ok { OnOk result (Appends (W.contents writer.old) (W.contents writer.new) (request_spelling request.now text.now)) }
+    ensures err { OnErr result (AppendsPrefix (W.contents writer.old) (W.contents writer.new) (request_spelling request.now text.now)) }
+{
+    let op = request.ask.op();
+    let fields = fields_of(&request.ask);
+    if takes_text(op) {
+        let head = head_of(op, &fields, text.len());
+        write_both(writer, head.bytes(), text)
+    } else {
+        let head = head_of(op, &fields, 0);
+        write_out(writer, head.bytes())
+    }
+}
+
+/// The length, the version, the operation and the fields of a request, whose text has this many bytes.
+fn head_of(op: Op, fields: &Fields, text_len: usize) -> Fields
+    requires fields { length fields.now ≤ FIELDS_MOST }
+    requires text { text_len ≤ BODY_ROOM }
+    ensures { result ≡ u32_bytes (2 + length fields.now + text_len) ++ (VERSION ∷ op_number op ∷ fields.now) }
+{
+    let mut frame = Fields::new();
+    frame.put_u32((2 + fields.bytes().len() + text_len) as u32);
+    frame.put_u8(VERSION);
+    frame.put_u8(op.number());
+    frame.put(fields.bytes());
+    frame
+}
+
+/// The fields of what is asked for.
+#[tactic(auto, using(std::proofs::Common::append_assoc), unfolding(crate::specs::Requests::ask_fields))]
+fn fields_of(ask: &Ask) -> Fields
+    ensures fields { result ≡ ask_fields ask.now }
+    ensures most { length result ≤ FIELDS_MOST }
+{
+    let mut fields = Fields::new();
+    match *ask {
+        Ask::Hello(cred) => put_cred(&mut fields, cred),
+        Ask::Get { key, flags } => {
+            fields.put_i32(key);
+            fields.put_u32(flags.bits());
+        }
+        Ask::Snd { id, mtype, flags } => {
+            fields.put_i32(id);
+            fields.put_i64(mtype);
+            fields.put_u32(flags.bits());
+        }
+        Ask::Rcv {
+            id,
+            size,
+            mtype,
+            flags,
+        } => {
+            fields.put_i32(id);
+            fields.put_u32(size);
+            fields.put_i64(mtype);
+            fields.put_u32(flags.bits());
+        }
+        Ask::Stat { id } => fields.put_i32(id),
+        Ask::Set { id, to } => {
+            fields.put_i32(id);
+            put_set(&mut fields, to);
+        }
+        Ask::Rm { id } => fields.put_i32(id),
+        Ask::Row { slot } => fields.put_u32(slot),
+    }
+    fields
+}
+
+/// Puts credentials at the end.
+#[tactic(auto, using(std::proofs::Common::append_assoc))]
+fn put_cred(fields: &mut Fields, cred: Cred)
+    requires { length fields.old ≤ 8 }
+    ensures after { fields.new ≡ fields.old ++ (u32_bytes cred.uid ++ (u32_bytes cred.gid ++ u32_bytes cred.pid)) }
+    ensures len { length fields.new ≡ length fields.old + 12 }
+{
+    fields.put_u32(cred.uid);
+    fields.put_u32(cred.gid);
+    fields.put_u32(cred.pid);
+}
+
+/// Puts what is set at the end.
+#[tactic(auto, using(std::proofs::Common::append_assoc))]
+fn put_set(fields: &mut Fields, to: SetTo)
+    requires { length fields.old ≤ 4 }
+    ensures after { fields.new ≡ fields.old ++ (u32_bytes to.uid ++ (u32_bytes to.gid ++ (u32_bytes to.mode ++ u32_bytes to.qbytes))) }
+    ensures len { length fields.new ≡ length fields.old + 16 }
+{
+    fields.put_u32(to.uid);
+    fields.put_u32(to.gid);
+    fields.put_u32(to.mode);
+    fields.put_u32(to.qbytes);
+}

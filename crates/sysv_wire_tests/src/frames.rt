@@ -1,0 +1,213 @@
+//! Frames whose bytes are worked by hand.
+use crate::ends::{Page, Pieces, open_body};
+use bitflags::Flags as Set;
+use std::alloc::Global;
+use std::process::Abort;
+use sysv_model::attributes::{Perm, Row, SetTo, Stat};
+use sysv_model::cred::Cred;
+use sysv_model::errno::Errno;
+use sysv_model::flags::Flags;
+use sysv_model::limits::MESSAGE_BYTES;
+use sysv_wire::replies::{read_reply, write_reply};
+use sysv_wire::reply::{Outcome, Reply};
+use sysv_wire::request::{Ask, Request};
+use sysv_wire::requests::{read_request, write_request};
+
+/// A hello, a get, a send of `hi` and two receives.
+pub(crate) const SESSION: &[u8] = &[
+    0x00, 0x00, 0x00, 0x0e, 0x01, 0x00, 0x00, 0x00, 0x03, 0xe8, 0x00, 0x00, 0x03, 0xe8, 0x00, 0x00,
+    0x00, 0x65, 0x00, 0x00, 0x00, 0x0a, 0x01, 0x01, 0x00, 0x00, 0x00, 0x07, 0x00, 0x00, 0x03, 0x80,
+    0x00, 0x00, 0x00, 0x14, 0x01, 0x02, 0x00, 0x00, 0x00, 0x00, 0x00, 0x00, 0x00, 0x00, 0x00, 0x00,
+    0x00, 0x05, 0x00, 0x00, 0x00, 0x00, 0x68, 0x69, 0x00, 0x00, 0x00, 0x16, 0x01, 0x03, 0x00, 0x00,
+    0x00, 0x00, 0x00, 0x00, 0x00, 0x64, 0xff, 0xff, 0xff, 0xff, 0xff, 0xff, 0xff, 0xfb, 0x00, 0x00,
+    0x08, 0x00, 0x00, 0x00, 0x00, 0x16, 0x01, 0x03, 0x00, 0x00, 0x00, 0x00, 0x00, 0x00, 0x00, 0x64,
+    0xff, 0xff, 0xff, 0xff, 0xff, 0xff, 0xff, 0xfb, 0x00, 0x00, 0x08, 0x00,
+];
+
+/// The replies to them.
+pub(crate) const ANSWERS: &[u8] = &[
+    0x00, 0x00, 0x00, 0x03, 0x01, 0x00, 0x00, 0x00, 0x00, 0x00, 0x07, 0x01, 0x01, 0x00, 0x00, 0x00,
+    0x00, 0x00, 0x00, 0x00, 0x00, 0x03, 0x01, 0x02, 0x00, 0x00, 0x00, 0x00, 0x0d, 0x01, 0x03, 0x00,
+    0x00, 0x00, 0x00, 0x00, 0x00, 0x00, 0x00, 0x05, 0x68, 0x69, 0x00, 0x00, 0x00, 0x03, 0x01, 0x03,
+    0x2a,
+];
+
+/// Requests with numbers at the ends of their ranges.
+pub(crate) const OTHERS: &[u8] = &[
+    0x00, 0x00, 0x00, 0x0a, 0x01, 0x01, 0x80, 0x00, 0x00, 0x00, 0xff, 0xff, 0xff, 0xff, 0x00, 0x00,
+    0x00, 0x12, 0x01, 0x02, 0xff, 0xff, 0xff, 0xff, 0x80, 0x00, 0x00, 0x00, 0x00, 0x00, 0x00, 0x00,
+    0x00, 0x00, 0x20, 0x00, 0x00, 0x00, 0x00, 0x06, 0x01, 0x04, 0x00, 0x00, 0x00, 0x40, 0x00, 0x00,
+    0x00, 0x16, 0x01, 0x05, 0x00, 0x00, 0x00, 0x00, 0x00, 0x00, 0x03, 0xe8, 0x00, 0x00, 0x03, 0xe9,
+    0xff, 0xff, 0xff, 0xff, 0x00, 0x00, 0x20, 0x00, 0x00, 0x00, 0x00, 0x06, 0x01, 0x06, 0x7f, 0xff,
+    0xff, 0xff, 0x00, 0x00, 0x00, 0x06, 0x01, 0x07, 0x00, 0x00, 0x00, 0x03,
+];
+
+/// Attributes, rows and what has no fields.
+pub(crate) const TOLD: &[u8] = &[
+    0x00, 0x00, 0x00, 0x45, 0x01, 0x04, 0x00, 0x00, 0x00, 0x00, 0x07, 0x00, 0x00, 0x03, 0xe8, 0x00,
+    0x00, 0x03, 0xe9, 0x00, 0x00, 0x03, 0xea, 0x00, 0x00, 0x03, 0xeb, 0x01, 0x80, 0x00, 0x00, 0x00,
+    0x03, 0x00, 0x00, 0x00, 0x01, 0x00, 0x00, 0x40, 0x00, 0x00, 0x00, 0x00, 0x65, 0x00, 0x00, 0x00,
+    0x66, 0x00, 0x00, 0x00, 0x00, 0x00, 0x00, 0x00, 0x01, 0x00, 0x00, 0x00, 0x00, 0x00, 0x00, 0x00,
+    0x02, 0x00, 0x00, 0x00, 0x01, 0x00, 0x00, 0x00, 0x03, 0x00, 0x00, 0x00, 0x1a, 0x01, 0x07, 0x00,
+    0x01, 0x00, 0x00, 0x00, 0x40, 0x00, 0x00, 0x00, 0x07, 0x00, 0x00, 0x03, 0xe8, 0x01, 0xff, 0x00,
+    0x00, 0x00, 0x03, 0x00, 0x00, 0x00, 0x01, 0x00, 0x00, 0x00, 0x04, 0x01, 0x07, 0x00, 0x00, 0x00,
+    0x00, 0x00, 0x03, 0x01, 0x05, 0x00, 0x00, 0x00, 0x00, 0x03, 0x01, 0x06, 0x00, 0x00, 0x00, 0x00,
+    0x03, 0x01, 0x07, 0x0b,
+];
+
+/// Reads the requests one by one in pieces of a size, and writes each again.
+fn reads_and_writes(rt: &impl Abort, alloc: Global, bytes: &[u8], asks: &[Ask], piece: usize) {
+    let mut text = open_body(rt, alloc);
+    let mut reader = Pieces::new(bytes, piece);
+    let mut writer = Page::new(piece, 512, false);
+    for ask in asks {
+        let request = Request { ask: *ask };
+        assert_eq!(rt; read_request(&mut reader, &mut text), Ok(Some(request)));
+        assert_eq!(rt; write_request(&mut writer, &request, &text), Ok(()));
+    }
+    assert_eq!(rt; read_request(&mut reader, &mut text), Ok(None));
+    assert!(rt; writer.written() == bytes);
+}
+
+/// Reads the replies one by one in pieces of a size, and writes each again.
+fn reads_and_writes_replies(
+    rt: &impl Abort,
+    alloc: Global,
+    bytes: &[u8],
+    replies: &[Reply],
+    piece: usize,
+) {
+    let mut text = open_body(rt, alloc);
+    let mut reader = Pieces::new(bytes, piece);
+    let mut writer = Page::new(piece, 512, false);
+    for reply in replies {
+        match read_reply(&mut reader, &mut text) {
+            Ok(Some(read)) => {
+                assert_eq!(rt; read, *reply);
+                assert!(rt; text.len() <= MESSAGE_BYTES);
+                assert_eq!(rt; write_reply(&mut writer, &read, &text), Ok(()));
+            }
+            other => assert_eq!(rt; other, Ok(Some(*reply))),
+        }
+    }
+    assert_eq!(rt; read_reply(&mut reader, &mut text), Ok(None));
+    assert!(rt; writer.written() == bytes);
+}
+
+#[test]
+fn a_session(rt: HostRuntime) {
+    let receive = Ask::Rcv {
+        id: 0,
+        size: 100,
+        mtype: -5,
+        flags: Flags::IPC_NOWAIT,
+    };
+    let asks = [
+        Ask::Hello(Cred {
+            uid: 1000,
+            gid: 1000,
+            pid: 101,
+        }),
+        Ask::Get {
+            key: 7,
+            flags: Flags::from_bits_retain(0o1600),
+        },
+        Ask::Snd {
+            id: 0,
+            mtype: 5,
+            flags: Flags::from_bits_retain(0),
+        },
+        receive,
+        receive,
+    ];
+    let replies = [
+        (0, Outcome::Hello),
+        (1, Outcome::Get { id: 0 }),
+        (2, Outcome::Snd),
+        (3, Outcome::Rcv { mtype: 5 }),
+        (3, Outcome::Refused(Errno::ENOMSG)),
+    ]
+    .map(|(op, outcome)| Reply {
+        op,
+        result: outcome,
+    });
+    for piece in [1, 2, 3, 5, 200] {
+        reads_and_writes(&rt, rt.alloc(), SESSION, &asks, piece);
+        reads_and_writes_replies(&rt, rt.alloc(), ANSWERS, &replies, piece);
+    }
+}
+
+#[test]
+fn ends_of_ranges(rt: HostRuntime) {
+    let asks = [
+        Ask::Get {
+            key: i32::MIN,
+            flags: Flags::from_bits_retain(u32::MAX),
+        },
+        Ask::Snd {
+            id: -1,
+            mtype: i64::MIN,
+            flags: Flags::MSG_EXCEPT,
+        },
+        Ask::Stat { id: 64 },
+        Ask::Set {
+            id: 0,
+            to: SetTo {
+                uid: 1000,
+                gid: 1001,
+                mode: u32::MAX,
+                qbytes: 8192,
+            },
+        },
+        Ask::Rm { id: i32::MAX },
+        Ask::Row { slot: 3 },
+    ];
+    for piece in [1, 7, 200] {
+        reads_and_writes(&rt, rt.alloc(), OTHERS, &asks, piece);
+    }
+}
+
+#[test]
+fn attributes_and_rows(rt: HostRuntime) {
+    let stat = Stat {
+        key: 7,
+        perm: Perm {
+            uid: 1000,
+            gid: 1001,
+            cuid: 1002,
+            cgid: 1003,
+            mode: 0o600,
+        },
+        cbytes: 3,
+        qnum: 1,
+        qbytes: 16384,
+        lspid: 101,
+        lrpid: 102,
+        stime: 1,
+        rtime: 2,
+        ctime: 4_294_967_299,
+    };
+    let row = Row {
+        id: 64,
+        key: 7,
+        uid: 1000,
+        mode: 0o777,
+        cbytes: 3,
+        qnum: 1,
+    };
+    let replies = [
+        (4, Outcome::Stat(stat)),
+        (7, Outcome::Row(Some(row))),
+        (7, Outcome::Row(None)),
+        (5, Outcome::Set),
+        (6, Outcome::Rm),
+        (7, Outcome::Refused(Errno::EAGAIN)),
+    ]
+    .map(|(op, outcome)| Reply {
+        op,
+        result: outcome,
+    });
+    for piece in [1, 7, 200] {
+        reads_and_writes_replies(&rt, rt.alloc(), TOLD, &replies, piece);
+    }
+}

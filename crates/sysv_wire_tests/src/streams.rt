@@ -1,0 +1,99 @@
+//! Readers and writers that fail within a frame, and the longest texts.
+use crate::ends::{Page, Pieces, open_body};
+use crate::frames::{ANSWERS, SESSION};
+use bitflags::Flags as Set;
+use sysv_model::flags::Flags;
+use sysv_wire::fault::{Fault, WriteFault};
+use sysv_wire::replies::{read_reply, write_reply};
+use sysv_wire::reply::{Outcome, Reply};
+use sysv_wire::request::{Ask, Request};
+use sysv_wire::requests::{read_request, write_request};
+
+#[test]
+fn the_reader_fails(rt: HostRuntime) {
+    let mut text = open_body(&rt, rt.alloc());
+    for good in 0..SESSION.len() {
+        let mut reader = Pieces::new(SESSION, 5);
+        reader.good = good;
+        let mut answer = Ok(None);
+        for _ in 0..5 {
+            answer = read_request(&mut reader, &mut text);
+            if answer.is_err() {
+                break;
+            }
+        }
+        assert_eq!(rt; answer, Err(Fault::Read), "{good}");
+    }
+    for good in 0..ANSWERS.len() {
+        let mut reader = Pieces::new(ANSWERS, 5);
+        reader.good = good;
+        let mut answer = Ok(None);
+        for _ in 0..5 {
+            answer = read_reply(&mut reader, &mut text);
+            if answer.is_err() {
+                break;
+            }
+        }
+        assert_eq!(rt; answer, Err(Fault::Read), "{good}");
+    }
+}
+
+#[test]
+fn the_writer_fails(rt: HostRuntime) {
+    let mut text = open_body(&rt, rt.alloc());
+    assert!(rt; text.push_piece(b"hi"));
+    let request = Request {
+        ask: Ask::Snd {
+            id: 0,
+            mtype: 5,
+            flags: Flags::from_bits_retain(0),
+        },
+    };
+    let spelling = &SESSION[32..56];
+    for room in 0..24 {
+        for stalls in [false, true] {
+            for piece in [1, 512] {
+                let mut writer = Page::new(piece, room, stalls);
+                let end = write_request(&mut writer, &request, &text);
+                assert_eq!(rt; end, Err(WriteFault), "{room}");
+                assert_eq!(rt; writer.written().len(), room);
+                assert!(rt; spelling.starts_with(writer.written()), "{room}");
+            }
+        }
+    }
+    let reply = Reply {
+        op: 3,
+        result: Outcome::Rcv { mtype: 5 },
+    };
+    assert!(rt; text.len() <= 8192);
+    let spelling = &ANSWERS[25..42];
+    for room in 0..17 {
+        let mut writer = Page::new(3, room, false);
+        let end = write_reply(&mut writer, &reply, &text);
+        assert_eq!(rt; end, Err(WriteFault), "{room}");
+        assert_eq!(rt; writer.written().len(), room);
+        assert!(rt; spelling.starts_with(writer.written()), "{room}");
+    }
+}
+
+#[test]
+fn the_longest_text(rt: HostRuntime) {
+    let mut frame = [b'x'; 8278];
+    let head = [
+        0, 0, 0x20, 0x52, 1, 2, 0, 0, 0, 0, 0, 0, 0, 0, 0, 0, 0, 9, 0, 0, 0, 0,
+    ];
+    frame[..22].copy_from_slice(&head);
+    let mut text = open_body(&rt, rt.alloc());
+    for piece in [1, 63, 64, 65, 9000] {
+        let mut reader = Pieces::new(&frame, piece);
+        let ask = Ask::Snd {
+            id: 0,
+            mtype: 9,
+            flags: Flags::from_bits_retain(0),
+        };
+        let request = Request { ask };
+        assert_eq!(rt; read_request(&mut reader, &mut text), Ok(Some(request)));
+        assert_eq!(rt; text.len(), 8256);
+        assert_eq!(rt; read_request(&mut reader, &mut text), Ok(None));
+    }
+}
