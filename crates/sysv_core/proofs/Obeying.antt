@@ -1,6 +1,6 @@
 -- Every list of happenings leads only to worlds that obey the laws.
-use Rattle.std.proofs.Common.{◌≡◌, ◌≢◌, ℕ, zero, suc, ◌+◌, ◌<◌, ◌≤◌, ◌==◌, ◌⊎◌, inl, inr, Bool, true, false, cond, List, [], ◌∷◌, ◌++◌, Option, None, Some, refl, sym, ap, subst, ◌∙◌, arith, slice_get, slice_set, replicate, append_assoc, length, pos, map}
-use Rattle.std.specs.List.{All, AllPairs, Contains, filter, flat_map}
+use Rattle.std.proofs.Common.{◌≡◌, ◌≢◌, ℕ, zero, suc, ◌+◌, ◌<◌, ◌⊎◌, inl, inr, Bool, true, false, cond, List, [], ◌∷◌, ◌++◌, Option, None, Some, refl, sym, ap, subst, ◌∙◌, arith, slice_get, slice_set, replicate, append_assoc, pos, map}
+use Rattle.std.specs.List.{All, AllPairs, Contains, filter}
 use Rattle.std.proofs.Math.ListN.{get_or}
 use Rattle.std.proofs.lemmas.Grind.{flat_map-append}
 use Rattle.std.proofs.lemmas.List.{append-nil}
@@ -9,20 +9,17 @@ use Rattle.std.proofs.Math.Dec.{eqb}
 use Rattle.std.proofs.lemmas.List.Elements.{All-weaker, All-push, All-contains_itself, All-contains, Contains-get_or, Contains-append_left, Contains-push, Contains-push_cases}
 use Rattle.std.proofs.lemmas.List.Quantifiers.{all_pairs_push}
 use Rattle.sysv_model.specs.declared.cred.Cred.{Cred}
-use Rattle.sysv_model.specs.History.{Who, Actor, Seat, Call, Reply, Entry, History, Installed}
-use Rattle.sysv_model.specs.Live.{live}
-use Rattle.sysv_model.specs.Turn.{Deed, AtSlot, AtRegistry, AtPool, asked_by, Turn, slot_entry, slot_history, is_same, deeds_of}
+use Rattle.sysv_model.specs.History.{Who, Actor, Call, Reply, Entry, History, Installed}
+use Rattle.sysv_model.specs.Turn.{Deed, AtSlot, AtRegistry, AtPool, Turn, slot_entry, slot_history, is_same, deeds_of}
 use Rattle.sysv_queue.specs.LegalReply.{IsLegalReply, IsLegalHistory}
 use Rattle.sysv_queue.specs.QueueLaw.{QueueLaw}
 use Rattle.sysv_steps.specs.Call.{SystemCall}
 use Rattle.sysv_steps.specs.SlotAt.{slot_at}
 use Rattle.sysv_steps.specs.State.{Phase, Wait, Ending, State, Goes, Waits, Over}
-use Rattle.sysv_steps.specs.Asks.{asks}
-use Rattle.sysv_steps.specs.Next.{next}
-use Rattle.sysv_steps.specs.Resume.{goal_of, awaited, resume}
+use Rattle.sysv_steps.specs.Resume.{awaited, resume}
 use Rattle.sysv_steps.specs.Played.{Plays, begins, steps, resumes}
 use Rattle.sysv_steps.specs.Answers.{IsRightAnswer, EachAnswerIsRight}
-use Rattle.sysv_core.specs.World.{World, Opening, Started, Doing, Given, Happening, Preset, Start, Step, opening, doing_in, given_in, in_state, with_call, with_turn, StaysWith, starting, begun, Begins, IsLegal, Turns, value_of, Looks, Continues, StartsAt, StepsAt, preset_call, Presets, Makes}
+use Rattle.sysv_core.specs.World.{World, Opening, Started, Doing, Given, Happening, Preset, Start, Step, opening, doing_in, given_in, StaysWith, starting, begun, IsLegal, Turns, value_of, Looks, Continues, StartsAt, StepsAt, preset_call, Presets, Makes}
 use Rattle.sysv_core.specs.Run.{Leads}
 use Rattle.sysv_core.specs.AnswerLaw.{endings_of, stands_in, standing_of, ended, standing, Fate, IsMade}
 use Rattle.sysv_core.specs.Headline.{Obeys}
@@ -43,7 +40,7 @@ IsBefore n call = (place : ℕ) × (start : ℕ) × (call.who ≡ Actor (suc pla
 
 -- the actor at that place is in a call that it started
 abbrev IsOwn : List Started → ℕ → Doing → Type 0
-IsOwn calls place d = Contains calls d.call × ((start : ℕ) × (d.call.who ≡ Actor (suc place) start)) 
+IsOwn calls place d = Contains calls d.call × ((start : ℕ) × (d.call.who ≡ Actor (suc place) start))
 
 abbrev AreOwn : List Started → List (Option Doing) → Type 0
 AreOwn calls actors = (place : ℕ) (d : Doing) → slice_get actors place ≡ Some (Some d) → IsOwn calls place d
@@ -133,6 +130,7 @@ module _ (w : World) (given : List Given) (turns : List Turn) (calls : List Star
     where
       some_is : (x y : Option Doing) → Some x ≡ Some y → x ≡ y
       some_is x y e = cc
+
       call_of : (c : Started) (s : State) (d : Doing) → doing_in c s ≡ Some d → d.call ≡ c
       call_of c (Goes phase) d e = cc
       call_of c (Waits wait) d e = cc
@@ -324,10 +322,10 @@ module _ (l : Legality) where
       let own = own_deed call.who w.turns turn (same_itself call.who) in
       subst (λ gs. Inv after (given ++ gs)) (sym t.5) (subst (λ v. Inv v (given ++ given_in call state)) (sym t.6)
       (goes_on w given i place d there (w.turns ++ turn ∷ []) state
-        (still_legal l w.turns call.who deed i.legal t.3)
-        (λ other apart. other_deed other w.turns turn apart)
-        (record { plays = subst (λ ds. Plays (begun call) ds state) (sym own) (steps deed now state here.plays t.2 t.4); quiet = here.quiet })
-        (All-push (IsMade w.calls) w.turns turn i.made (inr (call, has_it w given i place d there, refl)))))
+      (still_legal l w.turns call.who deed i.legal t.3)
+      (λ other apart. other_deed other w.turns turn apart)
+      (record { plays = subst (λ ds. Plays (begun call) ds state) (sym own) (steps deed now state here.plays t.2 t.4); quiet = here.quiet })
+      (All-push (IsMade w.calls) w.turns turn i.made (inr (call, has_it w given i place d there, refl)))))
 
   looks_keep : (w after : World) (given one : List Given) (place : ℕ) (call : Started) (wait : Wait) → Inv w given → slice_get w.actors place ≡ Some (Some record { call = call; state = Waits wait }) →
       Looks w (suc place) call wait one after → Inv after (given ++ one)
@@ -338,8 +336,8 @@ module _ (l : Legality) where
       let here = stands_there w given i place d there in
       subst (λ gs. Inv after (given ++ gs)) (sym t.1) (subst (λ v. Inv v (given ++ given_in call state)) (sym t.2)
       (goes_on w given i place d there w.turns state i.legal (λ other apart. refl)
-        (record { plays = resumes value here.plays t.0; quiet = here.quiet })
-        i.made))
+      (record { plays = resumes value here.plays t.0; quiet = here.quiet })
+      i.made))
   looks_keep w after given one place call wait i there (inr t) = stays w after given one t.1 i
 
   continues_keep : (w after : World) (given one : List Given) (place now : ℕ) (call : Started) (state : State) → Inv w given → slice_get w.actors place ≡ Some (Some record { call = call; state = state }) →

@@ -1,22 +1,21 @@
 -- Each event, preset and list leads to one world at most.
-use Rattle.std.proofs.Common.{◌≡◌, ℕ, ◌<◌, ◌≤◌, inl, inr, Bool, List, [], ◌∷◌, ◌++◌, Option, None, Some, refl, sym, ap, subst, ◌∙◌, arith}
+use Rattle.std.proofs.Common.{◌≡◌, ℕ, inl, inr, Bool, List, [], ◌∷◌, ◌++◌, Option, None, Some, refl, sym, ap, subst, ◌∙◌, arith}
 use Rattle.sysv_model.specs.declared.cred.Cred.{Cred}
 use Rattle.sysv_model.specs.History.{Call, Reply}
-use Rattle.sysv_model.specs.Turn.{Deed, AtSlot, AtRegistry, AtPool, Ask, asked_by, slot_history}
+use Rattle.sysv_model.specs.Turn.{Deed, AtSlot, AtRegistry, AtPool, asked_by, slot_history}
 use Rattle.sysv_queue.specs.LegalReply.{IsLegalReply}
 use Rattle.sysv_queue.specs.OneReply.{NoTwoRepliesAreLegal}
 use Rattle.sysv_steps.specs.Call.{SystemCall}
 use Rattle.sysv_steps.specs.State.{Phase, Wait, Ending, Id, Zero, Got, Told, Refused, State, Goes, Waits, Over}
 use Rattle.sysv_steps.specs.Next.{next}
 use Rattle.sysv_core.specs.declared.event.Answer.{Answer}
-use Rattle.sysv_core.specs.declared.event.Event.{Event}
 use Rattle.sysv_core.specs.declared.event.Outcome.{Outcome}
 use Rattle.sysv_core.specs.declared.event.Stepped.{Stepped}
 use Rattle.sysv_core.specs.declared.event.Stepped.TheVariants as stepped
-use Rattle.sysv_core.specs.World.{World, Started, Doing, Given, Happening, Preset, Start, Step, actor_at, given_in, in_state, with_turn, starting, IsLegal, Turns, Looks, Continues, StartsAt, StepsAt, Presets, Makes}
+use Rattle.sysv_core.specs.World.{World, Started, Doing, Given, Happening, Preset, Start, Step, actor_at, given_in, in_state, with_turn, IsLegal, Turns, Looks, Continues, StartsAt, StepsAt, Presets, Makes}
 use Rattle.sysv_core.specs.Run.{Leads}
 use Rattle.sysv_core.specs.Answered.{receives, TellsEnding}
-use Rattle.sysv_core.specs.Seen.{IsToCaller, Tells, Gives, Steps, happening_of}
+use Rattle.sysv_core.specs.Seen.{IsToCaller, Tells, Gives, happening_of}
 use Rattle.sysv_model.specs.History.{Who, Actor, Seat}
 use Rattle.sysv_core.specs.OneRun.{OneStep, OnePreset, OneRun}
 

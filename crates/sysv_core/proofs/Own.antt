@@ -6,9 +6,9 @@ use Rattle.std.proofs.lemmas.List.Elements.{filter-append}
 use Rattle.std.proofs.lemmas.Bool.{eqb-true}
 use Rattle.std.proofs.lemmas.Bool.Decides.{nat_tests}
 use Rattle.sysv_model.specs.History.{Who, Actor, Seat}
-use Rattle.sysv_model.specs.Turn.{Deed, Turn, is_same, deeds_of}
-use Rattle.sysv_steps.specs.State.{Ending, State, Goes, Waits, Over}
-use Rattle.sysv_core.specs.World.{Started, Doing, Given, actor_at, doing_in, given_in}
+use Rattle.sysv_model.specs.Turn.{Turn, is_same, deeds_of}
+use Rattle.sysv_steps.specs.State.{State, Goes, Waits, Over}
+use Rattle.sysv_core.specs.World.{Started, Doing, Given, doing_in, given_in}
 use Rattle.sysv_core.specs.AnswerLaw.{endings_of, stands_in, standing_of, ended, standing}
 use Rattle.sysv_core.proofs.Lists.{get_set_same, get_set_other, same_place}
 

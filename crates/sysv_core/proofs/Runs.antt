@@ -1,5 +1,5 @@
 -- A list that leads somewhere goes on by one more happening.
-use Rattle.std.proofs.Common.{◌≡◌, ℕ, ◌≤◌, ◌<◌, ◌⊎◌, inl, inr, Bool, List, [], ◌∷◌, ◌++◌, Option, None, Some, refl, sym, ap, subst, ◌∙◌, append_assoc, map}
+use Rattle.std.proofs.Common.{◌≡◌, ◌≤◌, ◌⊎◌, inl, inr, Bool, List, [], ◌∷◌, ◌++◌, Option, None, Some, refl, sym, ap, subst, ◌∙◌, append_assoc, map}
 use Rattle.std.proofs.lemmas.List.{append-nil, map-append}
 use Rattle.sysv_model.specs.declared.limits.TheConstants.{WORN}
 use Rattle.sysv_core.specs.declared.event.Event.{Event}
@@ -10,7 +10,7 @@ use Rattle.sysv_core.specs.declared.event.Stepped.TheVariants as stepped
 use Rattle.sysv_steps.specs.State.{State, Goes, Waits, Over}
 use Rattle.sysv_core.specs.World.{World, Opening, Started, Doing, Given, Happening, Preset, Start as Begun, Step as Stepping, opening, actor_at, StartsAt, StepsAt, Continues, Makes}
 use Rattle.sysv_core.specs.Run.{Leads}
-use Rattle.sysv_core.specs.Seen.{Seen, IsSeenAs, StandsFor, happening_of, Tells, TellAll, Gives, PresetsSeen, StepsSeen, IsOpenedWith}
+use Rattle.sysv_core.specs.Seen.{Seen, StandsFor, happening_of, Tells, TellAll, Gives, PresetsSeen, StepsSeen, IsOpenedWith}
 use Rattle.sysv_core.specs.Headline.{StandsWithEvent, RunsOn, LawsHold, EveryRunObeys}
 
 pub leads_more : (w : World) (xs : List Happening) (x : Happening) (given more : List Given) (mid after : World) →
@@ -131,6 +131,7 @@ makes_blocks w after (Stepping actor now) given (inr young) = steps_blocks (acto
     continues_blocks call (Waits wait) (inl s) = ap (λ (v : World). v.blocks) s.2
     continues_blocks call (Waits wait) (inr s) = ap (λ (v : World). v.blocks) s.1.1
     continues_blocks call (Over ending) s = ap (λ (v : World). v.blocks) s.1
+
     steps_blocks : (o : Option (Option Doing)) → StepsAt w actor now o given after → after.blocks ≡ w.blocks
     steps_blocks None s = ap (λ (v : World). v.blocks) s.1
     steps_blocks (Some None) s = ap (λ (v : World). v.blocks) s.1

@@ -1,5 +1,5 @@
 -- One happening in a world of the definitions, told from what the world of the code is seen as.
-use Rattle.std.proofs.Common.{◌≡◌, ℕ, zero, suc, pos, ◌+◌, ◌-◌, ◌<◌, ◌⊎◌, inl, inr, Bool, true, false, cond, List, [], ◌∷◌, ◌++◌, Option, None, Some, IsSome, refl, sym, ap, subst, ◌∙◌, arith, length, map, slice_get, slice_set, option_map}
+use Rattle.std.proofs.Common.{◌≡◌, ℕ, zero, suc, pos, ◌+◌, ◌<◌, ◌⊎◌, inl, inr, Bool, true, false, cond, List, [], ◌∷◌, ◌++◌, Option, None, Some, IsSome, refl, sym, ap, subst, ◌∙◌, arith, length, map, slice_get, slice_set, option_map}
 use Rattle.std.proofs.lemmas.Grind.{flat_map-append}
 use Rattle.std.proofs.lemmas.List.{append-nil, length-map}
 use Rattle.std.proofs.lemmas.Option.{slice_get-map, slice_get_past}
@@ -8,7 +8,7 @@ use Rattle.sysv_model.specs.declared.errno.Errno.TheVariants.{EINVAL}
 use Rattle.sysv_model.specs.declared.limits.TheConstants.{WORN}
 use Rattle.sysv_model.specs.History.{Who, Actor, Call, Reply, Installed, Gone, Denied, Full, Fits, Accepted, NoMatch, TooLong, Taken}
 use Rattle.sysv_model.specs.Pool.{released}
-use Rattle.sysv_model.specs.Turn.{Deed, AtSlot, AtRegistry, AtPool, OfSlot, asked_by, Turn, slot_entry, pool_entry, slot_history, pool_history}
+use Rattle.sysv_model.specs.Turn.{Deed, AtSlot, AtRegistry, AtPool, Turn, slot_entry, pool_entry, slot_history, pool_history}
 use Rattle.sysv_queue.specs.Slot.{Slot}
 use Rattle.sysv_queue.specs.LegalReply.{Legal}
 use Rattle.sysv_queue.specs.StandsFor.{MakesTurn, StandsFor as SlotStandsFor}
@@ -16,19 +16,15 @@ use Rattle.sysv_steps.specs.Call.{SystemCall, Msgsnd, Msgrcv}
 use Rattle.sysv_steps.specs.SlotAt.{slot_at}
 use Rattle.sysv_steps.specs.State.{Phase, AtLook, AtPlace, AtTake, Ending, Id, Zero, Got, Told, Refused, State, Goes, Waits, Over}
 use Rattle.sysv_steps.specs.Begin.{is_refused, first, begin}
-use Rattle.sysv_steps.specs.Asks.{asks}
 use Rattle.sysv_steps.specs.Next.{next}
-use Rattle.sysv_steps.specs.Seen.{phase_of}
-use Rattle.sysv_core.specs.declared.doing.Doing.{Doing as Kept}
 use Rattle.sysv_core.specs.declared.doing.Led.{Led}
 use Rattle.sysv_core.specs.declared.doing.Led.TheVariants as led
 use Rattle.sysv_core.specs.declared.event.Call.{Call as Coded}
 use Rattle.sysv_core.specs.declared.event.Call.TheVariants as coded
 use Rattle.sysv_core.specs.declared.event.Event.TheVariants.{Start, Step}
-use Rattle.sysv_core.specs.declared.event.Stepped.{Stepped}
 use Rattle.sysv_core.specs.declared.event.Stepped.TheVariants as stepped
-use Rattle.sysv_core.specs.World.{World, Started, Doing, Given, actor_at, with_actor, doing_in, given_in, in_state, with_call, with_turn, starting, begun, IsLegal, Continues, StartsAt, StepsAt, Presets, preset_call}
-use Rattle.sysv_core.specs.Answered.{receives, TellsEnding}
+use Rattle.sysv_core.specs.World.{World, Started, Doing, Given, actor_at, doing_in, given_in, in_state, with_call, with_turn, starting, begun, IsLegal, Continues, StartsAt, StepsAt, Presets, preset_call}
+use Rattle.sysv_core.specs.Answered.{receives}
 use Rattle.sysv_core.specs.Asked.{asked_of}
 use Rattle.sysv_core.specs.Kept.{kept_led, told_by}
 use Rattle.sysv_core.specs.Led.{LeadsTo, is_receiving, TurnLeads}
@@ -301,8 +297,7 @@ taken_not_vacant (Some x) taken vacant = cc
 pub presets : (w : World) (seen : Seen) → IsSeenAs w seen → (slot : Slot) (made : Bool) → MakesTurn seen.slot preset_call (Installed made) slot → (made ≡ false → slot ≡ seen.slot) →
     (after : World) × Presets w made after × IsSeenAs after (record seen { slot = slot })
 presets w seen s slot true turn same =
-    let who : Who = Actor 0 0 in
-    (
+    let who : Who = Actor 0 0 in (
       with_turn w who (AtSlot (slot_at (pos 0)) preset_call (Installed true)),
       inl (ap (λ (x : Slot). x.live) s.slot.seen ∙ turn.legal, refl, refl),
       record { slot = more_slot w seen s who preset_call (Installed true) slot turn; states = s.states; there = s.there; no_pool = no_pool_still w seen s who (slot_at (pos 0)) preset_call (Installed true); steps = s.steps; blocks = s.blocks },

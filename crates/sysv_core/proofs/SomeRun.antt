@@ -1,12 +1,12 @@
 -- Each event, preset and list leads somewhere.
-use Rattle.std.proofs.Common.{◌≡◌, ℕ, zero, suc, ◌+◌, ◌<◌, ◌≤◌, ◌⊎◌, inl, inr, pos, Bool, true, false, List, [], ◌∷◌, ◌++◌, Option, None, Some, length, refl, sym, ap, subst, ◌∙◌, arith, slice_get, slice_set}
+use Rattle.std.proofs.Common.{◌≡◌, ℕ, zero, suc, ◌<◌, ◌≤◌, ◌⊎◌, inl, inr, pos, Bool, true, false, List, [], ◌∷◌, ◌++◌, Option, None, Some, length, refl, sym, subst, ◌∙◌, arith, slice_get}
 use Rattle.sysv_model.specs.declared.cred.Cred.{Cred}
 use Rattle.sysv_model.specs.declared.attributes.Attributes.{Attributes}
 use Rattle.sysv_model.specs.declared.limits.TheConstants.{WORN}
 use Rattle.sysv_model.specs.History.{Actor, History, Call, Look, Place, Take, Reply, Gone, Denied, Full, Fits, Accepted, NoMatch, TooLong, Taken, Installed}
 use Rattle.sysv_model.specs.Live.{live}
 use Rattle.sysv_model.specs.Pool.{released}
-use Rattle.sysv_model.specs.Turn.{Deed, AtSlot, Turn, asked_by, slot_history, pool_history}
+use Rattle.sysv_model.specs.Turn.{Deed, AtSlot, asked_by, slot_history, pool_history}
 use Rattle.sysv_queue.specs.LegalReply.{IsLegalReply}
 use Rattle.sysv_queue.specs.OneReply.{SomeReplyIsLegal}
 use Rattle.sysv_steps.specs.Call.{SystemCall, Msgget, Msgsnd, Msgrcv, MsgctlStat, MsgctlSet, MsgctlRmid}
@@ -15,18 +15,17 @@ use Rattle.sysv_steps.specs.State.{Sending, Receiving, Wait, Phase, AtLook, AtPl
 use Rattle.sysv_steps.specs.Begin.{is_refused}
 use Rattle.sysv_steps.specs.Asks.{asks}
 use Rattle.sysv_steps.specs.Next.{next}
-use Rattle.sysv_core.specs.declared.event.Answer.{Answer}
 use Rattle.sysv_core.specs.declared.event.Event.{Event}
 use Rattle.sysv_core.specs.declared.event.Event.TheVariants as event
 use Rattle.sysv_core.specs.declared.event.Outcome.{Outcome}
 use Rattle.sysv_core.specs.declared.event.Outcome.TheVariants as outcome
 use Rattle.sysv_core.specs.declared.event.Stepped.{Stepped}
 use Rattle.sysv_core.specs.declared.event.Stepped.TheVariants as stepped
-use Rattle.sysv_core.specs.World.{World, Opening, Started, Doing, Given, Happening, Preset, Start, Step, opening, actor_at, doing_in, given_in, in_state, with_call, with_turn, starting, begun, StaysWith, IsLegal, Turns, Continues, StartsAt, StepsAt, preset_call, Presets, Makes}
+use Rattle.sysv_core.specs.World.{World, Started, Doing, Given, Happening, Preset, Start, Step, opening, actor_at, given_in, in_state, with_call, with_turn, starting, begun, IsLegal, Turns, StartsAt, StepsAt, preset_call, Presets, Makes}
 use Rattle.sysv_core.specs.Run.{Leads}
 use Rattle.sysv_core.specs.Answered.{receives, body_with, TellsEnding}
 use Rattle.sysv_core.specs.Asked.{asked_of}
-use Rattle.sysv_core.specs.Seen.{IsThere, IsCoded, IsToCaller, AreThere, Tells, Gives, Steps, happening_of}
+use Rattle.sysv_core.specs.Seen.{IsThere, IsCoded, IsToCaller, AreThere, Gives, happening_of}
 use Rattle.sysv_core.specs.SomeRun.{SomeStep, SomePreset, AreCoded, SomeRun}
 use Rattle.sysv_core.proofs.Obeying.{none_busy}
 use Rattle.sysv_core.proofs.SeenSteps.{CanTell, IsThereOrOver, begins_there, there_next, there_still, coded_is}

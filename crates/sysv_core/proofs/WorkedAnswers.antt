@@ -1,16 +1,16 @@
 -- What the answer law admits and refuses at the worked run's send.
-use Rattle.std.proofs.Common.{◌≡◌, ℕ, zero, suc, ◌<◌, inl, inr, pos, true, false, List, [], ◌∷◌, None, Some, refl, sym, ap, subst, ◌∙◌, arith}
+use Rattle.std.proofs.Common.{◌≡◌, ℕ, zero, suc, inl, inr, [], ◌∷◌, None, Some, refl, ap, subst, arith}
 use Rattle.std.specs.List.{Contains}
 use Rattle.sysv_model.specs.declared.errno.Errno.TheVariants.{EAGAIN}
-use Rattle.sysv_model.specs.History.{Who, Actor, Full}
-use Rattle.sysv_model.specs.Turn.{Deed, AtSlot, deeds_of}
-use Rattle.sysv_steps.specs.State.{Phase, AtPlace, Wait, Ending, Zero, Refused, State, Goes, Waits, Over}
+use Rattle.sysv_model.specs.History.{Actor}
+use Rattle.sysv_model.specs.Turn.{Deed, deeds_of}
+use Rattle.sysv_steps.specs.State.{Ending, Zero, Refused, State, Goes, Waits, Over}
 use Rattle.sysv_steps.specs.Played.{Plays, begins, steps}
 use Rattle.sysv_steps.specs.Answers.{EachAnswerIsRight}
-use Rattle.sysv_core.specs.World.{Started, Given, begun}
-use Rattle.sysv_core.specs.AnswerLaw.{Fate, IsMade, ended, standing}
-use Rattle.sysv_core.specs.WorkedRun.{send_hello, look_for, one_ends, the_calls, the_answers}
-use Rattle.sysv_core.specs.WorkedAnswers.{the_send, the_end, going_on, still_placing, look_fits, accepts, WorkedAnswers}
+use Rattle.sysv_core.specs.World.{Started, begun}
+use Rattle.sysv_core.specs.AnswerLaw.{IsMade, ended, standing}
+use Rattle.sysv_core.specs.WorkedRun.{the_calls}
+use Rattle.sysv_core.specs.WorkedAnswers.{the_send, the_end, still_placing, look_fits, accepts, WorkedAnswers}
 
 its_play : Plays (begun the_send) (look_fits ∷ accepts 0 ∷ []) (Over Zero)
 its_play = steps (accepts 0) 0 (Over Zero) (steps look_fits 0 still_placing begins refl refl) refl refl

@@ -1,7 +1,5 @@
 -- The worked run, one lemma for each of its happenings; the replies that are not legal at its turns.
-use Rattle.std.proofs.Common.{◌≡◌, ℕ, ℤ, pos, zero, suc, ◌+◌, ◌<◌, ◌≤◌, ◌||◌, inl, inr, Bool, true, false, List, [], ◌∷◌, ◌++◌, length, None, Some, refl, sym, ap, ◌∙◌, arith, slice_get, take, replicate, nat_lt}
-use Rattle.std.proofs.lemmas.Int.{ints}
-use Rattle.std.proofs.lemmas.Bool.Decides.{nat_tests}
+use Rattle.std.proofs.Common.{◌≡◌, ℕ, ℤ, pos, zero, suc, ◌+◌, ◌<◌, ◌≤◌, ◌||◌, inl, inr, true, false, List, [], ◌∷◌, ◌++◌, length, None, Some, refl, sym, ap, ◌∙◌, arith, slice_get, take, replicate, nat_lt}
 use Rattle.sysv_model.specs.declared.cred.Cred.{Cred}
 use Rattle.sysv_model.specs.declared.errno.Errno.TheVariants.{EINVAL, ENOMSG}
 use Rattle.sysv_model.specs.declared.selector.Selector.TheVariants.{Any}
@@ -12,8 +10,7 @@ use Rattle.sysv_model.specs.Turn.{AtSlot}
 use Rattle.sysv_queue.specs.Granted.{MayRead, MayWrite}
 use Rattle.sysv_queue.specs.Named.{IsNamed}
 use Rattle.sysv_queue.specs.LegalReply.{IsLegalReply}
-use Rattle.sysv_steps.specs.Call.{SystemCall}
-use Rattle.sysv_steps.specs.State.{Phase, AtLook, AtPlace, AtTake, Ending, Zero, Got, Refused, Goes, Over}
+use Rattle.sysv_steps.specs.State.{Phase, AtLook, AtPlace, AtTake, Zero, Got, Refused, Goes, Over}
 use Rattle.sysv_steps.specs.Begin.{is_refused}
 use Rattle.sysv_core.specs.World.{World, Started, Given, Happening, Preset, opening, with_actor, Makes}
 use Rattle.sysv_core.specs.Run.{Leads}

@@ -3,7 +3,7 @@
 -- is in it; else its actor is in it there, and it has no answer. And each turn is that of a call that was
 -- started, or of a preset (POSIX.1-2017, msgsnd and msgrcv, RETURN VALUE and ERRORS; the steps are this
 -- profile's).
-use Rattle.std.specs.Prelude.{◌≡◌, ℕ, ◌⊎◌, List, [], ◌∷◌, Option, Some, None, Contains, filter, map, if◌then◌else◌}
+use Rattle.std.specs.Prelude.{◌≡◌, ◌⊎◌, List, [], ◌∷◌, Option, Some, None, Contains, filter, map, if◌then◌else◌}
 use Rattle.sysv_model.specs.History.{Who, Actor, Seat}
 use Rattle.sysv_model.specs.Turn.{Turn, is_same, deeds_of}
 use Rattle.sysv_steps.specs.State.{Ending, State, Goes, Waits, Over}

@@ -9,7 +9,7 @@
 -- with the answers of that run and no others.
 use Rattle.std.specs.Prelude.{◌≡◌, ◌≢◌, ◌⊎◌, ℕ, ◌≤◌, List, [], ◌∷◌, ◌++◌, map, All, AllPairs, Contains}
 use Rattle.sysv_model.specs.declared.limits.TheConstants.{WORN}
-use Rattle.sysv_model.specs.Turn.{Turn, slot_history, deeds_of}
+use Rattle.sysv_model.specs.Turn.{slot_history, deeds_of}
 use Rattle.sysv_queue.specs.QueueLaw.{QueueLaw}
 use Rattle.sysv_steps.specs.Answers.{IsRightAnswer}
 use Rattle.sysv_core.specs.declared.event.Event.{Event}

@@ -1,5 +1,5 @@
 -- What the code's start or step of a call leads to, as a state of the definitions (this profile's).
-use Rattle.std.specs.Prelude.{◌≡◌, ℕ, pos, Bool, true, false, List, Option, Some}
+use Rattle.std.specs.Prelude.{◌≡◌, ℕ, pos, Bool, true, false, Some}
 use Rattle.sysv_model.specs.History.{Call, Reply}
 use Rattle.sysv_model.specs.Turn.{OfSlot, AtSlot}
 use Rattle.sysv_queue.specs.Slot.{Slot}

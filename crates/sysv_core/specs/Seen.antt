@@ -1,6 +1,6 @@
 -- The code's data as the definitions': its events, its answers, and what a world of the code is seen as
 -- (this profile's).
-use Rattle.std.specs.Prelude.{◌≡◌, ℕ, suc, pos, ◌<◌, ◌≤◌, Bool, List, [], ◌∷◌, Option, Some, None, option_map, map, slice_get, ⊤}
+use Rattle.std.specs.Prelude.{◌≡◌, ℕ, suc, pos, ◌<◌, ◌≤◌, Bool, List, [], ◌∷◌, Option, Some, option_map, map, slice_get, ⊤}
 use Rattle.sysv_model.specs.declared.limits.TheConstants.{WORN}
 use Rattle.sysv_model.specs.History.{Who, Actor, Seat}
 use Rattle.sysv_queue.specs.Slot.{Slot}

@@ -1,12 +1,12 @@
 -- What the answer law admits and refuses, at the send of hello in the worked run: it started at step number
 -- 2, looked, placed its text and was answered zero.
-use Rattle.std.specs.Prelude.{ℕ, pos, List, [], ◌∷◌, ◌++◌, true, Some}
+use Rattle.std.specs.Prelude.{ℕ, pos, [], ◌∷◌, ◌++◌, true, Some}
 use Rattle.sysv_model.specs.declared.errno.Errno.TheVariants.{EAGAIN}
-use Rattle.sysv_model.specs.History.{Who, Actor, Fits, Accepted, Full}
-use Rattle.sysv_model.specs.Turn.{Deed, AtSlot, Turn}
-use Rattle.sysv_steps.specs.State.{Phase, AtPlace, Ending, Zero, Refused, State, Goes, Over}
+use Rattle.sysv_model.specs.History.{Actor, Fits, Accepted, Full}
+use Rattle.sysv_model.specs.Turn.{Deed, AtSlot}
+use Rattle.sysv_steps.specs.State.{AtPlace, Zero, Refused, State, Goes, Over}
 use Rattle.sysv_steps.specs.Played.{Plays}
-use Rattle.sysv_core.specs.World.{World, Started, Given, opening, with_actor, begun}
+use Rattle.sysv_core.specs.World.{World, Started, opening, with_actor, begun}
 use Rattle.sysv_core.specs.AnswerLaw.{Fate, IsMade}
 use Rattle.sysv_core.specs.WorkedRun.{hello, send_hello, place_hello, look_for, one_calls, one_ends, the_calls, the_turns, the_answers, of_16}
 

@@ -2,7 +2,7 @@
 -- number of counted events so far; and what one happening makes of it. A happening is a preset, the start
 -- of an actor's call, or one step of it: one turn at one object, which has a legal reply, or a look at the
 -- count for which the call waits (this profile's).
-use Rattle.std.specs.Prelude.{◌≡◌, ℕ, ℤ, zero, suc, pos, ◌+◌, ◌<◌, ◌≤◌, ◌⊎◌, Bool, true, false, List, [], ◌∷◌, ◌++◌, Option, Some, None, replicate, slice_get, slice_set}
+use Rattle.std.specs.Prelude.{◌≡◌, ℕ, zero, suc, pos, ◌+◌, ◌<◌, ◌≤◌, ◌⊎◌, Bool, true, false, List, [], ◌∷◌, ◌++◌, Option, Some, None, replicate, slice_get, slice_set}
 use Rattle.sysv_model.specs.declared.cred.Cred.{Cred}
 use Rattle.sysv_model.specs.declared.flags.TheConstants.Flags.{USER_READ, USER_WRITE}
 use Rattle.sysv_model.specs.declared.limits.TheConstants.{IPC_PRIVATE, WORN}

@@ -280,15 +280,13 @@ starts_idle s mid after place cred asked one first given within young free gave 
 
 starts_young : (s mid after : Scene) (actor : ℕ) (cred : Cred) (call : Call) (one : List Given) (first given : Stepped) → s.world.steps < WORN → IsIdle s.world →
     StartsAt s.world actor cred (asked_of call) (actor_at s.world.actors actor) one mid.world → Gives s.world one first → GoesOn 16 mid actor first given after → CallEnds actor given after
-starts_young s mid after zero cred call one first given young free start gives on =
-    (
-      idles 16 mid 0 given after (subst IsIdle (sym start.1) free) (subst (λ f. GoesOn 16 mid 0 f given after) (none_quiet s.world one first young start.0 gives) on),
-      λ least most. absurd (omega (arith, least)),
-    )
+starts_young s mid after zero cred call one first given young free start gives on = (
+  idles 16 mid 0 given after (subst IsIdle (sym start.1) free) (subst (λ f. GoesOn 16 mid 0 f given after) (none_quiet s.world one first young start.0 gives) on),
+  λ least most. absurd (omega (arith, least)),
+)
 starts_young s mid after (suc place) cred call one first given young free start gives on = elim (at_idle 16 place) [
   | inl none ↦
-      let still : StaysWith s.world one mid.world = subst (λ o. StartsAt s.world (suc place) cred (asked_of call) o one mid.world) (ap (λ xs. slice_get xs place) free ∙ none.1) start in
-      (
+      let still : StaysWith s.world one mid.world = subst (λ o. StartsAt s.world (suc place) cred (asked_of call) o one mid.world) (ap (λ xs. slice_get xs place) free ∙ none.1) start in (
         idles 16 mid (suc place) given after (subst IsIdle (sym still.1) free) (subst (λ f. GoesOn 16 mid (suc place) f given after) (none_quiet s.world one first young still.0 gives) on),
         λ least most. absurd (omega (arith, most, none.0)),
       )

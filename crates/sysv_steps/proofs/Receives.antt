@@ -1,5 +1,5 @@
 -- A receive that plays to its end is answered right: it takes once, and each reply says what it answers.
-use Rattle.std.proofs.Common.{◌≡◌, ℕ, ℤ, ◌||◌, ◌⊎◌, inl, inr, Bool, true, false, List, [], ◌∷◌, ◌++◌, Option, Some, None, cond, refl, sym, ap, subst, ◌∙◌, arith, take}
+use Rattle.std.proofs.Common.{◌≡◌, ℕ, ℤ, inl, inr, Bool, true, false, List, [], ◌∷◌, ◌++◌, Some, cond, refl, sym, ap, subst, ◌∙◌, take}
 use Rattle.sysv_model.specs.declared.cred.Cred.{Cred}
 use Rattle.sysv_model.specs.declared.errno.Errno.TheVariants.{EACCES, ENOMSG, EINVAL, E2BIG}
 use Rattle.sysv_model.specs.declared.flags.Flags.{Flags}
@@ -7,13 +7,13 @@ use Rattle.sysv_model.specs.declared.flags.TheConstants.Flags.{IPC_NOWAIT}
 use Rattle.sysv_model.specs.HasFlag.{has_flag}
 use Rattle.sysv_model.specs.Message.{Message}
 use Rattle.sysv_model.specs.History.{Call, Reply, Gone, Denied, NoMatch, TooLong, Taken}
-use Rattle.sysv_model.specs.Turn.{Deed, AtSlot, AtRegistry, AtPool, asked_by}
-use Rattle.sysv_steps.specs.Call.{SystemCall, Msgrcv}
+use Rattle.sysv_model.specs.Turn.{Deed, AtSlot, AtRegistry, AtPool}
+use Rattle.sysv_steps.specs.Call.{Msgrcv}
 use Rattle.sysv_steps.specs.State.{Receiving, Phase, AtTake, Ending, Got, Refused, State, Goes, Waits, Over}
 use Rattle.sysv_steps.specs.Begin.{is_refused, first, begin}
-use Rattle.sysv_steps.specs.Next.{next, gone, given}
+use Rattle.sysv_steps.specs.Next.{next, gone}
 use Rattle.sysv_steps.specs.Played.{Plays, begins, steps, resumes}
-use Rattle.sysv_steps.specs.Answers.{IsRightReceive, does_not_wait}
+use Rattle.sysv_steps.specs.Answers.{IsRightReceive}
 use Rattle.sysv_steps.proofs.Sends.{or_true}
 
 never : {m : Message} → [] ≡ m ∷ [] → ⊥

@@ -1,20 +1,19 @@
 -- A send that plays to its end is answered right: it looks once and places once, and each reply says
 -- what it answers.
-use Rattle.std.proofs.Common.{◌≡◌, ℕ, ℤ, ◌||◌, ◌⊎◌, inl, inr, Bool, true, false, List, [], ◌∷◌, ◌++◌, Option, Some, None, cond, refl, sym, ap, subst, ◌∙◌, arith}
+use Rattle.std.proofs.Common.{◌≡◌, ℕ, ℤ, ◌||◌, inl, inr, Bool, true, false, List, [], ◌∷◌, ◌++◌, Some, cond, refl, sym, ap, subst, ◌∙◌, arith}
 use Rattle.sysv_model.specs.declared.cred.Cred.{Cred}
-use Rattle.sysv_model.specs.declared.errno.Errno.{Errno}
 use Rattle.sysv_model.specs.declared.errno.Errno.TheVariants.{EACCES, EAGAIN, EIDRM, EINVAL}
 use Rattle.sysv_model.specs.declared.flags.Flags.{Flags}
 use Rattle.sysv_model.specs.declared.flags.TheConstants.Flags.{IPC_NOWAIT}
 use Rattle.sysv_model.specs.HasFlag.{has_flag}
 use Rattle.sysv_model.specs.History.{Call, Reply, Gone, Denied, Full, Fits, Accepted}
-use Rattle.sysv_model.specs.Turn.{Deed, AtSlot, AtRegistry, AtPool, asked_by}
+use Rattle.sysv_model.specs.Turn.{Deed, AtSlot, AtRegistry, AtPool}
 use Rattle.sysv_steps.specs.Call.{SystemCall, Msgsnd}
 use Rattle.sysv_steps.specs.State.{Sending, Phase, AtLook, AtPlace, Ending, Zero, Refused, State, Goes, Waits, Over}
 use Rattle.sysv_steps.specs.Begin.{is_refused, first, begin}
 use Rattle.sysv_steps.specs.Next.{next, gone}
 use Rattle.sysv_steps.specs.Played.{Plays, begins, steps, resumes}
-use Rattle.sysv_steps.specs.Answers.{IsRightSend, does_not_wait}
+use Rattle.sysv_steps.specs.Answers.{IsRightSend}
 
 pub or_true : (b : Bool) → (b || true) ≡ true
 or_true true = refl

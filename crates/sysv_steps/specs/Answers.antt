@@ -9,12 +9,12 @@ use Rattle.sysv_model.specs.declared.flags.Flags.{Flags}
 use Rattle.sysv_model.specs.declared.flags.TheConstants.Flags.{IPC_NOWAIT}
 use Rattle.sysv_model.specs.HasFlag.{has_flag}
 use Rattle.sysv_model.specs.Message.{Message}
-use Rattle.sysv_model.specs.History.{Call, Reply, Gone, Denied, Full, Fits, Accepted, NoMatch, TooLong, Taken}
-use Rattle.sysv_model.specs.Pool.{PoolCall, TooFew}
+use Rattle.sysv_model.specs.History.{Gone, Denied, Full, Accepted, NoMatch, TooLong, Taken}
+use Rattle.sysv_model.specs.Pool.{TooFew}
 use Rattle.sysv_model.specs.Turn.{Deed, AtSlot, AtRegistry, AtPool}
 use Rattle.sysv_steps.specs.Until.{waiting_is_there}
 use Rattle.sysv_steps.specs.Call.{SystemCall, Msgget, Msgsnd, Msgrcv, MsgctlStat, MsgctlSet, MsgctlRmid}
-use Rattle.sysv_steps.specs.State.{Ending, Zero, Got, Refused, State, Over}
+use Rattle.sysv_steps.specs.State.{Ending, Zero, Got, Refused, Over}
 use Rattle.sysv_steps.specs.Begin.{is_refused, begin}
 use Rattle.sysv_steps.specs.Played.{Plays}
 

@@ -1,10 +1,9 @@
 -- The start of a call. One whose own arguments are refused ends at once with EINVAL (POSIX.1-2017,
 -- msgsnd and msgrcv, ERRORS; that a receive refuses MSG_EXCEPT is this profile's), and any other goes to
 -- its first step. A send reads the released count at its start.
-use Rattle.std.specs.Prelude.{ℕ, ℤ, pos, ◌||◌, Bool, true, false, length, int_lt, nat_lt, if◌then◌else◌}
+use Rattle.std.specs.Prelude.{ℕ, pos, ◌||◌, Bool, false, length, int_lt, nat_lt, if◌then◌else◌}
 use Rattle.sysv_model.specs.declared.cred.Cred.{Cred}
 use Rattle.sysv_model.specs.declared.errno.Errno.TheVariants.{EINVAL}
-use Rattle.sysv_model.specs.declared.flags.Flags.{Flags}
 use Rattle.sysv_model.specs.declared.flags.TheConstants.Flags.{IPC_NOWAIT, MSG_NOERROR, MSG_EXCEPT}
 use Rattle.sysv_model.specs.declared.limits.TheConstants.{MESSAGE_BYTES}
 use Rattle.sysv_model.specs.HasFlag.{has_flag}

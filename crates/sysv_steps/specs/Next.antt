@@ -1,13 +1,13 @@
 -- The step table: where a call stands after a step, by the reply that it had (POSIX.1-2017, msgget,
 -- msgsnd, msgrcv and msgctl, each ERRORS; the steps are this profile's). A row is a phase and a reply.
 -- A reply that the phase's call never has is no row of it, and then there is no next state.
-use Rattle.std.specs.Prelude.{ℕ, ℤ, ◌+◌, ◌&&◌, Bool, true, false, not, List, [], take, Option, Some, None, if◌then◌else◌}
+use Rattle.std.specs.Prelude.{ℕ, ℤ, ◌+◌, ◌&&◌, Bool, true, false, not, List, take, Option, Some, None, if◌then◌else◌}
 use Rattle.sysv_model.specs.declared.errno.Errno.{Errno}
 use Rattle.sysv_model.specs.declared.errno.Errno.TheVariants.{EACCES, EAGAIN, EEXIST, EIDRM, EINVAL, ENOMSG, ENOSPC, E2BIG}
 use Rattle.sysv_model.specs.declared.flags.TheConstants.Flags.{IPC_CREAT, IPC_EXCL}
 use Rattle.sysv_model.specs.HasFlag.{has_flag}
 use Rattle.sysv_model.specs.Message.{Message}
-use Rattle.sysv_model.specs.History.{Call, Reply, Installed, Gone, Denied, Granted, Full, Fits, Accepted, NoMatch, TooLong, Taken, Told as TellsStat, Done, Discarded, Refused as IsRefusedFor}
+use Rattle.sysv_model.specs.History.{Reply, Installed, Gone, Denied, Granted, Full, Fits, Accepted, NoMatch, TooLong, Taken, Told as TellsStat, Done, Discarded, Refused as IsRefusedFor}
 use Rattle.sysv_model.specs.Registry.{RegistryReply, Found, Made, Busy, Unbound, Changed}
 use Rattle.sysv_model.specs.Pool.{PoolReply, Reserved, TooFew, Released, Foreign}
 use Rattle.sysv_model.specs.Turn.{Deed, AtSlot, AtRegistry, AtPool}

@@ -3,10 +3,10 @@
 
 use super::*;
 use crate::event::Outcome;
-use sysv_model::errno::Errno;
 use bitflags::Flags as _;
 use std::process::Abort;
 use sysv_model::body::Body;
+use sysv_model::errno::Errno;
 use sysv_model::flags::Flags;
 
 /// What an answer is to be: whose, how the call ended, and the text of the body that comes with it.

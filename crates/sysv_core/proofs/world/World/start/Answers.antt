@@ -1,6 +1,6 @@
-use Rattle.std.proofs.Common.{Some, None, sym, ap, ◌∙◌, rules}
+use Rattle.std.proofs.Common.{Some, sym, ap, ◌∙◌, rules}
 use Rattle.sysv_core.specs.Seen.{Seen}
-use Rattle.sysv_core.proofs.SeenSteps.{start_absent, start_busy, start_idle}
+use Rattle.sysv_core.proofs.SeenSteps.{start_busy, start_idle}
 use Rattle.sysv_core.proofs.KeptActors.{kept_some, kept_none, seen_at}
 use Rattle.sysv_core.proofs.world.World.start.Goals as goal
 
