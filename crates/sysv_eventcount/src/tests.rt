@@ -2,18 +2,25 @@ ghost use Rattle.std.specs.Prelude.{◌≡◌};
 
 mod threads;
 
-use crate::{Awaited, Eventcount, OpenRefused, Seat, Sequencer};
+use crate::{Awaited, Eventcount, OpenRefused, Seat, Sequencer, Worn};
 use std::test::Fail;
 
 const LIMIT: u64 = 1 << 62;
 
+fn advance_three_times(count: &Eventcount, seat: &mut Seat) -> Option<[u64; 3]>
+    requires { seat.old.counter ≡ count.now }
+    ensures { seat.new.counter ≡ seat.old.counter }
+{
+    let first = count.advance(seat).ok()?;
+    let second = count.advance(seat).ok()?;
+    let third = count.advance(seat).ok()?;
+    Some([first, second, third])
+}
+
 #[test]
 fn an_eventcount_counts_advances(rt: HostRuntime) -> Result<(), Fail> {
     let (count, mut seat) = Eventcount::open(rt.alloc(), 0)?;
-    let first = count.advance(&mut seat)?;
-    let second = count.advance(&mut seat)?;
-    let third = count.advance(&mut seat)?;
-    assert_eq!(rt; [first, second, third], [1, 2, 3]);
+    assert_eq!(rt; advance_three_times(&count, &mut seat), Some([1, 2, 3]));
     assert_eq!(rt; count.read(&mut seat), 3);
     assert_eq!(rt; count.await_turns(&mut seat, 3, 10), Awaited::Reached(3));
     assert_eq!(rt; count.await_turns(&mut seat, 4, 10), Awaited::Short(3));
@@ -35,17 +42,32 @@ fn read_tells_own_knowledge_only(rt: HostRuntime) -> Result<(), Fail> {
     Ok(())
 }
 
+fn draw_three(turns: &Sequencer, seat: &mut Seat) -> Option<[u64; 3]>
+    requires { seat.old.counter ≡ turns.now }
+    ensures { seat.new.counter ≡ seat.old.counter }
+{
+    let first = turns.ticket(seat).ok()?;
+    let second = turns.ticket(seat).ok()?;
+    let third = turns.ticket(seat).ok()?;
+    Some([first, second, third])
+}
+
+// Draws by a seat that was split off, and again once that seat was joined.
+fn draw_beside(turns: &Sequencer, seat: &mut Seat) -> Option<[u64; 2]>
+    requires { seat.old.counter ≡ turns.now }
+{
+    let mut other = turns.split(seat).ok()?;
+    let beside = turns.ticket(&mut other).ok()?;
+    turns.join(seat, other);
+    let after = turns.ticket(seat).ok()?;
+    Some([beside, after])
+}
+
 #[test]
 fn a_sequencer_draws_each_number_once(rt: HostRuntime) -> Result<(), Fail> {
     let (turns, mut seat) = Sequencer::open(rt.alloc(), 0)?;
-    let first = turns.ticket(&mut seat)?;
-    let second = turns.ticket(&mut seat)?;
-    let third = turns.ticket(&mut seat)?;
-    let mut other = turns.split(&mut seat)?;
-    let fourth = turns.ticket(&mut other)?;
-    turns.join(&mut seat, other);
-    let fifth = turns.ticket(&mut seat)?;
-    assert_eq!(rt; [first, second, third, fourth, fifth], [0, 1, 2, 3, 4]);
+    assert_eq!(rt; draw_three(&turns, &mut seat), Some([0, 1, 2]));
+    assert_eq!(rt; draw_beside(&turns, &mut seat), Some([3, 4]));
     Ok(())
 }
 
@@ -112,38 +134,38 @@ fn the_newest_seat_splits_ten_times(rt: HostRuntime) -> Result<(), Fail> {
 }
 
 #[test]
-fn a_worn_word_adds_nothing(rt: HostRuntime) -> Result<(), Fail> {
+fn a_worn_eventcount_adds_nothing(rt: HostRuntime) -> Result<(), Fail> {
     let (count, mut seat) = Eventcount::open(rt.alloc(), LIMIT)?;
-    assert!(rt; count.advance(&mut seat).is_err());
+    assert_eq!(rt; count.advance(&mut seat), Err(Worn));
     assert_eq!(rt; count.read(&mut seat), LIMIT);
-    let (turns, mut seat) = Sequencer::open(rt.alloc(), LIMIT)?;
-    assert!(rt; turns.ticket(&mut seat).is_err());
-    let (count, mut seat) = Eventcount::open(rt.alloc(), LIMIT - 1)?;
-    assert_eq!(rt; count.advance(&mut seat)?, LIMIT);
-    assert!(rt; count.advance(&mut seat).is_err());
     Ok(())
 }
 
 #[test]
-fn a_start_above_the_limit_is_refused(rt: HostRuntime) {
-    assert!(rt;
-        matches!(
-            &Eventcount::open(rt.alloc(), LIMIT + 1),
-            Err(OpenRefused::BadStart)
-        )
-    );
-    assert!(rt;
-        matches!(
-            &Sequencer::open(rt.alloc(), LIMIT + 1),
-            Err(OpenRefused::BadStart)
-        )
-    );
-    assert!(rt;
-        matches!(
-            &Sequencer::open(rt.alloc(), u64::MAX),
-            Err(OpenRefused::BadStart)
-        )
-    );
+fn a_worn_sequencer_draws_nothing(rt: HostRuntime) -> Result<(), Fail> {
+    let (turns, mut seat) = Sequencer::open(rt.alloc(), LIMIT)?;
+    assert_eq!(rt; turns.ticket(&mut seat), Err(Worn));
+    Ok(())
+}
+
+#[test]
+fn the_last_advance_reaches_the_limit(rt: HostRuntime) -> Result<(), Fail> {
+    let (count, mut seat) = Eventcount::open(rt.alloc(), LIMIT - 1)?;
+    assert_eq!(rt; count.advance(&mut seat), Ok(LIMIT));
+    assert_eq!(rt; count.advance(&mut seat), Err(Worn));
+    Ok(())
+}
+
+#[test]
+fn an_eventcount_above_the_limit_is_refused(rt: HostRuntime) {
+    let opened = Eventcount::open(rt.alloc(), LIMIT + 1);
+    assert!(rt; matches!(&opened, Err(OpenRefused::BadStart)));
+}
+
+#[test]
+fn a_sequencer_above_the_limit_is_refused(rt: HostRuntime) {
+    let opened = Sequencer::open(rt.alloc(), LIMIT + 1);
+    assert!(rt; matches!(&opened, Err(OpenRefused::BadStart)));
 }
 
 // Where memory fails, which a run can ask for, `NoMemory` is the only other answer.

@@ -247,78 +247,125 @@ fn three_waiters_are_woken_at_their_goals(rt: HostRuntime) -> Result<(), Fail> {
     Ok(())
 }
 
-// Says that it runs, and advances ten times, waking nobody.
-fn advance_ten_times(
+/// So often a bounded wait is tried, since one alone could begin after the other thread has advanced.
+const TRIES: u64 = 100;
+
+// Advances ten times whenever it is asked to, waking nobody.
+fn advance_when_asked(
     rt: &impl Wait,
-    running: &Eventcount,
-    mut flag: Seat,
+    asked: &Eventcount,
+    mut hearing: Seat,
     count: &Eventcount,
     mut seat: Seat,
 ) -> bool
-    requires flag { flag.counter ≡ running.now }
+    requires hearing { hearing.counter ≡ asked.now }
     requires seat { seat.counter ≡ count.now }
 {
-    let said = running.advance(&mut flag).is_ok();
-    running.wake(rt);
-    for _ in 0..10 {
-        if count.advance(&mut seat).is_err() {
+    for tries in 0..TRIES {
+        asked.await_at_least(rt, &mut hearing, tries + 1);
+        if !advance_ten_times(count, &mut seat) {
             return false;
         }
     }
-    said
+    true
 }
 
-// Waits in turns for the tenth advance, once the other side has said that it runs.
-fn see_ten(
+fn advance_ten_times(count: &Eventcount, seat: &mut Seat) -> bool
+    requires { seat.old.counter ≡ count.now }
+    ensures { seat.new.counter ≡ seat.old.counter }
+{
+    for _ in 0..10 {
+        if count.advance(seat).is_err() {
+            return false;
+        }
+    }
+    true
+}
+
+// Asks, and then waits in turns until the count has reached the goal.
+fn ask_and_see(
     rt: &impl Wait,
-    running: &Eventcount,
-    mut flag: Seat,
+    asked: &Eventcount,
+    asking: &mut Seat,
+    count: &Eventcount,
+    seat: &mut Seat,
+    goal: u64,
+) -> bool
+    requires asking { asking.old.counter ≡ asked.now }
+    requires seat { seat.old.counter ≡ count.now }
+    ensures asking { asking.new.counter ≡ asking.old.counter }
+    ensures seat { seat.new.counter ≡ seat.old.counter }
+{
+    let _ = asked.advance(asking);
+    asked.wake(rt);
+    count.await_turns(seat, goal, 10_000_000) == Awaited::Reached(goal)
+}
+
+// Asks over and over, and tells how often the wait that followed saw the tenth advance.
+fn see_ten_when_asking(
+    rt: &impl Wait,
+    asked: &Eventcount,
+    mut asking: Seat,
     count: &Eventcount,
     mut seat: Seat,
-) -> Awaited
-    requires flag { flag.counter ≡ running.now }
+) -> u64
+    requires asking { asking.counter ≡ asked.now }
     requires seat { seat.counter ≡ count.now }
 {
-    running.await_at_least(rt, &mut flag, 1);
-    count.await_turns(&mut seat, 10, 10_000_000)
+    let mut seen = 0;
+    for tries in 0..TRIES {
+        let goal = 10 * (tries + 1);
+        let reached = ask_and_see(rt, asked, &mut asking, count, &mut seat, goal);
+        seen += u64::from(reached);
+    }
+    seen
 }
 
 #[test]
 fn turns_see_what_another_thread_advances(rt: HostRuntime) -> Result<(), Fail> {
-    let (running, mut flag) = Eventcount::open(rt.alloc(), 0)?;
+    let (asked, mut asking) = Eventcount::open(rt.alloc(), 0)?;
     let (count, mut seat) = Eventcount::open(rt.alloc(), 0)?;
-    let other_flag = running.split(&mut flag)?;
+    let hearing = asked.split(&mut asking)?;
     let other_seat = count.split(&mut seat)?;
-    let (seen, advanced) = join(
+    let both = join(
         &rt,
-        || see_ten(&rt, &running, other_flag, &count, other_seat),
-        || advance_ten_times(&rt, &running, flag, &count, seat),
+        || see_ten_when_asking(&rt, &asked, asking, &count, seat),
+        || advance_when_asked(&rt, &asked, hearing, &count, other_seat),
     );
-    assert!(rt; advanced);
-    assert_eq!(rt; seen, Awaited::Reached(10));
+    assert_eq!(rt; both, (TRIES, true));
     Ok(())
 }
 
-// Plays a number of rounds: waits for the one count, and advances the other.
-fn play(
-    rt: &impl Wait,
+/// The rounds of a ping-pong.
+const ROUNDS: u64 = 2000;
+
+// Plays all rounds: waits for the one count, and advances the other. In every hundredth round it pauses before, so that
+// the other side has gone to sleep.
+fn play<R: Wait + Clock>(
+    rt: &R,
     hear: &Eventcount,
     mut hearing: Seat,
     say: &Eventcount,
     mut saying: Seat,
-    rounds: u64,
 ) -> bool
     requires hearing { hearing.counter ≡ hear.now }
     requires saying { saying.counter ≡ say.now }
 {
-    for round in 0..rounds {
+    for round in 0..ROUNDS {
         hear.await_at_least(rt, &mut hearing, round + 1);
+        pause_at(rt, round);
         if say.advance(&mut saying).is_err() {
             return false;
         }
         say.wake(rt);
     }
     true
+}
+
+fn pause_at(rt: &impl Clock, round: u64) {
+    if round % 100 == 0 {
+        thread::sleep(rt, Duration::from_millis(2));
+    }
 }
 
 // Each side sleeps and is woken over and over.
@@ -330,8 +377,8 @@ fn two_threads_wake_each_other(rt: HostRuntime) -> Result<(), Fail> {
     let pong_two = pong.split(&mut pong_one)?;
     let both = join(
         &rt,
-        || play(&rt, &ping, ping_one, &pong, pong_one, 2000),
-        || play(&rt, &pong, pong_two, &ping, ping_two, 2000),
+        || play(&rt, &ping, ping_one, &pong, pong_one),
+        || play(&rt, &pong, pong_two, &ping, ping_two),
     );
     assert_eq!(rt; both, (true, true));
     Ok(())
