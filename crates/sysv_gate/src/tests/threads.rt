@@ -6,7 +6,9 @@ use super::{Sum, opened};
 use crate::{Gate, Seat};
 use std::sync::Wait;
 use std::test::Fail;
+use std::thread;
 use std::thread::{Threads, join};
+use std::time::{Clock, CpuClock, Duration};
 
 /// What each of the threads does so often.
 const TIMES: u64 = 10_000;
@@ -89,5 +91,61 @@ fn four_threads_take_all_their_turns(rt: HostRuntime) -> Result<(), Fail> {
     let closing = gate.close(seat);
     let sum = closing.object.ok_or("the object is at home")?.sum;
     assert_eq!(rt; (last, closing.turns, sum), (119_997, 40_000, 120_000));
+    Ok(())
+}
+
+// Takes a turn that lasts a second.
+fn call_slowly<R: Wait + Clock>(rt: &R, gate: &Gate<Sum>, mut seat: Seat<Sum>) -> bool
+    requires { seat.gate ≡ gate.now }
+{
+    let Some(ticket) = gate.draw(rt, &mut seat.token) else {
+        return false;
+    };
+    gate.reach(rt, &mut seat.token, ticket);
+    thread::sleep(rt, Duration::from_secs(1));
+    gate.serve(&mut seat.token, 1);
+    gate.wake_after(ticket);
+    true
+}
+
+// Calls while the other turn lasts, and answers the processor time of the waiting thread.
+fn call_after<R: Wait + Clock + CpuClock>(
+    rt: &R,
+    gate: &Gate<Sum>,
+    mut seat: Seat<Sum>,
+) -> Option<Duration>
+    requires { seat.gate ≡ gate.now }
+{
+    thread::sleep(rt, Duration::from_millis(50));
+    let before = rt.thread_cpu_time().ok()?;
+    gate.call(rt, &mut seat, 1).ok()?;
+    rt.thread_cpu_time().ok()?.checked_sub(before)
+}
+
+fn wait_out_a_turn<R: Threads + Wait + Clock + CpuClock + Sync>(
+    rt: &R,
+    gate: &Gate<Sum>,
+    slow: Seat<Sum>,
+    waiting: Seat<Sum>,
+) -> (bool, Option<Duration>)
+    requires slow { slow.gate ≡ gate.now }
+    requires waiting { waiting.gate ≡ gate.now }
+{
+    join(
+        rt,
+        || call_slowly(rt, gate, slow),
+        || call_after(rt, gate, waiting),
+    )
+}
+
+#[test]
+fn a_waiter_sleeps(rt: HostRuntime) -> Result<(), Fail> {
+    let (gate, mut seat) = opened(&rt, 0).ok_or("no memory")?;
+    let slow = gate.split(&mut seat);
+    let waiting = gate.split(&mut seat);
+    let (held, used) = wait_out_a_turn(&rt, &gate, slow, waiting);
+    let closing = gate.close(seat);
+    assert!(rt; held && used.is_some_and(|used| used < Duration::from_millis(100)));
+    assert_eq!(rt; closing.turns, 2);
     Ok(())
 }
