@@ -1,7 +1,6 @@
 -- A seat may go to another thread, and threads may share a gate, where its object may cross threads.
 use Rattle.std.proofs.Common.{List, [], ◌∷◌}
 use denote.RattleType.{RattleType}
-use denote.Param.{param}
 use denote.Param.Send.{IsSend, IsSync, AllSend, sendable, view_send, view_sync, part_keyless}
 use Rattle.sysv_gate.specs.declared.object.Object.{Ghosts}
 use Rattle.sysv_gate.specs.History.{Moves}
@@ -14,7 +13,6 @@ use denote.Param.SendFields.{FieldsHave, declared_send, declared_sync, as_row_se
 use Rattle.std.specs.contracts.snapshot.Snapshot as snapshot
 use Rattle.atomic_table.specs.contracts.shared.Seat as token
 use Rattle.atomic_table.proofs.shared.Seat.TheSendSync as tokens
-use Rattle.atomic_table.specs.contracts.owned.Table as table
 use Rattle.atomic_table.proofs.owned.Table.TheSendSync as tables
 use Rattle.std.specs.contracts.alloc.Global as heap
 use Rattle.std.proofs.alloc.Global.TheSendSync as heaps

@@ -1,13 +1,12 @@
 -- How seats come, and how one is joined into another.
-use Rattle.std.proofs.Common.{◌≡◌, ◌≢◌, ℕ, zero, suc, ◌+◌, ◌^◌, ◌<◌, ◌≤◌, ◌||◌, Bool, true, false, List, [], ◌∷◌, ◌++◌, ◌⊎◌, inl, inr, ⊎_elim, length, set, get_or, refl, sym, ap, ◌∙◌, subst, arith, length-set, length-append, Option, Some, None}
-use Rattle.std.specs.Prelude.{sum_by}
+use Rattle.std.proofs.Common.{◌≡◌, ◌≢◌, ℕ, zero, suc, ◌+◌, ◌^◌, ◌<◌, ◌≤◌, ◌||◌, Bool, true, false, List, [], ◌∷◌, ◌++◌, ◌⊎◌, inl, inr, ⊎_elim, length, set, get_or, refl, sym, ap, ◌∙◌, subst, arith, length-set, length-append, Some, None}
 use mathlib.Core.Bool.{true≢false}
 use mathlib.Core.Logic.{dite}
 use native.Mathlib.Decide.{ℕ_discrete}
 use mathlib.Core.Option.{none, some, some-injective, some-ne-none}
 use lib.ListN.{get_elem?}
 use Rattle.std.proofs.lemmas.List.Sums.{sum_by_push}
-use Rattle.atomic_table.specs.Table.{State, step, keeps, stepped, Allows, Splits, Joins}
+use Rattle.atomic_table.specs.Table.{State, step, keeps, Allows, Splits, Joins}
 use Rattle.atomic_table.proofs.Lists.{at_set, at_longer, at_snoc, set_else, set_again}
 use Rattle.sysv_gate.specs.declared.view.View.{View}
 use Rattle.sysv_gate.specs.declared.view.Turn.{Turn}
@@ -17,7 +16,7 @@ use Rattle.sysv_gate.specs.Rule.{Homes, Spot, bearers, Fits, IsKept, Gated}
 use Rattle.sysv_gate.specs.Gates.{Gateway, Holding}
 use Rattle.sysv_gate.specs.Gates.{Joins as Joined}
 use Rattle.sysv_gate.specs.Steps.{Mine, newcomer, named, both_of, spent, merged, Names, Gathers, Merges}
-use Rattle.sysv_gate.proofs.Sums.{set_at, each_set, each_before, sum_by-set_at}
+use Rattle.sysv_gate.proofs.Sums.{each_set, each_before, sum_by-set_at}
 use Rattle.sysv_gate.proofs.Counting.{times-one, times-append, one-le-one, another}
 use Rattle.sysv_gate.proofs.Histories.{begins_self, made_at-nobody, made_at-append}
 use Rattle.sysv_gate.proofs.Keeping.{own_turns, stays}

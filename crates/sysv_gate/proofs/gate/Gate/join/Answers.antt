@@ -1,5 +1,4 @@
 use Rattle.std.proofs.Common.{rules, ap, ◌∙◌, Some}
-use Rattle.sysv_gate.specs.History.{Moves}
 use Rattle.sysv_gate.proofs.Seating.{joins, merges, gathered, still_named, joins_holding}
 use Rattle.sysv_gate.proofs.gate.Gate.join.Goals as goal
 

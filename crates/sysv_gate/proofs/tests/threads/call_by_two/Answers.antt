@@ -1,10 +1,10 @@
-use Rattle.std.proofs.Common.{List, [], ◌∷◌}
+use Rattle.std.proofs.Common.{[], ◌∷◌}
 use mir.Syntax.{named as lifetime}
 use denote.Exit.{no as kept}
 use denote.Param.{param}
 use denote.Ref.{ShrRef}
 use denote.Struct.Field.{u8-field, u64-field}
-use denote.Param.Send.{IsSend, sendable, param_send, param_sync, shr_send}
+use denote.Param.Send.{IsSend, sendable, param_send, shr_send}
 use Rattle.std.proofs.option.Option.TheSendSync.{the_send as option_send}
 use Rattle.sysv_gate.specs.contracts.gate.Gate as gate
 use Rattle.sysv_gate.specs.contracts.seat.Seat as seat

@@ -1,4 +1,4 @@
-use Rattle.std.proofs.Common.{List, [], ◌∷◌}
+use Rattle.std.proofs.Common.{[], ◌∷◌}
 use mir.Syntax.{named as lifetime}
 use denote.Exit.{no as kept}
 use denote.Param.{param}
