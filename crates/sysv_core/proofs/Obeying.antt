@@ -18,10 +18,11 @@ use Rattle.sysv_steps.specs.SlotAt.{slot_at}
 use Rattle.sysv_steps.specs.State.{Phase, Wait, Ending, State, Goes, Waits, Over}
 use Rattle.sysv_steps.specs.Resume.{awaited, resume}
 use Rattle.sysv_steps.specs.Played.{Plays, begins, steps, resumes}
+use Rattle.sysv_steps.specs.AsksFor.{EachDeedIsAskedFor}
 use Rattle.sysv_steps.specs.Answers.{IsRightAnswer, EachAnswerIsRight}
 use Rattle.sysv_core.specs.World.{World, Opening, Started, Doing, Given, Happening, Preset, Start, Step, opening, doing_in, given_in, StaysWith, starting, begun, IsLegal, Turns, value_of, Looks, Continues, StartsAt, StepsAt, preset_call, Presets, Makes}
 use Rattle.sysv_core.specs.Run.{Leads}
-use Rattle.sysv_core.specs.AnswerLaw.{endings_of, stands_in, standing_of, ended, standing, Fate, IsMade}
+use Rattle.sysv_core.specs.AnswerLaw.{endings_of, stands_in, standing_of, ended, standing, Fate, IsMade, AsksAsItWasAsked}
 use Rattle.sysv_core.specs.Headline.{Obeys}
 use Rattle.sysv_core.proofs.Lists.{get_set_same, get_set_other, same_place}
 use Rattle.sysv_core.proofs.Own.{same_who, same_itself, not_same, same_or_not, own_deed, other_deed, own_endings, other_endings, IsIn, at_actor, own_standing, other_standing}
@@ -110,7 +111,7 @@ module _ (w : World) (given : List Given) (turns : List Turn) (calls : List Star
   own_fate start who s = record {
     state = state;
     plays = s.plays;
-    answered = own_endings given call state s.quiet;
+    answered = own_endings given call state (same_itself place start call.who who) s.quiet;
     stands = own_standing w.actors place start was call state who there;
   }
 
@@ -159,7 +160,7 @@ module _ (w : World) (given : List Given) (i : Inv w given) (place : ℕ) (d : D
   its_name = (i.doing place d there).1
 
   standing_is : (o : Option (Option Doing)) → o ≡ Some (Some d) → stands_in d.call.who o ≡ Some d.state
-  standing_is o e = ap (stands_in d.call.who) e ∙ ap (λ b. cond b (Some d.state) None) (same_itself d.call.who)
+  standing_is o e = ap (stands_in d.call.who) e ∙ ap (λ b. cond b (Some d.state) None) (same_itself place its_name.0 d.call.who its_name.1)
 
   where_it_stands : standing_of d.call.who w.actors ≡ Some d.state
   where_it_stands = at_actor d.call.who place its_name.0 w.actors its_name.1 ∙ standing_is (slice_get w.actors place) there
@@ -295,9 +296,11 @@ is_right right call deeds (Over e) ending plays (inr none) = absurd none
 
 right_now : (w : World) (given : List Given) → Inv w given → EachAnswerIsRight → (g : Given) → Contains given g → IsRightAnswer g.call.asked (deeds_of g.call.who w.turns) g.ending
 right_now w given i right g has =
-    let f = i.fates g.call (All-contains (λ (x : Given). Contains w.calls x.call) given g i.known has) in
+    let one = All-contains (λ (x : Given). Contains w.calls x.call) given g i.known has in
+    let name = i.before g.call one in
+    let f = i.fates g.call one in
     is_right right g.call (deeds_of g.call.who w.turns) f.state g.ending f.plays
-    (subst (IsAmong g.ending) f.answered (given_is g.call.who given g has (same_itself g.call.who)))
+    (subst (IsAmong g.ending) f.answered (given_is g.call.who given g has (same_itself name.0 name.1 g.call.who name.2)))
 
 pub none_busy : (n place : ℕ) (d : Doing) → slice_get (replicate n None) place ≡ Some (Some d) → ⊥
 none_busy zero place d e = cc
@@ -319,7 +322,8 @@ module _ (l : Legality) where
       let state = t.1 in
       let turn : Turn = record { who = call.who; deed = deed } in
       let here = stands_there w given i place d there in
-      let own = own_deed call.who w.turns turn (same_itself call.who) in
+      let name = its_name w given i place d there in
+      let own = own_deed call.who w.turns turn (same_itself place name.0 call.who name.1) in
       subst (λ gs. Inv after (given ++ gs)) (sym t.5) (subst (λ v. Inv v (given ++ given_in call state)) (sym t.6)
       (goes_on w given i place d there (w.turns ++ turn ∷ []) state
       (still_legal l w.turns call.who deed i.legal t.3)
@@ -412,15 +416,17 @@ module _ (l : Legality) where
     doing = λ place d e. absurd (none_busy o.actors place d e);
   }
 
-  pub run_obeys : ((h : History) → IsLegalHistory h → QueueLaw h) → EachAnswerIsRight →
+  pub run_obeys : ((h : History) → IsLegalHistory h → QueueLaw h) → EachDeedIsAskedFor → EachAnswerIsRight →
       (o : Opening) (list : List Happening) (given : List Given) (w : World) → Leads (opening o) list given w → Obeys w given
-  run_obeys law right o list given w led =
+  run_obeys law asked right o list given w led =
       let i : Inv w given = leads_keeps (opening o) w list [] given (opens o) led in
       record {
         queues = λ slot. law (slot_history slot w.turns) (i.legal slot);
         calls = All-weaker (Contains w.calls) (Fate w given) i.fates w.calls (All-contains_itself w.calls);
         apart = i.apart;
         made = i.made;
+        asked = All-weaker (Contains w.calls) (AsksAsItWasAsked w)
+            (λ c has. let f = i.fates c has in asked c.cred c.asked c.released (deeds_of c.who w.turns) f.state f.plays) w.calls (All-contains_itself w.calls);
         known = i.known;
         right = All-weaker (Contains given) (λ (g : Given). IsRightAnswer g.call.asked (deeds_of g.call.who w.turns) g.ending)
             (λ g has. right_now w given i right g has) given (All-contains_itself given);

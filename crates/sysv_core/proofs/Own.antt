@@ -28,13 +28,14 @@ same_who (Actor a s) (Actor b t) e =
     let actors : a ≡ b = one_number a b both.0 in
     let starts : s ≡ t = one_number s t both.1 in
     ap (λ n. Actor n s) actors ∙ ap (Actor b) starts
-same_who (Seat n) (Seat m) e = ap Seat (one_number n m e)
 same_who (Actor a s) (Seat m) e = absurd cc
-same_who (Seat n) (Actor b t) e = absurd cc
+same_who (Seat n) d e = absurd cc
 
-pub same_itself : (c : Who) → is_same c c ≡ true
-same_itself (Actor a s) = grind (arith, nat_tests)
-same_itself (Seat n) = grind (arith, nat_tests)
+one_itself : (a s : ℕ) → is_same (Actor a s) (Actor a s) ≡ true
+one_itself a s = grind (arith, nat_tests)
+
+pub same_itself : (place start : ℕ) (c : Who) → c ≡ Actor (suc place) start → is_same c c ≡ true
+same_itself place start c is = subst (λ d. is_same d d ≡ true) (sym is) (one_itself (suc place) start)
 
 told_apart : (c d : Who) (b : Bool) → is_same c d ≡ b → c ≢ d → b ≡ false
 told_apart c d true e f = absurd (f (same_who c d e))
@@ -78,13 +79,13 @@ other_endings who given call (Over ending) e =
     ∙ (ap (λ b. endings_of who given ++ map (λ (x : Given). x.ending) (cond b (g ∷ []) [])) e ∙ append-nil (endings_of who given))
 
 -- a call without an answer has that of its state
-pub own_endings : (given : List Given) (call : Started) (state : State) → endings_of call.who given ≡ [] → endings_of call.who (given ++ given_in call state) ≡ ended state
-own_endings given call (Goes phase) none = ap (endings_of call.who) (append-nil given) ∙ none
-own_endings given call (Waits wait) none = ap (endings_of call.who) (append-nil given) ∙ none
-own_endings given call (Over ending) none =
+pub own_endings : (given : List Given) (call : Started) (state : State) → is_same call.who call.who ≡ true → endings_of call.who given ≡ [] → endings_of call.who (given ++ given_in call state) ≡ ended state
+own_endings given call (Goes phase) same none = ap (endings_of call.who) (append-nil given) ∙ none
+own_endings given call (Waits wait) same none = ap (endings_of call.who) (append-nil given) ∙ none
+own_endings given call (Over ending) same none =
     let g : Given = record { call = call; ending = ending } in
     endings_more call.who given g
-    ∙ (ap (λ b. endings_of call.who given ++ map (λ (x : Given). x.ending) (cond b (g ∷ []) [])) (same_itself call.who) ∙ ap (λ es. es ++ ending ∷ []) none)
+    ∙ (ap (λ b. endings_of call.who given ++ map (λ (x : Given). x.ending) (cond b (g ∷ []) [])) same ∙ ap (λ es. es ++ ending ∷ []) none)
 
 -- ---- actors
 
@@ -102,10 +103,10 @@ not_in : (who other : Who) (o : Option Doing) → is_same other who ≡ false �
 not_in who other None e i = refl
 not_in who other (Some d) e i = ap (λ b. cond b (Some d.state) None) (subst (λ name. is_same other name ≡ false) (sym i) e)
 
-own_in : (call : Started) (state : State) → stands_in call.who (Some (doing_in call state)) ≡ standing state
-own_in call (Goes phase) = ap (λ b. cond b (Some (Goes phase)) None) (same_itself call.who)
-own_in call (Waits wait) = ap (λ b. cond b (Some (Waits wait)) None) (same_itself call.who)
-own_in call (Over ending) = refl
+own_in : (call : Started) (state : State) → is_same call.who call.who ≡ true → stands_in call.who (Some (doing_in call state)) ≡ standing state
+own_in call (Goes phase) same = ap (λ b. cond b (Some (Goes phase)) None) same
+own_in call (Waits wait) same = ap (λ b. cond b (Some (Waits wait)) None) same
+own_in call (Over ending) same = refl
 
 pub at_actor : (who : Who) (place start : ℕ) (actors : List (Option Doing)) → who ≡ Actor (suc place) start → standing_of who actors ≡ stands_in who (slice_get actors place)
 at_actor (Actor zero s) place start actors e = absurd cc
@@ -116,7 +117,7 @@ pub own_standing : (actors : List (Option Doing)) (place start : ℕ) (was : Opt
     standing_of call.who (slice_set actors place (doing_in call state)) ≡ standing state
 own_standing actors place start was call state who there =
     at_actor call.who place start (slice_set actors place (doing_in call state)) who
-    ∙ (ap (stands_in call.who) (get_set_same actors place (doing_in call state) was there) ∙ own_in call state)
+    ∙ (ap (stands_in call.who) (get_set_same actors place (doing_in call state) was there) ∙ own_in call state (same_itself place start call.who who))
 
 elsewhere : (actors : List (Option Doing)) (place : ℕ) (was : Option Doing) (call : Started) (state : State) (p s : ℕ) → is_same (Actor (suc p) s) call.who ≡ false →
     slice_get actors place ≡ Some was → IsIn call.who was →

@@ -3,14 +3,15 @@ use Rattle.std.proofs.Common.{◌≡◌, ℕ, zero, suc, inl, inr, [], ◌∷◌
 use Rattle.std.specs.List.{Contains}
 use Rattle.sysv_model.specs.declared.errno.Errno.TheVariants.{EAGAIN}
 use Rattle.sysv_model.specs.History.{Actor}
-use Rattle.sysv_model.specs.Turn.{Deed, deeds_of}
+use Rattle.sysv_model.specs.Turn.{OfSlot, Deed, deeds_of}
 use Rattle.sysv_steps.specs.State.{Ending, Zero, Refused, State, Goes, Waits, Over}
 use Rattle.sysv_steps.specs.Played.{Plays, begins, steps}
+use Rattle.sysv_steps.specs.AsksFor.{AsksFor, EachDeedIsAskedFor}
 use Rattle.sysv_steps.specs.Answers.{EachAnswerIsRight}
 use Rattle.sysv_core.specs.World.{Started, begun}
 use Rattle.sysv_core.specs.AnswerLaw.{IsMade, ended, standing}
-use Rattle.sysv_core.specs.WorkedRun.{the_calls}
-use Rattle.sysv_core.specs.WorkedAnswers.{the_send, the_end, still_placing, look_fits, accepts, WorkedAnswers}
+use Rattle.sysv_core.specs.WorkedRun.{the_calls, look_for}
+use Rattle.sysv_core.specs.WorkedAnswers.{the_send, the_end, still_placing, looking, look_fits, accepts, WorkedAnswers}
 
 its_play : Plays (begun the_send) (look_fits ∷ accepts 0 ∷ []) (Over Zero)
 its_play = steps (accepts 0) 0 (Over Zero) (steps look_fits 0 still_placing begins refl refl) refl refl
@@ -50,8 +51,15 @@ nobody : (deed : Deed) → ¬ IsMade the_calls (record { who = Actor 3 0; deed =
 nobody deed (inl preset) = cc
 nobody deed (inr by) = none_of_three 0 by
 
-pub worked_answers : EachAnswerIsRight → WorkedAnswers
-worked_answers right = record {
+-- a look for 6 bytes is not asked for by a send of 5
+other_size : AsksFor the_send.cred the_send.asked (OfSlot 0 (look_for 6)) → ⊥
+other_size (inl is) = cc
+other_size (inr (inl is)) = cc
+other_size (inr (inr (inl (now, is)))) = cc
+other_size (inr (inr (inr (blocks, is)))) = cc
+
+pub worked_answers : EachDeedIsAskedFor → EachAnswerIsRight → WorkedAnswers
+worked_answers asked right = record {
   plays = its_play;
   admitted = record { state = Over Zero; plays = its_play; answered = refl; stands = refl };
   full_sent = λ p. let r = right the_send.cred the_send.asked 0 _ _ p in let accepted = r.zero.0 refl in cc;
@@ -64,5 +72,7 @@ worked_answers right = record {
       cc;
   answered_twice = λ f. two_answers Zero Zero f.state f.answered;
   goes_on = λ f. over_and_going Zero still_placing f.state f.answered f.stands;
+  looks = record { state = still_placing; plays = steps look_fits 0 still_placing begins refl refl; answered = refl; stands = refl };
+  looks_otherwise = λ f. other_size ((asked the_send.cred the_send.asked 0 (deeds_of the_send.who (looking 6).turns) f.state f.plays) 0 look_fits (omega arith));
   by_nobody = nobody;
 }

@@ -1,13 +1,14 @@
 -- The law of the answers. Each call that was started plays its own turns: the step table, taken along
 -- them from its start, leads to where it stands. Where it is over it has one answer, that one, and no actor
 -- is in it; else its actor is in it there, and it has no answer. And each turn is that of a call that was
--- started, or of a preset (POSIX.1-2017, msgsnd and msgrcv, RETURN VALUE and ERRORS; the steps are this
+-- started, and asks what that call was asked, or of a preset (POSIX.1-2017, msgsnd and msgrcv, RETURN VALUE and ERRORS; the steps are this
 -- profile's).
 use Rattle.std.specs.Prelude.{◌≡◌, ◌⊎◌, List, [], ◌∷◌, Option, Some, None, Contains, filter, map, if◌then◌else◌}
 use Rattle.sysv_model.specs.History.{Who, Actor, Seat}
 use Rattle.sysv_model.specs.Turn.{Turn, is_same, deeds_of}
 use Rattle.sysv_steps.specs.State.{Ending, State, Goes, Waits, Over}
 use Rattle.sysv_steps.specs.Played.{Plays}
+use Rattle.sysv_steps.specs.AsksFor.{AllAskFor}
 use Rattle.sysv_core.specs.World.{World, Started, Doing, Given, actor_at, begun}
 
 -- the endings that a call was given, in order
@@ -44,3 +45,7 @@ pub record Fate (w : World) (given : List Given) (call : Started) : Type 0 where
 -- the turn is that of a preset, or of a call that was started
 abbrev pub IsMade : List Started → Turn → Type 0
 IsMade calls t = (t.who ≡ Actor 0 0) ⊎ ((call : Started) × Contains calls call × (t.who ≡ call.who))
+
+-- each turn of the call asks for what the call was asked, under its credentials, and for nothing else
+abbrev pub AsksAsItWasAsked : World → Started → Type 0
+AsksAsItWasAsked w call = AllAskFor call.cred call.asked (deeds_of call.who w.turns)

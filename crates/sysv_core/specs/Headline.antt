@@ -17,7 +17,7 @@ use Rattle.sysv_core.specs.declared.event.Answer.{Answer}
 use Rattle.sysv_core.specs.declared.event.Stepped.{Stepped}
 use Rattle.sysv_core.specs.World.{World, Opening, Started, Given, Happening, Preset, opening}
 use Rattle.sysv_core.specs.Run.{Leads}
-use Rattle.sysv_core.specs.AnswerLaw.{Fate, IsMade}
+use Rattle.sysv_core.specs.AnswerLaw.{Fate, IsMade, AsksAsItWasAsked}
 use Rattle.sysv_core.specs.Seen.{Seen, StandsFor, happening_of, TellAll, Gives}
 
 -- what holds of a world and of the endings given on the way to it
@@ -30,6 +30,8 @@ pub record Obeys (w : World) (given : List Given) : Type 0 where
   pub apart : AllPairs (λ (c d : Started). c.who ≢ d.who) w.calls
   -- nobody else makes a turn
   pub made : All (IsMade w.calls) w.turns
+  -- each turn of a call asks for what the call was asked, also of one under way
+  pub asked : All (AsksAsItWasAsked w) w.calls
   -- nobody else is given an answer
   pub known : All (λ (g : Given). Contains w.calls g.call) given
   -- each answer is the right one for what was asked and for the turns of that call

@@ -13,6 +13,7 @@ pub use Rattle.sysv_queue.specs.QueueLaw
 pub use Rattle.sysv_steps.specs.State
 pub use Rattle.sysv_steps.specs.Next
 pub use Rattle.sysv_steps.specs.Played
+pub use Rattle.sysv_steps.specs.AsksFor
 pub use Rattle.sysv_steps.specs.Answers
 pub mod World
 pub mod Run

@@ -2,11 +2,11 @@
 -- 2, looked, placed its text and was answered zero.
 use Rattle.std.specs.Prelude.{ℕ, pos, [], ◌∷◌, ◌++◌, true, Some}
 use Rattle.sysv_model.specs.declared.errno.Errno.TheVariants.{EAGAIN}
-use Rattle.sysv_model.specs.History.{Actor, Fits, Accepted, Full}
+use Rattle.sysv_model.specs.History.{Actor, Installed, Fits, Accepted, Full}
 use Rattle.sysv_model.specs.Turn.{Deed, AtSlot}
 use Rattle.sysv_steps.specs.State.{AtPlace, Zero, Refused, State, Goes, Over}
 use Rattle.sysv_steps.specs.Played.{Plays}
-use Rattle.sysv_core.specs.World.{World, Started, opening, with_actor, begun}
+use Rattle.sysv_core.specs.World.{World, Started, opening, with_actor, begun, preset_call}
 use Rattle.sysv_core.specs.AnswerLaw.{Fate, IsMade}
 use Rattle.sysv_core.specs.WorkedRun.{hello, send_hello, place_hello, look_for, one_calls, one_ends, the_calls, the_turns, the_answers, of_16}
 
@@ -23,6 +23,16 @@ still_placing = Goes (AtPlace record { cred = the_send.cred; id = pos 0; mtype =
 
 abbrev pub going_on : World
 going_on = record the_end { actors = with_actor (opening of_16).actors 1 (Some record { call = the_send; state = still_placing }) }
+
+-- the send under way after one look for that many bytes
+abbrev pub looking : ℕ → World
+looking size = record {
+  turns = record { who = Actor 0 0; deed = AtSlot 0 preset_call (Installed true) } ∷ record { who = the_send.who; deed = AtSlot 0 (look_for size) Fits } ∷ [];
+  calls = the_send ∷ [];
+  actors = with_actor (opening of_16).actors 1 (Some record { call = the_send; state = still_placing });
+  steps = 4;
+  blocks = 128;
+}
 
 abbrev pub look_fits : Deed
 look_fits = AtSlot 0 (look_for 5) Fits
@@ -41,5 +51,8 @@ pub record WorkedAnswers : Type 0 where
   pub answered_wrongly : ¬ Fate the_end (one_ends 2 send_hello (Refused EAGAIN) ∷ []) the_send
   pub answered_twice : ¬ Fate the_end (the_answers ++ one_ends 2 send_hello Zero ∷ []) the_send
   pub goes_on : ¬ Fate going_on the_answers the_send
+  -- a call under way asks for the size of its own text, and for no other
+  pub looks : Fate (looking 5) [] the_send
+  pub looks_otherwise : ¬ Fate (looking 6) [] the_send
   -- a turn of nobody's call
   pub by_nobody : (deed : Deed) → ¬ IsMade the_calls (record { who = Actor 3 0; deed = deed })

@@ -8,7 +8,7 @@ ghost use Rattle.sysv_core.specs.WorkedSelection.{WorkedSelection};
 ghost use Rattle.sysv_core.specs.WorkedAnswers.{WorkedAnswers};
 
 use sysv_queue::laws::{legal_history, one_legal_reply, queue_law};
-use sysv_steps::laws::each_answer_is_right;
+use sysv_steps::laws::{each_answer_is_right, each_deed_is_asked_for};
 
 /// The headline: every list of happenings leads from every opening only to worlds that obey the laws.
 pub fn every_run_obeys()
@@ -16,6 +16,7 @@ pub fn every_run_obeys()
 {
     legal_history();
     queue_law();
+    each_deed_is_asked_for();
     each_answer_is_right();
 }
 
@@ -69,6 +70,7 @@ pub fn worked_selection()
 pub fn worked_answers()
     ensures { WorkedAnswers }
 {
+    each_deed_is_asked_for();
     each_answer_is_right();
 }
 

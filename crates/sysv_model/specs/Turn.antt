@@ -55,12 +55,12 @@ registry_history turns = flat_map (λ (t : Turn). registry_entry t.who t.deed) t
 abbrev pub pool_history : List Turn → PoolHistory
 pool_history turns = flat_map (λ (t : Turn). pool_entry t.who t.deed) turns
 
--- it is the same call, or the same seat
+-- It is the same call: the actor and the number of its start name one. A seat names none, since one seat
+-- makes the turns of many calls.
 abbrev pub is_same : Who → Who → Bool
 is_same (Actor actor start) (Actor other when) = (actor == other) && (start == when)
-is_same (Seat number) (Seat other) = number == other
 is_same (Actor actor start) (Seat number) = false
-is_same (Seat number) (Actor actor start) = false
+is_same (Seat number) who = false
 
 -- what a call did, in order and across the objects
 abbrev pub deeds_of : Who → List Turn → List Deed

@@ -1,2 +1,4 @@
 pub mod Sends
 pub mod Receives
+pub mod Asking
+pub mod Deciding

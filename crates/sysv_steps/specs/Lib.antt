@@ -15,5 +15,7 @@ pub mod Asks
 pub mod Next
 pub mod Resume
 pub mod Played
+pub mod AsksFor
+pub mod OneAnswer
 pub mod Answers
 pub mod Seen

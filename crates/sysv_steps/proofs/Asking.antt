@@ -1,0 +1,262 @@
+-- Each deed of a play is what the call asked for.
+use Rattle.std.proofs.Common.{◌≡◌, ℕ, ℤ, ◌⊎◌, inl, inr, Bool, true, false, List, [], ◌∷◌, ◌++◌, Option, Some, None, cond, length, sum_by, refl, sym, ap, subst, ◌∙◌, arith}
+use Rattle.std.specs.List.{All}
+use Rattle.std.proofs.lemmas.List.Elements.{All-push}
+use Rattle.sysv_model.specs.declared.cred.Cred.{Cred}
+use Rattle.sysv_model.specs.declared.errno.Errno.TheVariants.{EINVAL}
+use Rattle.sysv_model.specs.declared.flags.Flags.{Flags}
+use Rattle.sysv_model.specs.declared.flags.TheConstants.Flags.{MSG_NOERROR}
+use Rattle.sysv_model.specs.declared.attributes.SetTo.{SetTo}
+use Rattle.sysv_model.specs.HasFlag.{has_flag}
+use Rattle.sysv_model.specs.Selector.{selector_for}
+use Rattle.sysv_model.specs.Message.{Message}
+use Rattle.sysv_model.specs.History.{Reply, Gone, Fits, Installed, Discarded, Install, Probe}
+use Rattle.sysv_model.specs.Registry.{Begin, Forget, RegistryReply, Found, Made, Busy, Changed}
+use Rattle.sysv_model.specs.Pool.{Reserve, PoolReply, Reserved, Released, Foreign, blocks_for}
+use Rattle.sysv_model.specs.Turn.{OfSlot, OfRegistry, OfPool, Deed, AtSlot, AtRegistry, AtPool, asked_by}
+use Rattle.sysv_steps.specs.SlotAt.{slot_at}
+use Rattle.sysv_steps.specs.Call.{SystemCall, Msgget, Msgsnd, Msgrcv, MsgctlStat, MsgctlSet, MsgctlRmid}
+use Rattle.sysv_steps.specs.State.{Getting, Sending, Receiving, Wait, OnSettled, OnFreed, OnReleased, OnArrived, Afterwards, IsRefused, WaitsOn, Phase, AtBegin, AtInstall, AtSettle, AtProbe, AtUnmake, AtLook, AtReserve, AtPlace, AtSendGiveback, AtTake, AtReceiveGiveback, AtStat, AtSet, AtSetGiveback, AtRemove, AtForget, AtRemoveGiveback, Ending, Zero, Refused, State, Goes, Waits, Over}
+use Rattle.sysv_steps.specs.Begin.{is_refused, first, begin}
+use Rattle.sysv_steps.specs.Asks.{asks}
+use Rattle.sysv_steps.specs.Next.{next, after_begin, after_install, after_settle, after_unmake, after_probe, goes_on, after_look, after_reserve, after_place, given, after_take, after_stat, after_set, after_remove, after_forget, after_giveback}
+use Rattle.sysv_steps.specs.Resume.{resume}
+use Rattle.sysv_steps.specs.Played.{Plays, begins, steps, resumes}
+use Rattle.sysv_steps.specs.AsksFor.{AsksFor, AllAskFor}
+
+-- ---- what a call holds is what it was asked
+
+record IsGet (cred : Cred) (key : ℤ) (flags : Flags) (get : Getting) : Type 0 where
+  is : get ≡ record { cred = cred; key = key; flags = flags }
+
+record IsSend (by : Cred) (at type : ℤ) (bytes : List ℕ) (send : Sending) : Type 0 where
+  cred : send.cred ≡ by
+  id : send.id ≡ at
+  mtype : send.mtype ≡ type
+  text : send.text ≡ bytes
+
+record IsReceive (by : Cred) (at : ℤ) (wanted : ℕ) (type : ℤ) (flags : Flags) (receive : Receiving) : Type 0 where
+  cred : receive.cred ≡ by
+  id : receive.id ≡ at
+  selector : receive.selector ≡ selector_for type flags
+  size : receive.size ≡ wanted
+  noerror : receive.noerror ≡ has_flag MSG_NOERROR flags
+
+abbrev WaitOf : Cred → SystemCall → Wait → Type 0
+WaitOf cred (Msgget key flags) (OnSettled goal get) = IsGet cred key flags get
+WaitOf cred (Msgsnd id mtype flags text) (OnFreed goal send) = IsSend cred id mtype text send
+WaitOf cred (Msgsnd id mtype flags text) (OnReleased goal send) = IsSend cred id mtype text send
+WaitOf cred (Msgrcv id size mtype flags) (OnArrived goal receive) = IsReceive cred id size mtype flags receive
+WaitOf cred asked wait = ⊥
+
+abbrev AfterOf : Cred → SystemCall → Afterwards → Type 0
+AfterOf cred asked (IsRefused why) = Unit {0}
+AfterOf cred asked (WaitsOn wait) = WaitOf cred asked wait
+
+abbrev PhaseOf : Cred → SystemCall → Phase → Type 0
+PhaseOf cred (Msgget key flags) (AtBegin get) = IsGet cred key flags get
+PhaseOf cred (Msgget key flags) (AtInstall get id) = IsGet cred key flags get
+PhaseOf cred (Msgget key flags) (AtSettle id) = Unit {0}
+PhaseOf cred (Msgget key flags) (AtProbe get id settled) = IsGet cred key flags get
+PhaseOf cred (Msgget key flags) (AtUnmake id) = Unit {0}
+PhaseOf cred (Msgsnd id mtype flags text) (AtLook send) = IsSend cred id mtype text send
+PhaseOf cred (Msgsnd id mtype flags text) (AtReserve send) = IsSend cred id mtype text send
+PhaseOf cred (Msgsnd id mtype flags text) (AtPlace send blocks) = IsSend cred id mtype text send
+PhaseOf cred (Msgsnd id mtype flags text) (AtSendGiveback blocks afterwards) = AfterOf cred (Msgsnd id mtype flags text) afterwards
+PhaseOf cred (Msgrcv id size mtype flags) (AtTake receive) = IsReceive cred id size mtype flags receive
+PhaseOf cred (Msgrcv id size mtype flags) (AtReceiveGiveback wanted message) = Unit {0}
+PhaseOf cred (MsgctlStat id) (AtStat by at) = (by ≡ cred) × (at ≡ id)
+PhaseOf cred (MsgctlSet id to) (AtSet by at what) = (by ≡ cred) × (at ≡ id) × (what ≡ to)
+PhaseOf cred (MsgctlSet id to) AtSetGiveback = Unit {0}
+PhaseOf cred (MsgctlRmid id) (AtRemove by at) = (by ≡ cred) × (at ≡ id)
+PhaseOf cred (MsgctlRmid id) (AtForget at messages) = at ≡ id
+PhaseOf cred (MsgctlRmid id) (AtRemoveGiveback messages) = Unit {0}
+PhaseOf cred asked phase = ⊥
+
+abbrev StateOf : Cred → SystemCall → State → Type 0
+StateOf cred asked (Goes phase) = PhaseOf cred asked phase
+StateOf cred asked (Waits wait) = WaitOf cred asked wait
+StateOf cred asked (Over ending) = Unit {0}
+
+abbrev NextOf : Cred → SystemCall → Option State → Type 0
+NextOf cred asked None = Unit {0}
+NextOf cred asked (Some state) = StateOf cred asked state
+
+-- ---- it holds them from its start to its end
+
+begun_of : (cred : Cred) (asked : SystemCall) (released : ℕ) (refused : Bool) → StateOf cred asked (cond refused (Over (Refused EINVAL)) (Goes (first cred asked released)))
+begun_of cred asked released true = tt
+begun_of cred (Msgget key flags) released false = record { is = refl }
+begun_of cred (Msgsnd id mtype flags text) released false = record { cred = refl; id = refl; mtype = refl; text = refl }
+begun_of cred (Msgrcv id size mtype flags) released false = record { cred = refl; id = refl; selector = refl; size = refl; noerror = refl }
+begun_of cred (MsgctlStat id) released false = (refl, refl)
+begun_of cred (MsgctlSet id to) released false = (refl, refl, refl)
+begun_of cred (MsgctlRmid id) released false = (refl, refl)
+
+module _ (cred : Cred) where
+  -- msgget
+  begin_keeps : (key : ℤ) (flags : Flags) (get : Getting) (reply : RegistryReply) → IsGet cred key flags get → NextOf cred (Msgget key flags) (after_begin get reply)
+  begin_keeps key flags get (Found id settled) h = h
+  begin_keeps key flags get (Made id) h = h
+  begin_keeps key flags get (Busy settled) h = h
+  begin_keeps key flags get reply h = tt
+
+  install_keeps : (key : ℤ) (flags : Flags) (id : ℤ) (reply : Reply) → NextOf cred (Msgget key flags) (after_install id reply)
+  install_keeps key flags id (Installed true) = tt
+  install_keeps key flags id (Installed false) = tt
+  install_keeps key flags id reply = tt
+
+  probe_keeps : (key : ℤ) (flags : Flags) (get : Getting) (id : ℤ) (settled : ℕ) (reply : Reply) → IsGet cred key flags get → NextOf cred (Msgget key flags) (after_probe get id settled reply)
+  probe_keeps key flags get id settled Gone h = h
+  probe_keeps key flags get id settled reply h = tt
+
+  settle_keeps : (key : ℤ) (flags : Flags) (id : ℤ) (reply : RegistryReply) → NextOf cred (Msgget key flags) (after_settle id reply)
+  settle_keeps key flags id (Changed done) = tt
+  settle_keeps key flags id reply = tt
+
+  unmake_keeps : (key : ℤ) (flags : Flags) (reply : RegistryReply) → NextOf cred (Msgget key flags) (after_unmake reply)
+  unmake_keeps key flags (Changed done) = tt
+  unmake_keeps key flags reply = tt
+
+  got : (key : ℤ) (flags : Flags) (phase : Phase) (deed : Deed) → PhaseOf cred (Msgget key flags) phase → NextOf cred (Msgget key flags) (next phase deed)
+  got key flags (AtBegin get) (AtRegistry call reply) h = begin_keeps key flags get reply h
+  got key flags (AtInstall get id) (AtSlot slot call reply) h = install_keeps key flags id reply
+  got key flags (AtSettle id) (AtRegistry call reply) h = settle_keeps key flags id reply
+  got key flags (AtProbe get id settled) (AtSlot slot call reply) h = probe_keeps key flags get id settled reply h
+  got key flags (AtUnmake id) (AtRegistry call reply) h = unmake_keeps key flags reply
+  got key flags phase deed h = search h
+
+  -- msgsnd
+  module _ (id mtype : ℤ) (flags : Flags) (text : List ℕ) where
+    look_keeps : (send : Sending) (reply : Reply) → IsSend cred id mtype text send → NextOf cred (Msgsnd id mtype flags text) (after_look send reply)
+    look_keeps send Fits h = record { cred = h.cred; id = h.id; mtype = h.mtype; text = h.text }
+    look_keeps send reply h = tt
+
+    reserve_keeps : (send : Sending) (reply : PoolReply) → IsSend cred id mtype text send → NextOf cred (Msgsnd id mtype flags text) (after_reserve send reply)
+    reserve_keeps send (Reserved blocks) h = h
+    reserve_keeps send reply h = tt
+
+    place_keeps : (send : Sending) (blocks : ℕ) (reply : Reply) → NextOf cred (Msgsnd id mtype flags text) (after_place send blocks reply)
+    place_keeps send blocks Gone = tt
+    place_keeps send blocks reply = tt
+
+    giveback_keeps : (afterwards : Afterwards) (reply : PoolReply) → AfterOf cred (Msgsnd id mtype flags text) afterwards → NextOf cred (Msgsnd id mtype flags text) (after_giveback (goes_on afterwards) reply)
+    giveback_keeps (IsRefused why) Released h = tt
+    giveback_keeps (IsRefused why) reply h = tt
+    giveback_keeps (WaitsOn wait) Released h = h
+    giveback_keeps (WaitsOn wait) Foreign h = h
+    giveback_keeps (WaitsOn wait) reply h = tt
+
+    sent : (phase : Phase) (deed : Deed) → PhaseOf cred (Msgsnd id mtype flags text) phase → NextOf cred (Msgsnd id mtype flags text) (next phase deed)
+    sent (AtLook send) (AtSlot slot call reply) h = look_keeps send reply h
+    sent (AtReserve send) (AtPool call reply) h = reserve_keeps send reply h
+    sent (AtPlace send blocks) (AtSlot slot call reply) h = place_keeps send blocks reply
+    sent (AtSendGiveback blocks afterwards) (AtPool call reply) h = giveback_keeps afterwards reply h
+    sent phase deed h = search h
+
+  -- msgrcv
+  take_keeps : (id : ℤ) (size : ℕ) (mtype : ℤ) (flags : Flags) (receive : Receiving) (reply : Reply) → NextOf cred (Msgrcv id size mtype flags) (after_take receive reply)
+  take_keeps id size mtype flags receive Gone = tt
+  take_keeps id size mtype flags receive reply = tt
+
+  over_keeps : (asked : SystemCall) (ending : Ending) (reply : PoolReply) → NextOf cred asked (after_giveback (Over ending) reply)
+  over_keeps asked ending Released = tt
+  over_keeps asked ending reply = tt
+
+  received : (id : ℤ) (size : ℕ) (mtype : ℤ) (flags : Flags) (phase : Phase) (deed : Deed) → PhaseOf cred (Msgrcv id size mtype flags) phase → NextOf cred (Msgrcv id size mtype flags) (next phase deed)
+  received id size mtype flags (AtTake receive) (AtSlot slot call reply) h = take_keeps id size mtype flags receive reply
+  received id size mtype flags (AtReceiveGiveback wanted message) (AtPool call reply) h = over_keeps (Msgrcv id size mtype flags) (given wanted message) reply
+  received id size mtype flags phase deed h = search h
+
+  -- msgctl
+  stat_keeps : (id : ℤ) (reply : Reply) → NextOf cred (MsgctlStat id) (after_stat reply)
+  stat_keeps id Gone = tt
+  stat_keeps id reply = tt
+
+  set_keeps : (id : ℤ) (to : SetTo) (reply : Reply) → NextOf cred (MsgctlSet id to) (after_set reply)
+  set_keeps id to Gone = tt
+  set_keeps id to reply = tt
+
+  remove_keeps : (id at : ℤ) (reply : Reply) → at ≡ id → NextOf cred (MsgctlRmid id) (after_remove at reply)
+  remove_keeps id at (Discarded messages) h = h
+  remove_keeps id at reply h = tt
+
+  forget_keeps : (id : ℤ) (messages : List Message) (reply : RegistryReply) → NextOf cred (MsgctlRmid id) (after_forget messages reply)
+  forget_keeps id messages (Changed done) = tt
+  forget_keeps id messages reply = tt
+
+  told : (id : ℤ) (phase : Phase) (deed : Deed) → PhaseOf cred (MsgctlStat id) phase → NextOf cred (MsgctlStat id) (next phase deed)
+  told id (AtStat by at) (AtSlot slot call reply) h = stat_keeps id reply
+  told id phase deed h = search h
+
+  set : (id : ℤ) (to : SetTo) (phase : Phase) (deed : Deed) → PhaseOf cred (MsgctlSet id to) phase → NextOf cred (MsgctlSet id to) (next phase deed)
+  set id to (AtSet by at what) (AtSlot slot call reply) h = set_keeps id to reply
+  set id to AtSetGiveback (AtPool call reply) h = over_keeps (MsgctlSet id to) Zero reply
+  set id to phase deed h = search h
+
+  removed : (id : ℤ) (phase : Phase) (deed : Deed) → PhaseOf cred (MsgctlRmid id) phase → NextOf cred (MsgctlRmid id) (next phase deed)
+  removed id (AtRemove by at) (AtSlot slot call reply) h = remove_keeps id at reply h.1
+  removed id (AtForget at messages) (AtRegistry call reply) h = forget_keeps id messages reply
+  removed id (AtRemoveGiveback messages) (AtPool call reply) h = over_keeps (MsgctlRmid id) Zero reply
+  removed id phase deed h = search h
+
+  keeps : (asked : SystemCall) (phase : Phase) (deed : Deed) → PhaseOf cred asked phase → NextOf cred asked (next phase deed)
+  keeps (Msgget key flags) phase deed h = got key flags phase deed h
+  keeps (Msgsnd id mtype flags text) phase deed h = sent id mtype flags text phase deed h
+  keeps (Msgrcv id size mtype flags) phase deed h = received id size mtype flags phase deed h
+  keeps (MsgctlStat id) phase deed h = told id phase deed h
+  keeps (MsgctlSet id to) phase deed h = set id to phase deed h
+  keeps (MsgctlRmid id) phase deed h = removed id phase deed h
+
+  resumes_so : (asked : SystemCall) (wait : Wait) (value : ℕ) → WaitOf cred asked wait → PhaseOf cred asked (resume wait value)
+  resumes_so (Msgget key flags) (OnSettled goal get) value h = h
+  resumes_so (Msgsnd id mtype flags text) (OnFreed goal send) value h = h
+  resumes_so (Msgsnd id mtype flags text) (OnReleased goal send) value h = record { cred = h.cred; id = h.id; mtype = h.mtype; text = h.text }
+  resumes_so (Msgrcv id size mtype flags) (OnArrived goal receive) value h = h
+  resumes_so asked wait value h = absurd h
+
+  -- ---- what it asks then
+
+  asks_so : (asked : SystemCall) (phase : Phase) (now : ℕ) → PhaseOf cred asked phase → AsksFor cred asked (asks phase now)
+  asks_so (Msgget key flags) (AtBegin get) now h = inl (ap (λ (g : Getting). OfRegistry (Begin g.key g.flags)) h.is)
+  asks_so (Msgget key flags) (AtInstall get id) now h = inr (inl (id, now, ap (λ (g : Getting). OfSlot (slot_at id) (Install id g.key g.cred g.flags.0 now)) h.is))
+  asks_so (Msgget key flags) (AtSettle id) now h = inr (inr (inl (id, refl)))
+  asks_so (Msgget key flags) (AtProbe get id settled) now h = inr (inr (inr (inl (id, ap (λ (g : Getting). OfSlot (slot_at id) (Probe id g.cred g.flags)) h.is))))
+  asks_so (Msgget key flags) (AtUnmake id) now h = inr (inr (inr (inr (id, refl))))
+  asks_so (Msgsnd id mtype flags text) (AtLook send) now h = let i = h.id in let c = h.cred in let t = h.text in inl cc
+  asks_so (Msgsnd id mtype flags text) (AtReserve send) now h = inr (inl (ap (λ (t : List ℕ). OfPool (Reserve (length t))) h.text))
+  asks_so (Msgsnd id mtype flags text) (AtPlace send blocks) now h = let i = h.id in let c = h.cred in let m = h.mtype in let t = h.text in inr (inr (inl (now, cc)))
+  asks_so (Msgsnd id mtype flags text) (AtSendGiveback blocks afterwards) now h = inr (inr (inr (blocks, refl)))
+  asks_so (Msgrcv id size mtype flags) (AtTake receive) now h =
+      let i = h.id in let c = h.cred in let s = h.selector in let z = h.size in let n = h.noerror in inl (now, cc)
+  asks_so (Msgrcv id size mtype flags) (AtReceiveGiveback wanted message) now h = inr (blocks_for (length message.bytes), refl)
+  asks_so (MsgctlStat id) (AtStat by at) now h = let c = h.0 in let i = h.1 in cc
+  asks_so (MsgctlSet id to) (AtSet by at what) now h = let c = h.0 in let i = h.1 in let t = h.2 in inl (now, cc)
+  asks_so (MsgctlSet id to) AtSetGiveback now h = inr (0, refl)
+  asks_so (MsgctlRmid id) (AtRemove by at) now h = let c = h.0 in let i = h.1 in inl cc
+  asks_so (MsgctlRmid id) (AtForget at messages) now h = inr (inl (ap (λ (i : ℤ). OfRegistry (Forget i)) h))
+  asks_so (MsgctlRmid id) (AtRemoveGiveback messages) now h = inr (inr (sum_by (λ (m : Message). blocks_for (length m.bytes)) messages, refl))
+  asks_so asked phase now h = absurd h
+
+-- ---- along a play
+
+record Asked (cred : Cred) (asked : SystemCall) (deeds : List Deed) (state : State) : Type 0 where
+  holds : StateOf cred asked state
+  all : AllAskFor cred asked deeds
+
+after_one : (cred : Cred) (asked : SystemCall) (phase : Phase) (deed : Deed) (now : ℕ) (after : State) (deeds : List Deed) →
+    asked_by deed ≡ asks phase now → next phase deed ≡ Some after → Asked cred asked deeds (Goes phase) → Asked cred asked (deeds ++ deed ∷ []) after
+after_one cred asked phase deed now after deeds is n a = record {
+  holds = subst (NextOf cred asked) n (keeps cred asked phase deed a.holds);
+  all = All-push (λ (d : Deed). AsksFor cred asked (asked_by d)) deeds deed a.all (subst (AsksFor cred asked) (sym is) (asks_so cred asked phase now a.holds));
+}
+
+along : (cred : Cred) (asked : SystemCall) (released : ℕ) (deeds : List Deed) (state : State) → Plays (begin cred asked released) deeds state → Asked cred asked deeds state
+along cred asked released _ _ begins = record { holds = begun_of cred asked released (is_refused asked); all = λ k d low. absurd (omega (arith, low)) }
+along cred asked released _ _ (steps {deeds} {phase} deed now after p is n) = after_one cred asked phase deed now after deeds is n (along cred asked released deeds (Goes phase) p)
+along cred asked released _ _ (resumes {deeds} {wait} value p least) =
+    let before = along cred asked released deeds (Waits wait) p in
+    record { holds = resumes_so cred asked wait value before.holds; all = before.all }
+
+pub each_asked : (cred : Cred) (asked : SystemCall) (released : ℕ) (deeds : List Deed) (state : State) → Plays (begin cred asked released) deeds state → AllAskFor cred asked deeds
+each_asked cred asked released deeds state p = (along cred asked released deeds state p).all

@@ -1,0 +1,138 @@
+-- Two plays of the same deeds stand at the same place but for the released count that a send has read, and
+-- for a wait that one of them has left: so they end alike.
+use Rattle.std.proofs.Common.{◌≡◌, ℕ, Bool, true, false, List, [], ◌∷◌, ◌++◌, Option, Some, None, cond, refl, sym, ap, ◌∙◌}
+use Rattle.sysv_model.specs.declared.cred.Cred.{Cred}
+use Rattle.sysv_model.specs.declared.errno.Errno.TheVariants.{EINVAL}
+use Rattle.sysv_model.specs.History.{Reply, Fits}
+use Rattle.sysv_model.specs.Registry.{RegistryReply}
+use Rattle.sysv_model.specs.Pool.{PoolReply, TooFew, Released, Foreign}
+use Rattle.sysv_model.specs.Turn.{Deed, AtSlot, AtRegistry, AtPool}
+use Rattle.sysv_steps.specs.Call.{SystemCall, Msgget, Msgsnd, Msgrcv, MsgctlStat, MsgctlSet, MsgctlRmid}
+use Rattle.sysv_steps.specs.State.{Getting, Sending, Receiving, Wait, OnSettled, OnFreed, OnReleased, OnArrived, Afterwards, IsRefused, WaitsOn, Phase, AtBegin, AtInstall, AtSettle, AtProbe, AtUnmake, AtLook, AtReserve, AtPlace, AtSendGiveback, AtTake, AtReceiveGiveback, AtStat, AtSet, AtSetGiveback, AtRemove, AtForget, AtRemoveGiveback, Ending, Refused, State, Goes, Waits, Over}
+use Rattle.sysv_steps.specs.Begin.{is_refused, first, begin}
+use Rattle.sysv_steps.specs.Next.{next, next_of_slot, next_of_registry, next_of_pool, after_look, after_reserve, after_place, after_giveback, goes_on}
+use Rattle.sysv_steps.specs.Resume.{resume}
+use Rattle.sysv_steps.specs.Played.{Plays, begins, steps, resumes}
+
+-- ---- what decides: all but the released count
+
+abbrev bare : Sending → Sending
+bare send = record send { released = 0 }
+
+abbrev bare_wait : Wait → Wait
+bare_wait (OnSettled goal get) = OnSettled goal get
+bare_wait (OnFreed goal send) = OnFreed goal (bare send)
+bare_wait (OnReleased goal send) = OnReleased 0 (bare send)
+bare_wait (OnArrived goal receive) = OnArrived goal receive
+
+abbrev bare_after : Afterwards → Afterwards
+bare_after (IsRefused why) = IsRefused why
+bare_after (WaitsOn wait) = WaitsOn (bare_wait wait)
+
+abbrev bare_phase : Phase → Phase
+bare_phase (AtLook send) = AtLook (bare send)
+bare_phase (AtReserve send) = AtReserve (bare send)
+bare_phase (AtPlace send blocks) = AtPlace (bare send) blocks
+bare_phase (AtSendGiveback blocks afterwards) = AtSendGiveback blocks (bare_after afterwards)
+bare_phase phase = phase
+
+-- a call that waits stands where it goes on
+abbrev core : State → State
+core (Goes phase) = Goes (bare_phase phase)
+core (Waits wait) = Goes (bare_phase (resume wait 0))
+core (Over ending) = Over ending
+
+abbrev core_of : Option State → Option State
+core_of None = None
+core_of (Some state) = Some (core state)
+
+-- ---- the table on it
+
+look_core : (send : Sending) (reply : Reply) → core_of (after_look (bare send) reply) ≡ core_of (after_look send reply)
+look_core send Fits = refl
+look_core send reply = refl
+
+place_core : (send : Sending) (blocks : ℕ) (reply : Reply) → core_of (after_place (bare send) blocks reply) ≡ core_of (after_place send blocks reply)
+place_core send blocks Fits = refl
+place_core send blocks reply = refl
+
+reserve_core : (send : Sending) (reply : PoolReply) → core_of (after_reserve (bare send) reply) ≡ core_of (after_reserve send reply)
+reserve_core send TooFew = refl
+reserve_core send reply = refl
+
+waits_core : (wait : Wait) → core (goes_on (bare_after (WaitsOn wait))) ≡ core (goes_on (WaitsOn wait))
+waits_core (OnSettled goal get) = refl
+waits_core wait = refl
+
+giveback_core : (afterwards : Afterwards) (reply : PoolReply) → core_of (after_giveback (goes_on (bare_after afterwards)) reply) ≡ core_of (after_giveback (goes_on afterwards) reply)
+giveback_core (IsRefused why) reply = refl
+giveback_core (WaitsOn wait) Released = ap Some (waits_core wait)
+giveback_core (WaitsOn wait) Foreign = ap Some (waits_core wait)
+giveback_core (WaitsOn wait) reply = refl
+
+of_slot : (phase : Phase) (reply : Reply) → core_of (next_of_slot (bare_phase phase) reply) ≡ core_of (next_of_slot phase reply)
+of_slot (AtLook send) reply = look_core send reply
+of_slot (AtPlace send blocks) reply = place_core send blocks reply
+of_slot phase reply = refl
+
+of_registry : (phase : Phase) (reply : RegistryReply) → core_of (next_of_registry (bare_phase phase) reply) ≡ core_of (next_of_registry phase reply)
+of_registry (AtBegin get) reply = refl
+of_registry phase reply = refl
+
+of_pool : (phase : Phase) (reply : PoolReply) → core_of (next_of_pool (bare_phase phase) reply) ≡ core_of (next_of_pool phase reply)
+of_pool (AtReserve send) reply = reserve_core send reply
+of_pool (AtSendGiveback blocks afterwards) reply = giveback_core afterwards reply
+of_pool phase reply = refl
+
+of_deed : (phase : Phase) (deed : Deed) → core_of (next (bare_phase phase) deed) ≡ core_of (next phase deed)
+of_deed phase (AtSlot slot call reply) = of_slot phase reply
+of_deed phase (AtRegistry call reply) = of_registry phase reply
+of_deed phase (AtPool call reply) = of_pool phase reply
+
+resumed : (wait : Wait) (value : ℕ) → bare_phase (resume wait 0) ≡ bare_phase (resume wait value)
+resumed (OnSettled goal get) value = refl
+resumed (OnFreed goal send) value = refl
+resumed (OnReleased goal send) value = refl
+resumed (OnArrived goal receive) value = refl
+
+-- ---- the table along deeds
+
+abbrev one_more : Option State → Deed → Option State
+one_more (Some (Goes phase)) deed = core_of (next phase deed)
+one_more state deed = None
+
+abbrev along : Option State → List Deed → Option State
+along state [] = state
+along state (deed ∷ deeds) = along (one_more state deed) deeds
+
+along_more : (state : Option State) (deeds : List Deed) (deed : Deed) → along state (deeds ++ deed ∷ []) ≡ one_more (along state deeds) deed
+along_more state [] deed = refl
+along_more state (d ∷ deeds) deed = along_more (one_more state d) deeds deed
+
+leads : (from : State) (deeds : List Deed) (state : State) → Plays from deeds state → along (Some (core from)) deeds ≡ Some (core state)
+leads from _ _ begins = refl
+leads from _ _ (steps {deeds} {phase} deed now after p asked n) =
+    along_more (Some (core from)) deeds deed
+    ∙ (ap (λ s. one_more s deed) (leads from deeds (Goes phase) p) ∙ (of_deed phase deed ∙ ap core_of n))
+leads from _ _ (resumes {deeds} {wait} value p least) = leads from deeds (Waits wait) p ∙ ap (λ ph. Some (Goes ph)) (resumed wait value)
+
+-- ---- one beginning, and one end
+
+begun_alike : (cred : Cred) (asked : SystemCall) (released later : ℕ) (refused : Bool) →
+    core (cond refused (Over (Refused EINVAL)) (Goes (first cred asked released))) ≡ core (cond refused (Over (Refused EINVAL)) (Goes (first cred asked later)))
+begun_alike cred asked released later true = refl
+begun_alike cred (Msgget key flags) released later false = refl
+begun_alike cred (Msgsnd id mtype flags text) released later false = refl
+begun_alike cred (Msgrcv id size mtype flags) released later false = refl
+begun_alike cred (MsgctlStat id) released later false = refl
+begun_alike cred (MsgctlSet id to) released later false = refl
+begun_alike cred (MsgctlRmid id) released later false = refl
+
+pub one_end : (cred : Cred) (asked : SystemCall) (released later : ℕ) (deeds : List Deed) (one other : Ending) →
+    Plays (begin cred asked released) deeds (Over one) → Plays (begin cred asked later) deeds (Over other) → one ≡ other
+one_end cred asked released later deeds one other p q =
+    let here = leads (begin cred asked released) deeds (Over one) p in
+    let there = leads (begin cred asked later) deeds (Over other) q in
+    let alike = ap (λ s. along (Some s) deeds) (begun_alike cred asked released later (is_refused asked)) in
+    let same : Some (Over one) ≡ Some (Over other) = sym here ∙ (alike ∙ there) in
+    cc

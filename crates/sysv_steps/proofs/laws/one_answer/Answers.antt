@@ -1,0 +1,5 @@
+use Rattle.sysv_steps.proofs.Deciding.{one_end}
+use Rattle.sysv_steps.proofs.laws.one_answer.Goals as goal
+
+pub returns : goal.returns
+returns c = one_end

@@ -1,0 +1,49 @@
+-- What a call asks of the objects (this profile's): what its arguments name, under its credentials, and
+-- nothing else. The moment of a turn is that of the step, and the identifier that a msgget made or found,
+-- and the blocks of a chain that comes back, are what an earlier reply gave.
+use Rattle.std.specs.Prelude.{◌≡◌, ℕ, ℤ, ◌⊎◌, List, length, All}
+use Rattle.sysv_model.specs.declared.cred.Cred.{Cred}
+use Rattle.sysv_model.specs.declared.flags.TheConstants.Flags.{MSG_NOERROR}
+use Rattle.sysv_model.specs.HasFlag.{has_flag}
+use Rattle.sysv_model.specs.Selector.{selector_for}
+use Rattle.sysv_model.specs.History.{Install, Probe, Look, Place, Take, ReadStat, Set, Remove}
+use Rattle.sysv_model.specs.Registry.{Begin, Settle, Forget}
+use Rattle.sysv_model.specs.Pool.{Reserve, Release}
+use Rattle.sysv_model.specs.Turn.{Ask, OfSlot, OfRegistry, OfPool, Deed, asked_by}
+use Rattle.sysv_steps.specs.SlotAt.{slot_at}
+use Rattle.sysv_steps.specs.Call.{SystemCall, Msgget, Msgsnd, Msgrcv, MsgctlStat, MsgctlSet, MsgctlRmid}
+use Rattle.sysv_steps.specs.State.{State}
+use Rattle.sysv_steps.specs.Begin.{begin}
+use Rattle.sysv_steps.specs.Played.{Plays}
+
+-- blocks come back to the pool
+abbrev pub GivesBack : Ask → Type 0
+GivesBack ask = (blocks : ℕ) × (ask ≡ OfPool (Release blocks))
+
+abbrev pub AsksFor : Cred → SystemCall → Ask → Type 0
+AsksFor cred (Msgget key flags) ask =
+    (ask ≡ OfRegistry (Begin key flags))
+    ⊎ ((id : ℤ) × (now : ℕ) × (ask ≡ OfSlot (slot_at id) (Install id key cred flags.0 now)))
+    ⊎ ((id : ℤ) × (ask ≡ OfRegistry (Settle id)))
+    ⊎ ((id : ℤ) × (ask ≡ OfSlot (slot_at id) (Probe id cred flags)))
+    ⊎ ((id : ℤ) × (ask ≡ OfRegistry (Forget id)))
+AsksFor cred (Msgsnd id mtype flags text) ask =
+    (ask ≡ OfSlot (slot_at id) (Look id cred (length text)))
+    ⊎ (ask ≡ OfPool (Reserve (length text)))
+    ⊎ ((now : ℕ) × (ask ≡ OfSlot (slot_at id) (Place id cred mtype text now)))
+    ⊎ GivesBack ask
+AsksFor cred (Msgrcv id size mtype flags) ask =
+    ((now : ℕ) × (ask ≡ OfSlot (slot_at id) (Take id cred (selector_for mtype flags) size (has_flag MSG_NOERROR flags) now)))
+    ⊎ GivesBack ask
+AsksFor cred (MsgctlStat id) ask = ask ≡ OfSlot (slot_at id) (ReadStat id cred)
+AsksFor cred (MsgctlSet id to) ask = ((now : ℕ) × (ask ≡ OfSlot (slot_at id) (Set id cred to now))) ⊎ GivesBack ask
+AsksFor cred (MsgctlRmid id) ask = (ask ≡ OfSlot (slot_at id) (Remove id cred)) ⊎ (ask ≡ OfRegistry (Forget id)) ⊎ GivesBack ask
+
+-- each deed of the call asks for that
+abbrev pub AllAskFor : Cred → SystemCall → List Deed → Type 0
+AllAskFor cred asked deeds = All (λ (deed : Deed). AsksFor cred asked (asked_by deed)) deeds
+
+-- a call asks for nothing else, however far it has come
+abbrev pub EachDeedIsAskedFor : Type 0
+EachDeedIsAskedFor = (cred : Cred) (asked : SystemCall) (released : ℕ) (deeds : List Deed) (state : State) →
+    Plays (begin cred asked released) deeds state → AllAskFor cred asked deeds
