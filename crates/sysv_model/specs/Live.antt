@@ -5,7 +5,12 @@ use Rattle.std.specs.Prelude.{◌≡◌, ℕ, ℤ, ◌%◌, true, Option, Some, 
 use Rattle.sysv_model.specs.declared.cred.Cred.{Cred}
 use Rattle.sysv_model.specs.declared.attributes.Attributes.{Attributes}
 use Rattle.sysv_model.specs.declared.attributes.SetTo.{SetTo}
+use Rattle.sysv_model.specs.declared.limits.TheConstants.{QBYTES_AT_CREATION}
 use Rattle.sysv_model.specs.History.{Call, Install, Place, Take, Set, Remove, Reply, Installed, Accepted, Taken, Done, Discarded, Entry, History}
+
+-- the permission bits of a mode, which are its low nine
+abbrev pub low_nine : ℕ → ℕ
+low_nine mode = mode % 512
 
 -- a new queue: owner and creator are the caller, no one has sent or received, ctime is now, and the
 -- limit is this profile's 16,384 bytes
@@ -13,8 +18,8 @@ abbrev pub created : ℤ → ℤ → Cred → ℕ → ℕ → Attributes
 created id key cred mode now = record {
   id = id;
   key = key;
-  perm = record { uid = cred.uid; gid = cred.gid; cuid = cred.uid; cgid = cred.gid; mode = mode % 512 };
-  qbytes = 16384;
+  perm = record { uid = cred.uid; gid = cred.gid; cuid = cred.uid; cgid = cred.gid; mode = low_nine mode };
+  qbytes = QBYTES_AT_CREATION;
   lspid = 0;
   lrpid = 0;
   stime = 0;
@@ -31,7 +36,7 @@ received_from cred now a = record a { lrpid = cred.pid; rtime = now }
 
 abbrev pub changed_to : SetTo → ℕ → Attributes → Attributes
 changed_to to now a = record a {
-  perm = record { uid = to.uid; gid = to.gid; cuid = a.perm.cuid; cgid = a.perm.cgid; mode = to.mode % 512 };
+  perm = record { uid = to.uid; gid = to.gid; cuid = a.perm.cuid; cgid = a.perm.cgid; mode = low_nine to.mode };
   qbytes = to.qbytes;
   ctime = now;
 }

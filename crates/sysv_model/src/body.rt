@@ -1,4 +1,5 @@
-ghost use Rattle.std.specs.Prelude.{◌≡◌, ◌+◌, ◌<◌, ◌≤◌, [], ◌++◌, length, slice_get, Some, IfOk, true, false, if◌then◌else◌};
+ghost use Rattle.std.specs.Prelude.{◌≡◌, ◌+◌, ◌<◌, ◌≤◌, [], ◌++◌, length, take, slice_get, Some, IfOk, true, false, if◌then◌else◌};
+ghost use Rattle.sysv_model.specs.declared.limits.TheConstants.{BODY_ROOM};
 ghost use Rattle.sysv_model.specs.Blocks.{block_of};
 
 use crate::limits::{BLOCK_BYTES, BODY_ROOM};
@@ -16,12 +17,13 @@ pub struct Body {
 impl Model for Body {
     ghost use Rattle.std.specs.Prelude.{List, ℕ, ◌≤◌, vec_len, vec_capacity};
     ghost use Rattle.std.specs.Coded.{coded_list, coded_ℕ};
+    ghost use Rattle.sysv_model.specs.declared.limits.TheConstants.{BODY_ROOM};
 
     ghost Value = { List ℕ };
 
     ghost view = { λ b. b.bytes.items };
 
-    ghost invariant = { λ b. (vec_len b.bytes ≤ 8256) × (8256 ≤ vec_capacity b.bytes) };
+    ghost invariant = { λ b. (vec_len b.bytes ≤ BODY_ROOM) × (BODY_ROOM ≤ vec_capacity b.bytes) };
 }
 
 impl Body {
@@ -40,11 +42,18 @@ impl Body {
         self.bytes.clear();
     }
 
+    /// Forgets all but the first `len` bytes. A body of `len` bytes or fewer stays as it is.
+    pub fn truncate(&mut self, len: usize)
+        ensures { self.new ≡ take len self.old }
+    {
+        self.bytes.truncate(len);
+    }
+
     /// Adds a piece at the end if there is room for all of it; `false`, with nothing changed, where
     /// the bytes would be more than 8,256.
     pub fn push_piece(&mut self, piece: &[u8]) -> bool
-        ensures fits { length self.old + length piece.now ≤ 8256 → result ≡ true }
-        ensures refused { 8256 < length self.old + length piece.now → result ≡ false }
+        ensures fits { length self.old + length piece.now ≤ BODY_ROOM → result ≡ true }
+        ensures refused { BODY_ROOM < length self.old + length piece.now → result ≡ false }
         ensures after { self.new ≡ (if result then self.old ++ piece.now else self.old) }
     {
         if piece.len() > BODY_ROOM - self.bytes.len() {
@@ -56,7 +65,7 @@ impl Body {
     /// The number of bytes, 0 to 8,256.
     pub fn len(&self) -> usize
         ensures value { result ≡ length self.now }
-        ensures room { result ≤ 8256 }
+        ensures room { result ≤ BODY_ROOM }
     {
         self.bytes.len()
     }
@@ -147,6 +156,16 @@ mod tests {
             assert_eq!(rt; body.block(k).len(), len, "block {k}");
         }
         assert_eq!(rt; body.block(2), b"xx".as_slice());
+    }
+
+    #[test]
+    fn a_text_is_cut(rt: HostRuntime) {
+        let mut body = open_body(&rt, rt.alloc());
+        assert!(rt; body.push_piece(b"hello"));
+        body.truncate(9);
+        assert_eq!(rt; body.block(0), b"hello".as_slice());
+        body.truncate(2);
+        assert_eq!(rt; body.block(0), b"he".as_slice());
     }
 
     #[test]

@@ -9,6 +9,7 @@ pub use Rattle.sysv_rules.specs.Qualifies
 pub mod Slot
 pub mod Fits
 pub mod Granted
+pub mod Barred
 pub mod Named
 pub mod LegalReply
 pub mod StandsFor

@@ -1,12 +1,14 @@
 ghost use Rattle.std.specs.Prelude.{false, ℕ, ◌≡◌, ◌+◌, ◌^◌, ◌<◌, ◌≤◌, ◌↔◌, [], ◌∷◌, ◌++◌, length, take, slice_get, IfOk, IfErr, Some, IsTrue, MatchOption, remove, option_map};
+ghost use Rattle.sysv_model.specs.declared.limits.TheConstants.{QUEUE_MESSAGES};
 ghost use Rattle.sysv_model.specs.Message.{Message};
 ghost use Rattle.sysv_model.specs.History.{Install, Place, Take, Installed, Taken};
 ghost use Rattle.sysv_model.specs.History.{Look as LookCall};
 ghost use Rattle.sysv_model.specs.Live.{HasId, sent_to, received_from};
 ghost use Rattle.sysv_queue.specs.Fits.{bytes_of};
+ghost use Rattle.sysv_queue.specs.Fits.{Fits as FitsOn};
 ghost use Rattle.sysv_queue.specs.Granted.{IsGranted};
+ghost use Rattle.sysv_queue.specs.Barred.{Bars};
 ghost use Rattle.sysv_queue.specs.Named.{IsNamed};
-ghost use Rattle.sysv_queue.specs.LegalReply.{HasRoom};
 ghost use Rattle.sysv_queue.specs.StandsFor.{StandsFor, MakesTurn};
 ghost use Rattle.sysv_queue.specs.Replies.{look_reply, unplaced_reply, place_reply, untaken_reply, Gives};
 
@@ -87,6 +89,15 @@ pub enum TakeRefused {
     TooLong,
 }
 
+/// Why a call does not come to the queue that it names.
+#[derive(Clone, Copy)]
+enum Barred {
+    /// The identifier is not live.
+    Gone,
+    /// What the caller wants is not granted.
+    Denied,
+}
+
 /// A message that waits.
 #[derive(Drop)]
 struct Waiting {
@@ -115,6 +126,7 @@ impl Model for QueueSlot {
 
     ghost Value = { Slot };
 
+    ghost use Rattle.sysv_model.specs.declared.limits.TheConstants.{QUEUE_MESSAGES};
     ghost use Rattle.sysv_queue.specs.Fits.{bytes_of};
     ghost use Rattle.sysv_queue.specs.Kept.{messages_of};
     ghost use Rattle.sysv_queue.specs.Named.{types_of};
@@ -122,7 +134,7 @@ impl Model for QueueSlot {
     ghost view = { λ s. record { live = s.live; messages = messages_of s.messages.items; arrived = s.arrived; freed = s.freed } };
 
     // The types stand in a list of their own, where a selection reads them as they lie.
-    ghost invariant = { λ s. (vec_len s.messages ≤ 256) × (256 ≤ vec_capacity s.messages) × (256 ≤ vec_capacity s.types)
+    ghost invariant = { λ s. (vec_len s.messages ≤ QUEUE_MESSAGES) × (QUEUE_MESSAGES ≤ vec_capacity s.messages) × (QUEUE_MESSAGES ≤ vec_capacity s.types)
         × (s.types.items ≡ types_of (messages_of s.messages.items)) × (s.cbytes ≡ bytes_of (messages_of s.messages.items)) };
 }
 
@@ -185,52 +197,43 @@ impl QueueSlot {
         ensures turn { MakesTurn self.now (LookCall id cred size) (look_reply result) self.now }
         ensures small { result ≡ Look.Fits → bytes_of self.now.messages + size < 2 ^ 32 }
     {
-        if !self.is_live(id) {
-            return Look::Gone;
-        }
-        if !self.permits(cred, Want::Write) {
-            return Look::Denied;
-        }
-        if self.fits(size) {
-            Look::Fits
-        } else {
-            Look::Full { freed: self.freed }
+        match self.enter(id, cred, Want::Write) {
+            Ok(queue) => {
+                if self.has_room(queue.qbytes, size) {
+                    Look::Fits
+                } else {
+                    Look::Full { freed: self.freed }
+                }
+            }
+            Err(Barred::Gone) => Look::Gone,
+            Err(Barred::Denied) => Look::Denied,
         }
     }
 
-    /// Whether the live queue has this identifier.
-    fn is_live(&self, id: i32) -> bool
-        ensures { IsTrue result ↔ HasId self.now.live id }
+    /// The live queue, where it has this identifier and the caller may do with it what it wants.
+    fn enter(&self, id: i32, cred: Cred, want: Want) -> Result<Attributes, Barred>
+        ensures enters { IfOk result (λ queue. (self.now.live ≡ Some queue) × HasId self.now.live id × IsGranted want cred self.now.live) }
+        ensures barred { IfErr result (Bars id cred want self.now.live) }
     {
-        match &self.live {
-            Some(queue) => queue.id == id,
-            None => false,
+        match self.live {
+            Some(queue) if queue.id == id => {
+                if may(cred, queue.perm, want) {
+                    Ok(queue)
+                } else {
+                    Err(Barred::Denied)
+                }
+            }
+            _ => Err(Barred::Gone),
         }
     }
 
-    /// Whether a queue lives, and the caller may do what it wants with it.
-    fn permits(&self, cred: Cred, want: Want) -> bool
-        ensures { IsTrue result ↔ IsGranted want cred self.now.live }
-    {
-        match &self.live {
-            Some(queue) => may(cred, queue.perm, want),
-            None => false,
-        }
-    }
-
-    /// Whether a queue lives, and has room for a message of `size` bytes.
-    fn fits(&self, size: usize) -> bool
-        ensures room { IsTrue result ↔ HasRoom self.now size }
+    /// Whether a message of `size` bytes fits on a queue with this limit.
+    fn has_room(&self, qbytes: u32, size: usize) -> bool
+        ensures room { IsTrue result ↔ FitsOn qbytes self.now.messages size }
         ensures small { IsTrue result → bytes_of self.now.messages + size < 2 ^ 32 }
     {
-        match &self.live {
-            Some(queue) => {
-                let room = queue.qbytes.checked_sub(self.cbytes);
-                room.is_some_and(|room| size <= room as usize)
-                    && self.messages.len() < QUEUE_MESSAGES
-            }
-            None => false,
-        }
+        let room = qbytes.checked_sub(self.cbytes);
+        room.is_some_and(|room| size <= room as usize) && self.messages.len() < QUEUE_MESSAGES
     }
 
     /// The place of the message that `sel` names.
@@ -242,7 +245,7 @@ impl QueueSlot {
 
     /// Puts a message that fits at the end.
     fn accept(&mut self, cred: Cred, mtype: i64, body: Body, now: u64) -> u64
-        requires few { length self.old.messages < 256 }
+        requires few { length self.old.messages < QUEUE_MESSAGES }
         requires small { bytes_of self.old.messages + length body < 2 ^ 32 }
         requires count { self.old.arrived < 2 ^ 63 }
         ensures number { result ≡ self.old.arrived }
@@ -299,7 +302,8 @@ impl QueueSlot {
             rtime: now,
             ..queue
         });
-        give(body, size as usize, out);
+        *out = body;
+        out.truncate(size as usize);
         Delivery {
             mtype,
             len: out.len(),
@@ -362,11 +366,10 @@ impl QueueSlot {
         ensures refused { IfErr result (λ why. MakesTurn self.old (Take id cred sel size noerror now) (untaken_reply why) self.new
             × (self.new ≡ self.old) × (out.new ≡ out.old)) }
     {
-        if !self.is_live(id) {
-            return Err(TakeRefused::Gone);
-        }
-        if !self.permits(cred, Want::Read) {
-            return Err(TakeRefused::Denied);
+        match self.enter(id, cred, Want::Read) {
+            Ok(_) => {}
+            Err(Barred::Gone) => return Err(TakeRefused::Gone),
+            Err(Barred::Denied) => return Err(TakeRefused::Denied),
         }
         let Some(place) = self.named(sel) else {
             return Err(TakeRefused::NoMatch {
@@ -385,20 +388,6 @@ impl QueueSlot {
         ensures freed { result.1 ≡ self.now.freed }
     {
         (self.arrived, self.freed)
-    }
-}
-
-/// Puts the first `size` bytes of `body` into `out`, in the place of what was there.
-fn give(body: Body, size: usize, out: &mut Body)
-    ensures { out.new ≡ take size body }
-{
-    if body.len() <= size {
-        *out = body;
-        return;
-    }
-    out.clear();
-    for i in 0..size {
-        let _fits = out.push_piece(&[body.byte(i)]);
     }
 }
 

@@ -48,7 +48,7 @@ returns-clause-given c =
     let there = message_at ws (length ws) c.args.place w refl within c.remove-number.ensures.value in (
       message_of w,
       subst (λ ms. slice_get ms c.args.place ≡ Some (message_of w)) (ap (λ (s : Slot). s.messages) c.self.view_is) there,
-      record { mtype = to_z-of_z w64 w.mtype (search rules); sender = refl; number = refl; text = c.give.ensures; len = c.len-2.ensures.value },
+      record { mtype = to_z-of_z w64 w.mtype (search rules); sender = refl; number = refl; text = c.truncate.ensures; len = c.len-2.ensures.value },
     )
 
 pub returns-clause-after : goal.returns-clause-after

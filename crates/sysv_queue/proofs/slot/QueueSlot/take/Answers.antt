@@ -1,9 +1,7 @@
 use Rattle.std.proofs.Common.{◌≡◌, ◌<◌, length, slice_get, Some, sym, ap, subst, arith, refl, w32, inl, inr}
 use Rattle.std.proofs.lemmas.Int.{to_z-of_z}
 use Rattle.sysv_model.specs.Message.{Message}
-use Rattle.sysv_model.specs.Live.{HasId}
 use Rattle.sysv_queue.specs.Slot.{Slot}
-use Rattle.sysv_queue.specs.Granted.{MayRead}
 use Rattle.sysv_queue.specs.LegalReply.{IsGivable}
 use Rattle.sysv_queue.specs.Kept.{message_of}
 use Rattle.sysv_queue.proofs.Removal.{message_at, kept_within, named_within}
@@ -13,24 +11,21 @@ use Rattle.sysv_queue.proofs.Stands.{turn_quiet, turn_taken}
 use Rattle.sysv_queue.proofs.slot.QueueSlot.take.Goals as goal
 use Rattle.sysv_queue.proofs.slot.QueueSlot.take.Goals.{else-len-size-via-then-len-size+else-not-noerror, else-len-size-via-else-len-size}
 
-pub returns-then-not-is_live-clause-refused : goal.returns-then-not-is_live-clause-refused
-returns-then-not-is_live-clause-refused c =
-    let same = to_z-of_z w32 c.args.id c.ranges.id in
-    let gone : ¬ HasId c.args.self.now.live c.args.id = λ lives. let t = c.is_live.ensures.1 (subst (HasId c.args.self.now.live) (sym same) lives) in cc in
+pub returns-in-Err-Gone-clause-refused : goal.returns-in-Err-Gone-clause-refused
+returns-in-Err-Gone-clause-refused c =
+    let gone = rw (to_z-of_z w32 c.args.id c.ranges.id, c.in-Err-Gone.field-0-is) at c.in-Err-Gone.ensures.barred in
     (turn_quiet _ _ _ (quiet_take_gone c.args.id c.args.cred c.args.sel c.args.size c.args.noerror c.args.now) gone, refl, refl)
 
-pub returns-then-not-permits-clause-refused : goal.returns-then-not-permits-clause-refused
-returns-then-not-permits-clause-refused c =
-    let lives : HasId c.args.self.now.live c.args.id = subst (HasId c.args.self.now.live) (to_z-of_z w32 c.args.id c.ranges.id) (c.is_live.ensures.0 c.if-not-is_live.false) in
-    let denied : ¬ MayRead c.args.cred c.args.self.now.live = λ granted. let t = c.permits.ensures.1 granted in cc in
-    (turn_quiet _ _ _ (quiet_take_denied c.args.id c.args.cred c.args.sel c.args.size c.args.noerror c.args.now) (lives, denied), refl, refl)
+pub returns-in-Err-Denied-clause-refused : goal.returns-in-Err-Denied-clause-refused
+returns-in-Err-Denied-clause-refused c =
+    let denied = rw (to_z-of_z w32 c.args.id c.ranges.id, c.in-Err-Denied.field-0-is) at c.in-Err-Denied.ensures.barred in
+    (turn_quiet _ _ _ (quiet_take_denied c.args.id c.args.cred c.args.sel c.args.size c.args.noerror c.args.now) denied, refl, refl)
 
 pub returns-in_default-clause-refused : goal.returns-in_default-clause-refused
 returns-in_default-clause-refused c =
-    let lives : HasId c.args.self.now.live c.args.id = subst (HasId c.args.self.now.live) (to_z-of_z w32 c.args.id c.ranges.id) (c.is_live.ensures.0 c.if-not-is_live.false) in
-    let granted : MayRead c.args.cred c.args.self.now.live = c.permits.ensures.0 c.if-not-permits.false in (
+    let found = rw (to_z-of_z w32 c.args.id c.ranges.id) at c.in-Ok.ensures.enters in (
       turn_quiet _ _ _ (quiet_take_no_match c.args.id c.args.cred c.args.sel c.args.size c.args.noerror c.args.now c.self.inside.arrived)
-          (lives, granted, c.in_default.ensures, ap (λ (s : Slot). s.arrived) c.self.view_is),
+          (found.1, found.2, c.in_default.ensures, ap (λ (s : Slot). s.arrived) c.self.view_is),
       refl,
       refl,
     )
@@ -45,8 +40,7 @@ index-requires c =
 
 pub returns-then-not-noerror-clause-refused : goal.returns-then-not-noerror-clause-refused
 returns-then-not-noerror-clause-refused c =
-    let lives : HasId c.args.self.now.live c.args.id = subst (HasId c.args.self.now.live) (to_z-of_z w32 c.args.id c.ranges.id) (c.is_live.ensures.0 c.if-not-is_live.false) in
-    let granted : MayRead c.args.cred c.args.self.now.live = c.permits.ensures.0 c.if-not-permits.false in
+    let found = rw (to_z-of_z w32 c.args.id c.ranges.id) at c.in-Ok.ensures.enters in
     let ws = c.self.inside.messages.items in
     let place = c.in-Some.place in
     let m : Message = message_of c.index.result.now in
@@ -55,7 +49,7 @@ returns-then-not-noerror-clause-refused c =
     let at = message_at ws (length ws) place c.index.result.now refl kept c.index.ensures in
     let there = subst (λ ms. slice_get ms place ≡ Some m) (ap (λ (s : Slot). s.messages) c.self.view_is) at in (
       turn_quiet _ _ _ (quiet_take_too_long c.args.id c.args.cred c.args.sel c.args.size c.args.noerror c.args.now)
-          (lives, granted, (m, (place, c.in-Some.ensures, there), never_given c.args.size c.args.noerror m (omega arith) c.if-not-noerror.true)),
+          (found.1, found.2, (m, (place, c.in-Some.ensures, there), never_given c.args.size c.args.noerror m (omega arith) c.if-not-noerror.true)),
       refl,
       refl,
     )
@@ -67,8 +61,7 @@ pub returns-clause-taken : goal.returns-clause-taken
 returns-clause-taken c =
     let m = c.release.ensures.given.0 in
     let there = c.release.ensures.given.1 in
-    let lives : HasId c.args.self.now.live c.args.id = subst (HasId c.args.self.now.live) (to_z-of_z w32 c.args.id c.ranges.id) (c.is_live.ensures.0 c.if-not-is_live.false) in
-    let granted : MayRead c.args.cred c.args.self.now.live = c.permits.ensures.0 c.if-not-permits.false in
+    let found = rw (to_z-of_z w32 c.args.id c.ranges.id) at c.in-Ok.ensures.enters in
     let ws = c.self.inside.messages.items in
     let place = c.in-Some.place in
     let within = named_within c.args.sel _ place c.in-Some.ensures in
@@ -83,5 +76,5 @@ returns-clause-taken c =
       m,
       c.release.ensures.given.2,
       rw c.release.ensures.after (turn_taken c.args.self.now c.args.id c.args.cred c.args.sel c.args.size c.args.noerror c.args.now m place there
-          (lives, granted, (place, c.in-Some.ensures, there), givable)),
+          (found.1, found.2, (place, c.in-Some.ensures, there), givable)),
     )

@@ -1,0 +1,14 @@
+-- What bars a call from the queue that it names (this profile's): the identifier is not live, or what the
+-- caller wants is not granted.
+use Rattle.std.specs.Prelude.{ℤ, Option}
+use Rattle.sysv_model.specs.declared.cred.Cred.{Cred}
+use Rattle.sysv_model.specs.declared.attributes.Attributes.{Attributes}
+use Rattle.sysv_model.specs.Live.{HasId}
+use Rattle.sysv_rules.specs.declared.permission.Want.{Want}
+use Rattle.sysv_queue.specs.declared.slot.Barred.{Barred}
+use Rattle.sysv_queue.specs.declared.slot.Barred.TheVariants.{Gone, Denied}
+use Rattle.sysv_queue.specs.Granted.{IsGranted}
+
+abbrev pub Bars : ℤ → Cred → Want → Option Attributes → Barred → Type 0
+Bars id cred want live Gone = ¬ HasId live id
+Bars id cred want live Denied = HasId live id × ¬ IsGranted want cred live
