@@ -10,7 +10,7 @@ use Rattle.std.proofs.KnownBytes.{Appends-nil, Appends-trans}
 use Rattle.sysv_script.specs.ScriptRun.{Scene}
 use Rattle.sysv_script.specs.declared.stage.Stage.{Stage}
 use Rattle.sysv_script.specs.Staged.{IsSceneOf}
-use Rattle.sysv_script.specs.Words.{SplitsAt}
+use Rattle.sysv_lines.specs.Words.{SplitsAt}
 use Rattle.sysv_script.specs.Streams.{AppendsPart, HandsOn, TakesIn}
 use Rattle.sysv_script.specs.Found.{HasNoEnd, IsFirstLine, IsLastLine, IsNextLine, HasNoLine}
 use Rattle.sysv_script.specs.Faults.{IsFrontOf, bad_line_text}

@@ -2,8 +2,8 @@
 -- says its number, counted from 1, and a script has at most 1,000,000 lines.
 use Rattle.std.specs.Prelude.{◌≡◌, ◌≤◌, ⊤, ℕ, List, [], ◌∷◌, ◌++◌, take, Option}
 use Rattle.std.specs.Io.KnownBytes.{Appends}
-use Rattle.sysv_script.specs.Heads.{head_text}
-use Rattle.sysv_script.specs.declared.head.Head.TheVariants.{Bad}
+use Rattle.sysv_lines.specs.Heads.{head_text}
+use Rattle.sysv_lines.specs.declared.head.Head.TheVariants.{Bad}
 use Rattle.sysv_script.specs.declared.script.ScriptFault.{ScriptFault}
 use Rattle.sysv_script.specs.declared.script.ScriptFault.TheVariants.{Line, Read, Write, NoMemory, Bound}
 

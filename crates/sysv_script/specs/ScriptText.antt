@@ -2,10 +2,10 @@
 -- each on the scene that the lines before it left, and what they print stands in their order.
 use Rattle.std.specs.Prelude.{◌≡◌, ◌<◌, ◌≤◌, ◌+◌, ◌⊎◌, ℕ, true, false, List, [], ◌++◌, Option, Result, Ok, Err, ⊤, length}
 use Rattle.std.specs.Io.KnownBytes.{Appends}
-use Rattle.sysv_core.specs.World.{Presets}
-use Rattle.sysv_script.specs.ScriptRun.{Said, MakesPreset, Scene, opening_scene, LineRuns}
-use Rattle.sysv_script.specs.Lines.{Says}
-use Rattle.sysv_script.specs.Words.{SplitsAt}
+use Rattle.sysv_lines.specs.Said.{Said}
+use Rattle.sysv_script.specs.ScriptRun.{Scene, opening_scene, LineRuns}
+use Rattle.sysv_lines.specs.Lines.{Says}
+use Rattle.sysv_lines.specs.Words.{SplitsAt}
 use Rattle.sysv_script.specs.Found.{HasNoEnd}
 use Rattle.sysv_script.specs.Streams.{AppendsPart}
 use Rattle.sysv_script.specs.Faults.{bad_line_text}
@@ -35,9 +35,9 @@ BeginsWith text line rest = SplitsAt 10 text line rest ⊎ (HasNoEnd text × (0 
 abbrev pub LineDoes : Scene → List ℕ → List ℕ → Scene → Type 0
 LineDoes s line out after = (said : Said) × Says line said × LineRuns s said true out after
 
--- a line is bad where it says nothing, or a preset in a world that has a live queue
+-- a line is bad where it says nothing, or something that cannot be done
 abbrev pub IsBad : Scene → List ℕ → Type 0
-IsBad s line = ((said : Said) → Says line said → ⊥) ⊎ (Says line MakesPreset × Presets s.world false s.world)
+IsBad s line = ((said : Said) → ¬ Says line said) ⊎ ((said : Said) × (out : List ℕ) × (after : Scene) × Says line said × LineRuns s said false out after)
 
 -- From this scene, and from the line of this number on, the text prints this and ends so.
 pub data Prints : Scene → ℕ → List ℕ → List ℕ → Ending → Type 0 where

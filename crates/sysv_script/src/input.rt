@@ -2,11 +2,11 @@ ghost use Rattle.std.specs.Prelude.{◌≡◌, ◌+◌, ◌<◌, ◌≤◌, [], 
 ghost use Rattle.std.specs.Io.KnownBytes.{IsAtEnd};
 ghost use Rattle.sysv_script.specs.Streams.{TakesIn};
 
-use crate::line::LINE_BYTES;
 use crate::script::ScriptFault;
 use std::alloc::Global;
 use std::io::Read;
 use std::marker::Model;
+use sysv_lines::line::LINE_BYTES;
 use sysv_model::no_memory::NoMemory;
 
 /// The bytes for which the input has room: one line of the greatest length and its LF.

@@ -2,12 +2,8 @@
 //! line. `specs/` has the meaning of a text.
 #![tactic(auto)]
 
-mod flags;
-mod head;
 mod input;
 pub mod laws;
-mod line;
 mod output;
 pub mod script;
 mod stage;
-mod word;

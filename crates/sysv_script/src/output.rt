@@ -1,13 +1,13 @@
 ghost use Rattle.std.specs.Prelude.{◌≡◌, [], ◌∷◌, ◌++◌, IfOk, IfErr, OnOk, OnErr};
 ghost use Rattle.std.specs.Io.KnownBytes.{Appends};
-ghost use Rattle.sysv_script.specs.Heads.{head_text};
+ghost use Rattle.sysv_lines.specs.Heads.{head_text};
 ghost use Rattle.sysv_script.specs.Streams.{AppendsPart, HandsOn};
 
-use crate::head::Head;
 use crate::script::ScriptFault;
 use std::alloc::Global;
 use std::io::Write;
 use std::marker::Model;
+use sysv_lines::head::Head;
 use sysv_model::body::Body;
 use sysv_model::no_memory::NoMemory;
 

@@ -9,14 +9,14 @@ ghost use Rattle.sysv_script.specs.ScriptSofar.{LineEnds, Leaves, IsText};
 ghost use Rattle.sysv_script.specs.Staged.{IsSceneOf};
 ghost use Rattle.sysv_script.specs.Streams.{AppendsPart, HandsOn, TakesIn};
 
-use crate::head::Head;
 use crate::input::Input;
 use crate::laws::{each_text_prints, one_text};
-use crate::line::{LINE_BYTES, line_of};
 use crate::output::Output;
 use crate::stage::Stage;
 use std::alloc::Global;
 use std::io::{Read, Write};
+use sysv_lines::head::Head;
+use sysv_lines::line::{LINE_BYTES, line_of};
 use sysv_model::no_memory::NoMemory;
 use thiserror::Error;
 
