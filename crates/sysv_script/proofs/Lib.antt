@@ -7,6 +7,7 @@ pub mod SignedLemmas
 pub mod LineLemmas
 pub mod FaultLemmas
 pub mod StreamLemmas
+pub mod InputLemmas
 pub mod Parsing
 pub mod OneLine
 pub mod OneText

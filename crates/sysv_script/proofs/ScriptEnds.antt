@@ -1,6 +1,6 @@
 -- How a run of a script that is under way ends, by the fault that ends it.
 use Rattle.std.proofs.Common.{◌≡◌, ◌+◌, ◌≤◌, ℕ, zero, suc, List, [], ◌∷◌, ◌++◌, Option, Some, Result, Ok, Err, length, take, refl, sym, ap, subst, ◌∙◌, arith, take_all}
-use Rattle.std.specs.Prelude.{IsErrAnd, ⊤}
+use Rattle.std.specs.Prelude.{IsErrAnd, ⊤, Bool, true, false, not}
 use Rattle.std.specs.Io.KnownBytes.{Appends}
 use Rattle.std.proofs.KnownBytes.{Appends-nil, Appends-trans}
 use lib.Seq.{take-append-add}
@@ -13,11 +13,11 @@ use Rattle.sysv_script.specs.Faults.{IsFrontOf, IsStreamFault, IsLineFault, Ends
 use Rattle.sysv_script.specs.ScriptText.{IsBad, Ending, Whole, BadLine, TooMany, Stopped, IsWholeEnding, ScriptPrints, WritesScript, WritesAll, WritesFront, WritesAtFault}
 use Rattle.sysv_script.specs.OneText.{OneText}
 use Rattle.sysv_script.specs.EachText.{EachTextPrints}
-use Rattle.sysv_script.specs.ScriptSofar.{IsText, LeavesAll, LeavesFront, LeavesAtFault, Leaves}
-use Rattle.sysv_script.specs.declared.script.Found.{Found}
-use Rattle.sysv_script.specs.declared.script.ScriptFault.{ScriptFault}
-use Rattle.sysv_script.specs.declared.script.ScriptFault.TheVariants.{Line, Read, Write, NoMemory, Bound}
-use Rattle.sysv_script.proofs.Scripting.{RunsOn, fails_at, stops_front}
+use Rattle.sysv_script.specs.ScriptSofar.{IsText, RunsOn, RunsNext, LeavesAll, LeavesFront, LeavesAtFault, Leaves}
+use Rattle.sysv_script.specs.declared.next_line.Found.{Found}
+use Rattle.sysv_script.specs.declared.fault.ScriptFault.{ScriptFault}
+use Rattle.sysv_script.specs.declared.fault.ScriptFault.TheVariants.{Line, Read, Write, NoMemory, Bound}
+use Rattle.sysv_script.proofs.Scripting.{fails_at, stops_front}
 
 pub IsFrontOf-all : (text : List ℕ) → IsFrontOf text text
 IsFrontOf-all text = (length text, sym (take_all (length text) text (omega arith)))
@@ -25,37 +25,50 @@ IsFrontOf-all text = (length text, sym (take_all (length text) text (omega arith
 pub IsFrontOf-none : (none text : List ℕ) → none ≡ [] → IsFrontOf none text
 IsFrontOf-none none text e = (0, e)
 
-Leaves-stream-fault : (fault : ScriptFault) (s : Scene) (text : List ℕ) (old new : Option (List ℕ)) (composed : List ℕ) → IsStreamFault fault → LeavesFront s text old new composed → LeavesAtFault fault s text old new composed
-Leaves-stream-fault Read s text old new composed h part = part
-Leaves-stream-fault Write s text old new composed h part = part
-Leaves-stream-fault (Line n) s text old new composed h part = absurd h
-Leaves-stream-fault NoMemory s text old new composed h part = absurd h
-Leaves-stream-fault Bound s text old new composed h part = absurd h
+-- a fault of a stream
+pub at_stream_fault : (fault : ScriptFault) (s : Scene) (text : List ℕ) (old new : Option (List ℕ)) (composed : List ℕ) → IsStreamFault fault → LeavesFront s text old new composed → LeavesAtFault fault s text old new composed
+at_stream_fault Read s text old new composed h part = part
+at_stream_fault Write s text old new composed h part = part
+at_stream_fault (Line n) s text old new composed h part = absurd h
+at_stream_fault NoMemory s text old new composed h part = absurd h
+at_stream_fault Bound s text old new composed h part = absurd h
 
--- a fault of a stream is passed on
-pub Leaves-stream : (r : Result ⊤ ScriptFault) (fault : ScriptFault) (s : Scene) (text : List ℕ) (old new : Option (List ℕ)) (composed : List ℕ) →
-    IsErrAnd r (λ y. y ≡ fault) → IsStreamFault fault → LeavesFront s text old new composed → Leaves r s text old new composed
-Leaves-stream (Ok x) fault s text old new composed e h part = absurd e
-Leaves-stream (Err y) fault s text old new composed e h part = Leaves-stream-fault y s text old new composed (subst IsStreamFault (sym e) h) part
-
-Leaves-line-fault : (fault : ScriptFault) (s : Scene) (text : List ℕ) (old : Option (List ℕ)) (n : ℕ) (now : Stage) (waiting : List ℕ) (left new : Option (List ℕ)) (composed told : List ℕ) (found : Found) →
+-- a fault at a line
+pub at_line_fault : (fault : ScriptFault) (s : Scene) (text : List ℕ) (old : Option (List ℕ)) (n : ℕ) (now : Stage) (waiting : List ℕ) (left new : Option (List ℕ)) (composed told : List ℕ) (found : Found) →
     EndsAtLine fault n composed told → (IsLineFault fault → (m : Scene) → IsSceneOf m now → IsBad m (take found.len waiting)) → n ≤ 1000000 → IsNextLine found waiting left →
     RunsOn s text old n now waiting left new composed → LeavesAtFault fault s text old new told
-Leaves-line-fault (Line k) s text old n now waiting left new composed told found ends bad few next on =
+at_line_fault (Line k) s text old n now waiting left new composed told found ends bad few next on =
     let same : k ≡ n = ends.0 in
     subst (λ i. LeavesAtFault (Line i) s text old new told) (sym same) (fails_at s text old n now waiting left new composed told found few next (bad tt) ends.1 on)
-Leaves-line-fault NoMemory s text old n now waiting left new composed told found ends bad few next on = stops_front s text old n now waiting left new composed told ends on
-Leaves-line-fault Read s text old n now waiting left new composed told found ends bad few next on = absurd ends
-Leaves-line-fault Write s text old n now waiting left new composed told found ends bad few next on = absurd ends
-Leaves-line-fault Bound s text old n now waiting left new composed told found ends bad few next on = absurd ends
+at_line_fault NoMemory s text old n now waiting left new composed told found ends bad few next on = stops_front s text old n now waiting left new composed told ends on
+at_line_fault Read s text old n now waiting left new composed told found ends bad few next on = absurd ends
+at_line_fault Write s text old n now waiting left new composed told found ends bad few next on = absurd ends
+at_line_fault Bound s text old n now waiting left new composed told found ends bad few next on = absurd ends
 
--- a fault at a line is passed on
-pub Leaves-line : (r : Result ⊤ ScriptFault) (fault : ScriptFault) (s : Scene) (text : List ℕ) (old : Option (List ℕ)) (n : ℕ) (now : Stage) (waiting : List ℕ) (left new : Option (List ℕ)) (composed told : List ℕ) (found : Found) →
-    IsErrAnd r (λ y. y ≡ fault) → EndsAtLine fault n composed told → (IsLineFault fault → (m : Scene) → IsSceneOf m now → IsBad m (take found.len waiting)) → n ≤ 1000000 →
-    IsNextLine found waiting left → RunsOn s text old n now waiting left new composed → Leaves r s text old new told
-Leaves-line (Ok x) fault s text old n now waiting left new composed told found e ends bad few next on = absurd e
-Leaves-line (Err y) fault s text old n now waiting left new composed told found e ends bad few next on =
-    subst (λ f. LeavesAtFault f s text old new told) (sym e) (Leaves-line-fault fault s text old n now waiting left new composed told found ends bad few next on)
+-- a fault is passed on
+pub Leaves-passed : (r : Result ⊤ ScriptFault) (fault : ScriptFault) (s : Scene) (text : List ℕ) (old new : Option (List ℕ)) (composed : List ℕ) →
+    IsErrAnd r (λ y. y ≡ fault) → LeavesAtFault fault s text old new composed → Leaves r s text old new composed
+Leaves-passed (Ok x) fault s text old new composed e left = absurd e
+Leaves-passed (Err y) fault s text old new composed e left = subst (λ f. LeavesAtFault f s text old new composed) (sym e) left
+
+pub RunsNext-passed : (r : Result Bool ScriptFault) (fault : ScriptFault) (s : Scene) (text : List ℕ) (old : Option (List ℕ)) (n : ℕ) (now : Stage) (waiting : List ℕ) (left new : Option (List ℕ)) (composed : List ℕ) →
+    IsErrAnd r (λ y. y ≡ fault) → LeavesAtFault fault s text old new composed → RunsNext r s text old n now waiting left new composed
+RunsNext-passed (Ok x) fault s text old n now waiting left new composed e at = absurd e
+RunsNext-passed (Err y) fault s text old n now waiting left new composed e at = subst (λ f. LeavesAtFault f s text old new composed) (sym e) at
+
+-- a line was run, and perhaps it was the last
+pub RunsNext-line : (last : Bool) (s : Scene) (text : List ℕ) (old : Option (List ℕ)) (n : ℕ) (now : Stage) (waiting : List ℕ) (left new : Option (List ℕ)) (composed : List ℕ) →
+    (last ≡ false → RunsOn s text old (n + 1) now waiting left new composed) → (last ≡ true → LeavesAll s text Whole old new composed) → RunsNext (Ok (not last)) s text old n now waiting left new composed
+RunsNext-line false s text old n now waiting left new composed on ends = on refl
+RunsNext-line true s text old n now waiting left new composed on ends = ends refl
+
+pub RunsNext-on : (more : Bool) (s : Scene) (text : List ℕ) (old : Option (List ℕ)) (n : ℕ) (now : Stage) (waiting : List ℕ) (left new : Option (List ℕ)) (composed : List ℕ) →
+    more ≡ true → RunsNext (Ok more) s text old n now waiting left new composed → RunsOn s text old (n + 1) now waiting left new composed
+RunsNext-on more s text old n now waiting left new composed e next = subst (λ b. RunsNext (Ok b) s text old n now waiting left new composed) e next
+
+pub RunsNext-end : (more : Bool) (s : Scene) (text : List ℕ) (old : Option (List ℕ)) (n : ℕ) (now : Stage) (waiting : List ℕ) (left new : Option (List ℕ)) (composed : List ℕ) →
+    more ≡ false → RunsNext (Ok more) s text old n now waiting left new composed → LeavesAll s text Whole old new composed
+RunsNext-end more s text old n now waiting left new composed e next = subst (λ b. RunsNext (Ok b) s text old n now waiting left new composed) e next
 
 -- The writer took a front of what some run of the script prints, be it stopped before a line.
 abbrev WritesSome : List ℕ → Option (List ℕ) → Option (List ℕ) → Type 0

@@ -14,19 +14,9 @@ use Rattle.sysv_script.specs.Words.{SplitsAt}
 use Rattle.sysv_script.specs.Streams.{AppendsPart, HandsOn, TakesIn}
 use Rattle.sysv_script.specs.Found.{HasNoEnd, IsFirstLine, IsLastLine, IsNextLine, HasNoLine}
 use Rattle.sysv_script.specs.Faults.{IsFrontOf, bad_line_text}
-use Rattle.sysv_script.specs.ScriptText.{BeginsWith, LineDoes, IsBad, Ending, Whole, BadLine, TooMany, Stopped, Prints, Ends, Stops, Exceeds, Fails, Overruns, Goes}
-use Rattle.sysv_script.specs.ScriptSofar.{IsText, LeavesAll, LeavesFront}
-use Rattle.sysv_script.specs.declared.script.Found.{Found}
-
--- the run from a scene over a text, now before the line of this number
-pub record RunsOn (s : Scene) (text : List ℕ) (old : Option (List ℕ)) (n : ℕ) (now : Stage) (waiting : List ℕ) (left new : Option (List ℕ)) (composed : List ℕ) : Type 0 where
-  pub mid : Scene
-  pub rest : List ℕ
-  pub handed : List ℕ
-  pub sight : IsSceneOf mid now
-  pub text_is : IsText waiting left rest
-  pub grown : Appends old new handed
-  pub prints : (more : List ℕ) (ending : Ending) → Prints mid n rest more ending → Prints s 1 text ((handed ++ composed) ++ more) ending
+use Rattle.sysv_script.specs.ScriptText.{BeginsWith, LineDoes, IsBad, Whole, BadLine, TooMany, Stopped, Prints, Ends, Stops, Exceeds, Fails, Overruns, Goes}
+use Rattle.sysv_script.specs.ScriptSofar.{IsText, RunsOn, LeavesAll, LeavesFront}
+use Rattle.sysv_script.specs.declared.next_line.Found.{Found}
 
 pub begins_text : (s : Scene) (now : Stage) (text waiting : List ℕ) (left old : Option (List ℕ)) (composed : List ℕ) → composed ≡ [] → IsSceneOf s now → IsText waiting left text →
     RunsOn s text old 1 now waiting left old composed

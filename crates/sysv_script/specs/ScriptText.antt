@@ -9,8 +9,8 @@ use Rattle.sysv_script.specs.Words.{SplitsAt}
 use Rattle.sysv_script.specs.Found.{HasNoEnd}
 use Rattle.sysv_script.specs.Streams.{AppendsPart}
 use Rattle.sysv_script.specs.Faults.{bad_line_text}
-use Rattle.sysv_script.specs.declared.script.ScriptFault.{ScriptFault}
-use Rattle.sysv_script.specs.declared.script.ScriptFault.TheVariants.{Line, Read, Write, NoMemory, Bound}
+use Rattle.sysv_script.specs.declared.fault.ScriptFault.{ScriptFault}
+use Rattle.sysv_script.specs.declared.fault.ScriptFault.TheVariants.{Line, Read, Write, NoMemory, Bound}
 
 -- how the run of a text ends: with the text, at a bad line, behind the millionth line, or stopped
 -- before a line, wherever that is

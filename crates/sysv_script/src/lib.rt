@@ -2,11 +2,13 @@
 //! line. `specs/` has the meaning of a text.
 #![tactic(auto)]
 
+mod fault;
 mod flags;
 mod head;
 mod input;
 pub mod laws;
 mod line;
+mod next_line;
 mod output;
 pub mod script;
 mod stage;
