@@ -16,7 +16,7 @@ use Rattle.sysv_lines.specs.declared.head.Head.TheVariants as head
 use Rattle.sysv_lines.specs.Lines.{Says}
 use Rattle.sysv_lines.specs.Said.{Said, Nothing, MakesPreset, GivesCred, Starts}
 use Rattle.sysv_script.specs.ScriptRun.{Scene, opening_scene, first_cred, in_world, cred_at, with_cred, Advances, GoesOn, CallRuns, StartRuns, operation_of, printed}
-use Rattle.sysv_script.specs.ScriptText.{BeginsWith, LineDoes, IsBad, Ending, Whole, BadLine, TooMany, IsWholeEnding, Prints, Ends, Exceeds, Fails, Goes}
+use Rattle.sysv_script.specs.ScriptText.{BeginsWith, LineDoes, IsBad, Ending, Whole, BadLine, TooMany, Prints, Ends, Exceeds, Fails, Goes}
 use Rattle.sysv_script.specs.EachText.{EachTextPrints}
 use Rattle.sysv_script.proofs.CredLemmas.{cred_held}
 use Rattle.sysv_lines.specs.OneSplit.{OneSplit}
@@ -65,12 +65,12 @@ presets_or_not s line false after p there manned says = inr (inr (MakesPreset, [
 
 -- the text prints something in whole
 abbrev PrintsWhole : Scene → ℕ → List ℕ → Type 0
-PrintsWhole s n text = (out : List ℕ) × (ending : Ending) × IsWholeEnding ending × Prints s n text out ending
+PrintsWhole s n text = (out : List ℕ) × (ending : Ending) × Prints s n text out ending
 
 -- a text goes over a first line that does something, and then as what is left
 goes_first : (s : Scene) (n : ℕ) (text : List ℕ) (first : FirstLine text) → n ≤ 1000000 → (does : LineDone s first.line) → PrintsWhole does.after (n + 1) first.rest → PrintsWhole s n text
 goes_first s n text first few does more =
-    (does.out ++ more.0, more.1, more.2, Goes s n text first.line first.rest does.out does.after more.0 more.1 few first.begins does.does more.3)
+    (does.out ++ more.0, more.1, Goes s n text first.line first.rest does.out does.after more.0 more.1 few first.begins does.does more.2)
 
 module _ (split : OneSplit) (decided : EachLineIsDecided) (some : SomeStep) (preset : SomePreset) where
   -- an event leaves a scene with the credentials as they were
@@ -157,15 +157,15 @@ module _ (split : OneSplit) (decided : EachLineIsDecided) (some : SomeStep) (pre
 
   -- a text of at most that many bytes prints something in whole
   prints_bounded : (bound n : ℕ) (s : Scene) (text : List ℕ) → length text ≤ bound → IsManned s → PrintsWhole s n text
-  prints_bounded bound n s [] short manned = ([], Whole, tt, Ends s n)
+  prints_bounded bound n s [] short manned = ([], Whole, Ends s n)
   prints_bounded zero n s (x ∷ xs) short manned = absurd (omega (arith, short))
   prints_bounded (suc bound) n s (x ∷ xs) short manned = elim (at_most n 1000000) [
-    | inr many ↦ ([], TooMany, tt, Exceeds s n (x ∷ xs) many (omega arith))
+    | inr many ↦ ([], TooMany, Exceeds s n (x ∷ xs) many (omega arith))
     | inl few ↦
         let first = first_line split (x ∷ xs) (omega arith) in
         let shorter = first.shorter in
         elim (does_or_bad s first.line manned) [
-          | inr bad ↦ (bad_line_text n, BadLine n, tt, Fails s n (x ∷ xs) first.line first.rest few first.begins bad)
+          | inr bad ↦ (bad_line_text n, BadLine n, Fails s n (x ∷ xs) first.line first.rest few first.begins bad)
           | inl does ↦ goes_first s n (x ∷ xs) first few does (prints_bounded bound (n + 1) does.after first.rest (omega (arith, short, shorter)) does.manned)
         ]
   ]

@@ -3,8 +3,8 @@ use Rattle.std.proofs.Common.{◌≡◌, ℕ, true, false, List, ◌++◌, Resul
 use Rattle.std.specs.Prelude.{IfOk, IfErr, IsErrAnd, MatchResult, is_ok}
 use Rattle.std.specs.Io.KnownBytes.{Appends}
 use Rattle.std.proofs.KnownBytes.{Appends-trans}
-use Rattle.sysv_script.specs.declared.script.ScriptFault.{ScriptFault}
-use Rattle.sysv_script.specs.declared.script.ScriptFault.TheVariants.{Line, Read, Write, NoMemory, Bound}
+use Rattle.sysv_script.specs.declared.fault.ScriptFault.{ScriptFault}
+use Rattle.sysv_script.specs.declared.fault.ScriptFault.TheVariants.{Line, Read, Write, NoMemory, Bound}
 use Rattle.sysv_script.specs.Faults.{Grows, IsStreamFault, LeavesBadLine, TellsBadLine, bad_line_text}
 
 -- a fault of a stream says nothing of a line

@@ -6,7 +6,7 @@ use Rattle.std.proofs.lemmas.List.Elements.{Contains-append_cases}
 use Rattle.std.proofs.lemmas.Option.{slice_get_within, slice_get_read, get_or_from_slice_get}
 use Rattle.std.specs.Prelude.{refl}
 use Rattle.std.proofs.Common.{◌≤◌, Option, Bool, true, false}
-use Rattle.sysv_script.specs.declared.script.Found.{Found}
+use Rattle.sysv_script.specs.declared.next_line.Found.{Found}
 use Rattle.sysv_script.specs.Found.{HasNoEnd, IsFirstLine, IsNextLine}
 
 HasNoEnd-append : (front rest : List ℕ) → HasNoEnd front → HasNoEnd rest → HasNoEnd (front ++ rest)

@@ -1,7 +1,5 @@
 -- A text prints one thing: line by line, and so in all.
-use Rattle.std.proofs.Common.{◌≡◌, ℕ, zero, suc, ◌+◌, ◌<◌, ◌≤◌, ◌⊎◌, inl, inr, true, false, Option, None, Some, List, [], ◌∷◌, ◌++◌, length, length-append, take, refl, sym, ap, subst, ◌∙◌, append_assoc, append-nil, arith}
-use Rattle.std.specs.Prelude.{Contains}
-use Rattle.std.proofs.lemmas.List.Elements.{Contains-append_right}
+use Rattle.std.proofs.Common.{◌≡◌, ℕ, zero, suc, ◌+◌, ◌<◌, ◌≤◌, ◌⊎◌, inl, inr, true, false, Option, None, Some, List, [], ◌∷◌, ◌++◌, length, length-append, take, refl, sym, ap, subst, ◌∙◌, append_assoc, arith}
 use Rattle.std.proofs.Math.Seq.{take-append_seam}
 use Rattle.sysv_core.specs.declared.event.Call.{Call}
 use Rattle.sysv_core.specs.declared.event.Event.{Event}
@@ -10,11 +8,11 @@ use Rattle.sysv_core.specs.declared.event.Stepped.{Stepped}
 use Rattle.sysv_core.specs.declared.event.Stepped.TheVariants as stepped
 use Rattle.sysv_model.specs.declared.cred.Cred.{Cred}
 use Rattle.sysv_core.specs.World.{World, Doing, actor_at, Presets}
-use Rattle.sysv_script.specs.Found.{HasNoEnd}
 use Rattle.sysv_lines.specs.Said.{Said, Nothing, MakesPreset, GivesCred, Starts}
 use Rattle.sysv_script.specs.ScriptRun.{Scene, in_world, Advances, GoesOn, CallRuns, StartRuns, LineRuns, operation_of, printed}
 use Rattle.sysv_script.specs.Faults.{IsFrontOf, bad_line_text}
-use Rattle.sysv_script.specs.ScriptText.{BeginsWith, LineDoes, IsBad, Ending, Whole, BadLine, TooMany, Stopped, Prints, Ends, Stops, Exceeds, Fails, Overruns, Goes, IsWholeEnding}
+use Rattle.sysv_script.specs.ScriptText.{BeginsWith, LineDoes, IsBad, Ending, Whole, BadLine, TooMany, Prints, Ends, Exceeds, Fails, Goes}
+use Rattle.sysv_script.specs.ScriptSofar.{PrintsSofar, Here, Past}
 use Rattle.sysv_script.specs.OneText.{OneText}
 use Rattle.sysv_lines.specs.OneSplit.{OneSplit}
 use Rattle.sysv_lines.specs.OneLine.{OneSaying}
@@ -35,21 +33,6 @@ module _ (split : OneSplit) (saying : OneSaying) where
       omega (arith, whole, some)
   begins_filled text line rest (inr h) = h.1
 
-  -- an end of line before the end of the front stands in it
-  end_within : (front rest line behind : List ℕ) → front ++ rest ≡ line ++ 10 ∷ behind → length line < length front → Contains front 10
-  end_within [] rest line behind e h = absurd (omega arith)
-  end_within (x ∷ front) rest [] behind e h = let first : x ≡ 10 = cc in (0, omega arith, first)
-  end_within (x ∷ front) rest (y ∷ line) behind e h =
-      let tails : front ++ rest ≡ line ++ 10 ∷ behind = cc in
-      Contains-append_right (x ∷ []) front 10 (end_within front rest line behind tails (omega (arith, h)))
-
-  -- a front of more than 9,000 bytes without an end is of a line that says nothing
-  front_long : (text front rest line behind : List ℕ) → text ≡ front ++ rest → 9000 < length front → HasNoEnd front → BeginsWith text line behind → length line ≤ 9000 → ⊥
-  front_long text front rest line behind e long endless (inl h) short = endless (end_within front rest line behind (sym e ∙ h.whole) (omega (arith, long, short)))
-  front_long text front rest line behind e long endless (inr h) short =
-      let whole : length line ≡ length front + length rest = ap length (h.2 ∙ e) ∙ length-append front rest in
-      omega (arith, whole, long, short)
-
   presets_apart : (w a b : World) → Presets w true a → Presets w false b → ⊥
   presets_apart w a b (inl h) (inl k) = let never : false ≡ true = k.1 in cc
   presets_apart w a b (inl h) (inr k) = k.0 h.0
@@ -69,24 +52,17 @@ module _ (split : OneSplit) (saying : OneSaying) where
       let same : d.0 ≡ late.0 = saying line d.0 late.0 d.1 late.3 in
       runs_apart s late.0 out late.1 after late.2 (subst (λ said. LineRuns s said true out after) same d.2) late.4
 
-  -- the text begins with a bad line, or with too much of a line
+  -- the text begins with a bad line
   abbrev HasBadLine : Scene → List ℕ → Type 0
-  HasBadLine s text =
-      ((line : List ℕ) × (rest : List ℕ) × BeginsWith text line rest × IsBad s line)
-      ⊎ ((front : List ℕ) × (rest : List ℕ) × (text ≡ front ++ rest) × (9000 < length front) × HasNoEnd front)
+  HasBadLine s text = (line : List ℕ) × (rest : List ℕ) × BeginsWith text line rest × IsBad s line
 
   bad_filled : (s : Scene) (text : List ℕ) → HasBadLine s text → 0 < length text
-  bad_filled s text (inl h) = begins_filled text h.0 h.1 h.2
-  bad_filled s text (inr h) =
-      let whole : length text ≡ length h.0 + length h.1 = ap length h.2 ∙ length-append h.0 h.1 in
-      let long = h.3 in
-      omega (arith, whole, long)
+  bad_filled s text h = begins_filled text h.0 h.1 h.2
 
   bad_or_does : (s : Scene) (text line rest out : List ℕ) (after : Scene) → HasBadLine s text → BeginsWith text line rest → LineDoes s line out after → ⊥
-  bad_or_does s text line rest out after (inl h) b d =
+  bad_or_does s text line rest out after h b d =
       let same = begins_once text h.0 line h.1 rest h.2 b in
       bad_idle s line out after (subst (λ l. IsBad s l) same.0 h.3) d
-  bad_or_does s text line rest out after (inr h) b d = front_long text h.0 h.1 line rest h.2 h.3 h.4 b d.1.0
 
   -- the run goes over a line
   record OnLine (s : Scene) (n : ℕ) (text out : List ℕ) (ending : Ending) : Type 0 where
@@ -109,13 +85,11 @@ module _ (split : OneSplit) (saying : OneSaying) where
       ⊎ (((n ≤ 1000000) × HasBadLine s text × (out ≡ bad_line_text n) × (ending ≡ BadLine n))
       ⊎ OnLine s n text out ending))
 
-  opens : (s : Scene) (n : ℕ) (text out : List ℕ) (ending : Ending) → IsWholeEnding ending → Prints s n text out ending → Opens s n text out ending
-  opens s n text out ending h (Ends _ _) = inl (refl, refl, refl)
-  opens s n text out ending h (Stops _ _ _) = absurd h
-  opens s n text out ending h (Exceeds _ _ _ many some) = inr (inl (many, some, refl, refl))
-  opens s n text out ending h (Fails _ _ _ line rest few begins bad) = inr (inr (inl (few, inl (line, rest, begins, bad), refl, refl)))
-  opens s n text out ending h (Overruns _ _ front rest few long endless) = inr (inr (inl (few, inr (front, rest, refl, long, endless), refl, refl)))
-  opens s n text out ending h (Goes _ _ _ line rest first after more _ few begins does p) =
+  opens : (s : Scene) (n : ℕ) (text out : List ℕ) (ending : Ending) → Prints s n text out ending → Opens s n text out ending
+  opens s n text out ending (Ends _ _) = inl (refl, refl, refl)
+  opens s n text out ending (Exceeds _ _ _ many some) = inr (inl (many, some, refl, refl))
+  opens s n text out ending (Fails _ _ _ line rest few begins bad) = inr (inr (inl (few, (line, rest, begins, bad), refl, refl)))
+  opens s n text out ending (Goes _ _ _ line rest first after more _ few begins does p) =
       inr (inr (inr (record { line = line; rest = rest; first = first; after = after; more = more; few = few; begins = begins; does = does; prints = p; whole = refl })))
 
   -- at the end of the text
@@ -138,13 +112,6 @@ module _ (split : OneSplit) (saying : OneSaying) where
   bad_agrees s n text other end few bad (inr (inl k)) = let many = k.0 in absurd (omega (arith, many, few))
   bad_agrees s n text other end few bad (inr (inr (inl k))) = (sym k.2, sym k.3)
   bad_agrees s n text other end few bad (inr (inr (inr k))) = absurd (bad_or_does s text k.line k.rest k.first k.after bad k.begins k.does)
-
-  -- a run beside a whole one: a front of it, and the same where it is whole too
-  abbrev Agrees : List ℕ → Ending → List ℕ → Ending → Type 0
-  Agrees out ending other end = ((tail : List ℕ) × (other ≡ out ++ tail)) × (IsWholeEnding ending → (out ≡ other) × (ending ≡ end))
-
-  agrees_same : (out other : List ℕ) (ending end : Ending) → (out ≡ other) × (ending ≡ end) → Agrees out ending other end
-  agrees_same out other ending end e = (([], sym e.0 ∙ sym (append-nil out)), λ whole. e)
 
   one_cred : (a b : Cred) → Some a ≡ Some b → a ≡ b
   one_cred a b e = cc
@@ -195,41 +162,50 @@ module _ (split : OneSplit) (saying : OneSaying) where
         let same : k.0 ≡ h.0 = saying line k.0 h.0 k.1 h.1 in
         line_once s h.0 out other a b h.2 (subst (λ said. LineRuns s said true other b) same k.2)
 
-    goes_agrees : (s : Scene) (n : ℕ) (text line rest out : List ℕ) (after : Scene) (more : List ℕ) (ending : Ending) (other : List ℕ) (end : Ending) →
-        n ≤ 1000000 → BeginsWith text line rest → LineDoes s line out after →
-        ((behind : List ℕ) → Prints after (n + 1) rest behind end → Agrees more ending behind end) → Opens s n text other end → Agrees (out ++ more) ending other end
-    goes_agrees s n text line rest out after more ending other end few begins does onward (inl k) = absurd (omega (arith, begins_filled text line rest begins, ap length k.0))
-    goes_agrees s n text line rest out after more ending other end few begins does onward (inr (inl k)) = let many = k.0 in absurd (omega (arith, many, few))
-    goes_agrees s n text line rest out after more ending other end few begins does onward (inr (inr (inl k))) = absurd (bad_or_does s text line rest out after k.1 begins does)
-    goes_agrees s n text line rest out after more ending other end few begins does onward (inr (inr (inr k))) =
+    -- another run goes over the same line, and then from the same scene on
+    record OnSame (after : Scene) (n : ℕ) (rest out other : List ℕ) (end : Ending) : Type 0 where
+      behind : List ℕ
+      prints : Prints after (n + 1) rest behind end
+      whole : other ≡ out ++ behind
+
+    goes_same : (s : Scene) (n : ℕ) (text line rest out : List ℕ) (after : Scene) (other : List ℕ) (end : Ending) →
+        n ≤ 1000000 → BeginsWith text line rest → LineDoes s line out after → Opens s n text other end → OnSame after n rest out other end
+    goes_same s n text line rest out after other end few begins does (inl k) = absurd (omega (arith, begins_filled text line rest begins, ap length k.0))
+    goes_same s n text line rest out after other end few begins does (inr (inl k)) = let many = k.0 in absurd (omega (arith, many, few))
+    goes_same s n text line rest out after other end few begins does (inr (inr (inl k))) = absurd (bad_or_does s text line rest out after k.1 begins does)
+    goes_same s n text line rest out after other end few begins does (inr (inr (inr k))) =
         let parts = begins_once text k.line line k.rest rest k.begins begins in
         let did = does_once s line out k.first after k.after does (subst (λ l. LineDoes s l k.first k.after) parts.0 k.does) in
-        let behind : Prints after (n + 1) rest k.more end =
-        subst (λ m. Prints m (n + 1) rest k.more end) (sym did.1) (subst (λ l. Prints k.after (n + 1) l k.more end) parts.1 k.prints) in
-        let agreed = onward k.more behind in (
-          (agreed.0.0, k.whole ∙ (ap (λ l. l ++ k.more) (sym did.0) ∙ (ap (λ l. out ++ l) agreed.0.1 ∙ sym (append_assoc out more agreed.0.0)))),
-          λ whole. (ap (λ l. out ++ l) (agreed.1 whole).0 ∙ (ap (λ l. l ++ k.more) did.0 ∙ sym k.whole), (agreed.1 whole).1),
-        )
+        record {
+          behind = k.more;
+          prints = subst (λ m. Prints m (n + 1) rest k.more end) (sym did.1) (subst (λ l. Prints k.after (n + 1) l k.more end) parts.1 k.prints);
+          whole = k.whole ∙ ap (λ l. l ++ k.more) (sym did.0);
+        }
 
-    agrees : (s : Scene) (n : ℕ) (text out other : List ℕ) (ending end : Ending) → IsWholeEnding end → Prints s n text out ending → Prints s n text other end → Agrees out ending other end
-    agrees s n text out other ending end whole (Ends _ _) k = agrees_same [] other Whole end (end_agrees s n [] other end refl (opens s n [] other end whole k))
-    agrees s n text out other ending end whole (Stops _ _ _) k = ((other, refl), λ none. absurd none)
-    agrees s n text out other ending end whole (Exceeds _ _ _ many some) k = agrees_same [] other TooMany end (over_agrees s n text other end many some (opens s n text other end whole k))
-    agrees s n text out other ending end whole (Fails _ _ _ line rest few begins bad) k =
-        agrees_same (bad_line_text n) other (BadLine n) end (bad_agrees s n text other end few (inl (line, rest, begins, bad)) (opens s n text other end whole k))
-    agrees s n text out other ending end whole (Overruns _ _ front rest few long endless) k =
-        agrees_same (bad_line_text n) other (BadLine n) end (bad_agrees s n (front ++ rest) other end few (inr (front, rest, refl, long, endless)) (opens s n (front ++ rest) other end whole k))
-    agrees s n text out other ending end whole (Goes _ _ _ line rest first after more _ few begins does p) k =
-        goes_agrees s n text line rest first after more ending other end few begins does
-        (λ behind q. agrees after (n + 1) rest more behind ending end whole p q) (opens s n text other end whole k)
+    agrees : (s : Scene) (n : ℕ) (text out other : List ℕ) (ending end : Ending) → Prints s n text out ending → Prints s n text other end → (out ≡ other) × (ending ≡ end)
+    agrees s n text out other ending end (Ends _ _) k = end_agrees s n [] other end refl (opens s n [] other end k)
+    agrees s n text out other ending end (Exceeds _ _ _ many some) k = over_agrees s n text other end many some (opens s n text other end k)
+    agrees s n text out other ending end (Fails _ _ _ line rest few begins bad) k = bad_agrees s n text other end few (line, rest, begins, bad) (opens s n text other end k)
+    agrees s n text out other ending end (Goes _ _ _ line rest first after more _ few begins does p) k =
+        let on = goes_same s n text line rest first after other end few begins does (opens s n text other end k) in
+        let same = agrees after (n + 1) rest more on.behind ending end p on.prints in
+        (ap (λ l. first ++ l) same.0 ∙ sym on.whole, same.1)
 
-    front_of : (s : Scene) (n : ℕ) (text out other : List ℕ) (end : Ending) → IsWholeEnding end → Prints s n text out Stopped → Prints s n text other end → IsFrontOf out other
-    front_of s n text out other end whole h k =
-        let tail = (agrees s n text out other Stopped end whole h k).0 in
+    -- what was printed before a line stands before what is printed in all
+    sofar : (s : Scene) (n : ℕ) (text out other : List ℕ) (end : Ending) → PrintsSofar s n text out → Prints s n text other end → (tail : List ℕ) × (other ≡ out ++ tail)
+    sofar s n text out other end (Here _ _ _) k = (other, refl)
+    sofar s n text out other end (Past _ _ _ line rest first after more few begins does p) k =
+        let on = goes_same s n text line rest first after other end few begins does (opens s n text other end k) in
+        let behind = sofar after (n + 1) rest more on.behind end p on.prints in
+        (behind.0, on.whole ∙ (ap (λ l. first ++ l) behind.1 ∙ sym (append_assoc first more behind.0)))
+
+    front_of : (s : Scene) (n : ℕ) (text out other : List ℕ) (end : Ending) → PrintsSofar s n text out → Prints s n text other end → IsFrontOf out other
+    front_of s n text out other end h k =
+        let tail = sofar s n text out other end h k in
         (length out, sym (ap (take (length out)) tail.1 ∙ take-append_seam out tail.0))
 
 pub one_text : OneSplit → OneSaying → OneStep → OnePreset → OneText
-one_text split saying one preset = (
-  λ s n text out other ending end first second h k. (agrees split saying one preset s n text out other ending end second h k).1 first,
-  λ s n text out other end whole h k. front_of split saying one preset s n text out other end whole h k,
-)
+one_text split saying one preset = record {
+  once = λ s n text out other ending end h k. agrees split saying one preset s n text out other ending end h k;
+  sofar = λ s n text out other end h k. front_of split saying one preset s n text out other end h k;
+}

@@ -4,8 +4,9 @@ use Rattle.std.specs.Prelude.{◌≡◌, ◌≤◌, ⊤, ℕ, List, [], ◌∷�
 use Rattle.std.specs.Io.KnownBytes.{Appends}
 use Rattle.sysv_lines.specs.Heads.{head_text}
 use Rattle.sysv_lines.specs.declared.head.Head.TheVariants.{Bad}
-use Rattle.sysv_script.specs.declared.script.ScriptFault.{ScriptFault}
-use Rattle.sysv_script.specs.declared.script.ScriptFault.TheVariants.{Line, Read, Write, NoMemory, Bound}
+use Rattle.sysv_script.specs.declared.fault.TheConstants.{SCRIPT_LINES}
+use Rattle.sysv_script.specs.declared.fault.ScriptFault.{ScriptFault}
+use Rattle.sysv_script.specs.declared.fault.ScriptFault.TheVariants.{Line, Read, Write, NoMemory, Bound}
 
 -- the line that says that this line is bad
 abbrev pub bad_line_text : ℕ → List ℕ
@@ -45,7 +46,7 @@ IsLineFault Bound = ⊥
 
 -- A bad line is one of the first million, and what is composed says so last.
 abbrev pub LeavesBadLine : ScriptFault → List ℕ → Type 0
-LeavesBadLine (Line n) composed = (1 ≤ n) × (n ≤ 1000000) × EndsInBadLine n composed
+LeavesBadLine (Line n) composed = (1 ≤ n) × (n ≤ SCRIPT_LINES) × EndsInBadLine n composed
 LeavesBadLine NoMemory composed = ⊤
 LeavesBadLine Read composed = ⊤
 LeavesBadLine Write composed = ⊤
@@ -57,7 +58,7 @@ Grows old new = (bytes : List ℕ) × Appends old new bytes
 
 -- A bad line is one of the first million, and what the writer took last says so.
 abbrev pub TellsBadLine : ScriptFault → Option (List ℕ) → Option (List ℕ) → Type 0
-TellsBadLine (Line n) old new = (1 ≤ n) × (n ≤ 1000000) × ((answers : List ℕ) × Appends old new (answers ++ bad_line_text n))
+TellsBadLine (Line n) old new = (1 ≤ n) × (n ≤ SCRIPT_LINES) × ((answers : List ℕ) × Appends old new (answers ++ bad_line_text n))
 TellsBadLine NoMemory old new = ⊤
 TellsBadLine Read old new = ⊤
 TellsBadLine Write old new = ⊤

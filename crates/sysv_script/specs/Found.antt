@@ -2,7 +2,8 @@
 -- lines end with LF, and the last may lack it; a line has at most 9,000 bytes).
 use Rattle.std.specs.Prelude.{◌≡◌, ◌<◌, ◌⊎◌, ℕ, List, [], Option, Some, None, length, take, slice_get, true, false, Contains}
 use Rattle.std.specs.Io.KnownBytes.{IsAtEnd}
-use Rattle.sysv_script.specs.declared.script.Found.{Found}
+use Rattle.sysv_lines.specs.declared.line.TheConstants.{LINE_BYTES}
+use Rattle.sysv_script.specs.declared.next_line.Found.{Found}
 
 abbrev pub HasNoEnd : List ℕ → Type 0
 HasNoEnd text = Contains text 10 → ⊥
@@ -18,7 +19,7 @@ pub record IsLastLine (len : ℕ) (text : List ℕ) (left : Option (List ℕ)) :
   pub whole : len ≡ length text
   pub filled : 0 < len
   pub one_line : HasNoEnd text
-  pub last : 9000 < len ⊎ IsAtEnd left
+  pub last : LINE_BYTES < len ⊎ IsAtEnd left
 
 -- The found line is the next of the bytes that wait and those that the reader has left.
 abbrev pub IsNextLine : Found → List ℕ → Option (List ℕ) → Type 0

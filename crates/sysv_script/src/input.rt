@@ -1,57 +1,63 @@
-ghost use Rattle.std.specs.Prelude.{◌≡◌, ◌+◌, ◌<◌, ◌≤◌, [], ◌++◌, length, drop, vec_len, vec_capacity, IfOk, IfErr, OnOk};
-ghost use Rattle.std.specs.Io.KnownBytes.{IsAtEnd};
+//! The bytes of a script that were read and wait to be run.
+ghost use Rattle.std.specs.Prelude.{◌≡◌, ◌+◌, ◌<◌, ◌≤◌, [], ◌++◌, length, take, drop, slice_range, vec_len, IfOk, IfErr, OnOk};
+ghost use Rattle.std.specs.Io.KnownBytes.{Consumes, IsAtEnd};
 ghost use Rattle.sysv_script.specs.Streams.{TakesIn};
+ghost use Rattle.sysv_script.specs.declared.input.TheConstants.{INPUT_ROOM};
 
-use crate::script::ScriptFault;
+use crate::fault::ScriptFault;
 use std::alloc::Global;
 use std::io::Read;
 use std::marker::Model;
 use sysv_lines::line::LINE_BYTES;
 use sysv_model::no_memory::NoMemory;
 
-/// The bytes for which the input has room: one line of the greatest length and its LF.
-const INPUT_ROOM: usize = LINE_BYTES + 1;
+/// The bytes for which the input has room. A line of the greatest length and its LF are fewer.
+pub(crate) const INPUT_ROOM: usize = 65_536;
 
-/// The bytes that wait: they were read, and belong to lines that have not been run.
+/// The bytes that wait: they were read, and belong to lines that have not been run. They stand in one
+/// buffer of fixed length, and reads go into the room behind them.
 #[derive(Drop)]
 pub(crate) struct Input {
-    bytes: Vec<u8>,
-    passed: usize,
-    fresh: [u8; INPUT_ROOM],
+    buffer: Vec<u8>,
+    /// The place of the first byte that waits.
+    start: usize,
+    /// The place behind the last.
+    end: usize,
 }
 
 impl Model for Input {
-    ghost use Rattle.std.specs.Prelude.{List, ℕ, ◌≡◌, ◌≤◌, ◌+◌, drop, vec_len, vec_capacity};
+    ghost use Rattle.std.specs.Prelude.{List, ℕ, ◌≡◌, ◌≤◌, slice_range, vec_len};
+    ghost use Rattle.sysv_script.specs.declared.input.TheConstants.{INPUT_ROOM};
 
     ghost Value = { List ℕ };
 
-    ghost view = { λ input. drop input.passed input.bytes.items };
+    ghost view = { λ input. slice_range input.buffer.items input.start input.end };
 
-    ghost invariant = { λ input. (input.passed ≤ vec_len input.bytes) × (vec_len input.bytes ≤ 9001)
-        × (9001 ≤ vec_capacity input.bytes) };
+    ghost invariant = { λ input. (input.start ≤ input.end) × (input.end ≤ INPUT_ROOM)
+        × (vec_len input.buffer ≡ INPUT_ROOM) };
 }
 
 impl Input {
-    /// Nothing waits, with room for the longest line.
+    /// Nothing waits.
     pub(crate) fn open(alloc: Global) -> Result<Input, NoMemory>
         ensures { IfOk result (λ input. input ≡ []) }
     {
-        let Ok(bytes) = Vec::with_capacity(alloc, INPUT_ROOM) else {
+        let Ok(buffer) = vec![in alloc; 0; INPUT_ROOM] else {
             return Err(NoMemory);
         };
         Ok(Input {
-            bytes,
-            passed: 0,
-            fresh: [0; INPUT_ROOM],
+            buffer,
+            start: 0,
+            end: 0,
         })
     }
 
     /// The bytes that wait.
     pub(crate) fn waiting(&self) -> &[u8]
         ensures bytes { result.now ≡ self.now }
-        ensures room { length result.now ≤ 9001 }
+        ensures room { length result.now ≤ INPUT_ROOM }
     {
-        &self.bytes[self.passed..]
+        &self.buffer[self.start..self.end]
     }
 
     /// Passes over a line of `len` bytes and the LF behind it.
@@ -59,55 +65,40 @@ impl Input {
         requires { len < length self.old }
         ensures { self.new ≡ drop (len + 1) self.old }
     {
-        let passed = self.passed + len;
-        self.passed = passed + 1;
+        let passed = self.start + len;
+        self.start = passed + 1;
     }
 
     /// Reads once, behind what waits; the number of bytes that came, 0 at the end.
     pub(crate) fn read_from<R: Read>(&mut self, reader: &mut R) -> Result<usize, ScriptFault>
-        requires { length self.old < 9001 }
+        requires { length self.old < INPUT_ROOM }
         ensures text { OnOk result (TakesIn (R.remaining reader.old) self.old (R.remaining reader.new) self.new) }
         ensures count { IfOk result (λ count. length self.new ≡ length self.old + count) }
         ensures end { IfOk result (λ count. count ≡ 0 → IsAtEnd (R.remaining reader.new)) }
         ensures err { IfErr result (λ fault. fault ≡ ScriptFault.Read) }
     {
-        remove_front(&mut self.bytes, self.passed);
-        self.passed = 0;
-        let room = INPUT_ROOM - self.bytes.len();
-        let fresh = &mut self.fresh[..];
-        read_behind(reader, &mut self.bytes, &mut fresh[..room])
+        let len = self.end - self.start;
+        self.buffer.copy_within(self.start..self.end, 0);
+        self.start = 0;
+        self.end = len;
+        let count = read_behind(reader, &mut self.buffer, len)?;
+        self.end = len + count;
+        Ok(count)
     }
 }
 
-/// Reads once into `fresh`, and adds the bytes that came to `bytes`; their number.
-fn read_behind<R: Read>(
-    reader: &mut R,
-    bytes: &mut Vec<u8>,
-    fresh: &mut [u8],
-) -> Result<usize, ScriptFault>
-    requires { vec_len bytes.old + length fresh.old ≤ vec_capacity bytes.old }
-    ensures text { OnOk result (TakesIn (R.remaining reader.old) bytes.old.items (R.remaining reader.new) bytes.new.items) }
-    ensures count { IfOk result (λ count. vec_len bytes.new ≡ vec_len bytes.old + count) }
-    ensures fits { IfOk result (λ count. count ≤ length fresh.old) }
-    ensures end { IfOk result (λ count. count ≡ 0 → 0 < length fresh.old → IsAtEnd (R.remaining reader.new)) }
-    ensures room { vec_capacity bytes.old ≤ vec_capacity bytes.new }
-    ensures err { IfErr result (λ fault. (fault ≡ ScriptFault.Read) × (bytes.new ≡ bytes.old)) }
+/// Reads once into the bytes behind the first `len`, which stay; the number of bytes that came.
+fn read_behind<R: Read>(reader: &mut R, buffer: &mut [u8], len: usize) -> Result<usize, ScriptFault>
+    requires { len ≤ length buffer.old }
+    ensures size { length buffer.new ≡ length buffer.old }
+    ensures kept { take len buffer.new ≡ take len buffer.old }
+    ensures fits { IfOk result (λ count. len + count ≤ length buffer.new) }
+    ensures came { IfOk result (λ count. Consumes (R.remaining reader.old) (R.remaining reader.new) (slice_range buffer.new len (len + count))) }
+    ensures end { IfOk result (λ count. count ≡ 0 → len < length buffer.old → IsAtEnd (R.remaining reader.new)) }
+    ensures err { IfErr result (λ fault. fault ≡ ScriptFault.Read) }
 {
-    let Ok(count) = reader.read(fresh) else {
-        return Err(ScriptFault::Read);
-    };
-    match bytes.extend_from_slice(&fresh[..count]) {
-        Ok(()) => Ok(count),
-        Err(_) => unreachable!(),
+    match reader.read(&mut buffer[len..]) {
+        Ok(count) => Ok(count),
+        Err(_) => Err(ScriptFault::Read),
     }
-}
-
-/// Removes the first `count` bytes.
-fn remove_front(bytes: &mut Vec<u8>, count: usize)
-    requires { count ≤ vec_len bytes.old }
-    ensures items { bytes.new.items ≡ drop count bytes.old.items }
-    ensures len { vec_len bytes.new + count ≡ vec_len bytes.old }
-    ensures room { vec_capacity bytes.new ≡ vec_capacity bytes.old }
-{
-    bytes.drain(..count);
 }

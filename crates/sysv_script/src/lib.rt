@@ -2,8 +2,10 @@
 //! line. `specs/` has the meaning of a text.
 #![tactic(auto)]
 
+mod fault;
 mod input;
 pub mod laws;
+mod next_line;
 mod output;
 pub mod script;
 mod stage;

@@ -1,14 +1,16 @@
+//! The answers that are composed and wait to be written.
 ghost use Rattle.std.specs.Prelude.{◌≡◌, [], ◌∷◌, ◌++◌, IfOk, IfErr, OnOk, OnErr};
 ghost use Rattle.std.specs.Io.KnownBytes.{Appends};
 ghost use Rattle.sysv_lines.specs.Heads.{head_text};
 ghost use Rattle.sysv_script.specs.Streams.{AppendsPart, HandsOn};
 
-use crate::script::ScriptFault;
+use crate::fault::ScriptFault;
 use std::alloc::Global;
 use std::io::Write;
 use std::marker::Model;
 use sysv_lines::head::Head;
 use sysv_model::body::Body;
+use sysv_model::limits::BLOCK_BYTES;
 use sysv_model::no_memory::NoMemory;
 
 /// The bytes for which the output has room.
@@ -108,12 +110,13 @@ fn append_line(bytes: &mut Vec<u8>, head: Head, text: &Body) -> Result<(), NoMem
     bytes.push(b'\n').map_err(|_| NoMemory)
 }
 
-/// Appends the bytes of a text.
+/// Appends the bytes of a text, block by block.
 fn append_text(bytes: &mut Vec<u8>, text: &Body) -> Result<(), NoMemory>
     ensures { OnOk result (bytes.new.items ≡ bytes.old.items ++ text.now) }
 {
-    for i in 0..text.len() {
-        if bytes.push(text.byte(i)).is_err() {
+    let blocks = text.len().div_ceil(BLOCK_BYTES) as u32;
+    for k in 0..blocks {
+        if bytes.extend_from_slice(text.block(k)).is_err() {
             return Err(NoMemory);
         }
     }

@@ -1,48 +1,27 @@
 //! The script language: a text of calls, one a line, that a world runs line by line.
-ghost use Rattle.std.specs.Prelude.{false, true, ◌≡◌, ◌+◌, ◌<◌, ◌≤◌, ◌++◌, [], ℕ, List, Some, length, take, drop, MatchOption, IfOk, IfErr, OnOk, OnErr};
+ghost use Rattle.std.specs.Prelude.{false, true, ◌≡◌, ◌+◌, ◌<◌, ◌≤◌, ◌++◌, [], ℕ, List, Option, Some, length, take, drop, IfOk, IfErr, OnOk, OnErr};
 ghost use Rattle.std.specs.Io.KnownBytes.{Appends, IsAtEnd};
-ghost use Rattle.sysv_script.specs.Faults.{Grows, IsStreamFault, IsLineFault, IsFrontOf, EndsAtLine, LeavesBadLine, TellsBadLine};
-ghost use Rattle.sysv_script.specs.Found.{HasNoEnd, IsFirstLine, FindsLine};
-ghost use Rattle.sysv_script.specs.ScriptRun.{Scene};
+ghost use Rattle.sysv_script.specs.Faults.{Grows, IsLineFault, IsFrontOf, EndsAtLine, LeavesBadLine, TellsBadLine};
+ghost use Rattle.sysv_script.specs.ScriptRun.{Scene, opening_scene};
 ghost use Rattle.sysv_script.specs.ScriptText.{LineDoes, IsBad, WritesScript};
-ghost use Rattle.sysv_script.specs.ScriptSofar.{LineEnds, Leaves, IsText};
+ghost use Rattle.sysv_script.specs.ScriptSofar.{LineEnds, Leaves, IsText, RunsOn, RunsNext};
 ghost use Rattle.sysv_script.specs.Staged.{IsSceneOf};
-ghost use Rattle.sysv_script.specs.Streams.{AppendsPart, HandsOn, TakesIn};
+ghost use Rattle.sysv_script.specs.Streams.{AppendsPart};
+ghost use Rattle.sysv_script.specs.declared.fault.TheConstants.{SCRIPT_LINES};
+ghost use Rattle.sysv_lines.specs.declared.line.TheConstants.{LINE_BYTES};
 
+pub use crate::fault::{SCRIPT_LINES, ScriptFault};
 use crate::input::Input;
 use crate::laws::{each_text_prints, one_text};
+use crate::next_line::{Found, next_line, read_on};
 use crate::output::Output;
 use crate::stage::Stage;
 use std::alloc::Global;
 use std::io::{Read, Write};
 use sysv_lines::head::Head;
+use sysv_lines::laws::one_split;
 use sysv_lines::line::{LINE_BYTES, line_of};
 use sysv_model::no_memory::NoMemory;
-use thiserror::Error;
-
-/// Why a script ends before its end.
-#[derive(Clone, Copy, PartialEq, Eq, Debug, Error)]
-pub enum ScriptFault {
-    /// The line with this number, counted from 1, is bad: it is not understood, or longer than 9,000
-    /// bytes, or a `preset` where a queue is live.
-    #[error("line {0} is bad")]
-    Line(u32),
-    /// The reader failed.
-    #[error("the script cannot be read")]
-    Read,
-    /// The writer failed, or took no byte.
-    #[error("an answer cannot be written")]
-    Write,
-    /// Memory was refused.
-    #[error("no memory")]
-    NoMemory,
-    /// A line begins behind the millionth.
-    #[error("more than 1000000 lines")]
-    Bound,
-}
-
-/// The most lines that a script may have.
-pub const SCRIPT_LINES: u32 = 1_000_000;
 
 /// Runs the script that `reader` gives on a world of 16 actors, and writes to `writer` a line for
 /// each call that it starts. The answers to what was read are written before more is read.
@@ -67,81 +46,144 @@ pub fn run_script<R: Read, W: Write>(
 {
     one_text();
     each_text_prints();
-    let mut input = Input::open(alloc).map_err(|_| ScriptFault::NoMemory)?;
-    let mut output = Output::open(alloc).map_err(|_| ScriptFault::NoMemory)?;
-    let Ok(mut stage) = Stage::open(alloc) else {
+    let Ok(mut run) = Run::open(alloc) else {
         return Err(ScriptFault::NoMemory);
     };
-    let run = run_lines(alloc, &mut stage, &mut input, &mut output, reader, writer);
-    stage.end();
-    output.hand_out(writer)?;
-    run
+    let ended = run.run_lines(alloc, reader, writer);
+    run.end(writer)?;
+    ended
 }
 
-/// Runs the lines one by one, up to the end, the first fault or the bound. The last answers may
-/// still have to be handed out.
-fn run_lines<R: Read, W: Write>(
-    alloc: Global,
-    stage: &mut Stage,
-    input: &mut Input,
-    output: &mut Output,
-    reader: &mut R,
-    writer: &mut W,
-) -> Result<(), ScriptFault>
-    requires { output.old ≡ [] }
-    ensures prints { (s : Scene) → IsSceneOf s stage.old → (text : List ℕ) → IsText input.old (R.remaining reader.old) text →
-        Leaves result s text (W.contents writer.old) (W.contents writer.new) output.new }
-    ensures whole { OnOk result (IsAtEnd (R.remaining reader.new)) }
-    ensures grows { Grows (W.contents writer.old) (W.contents writer.new) }
-    ensures bad { IfErr result (λ fault. LeavesBadLine fault output.new) }
-{
-    for passed in 0..SCRIPT_LINES {
-        let Some(found) = next_line(input, output, reader, writer)? else {
-            return Ok(());
+/// A script under way: what it runs on, the bytes that wait, and the answers that are composed.
+struct Run {
+    stage: Stage,
+    input: Input,
+    output: Output,
+}
+
+impl Run {
+    /// Nothing has been read.
+    fn open(alloc: Global) -> Result<Run, NoMemory>
+        ensures { IfOk result (λ run. IsSceneOf opening_scene run.stage × (run.input ≡ []) × (run.output ≡ [])) }
+    {
+        let input = Input::open(alloc)?;
+        let output = Output::open(alloc)?;
+        let stage = Stage::open(alloc)?;
+        Ok(Run {
+            stage,
+            input,
+            output,
+        })
+    }
+
+    /// Runs the lines one by one, up to the end, the first fault or the bound. The last answers may
+    /// still have to be handed out.
+    fn run_lines<R: Read, W: Write>(
+        &mut self,
+        alloc: Global,
+        reader: &mut R,
+        writer: &mut W,
+    ) -> Result<(), ScriptFault>
+        requires { self.old.output ≡ [] }
+        ensures prints { (s : Scene) → IsSceneOf s self.old.stage → (text : List ℕ) → IsText self.old.input (R.remaining reader.old) text →
+            Leaves result s text (W.contents writer.old) (W.contents writer.new) self.new.output }
+        ensures whole { OnOk result (IsAtEnd (R.remaining reader.new)) }
+        ensures grows { Grows (W.contents writer.old) (W.contents writer.new) }
+        ensures bad { IfErr result (λ fault. LeavesBadLine fault self.new.output) }
+    {
+        for passed in 0..SCRIPT_LINES {
+            if !self.run_next(alloc, reader, writer, passed + 1)? {
+                return Ok(());
+            }
+        }
+        self.expect_end(reader, writer)
+    }
+
+    /// Runs the next line, which has this number. `false` where the script is at its end.
+    fn run_next<R: Read, W: Write>(
+        &mut self,
+        alloc: Global,
+        reader: &mut R,
+        writer: &mut W,
+        number: u32,
+    ) -> Result<bool, ScriptFault>
+        requires first { 1 ≤ number }
+        requires last { number ≤ SCRIPT_LINES }
+        ensures runs { (s : Scene) → (text : List ℕ) → (old : Option (List ℕ)) →
+            RunsOn s text old number self.old.stage self.old.input (R.remaining reader.old) (W.contents writer.old) self.old.output →
+            RunsNext result s text old number self.new.stage self.new.input (R.remaining reader.new) (W.contents writer.new) self.new.output }
+        ensures whole { IfOk result (λ more. more ≡ false → IsAtEnd (R.remaining reader.new)) }
+        ensures grows { Grows (W.contents writer.old) (W.contents writer.new) }
+        ensures bad { IfErr result (λ fault. LeavesBadLine fault self.new.output) }
+    {
+        one_split();
+        let Some(found) = next_line(&mut self.input, &mut self.output, reader, writer)? else {
+            return Ok(false);
         };
-        output.make_room(writer)?;
-        run_found(alloc, stage, input, output, found, passed + 1)?;
-        if found.is_last {
-            return Ok(());
+        self.output.make_room(writer)?;
+        self.run_found(alloc, found, number)?;
+        Ok(!found.is_last)
+    }
+
+    /// Runs the line that was found, which has this number, and passes over it.
+    fn run_found(&mut self, alloc: Global, found: Found, number: u32) -> Result<(), ScriptFault>
+        requires front { found.len ≤ length self.old.input }
+        requires behind { found.is_last ≡ false → found.len < length self.old.input }
+        ensures short { OnOk result (found.len ≤ LINE_BYTES) }
+        ensures rest { OnOk result (found.is_last ≡ false → self.new.input ≡ drop (found.len + 1) self.old.input) }
+        ensures does { OnOk result ((s : Scene) → IsSceneOf s self.old.stage → (after : Scene) × (out : List ℕ)
+            × LineDoes s (take found.len self.old.input) out after × IsSceneOf after self.new.stage × (self.new.output ≡ self.old.output ++ out)) }
+        ensures fault { IfErr result (λ fault. EndsAtLine fault number self.old.output self.new.output) }
+        ensures bad { IfErr result (λ fault. IsLineFault fault → (s : Scene) → IsSceneOf s self.old.stage → IsBad s (take found.len self.old.input)) }
+    {
+        let line = &self.input.waiting()[..found.len];
+        match run_line(alloc, &mut self.stage, &mut self.output, line) {
+            Ok(true) => {}
+            Ok(false) => return Err(bad_line(&mut self.output, number)),
+            Err(NoMemory) => return Err(ScriptFault::NoMemory),
+        }
+        if !found.is_last {
+            self.input.pass_line(found.len);
+        }
+        Ok(())
+    }
+
+    /// Sees that no line begins behind the last that a script may have.
+    fn expect_end<R: Read, W: Write>(
+        &mut self,
+        reader: &mut R,
+        writer: &mut W,
+    ) -> Result<(), ScriptFault>
+        ensures runs { (s : Scene) → (text : List ℕ) → (old : Option (List ℕ)) → (number : ℕ) → SCRIPT_LINES < number →
+            RunsOn s text old number self.old.stage self.old.input (R.remaining reader.old) (W.contents writer.old) self.old.output →
+            Leaves result s text old (W.contents writer.new) self.new.output }
+        ensures whole { OnOk result (IsAtEnd (R.remaining reader.new)) }
+        ensures grows { Grows (W.contents writer.old) (W.contents writer.new) }
+        ensures bad { IfErr result (λ fault. LeavesBadLine fault self.new.output) }
+    {
+        if !self.input.waiting().is_empty() {
+            return Err(ScriptFault::Bound);
+        }
+        match read_on(&mut self.input, &mut self.output, reader, writer)? {
+            0 => Ok(()),
+            _ => Err(ScriptFault::Bound),
         }
     }
-    if !input.waiting().is_empty() {
-        return Err(ScriptFault::Bound);
-    }
-    match read_on(input, output, reader, writer)? {
-        0 => Ok(()),
-        _ => Err(ScriptFault::Bound),
-    }
-}
 
-/// Runs the line that was found, which has this number, and passes over it.
-fn run_found(
-    alloc: Global,
-    stage: &mut Stage,
-    input: &mut Input,
-    output: &mut Output,
-    found: Found,
-    number: u32,
-) -> Result<(), ScriptFault>
-    requires front { found.len ≤ length input.old }
-    requires behind { found.is_last ≡ false → found.len < length input.old }
-    ensures short { OnOk result (found.len ≤ 9000) }
-    ensures rest { OnOk result (found.is_last ≡ false → input.new ≡ drop (found.len + 1) input.old) }
-    ensures does { OnOk result ((s : Scene) → IsSceneOf s stage.old → (after : Scene) × (out : List ℕ)
-        × LineDoes s (take found.len input.old) out after × IsSceneOf after stage.new × (output.new ≡ output.old ++ out)) }
-    ensures fault { IfErr result (λ fault. EndsAtLine fault number output.old output.new) }
-    ensures bad { IfErr result (λ fault. IsLineFault fault → (s : Scene) → IsSceneOf s stage.old → IsBad s (take found.len input.old)) }
-{
-    let line = &input.waiting()[..found.len];
-    match run_line(alloc, stage, output, line) {
-        Ok(true) => {}
-        Ok(false) => return Err(bad_line(output, number)),
-        Err(NoMemory) => return Err(ScriptFault::NoMemory),
+    /// Hands out the last answers, and ends the world.
+    fn end<W: Write>(self, writer: &mut W) -> Result<(), ScriptFault>
+        ensures ok { OnOk result (Appends (W.contents writer.old) (W.contents writer.new) self.output) }
+        ensures err { OnErr result (AppendsPart (W.contents writer.old) (W.contents writer.new) self.output) }
+        ensures fault { IfErr result (λ fault. fault ≡ ScriptFault.Write) }
+    {
+        let Run {
+            stage,
+            input: _input,
+            mut output,
+        } = self;
+        stage.end();
+        output.hand_out(writer)
     }
-    if !found.is_last {
-        input.pass_line(found.len);
-    }
-    Ok(())
 }
 
 /// Runs one line and composes its answer. `false` where the line is bad.
@@ -153,7 +195,7 @@ fn run_line(
 ) -> Result<bool, NoMemory>
     ensures runs { IfOk result (λ understood. (s : Scene) → IsSceneOf s stage.old → (after : Scene) × (out : List ℕ)
         × LineEnds s line.now understood out after × IsSceneOf after stage.new × (output.new ≡ output.old ++ out)) }
-    ensures short { IfOk result (λ understood. understood ≡ true → length line.now ≤ 9000) }
+    ensures short { IfOk result (λ understood. understood ≡ true → length line.now ≤ LINE_BYTES) }
     ensures quiet { IfOk result (λ understood. understood ≡ false → output.new ≡ output.old) }
     ensures err { OnErr result (IsFrontOf output.new output.old) }
 {
@@ -171,91 +213,6 @@ fn bad_line(output: &mut Output, number: u32) -> ScriptFault
         Ok(()) => ScriptFault::Line(number),
         Err(NoMemory) => ScriptFault::NoMemory,
     }
-}
-
-/// The next line: the first bytes that wait.
-#[derive(Clone, Copy)]
-struct Found {
-    /// The number of its bytes, its LF not counted.
-    len: usize,
-    /// Whether no LF stands behind it: it is the last, or longer than a line may be.
-    is_last: bool,
-}
-
-/// Finds the next line, and reads on for its end where that has to be; `None` where there is none.
-fn next_line<R: Read, W: Write>(
-    input: &mut Input,
-    output: &mut Output,
-    reader: &mut R,
-    writer: &mut W,
-) -> Result<Option<Found>, ScriptFault>
-    ensures text { OnOk result (TakesIn (R.remaining reader.old) input.old (R.remaining reader.new) input.new) }
-    ensures answers { OnOk result (HandsOn (W.contents writer.old) output.old (W.contents writer.new) output.new) }
-    ensures found { IfOk result (λ found. FindsLine found input.new (R.remaining reader.new)) }
-    ensures none_left { OnErr result (output.new ≡ []) }
-    ensures err { OnErr result (AppendsPart (W.contents writer.old) (W.contents writer.new) output.old) }
-    ensures fault { IfErr result IsStreamFault }
-{
-    let mut seen = 0;
-    loop {
-        if let Some(len) = line_end(input.waiting(), seen) {
-            return Ok(Some(Found {
-                len,
-                is_last: false,
-            }));
-        }
-        seen = input.waiting().len();
-        let len = seen;
-        if len > LINE_BYTES {
-            return Ok(Some(Found { len, is_last: true }));
-        }
-        if read_on(input, output, reader, writer)? == 0 {
-            return Ok(if len == 0 {
-                None
-            } else {
-                Some(Found { len, is_last: true })
-            });
-        }
-    }
-}
-
-/// The place of the first LF, where none stands in the first `seen` bytes.
-fn line_end(waiting: &[u8], seen: usize) -> Option<usize>
-    requires within { seen ≤ length waiting.now }
-    requires before { HasNoEnd (take seen waiting.now) }
-    ensures { MatchOption result (HasNoEnd waiting.now) (λ len. IsFirstLine len waiting.now) }
-{
-    match first_end(&waiting[seen..]) {
-        Some(more) => Some(seen + more),
-        None => None,
-    }
-}
-
-/// The place of the first LF.
-fn first_end(text: &[u8]) -> Option<usize>
-    ensures { MatchOption result (HasNoEnd text.now) (λ len. IsFirstLine len text.now) }
-{
-    text.iter().position(|byte| *byte == b'\n')
-}
-
-/// Hands out the answers and reads once; the number of bytes that came, 0 at the end.
-fn read_on<R: Read, W: Write>(
-    input: &mut Input,
-    output: &mut Output,
-    reader: &mut R,
-    writer: &mut W,
-) -> Result<usize, ScriptFault>
-    requires { length input.old < 9001 }
-    ensures text { OnOk result (TakesIn (R.remaining reader.old) input.old (R.remaining reader.new) input.new) }
-    ensures count { IfOk result (λ count. length input.new ≡ length input.old + count) }
-    ensures end { IfOk result (λ count. count ≡ 0 → IsAtEnd (R.remaining reader.new)) }
-    ensures answers { OnOk result (Appends (W.contents writer.old) (W.contents writer.new) output.old) }
-    ensures none_left { output.new ≡ [] }
-    ensures err { OnErr result (AppendsPart (W.contents writer.old) (W.contents writer.new) output.old) }
-    ensures fault { IfErr result IsStreamFault }
-{
-    output.hand_out(writer)?;
-    input.read_from(reader)
 }
 
 #[cfg(test)]

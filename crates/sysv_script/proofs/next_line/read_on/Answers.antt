@@ -1,5 +1,5 @@
 use Rattle.sysv_script.proofs.StreamLemmas.{AppendsPart-all, OnErr-from}
-use Rattle.sysv_script.proofs.script.read_on.Goals as goal
+use Rattle.sysv_script.proofs.next_line.read_on.Goals as goal
 
 pub returns-clause-err : goal.returns-clause-err
 returns-clause-err g c =

@@ -1,15 +1,16 @@
 use Rattle.std.proofs.Common.{◌-◌, ◌≤◌, length, take}
 use Rattle.sysv_script.specs.Found.{HasNoEnd}
 use Rattle.sysv_script.specs.Streams.{HandsOn, TakesIn}
-use Rattle.sysv_script.proofs.script.next_line.Given as goal
+use Rattle.sysv_script.specs.declared.input.TheConstants.{INPUT_ROOM}
+use Rattle.sysv_script.proofs.next_line.next_line.Given as goal
 
-abbrev pub invariant-loop-len : goal.invariant-loop-len
-invariant-loop-len g l = record {
+abbrev pub invariant-loop-found : goal.invariant-loop-found
+invariant-loop-found g l = record {
   within : l.seen ≤ length l.input;
   before : HasNoEnd (take l.seen l.input);
   text : TakesIn (g.R.Read.remaining l.initial.reader) l.initial.input (g.R.Read.remaining l.reader) l.input;
   answers : HandsOn (g.W.Write.contents l.initial.writer) l.initial.output (g.W.Write.contents l.writer) l.output;
 }
 
-abbrev pub decreases-loop-len : goal.decreases-loop-len
-decreases-loop-len g l = 9001 - length l.input
+abbrev pub decreases-loop-found : goal.decreases-loop-found
+decreases-loop-found g l = INPUT_ROOM - length l.input
