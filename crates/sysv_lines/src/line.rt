@@ -58,7 +58,7 @@ pub enum Request<'a> {
 pub enum Text<'a> {
     /// These bytes.
     Given(&'a [u8]),
-    /// The letter x, this often.
+    /// That many letters x.
     Letters(usize),
 }
 

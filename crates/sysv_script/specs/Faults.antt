@@ -16,7 +16,7 @@ bad_line_text number = head_text (Bad number) ++ 10 ∷ []
 abbrev pub EndsInBadLine : ℕ → List ℕ → Type 0
 EndsInBadLine number text = (answers : List ℕ) × (text ≡ answers ++ bad_line_text number)
 
--- a front of the text
+-- a prefix of the text
 abbrev pub IsFrontOf : List ℕ → List ℕ → Type 0
 IsFrontOf front text = (count : ℕ) × (front ≡ take count text)
 

@@ -8,7 +8,7 @@ use Rattle.sysv_script.specs.declared.next_line.Found.{Found}
 abbrev pub HasNoEnd : List ℕ → Type 0
 HasNoEnd text = Contains text 10 → ⊥
 
--- The line is the front of the text up to its first LF.
+-- The line is the prefix of the text up to its first LF.
 pub record IsFirstLine (len : ℕ) (text : List ℕ) : Type 0 where
   pub ends : slice_get text len ≡ Some 10
   pub one_line : HasNoEnd (take len text)

@@ -45,12 +45,12 @@ pub record RunsOn (s : Scene) (text : List ℕ) (old : Option (List ℕ)) (n : �
   pub grown : Appends old new handed
   pub prints : (more : List ℕ) (halt : Halt) → Runs mid n rest more halt → Runs s 1 text ((handed ++ composed) ++ more) halt
 
--- All that the text prints was handed out or is composed.
+-- All that the text prints was written or is composed.
 abbrev pub LeavesAll : Scene → List ℕ → Ending → Option (List ℕ) → Option (List ℕ) → List ℕ → Type 0
 LeavesAll s text ending old new composed =
     (out : List ℕ) × Prints s 1 text out ending × ((handed : List ℕ) × Appends old new handed × (out ≡ handed ++ composed))
 
--- What was handed out, and what is composed behind it, is a prefix of what the text has printed so far.
+-- What was written, and what is composed after it, is a prefix of what the text has printed so far.
 abbrev pub LeavesFront : Scene → List ℕ → Option (List ℕ) → Option (List ℕ) → List ℕ → Type 0
 LeavesFront s text old new composed =
     (out : List ℕ) × PrintsSofar s 1 text out × ((handed : List ℕ) × Appends old new handed × IsFrontOf (handed ++ composed) out)

@@ -7,7 +7,7 @@ use sysv_core::laws::{one_step, some_step};
 use sysv_lines::laws::{each_line_is_decided, one_saying, one_split};
 
 /// From a scene, which is a world and its actors' credentials, a text prints one thing only and ends in
-/// one way, and what is printed where it is stopped before a line is a front of that.
+/// one way, and what is printed where it has printed before a line is a prefix of that.
 pub fn one_text()
     ensures { OneText }
 {
@@ -16,7 +16,7 @@ pub fn one_text()
     one_split();
 }
 
-/// Each text prints something in whole: it runs to its end, to a bad line or behind the millionth
+/// Each text prints something: it runs to its end, to a bad line or after the millionth
 /// line.
 pub fn each_text_prints()
     ensures { EachTextPrints }

@@ -19,7 +19,7 @@ const OUTPUT_ROOM: usize = 65536;
 /// The longest line: a head of at most 64 bytes, a text and its LF.
 const LONGEST: usize = 8400;
 
-/// Lines that are composed and not yet handed out.
+/// Lines that are composed and not yet written.
 #[derive(Drop)]
 pub(crate) struct Output {
     bytes: Vec<u8>,

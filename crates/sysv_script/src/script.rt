@@ -36,7 +36,7 @@ pub fn run_script<R: Read, W: Write>(
     reader: &mut R,
     writer: &mut W,
 ) -> Result<(), ScriptFault>
-    // What the writer took is what the text prints; after a fault of a stream or of memory, a front of it.
+    // What the writer took is what the text prints; after a fault of a stream or of memory, a prefix of it.
     ensures prints { (text : List ℕ) → R.remaining reader.old ≡ Some text → WritesScript result text (W.contents writer.old) (W.contents writer.new) }
     // A script that ends well was read to its end.
     ensures whole { OnOk result (IsAtEnd (R.remaining reader.new)) }
@@ -77,7 +77,7 @@ impl Run {
     }
 
     /// Runs the lines one by one, up to the end, the first fault or the bound. The last answers may
-    /// still have to be handed out.
+    /// still have to be written.
     fn run_lines<R: Read, W: Write>(
         &mut self,
         alloc: Global,
@@ -148,7 +148,7 @@ impl Run {
         Ok(())
     }
 
-    /// Sees that no line begins behind the last that a script may have.
+    /// Sees that no line begins after the last that a script may have.
     fn expect_end<R: Read, W: Write>(
         &mut self,
         reader: &mut R,
