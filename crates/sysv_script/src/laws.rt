@@ -7,7 +7,7 @@ use sysv_core::laws::{one_step, some_step};
 use sysv_lines::laws::{each_line_is_decided, one_saying, one_split};
 
 /// From a scene, which is a world and its actors' credentials, a text prints one thing only and ends in
-/// one way, and what is printed where it has printed before a line is a prefix of that.
+/// one way, and what it has printed before a line is a prefix of that.
 pub fn one_text()
     ensures { OneText }
 {
@@ -16,8 +16,7 @@ pub fn one_text()
     one_split();
 }
 
-/// Each text prints something: it runs to its end, to a bad line or after the millionth
-/// line.
+/// Each text prints something: it runs to its end, to a bad line, or to the line after the millionth.
 pub fn each_text_prints()
     ensures { EachTextPrints }
 {
