@@ -1,14 +1,17 @@
 -- What a fault that is passed on leaves.
 use Rattle.std.proofs.Common.{◌≡◌, ℕ, true, false, List, ◌++◌, Result, Ok, Err, Option, ap, sym, subst, ◌∙◌, append_assoc}
-use Rattle.std.specs.Prelude.{IfOk, IfErr, IsErrAnd, MatchResult, is_ok}
+use Rattle.std.specs.Prelude.{IfOk, IfErr, OnOk, OnErr, IsErrAnd, MatchResult, is_ok, ⊤}
+use Rattle.std.specs.Result.{result_and}
 use Rattle.std.specs.Io.KnownBytes.{Appends}
 use Rattle.std.proofs.KnownBytes.{Appends-trans}
 use Rattle.sysv_script.specs.declared.fault.ScriptFault.{ScriptFault}
 use Rattle.sysv_script.specs.declared.fault.ScriptFault.TheVariants.{Line, Read, Write, NoMemory, Bound}
+use Rattle.sysv_script.specs.Streams.{AppendsPart}
+use Rattle.sysv_script.proofs.StreamLemmas.{Grows-trans, Grows-part}
 use Rattle.sysv_script.specs.Faults.{Grows, IsStreamFault, LeavesBadLine, TellsBadLine, bad_line_text}
 
 -- a fault of a stream says nothing of a line
-LeavesBadLine-stream : (fault : ScriptFault) (composed : List ℕ) → IsStreamFault fault → LeavesBadLine fault composed
+pub LeavesBadLine-stream : (fault : ScriptFault) (composed : List ℕ) → IsStreamFault fault → LeavesBadLine fault composed
 LeavesBadLine-stream Read composed h = tt
 LeavesBadLine-stream Write composed h = tt
 LeavesBadLine-stream (Line n) composed h = absurd h
@@ -18,17 +21,6 @@ LeavesBadLine-stream Bound composed h = absurd h
 pub IfErr-stream : {T : Type 0} (r : Result T ScriptFault) (fault : ScriptFault) (composed : List ℕ) → IsErrAnd r (λ y. y ≡ fault) → IsStreamFault fault → IfErr r (λ f. LeavesBadLine f composed)
 IfErr-stream (Ok x) fault composed e h = tt
 IfErr-stream (Err y) fault composed e h = LeavesBadLine-stream y composed (subst IsStreamFault (sym e) h)
-
-TellsBadLine-stream : (fault : ScriptFault) (old new : Option (List ℕ)) → IsStreamFault fault → TellsBadLine fault old new
-TellsBadLine-stream Read old new h = tt
-TellsBadLine-stream Write old new h = tt
-TellsBadLine-stream (Line n) old new h = absurd h
-TellsBadLine-stream NoMemory old new h = absurd h
-TellsBadLine-stream Bound old new h = absurd h
-
-pub IfErr-tells-stream : {T : Type 0} (r : Result T ScriptFault) (fault : ScriptFault) (old new : Option (List ℕ)) → IsErrAnd r (λ y. y ≡ fault) → IsStreamFault fault → IfErr r (λ f. TellsBadLine f old new)
-IfErr-tells-stream (Ok x) fault old new e h = tt
-IfErr-tells-stream (Err y) fault old new e h = TellsBadLine-stream y old new (subst IsStreamFault (sym e) h)
 
 -- what was composed is handed out last
 TellsBadLine-handed : (fault : ScriptFault) (a b c : Option (List ℕ)) (composed : List ℕ) → Grows a b → Appends b c composed → LeavesBadLine fault composed → TellsBadLine fault a c
@@ -42,9 +34,18 @@ TellsBadLine-handed Write a b c composed grown all left = tt
 TellsBadLine-handed NoMemory a b c composed grown all left = tt
 TellsBadLine-handed Bound a b c composed grown all left = tt
 
-pub IfErr-handed : {T : Type 0} (r : Result T ScriptFault) (a b c : Option (List ℕ)) (composed : List ℕ) → Grows a b → Appends b c composed → IfErr r (λ f. LeavesBadLine f composed) → IfErr r (λ f. TellsBadLine f a c)
+IfErr-handed : (r : Result ⊤ ScriptFault) (a b c : Option (List ℕ)) (composed : List ℕ) → Grows a b → Appends b c composed → IfErr r (λ f. LeavesBadLine f composed) → IfErr r (λ f. TellsBadLine f a c)
 IfErr-handed (Ok x) a b c composed grown all left = tt
 IfErr-handed (Err y) a b c composed grown all left = TellsBadLine-handed y a b c composed grown all left
+
+pub tells_end : (handed ended : Result ⊤ ScriptFault) (a b c : Option (List ℕ)) (composed : List ℕ) → Grows a b → OnOk handed (Appends b c composed) → IfErr handed (λ f. f ≡ Write) →
+    IfErr ended (λ f. LeavesBadLine f composed) → IfErr (result_and handed ended) (λ f. TellsBadLine f a c)
+tells_end (Ok x) ended a b c composed grown all fault left = IfErr-handed ended a b c composed grown all left
+tells_end (Err y) ended a b c composed grown all fault left = subst (λ f. TellsBadLine f a c) (sym fault) tt
+
+pub grows_end : (handed : Result ⊤ ScriptFault) (a b c : Option (List ℕ)) (composed : List ℕ) → Grows a b → OnOk handed (Appends b c composed) → OnErr handed (AppendsPart b c composed) → Grows a c
+grows_end (Ok x) a b c composed grown all part = Grows-trans a b c grown (composed, all)
+grows_end (Err y) a b c composed grown all part = Grows-trans a b c grown (Grows-part b c composed part)
 
 Ok-once : {T D : Type 0} (y x : T) → ◌≡◌ {A = Result T D} (Ok y) (Ok x) → y ≡ x
 Ok-once y x e = cc

@@ -1,7 +1,8 @@
 -- The bytes that wait in the buffer of the input.
 use Rattle.std.proofs.Common.{◌≡◌, ℕ, ◌+◌, ◌-◌, ◌≤◌, List, ◌++◌, length, take, drop, slice_range, sym, ap, ◌∙◌, arith, length-drop}
-use lib.Seq.{paste, take-add}
-use Rattle.std.proofs.lemmas.List.{drop-take, drop-drop}
+use borrow.Rule.Slice.PartMut.{put_mid, post_of}
+use lib.Seq.{paste, take-append-add}
+use Rattle.std.proofs.lemmas.List.{drop-take, drop-drop, length-take-le, take-append-le}
 use Rattle.std.proofs.lemmas.List.Edits.{take-paste}
 
 -- after so many of them were passed over
@@ -19,8 +20,12 @@ moved_to_front xs start end ordered within =
     ∙ take-paste xs 0 (drop start xs) (end - start) (omega arith) (omega (arith, length-drop start xs))
 
 -- the first bytes stayed, and more came behind them
-pub came_behind : (held now : List ℕ) (len count : ℕ) → take len now ≡ held → slice_range now 0 (len + count) ≡ held ++ slice_range now len (len + count)
-came_behind held now len count kept =
-    let more : count ≡ len + count - len = omega arith in
+pub came_behind : (held xs ys : List ℕ) (len count k : ℕ) → len ≤ length xs → count ≤ length ys → take len xs ≡ held → slice_range (put_mid len k xs ys) 0 (len + count) ≡ held ++ take count ys
+came_behind held xs ys len count k within fits kept =
     let whole : len + count - 0 ≡ len + count = omega arith in
-    ap (λ n. take n now) whole ∙ take-add len count now ∙ ap (λ front. front ++ take count (drop len now)) kept ∙ ap (λ n. held ++ take n (drop len now)) more
+    let front : length (take len xs) ≡ len = length-take-le len xs within in
+    ap (λ n. take n (put_mid len k xs ys)) whole
+    ∙ ap (λ m. take (m + count) (put_mid len k xs ys)) (sym front)
+    ∙ take-append-add (take len xs) (ys ++ post_of len k xs) count
+    ∙ ap (λ l. take len xs ++ l) (take-append-le count ys (post_of len k xs) fits)
+    ∙ ap (λ l. l ++ take count ys) kept

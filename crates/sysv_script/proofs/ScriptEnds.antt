@@ -1,6 +1,7 @@
 -- How a run of a script that is under way ends, by the fault that ends it.
 use Rattle.std.proofs.Common.{◌≡◌, ◌+◌, ◌≤◌, ℕ, zero, suc, List, [], ◌∷◌, ◌++◌, Option, Some, Result, Ok, Err, length, take, refl, sym, ap, subst, ◌∙◌, arith, take_all}
-use Rattle.std.specs.Prelude.{IsErrAnd, ⊤, Bool, true, false, not}
+use Rattle.std.specs.Prelude.{IsErrAnd, IfErr, OnOk, OnErr, ⊤, Bool, true, false, not}
+use Rattle.std.specs.Result.{result_and}
 use Rattle.std.specs.Io.KnownBytes.{Appends}
 use Rattle.std.proofs.KnownBytes.{Appends-nil, Appends-trans}
 use lib.Seq.{take-append-add}
@@ -151,23 +152,18 @@ module _ (one : OneText) (each : EachTextPrints) where
   fault_out Read text old mid new composed left all = in_whole text old new (front_out text old mid new composed left all)
   fault_out Write text old mid new composed left all = in_whole text old new (front_out text old mid new composed left all)
 
-  pub writes_out : (r : Result ⊤ ScriptFault) (text : List ℕ) (old mid new : Option (List ℕ)) (composed : List ℕ) → Leaves r opening_scene text old mid composed → Appends mid new composed → WritesScript r text old new
+  writes_out : (r : Result ⊤ ScriptFault) (text : List ℕ) (old mid new : Option (List ℕ)) (composed : List ℕ) → Leaves r opening_scene text old mid composed → Appends mid new composed → WritesScript r text old new
   writes_out (Ok done) text old mid new composed left all = all_out Whole text old mid new composed left all
   writes_out (Err fault) text old mid new composed left all = fault_out fault text old mid new composed left all
 
-  writes_front : (r : Result ⊤ ScriptFault) (text : List ℕ) (old new : Option (List ℕ)) → IsErrAnd r (λ y. y ≡ Write) → WritesSome text old new → WritesScript r text old new
-  writes_front (Ok x) text old new e some = absurd e
-  writes_front (Err y) text old new e some = subst (λ f. WritesAtFault f text old new) (sym e) (in_whole text old new some)
-
-  pub writes_cut : (r last : Result ⊤ ScriptFault) (fault : ScriptFault) (text : List ℕ) (old mid new : Option (List ℕ)) (composed : List ℕ) → IsErrAnd last (λ y. y ≡ fault) → fault ≡ Write →
-      Leaves r opening_scene text old mid composed → AppendsPart mid new composed → WritesScript last text old new
-  writes_cut r last fault text old mid new composed e f left part =
-      writes_front last text old new (subst (λ x. IsErrAnd last (λ y. y ≡ x)) f e) (any_cut r text old mid new composed left part)
+  -- what is composed at the end is handed out, or a front of it
+  pub writes_end : (handed ended : Result ⊤ ScriptFault) (text : List ℕ) (old mid new : Option (List ℕ)) (composed : List ℕ) →
+      OnOk handed (Appends mid new composed) → OnErr handed (AppendsPart mid new composed) → IfErr handed (λ y. y ≡ Write) →
+      Leaves ended opening_scene text old mid composed → WritesScript (result_and handed ended) text old new
+  writes_end (Ok x) ended text old mid new composed all part fault left = writes_out ended text old mid new composed left all
+  writes_end (Err y) ended text old mid new composed all part fault left =
+      subst (λ f. WritesAtFault f text old new) (sym fault) (in_whole text old new (any_cut ended text old mid new composed left part))
 
   -- nothing was run
   pub writes_none : (text : List ℕ) (old : Option (List ℕ)) → WritesFront text old old
   writes_none text old = let all = each text in (all.1, all.0, all.2, (0, Appends-nil old))
-
-  pub writes_nothing : (r : Result ⊤ ScriptFault) (fault : ScriptFault) (text : List ℕ) (old : Option (List ℕ)) → IsErrAnd r (λ y. y ≡ fault) → fault ≡ NoMemory → WritesScript r text old old
-  writes_nothing (Ok x) fault text old e f = absurd e
-  writes_nothing (Err y) fault text old e f = subst (λ x. WritesAtFault x text old old) (sym (e ∙ f)) (writes_none text old)

@@ -81,24 +81,12 @@ impl Input {
         self.buffer.copy_within(self.start..self.end, 0);
         self.start = 0;
         self.end = len;
-        let count = read_behind(reader, &mut self.buffer, len)?;
-        self.end = len + count;
-        Ok(count)
-    }
-}
-
-/// Reads once into the bytes behind the first `len`, which stay; the number of bytes that came.
-fn read_behind<R: Read>(reader: &mut R, buffer: &mut [u8], len: usize) -> Result<usize, ScriptFault>
-    requires { len ≤ length buffer.old }
-    ensures size { length buffer.new ≡ length buffer.old }
-    ensures kept { take len buffer.new ≡ take len buffer.old }
-    ensures fits { IfOk result (λ count. len + count ≤ length buffer.new) }
-    ensures came { IfOk result (λ count. Consumes (R.remaining reader.old) (R.remaining reader.new) (slice_range buffer.new len (len + count))) }
-    ensures end { IfOk result (λ count. count ≡ 0 → len < length buffer.old → IsAtEnd (R.remaining reader.new)) }
-    ensures err { IfErr result (λ fault. fault ≡ ScriptFault.Read) }
-{
-    match reader.read(&mut buffer[len..]) {
-        Ok(count) => Ok(count),
-        Err(_) => Err(ScriptFault::Read),
+        match reader.read(&mut self.buffer[len..]) {
+            Ok(count) => {
+                self.end = len + count;
+                Ok(count)
+            }
+            Err(_) => Err(ScriptFault::Read),
+        }
     }
 }

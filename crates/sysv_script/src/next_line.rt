@@ -42,8 +42,10 @@ pub(crate) fn next_line<R: Read, W: Write>(
             return Ok(Some(found));
         }
         seen = input.waiting().len();
-        if read_on(input, output, reader, writer)? == 0 {
-            return Ok(line_at_end(seen));
+        match read_on(input, output, reader, writer) {
+            Ok(0) => return Ok(line_at_end(seen)),
+            Ok(_) => {}
+            Err(fault) => return Err(fault),
         }
     }
 }
@@ -115,6 +117,8 @@ pub(crate) fn read_on<R: Read, W: Write>(
     ensures err { OnErr result (AppendsPart (W.contents writer.old) (W.contents writer.new) output.old) }
     ensures fault { IfErr result IsStreamFault }
 {
-    output.hand_out(writer)?;
-    input.read_from(reader)
+    match output.hand_out(writer) {
+        Ok(()) => input.read_from(reader),
+        Err(fault) => Err(fault),
+    }
 }

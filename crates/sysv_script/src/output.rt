@@ -40,8 +40,10 @@ impl Output {
     pub(crate) fn open(alloc: Global) -> Result<Output, NoMemory>
         ensures { IfOk result (λ output. output ≡ []) }
     {
-        let bytes = Vec::with_capacity(alloc, OUTPUT_ROOM).map_err(|_| NoMemory)?;
-        Ok(Output { bytes })
+        match Vec::with_capacity(alloc, OUTPUT_ROOM) {
+            Ok(bytes) => Ok(Output { bytes }),
+            Err(_) => Err(NoMemory),
+        }
     }
 
     /// Composes a line that is a head alone. Where memory is refused, nothing is left composed.
@@ -81,10 +83,10 @@ impl Output {
         ensures err { OnErr result (AppendsPart (W.contents writer.old) (W.contents writer.new) self.old) }
         ensures fault { IfErr result (λ fault. fault ≡ ScriptFault.Write) }
     {
-        if self.bytes.len() > OUTPUT_ROOM - LONGEST {
-            self.hand_out(writer)?;
+        if self.bytes.len() <= OUTPUT_ROOM - LONGEST {
+            return Ok(());
         }
-        Ok(())
+        self.hand_out(writer)
     }
 
     /// Writes all that was composed, in as many writes as the writer wants. Nothing is left composed,
@@ -105,9 +107,13 @@ impl Output {
 fn append_line(bytes: &mut Vec<u8>, head: Head, text: &Body) -> Result<(), NoMemory>
     ensures { OnOk result (bytes.new.items ≡ bytes.old.items ++ (head_text head ++ (text.now ++ 10 ∷ []))) }
 {
-    write!(bytes, "{head}").map_err(|_| NoMemory)?;
-    append_text(bytes, text)?;
-    bytes.push(b'\n').map_err(|_| NoMemory)
+    if write!(bytes, "{head}").is_err()
+        || append_text(bytes, text).is_err()
+        || bytes.push(b'\n').is_err()
+    {
+        return Err(NoMemory);
+    }
+    Ok(())
 }
 
 /// Appends the bytes of a text, block by block.

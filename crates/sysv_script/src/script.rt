@@ -50,8 +50,7 @@ pub fn run_script<R: Read, W: Write>(
         return Err(ScriptFault::NoMemory);
     };
     let ended = run.run_lines(alloc, reader, writer);
-    run.end(writer)?;
-    ended
+    run.end(writer).and(ended)
 }
 
 /// A script under way: what it runs on, the bytes that wait, and the answers that are composed.
@@ -92,8 +91,10 @@ impl Run {
         ensures bad { IfErr result (λ fault. LeavesBadLine fault self.new.output) }
     {
         for passed in 0..SCRIPT_LINES {
-            if !self.run_next(alloc, reader, writer, passed + 1)? {
-                return Ok(());
+            match self.run_next(alloc, reader, writer, passed + 1) {
+                Ok(true) => {}
+                Ok(false) => return Ok(()),
+                Err(fault) => return Err(fault),
             }
         }
         self.expect_end(reader, writer)
@@ -164,9 +165,10 @@ impl Run {
         if !self.input.waiting().is_empty() {
             return Err(ScriptFault::Bound);
         }
-        match read_on(&mut self.input, &mut self.output, reader, writer)? {
-            0 => Ok(()),
-            _ => Err(ScriptFault::Bound),
+        match read_on(&mut self.input, &mut self.output, reader, writer) {
+            Ok(0) => Ok(()),
+            Ok(_) => Err(ScriptFault::Bound),
+            Err(fault) => Err(fault),
         }
     }
 

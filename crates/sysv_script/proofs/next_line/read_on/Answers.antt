@@ -1,7 +1,7 @@
 use Rattle.sysv_script.proofs.StreamLemmas.{AppendsPart-all, OnErr-from}
 use Rattle.sysv_script.proofs.next_line.read_on.Goals as goal
 
-pub returns-clause-err : goal.returns-clause-err
-returns-clause-err g c =
+pub returns-in-Ok-clause-err : goal.returns-in-Ok-clause-err
+returns-in-Ok-clause-err g c =
     OnErr-from c.read_from.result
-    (AppendsPart-all (g.W.Write.contents c.args.writer.now) (g.W.Write.contents c.hand_out.new.writer) c.args.output.now c.in_ok-hand_out.ensures.ok)
+    (AppendsPart-all (g.W.Write.contents c.args.writer.now) (g.W.Write.contents c.hand_out.new.writer) c.args.output.now c.in-Ok.ensures.ok)

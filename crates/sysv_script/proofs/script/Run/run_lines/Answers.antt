@@ -1,6 +1,6 @@
 use Rattle.std.proofs.Common.{arith}
 use Rattle.sysv_script.proofs.Scripting.{begins_text}
-use Rattle.sysv_script.proofs.ScriptEnds.{Leaves-passed, RunsNext-on, RunsNext-end}
+use Rattle.sysv_script.proofs.ScriptEnds.{RunsNext-on, RunsNext-end}
 use Rattle.sysv_script.proofs.StreamLemmas.{Grows-none, Grows-trans}
 use Rattle.sysv_script.proofs.script.Run.run_lines.Goals as goal
 
@@ -12,24 +12,22 @@ loop-passed-init g c = record {
 
 pub loop-passed-preserved : goal.loop-passed-preserved
 loop-passed-preserved g c = record {
-  grows = Grows-trans _ _ _ c.loop-passed.invariant.grows c.in_ok-run_next.ensures.grows;
-  runs = λ s seen text t. RunsNext-on _ _ _ _ _ _ _ _ _ _ c.if-not-branch.false (c.in_ok-run_next.ensures.runs s text _ (c.loop-passed.invariant.runs s seen text t));
+  grows = Grows-trans _ _ _ c.loop-passed.invariant.grows c.in-Ok-true.ensures.grows;
+  runs = λ s seen text t. RunsNext-on c.in-Ok-true.field-0 _ _ _ _ _ _ _ _ _ c.in-Ok-true.field-0-test (c.in-Ok-true.ensures.runs s text _ (c.loop-passed.invariant.runs s seen text t));
 }
 
-pub returns-in_err-run_next-clause-prints : goal.returns-in_err-run_next-clause-prints
-returns-in_err-run_next-clause-prints g c = λ s seen text t.
-    Leaves-passed c.from_residual.result c.in_err-run_next.field-0.0 s text _ _ _ c.from_residual.ensures.1
-    (c.in_err-run_next.ensures.runs s text _ (c.loop-passed.invariant.runs s seen text t))
+pub returns-in-Ok-false-clause-prints : goal.returns-in-Ok-false-clause-prints
+returns-in-Ok-false-clause-prints g c = λ s seen text t.
+    RunsNext-end c.in-Ok-false.field-0 _ _ _ _ _ _ _ _ _ c.in-Ok-false.field-0-test (c.in-Ok-false.ensures.runs s text _ (c.loop-passed.invariant.runs s seen text t))
 
-pub returns-in_err-run_next-clause-grows : goal.returns-in_err-run_next-clause-grows
-returns-in_err-run_next-clause-grows g c = Grows-trans _ _ _ c.loop-passed.invariant.grows c.in_err-run_next.ensures.grows
+pub returns-in-Ok-false-clause-grows : goal.returns-in-Ok-false-clause-grows
+returns-in-Ok-false-clause-grows g c = Grows-trans _ _ _ c.loop-passed.invariant.grows c.in-Ok-false.ensures.grows
 
-pub returns-then-not-branch-clause-prints : goal.returns-then-not-branch-clause-prints
-returns-then-not-branch-clause-prints g c = λ s seen text t.
-    RunsNext-end _ _ _ _ _ _ _ _ _ _ c.if-not-branch.true (c.in_ok-run_next.ensures.runs s text _ (c.loop-passed.invariant.runs s seen text t))
+pub returns-in-Err-clause-prints : goal.returns-in-Err-clause-prints
+returns-in-Err-clause-prints g c = λ s seen text t. c.in-Err.ensures.runs s text _ (c.loop-passed.invariant.runs s seen text t)
 
-pub returns-then-not-branch-clause-grows : goal.returns-then-not-branch-clause-grows
-returns-then-not-branch-clause-grows g c = Grows-trans _ _ _ c.loop-passed.invariant.grows c.in_ok-run_next.ensures.grows
+pub returns-in-Err-clause-grows : goal.returns-in-Err-clause-grows
+returns-in-Err-clause-grows g c = Grows-trans _ _ _ c.loop-passed.invariant.grows c.in-Err.ensures.grows
 
 pub returns-clause-prints : goal.returns-clause-prints
 returns-clause-prints g c = λ s seen text t.
