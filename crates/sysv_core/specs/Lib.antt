@@ -20,6 +20,7 @@ pub mod Run
 pub mod Answered
 pub mod Asked
 pub mod Seen
+pub mod Standing
 pub mod Kept
 pub mod Led
 pub mod AnswerLaw

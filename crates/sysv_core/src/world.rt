@@ -3,6 +3,7 @@ ghost use Rattle.sysv_model.specs.declared.limits.TheConstants.{ACTORS_MOST as m
 ghost use Rattle.sysv_core.specs.Headline.{StandsWithPreset, StandsWithEvent, StandsWithEvents, LawsHold};
 ghost use Rattle.sysv_core.specs.Seen.{StandsFor, PresetsSeen, StepsSeen, IsOpenedWith};
 ghost use Rattle.sysv_core.specs.Kept.{kept_led, told_by};
+ghost use Rattle.sysv_core.specs.Standing.{state_at, StandsBefore};
 ghost use Rattle.sysv_core.specs.declared.event.Event.TheVariants.{Start, Step};
 
 use crate::doing::{Doing, Led, advance, begin};
@@ -13,6 +14,7 @@ use std::marker::Model;
 use sysv_model::cred::Cred;
 use sysv_model::limits::{ACTORS_MOST, BLOCKS_LEAST, BLOCKS_MOST, IPC_PRIVATE, WORN};
 use sysv_queue::slot::QueueSlot;
+use sysv_steps::state::Phase;
 use thiserror::Error;
 
 /// Why a world is not opened.
@@ -142,6 +144,18 @@ impl World {
             }
         }
         Ok(answers)
+    }
+
+    /// The step before which the call of `actor` stands; `None` where it is idle, and for a number that
+    /// no actor has. Actors count from 1.
+    pub fn standing(&self, actor: u32) -> Option<Phase>
+        ensures { StandsBefore (state_at self.now.states actor) result }
+    {
+        let place = self.place_of(actor)?;
+        match &self.actors[place] {
+            Some(doing) => Some(doing.phase),
+            None => None,
+        }
     }
 
     /// Ends the world, with all that it holds, and answers the blocks that it was opened with. It takes no

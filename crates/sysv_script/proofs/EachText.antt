@@ -1,5 +1,5 @@
 -- A text prints something in whole: line by line, each of which does something or is bad.
-use Rattle.std.proofs.Common.{◌≡◌, ◌+◌, ◌-◌, ◌≤◌, ◌<◌, ◌⊎◌, ℕ, zero, suc, inl, inr, Bool, true, false, List, [], ◌∷◌, ◌++◌, Some, None, length, get_or, replicate, slice_get, refl, ap, ◌∙◌, arith}
+use Rattle.std.proofs.Common.{◌≡◌, ◌+◌, ◌-◌, ◌≤◌, ◌<◌, ◌⊎◌, ℕ, zero, suc, inl, inr, Bool, true, false, List, [], ◌∷◌, ◌++◌, Option, Some, None, length, get_or, replicate, slice_get, refl, sym, ap, subst, ◌∙◌, arith}
 use Rattle.std.proofs.lemmas.List.{length-set}
 use Rattle.sysv_model.specs.declared.cred.Cred.{Cred}
 use Rattle.sysv_core.specs.declared.event.Call.{Call}
@@ -7,17 +7,26 @@ use Rattle.sysv_core.specs.declared.event.Event.{Event}
 use Rattle.sysv_core.specs.declared.event.Event.TheVariants.{Start, Step}
 use Rattle.sysv_core.specs.declared.event.Stepped.{Stepped}
 use Rattle.sysv_core.specs.declared.event.Stepped.TheVariants as stepped
-use Rattle.sysv_core.specs.World.{World, Doing, Presets}
+use Rattle.sysv_core.specs.World.{World, Doing, actor_at, Presets}
 use Rattle.sysv_core.specs.Seen.{AreThere}
 use Rattle.sysv_core.specs.SomeRun.{SomeStep, SomePreset}
 use Rattle.sysv_script.specs.Faults.{bad_line_text}
-use Rattle.sysv_script.specs.Lines.{Says}
-use Rattle.sysv_script.specs.ScriptRun.{Said, Nothing, MakesPreset, GivesCred, Starts, Scene, opening_scene, first_cred, in_world, cred_at, with_cred, Advances, GoesOn, CallRuns, operation_of, printed}
-use Rattle.sysv_script.specs.ScriptText.{BeginsWith, LineDoes, IsBad, Ending, Whole, BadLine, TooMany, IsWholeEnding, Prints, Ends, Exceeds, Fails, Goes}
+use Rattle.sysv_lines.specs.Heads.{head_text}
+use Rattle.sysv_lines.specs.declared.head.Head.TheVariants as head
+use Rattle.sysv_lines.specs.Lines.{Says}
+use Rattle.sysv_lines.specs.Said.{Said, Nothing, MakesPreset, GivesCred, Starts}
+use Rattle.sysv_script.specs.ScriptRun.{Scene, opening_scene, first_cred, in_world, cred_at, with_cred, Advances, GoesOn, CallRuns, StartRuns, operation_of, printed}
+use Rattle.sysv_script.specs.ScriptText.{BeginsWith, LineDoes, IsBad, Ending, Whole, BadLine, TooMany, Prints, Ends, Exceeds, Fails, Goes}
 use Rattle.sysv_script.specs.EachText.{EachTextPrints}
 use Rattle.sysv_script.proofs.CredLemmas.{cred_held}
-use Rattle.sysv_script.proofs.Deciding.{at_most, splits_or_not, splits_shorter}
-use Rattle.sysv_script.proofs.DecidingLines.{says_or_not}
+use Rattle.sysv_lines.specs.OneSplit.{OneSplit}
+use Rattle.sysv_lines.specs.OneLine.{EachLineIsDecided}
+
+-- a number is at most another, or above it
+at_most : (a b : ℕ) → (a ≤ b) ⊎ (b < a)
+at_most zero b = inl (omega arith)
+at_most (suc a) zero = inr (omega arith)
+at_most (suc a) (suc b) = elim (at_most a b) [ inl h ↦ inl (omega arith) | inr h ↦ inr (omega arith) ]
 
 -- ---- the first line of a text
 
@@ -29,9 +38,9 @@ record FirstLine (text : List ℕ) : Type 0 where
   shorter : length rest < length text
 
 -- a text that is not empty begins with a line
-first_line : (text : List ℕ) → 0 < length text → FirstLine text
-first_line text some = elim (splits_or_not 10 text) [
-  | inl s ↦ record { line = s.0; rest = s.1; begins = inl s.2; shorter = splits_shorter 10 text s.0 s.1 s.2 }
+first_line : OneSplit → (text : List ℕ) → 0 < length text → FirstLine text
+first_line split text some = elim (split.either 10 text) [
+  | inl s ↦ record { line = s.0; rest = s.1; begins = inl s.2; shorter = split.shorter 10 text s.0 s.1 s.2 }
   | inr none ↦ record { line = text; rest = []; begins = inr (none, some, refl, refl); shorter = some }
 ]
 
@@ -52,19 +61,18 @@ record LineDone (s : Scene) (line : List ℕ) : Type 0 where
 presets_or_not : (s : Scene) (line : List ℕ) (made : Bool) (after : World) → Presets s.world made after → AreThere after.actors → IsManned s → Says line MakesPreset → LineDone s line ⊎ IsBad s line
 presets_or_not s line true after p there manned says =
     inl (record { out = []; after = in_world s after; does = (MakesPreset, says, (p, refl, refl)); manned = (manned.0, there) })
-presets_or_not s line false after (inl made) there manned says = let never : false ≡ true = made.1 in absurd cc
-presets_or_not s line false after (inr late) there manned says = inr (inr (says, inr (late.0, refl, refl)))
+presets_or_not s line false after p there manned says = inr (inr (MakesPreset, [], in_world s after, says, (p, refl, refl)))
 
 -- the text prints something in whole
 abbrev PrintsWhole : Scene → ℕ → List ℕ → Type 0
-PrintsWhole s n text = (out : List ℕ) × (ending : Ending) × IsWholeEnding ending × Prints s n text out ending
+PrintsWhole s n text = (out : List ℕ) × (ending : Ending) × Prints s n text out ending
 
 -- a text goes over a first line that does something, and then as what is left
 goes_first : (s : Scene) (n : ℕ) (text : List ℕ) (first : FirstLine text) → n ≤ 1000000 → (does : LineDone s first.line) → PrintsWhole does.after (n + 1) first.rest → PrintsWhole s n text
 goes_first s n text first few does more =
-    (does.out ++ more.0, more.1, more.2, Goes s n text first.line first.rest does.out does.after more.0 more.1 few first.begins does.does more.3)
+    (does.out ++ more.0, more.1, Goes s n text first.line first.rest does.out does.after more.0 more.1 few first.begins does.does more.2)
 
-module _ (some : SomeStep) (preset : SomePreset) where
+module _ (split : OneSplit) (decided : EachLineIsDecided) (some : SomeStep) (preset : SomePreset) where
   -- an event leaves a scene with the credentials as they were
   advances : (s : Scene) (event : Event) → AreThere s.world.actors → (given : Stepped) × (after : Scene) × Advances s event given after × ((after.creds ≡ s.creds) × AreThere after.world.actors)
   advances s event all =
@@ -77,7 +85,7 @@ module _ (some : SomeStep) (preset : SomePreset) where
   goes_on zero s actor (stepped.Answer answer) all = (stepped.Answer answer, s, (refl, refl), (refl, all))
   goes_on zero s actor stepped.Worn all = (stepped.Worn, s, (refl, refl), (refl, all))
   goes_on (suc n) s actor stepped.Nothing all =
-      let step = advances s (Step actor 0) all in
+      let step = advances s (Step actor s.moment) all in
       let more = goes_on n step.1 actor step.0 step.3.1 in
       (more.0, more.1, (step.1, step.0, step.2, more.2), (more.3.0 ∙ step.3.0, more.3.1))
   goes_on (suc n) s actor (stepped.Answer answer) all = (stepped.Answer answer, s, (refl, refl), (refl, all))
@@ -91,18 +99,39 @@ module _ (some : SomeStep) (preset : SomePreset) where
       let more = goes_on 16 start.1 actor start.0 start.3.1 in
       (more.0, more.1, (cred, start.1, start.0, held, start.2, more.2), (more.3.0 ∙ start.3.0, more.3.1))
 
-  -- a line that starts a call does it
-  start_does : (s : Scene) (line : List ℕ) (actor : ℕ) (call : Call) → IsManned s → 1 ≤ actor → actor ≤ 16 → Says line (Starts actor call) → LineDone s line
-  start_does s line actor call manned least most says =
+  -- a line that starts a call does it, or finds the actor in one
+  start_here : (s : Scene) (line : List ℕ) (actor : ℕ) (call : Call) (o : Option (Option Doing)) → actor_at s.world.actors actor ≡ o → IsManned s → 1 ≤ actor → actor ≤ 16 → Says line (Starts actor call) → LineDone s line
+  start_here s line actor call (Some (Some doing)) at manned least most says = record {
+    out = head_text (head.Busy actor) ++ 10 ∷ [];
+    after = s;
+    does = (Starts actor call, says, (refl, subst (λ o. StartRuns s actor call o (head_text (head.Busy actor) ++ 10 ∷ []) s) (sym at) (refl, refl)));
+    manned = manned;
+  }
+  start_here s line actor call (Some None) at manned least most says =
       let cred : Cred = get_or s.creds (actor - 1) (first_cred 0) in
       let held = cred_held s.creds actor (first_cred 0) least (omega (arith, most, manned.0)) in
       let run = call_runs s actor call cred manned.1 held in
+      let out = printed run.1.world actor (operation_of call) run.0 in
       record {
-        out = printed actor (operation_of call) run.0;
+        out = out;
         after = run.1;
-        does = (Starts actor call, says, (refl, (run.0, run.2, refl)));
+        does = (Starts actor call, says, (refl, subst (λ o. StartRuns s actor call o out run.1) (sym at) (run.0, run.2, refl)));
         manned = (ap length run.3.0 ∙ manned.0, run.3.1);
       }
+  start_here s line actor call None at manned least most says =
+      let cred : Cred = get_or s.creds (actor - 1) (first_cred 0) in
+      let held = cred_held s.creds actor (first_cred 0) least (omega (arith, most, manned.0)) in
+      let run = call_runs s actor call cred manned.1 held in
+      let out = printed run.1.world actor (operation_of call) run.0 in
+      record {
+        out = out;
+        after = run.1;
+        does = (Starts actor call, says, (refl, subst (λ o. StartRuns s actor call o out run.1) (sym at) (run.0, run.2, refl)));
+        manned = (ap length run.3.0 ∙ manned.0, run.3.1);
+      }
+
+  start_does : (s : Scene) (line : List ℕ) (actor : ℕ) (call : Call) → IsManned s → 1 ≤ actor → actor ≤ 16 → Says line (Starts actor call) → LineDone s line
+  start_does s line actor call manned least most says = start_here s line actor call (actor_at s.world.actors actor) refl manned least most says
 
   -- a line that says something does it, or it is a preset that comes too late
   line_goes : (s : Scene) (line : List ℕ) (said : Said) → IsManned s → Says line said → LineDone s line ⊎ IsBad s line
@@ -119,24 +148,24 @@ module _ (some : SomeStep) (preset : SomePreset) where
 
   -- a line does something, or it is bad
   does_or_bad : (s : Scene) (line : List ℕ) → IsManned s → LineDone s line ⊎ IsBad s line
-  does_or_bad s line manned = elim (says_or_not line) [
+  does_or_bad s line manned = elim (decided line) [
     | inl says ↦ line_goes s line says.0 manned says.1
-    | inr none ↦ inr (inl (λ said says. none (said, says)))
+    | inr none ↦ inr (inl none)
   ]
 
   -- ---- a text
 
   -- a text of at most that many bytes prints something in whole
   prints_bounded : (bound n : ℕ) (s : Scene) (text : List ℕ) → length text ≤ bound → IsManned s → PrintsWhole s n text
-  prints_bounded bound n s [] short manned = ([], Whole, tt, Ends s n)
+  prints_bounded bound n s [] short manned = ([], Whole, Ends s n)
   prints_bounded zero n s (x ∷ xs) short manned = absurd (omega (arith, short))
   prints_bounded (suc bound) n s (x ∷ xs) short manned = elim (at_most n 1000000) [
-    | inr many ↦ ([], TooMany, tt, Exceeds s n (x ∷ xs) many (omega arith))
+    | inr many ↦ ([], TooMany, Exceeds s n (x ∷ xs) many (omega arith))
     | inl few ↦
-        let first = first_line (x ∷ xs) (omega arith) in
+        let first = first_line split (x ∷ xs) (omega arith) in
         let shorter = first.shorter in
         elim (does_or_bad s first.line manned) [
-          | inr bad ↦ (bad_line_text n, BadLine n, tt, Fails s n (x ∷ xs) first.line first.rest few first.begins bad)
+          | inr bad ↦ (bad_line_text n, BadLine n, Fails s n (x ∷ xs) first.line first.rest few first.begins bad)
           | inl does ↦ goes_first s n (x ∷ xs) first few does (prints_bounded bound (n + 1) does.after first.rest (omega (arith, short, shorter)) does.manned)
         ]
   ]

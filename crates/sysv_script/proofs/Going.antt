@@ -22,12 +22,13 @@ begins start now actor call cred first is step = record {
 }
 
 pub goes_more : (start now new : Stage) (actor : ℕ) (call : Call) (next : Stepped) (left rest : ℕ) → left ≡ suc rest → GoingOn start now actor call stepped.Nothing left →
-    ((s : Scene) → IsSceneOf s now → (after : Scene) × Advances s (Step actor 0) next after × IsSceneOf after new) → GoingOn start new actor call next rest
+    ((s : Scene) → IsSceneOf s now → (after : Scene) × Advances s (Step actor now.moment) next after × IsSceneOf after new) → GoingOn start new actor call next rest
 goes_more start now new actor call next left rest e on step = record {
   going = λ s seen.
       let g = on.going s seen in
       let h = step g.0 g.1 in
-      (h.0, h.2, λ given after goes. g.2 given after (subst (λ n. GoesOn n g.0 actor stepped.Nothing given after) (sym e) (h.0, next, h.1, goes)));
+      let moved : Advances g.0 (Step actor g.0.moment) next h.0 = subst (λ n. Advances g.0 (Step actor n) next h.0) (sym g.1.moment) h.1 in
+      (h.0, h.2, λ given after goes. g.2 given after (subst (λ n. GoesOn n g.0 actor stepped.Nothing given after) (sym e) (h.0, next, moved, goes)));
 }
 
 over : (left : ℕ) (m : Scene) (actor : ℕ) (last : Stepped) → (last ≡ stepped.Nothing → ⊥) → GoesOn left m actor last last m

@@ -1,7 +1,5 @@
 -- A text prints one thing: line by line, and so in all.
-use Rattle.std.proofs.Common.{◌≡◌, ℕ, zero, suc, ◌+◌, ◌<◌, ◌≤◌, ◌⊎◌, inl, inr, true, false, Some, List, [], ◌∷◌, ◌++◌, length, length-append, take, refl, sym, ap, subst, ◌∙◌, append_assoc, append-nil, arith}
-use Rattle.std.specs.Prelude.{Contains}
-use Rattle.std.proofs.lemmas.List.Elements.{Contains-append_right}
+use Rattle.std.proofs.Common.{◌≡◌, ℕ, zero, suc, ◌+◌, ◌<◌, ◌≤◌, ◌⊎◌, inl, inr, true, false, Option, None, Some, List, [], ◌∷◌, ◌++◌, length, length-append, take, refl, sym, ap, subst, ◌∙◌, append_assoc, arith}
 use Rattle.std.proofs.Math.Seq.{take-append_seam}
 use Rattle.sysv_core.specs.declared.event.Call.{Call}
 use Rattle.sysv_core.specs.declared.event.Event.{Event}
@@ -9,210 +7,205 @@ use Rattle.sysv_core.specs.declared.event.Event.TheVariants.{Start, Step}
 use Rattle.sysv_core.specs.declared.event.Stepped.{Stepped}
 use Rattle.sysv_core.specs.declared.event.Stepped.TheVariants as stepped
 use Rattle.sysv_model.specs.declared.cred.Cred.{Cred}
-use Rattle.sysv_core.specs.World.{World, Presets}
-use Rattle.sysv_script.specs.Found.{HasNoEnd}
-use Rattle.sysv_script.specs.ScriptRun.{Said, Nothing, MakesPreset, GivesCred, Starts, Scene, in_world, Advances, GoesOn, CallRuns, LineRuns, operation_of, printed}
+use Rattle.sysv_core.specs.World.{World, Doing, actor_at, Presets}
+use Rattle.sysv_lines.specs.Said.{Said, Nothing, MakesPreset, GivesCred, Starts}
+use Rattle.sysv_script.specs.ScriptRun.{Scene, in_world, Advances, GoesOn, CallRuns, StartRuns, LineRuns, operation_of, printed}
 use Rattle.sysv_script.specs.Faults.{IsFrontOf, bad_line_text}
-use Rattle.sysv_script.specs.ScriptText.{BeginsWith, LineDoes, IsBad, Ending, Whole, BadLine, TooMany, Stopped, Prints, Ends, Stops, Exceeds, Fails, Overruns, Goes, IsWholeEnding}
+use Rattle.sysv_script.specs.ScriptText.{BeginsWith, LineDoes, IsBad, Ending, Whole, BadLine, TooMany, Prints, Ends, Exceeds, Fails, Goes}
+use Rattle.sysv_script.specs.ScriptSofar.{PrintsSofar, Here, Past}
 use Rattle.sysv_script.specs.OneText.{OneText}
-use Rattle.sysv_script.proofs.Parsing.{splits_once, SplitsAt-marked}
+use Rattle.sysv_lines.specs.OneSplit.{OneSplit}
+use Rattle.sysv_lines.specs.OneLine.{OneSaying}
 use Rattle.sysv_core.specs.OneRun.{OneStep, OnePreset}
-use Rattle.sysv_script.proofs.OneLine.{says_once}
 
--- a text begins with one line
-begins_once : (text line other rest behind : List ℕ) → BeginsWith text line rest → BeginsWith text other behind → (line ≡ other) × (rest ≡ behind)
-begins_once text line other rest behind (inl h) (inl k) = splits_once 10 text line rest other behind h k
-begins_once text line other rest behind (inl h) (inr k) = absurd (k.0 (SplitsAt-marked 10 text line rest h))
-begins_once text line other rest behind (inr h) (inl k) = absurd (h.0 (SplitsAt-marked 10 text other behind k))
-begins_once text line other rest behind (inr h) (inr k) = (h.2 ∙ sym k.2, h.3 ∙ sym k.3)
+module _ (split : OneSplit) (saying : OneSaying) where
+  -- a text begins with one line
+  begins_once : (text line other rest behind : List ℕ) → BeginsWith text line rest → BeginsWith text other behind → (line ≡ other) × (rest ≡ behind)
+  begins_once text line other rest behind (inl h) (inl k) = split.once 10 text line rest other behind h k
+  begins_once text line other rest behind (inl h) (inr k) = absurd (k.0 (split.marked 10 text line rest h))
+  begins_once text line other rest behind (inr h) (inl k) = absurd (h.0 (split.marked 10 text other behind k))
+  begins_once text line other rest behind (inr h) (inr k) = (h.2 ∙ sym k.2, h.3 ∙ sym k.3)
 
-begins_filled : (text line rest : List ℕ) → BeginsWith text line rest → 0 < length text
-begins_filled text line rest (inl h) =
-    let whole : length text ≡ length line + length (10 ∷ rest) = ap length h.whole ∙ length-append line (10 ∷ rest) in
-    let some : length (10 ∷ rest) ≡ suc (length rest) = refl in
-    omega (arith, whole, some)
-begins_filled text line rest (inr h) = h.1
+  begins_filled : (text line rest : List ℕ) → BeginsWith text line rest → 0 < length text
+  begins_filled text line rest (inl h) =
+      let whole : length text ≡ length line + length (10 ∷ rest) = ap length h.whole ∙ length-append line (10 ∷ rest) in
+      let some : length (10 ∷ rest) ≡ suc (length rest) = refl in
+      omega (arith, whole, some)
+  begins_filled text line rest (inr h) = h.1
 
--- an end of line before the end of the front stands in it
-end_within : (front rest line behind : List ℕ) → front ++ rest ≡ line ++ 10 ∷ behind → length line < length front → Contains front 10
-end_within [] rest line behind e h = absurd (omega arith)
-end_within (x ∷ front) rest [] behind e h = let first : x ≡ 10 = cc in (0, omega arith, first)
-end_within (x ∷ front) rest (y ∷ line) behind e h =
-    let tails : front ++ rest ≡ line ++ 10 ∷ behind = cc in
-    Contains-append_right (x ∷ []) front 10 (end_within front rest line behind tails (omega (arith, h)))
+  presets_apart : (w a b : World) → Presets w true a → Presets w false b → ⊥
+  presets_apart w a b (inl h) (inl k) = let never : false ≡ true = k.1 in cc
+  presets_apart w a b (inl h) (inr k) = k.0 h.0
+  presets_apart w a b (inr h) k = let never : true ≡ false = h.1 in cc
 
--- a front of more than 9,000 bytes without an end is of a line that says nothing
-front_long : (text front rest line behind : List ℕ) → text ≡ front ++ rest → 9000 < length front → HasNoEnd front → BeginsWith text line behind → length line ≤ 9000 → ⊥
-front_long text front rest line behind e long endless (inl h) short = endless (end_within front rest line behind (sym e ∙ h.whole) (omega (arith, long, short)))
-front_long text front rest line behind e long endless (inr h) short =
-    let whole : length line ≡ length front + length rest = ap length (h.2 ∙ e) ∙ length-append front rest in
-    omega (arith, whole, long, short)
+  -- what is said runs, or it is bad
+  runs_apart : (s : Scene) (said : Said) (out other : List ℕ) (a b : Scene) → LineRuns s said true out a → LineRuns s said false other b → ⊥
+  runs_apart s Nothing out other a b h k = let never : false ≡ true = k.0 in cc
+  runs_apart s MakesPreset out other a b h k = presets_apart s.world a.world b.world h.0 k.0
+  runs_apart s (GivesCred actor cred) out other a b h k = let never : false ≡ true = k.0 in cc
+  runs_apart s (Starts actor call) out other a b h k = let never : false ≡ true = k.0 in cc
 
-presets_apart : (w a b : World) → Presets w true a → Presets w false b → ⊥
-presets_apart w a b (inl h) (inl k) = let never : false ≡ true = k.1 in cc
-presets_apart w a b (inl h) (inr k) = k.0 h.0
-presets_apart w a b (inr h) k = let never : true ≡ false = h.1 in cc
+  -- a bad line does nothing
+  bad_idle : (s : Scene) (line out : List ℕ) (after : Scene) → IsBad s line → LineDoes s line out after → ⊥
+  bad_idle s line out after (inl none) d = none d.0 d.1
+  bad_idle s line out after (inr late) d =
+      let same : d.0 ≡ late.0 = saying line d.0 late.0 d.1 late.3 in
+      runs_apart s late.0 out late.1 after late.2 (subst (λ said. LineRuns s said true out after) same d.2) late.4
 
--- a bad line does nothing
-bad_idle : (s : Scene) (line out : List ℕ) (after : Scene) → IsBad s line → LineDoes s line out after → ⊥
-bad_idle s line out after (inl none) d = none d.0 d.1
-bad_idle s line out after (inr late) d =
-    let same : d.0 ≡ MakesPreset = says_once line d.0 MakesPreset d.1 late.0 in
-    let made : LineRuns s MakesPreset true out after = subst (λ said. LineRuns s said true out after) same d.2 in
-    presets_apart s.world after.world s.world made.0 late.1
+  -- the text begins with a bad line
+  abbrev HasBadLine : Scene → List ℕ → Type 0
+  HasBadLine s text = (line : List ℕ) × (rest : List ℕ) × BeginsWith text line rest × IsBad s line
 
--- the text begins with a bad line, or with too much of a line
-abbrev HasBadLine : Scene → List ℕ → Type 0
-HasBadLine s text =
-    ((line : List ℕ) × (rest : List ℕ) × BeginsWith text line rest × IsBad s line)
-    ⊎ ((front : List ℕ) × (rest : List ℕ) × (text ≡ front ++ rest) × (9000 < length front) × HasNoEnd front)
+  bad_filled : (s : Scene) (text : List ℕ) → HasBadLine s text → 0 < length text
+  bad_filled s text h = begins_filled text h.0 h.1 h.2
 
-bad_filled : (s : Scene) (text : List ℕ) → HasBadLine s text → 0 < length text
-bad_filled s text (inl h) = begins_filled text h.0 h.1 h.2
-bad_filled s text (inr h) =
-    let whole : length text ≡ length h.0 + length h.1 = ap length h.2 ∙ length-append h.0 h.1 in
-    let long = h.3 in
-    omega (arith, whole, long)
+  bad_or_does : (s : Scene) (text line rest out : List ℕ) (after : Scene) → HasBadLine s text → BeginsWith text line rest → LineDoes s line out after → ⊥
+  bad_or_does s text line rest out after h b d =
+      let same = begins_once text h.0 line h.1 rest h.2 b in
+      bad_idle s line out after (subst (λ l. IsBad s l) same.0 h.3) d
 
-bad_or_does : (s : Scene) (text line rest out : List ℕ) (after : Scene) → HasBadLine s text → BeginsWith text line rest → LineDoes s line out after → ⊥
-bad_or_does s text line rest out after (inl h) b d =
-    let same = begins_once text h.0 line h.1 rest h.2 b in
-    bad_idle s line out after (subst (λ l. IsBad s l) same.0 h.3) d
-bad_or_does s text line rest out after (inr h) b d = front_long text h.0 h.1 line rest h.2 h.3 h.4 b d.1.0
+  -- the run goes over a line
+  record OnLine (s : Scene) (n : ℕ) (text out : List ℕ) (ending : Ending) : Type 0 where
+    line : List ℕ
+    rest : List ℕ
+    first : List ℕ
+    after : Scene
+    more : List ℕ
+    few : n ≤ 1000000
+    begins : BeginsWith text line rest
+    does : LineDoes s line first after
+    prints : Prints after (n + 1) rest more ending
+    whole : out ≡ first ++ more
 
--- the run goes over a line
-record OnLine (s : Scene) (n : ℕ) (text out : List ℕ) (ending : Ending) : Type 0 where
-  line : List ℕ
-  rest : List ℕ
-  first : List ℕ
-  after : Scene
-  more : List ℕ
-  few : n ≤ 1000000
-  begins : BeginsWith text line rest
-  does : LineDoes s line first after
-  prints : Prints after (n + 1) rest more ending
-  whole : out ≡ first ++ more
+  -- what a run that is not stopped here does first
+  abbrev Opens : Scene → ℕ → List ℕ → List ℕ → Ending → Type 0
+  Opens s n text out ending =
+      ((text ≡ []) × (out ≡ []) × (ending ≡ Whole))
+      ⊎ (((1000000 < n) × (0 < length text) × (out ≡ []) × (ending ≡ TooMany))
+      ⊎ (((n ≤ 1000000) × HasBadLine s text × (out ≡ bad_line_text n) × (ending ≡ BadLine n))
+      ⊎ OnLine s n text out ending))
 
--- what a run that is not stopped here does first
-abbrev Opens : Scene → ℕ → List ℕ → List ℕ → Ending → Type 0
-Opens s n text out ending =
-    ((text ≡ []) × (out ≡ []) × (ending ≡ Whole))
-    ⊎ (((1000000 < n) × (0 < length text) × (out ≡ []) × (ending ≡ TooMany))
-    ⊎ (((n ≤ 1000000) × HasBadLine s text × (out ≡ bad_line_text n) × (ending ≡ BadLine n))
-    ⊎ OnLine s n text out ending))
+  opens : (s : Scene) (n : ℕ) (text out : List ℕ) (ending : Ending) → Prints s n text out ending → Opens s n text out ending
+  opens s n text out ending (Ends _ _) = inl (refl, refl, refl)
+  opens s n text out ending (Exceeds _ _ _ many some) = inr (inl (many, some, refl, refl))
+  opens s n text out ending (Fails _ _ _ line rest few begins bad) = inr (inr (inl (few, (line, rest, begins, bad), refl, refl)))
+  opens s n text out ending (Goes _ _ _ line rest first after more _ few begins does p) =
+      inr (inr (inr (record { line = line; rest = rest; first = first; after = after; more = more; few = few; begins = begins; does = does; prints = p; whole = refl })))
 
-opens : (s : Scene) (n : ℕ) (text out : List ℕ) (ending : Ending) → IsWholeEnding ending → Prints s n text out ending → Opens s n text out ending
-opens s n text out ending h (Ends _ _) = inl (refl, refl, refl)
-opens s n text out ending h (Stops _ _ _) = absurd h
-opens s n text out ending h (Exceeds _ _ _ many some) = inr (inl (many, some, refl, refl))
-opens s n text out ending h (Fails _ _ _ line rest few begins bad) = inr (inr (inl (few, inl (line, rest, begins, bad), refl, refl)))
-opens s n text out ending h (Overruns _ _ front rest few long endless) = inr (inr (inl (few, inr (front, rest, refl, long, endless), refl, refl)))
-opens s n text out ending h (Goes _ _ _ line rest first after more _ few begins does p) =
-    inr (inr (inr (record { line = line; rest = rest; first = first; after = after; more = more; few = few; begins = begins; does = does; prints = p; whole = refl })))
+  -- at the end of the text
+  end_agrees : (s : Scene) (n : ℕ) (text other : List ℕ) (end : Ending) → text ≡ [] → Opens s n text other end → ([] ≡ other) × (Whole ≡ end)
+  end_agrees s n text other end e (inl k) = (sym k.1, sym k.2)
+  end_agrees s n text other end e (inr (inl k)) = let some = k.1 in absurd (omega (arith, some, ap length e))
+  end_agrees s n text other end e (inr (inr (inl k))) = absurd (omega (arith, bad_filled s text k.1, ap length e))
+  end_agrees s n text other end e (inr (inr (inr k))) = absurd (omega (arith, begins_filled text k.line k.rest k.begins, ap length e))
 
--- at the end of the text
-end_agrees : (s : Scene) (n : ℕ) (text other : List ℕ) (end : Ending) → text ≡ [] → Opens s n text other end → ([] ≡ other) × (Whole ≡ end)
-end_agrees s n text other end e (inl k) = (sym k.1, sym k.2)
-end_agrees s n text other end e (inr (inl k)) = let some = k.1 in absurd (omega (arith, some, ap length e))
-end_agrees s n text other end e (inr (inr (inl k))) = absurd (omega (arith, bad_filled s text k.1, ap length e))
-end_agrees s n text other end e (inr (inr (inr k))) = absurd (omega (arith, begins_filled text k.line k.rest k.begins, ap length e))
+  -- behind the millionth line
+  over_agrees : (s : Scene) (n : ℕ) (text other : List ℕ) (end : Ending) → 1000000 < n → 0 < length text → Opens s n text other end → ([] ≡ other) × (TooMany ≡ end)
+  over_agrees s n text other end many some (inl k) = absurd (omega (arith, some, ap length k.0))
+  over_agrees s n text other end many some (inr (inl k)) = (sym k.2, sym k.3)
+  over_agrees s n text other end many some (inr (inr (inl k))) = let few = k.0 in absurd (omega (arith, many, few))
+  over_agrees s n text other end many some (inr (inr (inr k))) = let few = k.few in absurd (omega (arith, many, few))
 
--- behind the millionth line
-over_agrees : (s : Scene) (n : ℕ) (text other : List ℕ) (end : Ending) → 1000000 < n → 0 < length text → Opens s n text other end → ([] ≡ other) × (TooMany ≡ end)
-over_agrees s n text other end many some (inl k) = absurd (omega (arith, some, ap length k.0))
-over_agrees s n text other end many some (inr (inl k)) = (sym k.2, sym k.3)
-over_agrees s n text other end many some (inr (inr (inl k))) = let few = k.0 in absurd (omega (arith, many, few))
-over_agrees s n text other end many some (inr (inr (inr k))) = let few = k.few in absurd (omega (arith, many, few))
+  -- at a bad line
+  bad_agrees : (s : Scene) (n : ℕ) (text other : List ℕ) (end : Ending) → n ≤ 1000000 → HasBadLine s text → Opens s n text other end → (bad_line_text n ≡ other) × (BadLine n ≡ end)
+  bad_agrees s n text other end few bad (inl k) = absurd (omega (arith, bad_filled s text bad, ap length k.0))
+  bad_agrees s n text other end few bad (inr (inl k)) = let many = k.0 in absurd (omega (arith, many, few))
+  bad_agrees s n text other end few bad (inr (inr (inl k))) = (sym k.2, sym k.3)
+  bad_agrees s n text other end few bad (inr (inr (inr k))) = absurd (bad_or_does s text k.line k.rest k.first k.after bad k.begins k.does)
 
--- at a bad line
-bad_agrees : (s : Scene) (n : ℕ) (text other : List ℕ) (end : Ending) → n ≤ 1000000 → HasBadLine s text → Opens s n text other end → (bad_line_text n ≡ other) × (BadLine n ≡ end)
-bad_agrees s n text other end few bad (inl k) = absurd (omega (arith, bad_filled s text bad, ap length k.0))
-bad_agrees s n text other end few bad (inr (inl k)) = let many = k.0 in absurd (omega (arith, many, few))
-bad_agrees s n text other end few bad (inr (inr (inl k))) = (sym k.2, sym k.3)
-bad_agrees s n text other end few bad (inr (inr (inr k))) = absurd (bad_or_does s text k.line k.rest k.first k.after bad k.begins k.does)
+  one_cred : (a b : Cred) → Some a ≡ Some b → a ≡ b
+  one_cred a b e = cc
 
--- a run beside a whole one: a front of it, and the same where it is whole too
-abbrev Agrees : List ℕ → Ending → List ℕ → Ending → Type 0
-Agrees out ending other end = ((tail : List ℕ) × (other ≡ out ++ tail)) × (IsWholeEnding ending → (out ≡ other) × (ending ≡ end))
+  module _ (one : OneStep) (preset : OnePreset) where
+    advances_once : (s : Scene) (event : Event) (result given : Stepped) (a b : Scene) → Advances s event result a → Advances s event given b → (result ≡ given) × (a ≡ b)
+    advances_once s event result given a b h k =
+        let here = one s.world a.world b.world event result given h.0 k.0 in
+        (here.0, h.1 ∙ (ap (in_world s) here.1 ∙ sym k.1))
 
-agrees_same : (out other : List ℕ) (ending end : Ending) → (out ≡ other) × (ending ≡ end) → Agrees out ending other end
-agrees_same out other ending end e = (([], sym e.0 ∙ sym (append-nil out)), λ whole. e)
+    goes_on_once : (n : ℕ) (s : Scene) (actor : ℕ) (first given told : Stepped) (a b : Scene) → GoesOn n s actor first given a → GoesOn n s actor first told b → (given ≡ told) × (a ≡ b)
+    goes_on_once zero s actor stepped.Nothing given told a b h k = (h.0 ∙ sym k.0, h.1 ∙ sym k.1)
+    goes_on_once zero s actor (stepped.Answer answer) given told a b h k = (h.0 ∙ sym k.0, h.1 ∙ sym k.1)
+    goes_on_once zero s actor stepped.Worn given told a b h k = (h.0 ∙ sym k.0, h.1 ∙ sym k.1)
+    goes_on_once (suc n) s actor stepped.Nothing given told a b h k =
+        let here = advances_once s (Step actor s.moment) h.1 k.1 h.0 k.0 h.2 k.2 in
+        let onward : GoesOn n h.0 actor h.1 told b = subst (λ m. GoesOn n m actor h.1 told b) (sym here.1) (subst (λ last. GoesOn n k.0 actor last told b) (sym here.0) k.3) in
+        goes_on_once n h.0 actor h.1 given told a b h.3 onward
+    goes_on_once (suc n) s actor (stepped.Answer answer) given told a b h k = (h.0 ∙ sym k.0, h.1 ∙ sym k.1)
+    goes_on_once (suc n) s actor stepped.Worn given told a b h k = (h.0 ∙ sym k.0, h.1 ∙ sym k.1)
 
-one_cred : (a b : Cred) → Some a ≡ Some b → a ≡ b
-one_cred a b e = cc
+    call_once : (s : Scene) (actor : ℕ) (call : Call) (given told : Stepped) (a b : Scene) → CallRuns s actor call given a → CallRuns s actor call told b → (given ≡ told) × (a ≡ b)
+    call_once s actor call given told a b h k =
+        let who : k.0 ≡ h.0 = one_cred k.0 h.0 (sym k.3 ∙ h.3) in
+        let here = advances_once s (Start actor h.0 call) h.2 k.2 h.1 k.1 h.4 (subst (λ cred. Advances s (Start actor cred call) k.2 k.1) who k.4) in
+        let onward : GoesOn 16 h.1 actor h.2 told b = subst (λ m. GoesOn 16 m actor h.2 told b) (sym here.1) (subst (λ last. GoesOn 16 k.1 actor last told b) (sym here.0) k.5) in
+        goes_on_once 16 h.1 actor h.2 given told a b h.5 onward
 
-module _ (one : OneStep) (preset : OnePreset) where
-  advances_once : (s : Scene) (event : Event) (result given : Stepped) (a b : Scene) → Advances s event result a → Advances s event given b → (result ≡ given) × (a ≡ b)
-  advances_once s event result given a b h k =
-      let here = one s.world a.world b.world event result given h.0 k.0 in
-      (here.0, h.1 ∙ (ap (in_world s) here.1 ∙ sym k.1))
+    ran_once : (s : Scene) (actor : ℕ) (call : Call) (given told : Stepped) (out other : List ℕ) (a b : Scene) → CallRuns s actor call given a → CallRuns s actor call told b →
+        out ≡ printed a.world actor (operation_of call) given → other ≡ printed b.world actor (operation_of call) told → (out ≡ other) × (a ≡ b)
+    ran_once s actor call given told out other a b h k e f =
+        let same = call_once s actor call given told a b h k in
+        (e ∙ (ap (λ (m : Scene). printed m.world actor (operation_of call) given) same.1 ∙ (ap (printed b.world actor (operation_of call)) same.0 ∙ sym f)), same.1)
 
-  goes_on_once : (n : ℕ) (s : Scene) (actor : ℕ) (first given told : Stepped) (a b : Scene) → GoesOn n s actor first given a → GoesOn n s actor first told b → (given ≡ told) × (a ≡ b)
-  goes_on_once zero s actor stepped.Nothing given told a b h k = (h.0 ∙ sym k.0, h.1 ∙ sym k.1)
-  goes_on_once zero s actor (stepped.Answer answer) given told a b h k = (h.0 ∙ sym k.0, h.1 ∙ sym k.1)
-  goes_on_once zero s actor stepped.Worn given told a b h k = (h.0 ∙ sym k.0, h.1 ∙ sym k.1)
-  goes_on_once (suc n) s actor stepped.Nothing given told a b h k =
-      let here = advances_once s (Step actor 0) h.1 k.1 h.0 k.0 h.2 k.2 in
-      let onward : GoesOn n h.0 actor h.1 told b = subst (λ m. GoesOn n m actor h.1 told b) (sym here.1) (subst (λ last. GoesOn n k.0 actor last told b) (sym here.0) k.3) in
-      goes_on_once n h.0 actor h.1 given told a b h.3 onward
-  goes_on_once (suc n) s actor (stepped.Answer answer) given told a b h k = (h.0 ∙ sym k.0, h.1 ∙ sym k.1)
-  goes_on_once (suc n) s actor stepped.Worn given told a b h k = (h.0 ∙ sym k.0, h.1 ∙ sym k.1)
+    start_once : (s : Scene) (actor : ℕ) (call : Call) (o : Option (Option Doing)) (out other : List ℕ) (a b : Scene) → StartRuns s actor call o out a → StartRuns s actor call o other b → (out ≡ other) × (a ≡ b)
+    start_once s actor call (Some (Some doing)) out other a b h k = (h.0 ∙ sym k.0, h.1 ∙ sym k.1)
+    start_once s actor call (Some None) out other a b h k = ran_once s actor call h.0 k.0 out other a b h.1 k.1 h.2 k.2
+    start_once s actor call None out other a b h k = ran_once s actor call h.0 k.0 out other a b h.1 k.1 h.2 k.2
 
-  call_once : (s : Scene) (actor : ℕ) (call : Call) (given told : Stepped) (a b : Scene) → CallRuns s actor call given a → CallRuns s actor call told b → (given ≡ told) × (a ≡ b)
-  call_once s actor call given told a b h k =
-      let who : k.0 ≡ h.0 = one_cred k.0 h.0 (sym k.3 ∙ h.3) in
-      let here = advances_once s (Start actor h.0 call) h.2 k.2 h.1 k.1 h.4 (subst (λ cred. Advances s (Start actor cred call) k.2 k.1) who k.4) in
-      let onward : GoesOn 16 h.1 actor h.2 told b = subst (λ m. GoesOn 16 m actor h.2 told b) (sym here.1) (subst (λ last. GoesOn 16 k.1 actor last told b) (sym here.0) k.5) in
-      goes_on_once 16 h.1 actor h.2 given told a b h.5 onward
+    line_once : (s : Scene) (said : Said) (out other : List ℕ) (a b : Scene) → LineRuns s said true out a → LineRuns s said true other b → (out ≡ other) × (a ≡ b)
+    line_once s Nothing out other a b h k = (h.1 ∙ sym k.1, h.2 ∙ sym k.2)
+    line_once s MakesPreset out other a b h k = (h.1 ∙ sym k.1, h.2 ∙ (ap (in_world s) (preset s.world a.world b.world true true h.0 k.0).1 ∙ sym k.2))
+    line_once s (GivesCred actor cred) out other a b h k = (h.1 ∙ sym k.1, h.2 ∙ sym k.2)
+    line_once s (Starts actor call) out other a b h k = start_once s actor call (actor_at s.world.actors actor) out other a b h.1 k.1
 
-  line_once : (s : Scene) (said : Said) (out other : List ℕ) (a b : Scene) → LineRuns s said true out a → LineRuns s said true other b → (out ≡ other) × (a ≡ b)
-  line_once s Nothing out other a b h k = (h.1 ∙ sym k.1, h.2 ∙ sym k.2)
-  line_once s MakesPreset out other a b h k = (h.1 ∙ sym k.1, h.2 ∙ (ap (in_world s) (preset s.world a.world b.world true true h.0 k.0).1 ∙ sym k.2))
-  line_once s (GivesCred actor cred) out other a b h k = (h.1 ∙ sym k.1, h.2 ∙ sym k.2)
-  line_once s (Starts actor call) out other a b h k =
-      let same = call_once s actor call h.1.0 k.1.0 a b h.1.1 k.1.1 in
-      (h.1.2 ∙ (ap (printed actor (operation_of call)) same.0 ∙ sym k.1.2), same.1)
+    does_once : (s : Scene) (line out other : List ℕ) (a b : Scene) → LineDoes s line out a → LineDoes s line other b → (out ≡ other) × (a ≡ b)
+    does_once s line out other a b h k =
+        let same : k.0 ≡ h.0 = saying line k.0 h.0 k.1 h.1 in
+        line_once s h.0 out other a b h.2 (subst (λ said. LineRuns s said true other b) same k.2)
 
-  does_once : (s : Scene) (line out other : List ℕ) (a b : Scene) → LineDoes s line out a → LineDoes s line other b → (out ≡ other) × (a ≡ b)
-  does_once s line out other a b h k =
-      let same : k.0 ≡ h.0 = says_once line k.0 h.0 k.1 h.1 in
-      line_once s h.0 out other a b h.2 (subst (λ said. LineRuns s said true other b) same k.2)
+    -- another run goes over the same line, and then from the same scene on
+    record OnSame (after : Scene) (n : ℕ) (rest out other : List ℕ) (end : Ending) : Type 0 where
+      behind : List ℕ
+      prints : Prints after (n + 1) rest behind end
+      whole : other ≡ out ++ behind
 
-  goes_agrees : (s : Scene) (n : ℕ) (text line rest out : List ℕ) (after : Scene) (more : List ℕ) (ending : Ending) (other : List ℕ) (end : Ending) →
-      n ≤ 1000000 → BeginsWith text line rest → LineDoes s line out after →
-      ((behind : List ℕ) → Prints after (n + 1) rest behind end → Agrees more ending behind end) → Opens s n text other end → Agrees (out ++ more) ending other end
-  goes_agrees s n text line rest out after more ending other end few begins does onward (inl k) = absurd (omega (arith, begins_filled text line rest begins, ap length k.0))
-  goes_agrees s n text line rest out after more ending other end few begins does onward (inr (inl k)) = let many = k.0 in absurd (omega (arith, many, few))
-  goes_agrees s n text line rest out after more ending other end few begins does onward (inr (inr (inl k))) = absurd (bad_or_does s text line rest out after k.1 begins does)
-  goes_agrees s n text line rest out after more ending other end few begins does onward (inr (inr (inr k))) =
-      let parts = begins_once text k.line line k.rest rest k.begins begins in
-      let did = does_once s line out k.first after k.after does (subst (λ l. LineDoes s l k.first k.after) parts.0 k.does) in
-      let behind : Prints after (n + 1) rest k.more end =
-      subst (λ m. Prints m (n + 1) rest k.more end) (sym did.1) (subst (λ l. Prints k.after (n + 1) l k.more end) parts.1 k.prints) in
-      let agreed = onward k.more behind in (
-        (agreed.0.0, k.whole ∙ (ap (λ l. l ++ k.more) (sym did.0) ∙ (ap (λ l. out ++ l) agreed.0.1 ∙ sym (append_assoc out more agreed.0.0)))),
-        λ whole. (ap (λ l. out ++ l) (agreed.1 whole).0 ∙ (ap (λ l. l ++ k.more) did.0 ∙ sym k.whole), (agreed.1 whole).1),
-      )
+    goes_same : (s : Scene) (n : ℕ) (text line rest out : List ℕ) (after : Scene) (other : List ℕ) (end : Ending) →
+        n ≤ 1000000 → BeginsWith text line rest → LineDoes s line out after → Opens s n text other end → OnSame after n rest out other end
+    goes_same s n text line rest out after other end few begins does (inl k) = absurd (omega (arith, begins_filled text line rest begins, ap length k.0))
+    goes_same s n text line rest out after other end few begins does (inr (inl k)) = let many = k.0 in absurd (omega (arith, many, few))
+    goes_same s n text line rest out after other end few begins does (inr (inr (inl k))) = absurd (bad_or_does s text line rest out after k.1 begins does)
+    goes_same s n text line rest out after other end few begins does (inr (inr (inr k))) =
+        let parts = begins_once text k.line line k.rest rest k.begins begins in
+        let did = does_once s line out k.first after k.after does (subst (λ l. LineDoes s l k.first k.after) parts.0 k.does) in
+        record {
+          behind = k.more;
+          prints = subst (λ m. Prints m (n + 1) rest k.more end) (sym did.1) (subst (λ l. Prints k.after (n + 1) l k.more end) parts.1 k.prints);
+          whole = k.whole ∙ ap (λ l. l ++ k.more) (sym did.0);
+        }
 
-  agrees : (s : Scene) (n : ℕ) (text out other : List ℕ) (ending end : Ending) → IsWholeEnding end → Prints s n text out ending → Prints s n text other end → Agrees out ending other end
-  agrees s n text out other ending end whole (Ends _ _) k = agrees_same [] other Whole end (end_agrees s n [] other end refl (opens s n [] other end whole k))
-  agrees s n text out other ending end whole (Stops _ _ _) k = ((other, refl), λ none. absurd none)
-  agrees s n text out other ending end whole (Exceeds _ _ _ many some) k = agrees_same [] other TooMany end (over_agrees s n text other end many some (opens s n text other end whole k))
-  agrees s n text out other ending end whole (Fails _ _ _ line rest few begins bad) k =
-      agrees_same (bad_line_text n) other (BadLine n) end (bad_agrees s n text other end few (inl (line, rest, begins, bad)) (opens s n text other end whole k))
-  agrees s n text out other ending end whole (Overruns _ _ front rest few long endless) k =
-      agrees_same (bad_line_text n) other (BadLine n) end (bad_agrees s n (front ++ rest) other end few (inr (front, rest, refl, long, endless)) (opens s n (front ++ rest) other end whole k))
-  agrees s n text out other ending end whole (Goes _ _ _ line rest first after more _ few begins does p) k =
-      goes_agrees s n text line rest first after more ending other end few begins does
-      (λ behind q. agrees after (n + 1) rest more behind ending end whole p q) (opens s n text other end whole k)
+    agrees : (s : Scene) (n : ℕ) (text out other : List ℕ) (ending end : Ending) → Prints s n text out ending → Prints s n text other end → (out ≡ other) × (ending ≡ end)
+    agrees s n text out other ending end (Ends _ _) k = end_agrees s n [] other end refl (opens s n [] other end k)
+    agrees s n text out other ending end (Exceeds _ _ _ many some) k = over_agrees s n text other end many some (opens s n text other end k)
+    agrees s n text out other ending end (Fails _ _ _ line rest few begins bad) k = bad_agrees s n text other end few (line, rest, begins, bad) (opens s n text other end k)
+    agrees s n text out other ending end (Goes _ _ _ line rest first after more _ few begins does p) k =
+        let on = goes_same s n text line rest first after other end few begins does (opens s n text other end k) in
+        let same = agrees after (n + 1) rest more on.behind ending end p on.prints in
+        (ap (λ l. first ++ l) same.0 ∙ sym on.whole, same.1)
 
-  front_of : (s : Scene) (n : ℕ) (text out other : List ℕ) (end : Ending) → IsWholeEnding end → Prints s n text out Stopped → Prints s n text other end → IsFrontOf out other
-  front_of s n text out other end whole h k =
-      let tail = (agrees s n text out other Stopped end whole h k).0 in
-      (length out, sym (ap (take (length out)) tail.1 ∙ take-append_seam out tail.0))
+    -- what was printed before a line stands before what is printed in all
+    sofar : (s : Scene) (n : ℕ) (text out other : List ℕ) (end : Ending) → PrintsSofar s n text out → Prints s n text other end → (tail : List ℕ) × (other ≡ out ++ tail)
+    sofar s n text out other end (Here _ _ _) k = (other, refl)
+    sofar s n text out other end (Past _ _ _ line rest first after more few begins does p) k =
+        let on = goes_same s n text line rest first after other end few begins does (opens s n text other end k) in
+        let behind = sofar after (n + 1) rest more on.behind end p on.prints in
+        (behind.0, on.whole ∙ (ap (λ l. first ++ l) behind.1 ∙ sym (append_assoc first more behind.0)))
 
-pub one_text : OneStep → OnePreset → OneText
-one_text one preset = (
-  λ s n text out other ending end first second h k. (agrees one preset s n text out other ending end second h k).1 first,
-  λ s n text out other end whole h k. front_of one preset s n text out other end whole h k,
-)
+    front_of : (s : Scene) (n : ℕ) (text out other : List ℕ) (end : Ending) → PrintsSofar s n text out → Prints s n text other end → IsFrontOf out other
+    front_of s n text out other end h k =
+        let tail = sofar s n text out other end h k in
+        (length out, sym (ap (take (length out)) tail.1 ∙ take-append_seam out tail.0))
+
+pub one_text : OneSplit → OneSaying → OneStep → OnePreset → OneText
+one_text split saying one preset = record {
+  once = λ s n text out other ending end h k. agrees split saying one preset s n text out other ending end h k;
+  sofar = λ s n text out other end h k. front_of split saying one preset s n text out other end h k;
+}

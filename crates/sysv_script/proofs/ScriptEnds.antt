@@ -11,10 +11,11 @@ use Rattle.sysv_script.specs.Staged.{IsSceneOf}
 use Rattle.sysv_script.specs.Streams.{AppendsPart}
 use Rattle.sysv_script.specs.Found.{IsNextLine}
 use Rattle.sysv_script.specs.Faults.{IsFrontOf, IsStreamFault, IsLineFault, EndsAtLine}
-use Rattle.sysv_script.specs.ScriptText.{IsBad, Ending, Whole, BadLine, TooMany, Stopped, IsWholeEnding, ScriptPrints, WritesScript, WritesAll, WritesFront, WritesAtFault}
+use Rattle.sysv_script.specs.ScriptText.{IsBad, Ending, Whole, BadLine, TooMany, ScriptPrints, WritesScript, WritesAll, WritesFront, WritesAtFault}
+use Rattle.sysv_lines.specs.OneSplit.{OneSplit}
 use Rattle.sysv_script.specs.OneText.{OneText}
 use Rattle.sysv_script.specs.EachText.{EachTextPrints}
-use Rattle.sysv_script.specs.ScriptSofar.{IsText, RunsOn, RunsNext, LeavesAll, LeavesFront, LeavesAtFault, Leaves}
+use Rattle.sysv_script.specs.ScriptSofar.{Halt, AtEnd, Before, Runs, IsText, RunsOn, RunsNext, LeavesAll, LeavesFront, LeavesAtFault, Leaves}
 use Rattle.sysv_script.specs.declared.next_line.Found.{Found}
 use Rattle.sysv_script.specs.declared.fault.ScriptFault.{ScriptFault}
 use Rattle.sysv_script.specs.declared.fault.ScriptFault.TheVariants.{Line, Read, Write, NoMemory, Bound}
@@ -35,16 +36,16 @@ at_stream_fault NoMemory s text old new composed h part = absurd h
 at_stream_fault Bound s text old new composed h part = absurd h
 
 -- a fault at a line
-pub at_line_fault : (fault : ScriptFault) (s : Scene) (text : List ℕ) (old : Option (List ℕ)) (n : ℕ) (now : Stage) (waiting : List ℕ) (left new : Option (List ℕ)) (composed told : List ℕ) (found : Found) →
+pub at_line_fault : OneSplit → (fault : ScriptFault) (s : Scene) (text : List ℕ) (old : Option (List ℕ)) (n : ℕ) (now : Stage) (waiting : List ℕ) (left new : Option (List ℕ)) (composed told : List ℕ) (found : Found) →
     EndsAtLine fault n composed told → (IsLineFault fault → (m : Scene) → IsSceneOf m now → IsBad m (take found.len waiting)) → n ≤ 1000000 → IsNextLine found waiting left →
     RunsOn s text old n now waiting left new composed → LeavesAtFault fault s text old new told
-at_line_fault (Line k) s text old n now waiting left new composed told found ends bad few next on =
+at_line_fault split (Line k) s text old n now waiting left new composed told found ends bad few next on =
     let same : k ≡ n = ends.0 in
-    subst (λ i. LeavesAtFault (Line i) s text old new told) (sym same) (fails_at s text old n now waiting left new composed told found few next (bad tt) ends.1 on)
-at_line_fault NoMemory s text old n now waiting left new composed told found ends bad few next on = stops_front s text old n now waiting left new composed told ends on
-at_line_fault Read s text old n now waiting left new composed told found ends bad few next on = absurd ends
-at_line_fault Write s text old n now waiting left new composed told found ends bad few next on = absurd ends
-at_line_fault Bound s text old n now waiting left new composed told found ends bad few next on = absurd ends
+    subst (λ i. LeavesAtFault (Line i) s text old new told) (sym same) (fails_at split s text old n now waiting left new composed told found few next (bad tt) ends.1 on)
+at_line_fault split NoMemory s text old n now waiting left new composed told found ends bad few next on = stops_front s text old n now waiting left new composed told ends on
+at_line_fault split Read s text old n now waiting left new composed told found ends bad few next on = absurd ends
+at_line_fault split Write s text old n now waiting left new composed told found ends bad few next on = absurd ends
+at_line_fault split Bound s text old n now waiting left new composed told found ends bad few next on = absurd ends
 
 -- a fault is passed on
 pub Leaves-passed : (r : Result ⊤ ScriptFault) (fault : ScriptFault) (s : Scene) (text : List ℕ) (old new : Option (List ℕ)) (composed : List ℕ) →
@@ -71,9 +72,9 @@ pub RunsNext-end : (more : Bool) (s : Scene) (text : List ℕ) (old : Option (Li
     more ≡ false → RunsNext (Ok more) s text old n now waiting left new composed → LeavesAll s text Whole old new composed
 RunsNext-end more s text old n now waiting left new composed e next = subst (λ b. RunsNext (Ok b) s text old n now waiting left new composed) e next
 
--- The writer took a front of what some run of the script prints, be it stopped before a line.
+-- The writer took a prefix of what the script prints, or of what it has printed before a line.
 abbrev WritesSome : List ℕ → Option (List ℕ) → Option (List ℕ) → Type 0
-WritesSome text old new = (ending : Ending) × (out : List ℕ) × ScriptPrints text out ending × AppendsPart old new out
+WritesSome text old new = (halt : Halt) × (out : List ℕ) × Runs opening_scene 1 text out halt × AppendsPart old new out
 
 -- ---- what is composed at the end is handed out
 
@@ -89,8 +90,8 @@ all_out ending text old mid new composed left all =
 
 front_out : (text : List ℕ) (old mid new : Option (List ℕ)) (composed : List ℕ) → LeavesFront opening_scene text old mid composed → Appends mid new composed → WritesSome text old new
 front_out text old mid new composed left all =
-    let handed = left.3 in
-    (left.0, left.1, left.2, (handed.2.0, subst (Appends old new) handed.2.1 (Appends-trans old mid new handed.0 composed handed.1 all)))
+    let handed = left.2 in
+    (Before, left.0, left.1, (handed.2.0, subst (Appends old new) handed.2.1 (Appends-trans old mid new handed.0 composed handed.1 all)))
 
 -- ---- what is composed at the end is handed out in part
 
@@ -104,20 +105,20 @@ front_of_front : (m : ℕ) (front text : List ℕ) → IsFrontOf front text → 
 front_of_front m front text part =
     let found = take_of_take m part.0 text in (found.0, ap (take m) part.1 ∙ found.1)
 
-part_out : (ending : Ending) (out text : List ℕ) (old mid new : Option (List ℕ)) (handed composed : List ℕ) → ScriptPrints text out ending → Appends old mid handed → IsFrontOf (handed ++ composed) out → AppendsPart mid new composed → WritesSome text old new
-part_out ending out text old mid new handed composed printed grown front part =
+part_out : (halt : Halt) (out text : List ℕ) (old mid new : Option (List ℕ)) (handed composed : List ℕ) → Runs opening_scene 1 text out halt → Appends old mid handed → IsFrontOf (handed ++ composed) out → AppendsPart mid new composed → WritesSome text old new
+part_out halt out text old mid new handed composed printed grown front part =
     let found = front_of_front (length handed + part.0) (handed ++ composed) out front in
     let joined : handed ++ take part.0 composed ≡ take found.0 out = sym (take-append-add handed composed part.0) ∙ found.1 in
-    (ending, out, printed, (found.0, subst (Appends old new) joined (Appends-trans old mid new handed (take part.0 composed) grown part.1)))
+    (halt, out, printed, (found.0, subst (Appends old new) joined (Appends-trans old mid new handed (take part.0 composed) grown part.1)))
 
 all_cut : (ending : Ending) (text : List ℕ) (old mid new : Option (List ℕ)) (composed : List ℕ) → LeavesAll opening_scene text ending old mid composed → AppendsPart mid new composed → WritesSome text old new
 all_cut ending text old mid new composed left part =
     let handed = left.2 in
-    part_out ending left.0 text old mid new handed.0 composed left.1 handed.1 (subst (IsFrontOf (handed.0 ++ composed)) (sym handed.2) (IsFrontOf-all (handed.0 ++ composed))) part
+    part_out (AtEnd ending) left.0 text old mid new handed.0 composed left.1 handed.1 (subst (IsFrontOf (handed.0 ++ composed)) (sym handed.2) (IsFrontOf-all (handed.0 ++ composed))) part
 
 front_cut : (text : List ℕ) (old mid new : Option (List ℕ)) (composed : List ℕ) → LeavesFront opening_scene text old mid composed → AppendsPart mid new composed → WritesSome text old new
 front_cut text old mid new composed left part =
-    let handed = left.3 in part_out left.0 left.1 text old mid new handed.0 composed left.2 handed.1 handed.2 part
+    let handed = left.2 in part_out Before left.0 text old mid new handed.0 composed left.1 handed.1 handed.2 part
 
 fault_cut : (fault : ScriptFault) (text : List ℕ) (old mid new : Option (List ℕ)) (composed : List ℕ) → LeavesAtFault fault opening_scene text old mid composed → AppendsPart mid new composed → WritesSome text old new
 fault_cut (Line n) text old mid new composed left part = all_cut (BadLine n) text old mid new composed left part
@@ -130,21 +131,19 @@ any_cut : (r : Result ⊤ ScriptFault) (text : List ℕ) (old mid new : Option (
 any_cut (Ok done) text old mid new composed left part = all_cut Whole text old mid new composed left part
 any_cut (Err fault) text old mid new composed left part = fault_cut fault text old mid new composed left part
 
--- ---- a front of what a stopped run prints is one of what the text prints in whole
+-- ---- a prefix of what was printed before a line is one of what the text prints
 
-front_of_part : (text out whole : List ℕ) (ending : Ending) (old new : Option (List ℕ)) → IsWholeEnding ending → ScriptPrints text whole ending → IsFrontOf out whole → AppendsPart old new out → WritesFront text old new
-front_of_part text out whole ending old new is printed front part =
+front_of_part : (text out whole : List ℕ) (ending : Ending) (old new : Option (List ℕ)) → ScriptPrints text whole ending → IsFrontOf out whole → AppendsPart old new out → WritesFront text old new
+front_of_part text out whole ending old new printed front part =
     let found = front_of_front part.0 out whole front in
-    (ending, whole, is, printed, (found.0, subst (Appends old new) found.1 part.1))
+    (ending, whole, printed, (found.0, subst (Appends old new) found.1 part.1))
 
 module _ (one : OneText) (each : EachTextPrints) where
   in_whole : (text : List ℕ) (old new : Option (List ℕ)) → WritesSome text old new → WritesFront text old new
-  in_whole text old new (Whole, out, printed, part) = (Whole, out, tt, printed, part)
-  in_whole text old new (BadLine n, out, printed, part) = (BadLine n, out, tt, printed, part)
-  in_whole text old new (TooMany, out, printed, part) = (TooMany, out, tt, printed, part)
-  in_whole text old new (Stopped, out, printed, part) =
+  in_whole text old new (AtEnd ending, out, printed, part) = (ending, out, printed, part)
+  in_whole text old new (Before, out, printed, part) =
       let all = each text in
-      front_of_part text out all.0 all.1 old new all.2 all.3 (one.1 opening_scene 1 text out all.0 all.1 all.2 printed all.3) part
+      front_of_part text out all.0 all.1 old new all.2 (one.sofar opening_scene 1 text out all.0 all.1 printed all.2) part
 
   fault_out : (fault : ScriptFault) (text : List ℕ) (old mid new : Option (List ℕ)) (composed : List ℕ) → LeavesAtFault fault opening_scene text old mid composed → Appends mid new composed → WritesAtFault fault text old new
   fault_out (Line n) text old mid new composed left all = all_out (BadLine n) text old mid new composed left all
@@ -167,4 +166,4 @@ module _ (one : OneText) (each : EachTextPrints) where
 
   -- nothing was run
   pub writes_none : (text : List ℕ) (old : Option (List ℕ)) → WritesFront text old old
-  writes_none text old = let all = each text in (all.1, all.0, all.2, all.3, (0, Appends-nil old))
+  writes_none text old = let all = each text in (all.1, all.0, all.2, (0, Appends-nil old))

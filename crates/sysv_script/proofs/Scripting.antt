@@ -10,12 +10,14 @@ use Rattle.std.proofs.KnownBytes.{Appends-nil, Appends-trans}
 use Rattle.sysv_script.specs.ScriptRun.{Scene}
 use Rattle.sysv_script.specs.declared.stage.Stage.{Stage}
 use Rattle.sysv_script.specs.Staged.{IsSceneOf}
-use Rattle.sysv_script.specs.Words.{SplitsAt}
+use Rattle.std.proofs.lemmas.List.Elements.{Contains-append_cases}
+use Rattle.sysv_lines.specs.Words.{SplitsAt}
+use Rattle.sysv_lines.specs.OneSplit.{OneSplit}
 use Rattle.sysv_script.specs.Streams.{AppendsPart, HandsOn, TakesIn}
 use Rattle.sysv_script.specs.Found.{HasNoEnd, IsFirstLine, IsLastLine, IsNextLine, HasNoLine}
 use Rattle.sysv_script.specs.Faults.{IsFrontOf, bad_line_text}
-use Rattle.sysv_script.specs.ScriptText.{BeginsWith, LineDoes, IsBad, Whole, BadLine, TooMany, Stopped, Prints, Ends, Stops, Exceeds, Fails, Overruns, Goes}
-use Rattle.sysv_script.specs.ScriptSofar.{IsText, RunsOn, LeavesAll, LeavesFront}
+use Rattle.sysv_script.specs.ScriptText.{BeginsWith, LineDoes, IsBad, Whole, BadLine, TooMany, Prints, Ends, Exceeds, Fails, Goes}
+use Rattle.sysv_script.specs.ScriptSofar.{PrintsSofar, Here, Past, Halt, AtEnd, Before, Runs, IsText, RunsOn, LeavesAll, LeavesFront}
 use Rattle.sysv_script.specs.declared.next_line.Found.{Found}
 
 pub begins_text : (s : Scene) (now : Stage) (text waiting : List ℕ) (left old : Option (List ℕ)) (composed : List ℕ) → composed ≡ [] → IsSceneOf s now → IsText waiting left text →
@@ -27,7 +29,7 @@ begins_text s now text waiting left old composed none seen t = record {
   sight = seen;
   text_is = t;
   grown = Appends-nil old;
-  prints = λ more ending p. subst (λ l. Prints s 1 text (l ++ more) ending) (sym none) p;
+  prints = λ more halt p. subst (λ l. Runs s 1 text (l ++ more) halt) (sym none) p;
 }
 
 text_behind : (waiting read behind : List ℕ) (left : Option (List ℕ)) → Consumes (Some behind) left read → (b : List ℕ) × (left ≡ Some b) × (waiting ++ behind ≡ (waiting ++ read) ++ b)
@@ -57,7 +59,7 @@ hands_more s text old n now waiting left new newer composed fewer given on =
       sight = on.sight;
       text_is = on.text_is;
       grown = Appends-trans old new newer on.handed front on.grown given.2;
-      prints = λ more ending p. subst (λ l. Prints s 1 text (l ++ more) ending) same (on.prints more ending p);
+      prints = λ more halt p. subst (λ l. Runs s 1 text (l ++ more) halt) same (on.prints more halt p);
     }
 
 pub hands_all : (s : Scene) (text : List ℕ) (old : Option (List ℕ)) (n : ℕ) (now : Stage) (waiting : List ℕ) (left new newer : Option (List ℕ)) (composed none : List ℕ) →
@@ -83,6 +85,12 @@ splits len waiting behind first =
 joined_more : (handed composed out more : List ℕ) → (handed ++ composed) ++ (out ++ more) ≡ (handed ++ (composed ++ out)) ++ more
 joined_more handed composed out more = sym (append_assoc (handed ++ composed) out more) ∙ ap (λ l. l ++ more) (append_assoc handed composed out)
 
+-- a run goes over a line that does something
+past_line : (s : Scene) (n : ℕ) (text line rest out : List ℕ) (after : Scene) (more : List ℕ) (halt : Halt) → n ≤ 1000000 → BeginsWith text line rest → LineDoes s line out after →
+    Runs after (n + 1) rest more halt → Runs s n text (out ++ more) halt
+past_line s n text line rest out after more (AtEnd ending) few begins does p = Goes s n text line rest out after more ending few begins does p
+past_line s n text line rest out after more Before few begins does p = Past s n text line rest out after more few begins does p
+
 pub runs_line : (s : Scene) (text : List ℕ) (old : Option (List ℕ)) (n : ℕ) (now then : Stage) (waiting behind : List ℕ) (left new : Option (List ℕ)) (composed told : List ℕ) (len : ℕ) →
     n ≤ 1000000 → IsFirstLine len waiting → behind ≡ drop (len + 1) waiting →
     ((m : Scene) → IsSceneOf m now → (after : Scene) × (out : List ℕ) × LineDoes m (take len waiting) out after × IsSceneOf after then × (told ≡ composed ++ out)) →
@@ -99,9 +107,9 @@ runs_line s text old n now then waiting behind left new composed told len few fi
       sight = d.3;
       text_is = (unread.0, unread.1, ap (λ l. l ++ unread.0) (sym passed));
       grown = on.grown;
-      prints = λ more ending p.
-          subst (λ l. Prints s 1 text l ending) (joined_more on.handed composed d.1 more ∙ ap (λ l. (on.handed ++ l) ++ more) (sym d.4))
-          (on.prints (d.1 ++ more) ending (Goes on.mid n on.rest (take len waiting) (drop (len + 1) waiting ++ unread.0) d.1 d.0 more ending few line d.2 p));
+      prints = λ more halt p.
+          subst (λ l. Runs s 1 text l halt) (joined_more on.handed composed d.1 more ∙ ap (λ l. (on.handed ++ l) ++ more) (sym d.4))
+          (on.prints (d.1 ++ more) halt (past_line on.mid n on.rest (take len waiting) (drop (len + 1) waiting ++ unread.0) d.1 d.0 more halt few line d.2 p));
     }
 
 text_at_end : (waiting text : List ℕ) (left : Option (List ℕ)) → IsAtEnd left → IsText waiting left text → text ≡ waiting
@@ -122,7 +130,7 @@ pub runs_last : (s : Scene) (text : List ℕ) (old : Option (List ℕ)) (n : ℕ
 runs_last s text old n now then waiting left new composed told len few last short does on =
     let d = does on.mid on.sight in
     let end : IsAtEnd left = elim last.last [ inl long ↦ absurd (omega (arith, long, short)) | inr e ↦ e ] in
-    let printed = on.prints (d.1 ++ []) Whole (Goes on.mid n on.rest (take len waiting) [] d.1 d.0 [] Whole few (last_line len waiting on.rest left last end on.text_is) d.2 (Ends d.0 (n + 1))) in
+    let printed = on.prints (d.1 ++ []) (AtEnd Whole) (Goes on.mid n on.rest (take len waiting) [] d.1 d.0 [] Whole few (last_line len waiting on.rest left last end on.text_is) d.2 (Ends d.0 (n + 1))) in
     let same : (on.handed ++ composed) ++ (d.1 ++ []) ≡ on.handed ++ told =
     joined_more on.handed composed d.1 [] ∙ append-nil (on.handed ++ (composed ++ d.1)) ∙ ap (λ l. on.handed ++ l) (sym d.4) in
     (on.handed ++ told, subst (λ l. Prints s 1 text l Whole) same printed, (on.handed, on.grown, refl))
@@ -131,13 +139,13 @@ pub ends_text : (s : Scene) (text : List ℕ) (old : Option (List ℕ)) (n : ℕ
     HasNoLine waiting left → RunsOn s text old n now waiting left new composed → LeavesAll s text Whole old new composed
 ends_text s text old n now waiting left new composed none on =
     let whole : on.rest ≡ [] = text_at_end waiting on.rest left none.1 on.text_is ∙ none.0 in
-    let printed = on.prints [] Whole (subst (λ l. Prints on.mid n l [] Whole) (sym whole) (Ends on.mid n)) in
+    let printed = on.prints [] (AtEnd Whole) (subst (λ l. Prints on.mid n l [] Whole) (sym whole) (Ends on.mid n)) in
     (on.handed ++ composed, subst (λ l. Prints s 1 text l Whole) (append-nil (on.handed ++ composed)) printed, (on.handed, on.grown, refl))
 
 stops_here : (s : Scene) (text : List ℕ) (old : Option (List ℕ)) (n : ℕ) (now : Stage) (waiting : List ℕ) (left new : Option (List ℕ)) (composed : List ℕ) →
-    (on : RunsOn s text old n now waiting left new composed) → Prints s 1 text (on.handed ++ composed) Stopped
+    (on : RunsOn s text old n now waiting left new composed) → PrintsSofar s 1 text (on.handed ++ composed)
 stops_here s text old n now waiting left new composed on =
-    subst (λ l. Prints s 1 text l Stopped) (append-nil (on.handed ++ composed)) (on.prints [] Stopped (Stops on.mid n on.rest))
+    subst (PrintsSofar s 1 text) (append-nil (on.handed ++ composed)) (on.prints [] Before (Here on.mid n on.rest))
 
 pub stops_part : (s : Scene) (text : List ℕ) (old : Option (List ℕ)) (n : ℕ) (now : Stage) (waiting : List ℕ) (left new newer : Option (List ℕ)) (composed none : List ℕ) →
     AppendsPart new newer composed → none ≡ [] → RunsOn s text old n now waiting left new composed → LeavesFront s text old newer none
@@ -145,7 +153,6 @@ stops_part s text old n now waiting left new newer composed none part e on =
     let front = on.handed ++ take part.0 composed in
     let joined : front ++ none ≡ take (length on.handed + part.0) (on.handed ++ composed) =
     ap (λ l. front ++ l) e ∙ append-nil front ∙ sym (take-append-add on.handed composed part.0) in (
-      Stopped,
       on.handed ++ composed,
       stops_here s text old n now waiting left new composed on,
       (front, Appends-trans old new newer on.handed (take part.0 composed) on.grown part.1, (length on.handed + part.0, joined)),
@@ -154,29 +161,47 @@ stops_part s text old n now waiting left new newer composed none part e on =
 pub stops_front : (s : Scene) (text : List ℕ) (old : Option (List ℕ)) (n : ℕ) (now : Stage) (waiting : List ℕ) (left new : Option (List ℕ)) (composed fewer : List ℕ) →
     IsFrontOf fewer composed → RunsOn s text old n now waiting left new composed → LeavesFront s text old new fewer
 stops_front s text old n now waiting left new composed fewer front on = (
-  Stopped,
   on.handed ++ composed,
   stops_here s text old n now waiting left new composed on,
   (on.handed, on.grown, (length on.handed + front.0, ap (λ l. on.handed ++ l) front.1 ∙ sym (take-append-add on.handed composed front.0))),
 )
 
-bad_printed : (n len : ℕ) (m : Scene) (waiting rest : List ℕ) (left : Option (List ℕ)) (found : Found) (last : Bool) → found.is_last ≡ last → n ≤ 1000000 → IsNextLine found waiting left →
+-- a line that is too long is bad as soon as it is, whatever follows
+overruns : OneSplit → (m : Scene) (n : ℕ) (front rest : List ℕ) → n ≤ 1000000 → 9000 < length front → HasNoEnd front → Prints m n (front ++ rest) (bad_line_text n) (BadLine n)
+overruns split m n front rest few long endless = elim (split.either 10 rest) [
+  | inl found ↦
+      let line = front ++ found.0 in
+      let more : length line ≡ length front + length found.0 = length-append front found.0 in
+      Fails m n (front ++ rest) line found.1 few
+      (inl (record {
+        whole = ap (λ l. front ++ l) found.2.whole ∙ sym (append_assoc front found.0 (10 ∷ found.1));
+        unmarked = λ has. elim (Contains-append_cases front found.0 10 has) [ inl x ↦ endless x | inr y ↦ found.2.unmarked y ];
+      }))
+      (inl (λ said says. omega (arith, long, more, says.0)))
+  | inr none ↦
+      let more : length (front ++ rest) ≡ length front + length rest = length-append front rest in
+      Fails m n (front ++ rest) (front ++ rest) [] few
+      (inr (λ has. elim (Contains-append_cases front rest 10 has) [ inl x ↦ endless x | inr y ↦ none y ], omega (arith, long, more), refl, refl))
+      (inl (λ said says. omega (arith, long, more, says.0)))
+]
+
+bad_printed : OneSplit → (n len : ℕ) (m : Scene) (waiting rest : List ℕ) (left : Option (List ℕ)) (found : Found) (last : Bool) → found.is_last ≡ last → n ≤ 1000000 → IsNextLine found waiting left →
     IsBad m (take found.len waiting) → IsText waiting left rest → Prints m n rest (bad_line_text n) (BadLine n)
-bad_printed n len m waiting rest left found false e few next bad t =
+bad_printed split n len m waiting rest left found false e few next bad t =
     Fails m n rest (take found.len waiting) (drop (found.len + 1) waiting ++ t.0) few
     (inl (subst (λ l. SplitsAt 10 l (take found.len waiting) (drop (found.len + 1) waiting ++ t.0)) (sym t.2) (splits found.len waiting t.0 (next.0 e)))) bad
-bad_printed n len m waiting rest left found true e few next bad t =
+bad_printed split n len m waiting rest left found true e few next bad t =
     let last = next.1 e in
     elim last.last [
-      | inl long ↦ subst (λ l. Prints m n l (bad_line_text n) (BadLine n)) (sym t.2) (Overruns m n waiting t.0 few (omega (arith, long, last.whole)) last.one_line)
+      | inl long ↦ subst (λ l. Prints m n l (bad_line_text n) (BadLine n)) (sym t.2) (overruns split m n waiting t.0 few (omega (arith, long, last.whole)) last.one_line)
       | inr end ↦ Fails m n rest (take found.len waiting) [] few (last_line found.len waiting rest left last end t) bad
     ]
 
-pub fails_at : (s : Scene) (text : List ℕ) (old : Option (List ℕ)) (n : ℕ) (now : Stage) (waiting : List ℕ) (left new : Option (List ℕ)) (composed told : List ℕ) (found : Found) →
+pub fails_at : OneSplit → (s : Scene) (text : List ℕ) (old : Option (List ℕ)) (n : ℕ) (now : Stage) (waiting : List ℕ) (left new : Option (List ℕ)) (composed told : List ℕ) (found : Found) →
     n ≤ 1000000 → IsNextLine found waiting left → ((m : Scene) → IsSceneOf m now → IsBad m (take found.len waiting)) → told ≡ composed ++ bad_line_text n →
     RunsOn s text old n now waiting left new composed → LeavesAll s text (BadLine n) old new told
-fails_at s text old n now waiting left new composed told found few next bad e on =
-    let printed = on.prints (bad_line_text n) (BadLine n) (bad_printed n 0 on.mid waiting on.rest left found found.is_last refl few next (bad on.mid on.sight) on.text_is) in
+fails_at split s text old n now waiting left new composed told found few next bad e on =
+    let printed = on.prints (bad_line_text n) (AtEnd (BadLine n)) (bad_printed split n 0 on.mid waiting on.rest left found found.is_last refl few next (bad on.mid on.sight) on.text_is) in
     let same : (on.handed ++ composed) ++ bad_line_text n ≡ on.handed ++ told = append_assoc on.handed composed (bad_line_text n) ∙ ap (λ l. on.handed ++ l) (sym e) in
     (on.handed ++ told, subst (λ l. Prints s 1 text l (BadLine n)) same printed, (on.handed, on.grown, refl))
 
@@ -185,4 +210,4 @@ pub exceeds_at : (s : Scene) (text : List ℕ) (old : Option (List ℕ)) (n : �
 exceeds_at s text old n now waiting left new composed many some on =
     let behind = on.text_is.0 in
     let filled : 0 < length on.rest = omega (arith, some, ap length on.text_is.2, length-append waiting behind) in
-    (on.handed ++ composed, subst (λ l. Prints s 1 text l TooMany) (append-nil (on.handed ++ composed)) (on.prints [] TooMany (Exceeds on.mid n on.rest many filled)), (on.handed, on.grown, refl))
+    (on.handed ++ composed, subst (λ l. Prints s 1 text l TooMany) (append-nil (on.handed ++ composed)) (on.prints [] (AtEnd TooMany) (Exceeds on.mid n on.rest many filled)), (on.handed, on.grown, refl))

@@ -2,8 +2,8 @@
 -- says its number, counted from 1, and a script has at most 1,000,000 lines.
 use Rattle.std.specs.Prelude.{◌≡◌, ◌≤◌, ⊤, ℕ, List, [], ◌∷◌, ◌++◌, take, Option}
 use Rattle.std.specs.Io.KnownBytes.{Appends}
-use Rattle.sysv_script.specs.Heads.{head_text}
-use Rattle.sysv_script.specs.declared.head.Head.TheVariants.{Bad}
+use Rattle.sysv_lines.specs.Heads.{head_text}
+use Rattle.sysv_lines.specs.declared.head.Head.TheVariants.{Bad}
 use Rattle.sysv_script.specs.declared.fault.TheConstants.{SCRIPT_LINES}
 use Rattle.sysv_script.specs.declared.fault.ScriptFault.{ScriptFault}
 use Rattle.sysv_script.specs.declared.fault.ScriptFault.TheVariants.{Line, Read, Write, NoMemory, Bound}
@@ -16,7 +16,7 @@ bad_line_text number = head_text (Bad number) ++ 10 ∷ []
 abbrev pub EndsInBadLine : ℕ → List ℕ → Type 0
 EndsInBadLine number text = (answers : List ℕ) × (text ≡ answers ++ bad_line_text number)
 
--- a front of the text
+-- a prefix of the text
 abbrev pub IsFrontOf : List ℕ → List ℕ → Type 0
 IsFrontOf front text = (count : ℕ) × (front ≡ take count text)
 

@@ -2,13 +2,13 @@
 -- lines end with LF, and the last may lack it; a line has at most 9,000 bytes).
 use Rattle.std.specs.Prelude.{◌≡◌, ◌<◌, ◌⊎◌, ℕ, List, [], Option, Some, None, length, take, slice_get, true, false, Contains}
 use Rattle.std.specs.Io.KnownBytes.{IsAtEnd}
-use Rattle.sysv_script.specs.declared.line.TheConstants.{LINE_BYTES}
+use Rattle.sysv_lines.specs.declared.line.TheConstants.{LINE_BYTES}
 use Rattle.sysv_script.specs.declared.next_line.Found.{Found}
 
 abbrev pub HasNoEnd : List ℕ → Type 0
 HasNoEnd text = Contains text 10 → ⊥
 
--- The line is the front of the text up to its first LF.
+-- The line is the prefix of the text up to its first LF.
 pub record IsFirstLine (len : ℕ) (text : List ℕ) : Type 0 where
   pub ends : slice_get text len ≡ Some 10
   pub one_line : HasNoEnd (take len text)

@@ -1,18 +1,34 @@
 -- The run of a script that is under way: the text that is left, and what is written and composed (this
 -- project's script language).
-use Rattle.std.specs.Prelude.{◌≡◌, ◌+◌, ℕ, Bool, true, false, List, [], ◌++◌, Option, Some, Result, Ok, Err, ⊤}
+use Rattle.std.specs.Prelude.{◌≡◌, ◌≤◌, ◌+◌, ℕ, Bool, true, false, List, [], ◌++◌, Option, Some, Result, Ok, Err, ⊤}
 use Rattle.std.specs.Io.KnownBytes.{Appends}
 use Rattle.sysv_script.specs.ScriptRun.{Scene}
 use Rattle.sysv_script.specs.Faults.{IsFrontOf}
 use Rattle.sysv_script.specs.Staged.{IsSceneOf}
 use Rattle.sysv_script.specs.declared.stage.Stage.{Stage}
-use Rattle.sysv_script.specs.ScriptText.{LineDoes, IsBad, Ending, Whole, BadLine, TooMany, Prints}
+use Rattle.sysv_script.specs.ScriptText.{BeginsWith, LineDoes, IsBad, Ending, Whole, BadLine, TooMany, Prints}
+use Rattle.sysv_script.specs.declared.fault.TheConstants.{SCRIPT_LINES}
 use Rattle.sysv_script.specs.declared.fault.ScriptFault.{ScriptFault}
 use Rattle.sysv_script.specs.declared.fault.ScriptFault.TheVariants.{Line, Read, Write, NoMemory, Bound}
 
 -- the text is what waits, and then what the reader has left
 abbrev pub IsText : List ℕ → Option (List ℕ) → List ℕ → Type 0
 IsText waiting left text = (behind : List ℕ) × (left ≡ Some behind) × (text ≡ waiting ++ behind)
+
+-- What a text has printed before one of its lines, whichever that is.
+pub data PrintsSofar : Scene → ℕ → List ℕ → List ℕ → Type 0 where
+  Here : (s : Scene) (n : ℕ) (text : List ℕ) → PrintsSofar s n text []
+  Past : (s : Scene) (n : ℕ) (text line rest out : List ℕ) (after : Scene) (more : List ℕ) →
+      n ≤ SCRIPT_LINES → BeginsWith text line rest → LineDoes s line out after → PrintsSofar after (n + 1) rest more → PrintsSofar s n text (out ++ more)
+
+-- how far a run has come: to an ending, or before a line
+pub data Halt : Type 0 where
+  AtEnd : (ending : Ending) → Halt
+  Before : Halt
+
+abbrev pub Runs : Scene → ℕ → List ℕ → List ℕ → Halt → Type 0
+Runs s n text out (AtEnd ending) = Prints s n text out ending
+Runs s n text out Before = PrintsSofar s n text out
 
 -- a line does what it says, or is bad
 abbrev pub LineEnds : Scene → List ℕ → Bool → List ℕ → Scene → Type 0
@@ -27,17 +43,17 @@ pub record RunsOn (s : Scene) (text : List ℕ) (old : Option (List ℕ)) (n : �
   pub sight : IsSceneOf mid now
   pub text_is : IsText waiting left rest
   pub grown : Appends old new handed
-  pub prints : (more : List ℕ) (ending : Ending) → Prints mid n rest more ending → Prints s 1 text ((handed ++ composed) ++ more) ending
+  pub prints : (more : List ℕ) (halt : Halt) → Runs mid n rest more halt → Runs s 1 text ((handed ++ composed) ++ more) halt
 
--- All that the text prints was handed out or is composed.
+-- All that the text prints was written or is composed.
 abbrev pub LeavesAll : Scene → List ℕ → Ending → Option (List ℕ) → Option (List ℕ) → List ℕ → Type 0
 LeavesAll s text ending old new composed =
     (out : List ℕ) × Prints s 1 text out ending × ((handed : List ℕ) × Appends old new handed × (out ≡ handed ++ composed))
 
--- What was handed out, and what is composed behind it, is a front of what the text prints.
+-- What was written, and what is composed after it, is a prefix of what the text has printed so far.
 abbrev pub LeavesFront : Scene → List ℕ → Option (List ℕ) → Option (List ℕ) → List ℕ → Type 0
 LeavesFront s text old new composed =
-    (ending : Ending) × (out : List ℕ) × Prints s 1 text out ending × ((handed : List ℕ) × Appends old new handed × IsFrontOf (handed ++ composed) out)
+    (out : List ℕ) × PrintsSofar s 1 text out × ((handed : List ℕ) × Appends old new handed × IsFrontOf (handed ++ composed) out)
 
 abbrev pub LeavesAtFault : ScriptFault → Scene → List ℕ → Option (List ℕ) → Option (List ℕ) → List ℕ → Type 0
 LeavesAtFault (Line n) s text old new composed = LeavesAll s text (BadLine n) old new composed

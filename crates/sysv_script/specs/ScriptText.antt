@@ -2,30 +2,22 @@
 -- each on the scene that the lines before it left, and what they print stands in their order.
 use Rattle.std.specs.Prelude.{◌≡◌, ◌<◌, ◌≤◌, ◌+◌, ◌⊎◌, ℕ, true, false, List, [], ◌++◌, Option, Result, Ok, Err, ⊤, length}
 use Rattle.std.specs.Io.KnownBytes.{Appends}
-use Rattle.sysv_core.specs.World.{Presets}
-use Rattle.sysv_script.specs.ScriptRun.{Said, MakesPreset, Scene, opening_scene, LineRuns}
-use Rattle.sysv_script.specs.Lines.{Says}
-use Rattle.sysv_script.specs.Words.{SplitsAt}
+use Rattle.sysv_lines.specs.Said.{Said}
+use Rattle.sysv_script.specs.ScriptRun.{Scene, opening_scene, LineRuns}
+use Rattle.sysv_lines.specs.Lines.{Says}
+use Rattle.sysv_lines.specs.Words.{SplitsAt}
 use Rattle.sysv_script.specs.Found.{HasNoEnd}
 use Rattle.sysv_script.specs.Streams.{AppendsPart}
 use Rattle.sysv_script.specs.Faults.{bad_line_text}
+use Rattle.sysv_script.specs.declared.fault.TheConstants.{SCRIPT_LINES}
 use Rattle.sysv_script.specs.declared.fault.ScriptFault.{ScriptFault}
 use Rattle.sysv_script.specs.declared.fault.ScriptFault.TheVariants.{Line, Read, Write, NoMemory, Bound}
 
--- how the run of a text ends: with the text, at a bad line, behind the millionth line, or stopped
--- before a line, wherever that is
+-- how the run of a text ends: with the text, at a bad line, or after the millionth line
 pub data Ending : Type 0 where
   Whole : Ending
   BadLine : (number : ℕ) → Ending
   TooMany : Ending
-  Stopped : Ending
-
--- every ending but the one before a line, wherever that is
-abbrev pub IsWholeEnding : Ending → Type 0
-IsWholeEnding Whole = ⊤
-IsWholeEnding (BadLine n) = ⊤
-IsWholeEnding TooMany = ⊤
-IsWholeEnding Stopped = ⊥
 
 -- the first line of a text, which ends with LF or is all of the text, and what stands behind it
 abbrev pub BeginsWith : List ℕ → List ℕ → List ℕ → Type 0
@@ -35,20 +27,17 @@ BeginsWith text line rest = SplitsAt 10 text line rest ⊎ (HasNoEnd text × (0 
 abbrev pub LineDoes : Scene → List ℕ → List ℕ → Scene → Type 0
 LineDoes s line out after = (said : Said) × Says line said × LineRuns s said true out after
 
--- a line is bad where it says nothing, or a preset in a world that has a live queue
+-- a line is bad where it says nothing, or something that cannot be done
 abbrev pub IsBad : Scene → List ℕ → Type 0
-IsBad s line = ((said : Said) → Says line said → ⊥) ⊎ (Says line MakesPreset × Presets s.world false s.world)
+IsBad s line = ((said : Said) → ¬ Says line said) ⊎ ((said : Said) × (out : List ℕ) × (after : Scene) × Says line said × LineRuns s said false out after)
 
 -- From this scene, and from the line of this number on, the text prints this and ends so.
 pub data Prints : Scene → ℕ → List ℕ → List ℕ → Ending → Type 0 where
   Ends : (s : Scene) (n : ℕ) → Prints s n [] [] Whole
-  Stops : (s : Scene) (n : ℕ) (text : List ℕ) → Prints s n text [] Stopped
-  Exceeds : (s : Scene) (n : ℕ) (text : List ℕ) → 1000000 < n → 0 < length text → Prints s n text [] TooMany
-  Fails : (s : Scene) (n : ℕ) (text line rest : List ℕ) → n ≤ 1000000 → BeginsWith text line rest → IsBad s line → Prints s n text (bad_line_text n) (BadLine n)
-  -- a line is bad as soon as it is too long, whatever follows
-  Overruns : (s : Scene) (n : ℕ) (front rest : List ℕ) → n ≤ 1000000 → 9000 < length front → HasNoEnd front → Prints s n (front ++ rest) (bad_line_text n) (BadLine n)
+  Exceeds : (s : Scene) (n : ℕ) (text : List ℕ) → SCRIPT_LINES < n → 0 < length text → Prints s n text [] TooMany
+  Fails : (s : Scene) (n : ℕ) (text line rest : List ℕ) → n ≤ SCRIPT_LINES → BeginsWith text line rest → IsBad s line → Prints s n text (bad_line_text n) (BadLine n)
   Goes : (s : Scene) (n : ℕ) (text line rest out : List ℕ) (after : Scene) (more : List ℕ) (ending : Ending) →
-      n ≤ 1000000 → BeginsWith text line rest → LineDoes s line out after → Prints after (n + 1) rest more ending → Prints s n text (out ++ more) ending
+      n ≤ SCRIPT_LINES → BeginsWith text line rest → LineDoes s line out after → Prints after (n + 1) rest more ending → Prints s n text (out ++ more) ending
 
 -- what a script prints: its text on the opening scene, from line 1 on
 abbrev pub ScriptPrints : List ℕ → List ℕ → Ending → Type 0
@@ -58,9 +47,9 @@ ScriptPrints text out ending = Prints opening_scene 1 text out ending
 abbrev pub WritesAll : List ℕ → Ending → Option (List ℕ) → Option (List ℕ) → Type 0
 WritesAll text ending old new = (out : List ℕ) × ScriptPrints text out ending × Appends old new out
 
--- The writer took a front of all that the script prints.
+-- The writer took a prefix of all that the script prints.
 abbrev pub WritesFront : List ℕ → Option (List ℕ) → Option (List ℕ) → Type 0
-WritesFront text old new = (ending : Ending) × (out : List ℕ) × IsWholeEnding ending × ScriptPrints text out ending × AppendsPart old new out
+WritesFront text old new = (ending : Ending) × (out : List ℕ) × ScriptPrints text out ending × AppendsPart old new out
 
 -- what the writer took, by how the run of the text ended
 abbrev pub WritesAtFault : ScriptFault → List ℕ → Option (List ℕ) → Option (List ℕ) → Type 0

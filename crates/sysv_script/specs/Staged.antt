@@ -8,3 +8,4 @@ use Rattle.sysv_script.specs.declared.stage.Stage.{Stage}
 pub record IsSceneOf (s : Scene) (stage : Stage) : Type 0 where
   pub world : IsSeenAs s.world stage.world
   pub creds : s.creds ≡ stage.creds
+  pub moment : s.moment ≡ stage.moment

@@ -3,11 +3,11 @@
 use Rattle.std.specs.Prelude.{◌≡◌, ℕ, List, ◌++◌, Option, take}
 use Rattle.std.specs.Io.KnownBytes.{Appends, Consumes}
 
--- known bytes grow by a front of these bytes
+-- known bytes grow by a prefix of these bytes
 abbrev pub AppendsPart : Option (List ℕ) → Option (List ℕ) → List ℕ → Type 0
 AppendsPart old new bytes = (count : ℕ) × Appends old new (take count bytes)
 
--- The writer takes a front of what waits for it, and the rest waits.
+-- The writer takes a prefix of what waits for it, and the rest waits.
 abbrev pub HandsOn : Option (List ℕ) → List ℕ → Option (List ℕ) → List ℕ → Type 0
 HandsOn old waiting new rest = (handed : List ℕ) × (waiting ≡ handed ++ rest) × Appends old new handed
 

@@ -21,7 +21,7 @@ pub enum ScriptFault {
     /// Memory was refused.
     #[error("no memory")]
     NoMemory,
-    /// A line begins behind the millionth.
+    /// A line begins after the millionth.
     #[error("more than 1000000 lines")]
     Bound,
 }

@@ -1,29 +1,26 @@
 //! Laws over the definitions alone.
 
-ghost use Rattle.sysv_script.specs.EachCall.{EachCallIsTold};
 ghost use Rattle.sysv_script.specs.EachText.{EachTextPrints};
 ghost use Rattle.sysv_script.specs.OneText.{OneText};
 
 use sysv_core::laws::{one_step, some_step};
+use sysv_lines::laws::{each_line_is_decided, one_saying, one_split};
 
 /// From a scene, which is a world and its actors' credentials, a text prints one thing only and ends in
-/// one way, and what is printed where it is stopped before a line is a front of that.
+/// one way, and what it has printed before a line is a prefix of that.
 pub fn one_text()
     ensures { OneText }
 {
     one_step();
+    one_saying();
+    one_split();
 }
 
-/// From the opening scene on, each call that a line starts is answered within its steps, or finds the
-/// world worn out; so its line prints one.
-pub fn each_call_is_told()
-    ensures { EachCallIsTold }
-{}
-
-/// Each text prints something in whole: it runs to its end, to a bad line or behind the millionth
-/// line.
+/// Each text prints something: it runs to its end, to a bad line, or to the line after the millionth.
 pub fn each_text_prints()
     ensures { EachTextPrints }
 {
     some_step();
+    each_line_is_decided();
+    one_split();
 }

@@ -3,13 +3,9 @@
 #![tactic(auto)]
 
 mod fault;
-mod flags;
-mod head;
 mod input;
 pub mod laws;
-mod line;
 mod next_line;
 mod output;
 pub mod script;
 mod stage;
-mod word;

@@ -5,13 +5,13 @@ ghost use Rattle.sysv_script.specs.Faults.{IsStreamFault};
 ghost use Rattle.sysv_script.specs.Found.{HasNoEnd, IsFirstLine, IsNextLine, FindsLine};
 ghost use Rattle.sysv_script.specs.Streams.{AppendsPart, HandsOn, TakesIn};
 ghost use Rattle.sysv_script.specs.declared.input.TheConstants.{INPUT_ROOM};
-ghost use Rattle.sysv_script.specs.declared.line.TheConstants.{LINE_BYTES};
+ghost use Rattle.sysv_lines.specs.declared.line.TheConstants.{LINE_BYTES};
 
 use crate::fault::ScriptFault;
 use crate::input::Input;
-use crate::line::LINE_BYTES;
 use crate::output::Output;
 use std::io::{Read, Write};
+use sysv_lines::line::LINE_BYTES;
 
 /// The next line: the first bytes that wait.
 #[derive(Clone, Copy)]

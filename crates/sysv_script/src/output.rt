@@ -1,14 +1,14 @@
 //! The answers that are composed and wait to be written.
 ghost use Rattle.std.specs.Prelude.{◌≡◌, [], ◌∷◌, ◌++◌, IfOk, IfErr, OnOk, OnErr};
 ghost use Rattle.std.specs.Io.KnownBytes.{Appends};
-ghost use Rattle.sysv_script.specs.Heads.{head_text};
+ghost use Rattle.sysv_lines.specs.Heads.{head_text};
 ghost use Rattle.sysv_script.specs.Streams.{AppendsPart, HandsOn};
 
 use crate::fault::ScriptFault;
-use crate::head::Head;
 use std::alloc::Global;
 use std::io::Write;
 use std::marker::Model;
+use sysv_lines::head::Head;
 use sysv_model::body::Body;
 use sysv_model::limits::BLOCK_BYTES;
 use sysv_model::no_memory::NoMemory;
@@ -19,7 +19,7 @@ const OUTPUT_ROOM: usize = 65536;
 /// The longest line: a head of at most 64 bytes, a text and its LF.
 const LONGEST: usize = 8400;
 
-/// Lines that are composed and not yet handed out.
+/// Lines that are composed and not yet written.
 #[derive(Drop)]
 pub(crate) struct Output {
     bytes: Vec<u8>,

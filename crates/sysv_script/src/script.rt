@@ -8,18 +8,19 @@ ghost use Rattle.sysv_script.specs.ScriptSofar.{LineEnds, Leaves, IsText, RunsOn
 ghost use Rattle.sysv_script.specs.Staged.{IsSceneOf};
 ghost use Rattle.sysv_script.specs.Streams.{AppendsPart};
 ghost use Rattle.sysv_script.specs.declared.fault.TheConstants.{SCRIPT_LINES};
-ghost use Rattle.sysv_script.specs.declared.line.TheConstants.{LINE_BYTES};
+ghost use Rattle.sysv_lines.specs.declared.line.TheConstants.{LINE_BYTES};
 
 pub use crate::fault::{SCRIPT_LINES, ScriptFault};
-use crate::head::Head;
 use crate::input::Input;
 use crate::laws::{each_text_prints, one_text};
-use crate::line::line_of;
 use crate::next_line::{Found, next_line, read_on};
 use crate::output::Output;
 use crate::stage::Stage;
 use std::alloc::Global;
 use std::io::{Read, Write};
+use sysv_lines::head::Head;
+use sysv_lines::laws::one_split;
+use sysv_lines::line::{LINE_BYTES, line_of};
 use sysv_model::no_memory::NoMemory;
 
 /// Runs the script that `reader` gives on a world of 16 actors, and writes to `writer` a line for
@@ -35,7 +36,7 @@ pub fn run_script<R: Read, W: Write>(
     reader: &mut R,
     writer: &mut W,
 ) -> Result<(), ScriptFault>
-    // What the writer took is what the text prints; after a fault of a stream or of memory, a front of it.
+    // What the writer took is what the text prints; after a fault of a stream or of memory, a prefix of it.
     ensures prints { (text : List ℕ) → R.remaining reader.old ≡ Some text → WritesScript result text (W.contents writer.old) (W.contents writer.new) }
     // A script that ends well was read to its end.
     ensures whole { OnOk result (IsAtEnd (R.remaining reader.new)) }
@@ -75,7 +76,7 @@ impl Run {
     }
 
     /// Runs the lines one by one, up to the end, the first fault or the bound. The last answers may
-    /// still have to be handed out.
+    /// still have to be written.
     fn run_lines<R: Read, W: Write>(
         &mut self,
         alloc: Global,
@@ -116,6 +117,7 @@ impl Run {
         ensures grows { Grows (W.contents writer.old) (W.contents writer.new) }
         ensures bad { IfErr result (λ fault. LeavesBadLine fault self.new.output) }
     {
+        one_split();
         let Some(found) = next_line(&mut self.input, &mut self.output, reader, writer)? else {
             return Ok(false);
         };
@@ -147,7 +149,7 @@ impl Run {
         Ok(())
     }
 
-    /// Sees that no line begins behind the last that a script may have.
+    /// Sees that no line begins after the last that a script may have.
     fn expect_end<R: Read, W: Write>(
         &mut self,
         reader: &mut R,

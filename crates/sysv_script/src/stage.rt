@@ -1,18 +1,19 @@
 ghost use Rattle.std.specs.Prelude.{false, ◌≡◌, ◌+◌, ◌<◌, ◌++◌, List, ℕ, replicate, map, IfOk, OnOk, OnErr, [], ◌∷◌, ◌≤◌, length, Some};
 ghost use Rattle.std.specs.List.{range_with_len};
 ghost use Rattle.sysv_script.specs.Faults.{IsFrontOf};
-ghost use Rattle.sysv_script.specs.Heads.{head_text};
-ghost use Rattle.sysv_script.specs.ScriptRun.{Scene, opening_scene, Advances, LineRuns, CallRuns, printed};
-ghost use Rattle.sysv_script.specs.ScriptRun.{first_cred as script_cred, operation_of as call_operation, head_for};
-ghost use Rattle.sysv_script.specs.SaidBy.{FitsBody, RequestFits, LineFits, IsOfActors, text_bytes, call_asked, said_of};
+ghost use Rattle.sysv_lines.specs.Heads.{head_text};
+ghost use Rattle.sysv_script.specs.ScriptRun.{Scene, opening_scene, Advances, LineRuns, StartRuns, CallRuns, printed, standing_line};
+ghost use Rattle.sysv_core.specs.World.{actor_at};
+ghost use Rattle.sysv_script.specs.ScriptRun.{first_cred as script_cred, operation_of as call_operation, told_of as outcome_told};
+ghost use Rattle.sysv_lines.specs.SaidBy.{FitsBody, RequestFits, LineFits, IsOfActors, text_bytes, call_asked, said_of};
 ghost use Rattle.sysv_script.specs.Staged.{IsSceneOf};
 
-use crate::head::{Head, Operation};
-use crate::line::{Line, Request, SCRIPT_ACTORS, Text};
 use crate::output::Output;
 use std::alloc::Global;
 use sysv_core::event::{Answer, Call, Event, Outcome, Stepped};
 use sysv_core::world::World;
+use sysv_lines::head::{Head, Operation, Told};
+use sysv_lines::line::{Line, Request, SCRIPT_ACTORS, Text};
 use sysv_model::body::Body;
 use sysv_model::cred::Cred;
 use sysv_model::no_memory::NoMemory;
@@ -23,14 +24,13 @@ const SCRIPT_BLOCKS: u32 = 1024;
 /// The most steps that a call of a script makes before the next line.
 const STEPS_MOST: u32 = 16;
 
-/// The moment of every step.
-const MOMENT: u64 = 0;
-
-/// The world of a script, its actors' credentials, and a body for the next receive.
+/// The world of a script, its actors' credentials, the moment of each step, and a body for the next
+/// receive.
 pub(crate) struct Stage {
     world: World,
     /// The credentials of actor A stand at place A - 1.
     creds: [Cred; SCRIPT_ACTORS as usize],
+    moment: u64,
     spare: Option<Body>,
 }
 
@@ -44,6 +44,7 @@ impl Stage {
         Ok(Stage {
             world,
             creds: first_creds(),
+            moment: 0,
             spare,
         })
     }
@@ -53,6 +54,7 @@ impl Stage {
         let Stage {
             world,
             creds: _creds,
+            moment: _moment,
             spare: _spare,
         } = self;
         let _blocks = world.end();
@@ -81,13 +83,35 @@ impl Stage {
                 Ok(true)
             }
             Line::Start { actor, request } => {
-                let operation = operation_of(request);
-                let call = self.call_of(alloc, request)?;
-                let stepped = self.go(actor, call);
-                self.tell(actor, operation, stepped, output)?;
+                self.start(alloc, actor, request, output)?;
                 Ok(true)
             }
         }
+    }
+
+    /// Starts a call of an actor, makes its steps, and composes the line that it prints. An actor in a
+    /// call starts no other.
+    fn start(
+        &mut self,
+        alloc: Global,
+        actor: u32,
+        request: Request<'_>,
+        output: &mut Output,
+    ) -> Result<(), NoMemory>
+        requires actor { IsOfActors actor }
+        requires fits { RequestFits request }
+        ensures runs { OnOk result ((s : Scene) → IsSceneOf s self.old → (after : Scene) × (out : List ℕ)
+            × StartRuns s actor (call_asked request.entry) (actor_at s.world.actors actor) out after
+            × IsSceneOf after self.new × (output.new ≡ output.old ++ out)) }
+        ensures err { OnErr result (IsFrontOf output.new output.old) }
+    {
+        if let Some(_phase) = self.world.standing(actor) {
+            return output.tell(Head::Busy { actor });
+        }
+        let operation = operation_of(request);
+        let call = self.call_of(alloc, request)?;
+        let stepped = self.go(actor, call);
+        self.tell(actor, operation, stepped, output)
     }
 
     /// The call that a request asks for, with a body of its own.
@@ -154,7 +178,8 @@ impl Stage {
         for _ in 0..STEPS_MOST {
             match stepped {
                 Stepped::Nothing => {
-                    stepped = self.step(Event::Step { actor, now: MOMENT });
+                    let now = self.moment;
+                    stepped = self.step(Event::Step { actor, now });
                 }
                 _ => break,
             }
@@ -178,12 +203,12 @@ impl Stage {
         stepped: Stepped,
         output: &mut Output,
     ) -> Result<(), NoMemory>
-        ensures told { OnOk result (output.new ≡ output.old ++ printed actor operation stepped) }
+        ensures told { OnOk result ((s : Scene) → IsSceneOf s self.old → output.new ≡ output.old ++ printed s.world actor operation stepped) }
         ensures err { OnErr result (output.new ≡ []) }
         ensures kept { self.new ≡ record self.old { spare = self.new.spare } }
     {
         match stepped {
-            Stepped::Nothing => Ok(()),
+            Stepped::Nothing => output.tell(self.stands(actor)),
             Stepped::Worn => output.tell(Head::Worn { actor }),
             Stepped::Answer(answer) => {
                 let Answer {
@@ -191,12 +216,26 @@ impl Stage {
                     result: outcome,
                     body,
                 } = answer;
-                let head = head_of(actor, operation, outcome);
+                let head = Head::Answers {
+                    actor,
+                    operation,
+                    told: told_of(outcome),
+                };
                 match body {
                     None => output.tell(head),
                     Some(body) => self.tell_body(head, body, output),
                 }
             }
+        }
+    }
+
+    /// The line that says where an actor's call stands.
+    fn stands(&self, actor: u32) -> Head
+        ensures { (s : Scene) → IsSceneOf s self.now → head_text result ++ 10 ∷ [] ≡ standing_line actor (actor_at s.world.actors actor) }
+    {
+        match self.world.standing(actor) {
+            Some(phase) => Head::at(actor, phase),
+            None => Head::Idle { actor },
         }
     }
 
@@ -262,16 +301,12 @@ fn operation_of(request: Request<'_>) -> Operation
     }
 }
 
-fn head_of(actor: u32, operation: Operation, outcome: Outcome) -> Head
-    ensures { result ≡ head_for actor operation outcome }
+fn told_of(outcome: Outcome) -> Told
+    ensures { result ≡ outcome_told outcome }
 {
     match outcome {
-        Outcome::Zero => Head::Zero { actor, operation },
-        Outcome::Got { mtype, len } => Head::Got { actor, len, mtype },
-        Outcome::Refused(why) => Head::Refused {
-            actor,
-            operation,
-            why,
-        },
+        Outcome::Zero => Told::Zero,
+        Outcome::Got { mtype, len } => Told::Got { len, mtype },
+        Outcome::Refused(why) => Told::Refused(why),
     }
 }

@@ -318,3 +318,17 @@ fn six_calls_have_six_answers(rt: HostRuntime) {
     }
     assert_eq!(rt; world.end(), 128);
 }
+
+#[test]
+fn an_actor_stands_before_its_next_step(rt: HostRuntime) {
+    let mut world = world_with_queue(&rt, rt.alloc(), 2);
+    assert!(rt; world.standing(0).is_none());
+    assert!(rt; world.standing(1).is_none());
+    assert!(rt; world.standing(3).is_none());
+    let _started = world.step(send(&rt, rt.alloc(), 1, 5, b"hello"));
+    assert!(rt; matches!(world.standing(1), Some(Phase::Look(_))));
+    assert!(rt; world.standing(2).is_none());
+    let _looked = world.step(Event::Step { actor: 1, now: 0 });
+    assert!(rt; matches!(world.standing(1), Some(Phase::Place(_))));
+    let _blocks = world.end();
+}

@@ -68,7 +68,7 @@ returns-in_err-make_room-clause-runs g c = λ s text old on.
 pub returns-in_err-run_found-clause-runs : goal.returns-in_err-run_found-clause-runs
 returns-in_err-run_found-clause-runs g c = λ s text old on.
     RunsNext-passed c.from_residual-in_err-run_found.result c.in_err-run_found.field-0.0 s text _ _ _ _ _ _ _ c.from_residual-in_err-run_found.ensures.1
-    (at_line_fault c.in_err-run_found.field-0.0 s text _ _ _ _ _ _ _ _ c.in-Some.found
+    (at_line_fault c.one_split.ensures c.in_err-run_found.field-0.0 s text _ _ _ _ _ _ _ _ c.in-Some.found
     c.in_err-run_found.ensures.fault c.in_err-run_found.ensures.bad c.requires.last
     (next_found _ _ _ _ c.in-Some.is c.in_ok-found.ensures.found)
     (hands_more _ _ _ _ _ _ _ _ _ _ _ c.in_ok-make_room.ensures.ok

@@ -1,0 +1,10 @@
+-- A line says one thing, or it says nothing that is understood (this project's script language).
+use Rattle.std.specs.Prelude.{◌≡◌, ◌⊎◌, ℕ, List}
+use Rattle.sysv_lines.specs.Said.{Said}
+use Rattle.sysv_lines.specs.Lines.{Says}
+
+abbrev pub OneSaying : Type 0
+OneSaying = (line : List ℕ) (one other : Said) → Says line one → Says line other → one ≡ other
+
+abbrev pub EachLineIsDecided : Type 0
+EachLineIsDecided = (line : List ℕ) → ((said : Said) × Says line said) ⊎ ((said : Said) → ¬ Says line said)
