@@ -11,8 +11,9 @@ use std::marker::Model;
 use sysv_lines::line::LINE_BYTES;
 use sysv_model::no_memory::NoMemory;
 
-/// The bytes for which the input has room. A line of the greatest length and its LF are fewer.
-pub(crate) const INPUT_ROOM: usize = 65_536;
+/// The bytes for which the input has room: one line of the greatest length and its LF. So of a line
+/// that has no end no more than these are read.
+pub(crate) const INPUT_ROOM: usize = LINE_BYTES + 1;
 
 /// The bytes that wait: they were read, and belong to lines that have not been run. They stand in one
 /// buffer of fixed length, and reads go into the room behind them.
