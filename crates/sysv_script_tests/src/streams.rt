@@ -111,7 +111,7 @@ fn stops_in_a_line_that_never_ends(rt: HostRuntime) -> Result<(), Fail> {
         let mut writer = Page::new(512, 512, false);
         let end = run_script(rt.alloc(), &mut reader, &mut writer);
         assert_eq!(rt; end, Err(ScriptFault::Line(1)));
-        assert!(rt; reader.given <= 65_536);
+        assert_eq!(rt; reader.given, 9001);
         assert!(rt; writer.written() == b"line 1: bad\n".as_slice());
     }
     Ok(())
