@@ -1,0 +1,14 @@
+pub mod Logic
+pub mod Snoc
+pub mod More
+pub mod Facts
+pub mod Changes
+pub mod Legality
+pub mod Effects
+pub mod Law
+pub mod Places
+pub mod Stands
+pub mod Turns
+pub mod OneLegalReply
+pub mod Index
+pub mod Keeping

@@ -1,0 +1,10 @@
+pub use Rattle.sysv_model.specs.Registry
+pub use Rattle.sysv_model.specs.HasFlag
+pub mod Identifier
+pub mod Rows
+pub mod LegalReply
+pub mod StandsFor
+pub mod Replies
+pub mod Kept
+pub mod OneReply
+pub mod RegistryLaw

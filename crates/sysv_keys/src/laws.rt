@@ -1,0 +1,24 @@
+//! Laws over the definitions alone.
+
+ghost use Rattle.std.specs.Prelude.{ℕ, [], ◌∷◌, ◌++◌};
+ghost use Rattle.sysv_model.specs.Registry.{RegistryEntry, RegistryHistory};
+ghost use Rattle.sysv_keys.specs.LegalReply.{IsLegalReply, IsLegalHistory};
+ghost use Rattle.sysv_keys.specs.OneReply.{SomeReplyIsLegal, NoTwoRepliesAreLegal};
+ghost use Rattle.sysv_keys.specs.RegistryLaw.{RegistryLaw};
+
+/// After each history of legal replies each call has one legal reply, and no two.
+pub fn one_legal_reply()
+    ensures some { SomeReplyIsLegal }
+    ensures one { NoTwoRepliesAreLegal }
+{}
+
+/// No entry is a legal history, and a legal history with one more legal reply is one.
+pub fn legal_history()
+    ensures empty { (opening : ℕ) → IsLegalHistory opening [] }
+    ensures more { (opening : ℕ) (h : RegistryHistory) (e : RegistryEntry) → IsLegalHistory opening h → IsLegalReply opening h e.call e.reply → IsLegalHistory opening (h ++ e ∷ []) }
+{}
+
+/// Each history of legal replies obeys the registry law.
+pub fn registry_law()
+    ensures { (opening : ℕ) (h : RegistryHistory) → IsLegalHistory opening h → RegistryLaw opening h }
+{}

@@ -1,0 +1,177 @@
+//! Keys that are found, made, busy and refused; rows that are settled and forgotten; and the last
+//! identifiers of all.
+
+use super::*;
+use std::process::Abort;
+
+/// The flags with these bits.
+fn flags(bits: u32) -> Flags {
+    Flags::from_bits_retain(bits)
+}
+
+/// IPC_CREAT and mode 0600.
+fn creating() -> Flags {
+    flags(512 + 0o600)
+}
+
+/// A registry whose slots all have this generation. Memory is refused once at most.
+fn registry_at(rt: &impl Abort, alloc: Global, generation: u32) -> Registry {
+    for _ in 0..3 {
+        match Registry::open_at(alloc, generation) {
+            Ok(registry) => return registry,
+            Err(why) => assert_eq!(rt; why, RegistryRefused::NoMemory),
+        }
+    }
+    Registry::open_at(alloc, generation).expect(rt, "a fourth try")
+}
+
+fn open_registry(rt: &impl Abort, alloc: Global) -> Registry {
+    match Registry::open(alloc) {
+        Ok(registry) => registry,
+        Err(why) => {
+            assert_eq!(rt; why, RegistryRefused::NoMemory);
+            registry_at(rt, alloc, 0)
+        }
+    }
+}
+
+/// Makes a private queue and settles it.
+fn make_private(rt: &impl Abort, registry: &mut Registry, id: i32) {
+    assert_eq!(rt; registry.begin(IPC_PRIVATE, flags(0)), Begun::Made { id });
+    assert!(rt; registry.settle(id));
+}
+
+#[test]
+fn keys_and_private_keys(rt: HostRuntime) {
+    let mut registry = open_registry(&rt, rt.alloc());
+    assert_eq!(rt;
+        registry.begin(9, flags(512 + 1024 + 0o600)),
+        Begun::Made { id: 0 }
+    );
+    assert!(rt; registry.settle(0));
+    let found = Begun::Found { id: 0, settled: 1 };
+    assert_eq!(rt; registry.begin(9, flags(512 + 1024 + 0o600)), found);
+    assert_eq!(rt;
+        registry.begin(5, flags(1024 + 0o600)),
+        Begun::Refused(Errno::ENOENT)
+    );
+    make_private(&rt, &mut registry, 1);
+    make_private(&rt, &mut registry, 2);
+    assert_eq!(rt;
+        registry.begin(9, flags(0)),
+        Begun::Found { id: 0, settled: 3 }
+    );
+    for id in 3..64 {
+        make_private(&rt, &mut registry, id);
+    }
+    assert_eq!(rt;
+        registry.begin(IPC_PRIVATE, flags(0)),
+        Begun::Refused(Errno::ENOSPC)
+    );
+    assert_eq!(rt;
+        registry.begin(5, creating()),
+        Begun::Refused(Errno::ENOSPC)
+    );
+    assert_eq!(rt; registry.begin(5, flags(0)), Begun::Refused(Errno::ENOENT));
+    assert_eq!(rt;
+        registry.begin(9, creating()),
+        Begun::Found { id: 0, settled: 64 }
+    );
+    assert_eq!(rt; registry.settled(), 64);
+}
+
+#[test]
+fn a_key_is_busy_until_it_is_settled(rt: HostRuntime) {
+    let mut registry = open_registry(&rt, rt.alloc());
+    assert_eq!(rt; registry.begin(-4, creating()), Begun::Made { id: 0 });
+    assert_eq!(rt; registry.begin(-4, flags(0)), Begun::Busy { settled: 0 });
+    assert!(rt; registry.settle(0));
+    assert!(rt; !registry.settle(0));
+    assert_eq!(rt;
+        registry.begin(-4, flags(0)),
+        Begun::Found { id: 0, settled: 1 }
+    );
+    assert!(rt; !registry.settle(64));
+    assert!(rt; !registry.settle(1));
+    assert!(rt; !registry.settle(-1));
+    assert_eq!(rt; registry.settled(), 1);
+}
+
+#[test]
+fn a_forgotten_identifier_is_never_given_again(rt: HostRuntime) {
+    let mut registry = open_registry(&rt, rt.alloc());
+    assert_eq!(rt; registry.begin(7, creating()), Begun::Made { id: 0 });
+    assert_eq!(rt; registry.begin(8, creating()), Begun::Made { id: 1 });
+    assert_eq!(rt; registry.begin(i32::MIN, creating()), Begun::Made { id: 2 });
+    assert!(rt; registry.settle(1));
+    assert!(rt; registry.forget(1));
+    assert!(rt; !registry.forget(1));
+    assert!(rt; registry.forget(0));
+    assert_eq!(rt; registry.settled(), 3);
+    assert_eq!(rt; registry.begin(7, flags(0)), Begun::Refused(Errno::ENOENT));
+    assert_eq!(rt; registry.begin(7, creating()), Begun::Made { id: 64 });
+    assert!(rt; !registry.forget(0));
+    assert!(rt; !registry.settle(0));
+    assert_eq!(rt; registry.begin(8, creating()), Begun::Made { id: 65 });
+    assert_eq!(rt;
+        registry.begin(i32::MIN, creating()),
+        Begun::Busy { settled: 3 }
+    );
+    assert!(rt; registry.forget(2));
+    assert_eq!(rt;
+        registry.begin(IPC_PRIVATE, flags(0)),
+        Begun::Made { id: 66 }
+    );
+}
+
+#[test]
+fn the_last_identifiers(rt: HostRuntime) {
+    let mut registry = registry_at(&rt, rt.alloc(), 33_554_431);
+    for slot in 0..64 {
+        let id = 2_147_483_584 + slot;
+        assert_eq!(rt; slot_of_id(id), slot as usize);
+        assert_eq!(rt; registry.begin(slot + 1, creating()), Begun::Made { id });
+        assert!(rt; registry.forget(id));
+        assert_eq!(rt;
+            registry.begin(slot + 1, flags(0)),
+            Begun::Refused(Errno::ENOENT)
+        );
+    }
+    assert_eq!(rt;
+        registry.begin(IPC_PRIVATE, flags(0)),
+        Begun::Refused(Errno::ENOSPC)
+    );
+    assert_eq!(rt;
+        registry.begin(1, creating()),
+        Begun::Refused(Errno::ENOSPC)
+    );
+    assert_eq!(rt; registry.settled(), 64);
+}
+
+#[test]
+fn generations_past_the_last_are_refused(rt: HostRuntime) {
+    for generation in [33_554_432, u32::MAX] {
+        match Registry::open_at(rt.alloc(), generation) {
+            Ok(_) => panic!(rt; "a registry"),
+            Err(why) => assert_eq!(rt; why, RegistryRefused::BadStart),
+        }
+    }
+}
+
+#[test]
+fn many_keys_come_and_go(rt: HostRuntime) {
+    let mut registry = open_registry(&rt, rt.alloc());
+    for round in 0..200 {
+        for slot in 0..64 {
+            let id = slot + 64 * round;
+            assert_eq!(rt;
+                registry.begin(1000 * round + slot + 1, creating()),
+                Begun::Made { id }
+            );
+        }
+        for slot in 0..64 {
+            assert!(rt; registry.forget(slot + 64 * round));
+        }
+    }
+    assert_eq!(rt; registry.settled(), 12_800);
+}
