@@ -1,11 +1,12 @@
-ghost use Rattle.std.specs.Prelude.{◌≡◌, ◌≢◌, ℕ, List, [], ◌∷◌, ◌++◌, ◌+◌, ◌-◌, ◌*◌, ◌≤◌, ◌<◌, IsTrue, ◌↔◌, length, take, drop, IfOk};
+ghost use Rattle.std.specs.Prelude.{◌≡◌, ◌≢◌, ℕ, List, [], ◌∷◌, ◌++◌, ◌+◌, ◌≤◌, IsTrue, ◌↔◌, length, take, drop, IfOk};
 ghost use Rattle.std.specs.List.{concat};
-ghost use Rattle.sysv_model.specs.Blocks.{block_of};
+ghost use Rattle.sysv_model.specs.declared.limits.TheConstants.{BLOCK_BYTES as block_bytes, BODY_ROOM as body_room};
 ghost use Rattle.sysv_model.specs.Pool.{blocks_for};
 ghost use Rattle.sysv_pool.specs.Blocks.{contents_of};
 
 use std::alloc::Global;
 use std::marker::Model;
+use std::mem;
 use sysv_model::body::Body;
 use sysv_model::limits::BLOCK_BYTES;
 use sysv_model::no_memory::NoMemory;
@@ -72,54 +73,44 @@ pub(crate) fn free_all(mut link: Link) {
     }
 }
 
-/// Moves the first block of one list in front of another; `false`, with both as they were, where there is none.
-pub(crate) fn shift(from: &mut Link, onto: &mut Link) -> bool
-    ensures some { IsTrue result ↔ (contents_of from.old ≢ []) }
-    ensures from { contents_of from.new ≡ drop 1 (contents_of from.old) }
-    ensures onto { contents_of onto.new ≡ take 1 (contents_of from.old) ++ contents_of onto.old }
-{
-    let Some(mut block) = from.take() else {
-        return false;
-    };
-    *from = block.next.take();
-    block.next = onto.take();
-    *onto = Some(block);
-    true
-}
-
-/// Moves that many blocks in front of another list.
-pub(crate) fn shift_some(from: &mut Link, onto: &mut Link, blocks: u32)
+/// Moves that many blocks, one by one, in front of another list.
+pub(crate) fn shift(from: &mut Link, onto: &mut Link, blocks: u32)
     requires { blocks ≤ length (contents_of from.old) }
     ensures from { length (contents_of from.new) + blocks ≡ length (contents_of from.old) }
     ensures onto { length (contents_of onto.new) ≡ blocks + length (contents_of onto.old) }
 {
+    let mut rest = from.take();
+    let mut front = onto.take();
     for _ in 0..blocks {
-        shift(from, onto);
+        let Some(mut block) = rest else {
+            unreachable!()
+        };
+        rest = mem::replace(&mut block.next, front);
+        front = Some(block);
     }
+    *from = rest;
+    *onto = front;
 }
 
-/// Moves all blocks in front of another list.
-pub(crate) fn shift_all(from: Link, onto: &mut Link)
-    ensures { length (contents_of onto.new) ≡ length (contents_of from) + length (contents_of onto.old) }
+/// Moves all blocks, one by one, in front of another list.
+pub(crate) fn shift_all(from: Link, onto: Link) -> Link
+    ensures { length (contents_of result) ≡ length (contents_of from) + length (contents_of onto) }
 {
-    let mut from = from;
-    while shift(&mut from, onto) {}
+    let mut rest = from;
+    let mut front = onto;
+    while let Some(mut block) = rest {
+        rest = mem::replace(&mut block.next, front);
+        front = Some(block);
+    }
+    front
 }
 
-/// Writes a piece to the front of the first block, and moves that block in front of another list.
-fn shift_filled(from: &mut Link, onto: &mut Link, piece: &[u8])
-    requires there { contents_of from.old ≢ [] }
-    requires small { length piece.now ≤ 64 }
-    ensures from { length (contents_of from.new) + 1 ≡ length (contents_of from.old) }
-    ensures onto { (text : List ℕ) × (contents_of onto.new ≡ text ∷ contents_of onto.old) × (length text ≡ 64) × (take (length piece.now) text ≡ piece.now) }
+/// Writes a piece at the front of the first block.
+fn write(block: &mut Block, piece: &[u8])
+    requires { length piece.now ≤ block_bytes }
+    ensures { (text : List ℕ) × (block.new ≡ text ∷ drop 1 block.old) × (length text ≡ block_bytes) × (take (length piece.now) text ≡ piece.now) }
 {
-    let Some(mut block) = from.take() else {
-        return;
-    };
     block.bytes[..piece.len()].copy_from_slice(piece);
-    *from = block.next.take();
-    block.next = onto.take();
-    *onto = Some(block);
 }
 
 /// The blocks with the text in them, the last block first filled.
@@ -129,26 +120,34 @@ pub(crate) fn filled(link: Link, blocks: u32, body: &Body) -> Link
     ensures blocks { length (contents_of result) ≡ blocks }
     ensures text { take (length body.now) (concat (contents_of result)) ≡ body.now }
 {
-    let mut from = link;
-    let mut onto = None;
+    let mut rest = link;
+    let mut front = None;
     let mut left = blocks;
     while left > 0 {
         left -= 1;
-        shift_filled(&mut from, &mut onto, body.block(left));
+        let Some(mut block) = rest else {
+            unreachable!()
+        };
+        write(&mut block, body.block(left));
+        rest = mem::replace(&mut block.next, front);
+        front = Some(block);
     }
-    onto
+    front
 }
 
 /// Adds the first `n` bytes of the blocks to the text.
 pub(crate) fn copy_front(link: &Link, n: usize, out: &mut Body)
     requires there { n ≤ length (concat (contents_of link.now)) }
-    requires room { length out.old + n ≤ 8256 }
+    requires room { length out.old + n ≤ body_room }
     ensures { out.new ≡ out.old ++ take n (concat (contents_of link.now)) }
 {
     let mut left = n;
     let mut link = link;
     while let Some(block) = link {
         let block: &Block = block;
+        if left == 0 {
+            return;
+        }
         let piece = left.min(BLOCK_BYTES);
         out.push_piece(&block.bytes[..piece]);
         left -= piece;

@@ -1,5 +1,7 @@
-ghost use Rattle.std.specs.Prelude.{◌≡◌, ◌+◌, ◌-◌, ◌^◌, ◌≤◌, [], ◌++◌, length, take, min};
+ghost use Rattle.std.specs.Prelude.{◌≡◌, ◌+◌, ◌≤◌, [], ◌++◌, length, take};
+ghost use Rattle.sysv_model.specs.declared.limits.TheConstants.{BODY_ROOM as body_room};
 ghost use Rattle.sysv_model.specs.Pool.{blocks_for};
+ghost use Rattle.sysv_pool.specs.Chain.{counted};
 
 use crate::blocks::{Link, copy_front, filled, free_all, shift_all};
 use std::marker::Model;
@@ -14,9 +16,9 @@ pub struct Chain {
 }
 
 impl Model for Chain {
-    ghost use Rattle.std.specs.Prelude.{◌≡◌, ◌-◌, ◌^◌, length, take, min};
+    ghost use Rattle.std.specs.Prelude.{◌≡◌, length, take};
     ghost use Rattle.std.specs.List.{concat};
-    ghost use Rattle.sysv_pool.specs.Chain.{Chained};
+    ghost use Rattle.sysv_pool.specs.Chain.{Chained, counted};
     ghost use Rattle.sysv_pool.specs.Blocks.{contents_of};
 
     ghost Value = { Chained };
@@ -24,7 +26,7 @@ impl Model for Chain {
     ghost view = { λ c. record { blocks = length (contents_of c.link); bytes = take c.len (concat (contents_of c.link)) } };
 
     // The count stays at the greatest u32 if there are more.
-    ghost invariant = { λ c. c.count ≡ min (length (contents_of c.link)) (2 ^ 32 - 1) };
+    ghost invariant = { λ c. c.count ≡ counted (length (contents_of c.link)) };
 }
 
 impl Chain {
@@ -41,7 +43,7 @@ impl Chain {
 
     /// The number of its blocks; the greatest `u32` if there are more.
     pub fn blocks(&self) -> u32
-        ensures { result ≡ min self.now.blocks (2 ^ 32 - 1) }
+        ensures { result ≡ counted self.now.blocks }
     {
         self.count
     }
@@ -73,10 +75,8 @@ impl Chain {
             count: more,
             len: _,
         } = other;
-        let mut link = link;
-        shift_all(others, &mut link);
         Chain {
-            link,
+            link: shift_all(others, link),
             count: count.saturating_add(more),
             len: 0,
         }
@@ -86,7 +86,7 @@ impl Chain {
     /// room for them. The chain stays as it is, and no memory is taken.
     pub fn copy_out(&self, n: usize, out: &mut Body)
         requires there { n ≤ length self.now.bytes }
-        requires room { length out.old + n ≤ 8256 }
+        requires room { length out.old + n ≤ body_room }
         ensures { out.new ≡ out.old ++ take n self.now.bytes }
     {
         copy_front(&self.link, n, out);
@@ -94,7 +94,7 @@ impl Chain {
 
     /// Frees the blocks, and answers `blocks`. They are then in no pool any more.
     pub fn end(self) -> u32
-        ensures { result ≡ min self.blocks (2 ^ 32 - 1) }
+        ensures { result ≡ counted self.blocks }
     {
         let Chain {
             link,

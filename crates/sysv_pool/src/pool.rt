@@ -1,10 +1,10 @@
-ghost use Rattle.std.specs.Prelude.{◌≡◌, ◌+◌, ◌^◌, ◌<◌, ◌≤◌, ◌⊎◌, ◌↔◌, [], IfOk, IfErr, IfSome, Err, None};
+ghost use Rattle.std.specs.Prelude.{◌≡◌, ◌+◌, ◌-◌, ◌^◌, ◌<◌, ◌≤◌, ◌⊎◌, ◌↔◌, [], IfOk, IfSome, Err, MatchOption, MatchResult};
 ghost use Rattle.sysv_model.specs.declared.limits.TheConstants.{MESSAGE_BYTES as most_bytes, BLOCKS_LEAST as least_blocks, BLOCKS_MOST as most_blocks};
 ghost use Rattle.sysv_model.specs.Pool.{blocks_for, Reserve, Release};
 ghost use Rattle.sysv_pool.specs.StandsFor.{StandsFor, MakesTurn};
 ghost use Rattle.sysv_pool.specs.Replies.{reserve_reply, release_reply};
 
-use crate::blocks::{Link, free_all, linked, shift_all, shift_some};
+use crate::blocks::{Link, free_all, linked, shift, shift_all};
 use crate::chain::Chain;
 use std::alloc::Global;
 use std::marker::Model;
@@ -68,15 +68,15 @@ impl Pool {
     pub fn reserve(&mut self, size: usize) -> Option<Chain>
         requires { size ≤ most_bytes }
         ensures turn { MakesTurn self.old (Reserve size) (reserve_reply result) self.new }
-        ensures bare { IfSome result (λ chain. chain ≡ record { blocks = blocks_for size; bytes = [] }) }
-        ensures refused { result ≡ None → self.new ≡ self.old }
+        ensures chain { IfSome result (λ chain. chain ≡ record { blocks = blocks_for size; bytes = [] }) }
+        ensures after { MatchOption result (self.new ≡ self.old) (λ chain. self.new ≡ record self.old { free = self.old.free - chain.blocks }) }
     {
         let count = size.div_ceil(BLOCK_BYTES) as u32;
         if count > self.count {
             return None;
         }
         let mut link = None;
-        shift_some(&mut self.link, &mut link, count);
+        shift(&mut self.link, &mut link, count);
         self.count -= count;
         Some(Chain {
             link,
@@ -92,7 +92,7 @@ impl Pool {
     pub fn release(&mut self, chain: Chain) -> Result<(), Chain>
         requires { self.old.released < 2 ^ 63 }
         ensures turn { MakesTurn self.old (Release chain.blocks) (release_reply result) self.new }
-        ensures refused { IfErr result (λ back. (back ≡ chain) × (self.new ≡ self.old)) }
+        ensures after { MatchResult result (λ _. self.new ≡ record self.old { free = self.old.free + chain.blocks; released = self.old.released + 1 }) (λ back. (back ≡ chain) × (self.new ≡ self.old)) }
     {
         if chain.count > self.size - self.count {
             return Err(chain);
@@ -102,7 +102,7 @@ impl Pool {
             count,
             len: _,
         } = chain;
-        shift_all(link, &mut self.link);
+        self.link = shift_all(link, self.link.take());
         self.count += count;
         self.released += 1;
         Ok(())

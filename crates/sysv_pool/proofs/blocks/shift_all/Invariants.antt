@@ -3,8 +3,5 @@ use Rattle.sysv_pool.specs.Blocks.{contents_of}
 use Rattle.sysv_pool.proofs.blocks.shift_all.Given as goal
 
 -- no block is lost
-abbrev pub invariant-loop : goal.invariant-loop
-invariant-loop l = length (contents_of l.from) + length (contents_of l.onto) ≡ length (contents_of l.initial.from) + length (contents_of l.initial.onto)
-
-abbrev pub decreases-loop : goal.decreases-loop
-decreases-loop l = length (contents_of l.from)
+abbrev pub invariant-loop-rest : goal.invariant-loop-rest
+invariant-loop-rest l = length (contents_of l.rest) + length (contents_of l.front) ≡ length (contents_of l.initial.rest) + length (contents_of l.initial.front)
