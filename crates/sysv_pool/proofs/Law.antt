@@ -1,5 +1,5 @@
 -- Each legal history obeys the pool law.
-use Rattle.std.proofs.Common.{◌≡◌, ℕ, ◌+◌, ◌-◌, ◌≤◌, arith}
+use Rattle.std.proofs.Common.{ℕ, arith}
 use Rattle.sysv_model.specs.Pool.{PoolHistory}
 use Rattle.sysv_pool.specs.LegalReply.{IsLegalHistory}
 use Rattle.sysv_pool.specs.PoolLaw.{PoolLaw}

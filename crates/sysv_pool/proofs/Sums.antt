@@ -1,9 +1,9 @@
 -- The sums over a history with one more turn, and what they are after every legal history.
-use Rattle.std.proofs.Common.{◌≡◌, ℕ, ◌+◌, ◌-◌, ◌<◌, ◌≤◌, [], ◌∷◌, ◌++◌, Bool, true, false, cond, refl, arith}
+use Rattle.std.proofs.Common.{◌≡◌, ℕ, ◌+◌, ◌-◌, ◌≤◌, [], ◌∷◌, ◌++◌, cond, arith}
 use Rattle.std.proofs.lemmas.List.Sums.{sum_by_push}
-use Rattle.sysv_model.specs.Pool.{blocks_for, PoolCall, Reserve, Release, PoolReply, Reserved, TooFew, Released, Foreign, PoolEntry, PoolHistory, released, frees}
-use Rattle.sysv_pool.specs.State.{State, state_of, reserved, returned, reserved_by, returned_by, free_after}
-use Rattle.sysv_pool.specs.LegalReply.{Legal, IsLegalReply, IsLegalHistory}
+use Rattle.sysv_model.specs.Pool.{PoolCall, Reserve, Release, PoolReply, Reserved, TooFew, Released, Foreign, PoolEntry, PoolHistory, released, frees}
+use Rattle.sysv_pool.specs.State.{reserved, returned, reserved_by, returned_by}
+use Rattle.sysv_pool.specs.LegalReply.{Legal, IsLegalHistory}
 use Rattle.sysv_pool.proofs.Snoc.{from_end}
 use Rattle.sysv_pool.proofs.Legality.{legal_front, legal_last}
 

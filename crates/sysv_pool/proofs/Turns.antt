@@ -1,8 +1,8 @@
 -- How a pool that stands for a history goes on by one turn.
-use Rattle.std.proofs.Common.{◌≡◌, ℕ, ◌+◌, ◌-◌, ◌≤◌, ◌<◌, [], ◌∷◌, ◌++◌, refl, sym, ap, subst, ◌∙◌, arith}
+use Rattle.std.proofs.Common.{◌≡◌, ℕ, ◌+◌, ◌-◌, ◌≤◌, ◌<◌, [], refl, sym, ap, subst, ◌∙◌, arith}
 use Rattle.sysv_model.specs.History.{Who}
 use Rattle.sysv_model.specs.Pool.{blocks_for, PoolCall, Reserve, Release, PoolReply, Reserved, TooFew, Released, Foreign, PoolEntry, PoolHistory, released}
-use Rattle.sysv_pool.specs.State.{State, state_of, reserved, returned, free_after}
+use Rattle.sysv_pool.specs.State.{State, free_after}
 use Rattle.sysv_pool.specs.LegalReply.{Legal, IsLegalHistory}
 use Rattle.sysv_pool.specs.StandsFor.{StandsFor, MakesTurn, then_turn}
 use Rattle.sysv_pool.proofs.Legality.{legal_empty, legal_more}

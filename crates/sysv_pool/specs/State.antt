@@ -1,7 +1,7 @@
 -- What a pool is seen as (this profile's): its size, how many of its blocks are free, and the released
 -- count. A history leaves a pool of that size that is seen as state_of of it.
 use Rattle.std.specs.Prelude.{ℕ, ◌+◌, ◌-◌, sum_by}
-use Rattle.sysv_model.specs.Pool.{PoolCall, Reserve, Release, PoolReply, Reserved, TooFew, Released, Foreign, PoolEntry, PoolHistory, released}
+use Rattle.sysv_model.specs.Pool.{PoolCall, Release, PoolReply, Reserved, Released, PoolEntry, PoolHistory, released}
 
 pub record State : Type 0 where
   pub size : ℕ

@@ -1,4 +1,4 @@
-use Rattle.std.proofs.Common.{rules, ◌≡◌, ℕ, List, [], ◌∷◌, ◌++◌, ◌+◌, ◌-◌, ◌≤◌, Bool, true, false, if◌then◌else◌, length, take, min, arith, ap, sym, ◌∙◌, length-append, length-take, append_assoc}
+use Rattle.std.proofs.Common.{rules, ◌≡◌, ◌∷◌, ◌++◌, ◌+◌, true, length, take, min, arith, ap, sym, ◌∙◌, length-append, length-take, append_assoc}
 use Rattle.std.specs.List.{concat}
 use Rattle.sysv_pool.specs.Blocks.{contents_of}
 use Rattle.sysv_pool.proofs.Texts.{first_and_rest}

@@ -1,4 +1,4 @@
-use Rattle.std.proofs.Common.{rules, ◌≡◌, List, ℕ, ◌∷◌, ◌+◌, ◌-◌, ◌*◌, ◌∙◌, ap, sym, arith, length, length-drop, take, drop}
+use Rattle.std.proofs.Common.{◌≡◌, ◌∷◌, ◌+◌, ◌-◌, ◌∙◌, ap, arith, length, length-drop, take, drop}
 use Rattle.std.specs.List.{concat}
 use Rattle.sysv_model.specs.Blocks.{block_of}
 use Rattle.sysv_pool.specs.Blocks.{contents_of}

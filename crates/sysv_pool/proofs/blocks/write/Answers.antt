@@ -1,4 +1,4 @@
-use Rattle.std.proofs.Common.{◌≡◌, ℕ, List, ◌∷◌, ◌++◌, ◌+◌, ◌≤◌, ◌∙◌, ap, sym, arith, length, length-append, length-drop, take, drop}
+use Rattle.std.proofs.Common.{◌≡◌, ℕ, List, ◌∷◌, ◌++◌, ◌∙◌, ap, arith, length, length-append, length-drop, take, drop}
 use Rattle.std.proofs.Math.Seq.{take-append_seam}
 use Rattle.sysv_pool.proofs.blocks.write.Goals as goal
 

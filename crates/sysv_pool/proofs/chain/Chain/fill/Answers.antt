@@ -1,5 +1,4 @@
-use Rattle.std.proofs.Common.{◌≡◌, ◌≤◌, ◌/◌, ◌+◌, length, arith, ap, sym, ◌∙◌, rules}
-use Rattle.sysv_model.specs.Pool.{blocks_for}
+use Rattle.std.proofs.Common.{◌≡◌, length, arith, ap}
 use Rattle.sysv_pool.specs.Blocks.{contents_of}
 use Rattle.sysv_pool.specs.Chain.{Chained}
 use Rattle.sysv_pool.proofs.chain.Chain.fill.Goals as goal

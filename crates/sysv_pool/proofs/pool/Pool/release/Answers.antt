@@ -1,4 +1,4 @@
-use Rattle.std.proofs.Common.{◌≡◌, ◌+◌, ◌≤◌, ◌<◌, length, arith, ap, sym, ◌∙◌}
+use Rattle.std.proofs.Common.{◌≡◌, length, arith, ap, ◌∙◌}
 use Rattle.sysv_pool.specs.Blocks.{contents_of}
 use Rattle.sysv_pool.specs.Chain.{Chained}
 use Rattle.sysv_pool.proofs.Turns.{turn_released, turn_foreign}
