@@ -1,0 +1,6 @@
+use Rattle.std.proofs.Common.{rules, refl, ◌≡◌, replicate, None}
+use Rattle.sysv_buffer.proofs.Opening.{starts}
+use Rattle.sysv_buffer.proofs.board.lay.Goals as goal
+
+pub new-requires : goal.new-requires
+new-requires g c = starts c.args.cells _ _ c.requires refl refl refl (search rules)

@@ -1,0 +1,46 @@
+//! The table of a buffer.
+ghost use Rattle.std.specs.Prelude.{◌≡◌, ◌<◌, [], length, slice_index, None, IfSome, replicate};
+ghost use Rattle.sysv_buffer.specs.Ring.{start};
+
+use crate::rule::Buffering;
+use crate::view::View;
+use atomic_table::Table;
+use std::alloc::Global;
+
+/// From here on nothing is put or taken.
+pub(crate) const LIMIT: u64 = 1 << 62;
+
+/// The word that says how many items were put.
+pub(crate) const IN: usize = 0;
+
+/// The word that says how many were taken. It lies 128 bytes from the other.
+pub(crate) const OUT: usize = 16;
+
+/// The words of the table, so many that no other memory lies near the second.
+const WORDS: usize = 32;
+
+pub(crate) type Board<T> = Table<Option<T>, View<T>, (), Buffering<T>, Global>;
+
+pub(crate) type Token<T> = atomic_table::Seat<Option<T>, View<T>>;
+
+// That many empty cells.
+fn empty_cells<T: Drop>(alloc: Global, cells: usize) -> Option<Vec<Option<T>>>
+    ensures { IfSome result (λ v. v.items ≡ replicate cells None) }
+{
+    let Ok(mut row) = Vec::with_capacity(alloc, cells) else {
+        return None;
+    };
+    for _ in 0..cells {
+        row.push_reserved(None);
+    }
+    Some(row)
+}
+
+// The table with its first seat.
+pub(crate) fn lay<T: Drop>(alloc: Global, cells: usize) -> Option<(Board<T>, Token<T>)>
+    requires { 0 < cells }
+    ensures { IfSome result (λ t. (t.1.me ≡ (start, [])) × (t.1.table_id ≡ t.0.shared.table_id) × (t.0.shared.table_id.words ≡ 32) × (t.0.shared.table_id.slots ≡ cells)) }
+{
+    let row = empty_cells(alloc, cells)?;
+    Table::new(alloc, &[0; WORDS], row, &()).ok()
+}

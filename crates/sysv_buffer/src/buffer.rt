@@ -1,0 +1,130 @@
+//! Buffers of one producer and one consumer.
+ghost use Rattle.std.specs.Prelude.{◌≡◌, ◌^◌, ◌<◌, ◌≤◌, ◌⊎◌, ◌↔◌, [], ◌∷◌, ◌++◌, length, IfOk, IfErr, OnOk, OnErr, IsErrOf};
+ghost use Rattle.sysv_buffer.specs.Refusals.{HandsBack};
+
+use crate::board::{Board, IN, OUT, lay};
+use crate::ends::{Consumer, Producer};
+use crate::refusals::{OpenRefused, PutRefused, PutWorn, TakeRefused, TakeWorn};
+use crate::rule::Parting;
+use crate::turns::{Found, Reach};
+use std::alloc::Global;
+use std::marker::Model;
+use std::sync::Wait;
+use std::sync::atomic::AtomicU64;
+
+/// The most cells of a buffer; it has at least one.
+const CELLS_MOST: usize = 1024;
+
+/// A row of cells through which one thread hands items to another, in order. The ends share it by reference.
+#[derive(Drop)]
+pub struct OneBuffer<T> {
+    pub(crate) table: Board<T>,
+    pub(crate) room: usize,
+    pub(crate) sleepers: AtomicU64,
+}
+
+impl<T> Model for OneBuffer<T> {
+    ghost use Rattle.std.specs.Prelude.{◌≡◌, ◌<◌};
+    ghost use Rattle.sysv_buffer.specs.Ends.{Buffered};
+
+    ghost Value = { Buffered };
+
+    ghost view = { λ b. record { table = b.table.shared.table_id; room = b.room } };
+
+    ghost invariant = { λ b. (b.table.shared.table_id.words ≡ 32) × (b.table.shared.table_id.slots ≡ b.room) × (0 < b.room) };
+}
+
+impl<T: Drop> OneBuffer<T> {
+    /// A buffer of 1 to 1,024 empty cells, and its ends. `BadSize` for another number, `NoMemory` where memory is refused.
+    pub fn open(
+        alloc: Global,
+        cells: usize,
+    ) -> Result<(OneBuffer<T>, Producer<T>, Consumer<T>), OpenRefused>
+        ensures ok { IfOk result (λ o. (o.0.room ≡ cells) × (o.1 ≡ record { buffer = o.0; put = [] }) × (o.2 ≡ record { buffer = o.0; taken = [] })) }
+        ensures bad_size { IsErrOf result OpenRefused.BadSize ↔ ((cells < 1) ⊎ (1024 < cells)) }
+    {
+        if cells < 1 || cells > CELLS_MOST {
+            return Err(OpenRefused::BadSize);
+        }
+        let Some((table, mut token)) = lay(alloc, cells) else {
+            return Err(OpenRefused::NoMemory);
+        };
+        let other = table.shared.split_seat::<Parting>(&mut token);
+        let buffer = OneBuffer {
+            table,
+            room: cells,
+            sleepers: AtomicU64::new(0),
+        };
+        Ok((buffer, Producer { token }, Consumer { token: other }))
+    }
+
+    /// Puts the item into the next cell, where one is empty. It never waits, and wakes the consumer where it sleeps. `Full`
+    /// comes where every cell has an item, `Worn` where 2^62 items were put. The item comes back in both, and nothing
+    /// has changed.
+    pub fn try_put(&self, end: &mut Producer<T>, item: T) -> Result<(), PutRefused<T>>
+        requires { end.old.buffer ≡ self.now }
+        ensures buffer { end.new.buffer ≡ self.now }
+        ensures ok { OnOk result (end.new.put ≡ end.old.put ++ item ∷ []) }
+        ensures err { IfErr result (λ e. HandsBack item end.old.put e × (end.new.put ≡ end.old.put)) }
+    {
+        match self.reach(&mut end.token) {
+            Reach::Room(cell) => {
+                self.fill(&mut end.token, cell, item);
+                self.wake(IN);
+                Ok(())
+            }
+            Reach::Full(_) => Err(PutRefused::Full(item)),
+            Reach::WornOut => Err(PutRefused::Worn(item)),
+        }
+    }
+
+    /// Waits until a cell is empty, and puts the item into it. The item comes back where 2^62 items were put.
+    pub fn put(&self, rt: &impl Wait, end: &mut Producer<T>, item: T) -> Result<(), PutWorn<T>>
+        requires { end.old.buffer ≡ self.now }
+        ensures buffer { end.new.buffer ≡ self.now }
+        ensures ok { OnOk result (end.new.put ≡ end.old.put ++ item ∷ []) }
+        ensures worn { IfErr result (λ e. (e.item ≡ item) × (2 ^ 62 ≤ length end.old.put) × (end.new.put ≡ end.old.put)) }
+    {
+        let Some(cell) = self.await_room(rt, &mut end.token) else {
+            return Err(PutWorn { item });
+        };
+        self.fill(&mut end.token, cell, item);
+        self.wake(IN);
+        Ok(())
+    }
+
+    /// Takes the item that was put first of those that wait. It never waits, and wakes the producer where it sleeps.
+    /// `Empty` comes where none waits, `Worn` where 2^62 items were taken. Nothing has changed in both.
+    pub fn try_take(&self, end: &mut Consumer<T>) -> Result<T, TakeRefused>
+        requires { end.old.buffer ≡ self.now }
+        ensures buffer { end.new.buffer ≡ self.now }
+        ensures ok { IfOk result (λ item. end.new.taken ≡ end.old.taken ++ item ∷ []) }
+        ensures err { OnErr result (end.new.taken ≡ end.old.taken) }
+        ensures worn { IsErrOf result TakeRefused.Worn → 2 ^ 62 ≤ length end.old.taken }
+    {
+        match self.look(&mut end.token) {
+            Found::Item(cell) => {
+                let item = self.empty(&mut end.token, cell);
+                self.wake(OUT);
+                Ok(item)
+            }
+            Found::Empty(_) => Err(TakeRefused::Empty),
+            Found::Spent => Err(TakeRefused::Worn),
+        }
+    }
+
+    /// Waits until an item is there, and takes it. It is refused where 2^62 items were taken.
+    pub fn take(&self, rt: &impl Wait, end: &mut Consumer<T>) -> Result<T, TakeWorn>
+        requires { end.old.buffer ≡ self.now }
+        ensures buffer { end.new.buffer ≡ self.now }
+        ensures ok { IfOk result (λ item. end.new.taken ≡ end.old.taken ++ item ∷ []) }
+        ensures worn { OnErr result ((2 ^ 62 ≤ length end.old.taken) × (end.new.taken ≡ end.old.taken)) }
+    {
+        let Some(cell) = self.await_item(rt, &mut end.token) else {
+            return Err(TakeWorn);
+        };
+        let item = self.empty(&mut end.token, cell);
+        self.wake(OUT);
+        Ok(item)
+    }
+}

@@ -1,0 +1,81 @@
+//! The rule of the table, and the kinds of step that it allows.
+use crate::view::View;
+use atomic_table::{Play, Split, TableRule};
+use std::marker::PhantomData;
+
+pub(crate) struct Buffering<T> {
+    item: PhantomData<T>,
+}
+
+impl<T> TableRule<Option<T>, View<T>, ()> for Buffering<T> {
+    ghost use Rattle.sysv_buffer.specs.Ring.{Kept, start};
+
+    ghost holds = { λ _. Kept };
+
+    ghost first = { λ _. start };
+}
+
+/// The producer's load of IN.
+pub(crate) struct CountingIn;
+
+impl<T> Play<Option<T>, View<T>> for CountingIn {
+    ghost use Rattle.sysv_buffer.specs.Steps.{CountsIn};
+
+    ghost then = { CountsIn };
+}
+
+/// The producer's load of OUT, which takes the next cell out where there is room.
+pub(crate) struct Reaching;
+
+impl<T> Play<Option<T>, View<T>> for Reaching {
+    ghost use Rattle.sysv_buffer.specs.Steps.{Reaches};
+
+    ghost then = { Reaches };
+}
+
+/// The producer's addition to IN, which gives the cell home.
+pub(crate) struct Putting;
+
+impl<T> Play<Option<T>, View<T>> for Putting {
+    ghost use Rattle.sysv_buffer.specs.Steps.{Puts};
+
+    ghost then = { Puts };
+}
+
+/// The consumer's load of OUT.
+pub(crate) struct CountingOut;
+
+impl<T> Play<Option<T>, View<T>> for CountingOut {
+    ghost use Rattle.sysv_buffer.specs.Steps.{CountsOut};
+
+    ghost then = { CountsOut };
+}
+
+/// The consumer's load of IN, which takes the next item's cell out where one waits.
+pub(crate) struct Looking;
+
+impl<T> Play<Option<T>, View<T>> for Looking {
+    ghost use Rattle.sysv_buffer.specs.Steps.{Looks};
+
+    ghost then = { Looks };
+}
+
+/// The consumer's addition to OUT, which gives the empty cell home.
+pub(crate) struct Taking;
+
+impl<T> Play<Option<T>, View<T>> for Taking {
+    ghost use Rattle.sysv_buffer.specs.Steps.{Takes};
+
+    ghost then = { Takes };
+}
+
+/// The first seat becomes the two ends.
+pub(crate) struct Parting;
+
+impl<T> Split<View<T>> for Parting {
+    ghost use Rattle.sysv_buffer.specs.Steps.{first_producer, first_consumer};
+
+    ghost left = { first_producer };
+
+    ghost right = { first_consumer };
+}

@@ -1,0 +1,7 @@
+pub mod Snoc
+pub mod Legality
+pub mod Sums
+pub mod Turns
+pub mod OneLegalReply
+pub mod Law
+pub mod Texts

@@ -1,0 +1,47 @@
+-- Texts that lie in blocks of 64 bytes.
+use Rattle.std.proofs.Common.{◌≡◌, ℕ, zero, suc, ◌+◌, ◌-◌, ◌*◌, ◌/◌, ◌%◌, ◌≤◌, ◌<◌, ◌⊎◌, inl, inr, min, List, ◌++◌, length, take, drop, sym, ap, ◌∙◌, arith, length-take, length-drop}
+use Rattle.std.proofs.Math.Seq.{take-append-add}
+use Rattle.std.proofs.lemmas.List.{take_all, take-append-le, take-append-drop, drop-drop, append-nil}
+use Rattle.sysv_model.specs.Blocks.{block_of}
+
+at_most : (a b : ℕ) → (a ≤ b) ⊎ (b < a)
+at_most zero b = inl (omega arith)
+at_most (suc a) zero = inr (omega arith)
+at_most (suc a) (suc b) = elim (at_most a b) [ inl h ↦ inl (omega arith) | inr h ↦ inr (omega arith) ]
+
+-- as many blocks as hold n bytes, rounded up either way
+pub rounded_up : (n : ℕ) → n / 64 + min 1 (n % 64) ≡ (n + 63) / 64
+rounded_up n = omega arith
+
+pub length-block_of : (k : ℕ) (body : List ℕ) → length (block_of k body) ≡ min 64 (length body - k * 64)
+length-block_of k body = length-take 64 (drop (k * 64) body) ∙ ap (λ n. min 64 n) (length-drop (k * 64) body)
+
+-- with one more block filled in front, the text lies in the blocks from there on
+pub one_more : (text body rest : List ℕ) (k : ℕ) → length text ≡ 64 → take (length (block_of k body)) text ≡ block_of k body →
+    take (length body - (k + 1) * 64) rest ≡ drop ((k + 1) * 64) body → take (length body - k * 64) (text ++ rest) ≡ drop (k * 64) body
+one_more text body rest k full written behind = elim (at_most ((k + 1) * 64) (length body)) [
+  | inl whole ↦
+      let all : length (block_of k body) ≡ 64 = omega (arith, length-block_of k body) in
+      let same : text ≡ block_of k body = sym (take_all 64 text (omega arith)) ∙ (ap (λ n. take n text) (sym all) ∙ written) in
+      let more : length body - k * 64 ≡ length text + (length body - (k + 1) * 64) = omega arith in
+      let next : drop ((k + 1) * 64) body ≡ drop 64 (drop (k * 64) body) = ap (λ n. drop n body) (omega arith) ∙ sym (drop-drop 64 (k * 64) body) in
+      ap (λ n. take n (text ++ rest)) more ∙ (take-append-add text rest _ ∙ (ap (λ t. text ++ t) (behind ∙ next) ∙ (ap (λ t. t ++ drop 64 (drop (k * 64) body)) same ∙ take-append-drop 64 (drop (k * 64) body))))
+  | inr part ↦
+      let rest_of_it : block_of k body ≡ drop (k * 64) body = take_all 64 (drop (k * 64) body) (omega (arith, length-drop (k * 64) body)) in
+      let all : length (block_of k body) ≡ length body - k * 64 = omega (arith, length-block_of k body) in
+      take-append-le (length body - k * 64) text rest (omega arith) ∙ (ap (λ n. take n text) (sym all) ∙ (written ∙ rest_of_it))
+]
+
+-- the first bytes of blocks are those of the first block and then those of the rest
+pub first_and_rest : (text rest : List ℕ) (n : ℕ) → length text ≡ 64 → take n (text ++ rest) ≡ take (min n 64) text ++ take (n - min n 64) rest
+first_and_rest text rest n full = elim (at_most n 64) [
+  | inl few ↦
+      let m : min n 64 ≡ n = omega arith in
+      let none : n - min n 64 ≡ 0 = omega arith in
+      take-append-le n text rest (omega arith) ∙ (ap (λ k. take k text) (sym m) ∙ (sym (append-nil (take (min n 64) text)) ∙ ap (λ k. take (min n 64) text ++ take k rest) (sym none)))
+  | inr many ↦
+      let m : min n 64 ≡ 64 = omega arith in
+      let more : n ≡ length text + (n - min n 64) = omega arith in
+      let all : take (min n 64) text ≡ text = take_all (min n 64) text (omega arith) in
+      ap (λ k. take k (text ++ rest)) more ∙ (take-append-add text rest _ ∙ ap (λ t. t ++ take (n - min n 64) rest) (sym all))
+]

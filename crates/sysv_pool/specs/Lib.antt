@@ -1,0 +1,9 @@
+pub use Rattle.sysv_model.specs.Pool
+pub mod Blocks
+pub mod Chain
+pub mod State
+pub mod LegalReply
+pub mod StandsFor
+pub mod Replies
+pub mod OneReply
+pub mod PoolLaw

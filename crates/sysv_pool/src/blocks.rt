@@ -1,0 +1,156 @@
+ghost use Rattle.std.specs.Prelude.{◌≡◌, ◌≢◌, ℕ, List, [], ◌∷◌, ◌++◌, ◌+◌, ◌≤◌, IsTrue, ◌↔◌, length, take, drop, IfOk};
+ghost use Rattle.std.specs.List.{concat};
+ghost use Rattle.sysv_model.specs.declared.limits.TheConstants.{BLOCK_BYTES as block_bytes, BODY_ROOM as body_room};
+ghost use Rattle.sysv_model.specs.Pool.{blocks_for};
+ghost use Rattle.sysv_pool.specs.Blocks.{contents_of};
+
+use std::alloc::Global;
+use std::marker::Model;
+use std::mem;
+use sysv_model::body::Body;
+use sysv_model::limits::BLOCK_BYTES;
+use sysv_model::no_memory::NoMemory;
+
+/// A block of 64 bytes, and those linked behind it. Its drop goes down from block to block, so no
+/// more than one is ever dropped at a time: see `free_all`.
+#[derive(Drop)]
+pub(crate) struct Block {
+    bytes: [u8; BLOCK_BYTES],
+    next: Link,
+}
+
+/// Linked blocks, or none.
+pub(crate) type Link = Option<Box<Block>>;
+
+impl Model for Block {
+    ghost use Rattle.std.specs.Prelude.{List, ℕ, ◌≡◌, ◌∷◌, length};
+    ghost use Rattle.sysv_model.specs.declared.limits.TheConstants.{BLOCK_BYTES as block_bytes};
+    ghost use Rattle.std.specs.Coded.{coded_list, coded_ℕ};
+
+    ghost Value = { List (List ℕ) };
+
+    ghost coded = { coded_list (coded_list coded_ℕ) };
+
+    ghost use Rattle.sysv_pool.specs.Blocks.{contents_of};
+
+    ghost view = { λ b. b.bytes ∷ contents_of b.next };
+
+    ghost invariant = { λ b. length b.bytes ≡ block_bytes };
+
+    ghost size = { length };
+
+    ghost use Rattle.std.proofs.Common.{arith, length-append};
+
+    ghost size_decreases = { λ a h. Prim.grind (arith, length-append) };
+}
+
+/// That many new blocks of zeros. `NoMemory` where memory is refused.
+pub(crate) fn linked(alloc: Global, blocks: u32) -> Result<Link, NoMemory>
+    ensures { IfOk result (λ link. length (contents_of link) ≡ blocks) }
+{
+    let mut link = None;
+    for _ in 0..blocks {
+        let Ok(mut block) = Box::new(
+            alloc,
+            Block {
+                bytes: [0; BLOCK_BYTES],
+                next: None,
+            },
+        ) else {
+            free_all(link);
+            return Err(NoMemory);
+        };
+        block.next = link;
+        link = Some(block);
+    }
+    Ok(link)
+}
+
+/// Frees linked blocks, one at a time.
+pub(crate) fn free_all(mut link: Link) {
+    while let Some(mut block) = link {
+        link = block.next.take();
+    }
+}
+
+/// Moves that many blocks, one by one, in front of another list.
+pub(crate) fn shift(from: &mut Link, onto: &mut Link, blocks: u32)
+    requires { blocks ≤ length (contents_of from.old) }
+    ensures from { length (contents_of from.new) + blocks ≡ length (contents_of from.old) }
+    ensures onto { length (contents_of onto.new) ≡ blocks + length (contents_of onto.old) }
+{
+    let mut rest = from.take();
+    let mut front = onto.take();
+    for _ in 0..blocks {
+        let Some(mut block) = rest else {
+            unreachable!()
+        };
+        rest = mem::replace(&mut block.next, front);
+        front = Some(block);
+    }
+    *from = rest;
+    *onto = front;
+}
+
+/// Moves all blocks, one by one, in front of another list.
+pub(crate) fn shift_all(from: Link, onto: Link) -> Link
+    ensures { length (contents_of result) ≡ length (contents_of from) + length (contents_of onto) }
+{
+    let mut rest = from;
+    let mut front = onto;
+    while let Some(mut block) = rest {
+        rest = mem::replace(&mut block.next, front);
+        front = Some(block);
+    }
+    front
+}
+
+/// Writes a piece at the front of the first block.
+fn write(block: &mut Block, piece: &[u8])
+    requires { length piece.now ≤ block_bytes }
+    ensures { (text : List ℕ) × (block.new ≡ text ∷ drop 1 block.old) × (length text ≡ block_bytes) × (take (length piece.now) text ≡ piece.now) }
+{
+    block.bytes[..piece.len()].copy_from_slice(piece);
+}
+
+/// The blocks with the text in them, the last block first filled.
+pub(crate) fn filled(link: Link, blocks: u32, body: &Body) -> Link
+    requires all { length (contents_of link) ≡ blocks }
+    requires room { blocks ≡ blocks_for (length body.now) }
+    ensures blocks { length (contents_of result) ≡ blocks }
+    ensures text { take (length body.now) (concat (contents_of result)) ≡ body.now }
+{
+    let mut rest = link;
+    let mut front = None;
+    let mut left = blocks;
+    while left > 0 {
+        left -= 1;
+        let Some(mut block) = rest else {
+            unreachable!()
+        };
+        write(&mut block, body.block(left));
+        rest = mem::replace(&mut block.next, front);
+        front = Some(block);
+    }
+    front
+}
+
+/// Adds the first `n` bytes of the blocks to the text.
+pub(crate) fn copy_front(link: &Link, n: usize, out: &mut Body)
+    requires there { n ≤ length (concat (contents_of link.now)) }
+    requires room { length out.old + n ≤ body_room }
+    ensures { out.new ≡ out.old ++ take n (concat (contents_of link.now)) }
+{
+    let mut left = n;
+    let mut link = link;
+    while let Some(block) = link {
+        let block: &Block = block;
+        if left == 0 {
+            return;
+        }
+        let piece = left.min(BLOCK_BYTES);
+        out.push_piece(&block.bytes[..piece]);
+        left -= piece;
+        link = &block.next;
+    }
+}

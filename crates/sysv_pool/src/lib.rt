@@ -1,0 +1,8 @@
+//! The pool of blocks in which message texts lie, and the chains of blocks that it hands out. `specs/` has
+//! the legal reply to each call of the pool and the law that every history of legal replies obeys.
+#![tactic(auto)]
+
+mod blocks;
+pub mod chain;
+pub mod laws;
+pub mod pool;

@@ -1,0 +1,138 @@
+ghost use Rattle.std.specs.Prelude.{◌≡◌, ◌+◌, ◌-◌, ◌^◌, ◌<◌, ◌≤◌, ◌⊎◌, ◌↔◌, [], IfOk, IfSome, Err, MatchOption, MatchResult};
+ghost use Rattle.sysv_model.specs.declared.limits.TheConstants.{MESSAGE_BYTES as most_bytes, BLOCKS_LEAST as least_blocks, BLOCKS_MOST as most_blocks};
+ghost use Rattle.sysv_model.specs.Pool.{blocks_for, Reserve, Release};
+ghost use Rattle.sysv_pool.specs.StandsFor.{StandsFor, MakesTurn};
+ghost use Rattle.sysv_pool.specs.Replies.{reserve_reply, release_reply};
+
+use crate::blocks::{Link, free_all, linked, shift, shift_all};
+use crate::chain::Chain;
+use std::alloc::Global;
+use std::marker::Model;
+use sysv_model::limits::{BLOCK_BYTES, BLOCKS_LEAST, BLOCKS_MOST};
+use thiserror::Error;
+
+/// Why a pool is not opened.
+#[derive(Clone, Copy, PartialEq, Eq, Debug, Error)]
+pub enum PoolRefused {
+    /// Memory was refused.
+    #[error("no memory")]
+    NoMemory,
+    /// The number of blocks is not 128 to 65,536.
+    #[error("a size out of range")]
+    BadSize,
+}
+
+/// The blocks in which the texts of messages lie (this profile's): some are free, the others in the
+/// chains that were reserved. A pool can't be dropped: it ends by `end`.
+pub struct Pool {
+    link: Link,
+    count: u32,
+    size: u32,
+    released: u64,
+}
+
+impl Model for Pool {
+    ghost use Rattle.std.specs.Prelude.{◌≡◌, ◌≤◌, length};
+    ghost use Rattle.sysv_model.specs.declared.limits.TheConstants.{BLOCKS_MOST as most_blocks};
+    ghost use Rattle.sysv_pool.specs.State.{State};
+    ghost use Rattle.sysv_pool.specs.Blocks.{contents_of};
+
+    ghost Value = { State };
+
+    ghost view = { λ p. record { size = p.size; free = p.count; released = p.released } };
+
+    ghost invariant = { λ p. (length (contents_of p.link) ≡ p.count) × (p.count ≤ p.size) × (p.size ≤ most_blocks) };
+}
+
+impl Pool {
+    /// A pool of 128 to 65,536 blocks, all of them free. `BadSize` for another number, `NoMemory` where
+    /// memory is refused.
+    pub fn open(alloc: Global, blocks: u32) -> Result<Pool, PoolRefused>
+        ensures opened { IfOk result (λ pool. (pool.size ≡ blocks) × StandsFor [] pool) }
+        ensures bad_size { (result ≡ Err PoolRefused.BadSize) ↔ ((blocks < least_blocks) ⊎ (most_blocks < blocks)) }
+    {
+        if blocks < BLOCKS_LEAST || blocks > BLOCKS_MOST {
+            return Err(PoolRefused::BadSize);
+        }
+        let link = linked(alloc, blocks).map_err(|_| PoolRefused::NoMemory)?;
+        Ok(Pool {
+            link,
+            count: blocks,
+            size: blocks,
+            released: 0,
+        })
+    }
+
+    /// A chain of as many blocks as a text of `size` bytes takes, with no text in it; `size` is at most 8,192.
+    /// `None`, with the pool as it was, where fewer blocks are free. It takes no memory.
+    pub fn reserve(&mut self, size: usize) -> Option<Chain>
+        requires { size ≤ most_bytes }
+        ensures turn { MakesTurn self.old (Reserve size) (reserve_reply result) self.new }
+        ensures chain { IfSome result (λ chain. chain ≡ record { blocks = blocks_for size; bytes = [] }) }
+        ensures after { MatchOption result (self.new ≡ self.old) (λ chain. self.new ≡ record self.old { free = self.old.free - chain.blocks }) }
+    {
+        let count = size.div_ceil(BLOCK_BYTES) as u32;
+        if count > self.count {
+            return None;
+        }
+        let mut link = None;
+        shift(&mut self.link, &mut link, count);
+        self.count -= count;
+        Some(Chain {
+            link,
+            count,
+            len: 0,
+        })
+    }
+
+    /// Makes the blocks of the chain free, and adds one to the released count, which is to be below 2^63; a
+    /// chain of no blocks counts too. The chain comes back, and the pool stays as it was, where more
+    /// blocks than the pool has would be free: it is of another pool. It takes no memory, and time for
+    /// each block of the chain.
+    pub fn release(&mut self, chain: Chain) -> Result<(), Chain>
+        requires { self.old.released < 2 ^ 63 }
+        ensures turn { MakesTurn self.old (Release chain.blocks) (release_reply result) self.new }
+        ensures after { MatchResult result (λ _. self.new ≡ record self.old { free = self.old.free + chain.blocks; released = self.old.released + 1 }) (λ back. (back ≡ chain) × (self.new ≡ self.old)) }
+    {
+        if chain.count > self.size - self.count {
+            return Err(chain);
+        }
+        let Chain {
+            link,
+            count,
+            len: _,
+        } = chain;
+        self.link = shift_all(link, self.link.take());
+        self.count += count;
+        self.released += 1;
+        Ok(())
+    }
+
+    /// How many blocks are free.
+    pub fn free(&self) -> u32
+        ensures { result ≡ self.now.free }
+    {
+        self.count
+    }
+
+    /// How many chains came back, those of no blocks too.
+    pub fn released(&self) -> u64
+        ensures { result ≡ self.now.released }
+    {
+        self.released
+    }
+
+    /// Frees the memory of the free blocks. The chains that are out keep theirs.
+    pub fn end(self) {
+        let Pool {
+            link,
+            count: _,
+            size: _,
+            released: _,
+        } = self;
+        free_all(link);
+    }
+}
+
+#[cfg(test)]
+mod tests;
