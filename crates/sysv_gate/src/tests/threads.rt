@@ -103,8 +103,8 @@ fn call_slowly<R: Wait + Clock>(rt: &R, gate: &Gate<Sum>, mut seat: Seat<Sum>) -
     };
     gate.reach(rt, &mut seat.token, ticket);
     thread::sleep(rt, Duration::from_secs(1));
-    gate.serve(&mut seat.token, 1);
-    gate.wake_after(ticket);
+    let (_, rose) = gate.serve(&mut seat.token, 1);
+    gate.wake_after(ticket, rose);
     true
 }
 
