@@ -1,5 +1,5 @@
 -- The counts stay announced when one view changes.
-use Rattle.std.proofs.Common.{◌≡◌, ◌≢◌, ℕ, ◌+◌, ◌<◌, ◌≤◌, ◌-◌, max, Bool, cond, true, false, List, [], ◌∷◌, ◌++◌, set, get_or, sym, ap, ◌∙◌, subst, arith, refl, ⊎_elim, get_or-set_other, lt_of_not-le}
+use Rattle.std.proofs.Common.{◌≡◌, ℕ, ◌+◌, ◌<◌, ◌≤◌, cond, false, List, [], ◌∷◌, ◌++◌, set, get_or, sym, ap, ◌∙◌, subst, arith, refl, ⊎_elim, get_or-set_other, lt_of_not-le}
 use Rattle.std.specs.Prelude.{nat_lt, sum_by}
 use mathlib.Core.Option.{some}
 use mathlib.Core.Logic.{dite}

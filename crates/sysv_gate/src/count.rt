@@ -4,10 +4,12 @@ ghost use Rattle.sysv_gate.specs.Counts.{word_of};
 
 use crate::board::{ARRIVED, FREED};
 
-/// One of the two counts.
+/// One of the two counts of an object.
 #[derive(Clone, Copy)]
-pub(crate) enum Count {
+pub enum Count {
+    /// The first.
     Arrived,
+    /// The second.
     Freed,
 }
 

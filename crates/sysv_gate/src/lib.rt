@@ -22,6 +22,7 @@ mod waits;
 
 pub use awaited::Awaited;
 pub use closing::Closing;
+pub use count::Count;
 pub use gate::Gate;
 pub use laws::{counts_outside_a_turn, no_turn_of_two_seats, one_history, one_turn_at_a_time};
 pub use object::Object;
