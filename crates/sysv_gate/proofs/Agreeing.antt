@@ -1,11 +1,14 @@
 -- The rule's laws.
-use Rattle.std.proofs.Common.{◌≡◌, ◌⊎◌, inl, inr, ⊎_elim, ℕ, zero, suc, ◌+◌, ◌≤◌, List, [], ◌∷◌, ◌++◌, refl, sym, ◌∙◌, arith}
+use Rattle.std.proofs.Common.{◌≡◌, ◌⊎◌, inl, inr, ⊎_elim, ℕ, zero, suc, ◌+◌, ◌≤◌, List, [], ◌∷◌, ◌++◌, get_or, refl, sym, ◌∙◌, arith}
 use Rattle.sysv_gate.specs.declared.view.View.{View}
 use Rattle.sysv_gate.specs.declared.view.Turn.{Turn}
 use Rattle.sysv_gate.specs.Numbers.{times}
 use Rattle.sysv_gate.specs.History.{BeginsWith, made_at}
-use Rattle.sysv_gate.specs.Laws.{OneTurnAtATime, NoTurnOfTwoSeats, OneHistory}
+use Rattle.sysv_gate.specs.Laws.{OneTurnAtATime, NoTurnOfTwoSeats, OneHistory, CountsOutsideATurn}
 use Rattle.sysv_gate.proofs.Sums.{two-le-sum_by}
+use Rattle.sysv_gate.specs.Counts.{word_of, of_count}
+use Rattle.sysv_gate.specs.History.{after_all}
+use Rattle.sysv_gate.proofs.Announcing.{exactly}
 use Rattle.sysv_gate.proofs.Keeping.{served_alone}
 
 -- of two beginnings of a list the one begins the other
@@ -41,3 +44,13 @@ module _ {O C R : Type 0} where
         let one = (kept.each i v at).seen in
         let two = (kept.each k w there).seen in
         begin_each_other v.seen w.seen one.0 two.0 (sym one.1 ∙ two.1)
+
+    pub counts_outside : (counted : O → ℕ × ℕ) → CountsOutsideATurn {C = C} {R = R} moves counted
+    counts_outside counted opening first s held nobody = (
+      held.2.0,
+      held.2.2.legal,
+      held.2.1,
+      λ count.
+          let told = held.2.3 count in
+          exactly count (of_count count (counted (after_all opening held.2.0))) (get_or s.words (word_of count) 0) s.views told (λ k u there. told.quiet k u there (nobody k u there)),
+    )

@@ -56,6 +56,10 @@ pub marked_by : (b : Bool) (n d : ℕ) → (b ≡ true → 2 ^ 62 ≤ d) → n �
 marked_by true n d was le now = was refl
 marked_by false n d was le now = grind (arith, nat_tests)
 
+-- what rises by one at most rises by one where it is more than before
+pub risen_by : (before after : ℕ) → before ≤ after → after ≤ before + 1 → after ≡ before + cond (nat_lt before after) 1 0
+risen_by before after le most = grind (arith, nat_tests)
+
 pub not_true : (b : Bool) → ¬ (b ≡ true) → b ≡ false
 not_true true h = absurd (h refl)
 not_true false h = refl

@@ -24,6 +24,8 @@ use Rattle.sysv_gate.specs.contracts.place.Place as place
 use Rattle.sysv_gate.specs.contracts.rule.Key as key
 use Rattle.sysv_gate.specs.contracts.seat.Seat as seat
 use Rattle.sysv_gate.specs.contracts.seat.Seat.TheInside as inside
+use Rattle.sysv_gate.specs.contracts.bell.Bell as bell
+use Rattle.sysv_gate.proofs.bell.Bell.TheSendSync as bells
 use Rattle.sysv_gate.specs.contracts.gate.Gate as gate
 use Rattle.sysv_gate.specs.contracts.gate.Gate.TheInside as within
 
@@ -60,8 +62,8 @@ seat_send O C R g s = view_send (inside.the_row O C R g) _ _ _ _ (inside_send O 
 pub gate_sync : (O C R : RattleType) (g : Ghosts O.Denot C.Denot R.Denot) → IsSend O → IsSync (gate.the_row O C R g)
 gate_sync O C R g s = view_sync (within.the_row O C R g) _ _ _ _
     (declared_sync (within.the_type O C R g) (
-      tables.the_sync (option.the_row (place.the_row O C R)) (view.the_row O C R) (key.the_row O) (gating.the_row O) heap.the_row (record { holds = λ k. Gated (Moves g.meaning g.counted) k.opening.value k.first; first = λ k. start k.opening.value k.first }) _ (spot_send O C R s) heaps.the_send heaps.the_sync frees,
-      (key_sync O, tt),
+      tables.the_sync (option.the_row (place.the_row O C R)) (view.the_row O C R) (key.the_row O) (gating.the_row O) heap.the_row (record { holds = λ k. Gated (Moves g.meaning g.counted) g.counted k.opening.value k.first; first = λ k. start k.opening.value k.first }) _ (spot_send O C R s) heaps.the_send heaps.the_sync frees,
+      (key_sync O, (as_row_sync bell.the_field bells.the_field_sync, (as_row_sync bell.the_field bells.the_field_sync, tt))),
     ))
 
 -- what a closure captures goes to another thread where each part may

@@ -37,6 +37,12 @@ module _ {O C R : Type 0} where
     rises f each o [] legal = omega arith
     rises f each o (u ∷ us) legal = let first = each o u.call u.reply u.after legal.0 in let more = rises f each u.after us legal.1 in omega arith
 
+    -- what falls in no turn is no less after more turns
+    pub grows_on : (f : O → ℕ) → ((o : O) (c : C) (r : R) (o' : O) → moves o c r o' → f o ≤ f o') → (o : O) (ts us : List (Turn O C R)) → IsLegal moves o (ts ++ us) → f (after_all o ts) ≤ f (after_all o (ts ++ us))
+    grows_on f each o [] [] legal = omega arith
+    grows_on f each o [] (u ∷ us) legal = let first = each o u.call u.reply u.after legal.0 in let more = grows_on f each u.after [] us legal.1 in omega arith
+    grows_on f each o (t ∷ ts) us legal = grows_on f each t.after ts us legal.1
+
   -- who has no number has made no turn
   pub made_at-nobody : (ts : List (Turn O C R)) (p : ℕ) → made_at [] ts p ≡ 0
   made_at-nobody [] p = refl

@@ -14,7 +14,7 @@ use Rattle.sysv_gate.specs.Numbers.{times, once_between, NoneTwice}
 use Rattle.sysv_gate.specs.History.{BeginsWith, after_all, made_at, HasItsOwn}
 use Rattle.sysv_gate.specs.Rule.{Homes, put, IsHome, bearers, Fits, IsKept}
 use Rattle.sysv_gate.specs.Steps.{turn_of, ended}
-use Rattle.sysv_gate.proofs.Sums.{set_at, one_there, each_set, each_before, sum_by-set_at, at-le-sum_by, two-le-sum_by}
+use Rattle.sysv_gate.proofs.Sums.{set_at, at_below, one_there, each_set, each_before, sum_by-set_at, at-le-sum_by, two-le-sum_by}
 use Rattle.sysv_gate.proofs.Counting.{times-snoc, times-one, the-one, once_between-drop, once_between-le, first_between, not_true, another}
 use Rattle.sysv_gate.proofs.Histories.{begins_self, begins_snoc, after_all-snoc, legal-snoc, made_at-le, made_at-mine, made_at-theirs}
 
@@ -87,6 +87,23 @@ module _ {O C R : Type 0} (moves : O → C → R → O → Type 0) (opening : O)
       subst (λ (k : ℕ). bearers k views ≡ 0) (sym t.0) old)
       (λ t. before i u t.1 o is empty) (at_set views id i w u there)
 
+  -- being alone is kept
+  pub still_alone : (log : Log) (views : List V) (id : ℕ) (w : V) → ((k : ℕ) (u : V) → get_elem? views k ≡ some u → u.alone ≡ true → (length views ≡ 1) × (u.seen ≡ log)) → (w.alone ≡ true → (length views ≡ 1) × (w.seen ≡ log))
+      → (k : ℕ) (u : V) → get_elem? (set views id w) k ≡ some u → u.alone ≡ true → (length (set views id w) ≡ 1) × (u.seen ≡ log)
+  still_alone log views id w before lone k u there mark =
+      let is = each_set (λ (x : V). x.alone ≡ true → (length views ≡ 1) × (x.seen ≡ log)) (λ (x : V). x.alone ≡ true → (length views ≡ 1) × (x.seen ≡ log)) views id w before (λ _ _ _ _ p. p) lone k u there mark in
+      (length-set views id w ∙ is.0, is.1)
+
+  -- beside another view none is alone
+  pub not_alone : (log : Log) (views : List V) (id k : ℕ) (v u : V) → ((i : ℕ) (x : V) → get_elem? views i ≡ some x → x.alone ≡ true → (length views ≡ 1) × (x.seen ≡ log)) → get_elem? views id ≡ some v → k ≢ id → get_elem? views k ≡ some u → u.alone ≡ false
+  not_alone log views id k v u before at other there =
+      not_true u.alone
+      (λ mark.
+      let one = (before k u there mark).0 in
+      let here = at_below views id v at in
+      let there = at_below views k u there in
+      other (omega arith))
+
   wider : (log : Log) (drawn drawn' : ℕ) → drawn ≤ drawn' → (v : V) → Fits opening first log drawn v → Fits opening first log drawn' v
   wider log drawn drawn' le v fits = record { start = fits.start; seen = fits.seen; also = fits.also; turn = fits.turn; own = fits.own; worn = λ mark. let limit = fits.worn mark in omega arith }
 
@@ -98,8 +115,9 @@ module _ {O C R : Type 0} (moves : O → C → R → O → Type 0) (opening : O)
       → ((x : ℕ) → times x w.tickets + once_between (first + length log) drawn x ≡ times x v.tickets + once_between (first + length log) drawn' x)
       → (w.in_turn ≡ false → (v.in_turn ≡ false) × (homes' ≡ homes))
       → Fits opening first log drawn' w
+      → (w.alone ≡ true → (length views ≡ 1) × (w.seen ≡ log))
       → IsKept moves opening first log drawn' homes' (set views id w)
-  stays log drawn drawn' id homes homes' views v w kept at le limit same opens tickets idle fits =
+  stays log drawn drawn' id homes homes' views v w kept at le limit same opens tickets idle fits lone =
       let order = kept.order in record {
         legal = kept.legal;
         tickets = λ x.
@@ -117,6 +135,7 @@ module _ {O C R : Type 0} (moves : O → C → R → O → Type 0) (opening : O)
         home = λ none.
             let stood = idle (none id w (set_at views id v w at)) in
             subst (IsHome (after_all opening log)) (sym stood.1) (kept.home (each_before (λ (u : V). u.in_turn ≡ false) views id v w at none stood.0));
+        alone = still_alone log views id w kept.alone lone;
       }
 
   -- the fit of another view after the turn of the view v
@@ -198,5 +217,9 @@ module _ {O C R : Type 0} (moves : O → C → R → O → Type 0) (opening : O)
           each = each_set (Fits opening first log drawn) (Fits opening first (log ++ t ∷ []) drawn) views id w kept.each (others_fit log drawn id homes views v call reply after kept at holds named)
               (ended_fits log drawn v call reply after fits whole (omega arith));
           home = λ _. (last, subst (λ (o : O). get_elem? homes' 0 ≡ some (some (put o last))) (sym (after_all-snoc opening log t)) home);
+          alone = λ k u there mark.
+              ⊎_elim
+              (λ r. ((length-set views id w ∙ (kept.alone id v at (ap (λ (x : V). x.alone) r.1 ∙ mark)).0), ap (λ (x : V). x.seen) (sym r.1) ∙ ap (λ (l : Log). l ++ t ∷ []) whole))
+              (λ r. absurd (true≢false (sym mark ∙ not_alone log views id k v u kept.alone at r.0 r.1))) (at_set views id k w u there);
         },
       )

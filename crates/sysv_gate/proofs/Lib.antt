@@ -2,6 +2,7 @@ pub mod Sums
 pub mod Counting
 pub mod Histories
 pub mod Keeping
+pub mod Announcing
 pub mod Stepping
 pub mod Opening
 pub mod Turning

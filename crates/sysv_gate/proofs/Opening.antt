@@ -1,5 +1,5 @@
 -- The rule holds when a gate is opened.
-use Rattle.std.proofs.Common.{◌≡◌, ℕ, ◌+◌, ◌^◌, ◌≤◌, List, [], ◌∷◌, length, get_or, refl, sym, ap, subst, ⊎_elim, arith, ◌∙◌, map}
+use Rattle.std.proofs.Common.{◌≡◌, ℕ, ◌+◌, ◌^◌, ◌≤◌, List, [], ◌∷◌, ◌++◌, length, get_or, refl, sym, ap, subst, ⊎_elim, arith, ◌∙◌, map}
 use Rattle.std.specs.Prelude.{Some, None, sum_by}
 use mathlib.Core.Bool.{true≢false}
 use mathlib.Core.Option.{some, some-ne-none}
@@ -9,10 +9,18 @@ use Rattle.atomic_table.specs.Table.{opening}
 use Rattle.atomic_table.proofs.Lists.{at_snoc}
 use Rattle.sysv_gate.specs.declared.view.View.{View}
 use Rattle.sysv_gate.specs.Numbers.{times, once_between}
-use Rattle.sysv_gate.specs.Rule.{Spot, put, bearers, Fits, IsKept, Gated, start}
+use Rattle.sysv_gate.specs.Rule.{Spot, put, bearers, Fits, IsKept, IsAnnounced, AreAnnounced, Gated, start}
+use Rattle.sysv_gate.specs.declared.count.Count.{Count}
+use Rattle.sysv_gate.specs.declared.count.Count.TheVariants.{Arrived, Freed}
+use Rattle.sysv_gate.specs.Counts.{of_count}
+use Rattle.sysv_gate.proofs.Announcing.{none_yet}
 use Rattle.sysv_gate.proofs.Counting.{once_between-same, times-one, one-le-one}
 
-module _ {O C R : Type 0} (moves : O → C → R → O → Type 0) where
+-- a list of one, which was empty before
+pub pushed : {A : Type 0} (xs ys : List A) (x y : A) → ys ≡ xs ++ x ∷ [] → xs ≡ [] → x ≡ y → ys ≡ y ∷ []
+pushed xs ys x y more empty same = more ∙ ap (λ l. l ++ x ∷ []) empty ∙ ap (λ z. z ∷ []) same
+
+module _ {O C R : Type 0} (moves : O → C → R → O → Type 0) (counted : O → ℕ × ℕ) where
   fits_start : (o : O) (first : ℕ) → Fits {C = C} {R = R} o first [] first (start o first)
   fits_start o first = record {
     start = λ p is. let shown : Some o ≡ Some p = is in let same : p ≡ o = cc in (same, refl);
@@ -41,12 +49,25 @@ module _ {O C R : Type 0} (moves : O → C → R → O → Type 0) where
     known = λ x none p. refl;
     each = λ i v at. ⊎_elim (λ t. absurd (some-ne-none v (sym t))) (λ t. subst (Fits o first [] first) t (fits_start o first)) (at_snoc [] (start o first) v i at);
     home = λ _. (None, refl);
+    alone = λ i v at _. (refl, ⊎_elim (λ t. absurd (some-ne-none v (sym t))) (λ t. ap (λ (u : View O C R). u.seen) (sym t)) (at_snoc [] (start o first) v i at));
   }
 
+  told_one : (count : Count) (o : O) (first value : ℕ) → value ≡ of_count count (counted o) → IsAnnounced {C = C} {R = R} count (of_count count (counted o)) value (start o first ∷ [])
+  told_one count o first value is =
+      let none = none_yet count in record {
+        value = is ∙ (omega arith);
+        quiet = λ i v at _. ⊎_elim (λ t. absurd (some-ne-none v (sym t))) (λ t. subst (λ (u : View O C R). of_count count u.announced ≡ 0) t none) (at_snoc [] (start o first) v i at);
+        read = λ i v at. ⊎_elim (λ t. absurd (some-ne-none v (sym t))) (λ t. subst (λ (u : View O C R). of_count count u.read ≤ value) t (omega arith)) (at_snoc [] (start o first) v i at);
+      }
+
+  told_at_start : (o : O) (first : ℕ) (ws : List ℕ) → get_or ws 32 0 ≡ (counted o).0 → get_or ws 48 0 ≡ (counted o).1 → AreAnnounced {C = C} {R = R} counted o ws (start o first ∷ [])
+  told_at_start o first ws arrived freed Arrived = told_one Arrived o first (get_or ws 32 0) arrived
+  told_at_start o first ws arrived freed Freed = told_one Freed o first (get_or ws 48 0) freed
+
   -- the table of a new gate
-  pub starts : (o : O) (first : ℕ) (ws : List ℕ) (xs : List (Spot O C R)) → length ws ≡ 32 → get_or ws 0 0 ≡ first → get_or ws 16 0 ≡ first → xs ≡ put o None ∷ [] → first ≤ 2 ^ 62
-      → Gated moves o first (opening ws xs (start o first))
-  starts o first ws xs wide serves draws is le = (
+  pub starts : (o : O) (first : ℕ) (ws : List ℕ) (xs : List (Spot O C R)) → length ws ≡ 64 → get_or ws 0 0 ≡ first → get_or ws 16 0 ≡ first → get_or ws 32 0 ≡ (counted o).0 → get_or ws 48 0 ≡ (counted o).1 → xs ≡ put o None ∷ [] → first ≤ 2 ^ 62
+      → Gated moves counted o first (opening ws xs (start o first))
+  starts o first ws xs wide serves draws arrived freed is le = (
     wide,
     ap (λ (ys : List (Spot O C R)). length (map some ys)) is,
     (
@@ -54,5 +75,6 @@ module _ {O C R : Type 0} (moves : O → C → R → O → Type 0) where
       serves ∙ (omega arith),
       subst (λ (ys : List (Spot O C R)). IsKept moves o first [] (get_or ws 16 0) (map some ys) (start o first ∷ [])) (sym is)
           (subst (λ (n : ℕ). IsKept moves o first [] n (some (put o None) ∷ []) (start o first ∷ [])) (sym draws) (kept_at_start o first le)),
+      told_at_start o first ws arrived freed,
     ),
   )

@@ -1,5 +1,5 @@
 -- How seats come, and how one is joined into another.
-use Rattle.std.proofs.Common.{◌≡◌, ◌≢◌, ℕ, zero, suc, ◌+◌, ◌^◌, ◌<◌, ◌≤◌, ◌||◌, Bool, true, false, List, [], ◌∷◌, ◌++◌, ◌⊎◌, inl, inr, ⊎_elim, length, set, get_or, refl, sym, ap, ◌∙◌, subst, arith, length-set, length-append, Some, None}
+use Rattle.std.proofs.Common.{◌≡◌, ◌≢◌, ℕ, zero, suc, ◌+◌, ◌^◌, ◌≤◌, ◌||◌, Bool, true, false, List, [], ◌∷◌, ◌++◌, ◌⊎◌, inl, inr, ⊎_elim, length, set, get_or, refl, sym, ap, ◌∙◌, subst, arith, length-set, length-append, Some, None}
 use mathlib.Core.Bool.{true≢false}
 use mathlib.Core.Logic.{dite}
 use native.Mathlib.Decide.{ℕ_discrete}
@@ -7,34 +7,31 @@ use mathlib.Core.Option.{none, some, some-injective, some-ne-none}
 use lib.ListN.{get_elem?}
 use Rattle.std.proofs.lemmas.List.Sums.{sum_by_push}
 use Rattle.atomic_table.specs.Table.{State, step, keeps, Allows, Splits, Joins}
-use Rattle.atomic_table.proofs.Lists.{at_set, at_longer, at_snoc, set_else, set_again}
+use Rattle.atomic_table.proofs.Lists.{at_set, at_longer, at_snoc, set_else}
 use Rattle.sysv_gate.specs.declared.view.View.{View}
 use Rattle.sysv_gate.specs.declared.view.Turn.{Turn}
 use Rattle.sysv_gate.specs.Numbers.{times}
-use Rattle.sysv_gate.specs.History.{BeginsWith, IsLegal, made_at, HasItsOwn}
-use Rattle.sysv_gate.specs.Rule.{Homes, Spot, bearers, Fits, IsKept, Gated}
+use Rattle.sysv_gate.specs.History.{BeginsWith, IsLegal, after_all, made_at, HasItsOwn}
+use Rattle.sysv_gate.specs.Counts.{word_of, of_count, larger}
+use Rattle.sysv_gate.specs.Rule.{Homes, Spot, bearers, Fits, IsKept, AreAnnounced, Gated}
 use Rattle.sysv_gate.specs.Gates.{Gateway, Holding}
 use Rattle.sysv_gate.specs.Gates.{Joins as Joined}
-use Rattle.sysv_gate.specs.Steps.{Mine, newcomer, named, both_of, spent, merged, Names, Gathers, Merges}
-use Rattle.sysv_gate.proofs.Sums.{each_set, each_before, sum_by-set_at}
+use Rattle.sysv_gate.specs.Steps.{Mine, parted, newcomer, named, both_of, spent, merged, Names, Gathers, Merges}
+use Rattle.sysv_gate.proofs.Sums.{set_at, at_below, each_set, each_before, sum_by-set_at}
 use Rattle.sysv_gate.proofs.Counting.{times-one, times-append, one-le-one, another}
 use Rattle.sysv_gate.proofs.Histories.{begins_self, made_at-nobody, made_at-append}
-use Rattle.sysv_gate.proofs.Keeping.{own_turns, stays}
-use Rattle.sysv_gate.proofs.Stepping.{on_serving}
+use Rattle.sysv_gate.proofs.Keeping.{own_turns, stays, still_alone, not_alone}
+use Rattle.sysv_gate.proofs.Announcing.{none_yet, larger_up_to, counts_on, counts_more}
+use Rattle.sysv_gate.proofs.Stepping.{on_serving, told_on}
 
 module _ {A : Type 0} where
-  at_below : (xs : List A) (i : ℕ) (a : A) → get_elem? xs i ≡ some a → i < length xs
-  at_below [] i a at = absurd (some-ne-none a (sym at))
-  at_below (x ∷ xs) zero a at = omega arith
-  at_below (x ∷ xs) (suc i) a at = let r = at_below xs i a at in omega arith
-
   at_snoc_place : (xs : List A) (b a : A) (k : ℕ) → get_elem? (xs ++ b ∷ []) k ≡ some a → (get_elem? xs k ≡ some a) ⊎ ((k ≡ length xs) × (b ≡ a))
   at_snoc_place [] b a zero at = inr (refl, some-injective b a at)
   at_snoc_place [] b a (suc k) at = absurd (some-ne-none a (sym at))
   at_snoc_place (x ∷ xs) b a zero at = inl at
   at_snoc_place (x ∷ xs) b a (suc k) at = ⊎_elim inl (λ t. inr (ap suc t.0, t.1)) (at_snoc_place xs b a k at)
 
-module _ {O C R : Type 0} (moves : O → C → R → O → Type 0) (opening : O) (first : ℕ) where
+module _ {O C R : Type 0} (moves : O → C → R → O → Type 0) (counted : O → ℕ × ℕ) (opening : O) (first : ℕ) where
   abbrev V : Type 0
   V = View O C R
 
@@ -48,7 +45,10 @@ module _ {O C R : Type 0} (moves : O → C → R → O → Type 0) (opening : O)
   M = Mine O C R
 
   abbrev Holds : St → Type 0
-  Holds = Gated moves opening first
+  Holds = Gated moves counted opening first
+
+  abbrev Told : Log → List ℕ → List V → Type 0
+  Told log words views = AreAnnounced counted (after_all opening log) words views
 
   -- a number that was none's becomes the seat's
   naming_keeps : (log : Log) (drawn id : ℕ) (homes : Homes O C R) (views : List V) (v : V) (o : O) → IsKept moves opening first log drawn homes views → get_elem? views id ≡ some v → v.opening ≡ Some o → v.numbers ≡ [] → v.in_turn ≡ false
@@ -94,6 +94,7 @@ module _ {O C R : Type 0} (moves : O → C → R → O → Type 0) (opening : O)
               worn = fits.worn;
             });
         home = λ turns. kept.home (each_before (λ (u : V). u.in_turn ≡ false) views id v w at turns idle);
+        alone = still_alone moves opening first log views id w kept.alone (kept.alone id v at);
       }
 
   pub names : (slots id : ℕ) (me : M) (o : O) → me.0.opening ≡ Some o → me.0.numbers ≡ [] → me.0.in_turn ≡ false → Allows Holds slots id me 0 (λ n. n) (Names (step slots 0 0 0 none) me)
@@ -103,14 +104,15 @@ module _ {O C R : Type 0} (moves : O → C → R → O → Type 0) (opening : O)
         w,
         keeps,
         tt,
-        on_serving moves opening first s log (get_or s.words 0 0) s.homes (set s.views id w) held.0 held.1 held.2.1
-            (naming_keeps log (get_or s.words 16 0) id s.homes s.views me.0 o held.2.2 at knows empty idle),
+        on_serving moves counted opening first s log (get_or s.words 0 0) s.homes (set s.views id w) held.0 held.1 held.2.1
+            (naming_keeps log (get_or s.words 16 0) id s.homes s.views me.0 o held.2.2 at knows empty idle) (told_on moves counted opening first s log id me.0 w held.2.3 at refl (λ _. idle) refl),
         (id, refl),
       )
 
   -- a seat comes that has seen what another has
-  coming_keeps : (log : Log) (drawn id : ℕ) (homes : Homes O C R) (views : List V) (v : V) → IsKept moves opening first log drawn homes views → get_elem? views id ≡ some v → IsKept moves opening first log drawn homes (views ++ newcomer v ∷ [])
-  coming_keeps log drawn id homes views v kept at =
+  coming_keeps : (log : Log) (drawn id : ℕ) (homes : Homes O C R) (views : List V) (v : V) → IsKept moves opening first log drawn homes views → get_elem? views id ≡ some v → ((k : ℕ) (u : V) → get_elem? views k ≡ some u → u.alone ≡ false)
+      → IsKept moves opening first log drawn homes (views ++ newcomer v ∷ [])
+  coming_keeps log drawn id homes views v kept at beside =
       let w : V = newcomer v in
       let fits = kept.each id v at in
       let same : (x : ℕ) → bearers x (views ++ w ∷ []) ≡ bearers x views = λ x. let sums = sum_by_push (λ (u : V). times x u.numbers) views w in omega arith in
@@ -136,13 +138,38 @@ module _ {O C R : Type 0} (moves : O → C → R → O → Type 0) (opening : O)
               worn = fits.worn;
             })) (at_snoc views w u k there);
         home = λ turns. kept.home (λ k u there. turns k u (at_longer views (w ∷ []) k u there));
+        alone = λ k u there mark. absurd (⊎_elim (λ t. true≢false (sym mark ∙ beside k u t)) (λ t. true≢false (sym mark ∙ ap (λ (x : V). x.alone) (sym t))) (at_snoc views w u k there));
       }
 
-  pub splits : (id : ℕ) (v : V) → Splits Holds id v v (newcomer v)
+  -- a seat is not alone any more
+  parting_keeps : (log : Log) (drawn id : ℕ) (homes : Homes O C R) (views : List V) (v : V) → IsKept moves opening first log drawn homes views → get_elem? views id ≡ some v → IsKept moves opening first log drawn homes (set views id (parted v))
+  parting_keeps log drawn id homes views v kept at =
+      let fits = kept.each id v at in
+      stays moves opening first log drawn drawn id homes homes views v (parted v) kept at (omega arith) kept.limit refl refl (λ x. refl) (λ idle. (idle, refl))
+      (record { start = fits.start; seen = fits.seen; also = fits.also; turn = fits.turn; own = fits.own; worn = fits.worn }) (λ mark. absurd (true≢false (sym mark)))
+
+  none_alone : (log : Log) (views : List V) (id : ℕ) (v : V) → ((k : ℕ) (u : V) → get_elem? views k ≡ some u → u.alone ≡ true → (length views ≡ 1) × (u.seen ≡ log)) → get_elem? views id ≡ some v
+      → (k : ℕ) (u : V) → get_elem? (set views id (parted v)) k ≡ some u → u.alone ≡ false
+  none_alone log views id v before at k u there =
+      ⊎_elim (λ t. ap (λ (x : V). x.alone) (sym t.1)) (λ t. not_alone moves opening first log views id k v u before at t.0 t.1) (at_set views id k (parted v) u there)
+
+  pub splits : (id : ℕ) (v : V) → Splits Holds id v (parted v) (newcomer v)
   splits id v s held at =
       let log : Log = held.2.0 in
-      let come = coming_keeps log (get_or s.words 16 0) id s.homes s.views v held.2.2 at in
-      (held.0, held.1, (log, held.2.1, subst (λ (l : List V). IsKept moves opening first log (get_or s.words 16 0) s.homes (l ++ newcomer v ∷ [])) (sym (set_again s.views id v at)) come))
+      let drawn : ℕ = get_or s.words 16 0 in
+      let p : V = parted v in
+      let here = set_at s.views id v p at in
+      let kept = parting_keeps log drawn id s.homes s.views v held.2.2 at in
+      let told = told_on moves counted opening first s log id v p held.2.3 at refl (λ idle. idle) refl in (
+        held.0,
+        held.1,
+        (
+          log,
+          held.2.1,
+          coming_keeps log drawn id s.homes (set s.views id p) p kept here (none_alone log s.views id v held.2.2.alone at),
+          counts_more counted (after_all opening log) s.words id (set s.views id p) p (newcomer v) told here none_yet refl,
+        ),
+      )
 
   -- one seat takes in another
   joining_keeps : (log : Log) (drawn id other : ℕ) (homes : Homes O C R) (views : List V) (v w : V) → IsKept moves opening first log drawn homes views → get_elem? views id ≡ some v → other ≢ id
@@ -199,6 +226,7 @@ module _ {O C R : Type 0} (moves : O → C → R → O → Type 0) (opening : O)
               worn = λ mark. absurd (true≢false (sym mark));
             });
         home = λ turns. kept.home (each_before (λ (u : V). u.in_turn ≡ false) views id v b at (each_before (λ (u : V). u.in_turn ≡ false) middle other w spent still turns idle') idle);
+        alone = still_alone moves opening first log middle other spent (still_alone moves opening first log views id b kept.alone (λ mark. absurd (true≢false (sym mark)))) (λ mark. absurd (true≢false (sym mark)));
       }
     where
       either_worn : (a b : Bool) (d : ℕ) → (a ≡ true → 2 ^ 62 ≤ d) → (b ≡ true → 2 ^ 62 ≤ d) → (a || b) ≡ true → 2 ^ 62 ≤ d
@@ -208,7 +236,20 @@ module _ {O C R : Type 0} (moves : O → C → R → O → Type 0) (opening : O)
   pub joins : (id other : ℕ) (v w : V) → 1 ≤ times v.number v.numbers → v.in_turn ≡ false → w.tickets ≡ [] → w.in_turn ≡ false → Joins Holds id v other w (both_of v w) spent
   joins id other v w named idle empty idle' s held at apart still =
       let log : Log = held.2.0 in
-      (held.0, held.1, (log, held.2.1, joining_keeps log (get_or s.words 16 0) id other s.homes s.views v w held.2.2 at apart still named idle empty idle'))
+      let b : V = both_of v w in
+      let there : get_elem? s.views other ≡ some w = sym (set_else s.views id other b apart) ∙ still in
+      let told : Told log s.words (set (set s.views id b) other spent) = λ count.
+      let known : ℕ = of_count count (counted (after_all opening log)) in
+      let value : ℕ = get_or s.words (word_of count) 0 in
+      let before = held.2.3 count in
+      let quiet = before.quiet id v at idle in
+      let quiet' = before.quiet other w there idle' in
+      let read = before.read id v at in
+      let read' = before.read other w there in
+      let none = none_yet count in
+      counts_on count known known value value other (set s.views id b) w spent
+      (counts_on count known known value value id s.views v b before at (omega arith) (omega arith) (λ _. quiet) (larger_up_to count v.read w.read value read read')) still (omega arith) (omega arith) (λ _. none) (omega arith) in
+      (held.0, held.1, (log, held.2.1, joining_keeps log (get_or s.words 16 0) id other s.homes s.views v w held.2.2 at apart still named idle empty idle', told))
 
   pub merges : (slots id : ℕ) (me : M) → me.0.in_turn ≡ false → Allows Holds slots id me 0 (λ n. n) (Merges moves (step slots 0 0 0 none) me)
   merges slots id me idle s held _ at _ =
@@ -220,9 +261,10 @@ module _ {O C R : Type 0} (moves : O → C → R → O → Type 0) (opening : O)
         w,
         keeps,
         tt,
-        on_serving moves opening first s log (get_or s.words 0 0) s.homes (set s.views id w) held.0 held.1 held.2.1
+        on_serving moves counted opening first s log (get_or s.words 0 0) s.homes (set s.views id w) held.0 held.1 held.2.1
             (stays moves opening first log drawn drawn id s.homes s.homes s.views me.0 w kept at (omega arith) kept.limit refl refl (λ x. refl) (λ _. (idle, refl))
-            (record { start = fits.start; seen = begins_self log; also = (log, refl); turn = λ turn. absurd (true≢false (sym turn ∙ idle)); own = fits.own; worn = fits.worn })),
+            (record { start = fits.start; seen = begins_self log; also = (log, refl); turn = λ turn. absurd (true≢false (sym turn ∙ idle)); own = fits.own; worn = fits.worn }) (λ mark. ((kept.alone id me.0 at mark).0, refl)))
+            (told_on moves counted opening first s log id me.0 w held.2.3 at refl (λ _. idle) refl),
         λ o is.
             let same : opening ≡ o = sym (fits.start o is).0 in
             record { log = log; one = fits.seen; two = fits.also; is = refl; legal = subst (λ (p : O). IsLegal moves p log) same kept.legal; own = own_turns moves opening first log drawn id s.homes s.views me.0 kept at },
@@ -260,11 +302,12 @@ module _ {O C R : Type 0} where
     pub seen : v.seen ≡ h.seen
     pub own : v.own ≡ h.own
     pub worn : v.worn ≡ h.worn
+    pub read : v.read ≡ h.read
 
   pub joins_holding : (moves : O → C → R → O → Type 0) (one two : Holding O C R) (gate : Gateway O) (v w : View O C R) (slots : List (ℕ × Spot O C R)) (m : Mine O C R) → gate ≡ one.gate → Shows one v
-      → w.numbers ≡ two.numbers → w.seen ≡ two.seen → w.own ≡ two.own → w.worn ≡ two.worn → Gathered moves one.gate.opening v w slots m
-      → Joined moves one two (record { gate = gate; number = m.0.number; numbers = m.0.numbers; seen = m.0.seen; own = m.0.own; worn = m.0.worn })
-  joins_holding moves one two gate v w slots m same shows numbers seen own worn told =
+      → w.numbers ≡ two.numbers → w.seen ≡ two.seen → w.own ≡ two.own → w.worn ≡ two.worn → w.read ≡ two.read → Gathered moves one.gate.opening v w slots m
+      → Joined moves one two (record { gate = gate; number = m.0.number; numbers = m.0.numbers; seen = m.0.seen; own = m.0.own; worn = m.0.worn; read = m.0.read; alone = m.0.alone })
+  joins_holding moves one two gate v w slots m same shows numbers seen own worn read told =
       let log : List (Turn O C R) = told.log in
       let is = told.is in record {
         seen = log;
@@ -277,6 +320,8 @@ module _ {O C R : Type 0} where
           seen = ap (λ (x : Mine O C R). x.0.seen) is i;
           own = (ap (λ (x : Mine O C R). x.0.own) is ∙ (λ j. shows.own j ++ own j)) i;
           worn = (ap (λ (x : Mine O C R). x.0.worn) is ∙ (λ j. shows.worn j || worn j)) i;
+          read = (ap (λ (x : Mine O C R). x.0.read) is ∙ (λ j. larger (shows.read j) (read j))) i;
+          alone = ap (λ (x : Mine O C R). x.0.alone) is i;
         };
         legal = told.legal;
         own = subst (λ (x : Mine O C R). HasItsOwn x.0.numbers x.0.own log) (sym is) told.own;

@@ -1,5 +1,5 @@
 -- Lists whose elements are looked up by their place, and sums over them.
-use Rattle.std.proofs.Common.{◌≡◌, ◌≢◌, ℕ, zero, suc, ◌+◌, ◌≤◌, ⊎_elim, List, [], ◌∷◌, set, sym, refl, ap, ◌∙◌, subst, arith, lt_of_not-le}
+use Rattle.std.proofs.Common.{◌≡◌, ◌≢◌, ℕ, zero, suc, ◌+◌, ◌<◌, ◌≤◌, ⊎_elim, List, [], ◌∷◌, length, set, sym, refl, ap, ◌∙◌, subst, arith, lt_of_not-le}
 use Rattle.std.specs.Prelude.{sum_by}
 use mathlib.Core.Logic.{dite}
 use native.Mathlib.Decide.{dec_le, ℕ_discrete}
@@ -9,6 +9,11 @@ use Rattle.std.proofs.lemmas.List.Sums.{sum_by-cons}
 use Rattle.atomic_table.proofs.Lists.{at_set, set_else}
 
 module _ {A : Type 0} where
+  pub at_below : (xs : List A) (i : ℕ) (a : A) → get_elem? xs i ≡ some a → i < length xs
+  at_below [] i a at = absurd (some-ne-none a (sym at))
+  at_below (x ∷ xs) zero a at = omega arith
+  at_below (x ∷ xs) (suc i) a at = let r = at_below xs i a at in omega arith
+
   pub set_at : (xs : List A) (i : ℕ) (a b : A) → get_elem? xs i ≡ some a → get_elem? (set xs i b) i ≡ some b
   set_at [] i a b at = absurd (some-ne-none a (sym at))
   set_at (x ∷ xs) zero a b at = refl

@@ -1,19 +1,28 @@
 -- What a seat learns from step to step of a call.
-use Rattle.std.proofs.Common.{◌≡◌, ◌≢◌, ℕ, ◌+◌, ◌<◌, ◌≤◌, ◌^◌, true, false, List, [], ◌∷◌, ◌++◌, length, sym, ap, ◌∙◌, subst, arith, append_assoc, Option, Some}
-use Rattle.std.specs.Prelude.{nat_lt}
+use Rattle.std.proofs.Common.{◌≡◌, ◌≢◌, ℕ, ◌+◌, ◌<◌, ◌≤◌, ◌^◌, true, false, List, [], ◌∷◌, ◌++◌, length, refl, sym, ap, ◌∙◌, subst, arith, append_assoc, Option, Some}
+use Rattle.std.specs.Prelude.{cond, nat_lt}
+use mathlib.Core.Option.{none}
 use Rattle.std.proofs.lemmas.Bool.Decides.{nat_tests}
 use Rattle.sysv_gate.specs.declared.view.View.{View}
 use Rattle.sysv_gate.specs.declared.view.Turn.{Turn}
 use Rattle.sysv_gate.specs.declared.place.Done.{Done}
 use Rattle.sysv_gate.specs.declared.place.Place.{Place}
+use Rattle.sysv_gate.specs.declared.count.Count.{Count}
+use Rattle.sysv_gate.specs.declared.count.Count.TheVariants.{Arrived, Freed}
+use Rattle.sysv_gate.specs.declared.turns.Rose.{Rose}
+use Rattle.sysv_gate.specs.declared.awaited.Awaited.{Awaited}
+use Rattle.sysv_gate.specs.declared.awaited.Awaited.TheVariants.{Reached}
+use Rattle.sysv_gate.specs.declared.awaited.Awaited.TheVariants as awaited
+use Rattle.sysv_gate.specs.Counts.{word_of, of_count}
 use Rattle.sysv_gate.specs.Numbers.{times}
 use Rattle.sysv_gate.specs.History.{BeginsWith, after_all, IsLegal, HasItsOwn, Moves, AreUpTo, AreBelow}
 use Rattle.sysv_gate.specs.Rule.{Spot, put}
-use Rattle.sysv_gate.specs.Steps.{Mine, weighed, looked, entered, turn_of, ended, Looks, HasTurn, after_turn}
-use Rattle.sysv_gate.specs.Turns.{Looked, TurnCame, SawMore, HasMade}
-use Rattle.atomic_table.specs.Table.{rest}
+use Rattle.sysv_gate.specs.Steps.{Mine, weighed, looked, entered, turn_of, announced_by, read_to, ended, Looks, Reads, HasTurn, after_turn}
+use Rattle.sysv_gate.specs.Turns.{Looked, TurnCame, SawMore, HasMade, rise, Applied, HasRead, ReadMore, HasWaited}
+use Rattle.atomic_table.specs.Table.{step, rest}
 use Rattle.sysv_gate.proofs.Counting.{times-one, low_mark, high_mark}
 use Rattle.sysv_gate.proofs.Histories.{begins_self, legal-snoc, rises}
+use Rattle.sysv_gate.proofs.Announcing.{put_in, put_twice, put_same}
 
 pub begins_trans : {A : Type 0} (xs ys zs : List A) → BeginsWith xs ys → BeginsWith ys zs → BeginsWith xs zs
 begins_trans {A} xs ys zs long short = (short.0 ++ long.0, long.1 ∙ ap (λ (l : List A). l ++ long.0) short.1 ∙ append_assoc zs short.0 long.0)
@@ -26,9 +35,9 @@ pub not_held : (n t : ℕ) (tickets : List ℕ) → tickets ≡ t ∷ [] → n �
 not_held n t tickets is other = let e : times n tickets ≡ times n (t ∷ []) = ap (times n) is in grind (arith, nat_tests, times-one n t)
 
 module _ {O C R : Type 0} where
-  module _ (moves : O → C → R → O → Type 0) (o : O) where
+  module _ (moves : O → C → R → O → Type 0) (counted : O → ℕ × ℕ) (o : O) where
     pub look_tells : (m : Mine O C R) (n : ℕ) (m' : Mine O C R) → m.1 ≡ [] → m.0.in_turn ≡ false
-        → Looks m n m' × IsLegal moves o m'.0.seen × (m'.0.in_turn ≡ true → HasTurn moves o m') × (m'.0.in_turn ≡ false → m'.1 ≡ m.1) → Looked moves o m n m'
+        → Looks m n m' × IsLegal moves o m'.0.seen × (m'.0.in_turn ≡ true → HasTurn moves counted o m') × (m'.0.in_turn ≡ false → m'.1 ≡ m.1) → Looked moves counted o m n m'
     look_tells m n m' bare idle told =
         let log : List (Turn O C R) = told.0.log in
         let view : m'.0 ≡ looked n log m.0 = told.0.view in
@@ -53,17 +62,17 @@ module _ {O C R : Type 0} where
         }
 
     -- a seat without a ticket looks
-    pub idle_look : (m : Mine O C R) (n : ℕ) (m' : Mine O C R) → m.0.tickets ≡ [] → Looked moves o m n m' → SawMore m.0 m'
+    pub idle_look : (m : Mine O C R) (n : ℕ) (m' : Mine O C R) → m.0.tickets ≡ [] → Looked moves counted o m n m' → SawMore m.0 m'
     idle_look m n m' empty look = record { log = look.log; longer = look.longer; is = look.other (ap (times n) empty) }
 
-    pub look_legal : (m : Mine O C R) (n : ℕ) (m' : Mine O C R) → m.0.tickets ≡ [] → Looked moves o m n m' → IsLegal moves o m'.0.seen
+    pub look_legal : (m : Mine O C R) (n : ℕ) (m' : Mine O C R) → m.0.tickets ≡ [] → Looked moves counted o m n m' → IsLegal moves o m'.0.seen
     look_legal m n m' empty look = subst (λ (x : Mine O C R). IsLegal moves o x.0.seen) (sym (look.other (ap (times n) empty))) look.legal
 
-    pub look_count : (m : Mine O C R) (n : ℕ) (m' : Mine O C R) → m.0.tickets ≡ [] → Looked moves o m n m' → n ≡ m'.0.first + length m'.0.seen
+    pub look_count : (m : Mine O C R) (n : ℕ) (m' : Mine O C R) → m.0.tickets ≡ [] → Looked moves counted o m n m' → n ≡ m'.0.first + length m'.0.seen
     look_count m n m' empty look = subst (λ (x : Mine O C R). n ≡ x.0.first + length x.0.seen) (sym (look.other (ap (times n) empty))) look.count
 
     -- the ticket that was served is drawn, and the turn has come
-    pub came_at_once : (m : Mine O C R) (n : ℕ) (m' m'' : Mine O C R) → m.0.tickets ≡ [] → Looked moves o m n m' → m''.0 ≡ entered n m'.0 → HasTurn moves o m'' → TurnCame moves o m.0 n m''
+    pub came_at_once : (m : Mine O C R) (n : ℕ) (m' m'' : Mine O C R) → m.0.tickets ≡ [] → Looked moves counted o m n m' → m''.0 ≡ entered n m'.0 → HasTurn moves counted o m'' → TurnCame moves counted o m.0 n m''
     came_at_once m n m' m'' empty look drew turn = record {
       log = look.log;
       longer = look.longer;
@@ -73,7 +82,7 @@ module _ {O C R : Type 0} where
     }
 
     -- a turn that came after more was seen
-    pub turn_later : (v : View O C R) (ticket : ℕ) (m m' : Mine O C R) → SawMore v m → TurnCame moves o m.0 ticket m' → TurnCame moves o v ticket m'
+    pub turn_later : (v : View O C R) (ticket : ℕ) (m m' : Mine O C R) → SawMore v m → TurnCame moves counted o m.0 ticket m' → TurnCame moves counted o v ticket m'
     turn_later v ticket m m' saw came =
         let log : List (Turn O C R) = saw.log in
         let is : m.0 ≡ record v { seen = log } = ap (λ (x : Mine O C R). x.0) saw.is in record {
@@ -134,3 +143,62 @@ module _ {O C R : Type 0} where
       let one = rises (Moves meaning counted) (λ (p : O). (counted p).0) (λ p c r q move. move.1.1) o ts legal in
       let two = rises (Moves meaning counted) (λ (p : O). (counted p).1) (λ p c r q move. move.1.3) o ts legal in
       (omega arith, omega arith)
+
+  -- a call leaves no count smaller
+  pub never_falls : (meaning : O → C → R → O → Type 0) (counted : O → ℕ × ℕ) (count : Count) (o : O) (c : C) (r : R) (o' : O) → Moves meaning counted o c r o' → of_count count (counted o) ≤ of_count count (counted o')
+  never_falls meaning counted Arrived o c r o' move = move.1.0
+  never_falls meaning counted Freed o c r o' move = move.1.2
+
+  -- what was announced of both counts
+  pub announced_both : (v : View O C R) (rose : Rose) (count : Count) → of_count count (announced_by Freed (cond rose.freed 1 0) (announced_by Arrived (cond rose.arrived 1 0) v)).announced ≡ rise count rose
+  announced_both v rose Arrived = refl
+  announced_both v rose Freed = refl
+
+  -- what the seat hands to the slot has the call that was served beside the object
+  pub handed : (moves : O → C → R → O → Type 0) (counted : O → ℕ × ℕ) (object : O) (call : C) (place : Place O C R) (reply : R) (rose : Rose) (a : Applied moves counted object call place reply rose) → Some place ≡ put place.object (Some a.last)
+  handed moves counted object call place reply rose a = λ i. Some (record { object = place.object; last = a.beside i })
+
+  -- the call that lies beside the object is how the object went on
+  pub told_move : (moves : O → C → R → O → Type 0) (counted : O → ℕ × ℕ) (before object : O) (call : C) (place : Place O C R) (reply : R) (rose : Rose) (a : Applied moves counted object call place reply rose) → object ≡ before
+      → moves before a.last.call.value a.last.reply.value place.object
+  told_move moves counted before object call place reply rose a was =
+      subst (λ (p : O). moves p a.last.call.value a.last.reply.value place.object) was
+      (subst (λ (x : C). moves object x a.last.reply.value place.object) (sym a.asked) (subst (λ (y : R). moves object call y place.object) (sym a.answered) a.move))
+
+  -- the counts have risen by what was announced
+  pub announced_all : (moves : O → C → R → O → Type 0) (counted : O → ℕ × ℕ) (o : O) (v : View O C R) (object : O) (call : C) (place : Place O C R) (reply : R) (rose : Rose) → Applied moves counted object call place reply rose → object ≡ after_all o v.seen
+      → (count : Count) → of_count count (counted place.object) ≡ of_count count (counted (after_all o v.seen)) + of_count count (announced_by Freed (cond rose.freed 1 0) (announced_by Arrived (cond rose.arrived 1 0) v)).announced
+  announced_all moves counted o v object call place reply rose a was count =
+      let rises = a.rises count in
+      let same : of_count count (counted object) ≡ of_count count (counted (after_all o v.seen)) = ap (λ (p : O). of_count count (counted p)) was in
+      let both = announced_both v rose count in
+      omega arith
+
+  -- the count was read
+  pub has_read : (counted : O → ℕ × ℕ) (o : O) (count : Count) (word : ℕ) (m : Mine O C R) (n : ℕ) (m' : Mine O C R) → word ≡ word_of count → m.0.opening ≡ Some o → m.1 ≡ [] → Reads counted (step 0 word 0 0 none) m n m' → HasRead counted o count m n m'
+  has_read counted o count word m n m' is knows bare told =
+      let now = told count is o knows in record { is = now.0 ∙ (λ i. (read_to count n m.0, bare i)); before = now.1; known = now.2 }
+
+  -- a read after another
+  pub read_again : (counted : O → ℕ × ℕ) (o : O) (count : Count) (m m' : Mine O C R) (n : ℕ) (m'' : Mine O C R) → ReadMore count m m' → HasRead counted o count m' n m'' → HasRead counted o count m n m''
+  read_again counted o count m m' n m'' more now =
+      let value : ℕ = more.value in
+      let view : m'.0 ≡ read_to count value m.0 = ap (λ (x : Mine O C R). x.0) more.is in
+      let was : of_count count m'.0.read ≡ value = ap (λ (v : View O C R). of_count count v.read) view ∙ put_in count value m.0.read in
+      let before = more.before in
+      let after = now.before in record {
+        is = now.is ∙ ap (λ (v : View O C R). (read_to count n v, [])) view ∙ (λ i. (record m.0 { read = put_twice count n value m.0.read i }, []));
+        before = omega arith;
+        known = subst (λ (v : View O C R). of_count count (counted (after_all o v.seen)) ≤ n) view now.known;
+      }
+
+  pub read_more : (counted : O → ℕ × ℕ) (o : O) (count : Count) (m : Mine O C R) (n : ℕ) (m' : Mine O C R) → HasRead counted o count m n m' → ReadMore count m m'
+  read_more counted o count m n m' now = record { value = n; is = now.is; before = now.before }
+
+  pub read_nothing : (count : Count) (m : Mine O C R) → m.1 ≡ [] → ReadMore count m m
+  read_nothing count m bare = record { value = of_count count m.0.read; is = λ i. (record m.0 { read = sym (put_same count (of_count count m.0.read) m.0.read refl) i }, bare i); before = omega arith }
+
+  -- a wait that is over after the count was read before
+  pub waited_later : (counted : O → ℕ × ℕ) (o : O) (count : Count) (goal : ℕ) (m m' : Mine O C R) (a : Awaited) (m'' : Mine O C R) → ReadMore count m m' → HasWaited counted o count goal m' a m'' → HasWaited counted o count goal m a m''
+  waited_later counted o count goal m m' (Reached n) m'' more waited = (waited.0, read_again counted o count m m' n m'' more waited.1)
+  waited_later counted o count goal m m' awaited.Worn m'' more waited = (waited.0, waited.1, waited.2, read_again counted o count m m' waited.0 waited.1 more waited.3, waited.4)

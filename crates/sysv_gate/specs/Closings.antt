@@ -1,5 +1,5 @@
 -- What a gate gives back when it is closed.
-use Rattle.std.specs.Prelude.{◌≡◌, ℕ, ◌+◌, ◌≤◌, List, length, Option, Some, None, IfSome, IfNone}
+use Rattle.std.specs.Prelude.{◌≡◌, ℕ, ◌+◌, ◌≤◌, true, List, length, Option, Some, None, IfSome, IfNone}
 use mathlib.Core.Option.{some}
 use lib.ListN.{get_elem?}
 use Rattle.sysv_gate.specs.declared.closing.Closing.{Closing}
@@ -23,7 +23,8 @@ module _ {O C R : Type 0} where
       × ((i : ℕ) × (v : View O C R) × (get_elem? views i ≡ some v) × (1 ≤ times (gate.first + length log) v.tickets))
 
   -- There is one legal history of all turns, which begins with all that the seat had seen, and has just those turns of
-  -- the seat that it knows of. Their number comes back, and the object after them, but where a turn is still due
+  -- the seat that it knows of. Their number comes back, and the object after them, but where a turn is still due. Where
+  -- the seat is alone, the history is what it has seen, and no turn is due
   pub record Closes (moves : O → C → R → O → Type 0) (seat : Holding O C R) (c : Closing O) : Type 0 where
     pub log : List (Turn O C R)
     pub legal : IsLegal moves seat.gate.opening log
@@ -32,3 +33,4 @@ module _ {O C R : Type 0} where
     pub turns : c.turns ≡ length log
     pub object : IfSome c.object (λ o. (o ≡ after_all seat.gate.opening log) × (c.rest ≡ None))
     pub due : IfNone c.object (ATurnIsDue moves seat.gate log)
+    pub alone : seat.alone ≡ true → (log ≡ seat.seen) × (c.object ≡ Some (after_all seat.gate.opening seat.seen))

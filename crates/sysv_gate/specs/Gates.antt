@@ -1,8 +1,10 @@
 -- What contracts see of a gate and of a seat of it, and what the calls do to a seat.
-use Rattle.std.specs.Prelude.{◌≡◌, ℕ, ◌||◌, Bool, true, false, List, [], ◌∷◌, ◌++◌, length}
+use Rattle.std.specs.Prelude.{◌≡◌, ℕ, ◌≤◌, ◌||◌, Bool, true, false, List, [], ◌∷◌, ◌++◌, length}
 use Rattle.atomic_table.specs.Seated.{TableId}
 use Rattle.sysv_gate.specs.declared.view.Turn.{Turn}
-use Rattle.sysv_gate.specs.History.{BeginsWith, IsLegal, HasItsOwn}
+use Rattle.sysv_gate.specs.declared.count.Count.{Count}
+use Rattle.sysv_gate.specs.History.{BeginsWith, IsLegal, after_all, HasItsOwn}
+use Rattle.sysv_gate.specs.Counts.{of_count, with_count, larger}
 
 -- a gate: which it is, the object that it was opened with, and its first ticket
 pub record Gateway (O : Type 0) : Type 0 where
@@ -11,7 +13,8 @@ pub record Gateway (O : Type 0) : Type 0 where
   pub first : ℕ
 
 -- What a seat has: whose seat it is, its number, the numbers of the seats that were joined into it with its own, the
--- history that it has seen, the places of its own turns in it, and whether it has found the tickets worn out
+-- history that it has seen, the places of its own turns in it, whether it has found the tickets worn out, the greatest
+-- values of the two counts that it has read, and whether it is alone: no other seat was ever given
 pub record Holding (O C R : Type 0) : Type 0 where
   pub gate : Gateway O
   pub number : ℕ
@@ -19,15 +22,26 @@ pub record Holding (O C R : Type 0) : Type 0 where
   pub seen : List (Turn O C R)
   pub own : List ℕ
   pub worn : Bool
+  pub read : ℕ × ℕ
+  pub alone : Bool
 
 module _ {O C R : Type 0} where
   -- the first seat has seen nothing yet
   abbrev pub opened : Gateway O → Holding O C R
-  opened gate = record { gate = gate; number = 0; numbers = 0 ∷ []; seen = []; own = []; worn = false }
+  opened gate = record { gate = gate; number = 0; numbers = 0 ∷ []; seen = []; own = []; worn = false; read = (0, 0); alone = true }
 
   -- the seat has found that the tickets have reached 2^62
   abbrev pub marked : Holding O C R → Holding O C R
   marked h = record h { worn = true }
+
+  -- the seat after it has read a count
+  abbrev pub read_to : Count → ℕ → Holding O C R → Holding O C R
+  read_to count n h = record h { read = with_count count n h.read }
+
+  -- The value is no less than what the seat has read of the count before, and no less than the count of the object after
+  -- all that the seat has seen
+  abbrev pub Learns : (O → ℕ × ℕ) → Count → Holding O C R → ℕ → Type 0
+  Learns counted count h n = (of_count count h.read ≤ n) × (of_count count (counted (after_all h.gate.opening h.seen)) ≤ n)
 
   -- the seat after it has seen more turns of others
   abbrev pub saw : List (Turn O C R) → Holding O C R → Holding O C R
@@ -42,25 +56,31 @@ module _ {O C R : Type 0} where
 
   -- The call was answered in a turn of the seat's own. The history that the seat has seen is legal; it begins with all
   -- that the seat had seen, goes on with the turns of others, and ends with this call and this reply. Of the seat's own
-  -- turns it has just those that the seat knows of, each once, and the new one is the last
-  pub record Answers (moves : O → C → R → O → Type 0) (before : Holding O C R) (call : C) (reply : R) (after : Holding O C R) : Type 0 where
+  -- turns it has just those that the seat knows of, each once, and the new one is the last. The counts of the object that
+  -- was called are at least what the seat had read of them
+  pub record Answers (moves : O → C → R → O → Type 0) (counted : O → ℕ × ℕ) (before : Holding O C R) (call : C) (reply : R) (after : Holding O C R) : Type 0 where
     pub others : List (Turn O C R)
     pub object : O
     pub made : after ≡ made call reply object (saw others before)
     pub legal : IsLegal moves after.gate.opening after.seen
     pub own : HasItsOwn after.numbers after.own after.seen
+    pub counts : (count : Count) → of_count count before.read ≤ of_count count (counted (after_all before.gate.opening (before.seen ++ others)))
 
-  -- the seat that was split off: it has a number of its own, has seen what its origin has seen, and has made no turn
+  -- a seat from which another was split off is not alone
+  abbrev pub parted : Holding O C R → Holding O C R
+  parted h = record h { alone = false }
+
+  -- the seat that was split off: it has a number of its own, has seen and read what its origin has, and has made no turn
   abbrev pub split_off : ℕ → Holding O C R → Holding O C R
-  split_off number h = record h { number = number; numbers = number ∷ []; own = [] }
+  split_off number h = record h { number = number; numbers = number ∷ []; own = []; alone = false }
 
   -- One seat has taken in another. It has seen a legal history that begins with what either had seen, and has the turns
-  -- and the numbers of both
+  -- and the numbers of both, and what either had read of the counts
   pub record Joins (moves : O → C → R → O → Type 0) (one two after : Holding O C R) : Type 0 where
     pub seen : List (Turn O C R)
     pub begins_one : BeginsWith seen one.seen
     pub begins_two : BeginsWith seen two.seen
-    pub joined : after ≡ record one { seen = seen; own = one.own ++ two.own; numbers = one.numbers ++ two.numbers; worn = one.worn || two.worn }
+    pub joined : after ≡ record one { seen = seen; own = one.own ++ two.own; numbers = one.numbers ++ two.numbers; worn = one.worn || two.worn; read = larger one.read two.read; alone = false }
     pub legal : IsLegal moves one.gate.opening seen
     pub own : HasItsOwn after.numbers after.own seen
 

@@ -17,6 +17,8 @@ module _ {O C R : Type 0} where
     seen = s.token.me.0.seen;
     own = s.token.me.0.own;
     worn = s.token.me.0.worn;
+    read = s.token.me.0.read;
+    alone = s.token.me.0.alone;
   }
 
   pub record IsAtRest (s : Inside O C R) : Type 0 where
@@ -37,6 +39,8 @@ module _ {O C R : Type 0} where
     pub seen : token.me.0.seen ≡ h.seen
     pub own : token.me.0.own ≡ h.own
     pub worn : token.me.0.worn ≡ h.worn
+    pub read : token.me.0.read ≡ h.read
+    pub alone : token.me.0.alone ≡ h.alone
     pub no_slot : token.me.1 ≡ []
     pub no_ticket : token.me.0.tickets ≡ []
     pub no_turn : token.me.0.in_turn ≡ false

@@ -1,12 +1,15 @@
 -- What the rule of a gate means for all seats together.
-use Rattle.std.specs.Prelude.{◌≡◌, ◌⊎◌, ℕ, ◌+◌, ◌≤◌, List, true, false}
+use Rattle.std.specs.Prelude.{◌≡◌, ◌⊎◌, ℕ, ◌+◌, ◌≤◌, List, length, slice_index, true, false}
 use mathlib.Core.Option.{some}
 use lib.ListN.{get_elem?}
 use Rattle.sysv_gate.specs.declared.view.View.{View}
 use Rattle.sysv_gate.specs.declared.view.Turn.{Turn}
 use Rattle.sysv_gate.specs.Numbers.{times}
-use Rattle.sysv_gate.specs.History.{BeginsWith}
-use Rattle.sysv_gate.specs.Rule.{Homes, IsKept}
+use Rattle.atomic_table.specs.Table.{State}
+use Rattle.sysv_gate.specs.declared.count.Count.{Count}
+use Rattle.sysv_gate.specs.History.{BeginsWith, IsLegal, after_all}
+use Rattle.sysv_gate.specs.Counts.{word_of, of_count}
+use Rattle.sysv_gate.specs.Rule.{Spot, Homes, IsKept, Gated}
 
 module _ {O C R : Type 0} (moves : O → C → R → O → Type 0) where
   -- what is so of any two seats of a gate, whatever its state is
@@ -26,3 +29,10 @@ module _ {O C R : Type 0} (moves : O → C → R → O → Type 0) where
   -- what one seat has seen begins what the other has seen, or the other way round
   abbrev pub OneHistory : Type 0
   OneHistory = OfTwoSeats (λ v w. BeginsWith v.seen w.seen ⊎ BeginsWith w.seen v.seen)
+
+  -- where no seat is in turn, the words of the two counts have the counts of the object after the history of all turns
+  abbrev pub CountsOutsideATurn : (O → ℕ × ℕ) → Type 0
+  CountsOutsideATurn counted =
+      (opening : O) (first : ℕ) (s : State (Spot O C R) (View O C R)) → Gated moves counted opening first s
+      → ((i : ℕ) (v : View O C R) → get_elem? s.views i ≡ some v → v.in_turn ≡ false)
+      → (log : List (Turn O C R)) × IsLegal moves opening log × (slice_index s.words 0 ≡ first + length log) × ((count : Count) → slice_index s.words (word_of count) ≡ of_count count (counted (after_all opening log)))

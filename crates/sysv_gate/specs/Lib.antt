@@ -1,10 +1,12 @@
 pub mod Numbers
 pub mod History
+pub mod Counts
 pub mod Rule
 pub mod Steps
 pub mod Gates
 pub mod Held
 pub mod Turns
 pub mod Refusals
+pub mod Waits
 pub mod Closings
 pub mod Laws

@@ -1,5 +1,6 @@
--- The rule of a gate's table. Word 0 says which ticket is served, word 16 which ticket is drawn next, and the one slot
--- has the object. They lie 128 bytes apart, so that they share no cache line. The log is the history of all turns.
+-- The rule of a gate's table. Word 0 says which ticket is served, word 16 which ticket is drawn next, words 32 and 48
+-- announce the object's two counts, and the one slot has the object. The words lie 128 bytes apart, so that no two share
+-- a cache line. The log is the history of all turns.
 use Rattle.std.specs.Prelude.{◌≡◌, ℕ, ◌+◌, ◌^◌, ◌≤◌, true, false, List, [], ◌∷◌, length, slice_index, sum_by, Option, Some}
 use mathlib.Core.Option.{some}
 use mathlib.Core.Option as maybe
@@ -9,7 +10,9 @@ use Rattle.sysv_gate.specs.declared.view.View.{View}
 use Rattle.sysv_gate.specs.declared.view.Turn.{Turn}
 use Rattle.sysv_gate.specs.declared.place.Place.{Place}
 use Rattle.sysv_gate.specs.declared.place.Done.{Done}
+use Rattle.sysv_gate.specs.declared.count.Count.{Count}
 use Rattle.sysv_gate.specs.Numbers.{times, once_between}
+use Rattle.sysv_gate.specs.Counts.{word_of, of_count}
 use Rattle.sysv_gate.specs.History.{BeginsWith, after_all, IsLegal, made_at}
 
 -- what the slot can have
@@ -47,7 +50,7 @@ module _ {O C R : Type 0} where
   -- The log is legal. Each ticket from the one that is served to below the one that is drawn next is held by just one
   -- view, and no other ticket by any. No number belongs to two views, or to a view that is still to come; an
   -- unspent view without a number may take its place's own; and each turn was made under a number of some view. Where no
-  -- view is in turn, the object after the log is at home
+  -- view is in turn, the object after the log is at home. A view that is alone is the only one, and has seen the whole log
   pub record IsKept (moves : O → C → R → O → Type 0) (opening : O) (first : ℕ) (log : List (Turn O C R)) (drawn : ℕ) (homes : Homes O C R) (views : List (View O C R)) : Type 0 where
     pub legal : IsLegal moves opening log
     pub tickets : (x : ℕ) → sum_by (λ v. times x v.tickets) views ≡ once_between (first + length log) drawn x
@@ -59,13 +62,26 @@ module _ {O C R : Type 0} where
     pub known : (x : ℕ) → bearers x views ≡ 0 → (p : ℕ) → made_at (x ∷ []) log p ≡ 0
     pub each : (i : ℕ) (v : View O C R) → get_elem? views i ≡ some v → Fits opening first log drawn v
     pub home : ((i : ℕ) (v : View O C R) → get_elem? views i ≡ some v → v.in_turn ≡ false) → IsHome (after_all opening log) homes
+    pub alone : (i : ℕ) (v : View O C R) → get_elem? views i ≡ some v → v.alone ≡ true → (length views ≡ 1) × (v.seen ≡ log)
+
+  -- One count is announced: its word has what it is after the log, and what the seat in turn has added already. A seat
+  -- that is not in turn has added nothing, and no seat has read more than the word has
+  pub record IsAnnounced (count : Count) (after_log word : ℕ) (views : List (View O C R)) : Type 0 where
+    pub value : word ≡ after_log + sum_by (λ v. of_count count v.announced) views
+    pub quiet : (i : ℕ) (v : View O C R) → get_elem? views i ≡ some v → v.in_turn ≡ false → of_count count v.announced ≡ 0
+    pub read : (i : ℕ) (v : View O C R) → get_elem? views i ≡ some v → of_count count v.read ≤ word
+
+  -- both counts are announced
+  abbrev pub AreAnnounced : (O → ℕ × ℕ) → O → List ℕ → List (View O C R) → Type 0
+  AreAnnounced counted object words views = (count : Count) → IsAnnounced count (of_count count (counted object)) (slice_index words (word_of count)) views
 
   -- There is a log that the words, the slot and the views fit. The ticket that is served is the first one plus the
   -- number of turns
-  abbrev pub Gated : (O → C → R → O → Type 0) → O → ℕ → State (Spot O C R) (View O C R) → Type 0
-  Gated moves opening first s =
-      (length s.words ≡ 32) × (length s.homes ≡ 1)
-      × ((log : List (Turn O C R)) × (slice_index s.words 0 ≡ first + length log) × IsKept moves opening first log (slice_index s.words 16) s.homes s.views)
+  abbrev pub Gated : (O → C → R → O → Type 0) → (O → ℕ × ℕ) → O → ℕ → State (Spot O C R) (View O C R) → Type 0
+  Gated moves counted opening first s =
+      (length s.words ≡ 64) × (length s.homes ≡ 1)
+      × ((log : List (Turn O C R))
+      × (slice_index s.words 0 ≡ first + length log) × IsKept moves opening first log (slice_index s.words 16) s.homes s.views × AreAnnounced counted (after_all opening log) s.words s.views)
 
   -- the view of the first seat
   abbrev pub start : O → ℕ → View O C R
@@ -80,4 +96,7 @@ module _ {O C R : Type 0} where
     tickets = [];
     in_turn = false;
     worn = false;
+    read = (0, 0);
+    announced = (0, 0);
+    alone = true;
   }

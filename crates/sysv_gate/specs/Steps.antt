@@ -4,7 +4,9 @@ use Rattle.atomic_table.specs.Table.{Me, Step, rest}
 use Rattle.sysv_gate.specs.declared.view.View.{View}
 use Rattle.sysv_gate.specs.declared.view.Turn.{Turn}
 use Rattle.sysv_gate.specs.declared.place.Done.{Done}
+use Rattle.sysv_gate.specs.declared.count.Count.{Count}
 use Rattle.sysv_gate.specs.Numbers.{times}
+use Rattle.sysv_gate.specs.Counts.{word_of, of_count, with_count, larger}
 use Rattle.sysv_gate.specs.History.{BeginsWith, after_all, IsLegal, HasItsOwn}
 use Rattle.sysv_gate.specs.Rule.{Spot, put}
 
@@ -29,6 +31,14 @@ module _ {O C R : Type 0} where
   abbrev pub turn_of : View O C R → C → R → O → Turn O C R
   turn_of v call reply after = record { by = v.number; call = call; reply = reply; after = after }
 
+  -- an addition to the word of a count announces it
+  abbrev pub announced_by : Count → ℕ → View O C R → View O C R
+  announced_by count n v = record v { announced = with_count count n v.announced }
+
+  -- a load of that word shows what the count has reached
+  abbrev pub read_to : Count → ℕ → View O C R → View O C R
+  read_to count n v = record v { read = with_count count n v.read }
+
   -- the addition that ends the turn
   abbrev pub ended : View O C R → C → R → O → View O C R
   ended v call reply after = record v {
@@ -36,11 +46,16 @@ module _ {O C R : Type 0} where
     own = v.own ++ length v.seen ∷ [];
     tickets = [];
     in_turn = false;
+    announced = (0, 0);
   }
 
-  -- what a split gives: a seat that has seen as much, without turns of its own, and without a number yet
+  -- what a split leaves: the seat is not alone
+  abbrev pub parted : View O C R → View O C R
+  parted v = record v { alone = false }
+
+  -- what a split gives: a seat that has seen and read as much, without turns of its own, and without a number yet
   abbrev pub newcomer : View O C R → View O C R
-  newcomer v = record v { number = 0; numbers = []; also = []; own = []; tickets = []; in_turn = false }
+  newcomer v = record v { number = 0; numbers = []; also = []; own = []; tickets = []; in_turn = false; announced = (0, 0); alone = false }
 
   -- a load that gives a seat its number
   abbrev pub named : ℕ → View O C R → View O C R
@@ -48,11 +63,11 @@ module _ {O C R : Type 0} where
 
   -- two views in one
   abbrev pub both_of : View O C R → View O C R → View O C R
-  both_of v w = record v { also = w.seen; own = v.own ++ w.own; numbers = v.numbers ++ w.numbers; worn = v.worn || w.worn }
+  both_of v w = record v { also = w.seen; own = v.own ++ w.own; numbers = v.numbers ++ w.numbers; worn = v.worn || w.worn; read = larger v.read w.read; alone = false }
 
   -- what is left of a view that was joined into another
   abbrev pub spent : View O C R
-  spent = record { opening = None; first = 0; number = 0; numbers = []; seen = []; also = []; own = []; tickets = []; in_turn = false; worn = false }
+  spent = record { opening = None; first = 0; number = 0; numbers = []; seen = []; also = []; own = []; tickets = []; in_turn = false; worn = false; read = (0, 0); announced = (0, 0); alone = false }
 
   -- a load after a join, which shows a log that both had seen a beginning of
   abbrev pub merged : List (Turn O C R) → View O C R → View O C R
@@ -75,9 +90,12 @@ module _ {O C R : Type 0} where
   abbrev pub Names : At O C R → Mine O C R → ℕ → Mine O C R → Type 0
   Names st m n m' = (number : ℕ) × (m' ≡ (named number m.0, m.1))
 
-  -- what a seat knows that has the turn, and with it the object after all that it has seen
-  pub record HasTurn (moves : O → C → R → O → Type 0) (opening : O) (m : Mine O C R) : Type 0 where
+  -- What a seat knows that has the turn, and with it the object after all that it has seen. It has read no more of the
+  -- counts than they are then, and has announced nothing yet
+  pub record HasTurn (moves : O → C → R → O → Type 0) (counted : O → ℕ × ℕ) (opening : O) (m : Mine O C R) : Type 0 where
     pub legal : IsLegal moves opening m.0.seen
+    pub read : (count : Count) → of_count count m.0.read ≤ of_count count (counted (after_all opening m.0.seen))
+    pub quiet : (count : Count) → of_count count m.0.announced ≡ 0
     pub out : (last : Option (Done C R)) × (m.1 ≡ (0, put (after_all opening m.0.seen) last) ∷ [])
 
   -- what a look tells of the log
@@ -87,14 +105,23 @@ module _ {O C R : Type 0} where
     pub count : n ≡ m.0.first + length log
     pub view : m'.0 ≡ looked n log m.0
 
-  module _ (moves : O → C → R → O → Type 0) where
+  module _ (moves : O → C → R → O → Type 0) (counted : O → ℕ × ℕ) where
     abbrev pub Turns : At O C R → Mine O C R → ℕ → Mine O C R → Type 0
     Turns st m n m' = (opening : O) → m.0.opening ≡ Some opening
-        → Looks m n m' × IsLegal moves opening m'.0.seen × (m'.0.in_turn ≡ true → HasTurn moves opening m') × (m'.0.in_turn ≡ false → m'.1 ≡ m.1)
+        → Looks m n m' × IsLegal moves opening m'.0.seen × (m'.0.in_turn ≡ true → HasTurn moves counted opening m') × (m'.0.in_turn ≡ false → m'.1 ≡ m.1)
 
     abbrev pub Enters : At O C R → Mine O C R → ℕ → Mine O C R → Type 0
     Enters st m n m' = (opening : O) → m.0.opening ≡ Some opening
-        → (n ≡ st.first → (m'.0 ≡ entered n m.0) × HasTurn moves opening m' × (m.0.worn ≡ false)) × (¬ (n ≡ st.first) → m' ≡ m)
+        → (n ≡ st.first → (m'.0 ≡ entered n m.0) × HasTurn moves counted opening m' × (m.0.worn ≡ false)) × (¬ (n ≡ st.first) → m' ≡ m)
+
+  abbrev pub Announces : At O C R → Mine O C R → ℕ → Mine O C R → Type 0
+  Announces st m n m' = (count : Count) → st.word ≡ word_of count → m' ≡ (announced_by count 1 m.0, m.1)
+
+  -- A load of a count's word shows no less than the seat has read before, and no less than the count after all that the
+  -- seat has seen
+  abbrev pub Reads : (O → ℕ × ℕ) → At O C R → Mine O C R → ℕ → Mine O C R → Type 0
+  Reads counted st m n m' = (count : Count) → st.word ≡ word_of count → (opening : O) → m.0.opening ≡ Some opening
+      → (m' ≡ (read_to count n m.0, m.1)) × (of_count count m.0.read ≤ n) × (of_count count (counted (after_all opening m.0.seen)) ≤ n)
 
   -- what a look after a join tells
   pub record Gathers (moves : O → C → R → O → Type 0) (opening : O) (m m' : Mine O C R) : Type 0 where

@@ -1,11 +1,12 @@
 //! Gates.
 ghost use Rattle.std.specs.Prelude.{◌≡◌, ℕ, ◌^◌, ◌≤◌, false, IfOk, IfErr, OnOk};
 ghost use Rattle.sysv_gate.specs.History.{Moves, AreUpTo};
-ghost use Rattle.sysv_gate.specs.Gates.{opened, marked, split_off, Answers, Joins};
+ghost use Rattle.sysv_gate.specs.Gates.{opened, marked, parted, split_off, Answers, Joins};
 ghost use Rattle.sysv_gate.specs.Refusals.{HandsBack, Refuses};
 ghost use Rattle.sysv_gate.specs.Closings.{Closes};
 ghost use Rattle.sysv_gate.specs.declared.refusals.OpenRefused.TheVariants.{NoMemory};
 
+use crate::bell::Bell;
 use crate::board::{Board, LIMIT, OBJECT, SERVING, TICKET, lay, object_in};
 use crate::closing::Closing;
 use crate::object::Object;
@@ -23,6 +24,8 @@ use std::sync::Wait;
 pub struct Gate<O: Object> {
     pub(crate) table: Board<O>,
     key: Key<O>,
+    pub(crate) arrived: Bell,
+    pub(crate) freed: Bell,
 }
 
 impl<O: Object> Model for Gate<O> {
@@ -34,7 +37,7 @@ impl<O: Object> Model for Gate<O> {
 
     ghost view = { λ g. record { table = g.table.shared.table_id; opening = g.key.opening.value; first = g.key.first } };
 
-    ghost invariant = { λ g. (g.table.shared.key ≡ g.key) × (g.table.shared.table_id.words ≡ 32) × (g.table.shared.table_id.slots ≡ 1) × AreUpTo (2 ^ 61) (O.counted g.key.opening.value) };
+    ghost invariant = { λ g. (g.table.shared.key ≡ g.key) × (g.table.shared.table_id.words ≡ 64) × (g.table.shared.table_id.slots ≡ 1) × AreUpTo (2 ^ 61) (O.counted g.key.opening.value) };
 }
 
 impl<O: Object> Gate<O> {
@@ -71,7 +74,13 @@ impl<O: Object> Gate<O> {
                     token,
                     key: Snapshot::of(&key),
                 };
-                Ok((Gate { table, key }, seat))
+                let gate = Gate {
+                    table,
+                    key,
+                    arrived: Bell::new(),
+                    freed: Bell::new(),
+                };
+                Ok((gate, seat))
             }
             Err(object) => Err(OpenRefused::NoMemory(object)),
         }
@@ -88,16 +97,17 @@ impl<O: Object> Gate<O> {
     ) -> Result<O::Reply, Worn<O::Call>>
         requires { seat.old.gate ≡ self.now }
         ensures gate { seat.new.gate ≡ self.now }
-        ensures ok { IfOk result (λ r. Answers (Moves O.meaning O.counted) seat.old call r seat.new) }
+        ensures ok { IfOk result (λ r. Answers (Moves O.meaning O.counted) O.counted seat.old call r seat.new) }
         ensures not_worn { OnOk result (seat.old.worn ≡ false) }
         ensures worn { IfErr result (λ w. (w.call ≡ call) × (seat.new ≡ marked seat.old)) }
     {
         let Some(ticket) = self.draw(rt, &mut seat.token) else {
             return Err(Worn { call });
         };
+        self.tell_worn(ticket);
         self.reach(rt, &mut seat.token, ticket);
-        let reply = self.serve(&mut seat.token, call);
-        self.wake_after(ticket);
+        let (reply, rose) = self.serve(&mut seat.token, call);
+        self.wake_after(ticket, rose);
         Ok(reply)
     }
 
@@ -111,27 +121,29 @@ impl<O: Object> Gate<O> {
     ) -> Result<O::Reply, TryRefused<O::Call>>
         requires { seat.old.gate ≡ self.now }
         ensures gate { seat.new.gate ≡ self.now }
-        ensures ok { IfOk result (λ r. Answers (Moves O.meaning O.counted) seat.old call r seat.new) }
+        ensures ok { IfOk result (λ r. Answers (Moves O.meaning O.counted) O.counted seat.old call r seat.new) }
         ensures not_worn { OnOk result (seat.old.worn ≡ false) }
         ensures err { IfErr result (λ e. Refuses (Moves O.meaning O.counted) seat.old call e seat.new) }
     {
         match self.enter(&mut seat.token) {
-            Entry::Turn => Ok(self.serve(&mut seat.token, call)),
+            Entry::Turn => Ok(self.serve(&mut seat.token, call).0),
             Entry::Busy => Err(TryRefused::Busy(call)),
             Entry::Worn => Err(TryRefused::Worn(call)),
         }
     }
 
-    /// Ends the sleep of each thread that waits for its turn. Those whose ticket is not served sleep again.
+    /// Ends the sleep of each thread that waits for its turn or for a count. Those whose ticket is not served, or whose
+    /// goal is not reached, sleep again.
     pub fn wake(&self, _rt: &impl Wait) {
         self.table.shared.wake_all(SERVING);
+        self.ring();
     }
 
     /// Gives a new seat, which has seen what this one has seen, and has made no turn. It may go to another thread.
     pub fn split(&self, seat: &mut Seat<O>) -> Seat<O>
         requires { seat.old.gate ≡ self.now }
         ensures gate { result.gate ≡ self.now }
-        ensures same { seat.new ≡ seat.old }
+        ensures same { seat.new ≡ parted seat.old }
         ensures new { (n : ℕ) × (result ≡ split_off n seat.old) }
     {
         let mut token = self.table.shared.split_seat::<Sharing>(&mut seat.token);
@@ -163,7 +175,12 @@ impl<O: Object> Gate<O> {
         requires { seat.gate ≡ self }
         ensures { Closes (Moves O.meaning O.counted) seat result }
     {
-        let Gate { table, key } = self;
+        let Gate {
+            table,
+            key,
+            arrived: _,
+            freed: _,
+        } = self;
         let mut closed = table.close_with(seat.into_token());
         let served = closed.word(SERVING);
         let next = closed.word(TICKET);

@@ -1,6 +1,6 @@
 //! What the rule of a gate means for all its seats together.
 ghost use Rattle.sysv_gate.specs.History.{Moves};
-ghost use Rattle.sysv_gate.specs.Laws.{OneTurnAtATime, NoTurnOfTwoSeats, OneHistory};
+ghost use Rattle.sysv_gate.specs.Laws.{OneTurnAtATime, NoTurnOfTwoSeats, OneHistory, CountsOutsideATurn};
 
 use crate::object::Object;
 
@@ -17,4 +17,9 @@ pub fn no_turn_of_two_seats<O: Object>()
 /// All seats have seen beginnings of one history.
 pub fn one_history<O: Object>()
     ensures { OneHistory (Moves O.meaning O.counted) }
+{}
+
+/// Outside a turn the two words have the counts of the object after all turns.
+pub fn counts_outside_a_turn<O: Object>()
+    ensures { CountsOutsideATurn (Moves O.meaning O.counted) O.counted }
 {}

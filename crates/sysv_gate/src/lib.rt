@@ -2,8 +2,11 @@
 //! object one turn at a time, in the order of their tickets, and all turns make one history.
 #![tactic(auto)]
 
+mod awaited;
+mod bell;
 mod board;
 mod closing;
+mod count;
 mod gate;
 mod laws;
 mod object;
@@ -15,10 +18,13 @@ mod seat;
 mod tests;
 mod turns;
 mod view;
+mod waits;
 
+pub use awaited::Awaited;
 pub use closing::Closing;
+pub use count::Count;
 pub use gate::Gate;
-pub use laws::{no_turn_of_two_seats, one_history, one_turn_at_a_time};
+pub use laws::{counts_outside_a_turn, no_turn_of_two_seats, one_history, one_turn_at_a_time};
 pub use object::Object;
 pub use refusals::{OpenRefused, TryRefused, Worn};
 pub use seat::Seat;

@@ -30,7 +30,7 @@ impl<O: Object> TableRule<Option<Place<O, O::Call, O::Reply>>, View<O, O::Call, 
     ghost use Rattle.sysv_gate.specs.History.{Moves};
     ghost use Rattle.sysv_gate.specs.Rule.{Gated, start};
 
-    ghost holds = { λ key. Gated (Moves O.meaning O.counted) key.opening.value key.first };
+    ghost holds = { λ key. Gated (Moves O.meaning O.counted) O.counted key.opening.value key.first };
 
     ghost first = { λ key. start key.opening.value key.first };
 }
@@ -63,7 +63,7 @@ impl<O: Object> Play<Option<Place<O, O::Call, O::Reply>>, View<O, O::Call, O::Re
     ghost use Rattle.sysv_gate.specs.History.{Moves};
     ghost use Rattle.sysv_gate.specs.Steps.{Turns};
 
-    ghost then = { Turns (Moves O.meaning O.counted) };
+    ghost then = { Turns (Moves O.meaning O.counted) O.counted };
 }
 
 /// The compare-exchange that draws the very ticket that is served, and begins its turn.
@@ -76,7 +76,28 @@ impl<O: Object> Play<Option<Place<O, O::Call, O::Reply>>, View<O, O::Call, O::Re
     ghost use Rattle.sysv_gate.specs.History.{Moves};
     ghost use Rattle.sysv_gate.specs.Steps.{Enters};
 
-    ghost then = { Enters (Moves O.meaning O.counted) };
+    ghost then = { Enters (Moves O.meaning O.counted) O.counted };
+}
+
+/// An addition to the word of a count, in a turn in which the count has risen.
+pub(crate) struct Announcing;
+
+impl<O, C, R> Play<Option<Place<O, C, R>>, View<O, C, R>> for Announcing {
+    ghost use Rattle.sysv_gate.specs.Steps.{Announces};
+
+    ghost then = { Announces };
+}
+
+/// A load of the word of a count.
+pub(crate) struct Reading<O> {
+    object: PhantomData<O>,
+}
+
+impl<O: Object> Play<Option<Place<O, O::Call, O::Reply>>, View<O, O::Call, O::Reply>>
+    for Reading<O> {
+    ghost use Rattle.sysv_gate.specs.Steps.{Reads};
+
+    ghost then = { Reads O.counted };
 }
 
 /// The addition that ends a turn. It enters the turn into the history, and gives the object home.
@@ -114,9 +135,9 @@ impl<O: Object> Play<Option<Place<O, O::Call, O::Reply>>, View<O, O::Call, O::Re
 pub(crate) struct Sharing;
 
 impl<O, C, R> Split<View<O, C, R>> for Sharing {
-    ghost use Rattle.sysv_gate.specs.Steps.{newcomer};
+    ghost use Rattle.sysv_gate.specs.Steps.{parted, newcomer};
 
-    ghost left = { λ v. v };
+    ghost left = { parted };
 
     ghost right = { newcomer };
 }

@@ -2,7 +2,7 @@ ghost use Rattle.std.specs.Prelude.{◌≡◌, ℕ, ◌+◌, ◌%◌, ◌^◌, �
 
 mod threads;
 
-use crate::{Gate, Object, OpenRefused, Seat, TryRefused};
+use crate::{Awaited, Gate, Object, OpenRefused, Seat, TryRefused};
 use std::process::Abort;
 use std::test::Fail;
 
@@ -212,5 +212,37 @@ fn seats_come_and_go(rt: HostRuntime) -> Result<(), Fail> {
         (closing.turns, closing.object.map(|sum| sum.sum)),
         (4, Some(10))
     );
+    Ok(())
+}
+
+// The first count rises at odd numbers, and the second at even ones.
+#[test]
+fn counts_are_announced(rt: HostRuntime) -> Result<(), Fail> {
+    let (gate, mut seat) = opened(&rt, 0).ok_or("no memory")?;
+    assert_eq!(rt; (gate.arrived(&mut seat), gate.freed(&mut seat)), (0, 0));
+    let mut other = gate.split(&mut seat);
+    assert!(rt; matches!(&gate.call(&rt, &mut seat, 5), Ok(0)));
+    assert!(rt; matches!(&gate.call(&rt, &mut seat, 7), Ok(5)));
+    assert!(rt; matches!(&gate.call(&rt, &mut seat, 4), Ok(12)));
+    assert_eq!(rt; (gate.arrived(&mut seat), gate.freed(&mut seat)), (2, 1));
+    assert_eq!(rt; gate.await_arrived(&rt, &mut seat, 2), Awaited::Reached(2));
+    assert_eq!(rt; (gate.arrived(&mut other), gate.freed(&mut other)), (2, 1));
+    assert!(rt; matches!(&gate.try_call(&mut other, 2), Ok(16)));
+    assert_eq!(rt; gate.await_freed(&rt, &mut seat, 1), Awaited::Reached(2));
+    gate.join(&mut seat, other);
+    assert_eq!(rt; gate.close(seat).turns, 4);
+    Ok(())
+}
+
+// A wait for what has come is answered at a worn gate, and another wait is given up.
+#[test]
+fn a_wait_at_a_worn_gate_ends(rt: HostRuntime) -> Result<(), Fail> {
+    let (gate, mut seat) = opened(&rt, LIMIT - 1).ok_or("no memory")?;
+    assert!(rt; matches!(&gate.call(&rt, &mut seat, 9), Ok(0)));
+    assert_eq!(rt; gate.await_arrived(&rt, &mut seat, 1), Awaited::Reached(1));
+    assert_eq!(rt; gate.await_arrived(&rt, &mut seat, 2), Awaited::Worn);
+    assert_eq!(rt; gate.await_freed(&rt, &mut seat, 0), Awaited::Reached(0));
+    assert_eq!(rt; gate.await_freed(&rt, &mut seat, 1), Awaited::Worn);
+    assert_eq!(rt; gate.close(seat).turns, 1);
     Ok(())
 }

@@ -1,30 +1,61 @@
 //! The parts of a call, each of which makes some steps on the table.
-ghost use Rattle.std.specs.Prelude.{◌≡◌, ◌≢◌, ℕ, ◌^◌, ◌<◌, ◌≤◌, true, [], ◌∷◌, length, IfSome, IfNone};
-ghost use Rattle.sysv_gate.specs.History.{Moves};
-ghost use Rattle.sysv_gate.specs.Steps.{HasTurn};
-ghost use Rattle.sysv_gate.specs.Turns.{IsOf, IsSameToken, Waits, Looked, HasDrawn, HasWorn, SawMore, TurnCame, HasMade, Entered};
+ghost use Rattle.std.specs.Prelude.{◌≡◌, ◌≢◌, ℕ, ◌^◌, ◌<◌, ◌≤◌, cond, true, [], ◌∷◌, length, IfSome, IfNone};
+ghost use Rattle.sysv_gate.specs.History.{Moves, AreBelow, after_all};
+ghost use Rattle.sysv_gate.specs.Counts.{of_count};
+ghost use Rattle.sysv_gate.specs.Steps.{announced_by, HasTurn};
+ghost use Rattle.sysv_gate.specs.Turns.{IsOf, IsSameToken, Waits, Looked, HasDrawn, HasWorn, SawMore, TurnCame, HasMade, Entered, Applied};
 ghost use Rattle.sysv_gate.specs.Numbers.{times};
 
+use crate::bell::LOW_BITS;
 use crate::board::{LIMIT, OBJECT, SERVING, TICKET, Token};
+use crate::count::Count;
 use crate::gate::Gate;
 use crate::object::Object;
 use crate::place::{Done, Place};
-use crate::rule::{Drawing, Ending, Entering, Looking, Weighing};
+use crate::rule::{Announcing, Drawing, Ending, Entering, Looking, Weighing};
 use std::hint;
 use std::snapshot::Snapshot;
 use std::sync::Wait;
 
 /// So often a waiter looks before it sleeps.
-const SPINS: u64 = 1024;
-
-/// A sleep compares the low 32 bits of the word.
-const LOW_BITS: u64 = 0xffff_ffff;
+pub(crate) const SPINS: u64 = 1024;
 
 // What came of a try to enter.
 pub(crate) enum Entry {
     Turn,
     Busy,
     Worn,
+}
+
+/// Which of the two counts have risen in a turn.
+#[derive(Clone, Copy)]
+pub(crate) struct Rose {
+    pub(crate) arrived: bool,
+    pub(crate) freed: bool,
+}
+
+// Makes the call. The object comes back beside the call that it served.
+fn apply<O: Object>(mut object: O, call: O::Call) -> (Place<O, O::Call, O::Reply>, O::Reply, Rose)
+    requires { AreBelow (2 ^ 63) (O.counted object) }
+    ensures { Applied (Moves O.meaning O.counted) O.counted object call result.0 result.1 result.2 }
+{
+    let before = object.counts();
+    let asked = Snapshot::of(&call);
+    let reply = object.apply(call);
+    let after = object.counts();
+    let last = Done {
+        call: asked,
+        reply: Snapshot::of(&reply),
+    };
+    let rose = Rose {
+        arrived: after.0 > before.0,
+        freed: after.1 > before.1,
+    };
+    let place = Place {
+        object,
+        last: Some(last),
+    };
+    (place, reply, rose)
 }
 
 impl<O: Object> Gate<O> {
@@ -57,7 +88,7 @@ impl<O: Object> Gate<O> {
         requires table { IsOf self.now token.old }
         requires idle { Waits [] token.old.me }
         ensures same { IsSameToken token.old token.new }
-        ensures entered { Entered (Moves O.meaning O.counted) self.now.opening token.old.me result token.new.me }
+        ensures entered { Entered (Moves O.meaning O.counted) O.counted self.now.opening token.old.me result token.new.me }
     {
         let next = self.table.shared.load::<Weighing>(token, TICKET);
         if next >= LIMIT {
@@ -82,7 +113,7 @@ impl<O: Object> Gate<O> {
         requires table { IsOf self.now token.old }
         requires waits { Waits (ticket ∷ []) token.old.me }
         ensures same { IsSameToken token.old token.new }
-        ensures turn { TurnCame (Moves O.meaning O.counted) self.now.opening token.old.me.0 ticket token.new.me }
+        ensures turn { TurnCame (Moves O.meaning O.counted) O.counted self.now.opening token.old.me.0 ticket token.new.me }
     {
         for _ in rt.forever() {
             let served = self.spin(token, ticket);
@@ -101,7 +132,7 @@ impl<O: Object> Gate<O> {
         requires table { IsOf self.now token.old }
         requires waits { Waits (ticket ∷ []) token.old.me }
         ensures same { IsSameToken token.old token.new }
-        ensures turn { result ≡ ticket → TurnCame (Moves O.meaning O.counted) self.now.opening token.old.me.0 ticket token.new.me }
+        ensures turn { result ≡ ticket → TurnCame (Moves O.meaning O.counted) O.counted self.now.opening token.old.me.0 ticket token.new.me }
         ensures waits { result ≢ ticket → SawMore token.old.me.0 token.new.me }
     {
         let mut served = self.look(token);
@@ -120,56 +151,76 @@ impl<O: Object> Gate<O> {
         requires table { IsOf self.now token.old }
         requires idle { Waits token.old.me.0.tickets token.old.me }
         ensures same { IsSameToken token.old token.new }
-        ensures looked { Looked (Moves O.meaning O.counted) self.now.opening token.old.me result token.new.me }
+        ensures looked { Looked (Moves O.meaning O.counted) O.counted self.now.opening token.old.me result token.new.me }
     {
         self.table.shared.load::<Looking<O>>(token, SERVING)
     }
 
-    // Makes the turn: takes the object out of the slot, calls it, gives it home, and enters the turn into the history.
-    pub(crate) fn serve(&self, token: &mut Token<O>, call: O::Call) -> O::Reply
+    // Announces a count in the seat's turn, where it has risen.
+    fn announce(&self, token: &mut Token<O>, count: Count, rose: bool)
         requires table { IsOf self.now token.old }
-        requires turn { HasTurn (Moves O.meaning O.counted) self.now.opening token.old.me }
+        requires turn { token.old.me.0.in_turn ≡ true }
+        requires quiet { of_count count token.old.me.0.announced ≡ 0 }
+        requires low { of_count count (O.counted (after_all self.now.opening token.old.me.0.seen)) < 2 ^ 63 }
+        ensures same { IsSameToken token.old token.new }
+        ensures announced { token.new.me ≡ (announced_by count (cond rose 1 0) token.old.me.0, token.old.me.1) }
+    {
+        if rose {
+            self.table
+                .shared
+                .fetch_add::<Announcing>(token, count.word(), 1);
+        }
+    }
+
+    // Makes the turn: takes the object out of the slot, calls it, announces its counts, gives it home, and enters the
+    // turn into the history.
+    pub(crate) fn serve(&self, token: &mut Token<O>, call: O::Call) -> (O::Reply, Rose)
+        requires table { IsOf self.now token.old }
+        requires turn { HasTurn (Moves O.meaning O.counted) O.counted self.now.opening token.old.me }
         requires ticket { (t : ℕ) × (token.old.me.0.tickets ≡ t ∷ []) × (token.old.me.0.in_turn ≡ true) }
         requires named { 1 ≤ times token.old.me.0.number token.old.me.0.numbers }
         requires room { length token.old.me.0.seen < 2 ^ 62 }
         ensures same { IsSameToken token.old token.new }
-        ensures made { HasMade (Moves O.meaning O.counted) self.now.opening token.old.me.0 call result token.new.me }
+        ensures made { HasMade (Moves O.meaning O.counted) self.now.opening token.old.me.0 call result.0 token.new.me }
     {
         let shared = &self.table.shared;
-        let Some(
-            Place {
-                mut object,
-                last: _,
-            },
-        ) = shared.exchange(token, OBJECT, None)
-        else {
+        let Some(Place { object, last: _ }) = shared.exchange(token, OBJECT, None) else {
             unreachable!()
         };
-        let asked = Snapshot::of(&call);
-        let reply = object.apply(call);
-        let last = Done {
-            call: asked,
-            reply: Snapshot::of(&reply),
-        };
-        let left = shared.exchange(
-            token,
-            OBJECT,
-            Some(Place {
-                object,
-                last: Some(last),
-            }),
-        );
+        let (place, reply, rose) = apply(object, call);
+        let left = shared.exchange(token, OBJECT, Some(place));
         let None = left else { unreachable!() };
+        self.announce(token, Count::Arrived, rose.arrived);
+        self.announce(token, Count::Freed, rose.freed);
         shared.fetch_add::<Ending>(token, SERVING, 1);
-        reply
+        (reply, rose)
     }
 
-    // Wakes those who wait, where a ticket after this one was drawn.
-    pub(crate) fn wake_after(&self, ticket: u64)
+    // Wakes those who wait for their turn, where a ticket after this one was drawn, and those who wait for what rose.
+    pub(crate) fn wake_after(&self, ticket: u64, rose: Rose)
         requires { ticket < 2 ^ 62 }
     {
         if self.table.shared.peek(TICKET) > ticket + 1 {
             self.table.shared.wake_all(SERVING);
         }
+        if rose.arrived {
+            self.arrived.ring();
+        }
+        if rose.freed {
+            self.freed.ring();
+        }
+    }
+
+    // Tells those who wait for a count, where this was the last ticket.
+    pub(crate) fn tell_worn(&self, ticket: u64) {
+        if ticket >= LIMIT - 1 {
+            self.ring();
+        }
+    }
+
+    // Wakes those who wait for a count.
+    pub(crate) fn ring(&self) {
+        self.arrived.ring();
+        self.freed.ring();
     }
 }

@@ -33,4 +33,10 @@ pub struct View<O, C, R> {
     pub in_turn: bool,
     /// Whether the seat has found that the tickets have reached 2^62.
     pub worn: bool,
+    /// The greatest values of the two counts that the seat has read.
+    pub read: (u64, u64),
+    /// What the seat has added to the two counts in its turn.
+    pub announced: (u64, u64),
+    /// Whether no other seat was ever given.
+    pub alone: bool,
 }

@@ -2,13 +2,13 @@
 ghost use Rattle.std.specs.Prelude.{◌≡◌, IfSome};
 ghost use Rattle.std.specs.Thread.{IsSync};
 
-use super::{Sum, opened};
-use crate::{Gate, Seat};
+use super::{LIMIT, Sum, opened};
+use crate::{Awaited, Gate, Seat};
 use std::sync::Wait;
 use std::test::Fail;
-use std::thread;
 use std::thread::{Threads, join};
 use std::time::{Clock, CpuClock, Duration};
+use std::{hint, thread};
 
 /// What each of the threads does so often.
 const TIMES: u64 = 10_000;
@@ -103,8 +103,8 @@ fn call_slowly<R: Wait + Clock>(rt: &R, gate: &Gate<Sum>, mut seat: Seat<Sum>) -
     };
     gate.reach(rt, &mut seat.token, ticket);
     thread::sleep(rt, Duration::from_secs(1));
-    gate.serve(&mut seat.token, 1);
-    gate.wake_after(ticket);
+    let (_, rose) = gate.serve(&mut seat.token, 1);
+    gate.wake_after(ticket, rose);
     true
 }
 
@@ -147,5 +147,164 @@ fn a_waiter_sleeps(rt: HostRuntime) -> Result<(), Fail> {
     let closing = gate.close(seat);
     assert!(rt; held && used.is_some_and(|used| used < Duration::from_millis(100)));
     assert_eq!(rt; closing.turns, 2);
+    Ok(())
+}
+
+/// So many rounds the two counts go there and back.
+const ROUNDS: u64 = 500;
+
+/// A watcher looks so often, every 10 milliseconds, before it takes a standstill for a lost wake.
+const PATIENCE: u64 = 300;
+
+// Passes some time, in each round another.
+fn dither(round: u64) {
+    for _ in 0..round.wrapping_mul(977) % 4096 {
+        hint::spin_loop();
+    }
+}
+
+// Raises the first count, and waits for the second.
+fn say_often(rt: &impl Wait, gate: &Gate<Sum>, mut seat: Seat<Sum>) -> Option<u64>
+    requires { seat.gate ≡ gate.now }
+{
+    for round in 1..=ROUNDS {
+        dither(round);
+        gate.call(rt, &mut seat, 1).ok()?;
+        gate.await_freed(rt, &mut seat, round);
+    }
+    Some(gate.freed(&mut seat))
+}
+
+// Waits for the first count, and raises the second.
+fn answer_often(rt: &impl Wait, gate: &Gate<Sum>, mut seat: Seat<Sum>) -> Option<u64>
+    requires { seat.gate ≡ gate.now }
+{
+    for round in 1..=ROUNDS {
+        gate.await_arrived(rt, &mut seat, round);
+        dither(round.wrapping_mul(31));
+        gate.call(rt, &mut seat, 2).ok()?;
+    }
+    Some(gate.arrived(&mut seat))
+}
+
+fn talk<R: Threads + Wait + Sync>(
+    rt: &R,
+    gate: &Gate<Sum>,
+    one: Seat<Sum>,
+    two: Seat<Sum>,
+) -> (Option<u64>, Option<u64>)
+    requires one { one.gate ≡ gate.now }
+    requires two { two.gate ≡ gate.now }
+{
+    join(
+        rt,
+        || say_often(rt, gate, one),
+        || answer_often(rt, gate, two),
+    )
+}
+
+// Looks at the counts until the last round is over, and answers where they stood still for seconds, if they did. There it
+// wakes those who sleep, so that the rounds go on.
+fn watch<R: Wait + Clock>(rt: &R, gate: &Gate<Sum>, mut seat: Seat<Sum>) -> Option<u64>
+    requires { seat.gate ≡ gate.now }
+{
+    let mut stood = None;
+    let mut before = 0;
+    let mut patience = PATIENCE;
+    for _ in 0..100_000 {
+        let now = gate.freed(&mut seat);
+        if now >= ROUNDS {
+            break;
+        }
+        patience = if now == before {
+            patience.saturating_sub(1)
+        } else {
+            PATIENCE
+        };
+        if patience == 0 {
+            stood = Some(now);
+            gate.wake(rt);
+        }
+        before = now;
+        thread::sleep(rt, Duration::from_millis(10));
+    }
+    stood
+}
+
+fn talk_watched<R: Threads + Wait + Clock + Sync>(
+    rt: &R,
+    gate: &Gate<Sum>,
+    one: Seat<Sum>,
+    two: Seat<Sum>,
+    third: Seat<Sum>,
+) -> (Option<u64>, (Option<u64>, Option<u64>))
+    requires one { one.gate ≡ gate.now }
+    requires two { two.gate ≡ gate.now }
+    requires third { third.gate ≡ gate.now }
+{
+    join(
+        rt,
+        || watch(rt, gate, third),
+        || -> (Option<u64>, Option<u64>)
+            requires { IsSync R.row × (one.gate ≡ gate.now) × (two.gate ≡ gate.now) }
+        { talk(rt, gate, one, two) },
+    )
+}
+
+// A wake that is lost leaves both asleep, and the watcher tells in which round.
+#[test]
+fn no_wake_is_lost(rt: HostRuntime) -> Result<(), Fail> {
+    let (gate, mut seat) = opened(&rt, 0).ok_or("no memory")?;
+    let one = gate.split(&mut seat);
+    let two = gate.split(&mut seat);
+    let third = gate.split(&mut seat);
+    let (stood, ended) = talk_watched(&rt, &gate, one, two, third);
+    let turns = gate.close(seat).turns;
+    assert_eq!(rt; stood, None);
+    assert_eq!(rt; ended, (Some(ROUNDS), Some(ROUNDS)));
+    assert_eq!(rt; turns, 2 * ROUNDS);
+    Ok(())
+}
+
+// Waits for a count that no call raises.
+fn wait_in_vain(rt: &impl Wait, gate: &Gate<Sum>, mut seat: Seat<Sum>) -> Awaited
+    requires { seat.gate ≡ gate.now }
+{
+    gate.await_arrived(rt, &mut seat, 1)
+}
+
+// Draws the last ticket, once the other sleeps.
+fn wear_out<R: Wait + Clock>(rt: &R, gate: &Gate<Sum>, mut seat: Seat<Sum>) -> bool
+    requires { seat.gate ≡ gate.now }
+{
+    thread::sleep(rt, Duration::from_millis(100));
+    gate.call(rt, &mut seat, 2).is_ok()
+}
+
+fn wear_out_under<R: Threads + Wait + Clock + Sync>(
+    rt: &R,
+    gate: &Gate<Sum>,
+    waiting: Seat<Sum>,
+    wearing: Seat<Sum>,
+) -> (Awaited, bool)
+    requires waiting { waiting.gate ≡ gate.now }
+    requires wearing { wearing.gate ≡ gate.now }
+{
+    join(
+        rt,
+        || wait_in_vain(rt, gate, waiting),
+        || wear_out(rt, gate, wearing),
+    )
+}
+
+#[test]
+fn a_sleeper_is_told_that_the_gate_is_worn(rt: HostRuntime) -> Result<(), Fail> {
+    let (gate, mut seat) = opened(&rt, LIMIT - 1).ok_or("no memory")?;
+    let waiting = gate.split(&mut seat);
+    let wearing = gate.split(&mut seat);
+    let ended = wear_out_under(&rt, &gate, waiting, wearing);
+    let turns = gate.close(seat).turns;
+    assert_eq!(rt; ended, (Awaited::Worn, true));
+    assert_eq!(rt; turns, 1);
     Ok(())
 }

@@ -5,10 +5,10 @@ use Rattle.sysv_gate.proofs.gate.Gate.join.Goals as goal
 pub join_seat-requires : goal.join_seat-requires
 join_seat-requires g c =
     let rests = c.into_token-token.ensures in
-    (search rules, search rules, search rules, search rules, joins _ _ _ _ _ _ _ c.seat.invariant.named c.seat.invariant.no_turn rests.no_ticket rests.no_turn)
+    (search rules, search rules, search rules, search rules, joins _ g.O.Object.counted _ _ _ _ _ _ c.seat.invariant.named c.seat.invariant.no_turn rests.no_ticket rests.no_turn)
 
 pub load-requires : goal.load-requires
-load-requires g c = (search rules, search rules, merges _ _ _ _ _ _ (ap (λ m. m.0.in_turn) c.join_seat.ensures.2 ∙ c.seat.invariant.no_turn))
+load-requires g c = (search rules, search rules, merges _ g.O.Object.counted _ _ _ _ _ (ap (λ m. m.0.in_turn) c.join_seat.ensures.2 ∙ c.seat.invariant.no_turn))
 
 pub invariant_of-seat : goal.invariant_of-seat
 invariant_of-seat g c =
@@ -44,4 +44,5 @@ returns-clause-joined g c =
       seen = ap (λ h. h.seen) c.seat.view_is;
       own = ap (λ h. h.own) c.seat.view_is;
       worn = ap (λ h. h.worn) c.seat.view_is;
-    }) other.numbers other.seen other.own other.worn told
+      read = ap (λ h. h.read) c.seat.view_is;
+    }) other.numbers other.seen other.own other.worn other.read told

@@ -3,9 +3,9 @@ use Rattle.sysv_gate.proofs.Seating.{splits, names}
 use Rattle.sysv_gate.proofs.gate.Gate.split.Goals as goal
 
 pub split_seat-token-requires : goal.split_seat-token-requires
-split_seat-token-requires g c = (search rules, search rules, splits _ _ _ _ _)
+split_seat-token-requires g c = (search rules, search rules, splits _ g.O.Object.counted _ _ _ _)
 
 pub load-requires : goal.load-requires
 load-requires g c =
     let is = c.split_seat-token.ensures.4 in
-    (search rules, search rules, names _ _ _ _ _ _ c.seat.inside.key.value.opening.value (ap (λ m. m.0.opening) is ∙ c.seat.invariant.opening) (ap (λ m. m.0.numbers) is) (ap (λ m. m.0.in_turn) is))
+    (search rules, search rules, names _ g.O.Object.counted _ _ _ _ _ c.seat.inside.key.value.opening.value (ap (λ m. m.0.opening) is ∙ c.seat.invariant.opening) (ap (λ m. m.0.numbers) is) (ap (λ m. m.0.in_turn) is))

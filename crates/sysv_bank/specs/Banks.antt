@@ -1,0 +1,55 @@
+-- What is so of a bank and its seats, place by place.
+use Rattle.std.specs.Prelude.{◌≡◌, ℕ, ◌^◌, ◌<◌, ◌≤◌, List, [], ◌∷◌, ◌++◌, map, slice_set, Vec}
+use Rattle.std.specs.List.{All}
+use mathlib.Core.Option.{some}
+use lib.ListN.{get_elem?}
+use Rattle.sysv_gate.specs.Gates.{Gateway, Holding, split_off}
+use Rattle.sysv_gate.specs.declared.refusals.OpenRefused.{OpenRefused}
+use Rattle.sysv_gate.specs.declared.refusals.OpenRefused.TheVariants.{NoMemory, BadStart}
+
+-- the lists have as many elements, and the fact is so of the two at each place
+abbrev pub Each2 : {A B : Type 0} → (A → B → Type 0) → List A → List B → Type 0
+Each2 fact [] [] = Unit {0}
+Each2 fact [] (y ∷ ys) = ⊥
+Each2 fact (x ∷ xs) [] = ⊥
+Each2 fact (x ∷ xs) (y ∷ ys) = fact x y × Each2 fact xs ys
+
+-- the same of three lists
+abbrev pub Each3 : {A B C : Type 0} → (A → B → C → Type 0) → List A → List B → List C → Type 0
+Each3 fact [] [] [] = Unit {0}
+Each3 fact [] [] (z ∷ zs) = ⊥
+Each3 fact [] (y ∷ ys) zs = ⊥
+Each3 fact (x ∷ xs) [] zs = ⊥
+Each3 fact (x ∷ xs) (y ∷ ys) [] = ⊥
+Each3 fact (x ∷ xs) (y ∷ ys) (z ∷ zs) = fact x y z × Each3 fact xs ys zs
+
+-- one element has changed so, and the others are what they were
+pub record ChangesAt {A : Type 0} (place : ℕ) (before after : List A) (how : A → A → Type 0) : Type 0 where
+  pub was : A
+  pub is : A
+  pub at : get_elem? before place ≡ some was
+  pub others : after ≡ slice_set before place is
+  pub change : how was is
+
+module _ {O C R : Type 0} where
+  -- the gate of each seat
+  abbrev pub gates_of : List (Holding O C R) → List (Gateway O)
+  gates_of seats = map (λ h. h.gate) seats
+
+  -- each of the seats is of the gate at the same place, and there may be more gates
+  abbrev pub AreOfFirst : List (Gateway O) → List (Holding O C R) → Type 0
+  AreOfFirst gates seats = (more : List (Gateway O)) × (gates ≡ gates_of seats ++ more)
+
+  -- the seat was split off
+  abbrev pub IsSplit : Holding O C R → Holding O C R → Type 0
+  IsSplit h other = (number : ℕ) × (other ≡ split_off number h)
+
+module _ {O : Type 0} where
+  -- the gates were opened with these objects, and with this first ticket
+  abbrev pub AreOpened : List O → ℕ → List (Gateway O) → Type 0
+  AreOpened objects first gates = (map (λ g. g.opening) gates ≡ objects) × All (λ g. g.first ≡ first) gates
+
+  -- the objects come back, and a start is called bad just where it is above 2^62
+  abbrev pub GivesBack : {Z : Type 0} → ℕ → List O → OpenRefused (Vec O Z) → Type 0
+  GivesBack first objects (NoMemory back) = (back.items ≡ objects) × (first ≤ 2 ^ 62)
+  GivesBack first objects (BadStart back) = (back.items ≡ objects) × (2 ^ 62 < first)

@@ -1,0 +1,107 @@
+//! The calls at the places of a bank.
+ghost use Rattle.std.specs.Prelude.{◌≡◌, ◌<◌, length, IfOk, IfErr, OnOk, false};
+ghost use Rattle.sysv_gate.specs.History.{Moves};
+ghost use Rattle.sysv_gate.specs.Gates.{Answers, Learns, read_to, marked};
+ghost use Rattle.sysv_gate.specs.Refusals.{Refuses};
+ghost use Rattle.sysv_gate.specs.Waits.{Waited};
+ghost use Rattle.sysv_gate.specs.declared.count.Count.TheVariants.{Arrived, Freed};
+ghost use Rattle.sysv_bank.specs.Banks.{gates_of, ChangesAt};
+
+use crate::bank::Bank;
+use crate::seat::BankSeat;
+use std::sync::Wait;
+use sysv_gate::{Awaited, Object, TryRefused, Worn};
+
+impl<O: Object> Bank<O> {
+    /// Makes the call at the place in a turn of the seat's own, as `Gate::call`.
+    pub fn call(
+        &self,
+        rt: &impl Wait,
+        place: usize,
+        seat: &mut BankSeat<O>,
+        call: O::Call,
+    ) -> Result<O::Reply, Worn<O::Call>>
+        requires seat { gates_of seat.old ≡ self.now }
+        requires place { place < length self.now }
+        ensures gates { gates_of seat.new ≡ self.now }
+        ensures ok { IfOk result (λ r. ChangesAt place seat.old seat.new (λ before after. Answers (Moves O.meaning O.counted) O.counted before call r after × (before.worn ≡ false))) }
+        ensures worn { IfErr result (λ w. (w.call ≡ call) × ChangesAt place seat.old seat.new (λ before after. after ≡ marked before)) }
+    {
+        self.gates[place].call(rt, &mut seat.seats[place], call)
+    }
+
+    /// Makes the call at the place where no other seat has the turn there or waits for it, as `Gate::try_call`.
+    pub fn try_call(
+        &self,
+        place: usize,
+        seat: &mut BankSeat<O>,
+        call: O::Call,
+    ) -> Result<O::Reply, TryRefused<O::Call>>
+        requires seat { gates_of seat.old ≡ self.now }
+        requires place { place < length self.now }
+        ensures gates { gates_of seat.new ≡ self.now }
+        ensures ok { IfOk result (λ r. ChangesAt place seat.old seat.new (λ before after. Answers (Moves O.meaning O.counted) O.counted before call r after × (before.worn ≡ false))) }
+        ensures err { IfErr result (λ e. ChangesAt place seat.old seat.new (λ before after. Refuses (Moves O.meaning O.counted) before call e after)) }
+    {
+        self.gates[place].try_call(&mut seat.seats[place], call)
+    }
+
+    /// Ends the sleep of each thread that waits at the place, as `Gate::wake`.
+    pub fn wake(&self, rt: &impl Wait, place: usize)
+        requires { place < length self.now }
+    {
+        self.gates[place].wake(rt);
+    }
+
+    /// The first count of the object at the place, as `Gate::arrived`.
+    pub fn arrived(&self, place: usize, seat: &mut BankSeat<O>) -> u64
+        requires seat { gates_of seat.old ≡ self.now }
+        requires place { place < length self.now }
+        ensures gates { gates_of seat.new ≡ self.now }
+        ensures read { ChangesAt place seat.old seat.new (λ before after. (after ≡ read_to Arrived result before) × Learns O.counted Arrived before result) }
+    {
+        self.gates[place].arrived(&mut seat.seats[place])
+    }
+
+    /// The second count of the object at the place, as `Gate::freed`.
+    pub fn freed(&self, place: usize, seat: &mut BankSeat<O>) -> u64
+        requires seat { gates_of seat.old ≡ self.now }
+        requires place { place < length self.now }
+        ensures gates { gates_of seat.new ≡ self.now }
+        ensures read { ChangesAt place seat.old seat.new (λ before after. (after ≡ read_to Freed result before) × Learns O.counted Freed before result) }
+    {
+        self.gates[place].freed(&mut seat.seats[place])
+    }
+
+    /// Waits until the first count at the place is at least `goal`, as `Gate::await_arrived`.
+    pub fn await_arrived(
+        &self,
+        rt: &impl Wait,
+        place: usize,
+        seat: &mut BankSeat<O>,
+        goal: u64,
+    ) -> Awaited
+        requires seat { gates_of seat.old ≡ self.now }
+        requires place { place < length self.now }
+        ensures gates { gates_of seat.new ≡ self.now }
+        ensures waited { ChangesAt place seat.old seat.new (λ before after. Waited O.counted Arrived goal before result after) }
+    {
+        self.gates[place].await_arrived(rt, &mut seat.seats[place], goal)
+    }
+
+    /// Waits until the second count at the place is at least `goal`, as `Gate::await_freed`.
+    pub fn await_freed(
+        &self,
+        rt: &impl Wait,
+        place: usize,
+        seat: &mut BankSeat<O>,
+        goal: u64,
+    ) -> Awaited
+        requires seat { gates_of seat.old ≡ self.now }
+        requires place { place < length self.now }
+        ensures gates { gates_of seat.new ≡ self.now }
+        ensures waited { ChangesAt place seat.old seat.new (λ before after. Waited O.counted Freed goal before result after) }
+    {
+        self.gates[place].await_freed(rt, &mut seat.seats[place], goal)
+    }
+}

@@ -1,0 +1,15 @@
+//! A bank of gates: several objects, each behind a gate of its own, so that calls at different places do not wait for one
+//! another. A seat of the bank has one seat at each gate.
+#![tactic(auto)]
+
+mod bank;
+mod calls;
+mod opening;
+mod refusals;
+mod seat;
+#[cfg(test)]
+mod tests;
+
+pub use bank::Bank;
+pub use refusals::NoMemory;
+pub use seat::BankSeat;

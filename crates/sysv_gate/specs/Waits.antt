@@ -1,0 +1,12 @@
+-- What a wait for a count answers.
+use Rattle.std.specs.Prelude.{◌≡◌, ℕ, ◌<◌, ◌≤◌}
+use Rattle.sysv_gate.specs.declared.count.Count.{Count}
+use Rattle.sysv_gate.specs.declared.awaited.Awaited.{Awaited}
+use Rattle.sysv_gate.specs.declared.awaited.Awaited.TheVariants.{Reached, Worn}
+use Rattle.sysv_gate.specs.Gates.{Holding, marked, read_to, Learns}
+
+-- The count that it answers is at least the goal, and at least what the seat knew of it. Where the wait was given up, the
+-- count that was read last is below the goal, and the seat has found that the tickets have reached 2^62
+abbrev pub Waited : {O C R : Type 0} → (O → ℕ × ℕ) → Count → ℕ → Holding O C R → Awaited → Holding O C R → Type 0
+Waited counted count goal before (Reached n) after = (goal ≤ n) × Learns counted count before n × (after ≡ read_to count n before)
+Waited counted count goal before Worn after = (n : ℕ) × (n < goal) × Learns counted count before n × (after ≡ marked (read_to count n before))
