@@ -10,6 +10,7 @@ pub mod Slot
 pub mod Fits
 pub mod Granted
 pub mod Named
+pub mod Shown
 pub mod LegalReply
 pub mod StandsFor
 pub mod Replies
