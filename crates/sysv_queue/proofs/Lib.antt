@@ -15,3 +15,4 @@ pub mod OneOwner
 pub mod InOrder
 pub mod Law
 pub mod OneLegalReply
+pub mod Shows

@@ -1,18 +1,22 @@
 -- Each call that is there has exactly one legal reply, since what a caller wants is permitted or not
 -- and a selector names one place or none.
-use Rattle.std.proofs.Common.{◌≡◌, ℕ, zero, suc, ℤ, ◌+◌, ◌<◌, ◌≤◌, ◌⊎◌, inl, inr, Bool, true, false, List, Option, None, Some, IsSome, refl, sym, ap, subst, ◌∙◌, arith, length}
+use Rattle.std.proofs.Common.{◌≡◌, ◌≢◌, ℕ, zero, suc, ℤ, ◌+◌, ◌<◌, ◌≤◌, ◌⊎◌, inl, inr, Bool, true, false, List, Option, None, Some, IsSome, refl, sym, ap, subst, ◌∙◌, arith, length, option_map, bit_and}
+use Rattle.std.proofs.lemmas.Bool.{cases_eq}
 use Rattle.sysv_model.specs.declared.cred.Cred.{Cred}
+use Rattle.sysv_model.specs.declared.errno.Errno.TheVariants.{EACCES, EINVAL}
+use Rattle.sysv_model.specs.declared.flags.Flags.{Flags}
 use Rattle.sysv_model.specs.declared.attributes.Attributes.{Attributes}
 use Rattle.sysv_model.specs.Message.{Message}
 use Rattle.sysv_model.specs.declared.selector.Selector.{Selector}
-use Rattle.sysv_model.specs.History.{Call, Install, Look, Place, Take, Reply, Installed, Gone, Denied, Full, Fits, Accepted, NoMatch, TooLong, Taken}
+use Rattle.sysv_model.specs.History.{Call, Install, Probe, Look, Place, Take, ReadStat, ReadRow, Reply, Installed, Gone, Denied, Granted, Full, Fits, Accepted, NoMatch, TooLong, Taken, Told, Refused, Shown}
 use Rattle.sysv_model.specs.Live.{HasId}
 use Rattle.sysv_rules.specs.declared.permission.Want.{Want}
 use Rattle.sysv_rules.specs.declared.permission.Want.TheVariants.{Read, Write}
 use Rattle.sysv_queue.specs.Slot.{Slot, slot_of}
 use Rattle.sysv_queue.specs.Fits.{Fits as FitsOn, bytes_of}
-use Rattle.sysv_queue.specs.Granted.{IsGranted}
-use Rattle.sysv_queue.specs.LegalReply.{Legal, LegalInstall, LegalLook, LegalPlace, LegalTake, HasRoom, Names, IsGivable}
+use Rattle.sysv_queue.specs.Granted.{IsGranted, AsksRead, AsksWrite, MayRead, MayWrite, MayAsAsked}
+use Rattle.sysv_queue.specs.Shown.{stat_of, row_of}
+use Rattle.sysv_queue.specs.LegalReply.{Legal, LegalInstall, LegalProbe, LegalStat, LegalRow, LegalLook, LegalPlace, LegalTake, HasRoom, Names, IsGivable}
 use Rattle.sysv_queue.specs.Named.{types_of}
 use Rattle.sysv_queue.specs.OneReply.{IsThere, SomeReplyIsLegal, NoTwoRepliesAreLegal}
 use Rattle.sysv_queue.proofs.Ids.{decided}
@@ -43,6 +47,10 @@ can_give : (size : ℕ) (noerror : Bool) (m : Message) → IsGivable size noerro
 can_give size true m = inl (inr refl)
 can_give size false m = elim (at_most (length m.bytes) size) [ inl short ↦ inl (inl short) | inr long ↦ inr (never_given size false m long refl) ]
 
+the_live : (l : Option Attributes) (id : ℤ) → HasId l id → (a : Attributes) × (l ≡ Some a)
+the_live None id lives = absurd lives
+the_live (Some a) id lives = (a, refl)
+
 some_install : (l : Option Attributes) (messages : List Message) (arrived freed : ℕ) → (reply : Reply) × LegalInstall (record { live = l; messages = messages; arrived = arrived; freed = freed }) reply
 some_install None messages arrived freed = (Installed true, refl)
 some_install (Some a) messages arrived freed = (Installed false, refl)
@@ -51,6 +59,34 @@ module _ (permitted : PermittedOrNot) (named_or_none : NamedOrNone) where
   granted : (want : Want) (cred : Cred) (l : Option Attributes) → IsGranted want cred l ⊎ ¬ IsGranted want cred l
   granted want cred None = inr (λ h. h)
   granted want cred (Some a) = permitted cred a.perm want
+
+  -- what the flags ask is granted, or not
+  wanted : (want : Want) (bits : ℕ) (cred : Cred) (l : Option Attributes) → (bits ≢ 0 → IsGranted want cred l) ⊎ ¬ (bits ≢ 0 → IsGranted want cred l)
+  wanted want bits cred l = elim (granted want cred l) [
+    | inl may ↦ inl (λ asks. may)
+    | inr not ↦ elim (cases_eq bits 0) [ inl none ↦ inl (λ asks. absurd (asks none)) | inr asks ↦ inr (λ f. not (f asks)) ]
+  ]
+
+  asked : (flags : Flags) (cred : Cred) (l : Option Attributes) → MayAsAsked flags cred l ⊎ ¬ MayAsAsked flags cred l
+  asked flags cred l = elim (wanted Read (bit_and flags.0 0o444) cred l) [
+    | inl read ↦ elim (wanted Write (bit_and flags.0 0o222) cred l) [ inl write ↦ inl (read, write) | inr not ↦ inr (λ w. not w.1) ]
+    | inr not ↦ inr (λ w. not w.0)
+  ]
+
+  some_probe : (s : Slot) (id : ℤ) (cred : Cred) (flags : Flags) → (reply : Reply) × LegalProbe s id cred flags reply
+  some_probe s id cred flags = elim (is_live s.live id) [
+    | inl lives ↦ elim (asked flags cred s.live) [ inl may ↦ (Granted, (lives, may)) | inr not ↦ (Denied, (lives, not)) ]
+    | inr gone ↦ (Gone, gone)
+  ]
+
+  some_stat : (s : Slot) (id : ℤ) (cred : Cred) → (reply : Reply) × LegalStat s id cred reply
+  some_stat s id cred = elim (is_live s.live id) [
+    | inl lives ↦ elim (granted Read cred s.live) [
+      | inl may ↦ let at = the_live s.live id lives in (Told (stat_of s.messages at.0), (lives, may, ap (option_map (stat_of s.messages)) at.1))
+      | inr not ↦ (Refused EACCES, (lives, not))
+    ]
+    | inr gone ↦ (Refused EINVAL, gone)
+  ]
 
   some_look : (s : Slot) (id : ℤ) (cred : Cred) (size : ℕ) → (reply : Reply) × LegalLook s id cred size reply
   some_look s id cred size = elim (is_live s.live id) [
@@ -90,6 +126,9 @@ module _ (permitted : PermittedOrNot) (named_or_none : NamedOrNone) where
 
   some_reply : (s : Slot) (call : Call) → IsThere call → (reply : Reply) × Legal s call reply
   some_reply s (Install id key cred mode now) there = some_install s.live s.messages s.arrived s.freed
+  some_reply s (Probe id cred flags) there = some_probe s id cred flags
+  some_reply s (ReadStat id cred) there = some_stat s id cred
+  some_reply s ReadRow there = (Shown (option_map (row_of s.messages) s.live), refl)
   some_reply s (Look id cred size) there = some_look s id cred size
   some_reply s (Place id cred mtype bytes now) there = some_place s id cred (length bytes)
   some_reply s (Take id cred selector size noerror now) there = some_take s id cred selector size noerror
@@ -112,6 +151,41 @@ one_install s (Installed false) (Installed true) la lb = absurd (taken_and_vacan
 one_install s (Installed true) b la lb = absurd lb
 one_install s (Installed false) b la lb = absurd lb
 one_install s a b la lb = absurd la
+
+one_probe : (s : Slot) (id : ℤ) (cred : Cred) (flags : Flags) (a b : Reply) → LegalProbe s id cred flags a → LegalProbe s id cred flags b → a ≡ b
+one_probe s id cred flags Gone Gone la lb = refl
+one_probe s id cred flags Gone Denied la lb = absurd (la lb.0)
+one_probe s id cred flags Gone Granted la lb = absurd (la lb.0)
+one_probe s id cred flags Denied Gone la lb = absurd (lb la.0)
+one_probe s id cred flags Denied Denied la lb = refl
+one_probe s id cred flags Denied Granted la lb = absurd (la.1 lb.1)
+one_probe s id cred flags Granted Gone la lb = absurd (lb la.0)
+one_probe s id cred flags Granted Denied la lb = absurd (lb.1 la.1)
+one_probe s id cred flags Granted Granted la lb = refl
+one_probe s id cred flags Gone b la lb = absurd lb
+one_probe s id cred flags Denied b la lb = absurd lb
+one_probe s id cred flags Granted b la lb = absurd lb
+one_probe s id cred flags a b la lb = absurd la
+
+one_stat : (s : Slot) (id : ℤ) (cred : Cred) (a b : Reply) → LegalStat s id cred a → LegalStat s id cred b → a ≡ b
+one_stat s id cred (Refused EINVAL) (Refused EINVAL) la lb = refl
+one_stat s id cred (Refused EINVAL) (Refused EACCES) la lb = absurd (la lb.0)
+one_stat s id cred (Refused EINVAL) (Told stat) la lb = absurd (la lb.0)
+one_stat s id cred (Refused EACCES) (Refused EINVAL) la lb = absurd (lb la.0)
+one_stat s id cred (Refused EACCES) (Refused EACCES) la lb = refl
+one_stat s id cred (Refused EACCES) (Told stat) la lb = absurd (la.1 lb.1)
+one_stat s id cred (Told stat) (Refused EINVAL) la lb = absurd (lb la.0)
+one_stat s id cred (Told stat) (Refused EACCES) la lb = absurd (lb.1 la.1)
+one_stat s id cred (Told stat) (Told other) la lb = let same : Some stat ≡ Some other = sym la.2 ∙ lb.2 in ap Told cc
+one_stat s id cred (Refused EINVAL) b la lb = absurd lb
+one_stat s id cred (Refused EACCES) b la lb = absurd lb
+one_stat s id cred (Told stat) b la lb = absurd lb
+one_stat s id cred a b la lb = absurd la
+
+one_row : (s : Slot) (a b : Reply) → LegalRow s a → LegalRow s b → a ≡ b
+one_row s (Shown row) (Shown other) la lb = ap Shown (la ∙ sym lb)
+one_row s (Shown row) b la lb = absurd lb
+one_row s a b la lb = absurd la
 
 look_full : (s : Slot) (id : ℤ) (cred : Cred) (size freed : ℕ) (b : Reply) → LegalLook s id cred size (Full freed) → LegalLook s id cred size b → Full freed ≡ b
 look_full s id cred size freed Gone la lb = absurd (lb la.0)
@@ -234,6 +308,9 @@ module _ (one_named : OneNamed) where
 
   one_reply : (s : Slot) (call : Call) (a b : Reply) → Legal s call a → Legal s call b → a ≡ b
   one_reply s (Install id key cred mode now) a b la lb = one_install s a b la lb
+  one_reply s (Probe id cred flags) a b la lb = one_probe s id cred flags a b la lb
+  one_reply s (ReadStat id cred) a b la lb = one_stat s id cred a b la lb
+  one_reply s ReadRow a b la lb = one_row s a b la lb
   one_reply s (Look id cred size) a b la lb = one_look s id cred size a b la lb
   one_reply s (Place id cred mtype bytes now) a b la lb = one_place s id cred (length bytes) a b la lb
   one_reply s (Take id cred selector size noerror now) a b la lb = one_take s id cred selector size noerror a b la lb

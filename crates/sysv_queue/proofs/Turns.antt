@@ -6,8 +6,9 @@ use Rattle.std.proofs.lemmas.Grind.{flat_map-append}
 use Rattle.sysv_model.specs.declared.cred.Cred.{Cred}
 use Rattle.sysv_model.specs.declared.attributes.Attributes.{Attributes}
 use Rattle.sysv_model.specs.Message.{Message}
+use Rattle.sysv_model.specs.declared.flags.Flags.{Flags}
 use Rattle.sysv_model.specs.declared.selector.Selector.{Selector}
-use Rattle.sysv_model.specs.History.{Call, Install, Look, Place, Take, Reply, Installed, Gone, Denied, Full, Accepted, NoMatch, TooLong, Taken, Entry, History, announces_arrival, announces_room, arrived, freed}
+use Rattle.sysv_model.specs.History.{Call, Install, Probe, Look, Place, Take, ReadStat, ReadRow, Reply, Installed, Gone, Denied, Full, Accepted, NoMatch, TooLong, Taken, Entry, History, announces_arrival, announces_room, arrived, freed}
 use Rattle.sysv_model.specs.Live.{live, live_after}
 use Rattle.sysv_model.specs.Waiting.{accepted, delivered, discarded, waiting, accepted_by, delivered_by, discarded_by}
 use Rattle.sysv_queue.specs.Slot.{Slot}
@@ -63,6 +64,15 @@ kind_install s id key cred mode now (Installed true) l = Makes id key cred mode 
 kind_install s id key cred mode now (Installed false) l = Quiet (quiet_install id key cred mode now)
 kind_install s id key cred mode now reply l = absurd l
 
+pub quiet_probe : (id : ℤ) (cred : Cred) (flags : Flags) (reply : Reply) → IsQuiet (Probe id cred flags) reply
+quiet_probe id cred flags reply = record { still = record { accepted = λ i. refl; delivered = λ i. refl; discarded = λ i. refl; arrival = refl; room = refl }; live = λ old. refl }
+
+pub quiet_stat : (id : ℤ) (cred : Cred) (reply : Reply) → IsQuiet (ReadStat id cred) reply
+quiet_stat id cred reply = record { still = record { accepted = λ i. refl; delivered = λ i. refl; discarded = λ i. refl; arrival = refl; room = refl }; live = λ old. refl }
+
+pub quiet_row : (reply : Reply) → IsQuiet ReadRow reply
+quiet_row reply = record { still = record { accepted = λ i. refl; delivered = λ i. refl; discarded = λ i. refl; arrival = refl; room = refl }; live = λ old. refl }
+
 pub quiet_look : (id : ℤ) (cred : Cred) (size : ℕ) (reply : Reply) → IsQuiet (Look id cred size) reply
 quiet_look id cred size reply = record { still = record { accepted = λ i. refl; delivered = λ i. refl; discarded = λ i. refl; arrival = refl; room = refl }; live = λ old. refl }
 
@@ -97,6 +107,9 @@ kind_take s id cred selector size noerror now reply l = Quiet record { still = r
 
 pub kind_of : (s : Slot) (call : Call) (reply : Reply) → Legal s call reply → Kind call reply
 kind_of s (Install id key cred mode now) reply l = kind_install s id key cred mode now reply l
+kind_of s (Probe id cred flags) reply l = Quiet (quiet_probe id cred flags reply)
+kind_of s (ReadStat id cred) reply l = Quiet (quiet_stat id cred reply)
+kind_of s ReadRow reply l = Quiet (quiet_row reply)
 kind_of s (Look id cred size) reply l = Quiet (quiet_look id cred size reply)
 kind_of s (Place id cred mtype bytes now) reply l = kind_place s id cred mtype bytes now reply l
 kind_of s (Take id cred selector size noerror now) reply l = kind_take s id cred selector size noerror now reply l

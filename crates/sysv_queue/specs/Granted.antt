@@ -1,6 +1,7 @@
 -- What a caller may do with the live queue (POSIX.1-2017, 2.7.1 IPC General Description).
-use Rattle.std.specs.Prelude.{Option, None, Some}
+use Rattle.std.specs.Prelude.{◌≢◌, Option, None, Some, bit_and}
 use Rattle.sysv_model.specs.declared.cred.Cred.{Cred}
+use Rattle.sysv_model.specs.declared.flags.Flags.{Flags}
 use Rattle.sysv_model.specs.declared.attributes.Attributes.{Attributes}
 use Rattle.sysv_rules.specs.declared.permission.Want.{Want}
 use Rattle.sysv_rules.specs.declared.permission.Want.TheVariants.{Read, Write}
@@ -16,3 +17,14 @@ MayRead cred live = IsGranted Read cred live
 
 abbrev pub MayWrite : Cred → Option Attributes → Type 0
 MayWrite cred live = IsGranted Write cred live
+
+-- what the flags of a msgget ask: to read where a read bit of the mode is set, to write where a write bit
+-- is (which bits ask what is this profile's)
+abbrev pub AsksRead : Flags → Type 0
+AsksRead flags = bit_and flags.0 0o444 ≢ 0
+
+abbrev pub AsksWrite : Flags → Type 0
+AsksWrite flags = bit_and flags.0 0o222 ≢ 0
+
+abbrev pub MayAsAsked : Flags → Cred → Option Attributes → Type 0
+MayAsAsked flags cred live = (AsksRead flags → MayRead cred live) × (AsksWrite flags → MayWrite cred live)

@@ -2,16 +2,19 @@
 -- order, and a reply is given exactly where its cause is the first that stands
 -- (POSIX.1-2017, msgget, msgsnd, msgrcv, msgctl, each ERRORS; the order is this profile's). A
 -- reply that is not listed is never given; a call without a list has no legal reply.
-use Rattle.std.specs.Prelude.{◌≡◌, ℕ, ℤ, ◌≤◌, ◌⊎◌, Bool, true, false, ◌∷◌, ◌++◌, length, None, Some, MatchOption, IsSome, slice_get}
+use Rattle.std.specs.Prelude.{◌≡◌, ℕ, ℤ, ◌≤◌, ◌⊎◌, Bool, true, false, ◌∷◌, ◌++◌, length, None, Some, MatchOption, IsSome, option_map, slice_get}
 use Rattle.sysv_model.specs.declared.cred.Cred.{Cred}
+use Rattle.sysv_model.specs.declared.errno.Errno.TheVariants.{EACCES, EINVAL}
+use Rattle.sysv_model.specs.declared.flags.Flags.{Flags}
 use Rattle.sysv_model.specs.Message.{Message}
 use Rattle.sysv_model.specs.declared.selector.Selector.{Selector}
-use Rattle.sysv_model.specs.History.{Call, Install, Probe, Look, Place, Take, ReadStat, Set, Remove, ReadRow, Reply, Installed, Gone, Denied, Full, Fits, Accepted, NoMatch, TooLong, Taken, Entry, History}
+use Rattle.sysv_model.specs.History.{Call, Install, Probe, Look, Place, Take, ReadStat, Set, Remove, ReadRow, Reply, Installed, Gone, Denied, Granted, Full, Fits, Accepted, NoMatch, TooLong, Taken, Told, Refused, Shown, Entry, History}
 use Rattle.sysv_model.specs.Live.{HasId}
 use Rattle.sysv_queue.specs.Slot.{Slot, slot_of}
 use Rattle.sysv_queue.specs.Fits.{Fits as FitsOn}
-use Rattle.sysv_queue.specs.Granted.{MayRead, MayWrite}
+use Rattle.sysv_queue.specs.Granted.{MayRead, MayWrite, MayAsAsked}
 use Rattle.sysv_queue.specs.Named.{IsNamed}
+use Rattle.sysv_queue.specs.Shown.{stat_of, row_of}
 
 -- a queue lives, and has room for that many bytes
 abbrev pub HasRoom : Slot → ℕ → Type 0
@@ -22,6 +25,13 @@ abbrev pub LegalInstall : Slot → Reply → Type 0
 LegalInstall s (Installed false) = IsSome s.live
 LegalInstall s (Installed true) = s.live ≡ None
 LegalInstall s reply = ⊥
+
+-- probe: Gone, Denied where what the flags ask is not permitted, else Granted
+abbrev pub LegalProbe : Slot → ℤ → Cred → Flags → Reply → Type 0
+LegalProbe s id cred flags Gone = ¬ HasId s.live id
+LegalProbe s id cred flags Denied = HasId s.live id × ¬ MayAsAsked flags cred s.live
+LegalProbe s id cred flags Granted = HasId s.live id × MayAsAsked flags cred s.live
+LegalProbe s id cred flags reply = ⊥
 
 -- look: Gone, Denied, Full, else Fits
 abbrev pub LegalLook : Slot → ℤ → Cred → ℕ → Reply → Type 0
@@ -59,17 +69,29 @@ LegalTake s id cred selector size noerror (Taken m) =
     HasId s.live id × MayRead cred s.live × Names s selector m × IsGivable size noerror m
 LegalTake s id cred selector size noerror reply = ⊥
 
+-- stat: EINVAL where the identifier is not live, EACCES, else the attributes with what waits
+abbrev pub LegalStat : Slot → ℤ → Cred → Reply → Type 0
+LegalStat s id cred (Refused EINVAL) = ¬ HasId s.live id
+LegalStat s id cred (Refused EACCES) = HasId s.live id × ¬ MayRead cred s.live
+LegalStat s id cred (Told stat) = HasId s.live id × MayRead cred s.live × (option_map (stat_of s.messages) s.live ≡ Some stat)
+LegalStat s id cred reply = ⊥
+
+-- row: none where no queue is live, else its line
+abbrev pub LegalRow : Slot → Reply → Type 0
+LegalRow s (Shown row) = row ≡ option_map (row_of s.messages) s.live
+LegalRow s reply = ⊥
+
 abbrev pub Legal : Slot → Call → Reply → Type 0
 Legal s (Install id key cred mode now) reply = LegalInstall s reply
+Legal s (Probe id cred flags) reply = LegalProbe s id cred flags reply
 Legal s (Look id cred size) reply = LegalLook s id cred size reply
 Legal s (Place id cred mtype bytes now) reply = LegalPlace s id cred (length bytes) reply
 Legal s (Take id cred selector size noerror now) reply = LegalTake s id cred selector size noerror reply
+Legal s (ReadStat id cred) reply = LegalStat s id cred reply
+Legal s ReadRow reply = LegalRow s reply
 -- calls without a list
-Legal s (Probe id cred flags) reply = ⊥
-Legal s (ReadStat id cred) reply = ⊥
 Legal s (Set id cred to now) reply = ⊥
 Legal s (Remove id cred) reply = ⊥
-Legal s ReadRow reply = ⊥
 
 -- the legal reply to a call after a history
 abbrev pub IsLegalReply : History → Call → Reply → Type 0

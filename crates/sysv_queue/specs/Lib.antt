@@ -11,6 +11,7 @@ pub mod Fits
 pub mod Granted
 pub mod Barred
 pub mod Named
+pub mod Shown
 pub mod LegalReply
 pub mod StandsFor
 pub mod Replies

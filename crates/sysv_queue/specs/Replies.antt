@@ -1,7 +1,11 @@
 -- The answers of the slot's calls, as replies of its history (this profile's).
 use Rattle.std.specs.Prelude.{◌≡◌, ℕ, List, length, take, Result, Ok, Err}
 use Rattle.sysv_model.specs.Message.{Message}
-use Rattle.sysv_model.specs.History.{Reply, Gone, Denied, Full, Fits, Accepted, NoMatch, TooLong}
+use Rattle.sysv_model.specs.History.{Reply, Gone, Denied, Granted, Full, Fits, Accepted, NoMatch, TooLong, Told, Refused}
+use Rattle.sysv_model.specs.declared.attributes.Stat.{Stat}
+use Rattle.sysv_model.specs.declared.errno.Errno.{Errno}
+use Rattle.sysv_queue.specs.declared.slot.Probe.{Probe}
+use Rattle.sysv_queue.specs.declared.slot.Probe.TheVariants as probe
 use Rattle.sysv_queue.specs.declared.slot.Look.{Look}
 use Rattle.sysv_queue.specs.declared.slot.Look.TheVariants as look
 use Rattle.sysv_queue.specs.declared.slot.Unplaced.{Unplaced}
@@ -10,6 +14,15 @@ use Rattle.sysv_queue.specs.declared.slot.PlaceRefused.{PlaceRefused}
 use Rattle.sysv_queue.specs.declared.slot.TakeRefused.{TakeRefused}
 use Rattle.sysv_queue.specs.declared.slot.TakeRefused.TheVariants as untaken
 use Rattle.sysv_queue.specs.declared.slot.Delivery.{Delivery}
+
+abbrev pub probe_reply : Probe → Reply
+probe_reply probe.Gone = Gone
+probe_reply probe.Denied = Denied
+probe_reply probe.Granted = Granted
+
+abbrev pub stat_reply : Result Stat Errno → Reply
+stat_reply (Ok stat) = Told stat
+stat_reply (Err why) = Refused why
 
 abbrev pub look_reply : Look → Reply
 look_reply look.Gone = Gone

@@ -8,7 +8,8 @@ ghost use Rattle.sysv_queue.specs.QueueLaw.{QueueLaw};
 
 use sysv_rules::laws::{granted_or_not, named_or_none, one_named};
 
-/// After each history each of the calls install, look, place and take has one legal reply, and no two.
+/// After each history each of the calls install, probe, look, place, take, stat and row has one legal
+/// reply, and no two.
 pub fn one_legal_reply()
     ensures some { SomeReplyIsLegal }
     ensures one { NoTwoRepliesAreLegal }

@@ -1,27 +1,42 @@
 ghost use Rattle.std.specs.Prelude.{false, ℕ, ◌≡◌, ◌+◌, ◌^◌, ◌<◌, ◌≤◌, ◌↔◌, [], ◌∷◌, ◌++◌, length, take, slice_get, IfOk, IfErr, Some, IsTrue, MatchOption, remove, option_map};
 ghost use Rattle.sysv_model.specs.declared.limits.TheConstants.{QUEUE_MESSAGES};
 ghost use Rattle.sysv_model.specs.Message.{Message};
-ghost use Rattle.sysv_model.specs.History.{Install, Place, Take, Installed, Taken};
+ghost use Rattle.sysv_model.specs.History.{Install, Place, Take, ReadStat, ReadRow, Installed, Taken, Shown};
+ghost use Rattle.sysv_model.specs.History.{Probe as ProbeCall};
 ghost use Rattle.sysv_model.specs.History.{Look as LookCall};
 ghost use Rattle.sysv_model.specs.Live.{HasId, sent_to, received_from};
 ghost use Rattle.sysv_queue.specs.Fits.{bytes_of};
 ghost use Rattle.sysv_queue.specs.Fits.{Fits as FitsOn};
-ghost use Rattle.sysv_queue.specs.Granted.{IsGranted};
+ghost use Rattle.sysv_queue.specs.Granted.{IsGranted, MayAsAsked};
 ghost use Rattle.sysv_queue.specs.Barred.{Bars};
 ghost use Rattle.sysv_queue.specs.Named.{IsNamed};
 ghost use Rattle.sysv_queue.specs.StandsFor.{StandsFor, MakesTurn};
-ghost use Rattle.sysv_queue.specs.Replies.{look_reply, unplaced_reply, place_reply, untaken_reply, Gives};
+ghost use Rattle.sysv_queue.specs.Replies.{probe_reply, stat_reply, look_reply, unplaced_reply, place_reply, untaken_reply, Gives};
 
+use bitflags::Flags as _;
 use std::alloc::Global;
 use std::marker::Model;
-use sysv_model::attributes::{Attributes, Perm};
+use sysv_model::attributes::{Attributes, Perm, Row, Stat};
 use sysv_model::body::Body;
 use sysv_model::cred::Cred;
+use sysv_model::errno::Errno;
+use sysv_model::flags::Flags;
 use sysv_model::limits::{QBYTES_AT_CREATION, QUEUE_MESSAGES};
 use sysv_model::no_memory::NoMemory;
 use sysv_rules::permission::{Want, may};
 use sysv_rules::selector::{Selector, select_plain};
 use thiserror::Error;
+
+/// What `probe` finds.
+#[derive(Clone, Copy, PartialEq, Eq, Debug)]
+pub enum Probe {
+    /// The identifier is not live.
+    Gone,
+    /// What the flags ask is not granted.
+    Denied,
+    /// What the flags ask is granted.
+    Granted,
+}
 
 /// What `look` finds.
 #[derive(Clone, Copy, PartialEq, Eq, Debug)]
@@ -185,6 +200,79 @@ impl QueueSlot {
         true
     }
 
+    /// Whether the queue of an identifier lives, and the caller may do with it what the mode in `flags`
+    /// asks: read it where a read bit is set, write to it where a write bit is; all other flags are
+    /// ignored (POSIX.1-2017, `msgget`; which bits ask what is this profile's). The first cause of
+    /// `Probe` that stands is the answer. The slot stays as it is.
+    pub fn probe(&self, id: i32, cred: Cred, flags: Flags) -> Probe
+        ensures turn { MakesTurn self.now (ProbeCall id cred flags) (probe_reply result) self.now }
+    {
+        if !self.is_live(id) {
+            return Probe::Gone;
+        }
+        if self.permits_asked(cred, flags) {
+            Probe::Granted
+        } else {
+            Probe::Denied
+        }
+    }
+
+    /// Whether a queue lives, and the caller may do with it what the flags ask.
+    fn permits_asked(&self, cred: Cred, flags: Flags) -> bool
+        ensures { IsTrue result ↔ MayAsAsked flags cred self.now.live }
+    {
+        let asked = flags.bits();
+        let read = asked & 0o444 == 0 || self.permits(cred, Want::Read);
+        let write = asked & 0o222 == 0 || self.permits(cred, Want::Write);
+        read && write
+    }
+
+    /// The attributes of the live queue with what waits on it (POSIX.1-2017, `msgctl`, IPC_STAT).
+    /// `EINVAL` where the identifier is not live, then `EACCES` where read permission is not granted.
+    /// The slot stays as it is.
+    pub fn stat(&self, id: i32, cred: Cred) -> Result<Stat, Errno>
+        ensures turn { MakesTurn self.now (ReadStat id cred) (stat_reply result) self.now }
+    {
+        match self.live {
+            Some(queue) if queue.id == id => {
+                if !may(cred, queue.perm, Want::Read) {
+                    return Err(Errno::EACCES);
+                }
+                Ok(Stat {
+                    key: queue.key,
+                    perm: queue.perm,
+                    cbytes: self.cbytes,
+                    qnum: self.messages.len() as u32,
+                    qbytes: queue.qbytes,
+                    lspid: queue.lspid,
+                    lrpid: queue.lrpid,
+                    stime: queue.stime,
+                    rtime: queue.rtime,
+                    ctime: queue.ctime,
+                })
+            }
+            _ => Err(Errno::EINVAL),
+        }
+    }
+
+    /// The line of the live queue in the list of queues, if one is live (this profile's). No permission
+    /// is asked, and the slot stays as it is.
+    pub fn row(&self) -> Option<Row>
+        ensures turn { MakesTurn self.now ReadRow (Shown result) self.now }
+    {
+        match self.live {
+            Some(queue) => Some(Row {
+                id: queue.id,
+                key: queue.key,
+                uid: queue.perm.uid,
+                mode: queue.perm.mode,
+                cbytes: self.cbytes,
+                qnum: self.messages.len() as u32,
+            }),
+            None => None,
+        }
+    }
+
     /// Whether a message of `size` bytes could be placed now (POSIX.1-2017, `msgsnd`). The first
     /// cause of `Look` that stands is the answer. The slot stays as it is.
     pub fn look(&self, id: i32, cred: Cred, size: usize) -> Look
@@ -224,6 +312,26 @@ impl QueueSlot {
                 }
             }
             _ => Err(Barred::Gone),
+        }
+    }
+
+    /// Whether the live queue has this identifier.
+    fn is_live(&self, id: i32) -> bool
+        ensures { IsTrue result ↔ HasId self.now.live id }
+    {
+        match &self.live {
+            Some(queue) => queue.id == id,
+            None => false,
+        }
+    }
+
+    /// Whether a queue lives, and the caller may do with it what it wants.
+    fn permits(&self, cred: Cred, want: Want) -> bool
+        ensures { IsTrue result ↔ IsGranted want cred self.now.live }
+    {
+        match &self.live {
+            Some(queue) => may(cred, queue.perm, want),
+            None => false,
         }
     }
 

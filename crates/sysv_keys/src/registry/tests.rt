@@ -127,13 +127,14 @@ fn a_forgotten_identifier_is_never_given_again(rt: HostRuntime) {
 #[test]
 fn the_last_identifiers(rt: HostRuntime) {
     let mut registry = registry_at(&rt, rt.alloc(), 33_554_431);
-    for slot in 0..64 {
-        let id = 2_147_483_584 + slot;
-        assert_eq!(rt; slot_of_id(id), slot as usize);
-        assert_eq!(rt; registry.begin(slot + 1, creating()), Begun::Made { id });
+    for slot in 0..64_usize {
+        let key = slot as i32 + 1;
+        let id = 2_147_483_584 + slot as i32;
+        assert_eq!(rt; slot_of_id(id), slot);
+        assert_eq!(rt; registry.begin(key, creating()), Begun::Made { id });
         assert!(rt; registry.forget(id));
         assert_eq!(rt;
-            registry.begin(slot + 1, flags(0)),
+            registry.begin(key, flags(0)),
             Begun::Refused(Errno::ENOENT)
         );
     }
@@ -161,17 +162,18 @@ fn generations_past_the_last_are_refused(rt: HostRuntime) {
 #[test]
 fn many_keys_come_and_go(rt: HostRuntime) {
     let mut registry = open_registry(&rt, rt.alloc());
-    for round in 0..200 {
-        for slot in 0..64 {
-            let id = slot + 64 * round;
+    let mut first: i32 = 0;
+    for _ in 0..200 {
+        for id in first..first.wrapping_add(64) {
             assert_eq!(rt;
-                registry.begin(1000 * round + slot + 1, creating()),
+                registry.begin(id.wrapping_add(1), creating()),
                 Begun::Made { id }
             );
         }
-        for slot in 0..64 {
-            assert!(rt; registry.forget(slot + 64 * round));
+        for id in first..first.wrapping_add(64) {
+            assert!(rt; registry.forget(id));
         }
+        first = first.wrapping_add(64);
     }
     assert_eq!(rt; registry.settled(), 12_800);
 }

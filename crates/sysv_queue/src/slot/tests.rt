@@ -396,3 +396,63 @@ fn the_named_message_is_measured(rt: HostRuntime) {
     assert_eq!(rt; given, Ok(delivery(5, b"short", 0)));
     assert_eq!(rt; slot.counts(), (2, 1));
 }
+
+#[test]
+fn a_probe_asks_what_the_mode_asks(rt: HostRuntime) {
+    let slot = slot_with_shared_queue(&rt, rt.alloc());
+    let table = [
+        (SENDER, 0o777, Probe::Granted),
+        (MEMBER, 0o640, Probe::Denied),
+        (MEMBER, 0o440, Probe::Granted),
+        (MEMBER, 0o020, Probe::Denied),
+        (MEMBER, 0o111, Probe::Granted),
+        (STRANGER, 0o004, Probe::Denied),
+        (STRANGER, 512 + 1024, Probe::Granted),
+        (USER_ZERO, 0o777, Probe::Granted),
+    ];
+    for (cred, bits, found) in table {
+        let flags = Flags::from_bits_retain(bits);
+        assert_eq!(rt; slot.probe(0, cred, flags), found, "{cred:?} {bits}");
+        assert_eq!(rt; slot.probe(64, cred, flags), Probe::Gone, "{cred:?} {bits}");
+    }
+}
+
+#[test]
+fn a_queue_shows_its_attributes(rt: HostRuntime) {
+    let mut slot = open_slot(&rt, rt.alloc());
+    assert_eq!(rt; slot.row(), None);
+    assert_eq!(rt; slot.stat(64, SENDER), Err(Errno::EINVAL));
+    assert!(rt; slot.install(64, 3, SENDER, 0o640, 50));
+    let sent = send_as(&rt, rt.alloc(), &mut slot, 64, SENDER, 4, b"abc");
+    assert_eq!(rt; sent, Ok(0));
+    let shown = Stat {
+        key: 3,
+        perm: Perm {
+            uid: 1000,
+            gid: 1000,
+            cuid: 1000,
+            cgid: 1000,
+            mode: 0o640,
+        },
+        cbytes: 3,
+        qnum: 1,
+        qbytes: 16384,
+        lspid: 101,
+        lrpid: 0,
+        stime: 7,
+        rtime: 0,
+        ctime: 50,
+    };
+    assert_eq!(rt; slot.stat(64, MEMBER), Ok(shown));
+    assert_eq!(rt; slot.stat(64, STRANGER), Err(Errno::EACCES));
+    assert_eq!(rt; slot.stat(0, STRANGER), Err(Errno::EINVAL));
+    let row = Row {
+        id: 64,
+        key: 3,
+        uid: 1000,
+        mode: 0o640,
+        cbytes: 3,
+        qnum: 1,
+    };
+    assert_eq!(rt; slot.row(), Some(row));
+}
