@@ -1,14 +1,13 @@
 -- The rule holds when a buffer is opened, and when its two ends are made.
-use Rattle.std.proofs.Common.{◌≡◌, ℕ, zero, suc, ◌+◌, ◌%◌, ◌<◌, ◌≤◌, true, false, List, [], ◌∷◌, ◌++◌, inl, inr, ⊎_elim, length, set, get_or, map, replicate, refl, sym, ap, ◌∙◌, subst, arith, Option, Some, None}
+use Rattle.std.proofs.Common.{◌≡◌, ℕ, zero, suc, ◌%◌, ◌<◌, List, [], ◌∷◌, ◌++◌, inl, inr, ⊎_elim, length, set, get_or, map, replicate, refl, sym, ap, ◌∙◌, subst, arith, Option, None}
 use mathlib.Core.Bool.{true≢false}
-use mathlib.Core.Option.{none, some, some-injective, some-ne-none}
+use mathlib.Core.Option.{some, some-ne-none}
 use lib.ListN.{get_elem?}
 use Rattle.std.proofs.Math.Nat.{mod-eq_of_lt}
-use Rattle.atomic_table.specs.Table.{State, opening, Splits}
+use Rattle.atomic_table.specs.Table.{opening, Splits}
 use Rattle.sysv_buffer.specs.declared.view.View.{View}
-use Rattle.sysv_buffer.specs.declared.view.Role.{Role}
-use Rattle.sysv_buffer.specs.declared.view.Role.TheVariants.{Both, Producer, Consumer}
-use Rattle.sysv_buffer.specs.Ring.{Homes, Runs, Going, Fresh, Kept, start}
+use Rattle.sysv_buffer.specs.declared.view.Role.TheVariants.{Both}
+use Rattle.sysv_buffer.specs.Ring.{Kept, start}
 use Rattle.sysv_buffer.specs.Steps.{first_producer, first_consumer}
 use Rattle.sysv_buffer.proofs.Stepping.{which, alone, both_producer, both_consumer}
 

@@ -1,14 +1,14 @@
 -- Each kind of step keeps the rule.
-use Rattle.std.proofs.Common.{◌≡◌, ℕ, zero, suc, ◌+◌, ◌%◌, ◌^◌, ◌<◌, ◌≤◌, Bool, true, false, List, [], ◌∷◌, ◌++◌, ◌⊎◌, inl, inr, ⊎_elim, length, set, get_or, refl, sym, ap, ◌∙◌, subst, arith, length-set, length-append, get_or-set_same, get_or-set_other, Option, Some, None}
+use Rattle.std.proofs.Common.{◌≡◌, ℕ, zero, suc, ◌+◌, ◌%◌, ◌^◌, ◌<◌, ◌≤◌, true, false, List, [], ◌∷◌, ◌++◌, ◌⊎◌, inl, inr, ⊎_elim, length, set, get_or, refl, sym, ap, ◌∙◌, subst, arith, length-set, length-append, get_or-set_same, get_or-set_other, Option, Some, None}
 use mathlib.Core.Option.{none, some, some-injective, some-ne-none}
 use lib.ListN.{get_elem?}
 use Rattle.std.proofs.Math.Nat.{mod-eq_of_lt}
-use Rattle.atomic_table.specs.Table.{State, step, keeps, takes, gives, Act, stepped, carried_after, Allows}
+use Rattle.atomic_table.specs.Table.{State, step, keeps, takes, gives, Allows}
 use Rattle.sysv_buffer.specs.declared.view.View.{View}
 use Rattle.sysv_buffer.specs.declared.view.Role.{Role}
 use Rattle.sysv_buffer.specs.declared.view.Role.TheVariants.{Both, Producer, Consumer}
-use Rattle.sysv_buffer.specs.Ring.{Homes, Runs, Going, Fresh, Kept, start}
-use Rattle.sysv_buffer.specs.Steps.{Mine, holding, CountsIn, Reaches, Puts, CountsOut, Grabs, Looks, Takes}
+use Rattle.sysv_buffer.specs.Ring.{Homes, Runs, Going, Kept, start}
+use Rattle.sysv_buffer.specs.Steps.{Mine, holding, CountsIn, Reaches, Puts, CountsOut, Looks, Takes}
 use Rattle.sysv_buffer.proofs.Places.{at_most}
 use Rattle.sysv_buffer.proofs.Running.{reached, put_in, grabbed, emptied}
 

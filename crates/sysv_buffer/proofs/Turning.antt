@@ -1,9 +1,8 @@
 -- What a take leaves of the consumer's end.
-use Rattle.std.proofs.Common.{Option, ◌%◌, ◌≡◌, ℕ, zero, suc, ◌+◌, ◌<◌, ◌≤◌, true, false, List, [], ◌∷◌, ◌++◌, length, take, refl, sym, ap, ◌∙◌, subst, arith, add-one, None, Some}
-use mathlib.Core.Option.{none, some, some-injective, some-ne-none}
+use Rattle.std.proofs.Common.{Option, ◌%◌, ◌≡◌, ℕ, zero, suc, ◌+◌, ◌≤◌, false, List, [], ◌∷◌, ◌++◌, length, take, refl, sym, ap, ◌∙◌, arith, add-one, None, Some}
+use mathlib.Core.Option.{some, some-injective, some-ne-none}
 use lib.ListN.{get_elem?}
 use Rattle.std.proofs.lemmas.List.{take-append-le}
-use Rattle.sysv_buffer.specs.declared.view.View.{View}
 use Rattle.sysv_buffer.specs.declared.view.Role.TheVariants.{Consumer}
 use Rattle.sysv_buffer.specs.Steps.{Mine, Grabs}
 use Rattle.sysv_buffer.proofs.Places.{at_below}

@@ -1,5 +1,5 @@
 -- What contracts see of a buffer and of its ends.
-use Rattle.std.specs.Prelude.{◌≡◌, ℕ, List, []}
+use Rattle.std.specs.Prelude.{ℕ, List}
 use Rattle.atomic_table.specs.Seated.{TableId}
 
 -- a buffer: which it is, and how many cells it has

@@ -1,5 +1,5 @@
 -- How an end is kept between two calls: no cell is out with it.
-use Rattle.std.specs.Prelude.{◌≡◌, ℕ, ◌≤◌, false, [], take, length}
+use Rattle.std.specs.Prelude.{◌≡◌, ◌≤◌, false, [], take, length}
 use Rattle.sysv_buffer.specs.declared.ends.Producer.TheInside.{Inside as InProducer}
 use Rattle.sysv_buffer.specs.declared.ends.Consumer.TheInside.{Inside as InConsumer}
 use Rattle.sysv_buffer.specs.declared.view.Role.TheVariants.{Producer, Consumer}

@@ -1,7 +1,5 @@
 -- What the parts of a call ask of an end, and what they leave.
-use Rattle.std.specs.Prelude.{Option, ◌≡◌, ℕ, ◌+◌, ◌%◌, ◌<◌, ◌≤◌, ◌^◌, false, List, [], ◌∷◌, ◌++◌, length, None, Some}
-use mathlib.Core.Option.{some}
-use lib.ListN.{get_elem?}
+use Rattle.std.specs.Prelude.{Option, ◌≡◌, ℕ, ◌%◌, ◌≤◌, ◌^◌, false, [], ◌∷◌, length, None}
 use Rattle.atomic_table.specs.declared.shared.Seat.{Seat}
 use Rattle.sysv_buffer.specs.declared.view.View.{View}
 use Rattle.sysv_buffer.specs.declared.view.Role.TheVariants.{Producer, Consumer}

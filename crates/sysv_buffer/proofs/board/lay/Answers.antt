@@ -1,4 +1,4 @@
-use Rattle.std.proofs.Common.{rules, refl, ◌≡◌, replicate, None}
+use Rattle.std.proofs.Common.{rules, refl}
 use Rattle.sysv_buffer.proofs.Opening.{starts}
 use Rattle.sysv_buffer.proofs.board.lay.Goals as goal
 

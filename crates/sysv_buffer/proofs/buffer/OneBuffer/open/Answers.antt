@@ -1,4 +1,4 @@
-use Rattle.std.proofs.Common.{rules, ap}
+use Rattle.std.proofs.Common.{rules}
 use Rattle.sysv_buffer.proofs.Opening.{parts}
 use Rattle.sysv_buffer.proofs.buffer.OneBuffer.open.Goals as goal
 

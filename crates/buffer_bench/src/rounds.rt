@@ -1,0 +1,65 @@
+//! Items from one thread to another through a buffer.
+ghost use Rattle.std.specs.Prelude.{◌≡◌};
+
+use bench_figures::{Time, Watch};
+use std::alloc::Global;
+use std::sync::Wait;
+use std::thread::{Threads, join};
+use std::time::{Clock, CpuClock};
+use sysv_buffer::{Consumer, OneBuffer, Producer};
+
+/// So many items go through.
+pub const ITEMS: u64 = 400_000;
+
+fn put_all(rt: &impl Wait, buffer: &OneBuffer<u64>, mut end: Producer<u64>) -> bool
+    requires { end.buffer ≡ buffer.now }
+{
+    for number in 0..ITEMS {
+        if buffer.put(rt, &mut end, number).is_err() {
+            return false;
+        }
+    }
+    true
+}
+
+fn take_all(rt: &impl Wait, buffer: &OneBuffer<u64>, mut end: Consumer<u64>) -> bool
+    requires { end.buffer ≡ buffer.now }
+{
+    for _ in 0..ITEMS {
+        if buffer.take(rt, &mut end).is_err() {
+            return false;
+        }
+    }
+    true
+}
+
+fn exchange<R: Threads + Wait + Sync>(
+    rt: &R,
+    buffer: &OneBuffer<u64>,
+    puts: Producer<u64>,
+    takes: Consumer<u64>,
+) -> bool
+    requires puts { puts.buffer ≡ buffer.now }
+    requires takes { takes.buffer ≡ buffer.now }
+{
+    let (one, two) = join(
+        rt,
+        || put_all(rt, buffer, puts),
+        || take_all(rt, buffer, takes),
+    );
+    one && two
+}
+
+/// The nanoseconds of all items.
+pub fn time_of_buffer<R: Threads + Wait + Clock + CpuClock + Sync>(
+    rt: &R,
+    alloc: Global,
+    cells: usize,
+) -> Option<u64> {
+    let (buffer, puts, takes) = OneBuffer::open(alloc, cells).ok()?;
+    let watch = Watch::start(rt, Time::Passed)?;
+    if !exchange(rt, &buffer, puts, takes) {
+        return None;
+    }
+    watch.nanos(rt)
+}
