@@ -2,12 +2,12 @@
 use Rattle.std.proofs.Common.{◌≡◌, ℕ, List, [], ◌∷◌, ◌++◌, map, length, reverse, sym, refl, ap, ◌∙◌, subst, arith, length-append, append_assoc}
 use Rattle.std.specs.Prelude.{Some, vec_capacity}
 use Rattle.std.specs.List.{All}
-use Rattle.std.proofs.lemmas.List.{append-nil, map-append, reverse-append, get_or_append_left}
+use Rattle.std.proofs.lemmas.List.{append-nil, length-map, map-append, reverse-append, get_or_append_left}
 use Rattle.sysv_gate.specs.Gates.{Gateway, Holding, opened}
 use Rattle.sysv_gate.specs.Closings.{Closes}
 use Rattle.sysv_gate.specs.declared.closing.Closing.{Closing}
 use Rattle.sysv_bank.specs.declared.opening.Making.{Making}
-use Rattle.sysv_bank.specs.Banks.{AreOpened}
+use Rattle.sysv_bank.specs.Banks.{AreOpened, gates_of}
 use Rattle.sysv_bank.specs.Making.{all_objects, IsMaking}
 use Rattle.sysv_bank.proofs.Places.{snocs}
 
@@ -17,6 +17,10 @@ pub same_objects : {O : Type 0} (gates gates' : List (Gateway O)) (objects objec
 same_objects gates gates' objects objects' g o one more same =
     ap (λ l. map (λ x. x.opening) gates' ++ l) (ap reverse more ∙ reverse-append objects (o ∷ []) ∙ ap (λ x. x ∷ reverse objects) (sym same))
     ∙ sym (ap (λ l. map (λ x. x.opening) l ++ reverse objects) one ∙ ap (λ l. l ++ reverse objects) (map-append (λ x. x.opening) gates' (g ∷ [])) ∙ append_assoc (map (λ x. x.opening) gates') (g.opening ∷ []) (reverse objects))
+
+opened_gates : {O : Type 0} (C R : Type 0) (gs : List (Gateway O)) → gates_of {C = C} {R = R} (map opened gs) ≡ gs
+opened_gates C R [] = refl
+opened_gates C R (g ∷ gs) = ap (λ l. g ∷ l) (opened_gates C R gs)
 
 module _ {O C R : Type 0} where
   -- the last seat is the first one of the last gate
@@ -71,3 +75,9 @@ module _ {O C R : Type 0} where
     ),
     making.seats,
   )
+
+  -- and each seat is of the gate at its place
+  pub all_fit : (m' m : Making O C R) → IsMaking m' → all_objects m' ≡ all_objects m → m'.objects.items ≡ [] → m'.first ≡ m.first → (gates_of m'.seats.items ≡ m'.gates.items) × (length m'.gates.items ≡ length (all_objects m))
+  all_fit m' m making same none first =
+      let made = all_made m' m making same none first in
+      (ap gates_of making.seats ∙ opened_gates C R m'.gates.items, sym (length-map m'.gates.items (λ (x : Gateway O). x.opening)) ∙ ap length made.0.0)

@@ -49,6 +49,7 @@ impl<O: Object> Bank<O> {
         requires some { 1 ≤ length objects.items }
         requires counts { All (λ o. AreUpTo (2 ^ 61) (O.counted o)) objects.items }
         ensures ok { IfOk result (λ o. AreOpened objects.items first o.0 × (o.1 ≡ map opened o.0) × (first ≤ 2 ^ 62)) }
+        ensures fits { IfOk result (λ o. (gates_of o.1 ≡ o.0) × (length o.0 ≡ length objects.items)) }
         ensures err { IfErr result (λ e. GivesBack first objects.items e) }
     {
         if first > LIMIT {
@@ -211,6 +212,7 @@ fn finished<O: Object>(
     requires counts { All (λ o. AreUpTo (2 ^ 61) (O.counted o)) making.objects.items }
     requires room { (closings.items ≡ []) × (length (all_objects making) ≤ vec_capacity closings) }
     ensures ok { IfOk result (λ o. AreOpened (all_objects making) making.first o.0 × (o.1 ≡ map opened o.0)) }
+    ensures fits { IfOk result (λ o. (gates_of o.1 ≡ o.0) × (length o.0 ≡ length (all_objects making))) }
     ensures err { IfErr result (λ e. GivesBack making.first (all_objects making) e) }
 {
     if !making.open_all(alloc) {
