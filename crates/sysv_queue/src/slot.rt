@@ -304,9 +304,9 @@ impl QueueSlot {
         ensures barred { IfErr result (Bars id cred want self.now.live) }
     {
         match self.live {
-            Some(queue) if queue.id == id => {
-                if may(cred, queue.perm, want) {
-                    Ok(queue)
+            Some(live) if live.id == id => {
+                if may(cred, live.perm, want) {
+                    Ok(live)
                 } else {
                     Err(Barred::Denied)
                 }
