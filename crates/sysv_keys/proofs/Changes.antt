@@ -1,20 +1,18 @@
 -- What a turn that makes, settles or forgets an identifier leaves of what was made, settled and
 -- forgotten, and of the rows.
-use Rattle.std.proofs.Common.{◌≡◌, ◌≢◌, ℕ, ℤ, ◌+◌, ◌<◌, ◌≤◌, ◌==◌, ◌||◌, Bool, true, false, [], ◌∷◌, ◌++◌, cond, pos, refl, sym, ap, subst, ◌∙◌, add-zero, eq-eqb, ◌⊎◌, inl, inr, arith}
+use Rattle.std.proofs.Common.{◌≡◌, ◌≢◌, ℕ, ℤ, ◌+◌, ◌<◌, ◌==◌, Bool, true, false, [], ◌∷◌, ◌++◌, cond, pos, refl, sym, ap, subst, ◌∙◌, add-zero, ◌⊎◌, inl, inr, arith}
 use Rattle.std.proofs.lemmas.Bool.Decides.{Decides-eqb}
-use Rattle.std.specs.Ordering.{int_eq}
 use Rattle.sysv_model.specs.History.{Who}
 use Rattle.sysv_model.specs.Registry.{RegistryEntry, RegistryHistory}
 use Rattle.sysv_model.specs.declared.flags.Flags.{Flags}
-use Rattle.sysv_keys.specs.declared.identifier.TheConstants.{SLOTS, GENERATION_LAST}
 use Rattle.sysv_keys.specs.declared.registry.KeyRow.{KeyRow}
 use Rattle.sysv_keys.specs.Identifier.{id_of, slot_of_id}
 use Rattle.sysv_keys.specs.Rows.{is_made, is_settled, is_forgotten, IsRow, IsVacant, generation}
 use Rattle.sysv_model.specs.declared.limits.TheConstants.{IPC_PRIVATE}
 use Rattle.sysv_keys.specs.LegalReply.{Creates}
-use Rattle.sysv_keys.proofs.Logic.{or_cases, or_none, or_left, or_right, or_without, one_id, same_id, other_id, decided, and_both, and_true, not_true, true_or_false, never_both}
+use Rattle.sysv_keys.proofs.Logic.{or_cases, or_left, or_right, or_without, one_id, same_id, other_id, decided, and_both, and_true, not_true, true_or_false, never_both}
 use Rattle.sysv_keys.proofs.More.{IsQuiet, made_turn, settled_turn, forgotten_turn, made-more, settled_at-more, forgotten-more, generation-more}
-use Rattle.sysv_keys.proofs.Facts.{MadeIn, Facts, quiet_made, quiet_settled, quiet_forgotten, slot-id, age-id, madein_same, fresh, never_settled, never_forgotten}
+use Rattle.sysv_keys.proofs.Facts.{MadeIn, Facts, quiet_made, quiet_settled, quiet_forgotten, slot-id, madein_same, fresh, never_settled, never_forgotten}
 
 -- a row by its parts
 abbrev pub a_row : ℤ → ℤ → Bool → KeyRow

@@ -1,10 +1,9 @@
 -- The kinds of legal turns: one that changes no row, or one that makes, settles or forgets an identifier.
-use Rattle.std.proofs.Common.{◌≡◌, ◌≢◌, ℕ, ℤ, Bool, true, false, [], ◌∷◌, ◌++◌, refl, sym, subst}
+use Rattle.std.proofs.Common.{◌≡◌, ℕ, ℤ, Bool, true, false, [], ◌∷◌, ◌++◌, refl, subst}
 use Rattle.sysv_model.specs.declared.errno.Errno.{Errno}
 use Rattle.sysv_model.specs.declared.flags.Flags.{Flags}
 use Rattle.sysv_model.specs.History.{Who}
 use Rattle.sysv_model.specs.Registry.{RegistryCall, RegistryReply, RegistryEntry, RegistryHistory, Begin, Settle, Forget, Found, Made, Busy, Unbound, Changed}
-use Rattle.sysv_keys.specs.declared.registry.KeyRow.{KeyRow}
 use Rattle.sysv_keys.specs.Identifier.{id_of}
 use Rattle.sysv_keys.specs.Rows.{IsRow, IsLeastVacant, generation}
 use Rattle.sysv_keys.specs.LegalReply.{IsLegalReply, IsLegalHistory, Creates}

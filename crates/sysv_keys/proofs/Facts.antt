@@ -1,16 +1,12 @@
 -- What holds of every history of legal replies: each identifier that was settled or forgotten was
 -- made; an identifier was made of its slot and of a generation that the slot had, and was forgotten
 -- exactly where the slot has a later one now; and it was made for one key.
-use Rattle.std.proofs.Common.{◌≡◌, ◌≢◌, ℕ, ℤ, ◌+◌, ◌*◌, ◌%◌, ◌<◌, ◌≤◌, ◌==◌, ◌||◌, Bool, true, false, [], ◌∷◌, ◌++◌, cond, pos, refl, sym, ap, subst, ◌∙◌, add-zero, ◌⊎◌, inl, inr, arith}
-use Rattle.sysv_model.specs.History.{Who}
-use Rattle.sysv_model.specs.Registry.{RegistryCall, RegistryReply, RegistryEntry, RegistryHistory, Begin, Settle, Forget, Made, Changed}
-use Rattle.sysv_model.specs.declared.flags.Flags.{Flags}
+use Rattle.std.proofs.Common.{◌≡◌, ℕ, ℤ, ◌+◌, ◌*◌, ◌<◌, ◌≤◌, true, false, [], ◌∷◌, ◌++◌, cond, refl, sym, ap, subst, ◌∙◌, add-zero, inl, inr, arith}
+use Rattle.sysv_model.specs.Registry.{RegistryEntry, RegistryHistory}
 use Rattle.sysv_keys.specs.declared.identifier.TheConstants.{SLOTS, GENERATION_LAST}
-use Rattle.sysv_keys.specs.declared.registry.KeyRow.{KeyRow}
 use Rattle.sysv_keys.specs.Identifier.{id_of, slot_of_id}
-use Rattle.sysv_keys.specs.Rows.{makes, settles, forgets, frees, is_made, is_settled, is_forgotten, IsRow, IsVacant, IsLeastVacant, generation}
-use Rattle.sysv_keys.specs.LegalReply.{IsLegalReply, IsLegalHistory, LegalBegin, LegalSettle, LegalForget}
-use Rattle.sysv_keys.proofs.Logic.{any_more, or_cases, or_none, or_left, or_right, or_without, one_id, same_id, other_id, decided, and_both, and_true, not_true, true_or_false, never_both}
+use Rattle.sysv_keys.specs.Rows.{is_made, is_settled, is_forgotten, IsVacant, generation}
+use Rattle.sysv_keys.proofs.Logic.{or_without, not_true, true_or_false, never_both}
 use Rattle.sysv_keys.proofs.More.{made-more, settled_at-more, forgotten-more, generation-more, IsQuiet}
 
 -- the generation in which an identifier was made, beside that of its slot now

@@ -1,5 +1,5 @@
 -- The index from keys to slots, as a place is written and as it is made anew.
-use Rattle.std.proofs.Common.{◌≡◌, ◌≢◌, ℕ, ℤ, ◌+◌, ◌*◌, ◌<◌, ◌≤◌, Bool, true, false, not, List, [], ◌∷◌, Option, Some, None, MatchOption, Result, Ok, Err, IsOk, IfOk, OnOk, is_some, FitsSigned, w32, to_z, of_z, if◌then◌else◌, cond, pos, set, take, length, get_or, refl, sym, ap, subst, ◌∙◌, ◌⊎◌, inl, inr, arith}
+use Rattle.std.proofs.Common.{◌≡◌, ◌≢◌, ℕ, ℤ, ◌+◌, ◌<◌, ◌≤◌, Bool, true, false, not, List, Option, Some, None, Result, Ok, Err, IsOk, IfOk, OnOk, is_some, FitsSigned, w32, to_z, of_z, if◌then◌else◌, cond, pos, set, take, length, refl, sym, ap, subst, ◌∙◌, ◌⊎◌, inl, inr, arith}
 use Rattle.std.specs.List.{slice_get, count_by, sum_by}
 use Rattle.std.specs.Ordering.{int_eq}
 use Rattle.std.proofs.Math.ListN.{length-set}
@@ -8,10 +8,10 @@ use Rattle.std.proofs.lemmas.List.{length-take-le, take_all}
 use Rattle.std.proofs.lemmas.List.Sums.{sum_by-set, count_by-le-length, count_by_more_yes, count_by_more_no}
 use Rattle.std.proofs.lemmas.Option.{same_Some, slice_get_within, get_or_from_slice_get}
 use Rattle.sysv_model.specs.declared.limits.TheConstants.{IPC_PRIVATE}
-use Rattle.sysv_keys.specs.declared.identifier.TheConstants.{SLOTS, GENERATION_LAST}
+use Rattle.sysv_keys.specs.declared.identifier.TheConstants.{SLOTS}
 use Rattle.sysv_keys.specs.declared.registry.KeyRow.{KeyRow}
 use Rattle.sysv_keys.specs.declared.registry.Place.{Place}
-use Rattle.sysv_keys.specs.Kept.{Holds, IsIndex, IsKept, KeysDiffer, is_indexed, counted_by, age_after}
+use Rattle.sysv_keys.specs.Kept.{Holds, IsIndex, KeysDiffer, is_indexed, counted_by}
 use Rattle.sysv_keys.proofs.Logic.{decided, nat_decided, other_id, same_id}
 use Rattle.sysv_keys.proofs.Places.{at_set, beside_set, beside_set_back, one_there}
 

@@ -1,19 +1,19 @@
 -- Every history of legal replies obeys the registry law.
-use Rattle.std.proofs.Common.{◌≡◌, ◌≢◌, ℕ, ℤ, ◌+◌, ◌*◌, ◌<◌, ◌≤◌, ◌||◌, Bool, true, false, List, [], ◌∷◌, ◌++◌, pos, cond, refl, sym, ap, subst, ◌∙◌, add-zero, append_assoc, ◌⊎◌, inl, inr, arith}
+use Rattle.std.proofs.Common.{◌≡◌, ◌≢◌, ℕ, ℤ, ◌+◌, ◌*◌, ◌<◌, ◌≤◌, ◌||◌, Bool, true, false, List, [], ◌∷◌, ◌++◌, cond, refl, sym, ap, subst, ◌∙◌, append_assoc, ◌⊎◌, inl, inr, arith}
 use Rattle.std.proofs.lemmas.List.Folds.{list_any-append}
 use Rattle.std.proofs.lemmas.List.Sums.{sum_by-append}
 use Rattle.std.specs.List.{list_any, count_by}
 use Rattle.sysv_model.specs.declared.limits.TheConstants.{IPC_PRIVATE}
-use Rattle.sysv_model.specs.Registry.{RegistryCall, RegistryReply, RegistryEntry, RegistryHistory, Begin, Settle, Forget, Found, Made, Busy, Unbound, Changed, changes_row, settled}
+use Rattle.sysv_model.specs.Registry.{RegistryCall, RegistryReply, RegistryEntry, RegistryHistory, Begin, Settle, Forget, Found, Made, Changed, changes_row, settled}
 use Rattle.sysv_keys.specs.declared.identifier.TheConstants.{SLOTS, GENERATION_LAST}
 use Rattle.sysv_keys.specs.declared.registry.KeyRow.{KeyRow}
 use Rattle.sysv_keys.specs.Identifier.{id_of, slot_of_id}
 use Rattle.sysv_keys.specs.Rows.{makes, settles, forgets, frees, is_made, is_settled, is_forgotten, IsRow, IsVacant, IsLeastVacant, generation}
-use Rattle.sysv_keys.specs.LegalReply.{IsLegalReply, IsLegalHistory, IsBound}
+use Rattle.sysv_keys.specs.LegalReply.{IsLegalReply, IsLegalHistory}
 use Rattle.sysv_keys.specs.RegistryLaw.{RegistryLaw, IsIdentifier, is_settle, is_forget}
-use Rattle.sysv_keys.proofs.Logic.{or_cases, or_left, or_right, one_id, same_id, decided, and_both, and_true, not_true, true_or_false, never_both}
-use Rattle.sysv_keys.proofs.Legality.{legal_front, legal_last}
-use Rattle.sysv_keys.proofs.Facts.{Facts, MadeIn, slot-id, age-id, fresh}
+use Rattle.sysv_keys.proofs.Logic.{or_left, or_right, one_id, same_id, and_true, not_true, never_both}
+use Rattle.sysv_keys.proofs.Legality.{legal_front}
+use Rattle.sysv_keys.proofs.Facts.{Facts, slot-id, fresh}
 use Rattle.sysv_keys.proofs.More.{settled-more, count_more}
 use Rattle.sysv_keys.proofs.Changes.{a_row, row_is, row_by_made, settled_source, row_by_forgotten, row_by_quiet, not_bound}
 use Rattle.sysv_keys.proofs.Effects.{facts, over_legal, by_kind}

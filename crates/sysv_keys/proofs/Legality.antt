@@ -1,6 +1,5 @@
 -- A history is legal when the history before its last turn is, and that turn's reply.
 use Rattle.std.proofs.Common.{◌≡◌, ℕ, [], ◌∷◌, ◌++◌, inl, inr, refl, sym, subst, ap, ◌∙◌, append_assoc}
-use Rattle.std.proofs.lemmas.List.{append-nil}
 use Rattle.sysv_model.specs.Registry.{RegistryEntry, RegistryHistory}
 use Rattle.sysv_keys.specs.LegalReply.{IsLegalReply, IsLegalHistory}
 use Rattle.sysv_keys.proofs.Snoc.{at_end}

@@ -1,11 +1,10 @@
 -- Tests of identifiers and keys, and of two tests together.
-use Rattle.std.proofs.Common.{◌≡◌, ℕ, ℤ, ◌<◌, ◌+◌, ◌*◌, ◌%◌, ◌||◌, ◌&&◌, Bool, true, false, not, w32, to_z, of_z, FitsSigned, List, [], ◌∷◌, ◌++◌, pos, refl, sym, ap, ◌∙◌, ◌⊎◌, inl, inr, arith}
-use Rattle.std.specs.List.{list_any, count_by}
+use Rattle.std.proofs.Common.{◌≡◌, ℕ, ℤ, ◌||◌, ◌&&◌, Bool, true, false, not, w32, to_z, of_z, FitsSigned, List, [], ◌∷◌, ◌++◌, pos, refl, sym, ap, ◌∙◌, ◌⊎◌, inl, inr}
+use Rattle.std.specs.List.{list_any}
 use Rattle.std.specs.Ordering.{int_eq}
 use Rattle.std.proofs.lemmas.Int.{to_z-of_z}
 use Rattle.std.proofs.lemmas.Bool.Decides.{Decides-int_eq}
 use Rattle.std.proofs.lemmas.List.Folds.{list_any-append}
-use Rattle.std.proofs.lemmas.List.Sums.{sum_by-append}
 
 pub same_id : (a b : ℤ) → a ≡ b → int_eq a b ≡ true
 same_id a b e = (Decides-int_eq a b).1 e

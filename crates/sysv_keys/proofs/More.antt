@@ -1,15 +1,12 @@
 -- What one more turn changes of what a history has made, settled and forgotten, and of its rows.
-use Rattle.std.proofs.Common.{◌≡◌, ℕ, ℤ, ◌+◌, ◌==◌, ◌||◌, ◌↔◌, Bool, true, false, [], ◌∷◌, ◌++◌, cond, refl, sym, ap, subst, ◌∙◌, ◌⊎◌, inl, inr, zero-add, add-zero, arith}
-use Rattle.std.specs.List.{list_any, count_by}
-use Rattle.std.specs.Ordering.{int_eq}
+use Rattle.std.proofs.Common.{◌≡◌, ℕ, ℤ, ◌+◌, ◌||◌, Bool, true, false, [], ◌∷◌, ◌++◌, cond, ap, ◌∙◌, zero-add, arith}
+use Rattle.std.specs.List.{count_by}
 use Rattle.std.proofs.lemmas.List.Sums.{sum_by-append}
 use Rattle.sysv_model.specs.declared.flags.Flags.{Flags}
 use Rattle.sysv_model.specs.History.{Who}
-use Rattle.sysv_model.specs.Registry.{RegistryCall, RegistryReply, RegistryEntry, RegistryHistory, Begin, Settle, Forget, Found, Made, Busy, Unbound, Changed, changes_row, settled}
-use Rattle.sysv_keys.specs.declared.registry.KeyRow.{KeyRow}
-use Rattle.sysv_keys.specs.Identifier.{slot_of_id}
-use Rattle.sysv_keys.specs.Rows.{makes, settles, forgets, frees, is_made, is_settled, is_forgotten, IsRow, generation}
-use Rattle.sysv_keys.proofs.Logic.{any_more, or_cases, or_none, or_left, or_right, or_without, one_id, same_id, other_id, and_both, and_true, true_or_false, never_both}
+use Rattle.sysv_model.specs.Registry.{RegistryCall, RegistryReply, RegistryEntry, RegistryHistory, Begin, Settle, Forget, Made, Changed, changes_row, settled}
+use Rattle.sysv_keys.specs.Rows.{makes, settles, forgets, frees, is_made, is_settled, is_forgotten, generation}
+use Rattle.sysv_keys.proofs.Logic.{any_more}
 
 -- the turns that change a row
 abbrev pub made_turn : Who → ℤ → Flags → ℤ → RegistryEntry

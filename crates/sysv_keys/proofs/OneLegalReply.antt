@@ -1,14 +1,13 @@
 -- Each call has exactly one legal reply after each legal history.
-use Rattle.std.proofs.Common.{◌≡◌, ◌≢◌, ℕ, ℤ, ◌+◌, ◌<◌, ◌≤◌, Bool, true, false, List, [], ◌∷◌, ◌++◌, Option, Some, None, length, replicate, refl, sym, ap, subst, ◌∙◌, add-zero, ◌⊎◌, inl, inr, arith}
-use Rattle.std.specs.List.{slice_get}
+use Rattle.std.proofs.Common.{◌≡◌, ◌≢◌, ℕ, ℤ, Bool, true, false, [], ◌∷◌, ◌++◌, Option, Some, None, refl, sym, ap, subst, ◌∙◌, ◌⊎◌, inl, inr, arith}
 use Rattle.std.proofs.lemmas.Bool.{cases_lt}
 use Rattle.sysv_model.specs.declared.limits.TheConstants.{IPC_PRIVATE}
 use Rattle.sysv_model.specs.declared.flags.Flags.{Flags}
 use Rattle.sysv_model.specs.declared.flags.TheConstants.Flags.{IPC_CREAT}
 use Rattle.sysv_model.specs.declared.errno.Errno.TheVariants.{ENOENT, ENOSPC}
 use Rattle.sysv_model.specs.HasFlag.{has_flag}
-use Rattle.sysv_model.specs.Registry.{RegistryCall, RegistryReply, RegistryEntry, RegistryHistory, Begin, Settle, Forget, Found, Made, Busy, Unbound, Changed, settled}
-use Rattle.sysv_keys.specs.declared.identifier.TheConstants.{SLOTS, GENERATION_LAST}
+use Rattle.sysv_model.specs.Registry.{RegistryReply, RegistryEntry, RegistryHistory, Begin, Settle, Forget, Found, Made, Busy, Unbound, Changed, settled}
+use Rattle.sysv_keys.specs.declared.identifier.TheConstants.{GENERATION_LAST}
 use Rattle.sysv_keys.specs.declared.registry.KeyRow.{KeyRow}
 use Rattle.sysv_keys.specs.declared.registry.Place.{Place}
 use Rattle.sysv_keys.specs.Identifier.{id_of, slot_of_id}
@@ -18,7 +17,7 @@ use Rattle.sysv_keys.specs.StandsFor.{Registry, StandsFor}
 use Rattle.sysv_keys.specs.OneReply.{SomeReplyIsLegal, NoTwoRepliesAreLegal}
 use Rattle.sysv_keys.specs.Kept.{IsOpen}
 use Rattle.sysv_keys.proofs.Logic.{decided, true_or_false, never_both}
-use Rattle.sysv_keys.proofs.Places.{there_is, first_or_none, IsFirstAt}
+use Rattle.sysv_keys.proofs.Places.{there_is, first_or_none}
 use Rattle.sysv_keys.proofs.Changes.{a_row, not_bound}
 use Rattle.sysv_keys.proofs.Effects.{over_legal, by_kind}
 use Rattle.sysv_keys.proofs.Stands.{a_place, stands_empty, stands_made, stands_settled, stands_forgotten, stands_quiet, row_there, row_back}

@@ -1,18 +1,17 @@
 -- How a registry that stands for a history goes on by one turn.
-use Rattle.std.proofs.Common.{◌≡◌, ◌≢◌, ℕ, zero, suc, ℤ, ◌+◌, ◌*◌, ◌<◌, ◌≤◌, Bool, true, false, List, [], ◌∷◌, ◌++◌, Option, Some, None, cond, set, length, replicate, refl, sym, ap, subst, ◌∙◌, add-zero, ◌⊎◌, inl, inr, arith}
+use Rattle.std.proofs.Common.{◌≡◌, ◌≢◌, ℕ, zero, suc, ℤ, ◌+◌, ◌<◌, Bool, true, false, List, [], ◌∷◌, ◌++◌, Option, Some, None, cond, set, length, replicate, refl, sym, ap, subst, ◌∙◌, add-zero, inl, inr, arith}
 use Rattle.std.proofs.Math.ListN.{length-set, length-replicate}
 use Rattle.std.specs.List.{slice_get}
 use Rattle.std.proofs.lemmas.Option.{same_Some, slice_get_within}
-use Rattle.sysv_model.specs.declared.limits.TheConstants.{IPC_PRIVATE}
 use Rattle.sysv_model.specs.declared.flags.Flags.{Flags}
 use Rattle.sysv_model.specs.History.{Who}
-use Rattle.sysv_model.specs.Registry.{RegistryCall, RegistryReply, RegistryEntry, RegistryHistory, Begin, Settle, Forget, Found, Made, Busy, Unbound, Changed, settled}
-use Rattle.sysv_keys.specs.declared.identifier.TheConstants.{SLOTS, GENERATION_LAST}
+use Rattle.sysv_model.specs.Registry.{RegistryEntry, RegistryHistory, settled}
+use Rattle.sysv_keys.specs.declared.identifier.TheConstants.{SLOTS}
 use Rattle.sysv_keys.specs.declared.registry.KeyRow.{KeyRow}
 use Rattle.sysv_keys.specs.declared.registry.Place.{Place}
 use Rattle.sysv_keys.specs.Identifier.{id_of, slot_of_id}
-use Rattle.sysv_keys.specs.Rows.{IsRow, IsVacant, IsLeastVacant, generation}
-use Rattle.sysv_keys.specs.LegalReply.{IsLegalReply, IsLegalHistory, IsBound, Creates}
+use Rattle.sysv_keys.specs.Rows.{IsRow, IsLeastVacant, generation}
+use Rattle.sysv_keys.specs.LegalReply.{IsLegalReply, Creates}
 use Rattle.sysv_keys.specs.StandsFor.{Registry, IsPlaceOf, StandsFor}
 use Rattle.sysv_keys.specs.Kept.{Holds, with_place}
 use Rattle.sysv_keys.proofs.Logic.{nat_decided}

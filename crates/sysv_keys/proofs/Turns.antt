@@ -1,24 +1,23 @@
 -- The turns that a registry makes, by what it is seen as.
-use Rattle.std.proofs.Common.{◌≡◌, ◌≢◌, ℕ, ℤ, ◌+◌, ◌<◌, ◌≤◌, Bool, true, false, List, [], ◌∷◌, ◌++◌, Option, Some, None, length, refl, sym, ap, subst, ◌∙◌, ◌⊎◌, inl, inr, arith}
+use Rattle.std.proofs.Common.{◌≡◌, ◌≢◌, ℕ, ℤ, ◌+◌, ◌<◌, ◌≤◌, Bool, true, false, [], ◌∷◌, ◌++◌, Option, Some, None, length, refl, sym, ap, subst, ◌∙◌, ◌⊎◌, inl, inr, arith}
 use Rattle.std.specs.List.{slice_get}
-use Rattle.std.proofs.lemmas.Option.{same_Some, slice_get_within}
+use Rattle.std.proofs.lemmas.Option.{slice_get_within}
 use Rattle.sysv_model.specs.declared.limits.TheConstants.{IPC_PRIVATE}
 use Rattle.sysv_model.specs.declared.flags.Flags.{Flags}
 use Rattle.sysv_model.specs.declared.flags.TheConstants.Flags.{IPC_CREAT}
 use Rattle.sysv_model.specs.declared.errno.Errno.TheVariants.{ENOENT, ENOSPC}
 use Rattle.sysv_model.specs.HasFlag.{has_flag}
-use Rattle.sysv_model.specs.History.{Who}
 use Rattle.sysv_model.specs.Registry.{RegistryCall, RegistryReply, RegistryHistory, Begin, Settle, Forget, Found, Made, Busy, Unbound, Changed}
-use Rattle.sysv_keys.specs.declared.identifier.TheConstants.{SLOTS, GENERATION_LAST}
+use Rattle.sysv_keys.specs.declared.identifier.TheConstants.{GENERATION_LAST}
 use Rattle.sysv_keys.specs.declared.registry.KeyRow.{KeyRow}
 use Rattle.sysv_keys.specs.declared.registry.Place.{Place}
 use Rattle.sysv_keys.specs.Identifier.{id_of, slot_of_id}
-use Rattle.sysv_keys.specs.Rows.{IsRow, IsVacant, IsLeastVacant, generation}
+use Rattle.sysv_keys.specs.Rows.{IsRow, IsVacant, IsLeastVacant}
 use Rattle.sysv_keys.specs.LegalReply.{IsLegalReply, IsBound, Creates}
 use Rattle.sysv_keys.specs.StandsFor.{Registry, StandsFor, MakesTurn}
-use Rattle.sysv_keys.specs.Kept.{Holds, IsOpen, NoneIsOpen, IsLeastOpen, NoRowOf, IsRowOf, Makes, with_place}
-use Rattle.sysv_keys.proofs.Places.{there_is, one_there}
-use Rattle.sysv_keys.proofs.More.{IsQuiet, made_turn, settled_turn, forgotten_turn}
+use Rattle.sysv_keys.specs.Kept.{IsOpen, NoneIsOpen, IsLeastOpen, NoRowOf, IsRowOf, Makes, with_place}
+use Rattle.sysv_keys.proofs.Places.{there_is}
+use Rattle.sysv_keys.proofs.More.{IsQuiet, made_turn}
 use Rattle.sysv_keys.proofs.Changes.{a_row}
 use Rattle.sysv_keys.proofs.Effects.{quiet_begin_found, quiet_begin_busy, quiet_begin_unbound, quiet_settle, quiet_forget}
 use Rattle.sysv_keys.proofs.Stands.{row_there, row_back, stands_quiet, stands_made, stands_settled, stands_forgotten}

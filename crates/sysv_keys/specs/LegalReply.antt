@@ -2,7 +2,7 @@
 -- one order, and a reply is given exactly where its cause is the first that stands (POSIX.1-2017,
 -- msgget, DESCRIPTION and ERRORS; the order, and the calls, are this profile's). A reply that is not
 -- listed is never given.
-use Rattle.std.specs.Prelude.{◌≡◌, ◌≢◌, ℕ, ℤ, ◌⊎◌, Bool, true, false, ◌∷◌, ◌++◌}
+use Rattle.std.specs.Prelude.{◌≡◌, ◌≢◌, ℕ, ℤ, ◌⊎◌, true, false, ◌∷◌, ◌++◌}
 use Rattle.sysv_model.specs.declared.limits.TheConstants.{IPC_PRIVATE}
 use Rattle.sysv_model.specs.declared.flags.Flags.{Flags}
 use Rattle.sysv_model.specs.declared.flags.TheConstants.Flags.{IPC_CREAT}

@@ -2,7 +2,7 @@
 -- and the registry is seen as what the history leaves. A call makes a turn when its reply is the legal
 -- one, and the registry then stands for each history that it stood for with that turn, whoever made it
 -- (this profile's).
-use Rattle.std.specs.Prelude.{◌≡◌, ◌↔◌, ℕ, ◌<◌, List, ◌∷◌, [], ◌++◌, Option, Some, length, slice_get}
+use Rattle.std.specs.Prelude.{◌≡◌, ◌↔◌, ℕ, List, ◌∷◌, [], ◌++◌, Some, length, slice_get}
 use Rattle.sysv_model.specs.History.{Who}
 use Rattle.sysv_model.specs.Registry.{RegistryCall, RegistryReply, RegistryHistory, settled}
 use Rattle.sysv_keys.specs.declared.identifier.TheConstants.{SLOTS}

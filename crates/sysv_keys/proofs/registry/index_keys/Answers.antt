@@ -1,14 +1,12 @@
-use Rattle.std.proofs.Common.{◌≡◌, ◌<◌, ◌+◌, ◌≢◌, ℕ, ℤ, HashMap, Option, None, Some, length, slice_get, get_or, refl, sym, ap, subst, ◌∙◌, arith, rules, w32, FitsSigned, to_z, of_z}
+use Rattle.std.proofs.Common.{◌≡◌, ◌+◌, ℕ, ℤ, HashMap, None, Some, slice_get, get_or, sym, ap, subst, ◌∙◌, arith, rules, w32, FitsSigned, to_z, of_z}
 use Rattle.std.specs.HashMap.{Updates}
 use Rattle.std.specs.Map.{lookup}
 use Rattle.std.specs.Ordering.{int_eq}
 use Rattle.std.proofs.lemmas.Int.{to_z-of_z}
 use Rattle.std.proofs.lemmas.Option.{slice_get-get_or}
 use Rattle.indexmap.specs.IndexMap.{get, index_map_len, spare}
-use Rattle.sysv_model.specs.declared.limits.TheConstants.{IPC_PRIVATE}
-use Rattle.sysv_keys.specs.declared.registry.KeyRow.{KeyRow}
 use Rattle.sysv_keys.specs.declared.registry.Place.{Place}
-use Rattle.sysv_keys.specs.Kept.{IsIndex, is_indexed}
+use Rattle.sysv_keys.specs.Kept.{is_indexed}
 use Rattle.sysv_keys.proofs.Logic.{other_id}
 use Rattle.sysv_keys.proofs.Index.{IsFilled, filled_none, filled_past, filled_more, filled_whole, room_left, inserted, key_shared, key_private, private_unindexed}
 use Rattle.sysv_keys.proofs.registry.index_keys.Goals as goal

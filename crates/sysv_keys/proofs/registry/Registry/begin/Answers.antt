@@ -1,13 +1,9 @@
-use Rattle.std.proofs.Common.{◌≡◌, ◌≢◌, ℤ, Bool, true, false, Option, None, Some, refl, sym, ap, subst, ◌∙◌, ◌⊎◌, inl, inr, rules, w32, to_z, of_z, FitsSigned}
-use Rattle.std.specs.Bool.{⊤}
+use Rattle.std.proofs.Common.{◌≡◌, true, sym, ap, subst, ◌∙◌, ◌⊎◌, inl, inr, rules, w32, FitsSigned}
 use Rattle.std.proofs.lemmas.Int.{to_z-of_z}
 use Rattle.sysv_model.specs.declared.limits.TheConstants.{IPC_PRIVATE}
 use Rattle.sysv_model.specs.declared.flags.TheConstants.Flags.{IPC_CREAT}
 use Rattle.sysv_model.specs.HasFlag.{has_flag}
-use Rattle.sysv_model.specs.Registry.{RegistryReply, Begin, Found, Busy}
-use Rattle.sysv_keys.specs.declared.registry.Begun.{Begun}
-use Rattle.sysv_keys.specs.StandsFor.{Registry, MakesTurn}
-use Rattle.sysv_keys.specs.Replies.{begun_reply}
+use Rattle.sysv_keys.specs.StandsFor.{Registry}
 use Rattle.sysv_keys.specs.Kept.{IsRowOf, NoRowOf, Makes}
 use Rattle.sysv_keys.proofs.Index.{key_shared, key_private}
 use Rattle.sysv_keys.proofs.Turns.{turn_found, turn_busy, turn_unbound, turn_full, turn_made}

@@ -1,13 +1,10 @@
-use Rattle.std.proofs.Common.{◌≡◌, ◌<◌, ◌≤◌, ◌+◌, ◌≢◌, ℤ, Option, None, Some, length, slice_get, set, refl, sym, ap, subst, ◌∙◌, arith, rules, w32, of_z, FitsSigned}
+use Rattle.std.proofs.Common.{◌≡◌, ◌≤◌, ◌+◌, None, Some, length, slice_get, refl, sym, ap, subst, ◌∙◌, arith, rules, w32, of_z, FitsSigned}
 use Rattle.std.specs.Ordering.{int_eq}
-use Rattle.std.proofs.Math.ListN.{length-set}
 use Rattle.std.proofs.lemmas.Int.{to_z-of_z}
 use Rattle.std.proofs.lemmas.Option.{slice_get_read, same_Some}
 use Rattle.indexmap.specs.IndexMap.{get, index_map_len, spare}
-use Rattle.sysv_model.specs.declared.limits.TheConstants.{IPC_PRIVATE}
 use Rattle.sysv_keys.specs.declared.identifier.TheConstants.{GENERATION_LAST}
 use Rattle.sysv_keys.specs.declared.registry.KeyRow.{KeyRow}
-use Rattle.sysv_keys.specs.declared.registry.Place.{Place}
 use Rattle.sysv_keys.specs.Identifier.{slot_of_id}
 use Rattle.sysv_keys.specs.Kept.{IsIndex, KeysDiffer, age_after, is_indexed}
 use Rattle.sysv_keys.proofs.Logic.{same_bits}

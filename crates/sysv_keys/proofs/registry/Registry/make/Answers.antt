@@ -1,4 +1,4 @@
-use Rattle.std.proofs.Common.{◌≡◌, ◌<◌, ◌≤◌, ◌+◌, ◌*◌, ◌^◌, ◌≢◌, ℕ, ℤ, pos, HashMap, Option, None, Some, length, slice_get, false, set, refl, sym, ap, subst, ◌∙◌, arith, rules, w32, to_z, of_z, FitsSigned}
+use Rattle.std.proofs.Common.{◌≡◌, ◌≤◌, ◌+◌, ◌*◌, ◌≢◌, ℕ, None, Some, length, slice_get, false, refl, sym, ap, subst, ◌∙◌, arith, w32, to_z, of_z}
 use Rattle.std.specs.Ordering.{int_eq}
 use Rattle.std.specs.HashMap.{Updates}
 use Rattle.std.proofs.lemmas.Int.{to_z-of_z, to_z_pos}
@@ -10,7 +10,7 @@ use Rattle.sysv_keys.specs.declared.registry.KeyRow.{KeyRow}
 use Rattle.sysv_keys.specs.declared.registry.Place.{Place}
 use Rattle.sysv_keys.specs.Identifier.{id_of}
 use Rattle.sysv_keys.specs.StandsFor.{Registry}
-use Rattle.sysv_keys.specs.Kept.{Holds, IsIndex, is_indexed, with_place}
+use Rattle.sysv_keys.specs.Kept.{Holds, is_indexed, with_place}
 use Rattle.sysv_keys.proofs.Logic.{other_id}
 use Rattle.sysv_keys.proofs.Places.{one_there}
 use Rattle.sysv_keys.proofs.Changes.{a_row}

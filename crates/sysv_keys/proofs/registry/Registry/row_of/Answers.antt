@@ -1,4 +1,4 @@
-use Rattle.std.proofs.Common.{◌≡◌, ◌<◌, Option, None, Some, length, slice_get, refl, sym, ap, subst, ◌∙◌, w32}
+use Rattle.std.proofs.Common.{◌≡◌, ◌<◌, None, Some, length, slice_get, refl, sym, subst, w32}
 use Rattle.std.specs.HashMap.{get_by}
 use Rattle.std.specs.Ordering.{int_eq}
 use Rattle.std.proofs.lemmas.Int.{to_z-of_z}

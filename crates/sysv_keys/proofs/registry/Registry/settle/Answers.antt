@@ -1,8 +1,7 @@
-use Rattle.std.proofs.Common.{◌≡◌, ◌<◌, ◌≢◌, ℤ, Option, None, Some, length, slice_get, refl, sym, ap, subst, ◌∙◌, arith, rules, w32, of_z, FitsSigned, Bool, false, true}
+use Rattle.std.proofs.Common.{◌≡◌, None, Some, length, slice_get, refl, sym, ap, subst, ◌∙◌, arith, rules, w32, of_z, FitsSigned}
 use Rattle.std.proofs.lemmas.Int.{to_z-of_z}
 use Rattle.std.proofs.lemmas.Option.{slice_get_read, same_Some}
 use Rattle.sysv_keys.specs.declared.registry.KeyRow.{KeyRow}
-use Rattle.sysv_keys.specs.declared.registry.Place.{Place}
 use Rattle.sysv_keys.specs.Identifier.{slot_of_id}
 use Rattle.sysv_keys.proofs.Logic.{not_then, not_else, same_bits, never_both}
 use Rattle.sysv_keys.proofs.Keeping.{settled_small, kept_settled}
