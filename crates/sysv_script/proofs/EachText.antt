@@ -10,7 +10,7 @@ use Rattle.sysv_core.specs.declared.event.Stepped.TheVariants as stepped
 use Rattle.sysv_core.specs.World.{World, Doing, actor_at, Presets}
 use Rattle.sysv_core.specs.Seen.{AreThere}
 use Rattle.sysv_core.specs.SomeRun.{SomeStep, SomePreset}
-use Rattle.sysv_script.specs.Faults.{bad_line_text}
+use Rattle.sysv_streams.specs.Faults.{bad_line_text}
 use Rattle.sysv_lines.specs.Heads.{head_text}
 use Rattle.sysv_lines.specs.declared.head.Head.TheVariants as head
 use Rattle.sysv_lines.specs.Lines.{Says}

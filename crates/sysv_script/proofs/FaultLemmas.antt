@@ -4,11 +4,11 @@ use Rattle.std.specs.Prelude.{IfOk, IfErr, OnOk, OnErr, IsErrAnd, MatchResult, i
 use Rattle.std.specs.Result.{result_and}
 use Rattle.std.specs.Io.KnownBytes.{Appends}
 use Rattle.std.proofs.KnownBytes.{Appends-trans}
-use Rattle.sysv_script.specs.declared.fault.ScriptFault.{ScriptFault}
-use Rattle.sysv_script.specs.declared.fault.ScriptFault.TheVariants.{Line, Read, Write, NoMemory, Bound}
-use Rattle.sysv_script.specs.Streams.{AppendsPart}
+use Rattle.sysv_streams.specs.declared.fault.ScriptFault.{ScriptFault}
+use Rattle.sysv_streams.specs.declared.fault.ScriptFault.TheVariants.{Line, Read, Write, NoMemory, Bound}
+use Rattle.sysv_streams.specs.Streams.{AppendsPart}
 use Rattle.sysv_script.proofs.StreamLemmas.{Grows-trans, Grows-part}
-use Rattle.sysv_script.specs.Faults.{Grows, IsStreamFault, LeavesBadLine, TellsBadLine, bad_line_text}
+use Rattle.sysv_streams.specs.Faults.{Grows, IsStreamFault, LeavesBadLine, TellsBadLine, bad_line_text}
 
 -- a fault of a stream says nothing of a line
 pub LeavesBadLine-stream : (fault : ScriptFault) (composed : List ℕ) → IsStreamFault fault → LeavesBadLine fault composed

@@ -6,6 +6,5 @@ pub mod ScriptEnds
 pub mod LineLemmas
 pub mod FaultLemmas
 pub mod StreamLemmas
-pub mod InputLemmas
 pub mod OneText
 pub mod EachText

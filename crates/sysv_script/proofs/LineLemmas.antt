@@ -1,32 +1,10 @@
--- Where the first line of a text ends, if its front has no LF.
-use Rattle.std.proofs.Common.{◌≡◌, ◌+◌, ◌<◌, ℕ, List, ◌++◌, length, take, drop, get_or, sym, ◌∙◌, subst, arith, length-drop, inl, inr}
-use Rattle.std.proofs.Math.Seq.{take-add}
-use Rattle.std.proofs.lemmas.List.{take-append-drop, get_or-drop}
-use Rattle.std.proofs.lemmas.List.Elements.{Contains-append_cases}
-use Rattle.std.proofs.lemmas.Option.{slice_get_within, slice_get_read, get_or_from_slice_get}
+-- A line that was found lies within the bytes that wait.
+use Rattle.std.proofs.Common.{◌≡◌, ◌<◌, ℕ, List, length, arith}
+use Rattle.std.proofs.lemmas.Option.{slice_get_within}
 use Rattle.std.specs.Prelude.{refl}
 use Rattle.std.proofs.Common.{◌≤◌, Option, Bool, true, false}
-use Rattle.sysv_script.specs.declared.next_line.Found.{Found}
-use Rattle.sysv_script.specs.Found.{HasNoEnd, IsFirstLine, IsNextLine}
-
-HasNoEnd-append : (front rest : List ℕ) → HasNoEnd front → HasNoEnd rest → HasNoEnd (front ++ rest)
-HasNoEnd-append front rest p q h = elim (Contains-append_cases front rest 10 h) [ inl x ↦ p x | inr y ↦ q y ]
-
-pub HasNoEnd-parts : (text : List ℕ) (seen : ℕ) → HasNoEnd (take seen text) → HasNoEnd (drop seen text) → HasNoEnd text
-HasNoEnd-parts text seen p q =
-    subst HasNoEnd (take-append-drop seen text) (HasNoEnd-append (take seen text) (drop seen text) p q)
-
-pub IsFirstLine-behind : (text : List ℕ) (seen more : ℕ) → HasNoEnd (take seen text) → IsFirstLine more (drop seen text) → IsFirstLine (seen + more) text
-IsFirstLine-behind text seen more p first =
-    let rest = drop seen text in
-    let inside : more < length rest = slice_get_within rest more 10 first.ends in
-    let fits : seen + more < length text = omega (arith, length-drop seen text) in
-    let here : 10 ≡ get_or text (seen + more) 10 =
-    sym (get_or_from_slice_get rest more 10 10 first.ends) ∙ get_or-drop seen text more 10 in
-    record {
-      ends = slice_get_read text (length text) (seen + more) 10 refl fits here;
-      one_line = subst HasNoEnd (sym (take-add seen more text)) (HasNoEnd-append (take seen text) (take more rest) p first.one_line);
-    }
+use Rattle.sysv_streams.specs.declared.next_line.Found.{Found}
+use Rattle.sysv_streams.specs.Found.{IsNextLine}
 
 pub IsNextLine-behind : (found : Found) (text : List ℕ) (left : Option (List ℕ)) → IsNextLine found text left → found.is_last ≡ false → found.len < length text
 IsNextLine-behind found text left next whole = slice_get_within text found.len 10 (next.0 whole).ends

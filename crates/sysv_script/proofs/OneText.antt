@@ -10,7 +10,7 @@ use Rattle.sysv_model.specs.declared.cred.Cred.{Cred}
 use Rattle.sysv_core.specs.World.{World, Doing, actor_at, Presets}
 use Rattle.sysv_lines.specs.Said.{Said, Nothing, MakesPreset, GivesCred, Starts}
 use Rattle.sysv_script.specs.ScriptRun.{Scene, in_world, Advances, GoesOn, CallRuns, StartRuns, LineRuns, operation_of, printed}
-use Rattle.sysv_script.specs.Faults.{IsFrontOf, bad_line_text}
+use Rattle.sysv_streams.specs.Faults.{IsFrontOf, bad_line_text}
 use Rattle.sysv_script.specs.ScriptText.{BeginsWith, LineDoes, IsBad, Ending, Whole, BadLine, TooMany, Prints, Ends, Exceeds, Fails, Goes}
 use Rattle.sysv_script.specs.ScriptSofar.{PrintsSofar, Here, Past}
 use Rattle.sysv_script.specs.OneText.{OneText}

@@ -8,17 +8,17 @@ use lib.Seq.{take-append-add}
 use Rattle.sysv_script.specs.ScriptRun.{Scene, opening_scene}
 use Rattle.sysv_script.specs.declared.stage.Stage.{Stage}
 use Rattle.sysv_script.specs.Staged.{IsSceneOf}
-use Rattle.sysv_script.specs.Streams.{AppendsPart}
-use Rattle.sysv_script.specs.Found.{IsNextLine}
-use Rattle.sysv_script.specs.Faults.{IsFrontOf, IsStreamFault, IsLineFault, EndsAtLine}
+use Rattle.sysv_streams.specs.Streams.{AppendsPart}
+use Rattle.sysv_streams.specs.Found.{IsNextLine}
+use Rattle.sysv_streams.specs.Faults.{IsFrontOf, IsStreamFault, IsLineFault, EndsAtLine}
 use Rattle.sysv_script.specs.ScriptText.{IsBad, Ending, Whole, BadLine, TooMany, ScriptPrints, WritesScript, WritesAll, WritesFront, WritesAtFault}
 use Rattle.sysv_lines.specs.OneSplit.{OneSplit}
 use Rattle.sysv_script.specs.OneText.{OneText}
 use Rattle.sysv_script.specs.EachText.{EachTextPrints}
 use Rattle.sysv_script.specs.ScriptSofar.{Halt, AtEnd, Before, Runs, IsText, RunsOn, RunsNext, LeavesAll, LeavesFront, LeavesAtFault, Leaves}
-use Rattle.sysv_script.specs.declared.next_line.Found.{Found}
-use Rattle.sysv_script.specs.declared.fault.ScriptFault.{ScriptFault}
-use Rattle.sysv_script.specs.declared.fault.ScriptFault.TheVariants.{Line, Read, Write, NoMemory, Bound}
+use Rattle.sysv_streams.specs.declared.next_line.Found.{Found}
+use Rattle.sysv_streams.specs.declared.fault.ScriptFault.{ScriptFault}
+use Rattle.sysv_streams.specs.declared.fault.ScriptFault.TheVariants.{Line, Read, Write, NoMemory, Bound}
 use Rattle.sysv_script.proofs.Scripting.{fails_at, stops_front}
 
 pub IsFrontOf-all : (text : List ℕ) → IsFrontOf text text

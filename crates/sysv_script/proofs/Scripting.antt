@@ -13,12 +13,12 @@ use Rattle.sysv_script.specs.Staged.{IsSceneOf}
 use Rattle.std.proofs.lemmas.List.Elements.{Contains-append_cases}
 use Rattle.sysv_lines.specs.Words.{SplitsAt}
 use Rattle.sysv_lines.specs.OneSplit.{OneSplit}
-use Rattle.sysv_script.specs.Streams.{AppendsPart, HandsOn, TakesIn}
-use Rattle.sysv_script.specs.Found.{HasNoEnd, IsFirstLine, IsLastLine, IsNextLine, HasNoLine}
-use Rattle.sysv_script.specs.Faults.{IsFrontOf, bad_line_text}
+use Rattle.sysv_streams.specs.Streams.{AppendsPart, HandsOn, TakesIn}
+use Rattle.sysv_streams.specs.Found.{HasNoEnd, IsFirstLine, IsLastLine, IsNextLine, HasNoLine}
+use Rattle.sysv_streams.specs.Faults.{IsFrontOf, bad_line_text}
 use Rattle.sysv_script.specs.ScriptText.{BeginsWith, LineDoes, IsBad, Whole, BadLine, TooMany, Prints, Ends, Exceeds, Fails, Goes}
 use Rattle.sysv_script.specs.ScriptSofar.{PrintsSofar, Here, Past, Halt, AtEnd, Before, Runs, IsText, RunsOn, LeavesAll, LeavesFront}
-use Rattle.sysv_script.specs.declared.next_line.Found.{Found}
+use Rattle.sysv_streams.specs.declared.next_line.Found.{Found}
 
 pub begins_text : (s : Scene) (now : Stage) (text waiting : List ℕ) (left old : Option (List ℕ)) (composed : List ℕ) → composed ≡ [] → IsSceneOf s now → IsText waiting left text →
     RunsOn s text old 1 now waiting left old composed

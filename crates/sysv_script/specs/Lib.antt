@@ -5,9 +5,9 @@ pub use Rattle.sysv_lines.specs.Heads
 pub use Rattle.sysv_lines.specs.Names
 pub use Rattle.sysv_lines.specs.Said
 pub use Rattle.sysv_lines.specs.Lines
-pub mod Streams
-pub mod Found
-pub mod Faults
+pub use Rattle.sysv_streams.specs.Streams
+pub use Rattle.sysv_streams.specs.Found
+pub use Rattle.sysv_streams.specs.Faults
 pub mod ScriptRun
 pub mod Staged
 pub mod ScriptText

@@ -3,7 +3,7 @@
 -- language).
 use Rattle.std.specs.Prelude.{◌≡◌, ℕ, List}
 use Rattle.sysv_script.specs.ScriptRun.{Scene}
-use Rattle.sysv_script.specs.Faults.{IsFrontOf}
+use Rattle.sysv_streams.specs.Faults.{IsFrontOf}
 use Rattle.sysv_script.specs.ScriptText.{Ending, Prints}
 use Rattle.sysv_script.specs.ScriptSofar.{PrintsSofar}
 

@@ -3,13 +3,13 @@
 use Rattle.std.specs.Prelude.{◌≡◌, ◌≤◌, ◌+◌, ℕ, Bool, true, false, List, [], ◌++◌, Option, Some, Result, Ok, Err, ⊤}
 use Rattle.std.specs.Io.KnownBytes.{Appends}
 use Rattle.sysv_script.specs.ScriptRun.{Scene}
-use Rattle.sysv_script.specs.Faults.{IsFrontOf}
+use Rattle.sysv_streams.specs.Faults.{IsFrontOf}
 use Rattle.sysv_script.specs.Staged.{IsSceneOf}
 use Rattle.sysv_script.specs.declared.stage.Stage.{Stage}
 use Rattle.sysv_script.specs.ScriptText.{BeginsWith, LineDoes, IsBad, Ending, Whole, BadLine, TooMany, Prints}
-use Rattle.sysv_script.specs.declared.fault.TheConstants.{SCRIPT_LINES}
-use Rattle.sysv_script.specs.declared.fault.ScriptFault.{ScriptFault}
-use Rattle.sysv_script.specs.declared.fault.ScriptFault.TheVariants.{Line, Read, Write, NoMemory, Bound}
+use Rattle.sysv_streams.specs.declared.fault.TheConstants.{SCRIPT_LINES}
+use Rattle.sysv_streams.specs.declared.fault.ScriptFault.{ScriptFault}
+use Rattle.sysv_streams.specs.declared.fault.ScriptFault.TheVariants.{Line, Read, Write, NoMemory, Bound}
 
 -- the text is what waits, and then what the reader has left
 abbrev pub IsText : List ℕ → Option (List ℕ) → List ℕ → Type 0

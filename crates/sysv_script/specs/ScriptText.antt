@@ -6,12 +6,12 @@ use Rattle.sysv_lines.specs.Said.{Said}
 use Rattle.sysv_script.specs.ScriptRun.{Scene, opening_scene, LineRuns}
 use Rattle.sysv_lines.specs.Lines.{Says}
 use Rattle.sysv_lines.specs.Words.{SplitsAt}
-use Rattle.sysv_script.specs.Found.{HasNoEnd}
-use Rattle.sysv_script.specs.Streams.{AppendsPart}
-use Rattle.sysv_script.specs.Faults.{bad_line_text}
-use Rattle.sysv_script.specs.declared.fault.TheConstants.{SCRIPT_LINES}
-use Rattle.sysv_script.specs.declared.fault.ScriptFault.{ScriptFault}
-use Rattle.sysv_script.specs.declared.fault.ScriptFault.TheVariants.{Line, Read, Write, NoMemory, Bound}
+use Rattle.sysv_streams.specs.Found.{HasNoEnd}
+use Rattle.sysv_streams.specs.Streams.{AppendsPart}
+use Rattle.sysv_streams.specs.Faults.{bad_line_text}
+use Rattle.sysv_streams.specs.declared.fault.TheConstants.{SCRIPT_LINES}
+use Rattle.sysv_streams.specs.declared.fault.ScriptFault.{ScriptFault}
+use Rattle.sysv_streams.specs.declared.fault.ScriptFault.TheVariants.{Line, Read, Write, NoMemory, Bound}
 
 -- how the run of a text ends: with the text, at a bad line, or after the millionth line
 pub data Ending : Type 0 where

@@ -2,10 +2,6 @@
 //! line. `specs/` has the meaning of a text.
 #![tactic(auto)]
 
-mod fault;
-mod input;
 pub mod laws;
-mod next_line;
-mod output;
 pub mod script;
 mod stage;

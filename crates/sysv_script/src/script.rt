@@ -1,20 +1,16 @@
 //! The script language: a text of calls, one a line, that a world runs line by line.
 ghost use Rattle.std.specs.Prelude.{false, true, ◌≡◌, ◌+◌, ◌<◌, ◌≤◌, ◌++◌, [], ℕ, List, Option, Some, length, take, drop, IfOk, IfErr, OnOk, OnErr};
 ghost use Rattle.std.specs.Io.KnownBytes.{Appends, IsAtEnd};
-ghost use Rattle.sysv_script.specs.Faults.{Grows, IsLineFault, IsFrontOf, EndsAtLine, LeavesBadLine, TellsBadLine};
+ghost use Rattle.sysv_streams.specs.Faults.{Grows, IsLineFault, IsFrontOf, EndsAtLine, LeavesBadLine, TellsBadLine};
 ghost use Rattle.sysv_script.specs.ScriptRun.{Scene, opening_scene};
 ghost use Rattle.sysv_script.specs.ScriptText.{LineDoes, IsBad, WritesScript};
 ghost use Rattle.sysv_script.specs.ScriptSofar.{LineEnds, Leaves, IsText, RunsOn, RunsNext};
 ghost use Rattle.sysv_script.specs.Staged.{IsSceneOf};
-ghost use Rattle.sysv_script.specs.Streams.{AppendsPart};
-ghost use Rattle.sysv_script.specs.declared.fault.TheConstants.{SCRIPT_LINES};
+ghost use Rattle.sysv_streams.specs.Streams.{AppendsPart};
+ghost use Rattle.sysv_streams.specs.declared.fault.TheConstants.{SCRIPT_LINES};
 ghost use Rattle.sysv_lines.specs.declared.line.TheConstants.{LINE_BYTES};
 
-pub use crate::fault::{SCRIPT_LINES, ScriptFault};
-use crate::input::Input;
 use crate::laws::{each_text_prints, one_text};
-use crate::next_line::{Found, next_line, read_on};
-use crate::output::Output;
 use crate::stage::Stage;
 use std::alloc::Global;
 use std::io::{Read, Write};
@@ -22,6 +18,10 @@ use sysv_lines::head::Head;
 use sysv_lines::laws::one_split;
 use sysv_lines::line::{LINE_BYTES, line_of};
 use sysv_model::no_memory::NoMemory;
+pub use sysv_streams::fault::{SCRIPT_LINES, ScriptFault};
+use sysv_streams::input::Input;
+use sysv_streams::next_line::{Found, next_line, read_on};
+use sysv_streams::output::Output;
 
 /// Runs the script that `reader` gives on a world of 16 actors, and writes to `writer` a line for
 /// each call that it starts. The answers to what was read are written before more is read.

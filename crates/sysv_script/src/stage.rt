@@ -1,6 +1,6 @@
 ghost use Rattle.std.specs.Prelude.{false, ◌≡◌, ◌+◌, ◌<◌, ◌++◌, List, ℕ, replicate, map, IfOk, OnOk, OnErr, [], ◌∷◌, ◌≤◌, length, Some};
 ghost use Rattle.std.specs.List.{range_with_len};
-ghost use Rattle.sysv_script.specs.Faults.{IsFrontOf};
+ghost use Rattle.sysv_streams.specs.Faults.{IsFrontOf};
 ghost use Rattle.sysv_lines.specs.Heads.{head_text};
 ghost use Rattle.sysv_script.specs.ScriptRun.{Scene, opening_scene, Advances, LineRuns, StartRuns, CallRuns, printed, standing_line};
 ghost use Rattle.sysv_core.specs.World.{actor_at};
@@ -8,7 +8,6 @@ ghost use Rattle.sysv_script.specs.ScriptRun.{first_cred as script_cred, operati
 ghost use Rattle.sysv_lines.specs.SaidBy.{FitsBody, RequestFits, LineFits, IsOfActors, text_bytes, call_asked, said_of};
 ghost use Rattle.sysv_script.specs.Staged.{IsSceneOf};
 
-use crate::output::Output;
 use std::alloc::Global;
 use sysv_core::event::{Answer, Call, Event, Outcome, Stepped};
 use sysv_core::world::World;
@@ -17,6 +16,7 @@ use sysv_lines::line::{Line, Request, SCRIPT_ACTORS, Text};
 use sysv_model::body::Body;
 use sysv_model::cred::Cred;
 use sysv_model::no_memory::NoMemory;
+use sysv_streams::output::Output;
 
 /// The blocks of a script's world.
 const SCRIPT_BLOCKS: u32 = 1024;

@@ -1,6 +1,6 @@
 use Rattle.std.proofs.Common.{sym, subst}
 use Rattle.std.specs.Prelude.{IfErr}
-use Rattle.sysv_script.specs.Faults.{TellsBadLine}
+use Rattle.sysv_streams.specs.Faults.{TellsBadLine}
 use Rattle.sysv_script.specs.ScriptText.{WritesScript}
 use Rattle.sysv_script.proofs.FaultLemmas.{tells_end, grows_end}
 use Rattle.sysv_script.proofs.ScriptEnds.{writes_none, writes_end, script_runs}

@@ -1,8 +1,8 @@
 use Rattle.std.proofs.Common.{◌≡◌, ℕ, List, Option, Some, rules, subst, sym}
-use Rattle.sysv_script.specs.declared.next_line.Found.{Found}
-use Rattle.sysv_script.specs.Found.{FindsLine, IsNextLine}
+use Rattle.sysv_streams.specs.declared.next_line.Found.{Found}
+use Rattle.sysv_streams.specs.Found.{FindsLine, IsNextLine}
 use Rattle.sysv_script.proofs.LineLemmas.{IsNextLine-front, IsNextLine-behind}
-use Rattle.sysv_script.specs.Faults.{IsStreamFault}
+use Rattle.sysv_streams.specs.Faults.{IsStreamFault}
 use Rattle.sysv_script.proofs.FaultLemmas.{IfErr-stream}
 use Rattle.sysv_script.proofs.Scripting.{takes_more, hands_more, runs_line, runs_last, ends_text, stops_part}
 use Rattle.sysv_script.proofs.ScriptEnds.{at_stream_fault, at_line_fault, RunsNext-passed, RunsNext-line}

@@ -1,6 +1,6 @@
 use Rattle.std.proofs.Common.{◌≡◌, ◌+◌, ◌*◌, ◌++◌, ℕ, List, take, drop, sym, ap, ◌∙◌, append_assoc, arith, rules}
 use lib.Seq.{take-add}
-use Rattle.sysv_script.proofs.output.append_text.Goals as goal
+use Rattle.sysv_streams.proofs.output.append_text.Goals as goal
 
 -- the blocks so far and the next one
 block_more : (k : ℕ) (text : List ℕ) → take (k * 64) text ++ take 64 (drop (k * 64) text) ≡ take ((k + 1) * 64) text

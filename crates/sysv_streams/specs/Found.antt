@@ -3,7 +3,7 @@
 use Rattle.std.specs.Prelude.{◌≡◌, ◌<◌, ◌⊎◌, ℕ, List, [], Option, Some, None, length, take, slice_get, true, false, Contains}
 use Rattle.std.specs.Io.KnownBytes.{IsAtEnd}
 use Rattle.sysv_lines.specs.declared.line.TheConstants.{LINE_BYTES}
-use Rattle.sysv_script.specs.declared.next_line.Found.{Found}
+use Rattle.sysv_streams.specs.declared.next_line.Found.{Found}
 
 abbrev pub HasNoEnd : List ℕ → Type 0
 HasNoEnd text = Contains text 10 → ⊥

@@ -1,8 +1,8 @@
 use Rattle.std.proofs.Common.{◌-◌, ◌≤◌, length, take}
-use Rattle.sysv_script.specs.Found.{HasNoEnd}
-use Rattle.sysv_script.specs.Streams.{HandsOn, TakesIn}
-use Rattle.sysv_script.specs.declared.input.TheConstants.{INPUT_ROOM}
-use Rattle.sysv_script.proofs.next_line.next_line.Given as goal
+use Rattle.sysv_streams.specs.Found.{HasNoEnd}
+use Rattle.sysv_streams.specs.Streams.{HandsOn, TakesIn}
+use Rattle.sysv_streams.specs.declared.input.TheConstants.{INPUT_ROOM}
+use Rattle.sysv_streams.proofs.next_line.next_line.Given as goal
 
 abbrev pub invariant-loop-found : goal.invariant-loop-found
 invariant-loop-found g l = record {

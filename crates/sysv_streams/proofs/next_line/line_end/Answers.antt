@@ -1,7 +1,7 @@
 use Rattle.std.proofs.Common.{◌≡◌, ◌-◌, ℕ, List, length, take, drop, subst, take_all, arith, length-drop}
-use Rattle.sysv_script.specs.Found.{HasNoEnd, IsFirstLine}
-use Rattle.sysv_script.proofs.LineLemmas.{HasNoEnd-parts, IsFirstLine-behind}
-use Rattle.sysv_script.proofs.next_line.line_end.Goals as goal
+use Rattle.sysv_streams.specs.Found.{HasNoEnd, IsFirstLine}
+use Rattle.sysv_streams.proofs.LineLemmas.{HasNoEnd-parts, IsFirstLine-behind}
+use Rattle.sysv_streams.proofs.next_line.line_end.Goals as goal
 
 -- a slice from here on
 from_here : (text : List ℕ) (seen : ℕ) → take (length text - seen) (drop seen text) ≡ drop seen text

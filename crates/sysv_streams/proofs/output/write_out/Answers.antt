@@ -2,7 +2,7 @@ use Rattle.std.proofs.Common.{◌≡◌, ◌+◌, ◌-◌, ◌≤◌, ◌++◌, 
 use lib.Seq.{take-add, take-take}
 use Rattle.std.specs.Io.KnownBytes.{Appends}
 use Rattle.std.proofs.KnownBytes.{Appends-trans}
-use Rattle.sysv_script.proofs.output.write_out.Goals as goal
+use Rattle.sysv_streams.proofs.output.write_out.Goals as goal
 
 -- the front that was written, and then a front of what is left
 fronts : (bytes : List ℕ) (written count : ℕ) → count ≤ length bytes - written

@@ -1,6 +1,6 @@
 use Rattle.std.proofs.Common.{◌≡◌, ◌+◌, ◌-◌, ◌≤◌, length, drop, slice_range, ap, ◌∙◌, arith, length-take}
-use Rattle.sysv_script.proofs.InputLemmas.{passed_over}
-use Rattle.sysv_script.proofs.input.Input.pass_line.Goals as goal
+use Rattle.sysv_streams.proofs.InputLemmas.{passed_over}
+use Rattle.sysv_streams.proofs.input.Input.pass_line.Goals as goal
 
 pub returns : goal.returns
 returns c =

@@ -1,8 +1,8 @@
 use Rattle.std.proofs.Common.{◌≡◌, ◌+◌, ◌-◌, ◌≤◌, length, take, slice_range, ap, ◌∙◌, arith, rules}
 use Rattle.std.proofs.lemmas.List.{with_items_is, places}
 use borrow.Rule.Slice.PartMut.{put_mid}
-use Rattle.sysv_script.proofs.InputLemmas.{moved_to_front, came_behind}
-use Rattle.sysv_script.proofs.input.Input.read_from.Goals as goal
+use Rattle.sysv_streams.proofs.InputLemmas.{moved_to_front, came_behind}
+use Rattle.sysv_streams.proofs.input.Input.read_from.Goals as goal
 
 pub returns-in-Ok-clause-text : goal.returns-in-Ok-clause-text
 returns-in-Ok-clause-text g c =

@@ -1,10 +1,10 @@
 //! Where the next line of a script ends, among the bytes that wait and those that are read on.
 ghost use Rattle.std.specs.Prelude.{false, true, ◌≡◌, ◌+◌, ◌<◌, ◌≤◌, [], length, take, MatchOption, IfOk, IfErr, OnOk, OnErr, IfSome};
 ghost use Rattle.std.specs.Io.KnownBytes.{Appends, IsAtEnd};
-ghost use Rattle.sysv_script.specs.Faults.{IsStreamFault};
-ghost use Rattle.sysv_script.specs.Found.{HasNoEnd, IsFirstLine, IsNextLine, FindsLine};
-ghost use Rattle.sysv_script.specs.Streams.{AppendsPart, HandsOn, TakesIn};
-ghost use Rattle.sysv_script.specs.declared.input.TheConstants.{INPUT_ROOM};
+ghost use Rattle.sysv_streams.specs.Faults.{IsStreamFault};
+ghost use Rattle.sysv_streams.specs.Found.{HasNoEnd, IsFirstLine, IsNextLine, FindsLine};
+ghost use Rattle.sysv_streams.specs.Streams.{AppendsPart, HandsOn, TakesIn};
+ghost use Rattle.sysv_streams.specs.declared.input.TheConstants.{INPUT_ROOM};
 ghost use Rattle.sysv_lines.specs.declared.line.TheConstants.{LINE_BYTES};
 
 use crate::fault::ScriptFault;
@@ -15,15 +15,15 @@ use sysv_lines::line::LINE_BYTES;
 
 /// The next line: the first bytes that wait.
 #[derive(Clone, Copy)]
-pub(crate) struct Found {
+pub struct Found {
     /// The number of its bytes, its LF not counted.
-    pub(crate) len: usize,
+    pub len: usize,
     /// Whether no LF stands behind it: it is the last, or longer than a line may be.
-    pub(crate) is_last: bool,
+    pub is_last: bool,
 }
 
 /// Finds the next line, and reads on for its end where that has to be; `None` where there is none.
-pub(crate) fn next_line<R: Read, W: Write>(
+pub fn next_line<R: Read, W: Write>(
     input: &mut Input,
     output: &mut Output,
     reader: &mut R,
@@ -102,7 +102,7 @@ fn first_end(text: &[u8]) -> Option<usize>
 }
 
 /// Hands out the answers and reads once; the number of bytes that came, 0 at the end.
-pub(crate) fn read_on<R: Read, W: Write>(
+pub fn read_on<R: Read, W: Write>(
     input: &mut Input,
     output: &mut Output,
     reader: &mut R,

@@ -1,5 +1,5 @@
-use Rattle.sysv_script.proofs.StreamLemmas.{AppendsPart-all, OnErr-from}
-use Rattle.sysv_script.proofs.next_line.read_on.Goals as goal
+use Rattle.sysv_streams.proofs.StreamLemmas.{AppendsPart-all, OnErr-from}
+use Rattle.sysv_streams.proofs.next_line.read_on.Goals as goal
 
 pub returns-in-Ok-clause-err : goal.returns-in-Ok-clause-err
 returns-in-Ok-clause-err g c =

@@ -1,8 +1,8 @@
 use Rattle.std.proofs.Common.{rules, ◌≡◌, length, take, sym, ap, subst, ◌∙◌, arith}
 use Rattle.std.proofs.Math.Seq.{take-append_seam}
-use Rattle.sysv_script.specs.Found.{HasNoEnd}
-use Rattle.sysv_script.proofs.StreamLemmas.{HandsOn-all, HandsOn-part, TakesIn-trans}
-use Rattle.sysv_script.proofs.next_line.next_line.Goals as goal
+use Rattle.sysv_streams.specs.Found.{HasNoEnd}
+use Rattle.sysv_streams.proofs.StreamLemmas.{HandsOn-all, HandsOn-part, TakesIn-trans}
+use Rattle.sysv_streams.proofs.next_line.next_line.Goals as goal
 
 pub returns-in-Err-clause-err : goal.returns-in-Err-clause-err
 returns-in-Err-clause-err g c =

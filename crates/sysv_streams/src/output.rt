@@ -2,7 +2,7 @@
 ghost use Rattle.std.specs.Prelude.{◌≡◌, [], ◌∷◌, ◌++◌, IfOk, IfErr, OnOk, OnErr};
 ghost use Rattle.std.specs.Io.KnownBytes.{Appends};
 ghost use Rattle.sysv_lines.specs.Heads.{head_text};
-ghost use Rattle.sysv_script.specs.Streams.{AppendsPart, HandsOn};
+ghost use Rattle.sysv_streams.specs.Streams.{AppendsPart, HandsOn};
 
 use crate::fault::ScriptFault;
 use std::alloc::Global;
@@ -21,7 +21,7 @@ const LONGEST: usize = 8400;
 
 /// Lines that are composed and not yet written.
 #[derive(Drop)]
-pub(crate) struct Output {
+pub struct Output {
     bytes: Vec<u8>,
 }
 
@@ -37,7 +37,7 @@ impl Model for Output {
 
 impl Output {
     /// Nothing composed, with room for 65,536 bytes.
-    pub(crate) fn open(alloc: Global) -> Result<Output, NoMemory>
+    pub fn open(alloc: Global) -> Result<Output, NoMemory>
         ensures { IfOk result (λ output. output ≡ []) }
     {
         match Vec::with_capacity(alloc, OUTPUT_ROOM) {
@@ -47,7 +47,7 @@ impl Output {
     }
 
     /// Composes a line that is a head alone. Where memory is refused, nothing is left composed.
-    pub(crate) fn tell(&mut self, head: Head) -> Result<(), NoMemory>
+    pub fn tell(&mut self, head: Head) -> Result<(), NoMemory>
         ensures ok { OnOk result (self.new ≡ self.old ++ (head_text head ++ 10 ∷ [])) }
         ensures err { OnErr result (self.new ≡ []) }
     {
@@ -62,7 +62,7 @@ impl Output {
 
     /// Composes a line of a head and the bytes of a text. Where memory is refused, nothing is left
     /// composed.
-    pub(crate) fn tell_text(&mut self, head: Head, text: &Body) -> Result<(), NoMemory>
+    pub fn tell_text(&mut self, head: Head, text: &Body) -> Result<(), NoMemory>
         ensures ok { OnOk result (self.new ≡ self.old ++ (head_text head ++ (text.now ++ 10 ∷ []))) }
         ensures err { OnErr result (self.new ≡ []) }
     {
@@ -77,7 +77,7 @@ impl Output {
 
     /// Hands out what was composed where there might be no room for one more line. Where that fails
     /// nothing is left composed.
-    pub(crate) fn make_room<W: Write>(&mut self, writer: &mut W) -> Result<(), ScriptFault>
+    pub fn make_room<W: Write>(&mut self, writer: &mut W) -> Result<(), ScriptFault>
         ensures ok { OnOk result (HandsOn (W.contents writer.old) self.old (W.contents writer.new) self.new) }
         ensures none_left { OnErr result (self.new ≡ []) }
         ensures err { OnErr result (AppendsPart (W.contents writer.old) (W.contents writer.new) self.old) }
@@ -91,7 +91,7 @@ impl Output {
 
     /// Writes all that was composed, in as many writes as the writer wants. Nothing is left composed,
     /// also where that fails.
-    pub(crate) fn hand_out<W: Write>(&mut self, writer: &mut W) -> Result<(), ScriptFault>
+    pub fn hand_out<W: Write>(&mut self, writer: &mut W) -> Result<(), ScriptFault>
         ensures ok { OnOk result (Appends (W.contents writer.old) (W.contents writer.new) self.old) }
         ensures none_left { self.new ≡ [] }
         ensures err { OnErr result (AppendsPart (W.contents writer.old) (W.contents writer.new) self.old) }

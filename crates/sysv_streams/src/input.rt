@@ -1,8 +1,8 @@
 //! The bytes of a script that were read and wait to be run.
 ghost use Rattle.std.specs.Prelude.{◌≡◌, ◌+◌, ◌<◌, ◌≤◌, [], ◌++◌, length, take, drop, slice_range, vec_len, IfOk, IfErr, OnOk};
 ghost use Rattle.std.specs.Io.KnownBytes.{Consumes, IsAtEnd};
-ghost use Rattle.sysv_script.specs.Streams.{TakesIn};
-ghost use Rattle.sysv_script.specs.declared.input.TheConstants.{INPUT_ROOM};
+ghost use Rattle.sysv_streams.specs.Streams.{TakesIn};
+ghost use Rattle.sysv_streams.specs.declared.input.TheConstants.{INPUT_ROOM};
 
 use crate::fault::ScriptFault;
 use std::alloc::Global;
@@ -13,12 +13,12 @@ use sysv_model::no_memory::NoMemory;
 
 /// The bytes for which the input has room: one line of the greatest length and its LF. So of a line
 /// that has no end no more than these are read.
-pub(crate) const INPUT_ROOM: usize = LINE_BYTES + 1;
+pub const INPUT_ROOM: usize = LINE_BYTES + 1;
 
 /// The bytes that wait: they were read, and belong to lines that have not been run. They stand in one
 /// buffer of fixed length, and reads go into the room behind them.
 #[derive(Drop)]
-pub(crate) struct Input {
+pub struct Input {
     buffer: Vec<u8>,
     /// The place of the first byte that waits.
     start: usize,
@@ -28,7 +28,7 @@ pub(crate) struct Input {
 
 impl Model for Input {
     ghost use Rattle.std.specs.Prelude.{List, ℕ, ◌≡◌, ◌≤◌, slice_range, vec_len};
-    ghost use Rattle.sysv_script.specs.declared.input.TheConstants.{INPUT_ROOM};
+    ghost use Rattle.sysv_streams.specs.declared.input.TheConstants.{INPUT_ROOM};
 
     ghost Value = { List ℕ };
 
@@ -40,7 +40,7 @@ impl Model for Input {
 
 impl Input {
     /// Nothing waits.
-    pub(crate) fn open(alloc: Global) -> Result<Input, NoMemory>
+    pub fn open(alloc: Global) -> Result<Input, NoMemory>
         ensures { IfOk result (λ input. input ≡ []) }
     {
         let Ok(buffer) = vec![in alloc; 0; INPUT_ROOM] else {
@@ -54,7 +54,7 @@ impl Input {
     }
 
     /// The bytes that wait.
-    pub(crate) fn waiting(&self) -> &[u8]
+    pub fn waiting(&self) -> &[u8]
         ensures bytes { result.now ≡ self.now }
         ensures room { length result.now ≤ INPUT_ROOM }
     {
@@ -62,7 +62,7 @@ impl Input {
     }
 
     /// Passes over a line of `len` bytes and the LF behind it.
-    pub(crate) fn pass_line(&mut self, len: usize)
+    pub fn pass_line(&mut self, len: usize)
         requires { len < length self.old }
         ensures { self.new ≡ drop (len + 1) self.old }
     {
@@ -71,7 +71,7 @@ impl Input {
     }
 
     /// Reads once, behind what waits; the number of bytes that came, 0 at the end.
-    pub(crate) fn read_from<R: Read>(&mut self, reader: &mut R) -> Result<usize, ScriptFault>
+    pub fn read_from<R: Read>(&mut self, reader: &mut R) -> Result<usize, ScriptFault>
         requires { length self.old < INPUT_ROOM }
         ensures text { OnOk result (TakesIn (R.remaining reader.old) self.old (R.remaining reader.new) self.new) }
         ensures count { IfOk result (λ count. length self.new ≡ length self.old + count) }

@@ -1,0 +1,3 @@
+pub mod StreamLemmas
+pub mod LineLemmas
+pub mod InputLemmas
