@@ -13,7 +13,7 @@ use std::hint;
 use std::sync::Wait;
 use std::sync::atomic::Ordering::SeqCst;
 
-/// So often an end looks before it sleeps.
+/// How many times an end looks before it sleeps.
 const SPINS: u64 = 1024;
 
 /// A sleep compares the low 32 bits of the word.

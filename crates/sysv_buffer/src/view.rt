@@ -3,7 +3,7 @@ use std::collections::LinkedList;
 
 /// Which end a view belongs to.
 pub enum Role {
-    /// Both, before the buffer is handed out.
+    /// Both, until the buffer is opened.
     Both,
     /// The one who puts.
     Producer,

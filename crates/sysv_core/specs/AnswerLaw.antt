@@ -1,8 +1,8 @@
 -- The law of the answers. Each call that was started plays its own turns: the step table, taken along
 -- them from its start, leads to where it stands. Where it is over it has one answer, that one, and no actor
 -- is in it; else its actor is in it there, and it has no answer. And each turn is that of a call that was
--- started, and asks what that call was asked, or of a preset (POSIX.1-2017, msgsnd and msgrcv, RETURN VALUE and ERRORS; the steps are this
--- profile's).
+-- started, and asks what that call was asked, or of a preset (POSIX.1-2017, msgsnd and msgrcv, RETURN VALUE
+-- and ERRORS; the steps are this profile's).
 use Rattle.std.specs.Prelude.{◌≡◌, ◌⊎◌, List, [], ◌∷◌, Option, Some, None, Contains, filter, map, if◌then◌else◌}
 use Rattle.sysv_model.specs.History.{Who, Actor, Seat}
 use Rattle.sysv_model.specs.Turn.{Turn, is_same, deeds_of}

@@ -13,7 +13,7 @@ use std::marker::Model;
 use std::sync::Wait;
 use std::{hint, thread};
 
-/// So often a wait looks before it sleeps, and so many turns of a bounded wait spin before the others yield. It is some
+/// How many times a wait looks before it sleeps, and how many turns of a bounded wait spin before the others yield. It is some
 /// microseconds, in which another thread that runs can answer; `eventcount_bench` shows what it is worth.
 const SPINS: u64 = 256;
 

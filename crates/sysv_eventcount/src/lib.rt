@@ -1,5 +1,5 @@
 //! Eventcounts and sequencers, after Reed and Kanodia. An eventcount is a number that only rises: threads advance it,
-//! read it, and wait until it has reached a goal. A sequencer hands out the numbers from its first on, each once.
+//! read it, and wait until it has reached a goal. A sequencer gives the numbers from its first on, each once.
 #![tactic(auto)]
 
 mod awaited;

@@ -9,7 +9,7 @@ use crate::word::Word;
 use std::alloc::Global;
 use std::marker::Model;
 
-/// Hands out the numbers from its first on, each once. Threads share it by reference, and each draws with a seat of its
+/// Gives the numbers from its first on, each once. Threads share it by reference, and each draws with a seat of its
 /// own.
 #[derive(Drop)]
 pub struct Sequencer {

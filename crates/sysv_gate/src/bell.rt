@@ -35,7 +35,7 @@ impl Bell {
         self.rung.load(SeqCst)
     }
 
-    // Sleeps where it was rung so often and not since.
+    // Sleeps where it was rung that many times and not since.
     pub(crate) fn sleep(&self, rt: &impl Wait, rung: u64) {
         self.rung.park(rt, (rung & LOW_BITS) as u32);
     }

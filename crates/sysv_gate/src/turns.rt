@@ -17,7 +17,7 @@ use std::hint;
 use std::snapshot::Snapshot;
 use std::sync::Wait;
 
-/// So often a waiter looks before it sleeps.
+/// How many times a waiter looks before it sleeps.
 pub(crate) const SPINS: u64 = 1024;
 
 // What came of a try to enter.
