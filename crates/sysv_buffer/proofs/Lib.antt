@@ -4,3 +4,9 @@ pub mod Stepping
 pub mod Opening
 pub mod Turning
 pub mod Agreeing
+pub mod ManySums
+pub mod ManySeats
+pub mod ManyStepping
+pub mod ManySeating
+pub mod ManyTurning
+pub mod ManyAgreeing

@@ -11,12 +11,12 @@ use Rattle.sysv_buffer.specs.Ring.{Kept, start}
 use Rattle.sysv_buffer.specs.Steps.{first_producer, first_consumer}
 use Rattle.sysv_buffer.proofs.Stepping.{which, alone, both_producer, both_consumer}
 
-all_cells : (T : Type 0) (n : ℕ) → length (map some (replicate {A = Option T} n None)) ≡ n
+pub all_cells : (T : Type 0) (n : ℕ) → length (map some (replicate {A = Option T} n None)) ≡ n
 all_cells T zero = refl
 all_cells T (suc n) = ap suc (all_cells T n)
 
 module _ {T : Type 0} where
-  empty_cell : (n i : ℕ) → i < n → get_elem? (map some (replicate {A = Option T} n None)) i ≡ some (some None)
+  pub empty_cell : (n i : ℕ) → i < n → get_elem? (map some (replicate {A = Option T} n None)) i ≡ some (some None)
   empty_cell zero i less = absurd (omega arith)
   empty_cell (suc n) zero less = refl
   empty_cell (suc n) (suc i) less = empty_cell n i (omega arith)

@@ -19,7 +19,7 @@ module _ {T : Type 0} where
   first_item d ((i, None) ∷ xs) = d
   first_item d ((i, Some a) ∷ xs) = a
 
-  same_item : (xs ys : List (ℕ × Option T)) (a b : T) (i k : ℕ) → xs ≡ ys → xs ≡ (i, Some a) ∷ [] → ys ≡ (k, Some b) ∷ [] → a ≡ b
+  pub same_item : (xs ys : List (ℕ × Option T)) (a b : T) (i k : ℕ) → xs ≡ ys → xs ≡ (i, Some a) ∷ [] → ys ≡ (k, Some b) ∷ [] → a ≡ b
   unfolding first_item
   same_item xs ys a b i k e is was = sym (ap (first_item a) is) ∙ (ap (first_item a) e ∙ ap (first_item a) was)
 

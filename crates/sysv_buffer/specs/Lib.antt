@@ -5,3 +5,9 @@ pub mod Held
 pub mod Turns
 pub mod Refusals
 pub mod Laws
+pub mod ManyRing
+pub mod ManySteps
+pub mod ManyTurns
+pub mod ManyEnds
+pub mod ManyHeld
+pub mod ManyLaws

@@ -24,7 +24,7 @@ pub(crate) type Board<T> = Table<Option<T>, View<T>, (), Buffering<T>, Global>;
 pub(crate) type Token<T> = atomic_table::Seat<Option<T>, View<T>>;
 
 // That many empty cells.
-fn empty_cells<T: Drop>(alloc: Global, cells: usize) -> Option<Vec<Option<T>>>
+pub(crate) fn empty_cells<T: Drop>(alloc: Global, cells: usize) -> Option<Vec<Option<T>>>
     ensures { IfSome result (λ v. v.items ≡ replicate cells None) }
 {
     let Ok(mut row) = Vec::with_capacity(alloc, cells) else {

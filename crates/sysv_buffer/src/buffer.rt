@@ -13,7 +13,7 @@ use std::sync::Wait;
 use std::sync::atomic::AtomicU64;
 
 /// The most cells of a buffer; it has at least one.
-const CELLS_MOST: usize = 1024;
+pub(crate) const CELLS_MOST: usize = 1024;
 
 /// A row of cells through which one thread hands items to another, in order. The ends share it by reference.
 #[derive(Drop)]

@@ -5,8 +5,15 @@ mod board;
 mod buffer;
 mod ends;
 mod laws;
+mod many;
+mod many_board;
+mod many_rule;
+mod many_turns;
+mod many_view;
+mod many_waits;
 mod refusals;
 mod rule;
+mod seat;
 #[cfg(test)]
 mod tests;
 mod turns;
@@ -14,5 +21,9 @@ mod view;
 
 pub use buffer::OneBuffer;
 pub use ends::{Consumer, Producer};
-pub use laws::taken_is_a_beginning;
-pub use refusals::{OpenRefused, PutRefused, PutWorn, TakeRefused, TakeWorn};
+pub use laws::{no_place_twice, one_list_of_many, taken_is_a_beginning};
+pub use many::ManyBuffer;
+pub use refusals::{
+    ManyPutRefused, ManyTakeRefused, OpenRefused, PutRefused, PutWorn, TakeRefused, TakeWorn,
+};
+pub use seat::Seat;

@@ -42,3 +42,28 @@ pub enum TakeRefused {
 #[derive(Clone, Copy, PartialEq, Eq, Debug, Error)]
 #[error("the buffer is worn out")]
 pub struct TakeWorn;
+
+/// Why `try_put` of a buffer of many takes no item. It comes back.
+#[derive(Drop)]
+pub enum ManyPutRefused<T> {
+    /// Every cell has an item.
+    Full(T),
+    /// Another seat had the turn.
+    Busy(T),
+    /// 2^62 items were put.
+    Worn(T),
+}
+
+/// Why `try_take` of a buffer of many gives no item.
+#[derive(Clone, Copy, PartialEq, Eq, Debug, Error)]
+pub enum ManyTakeRefused {
+    /// No item waits.
+    #[error("no item waits")]
+    Empty,
+    /// Another seat had the turn.
+    #[error("another has the turn")]
+    Busy,
+    /// 2^62 items were taken.
+    #[error("the buffer is worn out")]
+    Worn,
+}

@@ -6,6 +6,8 @@ use std::alloc::Global;
 use std::process::Abort;
 use std::sync::Wait;
 
+mod many;
+mod many_threads;
 mod threads;
 
 /// An item that can't be copied.

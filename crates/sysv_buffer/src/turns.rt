@@ -14,10 +14,10 @@ use std::sync::Wait;
 use std::sync::atomic::Ordering::SeqCst;
 
 /// How many times an end looks before it sleeps.
-const SPINS: u64 = 1024;
+pub(crate) const SPINS: u64 = 1024;
 
 /// A sleep compares the low 32 bits of the word.
-const LOW_BITS: u64 = 0xffff_ffff;
+pub(crate) const LOW_BITS: u64 = 0xffff_ffff;
 
 /// What the producer finds.
 #[derive(Clone, Copy)]

@@ -1,0 +1,5 @@
+use Rattle.sysv_buffer.proofs.ManyAgreeing.{one_list}
+use Rattle.sysv_buffer.proofs.laws.one_list_of_many.Goals as goal
+
+pub returns : goal.returns
+returns g c = one_list _

@@ -1,0 +1,7 @@
+use Rattle.std.proofs.Common.{◌≡◌}
+use Rattle.sysv_buffer.specs.ManyTurns.{IsSame}
+use Rattle.sysv_buffer.proofs.many.ManyBuffer.await_item.Given as goal
+
+-- nothing was found yet
+abbrev pub invariant-loop : goal.invariant-loop
+invariant-loop g l = record { same : IsSame l.fn.token l.token; still : l.token.me ≡ l.fn.token.me; goes_on : (goal.iterator-loop g).can_next l.iterator' × (goal.iterator-loop g).is_finite l.iterator' }

@@ -1,0 +1,67 @@
+-- What contracts see of a seat of a buffer of many, and what the calls do to it.
+use Rattle.std.specs.Prelude.{◌≡◌, ℕ, ◌+◌, ◌≤◌, ◌^◌, List, [], ◌∷◌, ◌++◌, length}
+use mathlib.Core.Option.{some}
+use lib.ListN.{get_elem?}
+use Rattle.sysv_buffer.specs.Ends.{Buffered}
+use Rattle.sysv_buffer.specs.ManySteps.{longer_of}
+use Rattle.sysv_buffer.specs.declared.refusals.ManyPutRefused.{ManyPutRefused}
+use Rattle.sysv_buffer.specs.declared.refusals.ManyPutRefused.TheVariants as refused
+use Rattle.sysv_buffer.specs.declared.refusals.ManyTakeRefused.{ManyTakeRefused}
+use Rattle.sysv_buffer.specs.declared.refusals.ManyTakeRefused.TheVariants as missed
+
+-- A seat: whose seat it is, what was put, as far as it has seen, how many items it has seen taken, what it found when it
+-- loaded a sequencer last, and the places of its own items, and of those that it took, in the list of what was put
+pub record Holding (T : Type 0) : Type 0 where
+  pub buffer : Buffered
+  pub seen : List T
+  pub gone : ℕ
+  pub weighed : ℕ
+  pub puts : List ℕ
+  pub takes : List ℕ
+
+module _ {T : Type 0} where
+  -- the first seat has seen nothing yet
+  abbrev pub opened : Buffered → Holding T
+  opened b = record { buffer = b; seen = []; gone = 0; weighed = 0; puts = []; takes = [] }
+
+  -- the seat that was split off has seen as much, and has put and taken nothing
+  abbrev pub split_off : Holding T → Holding T
+  split_off h = record h { puts = []; takes = [] }
+
+  -- one seat has taken in another: the longer of the two beginnings that they have seen, and the places of both
+  abbrev pub joined : Holding T → Holding T → Holding T
+  joined one two = record one { seen = longer_of one.seen two.seen; puts = one.puts ++ two.puts; takes = one.takes ++ two.takes }
+
+  -- the seat may have seen more, and has put and taken nothing
+  pub record Looks (before after : Holding T) : Type 0 where
+    pub more : List T
+    pub seen : after.seen ≡ before.seen ++ more
+    pub puts : after.puts ≡ before.puts
+    pub takes : after.takes ≡ before.takes
+
+  -- The item is the last of what was put that the seat has now seen, and that place is the last of its own
+  pub record Puts (item : T) (before after : Holding T) : Type 0 where
+    pub others : List T
+    pub seen : after.seen ≡ (before.seen ++ others) ++ item ∷ []
+    pub puts : after.puts ≡ before.puts ++ length (before.seen ++ others) ∷ []
+    pub takes : after.takes ≡ before.takes
+
+  -- The item is the one at a place of what was put, and that place is the last that the seat took from
+  pub record Takes (item : T) (before after : Holding T) : Type 0 where
+    pub more : List T
+    pub seen : after.seen ≡ before.seen ++ more
+    pub puts : after.puts ≡ before.puts
+    pub place : ℕ
+    pub takes : after.takes ≡ before.takes ++ place ∷ []
+    pub at : get_elem? after.seen place ≡ some item
+
+  -- the item comes back, and a buffer is worn only where a word that was loaded has reached 2^62
+  abbrev pub GivesBack : T → Holding T → ManyPutRefused T → Type 0
+  GivesBack item after (refused.Full back) = (back ≡ item) × (after.gone + after.buffer.room ≤ length after.seen)
+  GivesBack item after (refused.Busy back) = back ≡ item
+  GivesBack item after (refused.Worn back) = (back ≡ item) × (2 ^ 62 ≤ length after.seen)
+
+  abbrev pub Misses : Holding T → ManyTakeRefused → Type 0
+  Misses after missed.Empty = length after.seen ≤ after.gone
+  Misses after missed.Busy = Unit {0}
+  Misses after missed.Worn = 2 ^ 62 ≤ after.gone

@@ -1,0 +1,70 @@
+-- The rule of a buffer of many producers and consumers, after Reed and Kanodia ("Synchronization with Eventcounts and
+-- Sequencers", Communications of the ACM, 1979). Words 0 and 16 are IN and OUT, as in a buffer of one. Word 32 is the
+-- sequencer of the puts and word 48 that of the takes. Each is the next ticket, and a ticket is the place of one item.
+-- The cells are kept as those of a buffer whose one producer and one consumer make all puts and takes.
+use Rattle.std.specs.Prelude.{◌≡◌, ℕ, ◌+◌, ◌^◌, ◌<◌, ◌≤◌, ◌==◌, true, false, cond, List, [], ◌∷◌, ◌++◌, length, slice_index, count_by, sum_by, Option}
+use mathlib.Core.Option.{some}
+use lib.ListN.{get_elem?}
+use Rattle.atomic_table.specs.Table.{State}
+use Rattle.sysv_buffer.specs.declared.view.View.{View}
+use Rattle.sysv_buffer.specs.declared.many_view.Sight.{Sight}
+use Rattle.sysv_buffer.specs.Ring.{Runs}
+
+-- how often k stands in the list
+abbrev pub times : ℕ → List ℕ → ℕ
+times k ks = count_by (λ j. j == k) ks
+
+module _ {T : Type 0} where
+  -- how often a seat has the place k among its puts or as its ticket, and the same of its takes
+  abbrev pub put_at : ℕ → Sight T → ℕ
+  put_at k v = times k v.puts + times k v.put_ticket
+
+  abbrev pub taken_at : ℕ → Sight T → ℕ
+  taken_at k v = times k v.takes + times k v.take_ticket
+
+  abbrev pub filling : Sight T → ℕ
+  filling v = cond v.fills 1 0
+
+  abbrev pub emptying : Sight T → ℕ
+  emptying v = cond v.empties 1 0
+
+  -- What one seat knows is so. A ticket is for a place that was not reached yet, and a cell is out with the seat only
+  -- where it holds the very next ticket
+  pub record Knows (put : List T) (taken : ℕ) (p c : View T) (v : Sight T) : Type 0 where
+    pub seen : (more : List T) × (put ≡ v.seen ++ more)
+    pub gone : v.gone ≤ taken
+    pub own_put : (k : ℕ) → 1 ≤ times k v.puts → k < length put
+    pub own_taken : (k : ℕ) → 1 ≤ times k v.takes → k < taken
+    pub waits_to_put : (k : ℕ) → 1 ≤ times k v.put_ticket → length put ≤ k
+    pub waits_to_take : (k : ℕ) → 1 ≤ times k v.take_ticket → taken ≤ k
+    pub fills : v.fills ≡ true → (v.put_ticket ≡ length put ∷ []) × (v.seen ≡ put) × (p.holds ≡ true)
+    pub empties : v.empties ≡ true → (v.take_ticket ≡ taken ∷ []) × (c.holds ≡ true) × (taken < length v.seen)
+
+  -- All seats together. No place is given twice, and none before its ticket is drawn
+  pub record Seated (put : List T) (taken : ℕ) (p c : View T) (next_put next_take : ℕ) (views : List (Sight T)) : Type 0 where
+    pub each : (i : ℕ) (v : Sight T) → get_elem? views i ≡ some v → Knows put taken p c v
+    pub put_once : (k : ℕ) → sum_by (put_at k) views ≤ 1
+    pub put_later : (k : ℕ) → next_put ≤ k → sum_by (put_at k) views ≡ 0
+    pub put_order : length put ≤ next_put
+    pub put_limit : next_put ≤ 2 ^ 62
+    pub taken_once : (k : ℕ) → sum_by (taken_at k) views ≤ 1
+    pub taken_later : (k : ℕ) → next_take ≤ k → sum_by (taken_at k) views ≡ 0
+    pub taken_order : taken ≤ next_take
+    pub filler : p.holds ≡ true → 1 ≤ sum_by filling views
+    pub emptier : c.holds ≡ true → 1 ≤ sum_by emptying views
+
+  -- the words, the cells and the seats fit what was put, and how many of it were taken
+  pub record Crowded (s : State (Option T) (Sight T)) : Type 0 where
+    pub put : List T
+    pub taken : ℕ
+    pub p : View T
+    pub c : View T
+    pub wide : length s.words ≡ 64
+    pub in_word : slice_index s.words 0 ≡ length put
+    pub out_word : slice_index s.words 16 ≡ taken
+    pub runs : Runs (length s.homes) put taken s.homes p c
+    pub seats : Seated put taken p c (slice_index s.words 32) (slice_index s.words 48) s.views
+
+  -- the sight of the first seat
+  abbrev pub first_sight : Sight T
+  first_sight = record { seen = []; gone = 0; weighed = 0; puts = []; takes = []; put_ticket = []; take_ticket = []; fills = false; empties = false }

@@ -1,0 +1,84 @@
+-- What the parts of a call ask of a seat of a buffer of many, and what they leave.
+use Rattle.std.specs.Prelude.{◌≡◌, ℕ, ◌+◌, ◌%◌, ◌≤◌, ◌^◌, true, false, List, [], ◌∷◌, ◌++◌, length, Option, None, Some}
+use mathlib.Core.Option.{some}
+use lib.ListN.{get_elem?}
+use Rattle.atomic_table.specs.declared.shared.Seat.{Seat}
+use Rattle.sysv_buffer.specs.declared.many_view.Sight.{Sight}
+use Rattle.sysv_buffer.specs.declared.many_turns.Room.{Room}
+use Rattle.sysv_buffer.specs.declared.many_turns.Room.TheVariants as room
+use Rattle.sysv_buffer.specs.declared.many_turns.Next.{Next}
+use Rattle.sysv_buffer.specs.declared.many_turns.Next.TheVariants as next
+use Rattle.sysv_buffer.specs.Ends.{Buffered}
+use Rattle.sysv_buffer.specs.ManySteps.{Own}
+
+module _ {T : Type 0} where
+  -- the token is one of this buffer
+  abbrev pub IsOf : Buffered → Seat (Option T) (Sight T) → Type 0
+  IsOf b token = (token.table_id ≡ b.table) × (b.table.slots ≡ b.room)
+
+  -- it is the same token after a step
+  abbrev pub IsSame : Seat (Option T) (Sight T) → Seat (Option T) (Sight T) → Type 0
+  IsSame before after = (after.table_id ≡ before.table_id) × (after.id ≡ before.id)
+
+  -- no cell is out with the seat, and it holds these tickets
+  pub record Waits (puts takes : List ℕ) (m : Own T) : Type 0 where
+    pub no_cell : m.1 ≡ []
+    pub fills : m.0.fills ≡ false
+    pub empties : m.0.empties ≡ false
+    pub put_ticket : m.0.put_ticket ≡ puts
+    pub take_ticket : m.0.take_ticket ≡ takes
+
+  -- it has put and taken nothing since, and may have seen more
+  pub record Keeps (v w : Sight T) : Type 0 where
+    pub more : List T
+    pub seen : w.seen ≡ v.seen ++ more
+    pub puts : w.puts ≡ v.puts
+    pub takes : w.takes ≡ v.takes
+
+  -- the empty cell of the next place is out with the seat
+  pub record HasRoom (slots cell : ℕ) (m : Own T) : Type 0 where
+    pub out : m.1 ≡ (cell, None) ∷ []
+    pub place : cell ≡ length m.0.seen % slots
+    pub fills : m.0.fills ≡ true
+    pub empties : m.0.empties ≡ false
+    pub take_ticket : m.0.take_ticket ≡ []
+
+  -- the cell of the item at the place is out with the seat
+  pub record HasItem (slots cell : ℕ) (m : Own T) : Type 0 where
+    pub item : T
+    pub place : ℕ
+    pub out : m.1 ≡ (cell, Some item) ∷ []
+    pub is : cell ≡ place % slots
+    pub at : get_elem? m.0.seen place ≡ some item
+    pub take_ticket : m.0.take_ticket ≡ place ∷ []
+    pub fills : m.0.fills ≡ false
+    pub empties : m.0.empties ≡ true
+    pub put_ticket : m.0.put_ticket ≡ []
+
+  -- what a try for room finds
+  abbrev pub FindsRoom : ℕ → Own T → Room → Own T → Type 0
+  FindsRoom slots m (room.Cell cell) m' = HasRoom slots cell m' × Keeps m.0 m'.0
+  FindsRoom slots m room.Full m' = Waits [] [] m' × Keeps m.0 m'.0 × (m'.0.gone + slots ≤ length m'.0.seen)
+  FindsRoom slots m room.Busy m' = Waits [] [] m' × Keeps m.0 m'.0
+  FindsRoom slots m room.Worn m' = Waits [] [] m' × Keeps m.0 m'.0 × (2 ^ 62 ≤ length m'.0.seen)
+
+  -- what a try for an item finds
+  abbrev pub FindsItem : ℕ → Own T → Next → Own T → Type 0
+  FindsItem slots m (next.Cell cell) m' = HasItem slots cell m' × Keeps m.0 m'.0
+  FindsItem slots m next.Empty m' = Waits [] [] m' × Keeps m.0 m'.0 × (length m'.0.seen ≤ m'.0.gone)
+  FindsItem slots m next.Busy m' = Waits [] [] m' × Keeps m.0 m'.0
+  FindsItem slots m next.Worn m' = Waits [] [] m' × Keeps m.0 m'.0 × (2 ^ 62 ≤ m'.0.gone)
+
+  -- the item is in the list, and its cell is home
+  pub record HasPut (item : T) (v : Sight T) (m : Own T) : Type 0 where
+    pub waits : Waits [] [] m
+    pub seen : m.0.seen ≡ v.seen ++ item ∷ []
+    pub puts : m.0.puts ≡ v.puts ++ length v.seen ∷ []
+    pub takes : m.0.takes ≡ v.takes
+
+  -- the item was taken, and its cell is home
+  pub record HasTaken (item : T) (v : Sight T) (m : Own T) : Type 0 where
+    pub waits : Waits [] [] m
+    pub seen : m.0.seen ≡ v.seen
+    pub puts : m.0.puts ≡ v.puts
+    pub takes : m.0.takes ≡ v.takes ++ v.take_ticket

@@ -1,0 +1,130 @@
+//! Buffers of many producers and consumers.
+ghost use Rattle.std.specs.Prelude.{◌≡◌, ◌<◌, ◌≤◌, ◌⊎◌, ◌↔◌, IfOk, IfErr, OnOk, IsErrOf};
+ghost use Rattle.sysv_buffer.specs.ManyEnds.{opened, split_off, joined, Looks, Puts, Takes, GivesBack, Misses};
+
+use crate::board::{IN, OUT};
+use crate::buffer::CELLS_MOST;
+use crate::many_board::{Board, lay};
+use crate::many_rule::{Gathering, Sharing};
+use crate::many_turns::{Next, Room};
+use crate::refusals::{ManyPutRefused, ManyTakeRefused, OpenRefused};
+use crate::seat::Seat;
+use std::alloc::Global;
+use std::marker::Model;
+use std::sync::atomic::AtomicU64;
+use std::sync::atomic::Ordering::SeqCst;
+
+/// A row of cells through which threads hand items to each other, in one order, each once. They share it by reference,
+/// and each has a seat of its own.
+#[derive(Drop)]
+pub struct ManyBuffer<T> {
+    pub(crate) table: Board<T>,
+    pub(crate) room: usize,
+    pub(crate) sleepers: AtomicU64,
+}
+
+impl<T> Model for ManyBuffer<T> {
+    ghost use Rattle.std.specs.Prelude.{◌≡◌, ◌<◌, ◌≤◌};
+    ghost use Rattle.sysv_buffer.specs.Ends.{Buffered};
+
+    ghost Value = { Buffered };
+
+    ghost view = { λ b. record { table = b.table.shared.table_id; room = b.room } };
+
+    ghost invariant = { λ b. (b.table.shared.table_id.words ≡ 64) × (b.table.shared.table_id.slots ≡ b.room) × (0 < b.room) × (b.room ≤ 1024) };
+}
+
+impl<T: Drop> ManyBuffer<T> {
+    /// A buffer of 1 to 1,024 empty cells, and its first seat. `BadSize` for another number, `NoMemory` where memory is
+    /// refused.
+    pub fn open(alloc: Global, cells: usize) -> Result<(ManyBuffer<T>, Seat<T>), OpenRefused>
+        ensures ok { IfOk result (λ o. (o.0.room ≡ cells) × (o.1 ≡ opened o.0)) }
+        ensures bad_size { IsErrOf result OpenRefused.BadSize ↔ ((cells < 1) ⊎ (1024 < cells)) }
+    {
+        if cells < 1 || cells > CELLS_MOST {
+            return Err(OpenRefused::BadSize);
+        }
+        let Some((table, token)) = lay(alloc, cells) else {
+            return Err(OpenRefused::NoMemory);
+        };
+        let buffer = ManyBuffer {
+            table,
+            room: cells,
+            sleepers: AtomicU64::new(0),
+        };
+        Ok((buffer, Seat { token }))
+    }
+
+    /// Another seat of this buffer. It has seen what its origin has, and has put and taken nothing.
+    pub fn split(&self, seat: &mut Seat<T>) -> Seat<T>
+        requires { seat.old.buffer ≡ self.now }
+        ensures same { seat.new ≡ seat.old }
+        ensures new { result ≡ split_off seat.old }
+    {
+        let token = self.table.shared.split_seat::<Sharing>(&mut seat.token);
+        Seat { token }
+    }
+
+    /// Takes in another seat of this buffer: what it has seen, and its places.
+    pub fn join(&self, seat: &mut Seat<T>, other: Seat<T>)
+        requires seat { seat.old.buffer ≡ self.now }
+        requires other { other.buffer ≡ self.now }
+        ensures { seat.new ≡ joined seat.old other }
+    {
+        let token = other.into_token();
+        self.table
+            .shared
+            .join_seat::<Gathering>(&mut seat.token, token);
+    }
+
+    /// Puts the item into the next cell, where one is empty and no other seat has the turn. It never waits, and wakes
+    /// those who sleep. `Full` comes where every cell has an item, `Busy` where another seat had the turn, `Worn` where
+    /// 2^62 items were put. The item comes back in each, and nothing was put.
+    pub fn try_put(&self, seat: &mut Seat<T>, item: T) -> Result<(), ManyPutRefused<T>>
+        requires { seat.old.buffer ≡ self.now }
+        ensures buffer { seat.new.buffer ≡ self.now }
+        ensures ok { OnOk result (Puts item seat.old seat.new) }
+        ensures err { IfErr result (λ e. GivesBack item seat.new e × Looks seat.old seat.new) }
+    {
+        match self.find_room(&mut seat.token) {
+            Room::Cell(cell) => {
+                self.place(&mut seat.token, cell, item);
+                self.wake(IN);
+                Ok(())
+            }
+            Room::Full => Err(ManyPutRefused::Full(item)),
+            Room::Busy => Err(ManyPutRefused::Busy(item)),
+            Room::Worn => Err(ManyPutRefused::Worn(item)),
+        }
+    }
+
+    /// Takes the item that was put first of those that wait, where no other seat has the turn. It never waits, and wakes
+    /// those who sleep. `Empty` comes where none waits, `Busy` where another seat had the turn, `Worn` where 2^62 items
+    /// were taken. Nothing was taken in each.
+    pub fn try_take(&self, seat: &mut Seat<T>) -> Result<T, ManyTakeRefused>
+        requires { seat.old.buffer ≡ self.now }
+        ensures buffer { seat.new.buffer ≡ self.now }
+        ensures ok { IfOk result (λ item. Takes item seat.old seat.new) }
+        ensures err { IfErr result (λ e. Misses seat.new e × Looks seat.old seat.new) }
+    {
+        match self.find_item(&mut seat.token) {
+            Next::Cell(cell) => {
+                let item = self.remove(&mut seat.token, cell);
+                self.wake(OUT);
+                Ok(item)
+            }
+            Next::Empty => Err(ManyTakeRefused::Empty),
+            Next::Busy => Err(ManyTakeRefused::Busy),
+            Next::Worn => Err(ManyTakeRefused::Worn),
+        }
+    }
+
+    // Ends the sleep of those who sleep on this word.
+    pub(crate) fn wake(&self, word: usize)
+        requires { word ≤ 16 }
+    {
+        if self.sleepers.load(SeqCst) > 0 {
+            self.table.shared.wake_all(word);
+        }
+    }
+}
