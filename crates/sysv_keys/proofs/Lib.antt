@@ -12,3 +12,4 @@ pub mod Turns
 pub mod OneLegalReply
 pub mod Index
 pub mod Keeping
+pub mod Unused

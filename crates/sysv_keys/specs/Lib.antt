@@ -8,3 +8,4 @@ pub mod Replies
 pub mod Kept
 pub mod OneReply
 pub mod RegistryLaw
+pub mod Unused

@@ -58,3 +58,8 @@ pub record IsVacant (opening : ℕ) (h : RegistryHistory) (slot : ℕ) : Type 0 
 
 abbrev pub IsLeastVacant : ℕ → RegistryHistory → ℕ → Type 0
 IsLeastVacant opening h slot = IsVacant opening h slot × ((lower : ℕ) → lower < slot → ¬ IsVacant opening h lower)
+
+-- a slot of which no identifier was ever made: no row lies in it, and its generation is 0
+pub record IsUnused (opening : ℕ) (h : RegistryHistory) (slot : ℕ) : Type 0 where
+  pub empty : (row : KeyRow) → IsRow h row → slot_of_id row.id ≢ slot
+  pub first : generation opening slot h ≡ 0

@@ -5,6 +5,7 @@ ghost use Rattle.sysv_model.specs.Registry.{RegistryEntry, RegistryHistory};
 ghost use Rattle.sysv_keys.specs.LegalReply.{IsLegalReply, IsLegalHistory};
 ghost use Rattle.sysv_keys.specs.OneReply.{SomeReplyIsLegal, NoTwoRepliesAreLegal};
 ghost use Rattle.sysv_keys.specs.RegistryLaw.{RegistryLaw};
+ghost use Rattle.sysv_keys.specs.Unused.{UnusedSlots};
 
 /// After each history of legal replies each call has one legal reply, and no two.
 pub fn one_legal_reply()
@@ -21,4 +22,10 @@ pub fn legal_history()
 /// Each history of legal replies obeys the registry law.
 pub fn registry_law()
     ensures { (opening : ℕ) (h : RegistryHistory) → IsLegalHistory opening h → RegistryLaw opening h }
+{}
+
+/// No identifier of an unused slot was ever made, identifier 0 is made in slot 0 where that is unused,
+/// and an identifier that was just made can be settled.
+pub fn unused_slots()
+    ensures { UnusedSlots }
 {}

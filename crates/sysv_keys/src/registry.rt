@@ -4,8 +4,9 @@ ghost use Rattle.std.specs.Prelude.{◌≡◌, ◌≢◌, ℕ, ℤ, ◌+◌, ◌
 ghost use Rattle.std.specs.Ordering.{int_eq};
 ghost use Rattle.indexmap.specs.IndexMap.{get, index_map_len, spare};
 ghost use Rattle.sysv_model.specs.declared.limits.TheConstants.{IPC_PRIVATE};
-ghost use Rattle.sysv_model.specs.Registry.{Begin, Settle, Forget, Changed};
+ghost use Rattle.sysv_model.specs.Registry.{RegistryHistory, Begin, Settle, Forget, Changed};
 ghost use Rattle.sysv_keys.specs.declared.identifier.TheConstants.{SLOTS, GENERATION_LAST};
+ghost use Rattle.sysv_keys.specs.Rows.{IsUnused};
 ghost use Rattle.sysv_keys.specs.StandsFor.{StandsFor, MakesTurn};
 ghost use Rattle.sysv_keys.specs.Replies.{begun_reply, ChangesOnlyIfMade};
 ghost use Rattle.sysv_keys.specs.Kept.{IsOpen, NoneIsOpen, IsLeastOpen, NoRowOf, IsRowOf, Makes, IsIndex, KeysDiffer};
@@ -247,6 +248,16 @@ impl Registry {
             }
             _ => false,
         }
+    }
+
+    /// Whether no identifier of this slot, which is below `SLOTS`, was ever made: no row lies in it, and
+    /// its generation is 0.
+    pub fn is_unused(&self, slot: usize) -> bool
+        requires { slot < SLOTS }
+        ensures { (opening : ℕ) (h : RegistryHistory) → StandsFor opening h self.now → IsTrue result ↔ IsUnused opening h slot }
+    {
+        let place = self.places[slot];
+        place.row.is_none() && place.generation == 0
     }
 
     /// The settled count: how many settles and forgets have answered true.

@@ -177,3 +177,15 @@ fn many_keys_come_and_go(rt: HostRuntime) {
     }
     assert_eq!(rt; registry.settled(), 12_800);
 }
+
+#[test]
+fn a_slot_is_unused_until_its_first_identifier(rt: HostRuntime) {
+    let mut registry = open_registry(&rt, rt.alloc());
+    assert!(rt; registry.is_unused(0));
+    make_private(&rt, &mut registry, 0);
+    assert!(rt; !registry.is_unused(0));
+    assert!(rt; registry.is_unused(1));
+    assert!(rt; registry.forget(0));
+    assert!(rt; !registry.is_unused(0));
+    assert!(rt; !registry_at(&rt, rt.alloc(), 1).is_unused(0));
+}
