@@ -1,22 +1,23 @@
 -- What was accepted is, each message once, what was delivered, discarded or still waits.
 use Rattle.std.proofs.Common.{◌≡◌, ◌≢◌, ℕ, ℤ, inl, inr, Bool, true, List, [], ◌∷◌, ◌++◌, Some, IsPermutation, sym, ap, subst, ◌∙◌, slice_get, remove, append_assoc}
 use Rattle.std.specs.List.{AllPairs, All, Contains}
+use Rattle.std.proofs.lemmas.List.{append-nil}
 use Rattle.std.proofs.lemmas.Option.{slice_get_within, get_or_from_slice_get}
 use Rattle.std.proofs.lemmas.List.Sorted.{IsPermutation-refl, IsPermutation-sym, IsPermutation-trans, IsPermutation-append_left, IsPermutation-append_right, IsPermutation-middle, IsPermutation-remove, IsPermutation-pop_more, Contains-permutation}
 use Rattle.std.proofs.lemmas.List.Elements.{All-contains_itself, All-weaker, Contains-append_left}
 use Rattle.sysv_model.specs.declared.cred.Cred.{Cred}
 use Rattle.sysv_model.specs.Message.{Message}
 use Rattle.sysv_model.specs.declared.selector.Selector.{Selector}
-use Rattle.sysv_model.specs.History.{Who, Call, Install, Place, Take, Reply, Installed, Accepted, Taken, Entry, History, then_turn, arrived}
+use Rattle.sysv_model.specs.History.{Who, Call, Install, Place, Take, Set, Remove, Reply, Installed, Accepted, Taken, Done, Discarded, Entry, History, then_turn, arrived}
 use Rattle.sysv_model.specs.Live.{live, HasId}
 use Rattle.sysv_model.specs.Waiting.{accepted, delivered, discarded, waiting, held}
 use Rattle.sysv_queue.specs.Slot.{slot_of}
 use Rattle.sysv_queue.specs.LegalReply.{IsLegalReply, IsLegalHistory}
 use Rattle.sysv_queue.proofs.Snoc.{from_end}
 use Rattle.sysv_queue.proofs.Legality.{legal_front, legal_last}
-use Rattle.sysv_queue.proofs.Turns.{Kind, Quiet, Makes, Accepts, Takes, IsStill, accepted-still, delivered-still, discarded-still, waiting-still, still_install, kind_of}
+use Rattle.sysv_queue.proofs.Turns.{Kind, Quiet, Makes, Accepts, Takes, Changes, Discards, IsStill, accepted-still, delivered-still, discarded-still, waiting-still, still_install, still_set, kind_of}
 use Rattle.sysv_queue.proofs.Ids.{decided}
-use Rattle.sysv_queue.proofs.Facts.{Facts, facts, accepted-sent, accepted_else, delivered-sent, discarded-sent, waiting-sent, waiting_else, accepted-taken, delivered-taken, delivered_else, discarded-taken, waiting-taken, untouched, there_at}
+use Rattle.sysv_queue.proofs.Facts.{Facts, facts, accepted-sent, accepted_else, delivered-sent, discarded-sent, waiting-sent, waiting_else, accepted-taken, delivered-taken, delivered_else, discarded-taken, waiting-taken, untouched, there_at, accepted-removed, delivered-removed, discarded-removed, discarded_else, left_else, none_waits}
 use Rattle.sysv_queue.proofs.Order.{apart_where_rising}
 use Rattle.sysv_queue.proofs.Distinct.{distinct_permuted, distinct_front}
 
@@ -40,6 +41,10 @@ splits_taken a d g w place m there s =
     let out = IsPermutation-remove w place m (slice_get_within w place m there) (sym (get_or_from_slice_get w place m m there)) in
     IsPermutation-pop_more a d (g ++ w) (g ++ remove w place) m s
     (IsPermutation-trans _ _ _ (IsPermutation-append_right g w (m ∷ remove w place) out) (IsPermutation-middle g m (remove w place)))
+
+-- all that is left is discarded
+splits_lost : (a d g w : List Message) → Splits a d g w → Splits a d (g ++ w) []
+splits_lost a d g w s = subst (λ ms. IsPermutation a (d ++ ms)) (sym (append-nil (g ++ w))) s
 
 abbrev pub IsConserved : History → Type 0
 IsConserved h = (id : ℤ) → IsPermutation (accepted id h) (delivered id h ++ (discarded id h ++ waiting id h))
@@ -78,11 +83,28 @@ conserved_taken h who f at cred selector size noerror now m place live_at there 
           (untouched h who f at cred selector size noerror now m place live_at there id other) (c id)
     ]
 
+conserved_removed : (h : History) (who : Who) (f : Facts h) (at : ℤ) (cred : Cred) (messages : List Message) (live_at : HasId (live h) at) (whole : messages ≡ held h) → IsConserved h →
+    IsConserved (then_turn h who (Remove at cred) (Discarded messages))
+conserved_removed h who f at cred messages live_at whole c =
+    let k : History = then_turn h who (Remove at cred) (Discarded messages) in
+    let all : (id : ℤ) → accepted id k ≡ accepted id h = accepted-removed h who f at cred messages live_at whole in
+    let taken : (id : ℤ) → delivered id k ≡ delivered id h = delivered-removed h who f at cred messages live_at whole in
+    let here : Splits (accepted at k) (delivered at k) (discarded at k) (waiting at k) =
+    splits_as _ _ _ _ _ _ _ _ (all at) (taken at) (discarded-removed h who f at cred messages live_at whole) (none_waits h who f at cred messages live_at whole)
+    (splits_lost (accepted at h) (delivered at h) (discarded at h) (waiting at h) (c at)) in
+    λ id. elim (decided at id) [
+      | inl same ↦ subst (λ i. Splits (accepted i k) (delivered i k) (discarded i k) (waiting i k)) same here
+      | inr other ↦ splits_as _ _ _ _ _ _ _ _ (all id) (taken id) (discarded_else h who f at cred messages live_at whole id other)
+          (left_else h who f at cred messages live_at whole id other) (c id)
+    ]
+
 conserved_more : (h : History) (who : Who) (call : Call) (reply : Reply) → Kind call reply → Facts h → IsLegalReply h call reply → IsConserved h → IsConserved (then_turn h who call reply)
 conserved_more h who call reply (Quiet q) f l c = conserved_still h (record { who = who; call = call; reply = reply }) q.still c
 conserved_more h who call reply (Makes id key cred mode now) f l c = conserved_still h (record { who = who; call = Install id key cred mode now; reply = Installed true }) (still_install id key cred mode now true) c
 conserved_more h who call reply (Accepts id cred mtype bytes now number) f l c = conserved_sent h who f id cred mtype bytes now number l.0 l.3 c
 conserved_more h who call reply (Takes id cred selector size noerror now m) f l c = conserved_taken h who f id cred selector size noerror now m l.2.0 l.0 l.2.2 c
+conserved_more h who call reply (Changes id cred to now) f l c = conserved_still h (record { who = who; call = Set id cred to now; reply = Done }) (still_set id cred to now Done) c
+conserved_more h who call reply (Discards id cred messages) f l c = conserved_removed h who f id cred messages l.0 l.2 c
 
 pub conserved : (h : History) → IsLegalHistory h → IsConserved h
 conserved = from_end (λ (h : History). IsLegalHistory h → IsConserved h) (λ _ id. IsPermutation-refl [])

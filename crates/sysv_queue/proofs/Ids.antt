@@ -31,6 +31,11 @@ pub keeps_id : (f : Attributes → Attributes) → ((a : Attributes) → (f a).i
 keeps_id f same None id live = live
 keeps_id f same (Some q) id live = same q ∙ live
 
+-- nor does it make another identifier live
+pub gives_no_id : (f : Attributes → Attributes) → ((a : Attributes) → (f a).id ≡ a.id) → (l : Option Attributes) (id : ℤ) → HasId (option_map f l) id → HasId l id
+gives_no_id f same None id live = live
+gives_no_id f same (Some q) id live = sym (same q) ∙ live
+
 same_or_not : (t : Bool) (a b : ℤ) → int_eq a b ≡ t → (a ≡ b) ⊎ ¬ (a ≡ b)
 same_or_not true a b e = inl ((Decides-int_eq a b).0 e)
 same_or_not false a b e = inr (λ same. let t = (Decides-int_eq a b).1 same in let bad : true ≡ false = sym t ∙ e in cc)
@@ -38,3 +43,8 @@ same_or_not false a b e = inr (λ same. let t = (Decides-int_eq a b).1 same in l
 -- two identifiers are one, or they are not
 pub decided : (a b : ℤ) → (a ≡ b) ⊎ ¬ (a ≡ b)
 decided a b = same_or_not (int_eq a b) a b refl
+
+-- an identifier is live, or it is not
+pub is_live : (l : Option Attributes) (id : ℤ) → HasId l id ⊎ ¬ HasId l id
+is_live None id = inr (λ h. h)
+is_live (Some a) id = decided a.id id

@@ -1,27 +1,19 @@
 -- Every history of legal replies obeys the queue law.
-use Rattle.std.proofs.Common.{◌≡◌, ℤ, true, ◌∷◌, ◌++◌, Some, subst, slice_get}
-use Rattle.sysv_model.specs.History.{Call, Take, Remove, Reply, Taken, History}
+use Rattle.std.proofs.Common.{◌≡◌, Some, subst, slice_get}
+use Rattle.sysv_model.specs.History.{Take, Taken, History}
 use Rattle.sysv_model.specs.Live.{live}
 use Rattle.sysv_model.specs.Waiting.{accepted, held, waiting}
-use Rattle.sysv_queue.specs.Slot.{Slot, slot_of}
+use Rattle.sysv_queue.specs.Slot.{slot_of}
 use Rattle.sysv_queue.specs.Named.{IsNamed}
-use Rattle.sysv_queue.specs.LegalReply.{Legal, LegalTake, IsLegalHistory}
-use Rattle.sysv_queue.specs.QueueLaw.{QueueLaw, TakesNamed, RemovalIsFinal, removes}
+use Rattle.sysv_queue.specs.LegalReply.{LegalTake, IsLegalHistory}
+use Rattle.sysv_queue.specs.QueueLaw.{QueueLaw, TakesNamed}
 use Rattle.sysv_queue.proofs.Ids.{waiting_on-id}
 use Rattle.sysv_queue.proofs.Facts.{facts}
 use Rattle.sysv_queue.proofs.Order.{apart_where_rising}
 use Rattle.sysv_queue.proofs.Conserved.{conserved, all_accepted, each_once}
 use Rattle.sysv_queue.proofs.OneOwner.{one_owner}
 use Rattle.sysv_queue.proofs.InOrder.{leaves_in_order}
-
--- no legal turn removes a queue
-never_removes : (s : Slot) (call : Call) (reply : Reply) → Legal s call reply → (id : ℤ) → removes id call reply ≡ true → ⊥
-never_removes s (Remove at cred) reply l id e = absurd l
-never_removes s call reply l id e = cc
-
-removal_final : (h : History) → IsLegalHistory h → RemovalIsFinal h
-removal_final h legal = λ id before middle after e f whole removed none.
-    absurd (never_removes (slot_of before) e.call e.reply (legal before e (middle ++ f ∷ after) whole) id removed)
+use Rattle.sysv_queue.proofs.Final.{removal_final}
 
 takes_named : (h : History) → IsLegalHistory h → TakesNamed h
 takes_named h legal = λ before after who id cred selector size noerror now m whole.

@@ -24,5 +24,10 @@ pub legal_front : (h : History) (e : Entry) → IsLegalHistory (h ++ e ∷ []) �
 legal_front h e legal before f after same =
     legal before f (after ++ e ∷ []) (ap (λ (k : History). k ++ e ∷ []) same ∙ append_assoc before (f ∷ after) (e ∷ []))
 
+-- the start of a legal history is one
+pub legal_start : (h k : History) → IsLegalHistory (h ++ k) → IsLegalHistory h
+legal_start h k legal before f after same =
+    legal before f (after ++ k) (ap (λ (x : History). x ++ k) same ∙ append_assoc before (f ∷ after) k)
+
 pub legal_last : (h : History) (e : Entry) → IsLegalHistory (h ++ e ∷ []) → IsLegalReply h e.call e.reply
 legal_last h e legal = legal h e [] refl

@@ -12,7 +12,14 @@ pub mod Order
 pub mod Distinct
 pub mod Conserved
 pub mod OneOwner
+pub mod Accepting
 pub mod InOrder
+pub mod Final
 pub mod Law
 pub mod OneLegalReply
+pub mod StaysRight
+pub mod ForGood
+pub mod WorkedRemoval
+pub mod Control
 pub mod Shows
+pub mod BlocksKept

@@ -1,25 +1,27 @@
--- Each call that is there has exactly one legal reply, since what a caller wants is permitted or not
+-- Each call has exactly one legal reply, since what a caller wants is permitted or not
 -- and a selector names one place or none.
 use Rattle.std.proofs.Common.{◌≡◌, ◌≢◌, ℕ, zero, suc, ℤ, ◌+◌, ◌<◌, ◌≤◌, ◌⊎◌, inl, inr, Bool, true, false, List, Option, None, Some, IsSome, refl, sym, ap, subst, ◌∙◌, arith, length, option_map, bit_and}
 use Rattle.std.proofs.lemmas.Bool.{cases_eq}
 use Rattle.sysv_model.specs.declared.cred.Cred.{Cred}
-use Rattle.sysv_model.specs.declared.errno.Errno.TheVariants.{EACCES, EINVAL}
+use Rattle.sysv_model.specs.declared.errno.Errno.TheVariants.{EPERM, EACCES, EINVAL}
 use Rattle.sysv_model.specs.declared.flags.Flags.{Flags}
 use Rattle.sysv_model.specs.declared.attributes.Attributes.{Attributes}
+use Rattle.sysv_model.specs.declared.attributes.SetTo.{SetTo}
+use Rattle.sysv_model.specs.declared.limits.TheConstants.{QBYTES_MOST}
 use Rattle.sysv_model.specs.Message.{Message}
 use Rattle.sysv_model.specs.declared.selector.Selector.{Selector}
-use Rattle.sysv_model.specs.History.{Call, Install, Probe, Look, Place, Take, ReadStat, ReadRow, Reply, Installed, Gone, Denied, Granted, Full, Fits, Accepted, NoMatch, TooLong, Taken, Told, Refused, Shown}
+use Rattle.sysv_model.specs.History.{Call, Install, Probe, Look, Place, Take, ReadStat, Set, Remove, ReadRow, Reply, Installed, Gone, Denied, Granted, Full, Fits, Accepted, NoMatch, TooLong, Taken, Told, Done, Discarded, Refused, Shown}
 use Rattle.sysv_model.specs.Live.{HasId}
 use Rattle.sysv_rules.specs.declared.permission.Want.{Want}
 use Rattle.sysv_rules.specs.declared.permission.Want.TheVariants.{Read, Write}
 use Rattle.sysv_queue.specs.Slot.{Slot, slot_of}
 use Rattle.sysv_queue.specs.Fits.{Fits as FitsOn, bytes_of}
-use Rattle.sysv_queue.specs.Granted.{IsGranted, AsksRead, AsksWrite, MayRead, MayWrite, MayAsAsked}
+use Rattle.sysv_queue.specs.Granted.{IsGranted, MayAsAsked, MayControl, MayLimit}
 use Rattle.sysv_queue.specs.Shown.{stat_of, row_of}
-use Rattle.sysv_queue.specs.LegalReply.{Legal, LegalInstall, LegalProbe, LegalStat, LegalRow, LegalLook, LegalPlace, LegalTake, HasRoom, Names, IsGivable}
+use Rattle.sysv_queue.specs.LegalReply.{Legal, LegalInstall, LegalProbe, LegalStat, LegalRow, LegalLook, LegalPlace, LegalTake, LegalSet, LegalRemove, HasRoom, Names, IsGivable}
 use Rattle.sysv_queue.specs.Named.{types_of}
-use Rattle.sysv_queue.specs.OneReply.{IsThere, SomeReplyIsLegal, NoTwoRepliesAreLegal}
-use Rattle.sysv_queue.proofs.Ids.{decided}
+use Rattle.sysv_queue.specs.OneReply.{SomeReplyIsLegal, NoTwoRepliesAreLegal}
+use Rattle.sysv_queue.proofs.Ids.{is_live}
 use Rattle.sysv_queue.proofs.Rules.{PermittedOrNot, NamedOrNone, OneNamed}
 use Rattle.sysv_queue.proofs.Naming.{named_message, none_named, never_given, one_message_named}
 
@@ -27,10 +29,6 @@ at_most : (a b : ℕ) → (a ≤ b) ⊎ (b < a)
 at_most zero b = inl (omega arith)
 at_most (suc a) zero = inr (omega arith)
 at_most (suc a) (suc b) = elim (at_most a b) [ inl h ↦ inl (omega arith) | inr h ↦ inr (omega arith) ]
-
-is_live : (l : Option Attributes) (id : ℤ) → HasId l id ⊎ ¬ HasId l id
-is_live None id = inr (λ h. h)
-is_live (Some a) id = decided a.id id
 
 room_at : (qbytes : ℕ) (messages : List Message) (size : ℕ) → FitsOn qbytes messages size ⊎ ¬ FitsOn qbytes messages size
 room_at qbytes messages size = elim (at_most (bytes_of messages + size) qbytes) [
@@ -54,6 +52,54 @@ the_live (Some a) id lives = (a, refl)
 some_install : (l : Option Attributes) (messages : List Message) (arrived freed : ℕ) → (reply : Reply) × LegalInstall (record { live = l; messages = messages; arrived = arrived; freed = freed }) reply
 some_install None messages arrived freed = (Installed true, refl)
 some_install (Some a) messages arrived freed = (Installed false, refl)
+
+-- who is user 0, the owner or the creator, or none of them
+controls : (cred : Cred) (l : Option Attributes) → MayControl cred l ⊎ ¬ MayControl cred l
+controls cred None = inr (λ h. h)
+controls cred (Some a) = elim (cases_eq cred.uid 0) [
+  | inl zero_user ↦ inl (inl zero_user)
+  | inr other ↦ elim (cases_eq cred.uid a.perm.uid) [
+    | inl owner ↦ inl (inr (inl owner))
+    | inr no_owner ↦ elim (cases_eq cred.uid a.perm.cuid) [
+      | inl creator ↦ inl (inr (inr creator))
+      | inr no_creator ↦ inr (λ h. elim h [ inl e ↦ other e | inr w ↦ elim w [ inl e ↦ no_owner e | inr e ↦ no_creator e ] ])
+    ]
+  ]
+]
+
+limits : (cred : Cred) (to : SetTo) (l : Option Attributes) → MayLimit cred to l ⊎ ¬ MayLimit cred to l
+limits cred to None = inr (λ h. h)
+limits cred to (Some a) = elim (at_most to.qbytes a.qbytes) [
+  | inl no_raise ↦ inl (inl no_raise)
+  | inr raise ↦ elim (cases_eq cred.uid 0) [
+    | inl zero_user ↦ inl (inr zero_user)
+    | inr other ↦ inr (λ h. elim h [ inl e ↦ omega arith | inr e ↦ other e ])
+  ]
+]
+
+some_set : (s : Slot) (id : ℤ) (cred : Cred) (to : SetTo) → (reply : Reply) × LegalSet s id cred to reply
+some_set s id cred to = elim (is_live s.live id) [
+  | inl lives ↦ elim (controls cred s.live) [
+    | inl may ↦ elim (at_most to.qbytes QBYTES_MOST) [
+      | inl within ↦ elim (limits cred to s.live) [
+        | inl limit ↦ (Done, (lives, may, within, limit))
+        | inr raise ↦ (Refused EPERM, inr (lives, may, within, raise))
+      ]
+      | inr above ↦ (Refused EINVAL, inr (lives, may, λ within. omega arith))
+    ]
+    | inr not ↦ (Refused EPERM, inl (lives, not))
+  ]
+  | inr gone ↦ (Refused EINVAL, inl gone)
+]
+
+some_remove : (s : Slot) (id : ℤ) (cred : Cred) → (reply : Reply) × LegalRemove s id cred reply
+some_remove s id cred = elim (is_live s.live id) [
+  | inl lives ↦ elim (controls cred s.live) [
+    | inl may ↦ (Discarded s.messages, (lives, may, refl))
+    | inr not ↦ (Refused EPERM, (lives, not))
+  ]
+  | inr gone ↦ (Refused EINVAL, gone)
+]
 
 module _ (permitted : PermittedOrNot) (named_or_none : NamedOrNone) where
   granted : (want : Want) (cred : Cred) (l : Option Attributes) → IsGranted want cred l ⊎ ¬ IsGranted want cred l
@@ -124,18 +170,19 @@ module _ (permitted : PermittedOrNot) (named_or_none : NamedOrNone) where
     | inr gone ↦ (Gone, gone)
   ]
 
-  some_reply : (s : Slot) (call : Call) → IsThere call → (reply : Reply) × Legal s call reply
-  some_reply s (Install id key cred mode now) there = some_install s.live s.messages s.arrived s.freed
-  some_reply s (Probe id cred flags) there = some_probe s id cred flags
-  some_reply s (ReadStat id cred) there = some_stat s id cred
-  some_reply s ReadRow there = (Shown (option_map (row_of s.messages) s.live), refl)
-  some_reply s (Look id cred size) there = some_look s id cred size
-  some_reply s (Place id cred mtype bytes now) there = some_place s id cred (length bytes)
-  some_reply s (Take id cred selector size noerror now) there = some_take s id cred selector size noerror
-  some_reply s call there = absurd there
+  some_reply : (s : Slot) (call : Call) → (reply : Reply) × Legal s call reply
+  some_reply s (Install id key cred mode now) = some_install s.live s.messages s.arrived s.freed
+  some_reply s (Probe id cred flags) = some_probe s id cred flags
+  some_reply s (Look id cred size) = some_look s id cred size
+  some_reply s (Place id cred mtype bytes now) = some_place s id cred (length bytes)
+  some_reply s (Take id cred selector size noerror now) = some_take s id cred selector size noerror
+  some_reply s (ReadStat id cred) = some_stat s id cred
+  some_reply s (Set id cred to now) = some_set s id cred to
+  some_reply s (Remove id cred) = some_remove s id cred
+  some_reply s ReadRow = (Shown (option_map (row_of s.messages) s.live), refl)
 
   pub some_reply_is_legal : SomeReplyIsLegal
-  some_reply_is_legal h call there = some_reply (slot_of h) call there
+  some_reply_is_legal h call = some_reply (slot_of h) call
 
 -- ---- no two replies
 
@@ -181,6 +228,51 @@ one_stat s id cred (Refused EINVAL) b la lb = absurd lb
 one_stat s id cred (Refused EACCES) b la lb = absurd lb
 one_stat s id cred (Told stat) b la lb = absurd lb
 one_stat s id cred a b la lb = absurd la
+
+-- the causes of EINVAL, of EPERM and of success exclude each other
+set_invalid : (s : Slot) (id : ℤ) (cred : Cred) (to : SetTo) → LegalSet s id cred to (Refused EINVAL) → LegalSet s id cred to (Refused EPERM) → ⊥
+set_invalid s id cred to (inl gone) (inl w) = gone w.0
+set_invalid s id cred to (inl gone) (inr w) = gone w.0
+set_invalid s id cred to (inr w) (inl v) = v.1 w.1
+set_invalid s id cred to (inr w) (inr v) = w.2 v.2
+
+set_invalid_done : (s : Slot) (id : ℤ) (cred : Cred) (to : SetTo) → LegalSet s id cred to (Refused EINVAL) → LegalSet s id cred to Done → ⊥
+set_invalid_done s id cred to (inl gone) l = gone l.0
+set_invalid_done s id cred to (inr w) l = w.2 l.2
+
+set_denied_done : (s : Slot) (id : ℤ) (cred : Cred) (to : SetTo) → LegalSet s id cred to (Refused EPERM) → LegalSet s id cred to Done → ⊥
+set_denied_done s id cred to (inl w) l = w.1 l.1
+set_denied_done s id cred to (inr w) l = w.3 l.3
+
+one_set : (s : Slot) (id : ℤ) (cred : Cred) (to : SetTo) (a b : Reply) → LegalSet s id cred to a → LegalSet s id cred to b → a ≡ b
+one_set s id cred to (Refused EINVAL) (Refused EINVAL) la lb = refl
+one_set s id cred to (Refused EINVAL) (Refused EPERM) la lb = absurd (set_invalid s id cred to la lb)
+one_set s id cred to (Refused EINVAL) Done la lb = absurd (set_invalid_done s id cred to la lb)
+one_set s id cred to (Refused EPERM) (Refused EINVAL) la lb = absurd (set_invalid s id cred to lb la)
+one_set s id cred to (Refused EPERM) (Refused EPERM) la lb = refl
+one_set s id cred to (Refused EPERM) Done la lb = absurd (set_denied_done s id cred to la lb)
+one_set s id cred to Done (Refused EINVAL) la lb = absurd (set_invalid_done s id cred to lb la)
+one_set s id cred to Done (Refused EPERM) la lb = absurd (set_denied_done s id cred to lb la)
+one_set s id cred to Done Done la lb = refl
+one_set s id cred to (Refused EINVAL) b la lb = absurd lb
+one_set s id cred to (Refused EPERM) b la lb = absurd lb
+one_set s id cred to Done b la lb = absurd lb
+one_set s id cred to a b la lb = absurd la
+
+one_remove : (s : Slot) (id : ℤ) (cred : Cred) (a b : Reply) → LegalRemove s id cred a → LegalRemove s id cred b → a ≡ b
+one_remove s id cred (Refused EINVAL) (Refused EINVAL) la lb = refl
+one_remove s id cred (Refused EINVAL) (Refused EPERM) la lb = absurd (la lb.0)
+one_remove s id cred (Refused EINVAL) (Discarded n) la lb = absurd (la lb.0)
+one_remove s id cred (Refused EPERM) (Refused EINVAL) la lb = absurd (lb la.0)
+one_remove s id cred (Refused EPERM) (Refused EPERM) la lb = refl
+one_remove s id cred (Refused EPERM) (Discarded n) la lb = absurd (la.1 lb.1)
+one_remove s id cred (Discarded m) (Refused EINVAL) la lb = absurd (lb la.0)
+one_remove s id cred (Discarded m) (Refused EPERM) la lb = absurd (lb.1 la.1)
+one_remove s id cred (Discarded m) (Discarded n) la lb = ap Discarded (la.2 ∙ sym lb.2)
+one_remove s id cred (Refused EINVAL) b la lb = absurd lb
+one_remove s id cred (Refused EPERM) b la lb = absurd lb
+one_remove s id cred (Discarded m) b la lb = absurd lb
+one_remove s id cred a b la lb = absurd la
 
 one_row : (s : Slot) (a b : Reply) → LegalRow s a → LegalRow s b → a ≡ b
 one_row s (Shown row) (Shown other) la lb = ap Shown (la ∙ sym lb)
@@ -314,7 +406,8 @@ module _ (one_named : OneNamed) where
   one_reply s (Look id cred size) a b la lb = one_look s id cred size a b la lb
   one_reply s (Place id cred mtype bytes now) a b la lb = one_place s id cred (length bytes) a b la lb
   one_reply s (Take id cred selector size noerror now) a b la lb = one_take s id cred selector size noerror a b la lb
-  one_reply s call a b la lb = absurd la
+  one_reply s (Set id cred to now) a b la lb = one_set s id cred to a b la lb
+  one_reply s (Remove id cred) a b la lb = one_remove s id cred a b la lb
 
   pub no_two_replies_are_legal : NoTwoRepliesAreLegal
   no_two_replies_are_legal h call a b la lb = one_reply (slot_of h) call a b la lb

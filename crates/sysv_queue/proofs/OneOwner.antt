@@ -5,15 +5,15 @@ use Rattle.std.specs.List.{Contains}
 use Rattle.std.proofs.lemmas.Bool.Decides.{Decides-int_eq}
 use Rattle.sysv_model.specs.declared.cred.Cred.{Cred}
 use Rattle.sysv_model.specs.Message.{Message}
-use Rattle.sysv_model.specs.History.{Who, Call, Install, Place, Reply, Installed, Accepted, Entry, History, then_turn, arrived}
+use Rattle.sysv_model.specs.History.{Who, Call, Install, Place, Set, Reply, Installed, Accepted, Done, Entry, History, then_turn, arrived}
 use Rattle.sysv_model.specs.Waiting.{accepted}
 use Rattle.sysv_queue.specs.Slot.{slot_of}
 use Rattle.sysv_queue.specs.LegalReply.{IsLegalReply, IsLegalHistory}
 use Rattle.sysv_queue.proofs.Snoc.{from_end}
 use Rattle.sysv_queue.proofs.Legality.{legal_front, legal_last}
 use Rattle.sysv_queue.proofs.Filters.{below_of}
-use Rattle.sysv_queue.proofs.Turns.{Kind, Quiet, Makes, Accepts, Takes, accepted-more, accepted-still, still_install, kind_of}
-use Rattle.sysv_queue.proofs.Facts.{Facts, facts, accepted-taken}
+use Rattle.sysv_queue.proofs.Turns.{Kind, Quiet, Makes, Accepts, Takes, Changes, Discards, accepted-more, accepted-still, still_install, still_set, kind_of}
+use Rattle.sysv_queue.proofs.Facts.{Facts, facts, accepted-taken, accepted-removed}
 use Rattle.sysv_queue.proofs.Order.{nothing_in, old_or_new}
 
 abbrev pub OneOwner : History → Type 0
@@ -47,6 +47,10 @@ owner_more h who call reply (Makes id key cred mode now) f l o =
 owner_more h who call reply (Accepts id cred mtype bytes now number) f l o = owner_sent h who f id cred mtype bytes now number l.3 o
 owner_more h who call reply (Takes id cred selector size noerror now m) f l o =
     owner_kept h (then_turn h who call reply) (accepted-taken h who f id cred selector size noerror now m l.2.0 l.0 l.2.2) o
+owner_more h who call reply (Changes id cred to now) f l o =
+    owner_kept h (then_turn h who call reply) (accepted-still h (record { who = who; call = Set id cred to now; reply = Done }) (still_set id cred to now Done)) o
+owner_more h who call reply (Discards id cred messages) f l o =
+    owner_kept h (then_turn h who call reply) (accepted-removed h who f id cred messages l.0 l.2) o
 
 pub one_owner : (h : History) → IsLegalHistory h → OneOwner h
 one_owner = from_end (λ (h : History). IsLegalHistory h → OneOwner h) (λ _ id other m n a b same. absurd (nothing_in m a))

@@ -1,16 +1,11 @@
 -- What the code shows of a live queue is what the slot shows of it as it is seen.
-use Rattle.std.proofs.Common.{◌≡◌, ℕ, ℤ, List, Option, Some, option_map, length, sym, ap, ◌∙◌, w32, to_z, of_z, FitsSigned}
-use Rattle.std.proofs.lemmas.Int.{to_z-of_z}
+use Rattle.std.proofs.Common.{◌≡◌, ℕ, List, Option, Some, option_map, length, sym, ap, ◌∙◌}
 use Rattle.sysv_model.specs.declared.attributes.Attributes.{Attributes}
 use Rattle.sysv_model.specs.declared.attributes.Stat.{Stat}
 use Rattle.sysv_model.specs.declared.attributes.Row.{Row}
 use Rattle.sysv_model.specs.Message.{Message}
 use Rattle.sysv_queue.specs.Fits.{bytes_of}
 use Rattle.sysv_queue.specs.Shown.{stat_of, row_of}
-
--- numbers that the code compares by their bits
-pub same_bits : (a b : ℤ) → FitsSigned w32 a → FitsSigned w32 b → of_z w32 a ≡ of_z w32 b → a ≡ b
-same_bits a b fits fits_too e = sym (to_z-of_z w32 a fits) ∙ (ap (to_z w32) e ∙ to_z-of_z w32 b fits_too)
 
 module _ (messages : List Message) (live : Option Attributes) (a : Attributes) (cbytes qnum : ℕ) (is : live ≡ Some a) (bytes : cbytes ≡ bytes_of messages) (many : qnum ≡ length messages) where
   pub row_shown : ◌≡◌ {A = Option Row} (Some (record { id = a.id; key = a.key; uid = a.perm.uid; mode = a.perm.mode; cbytes = cbytes; qnum = qnum })) (option_map (row_of messages) live)

@@ -3,7 +3,8 @@
 use Rattle.std.proofs.Common.{◌≡◌, List, [], ◌∷◌, ◌++◌, ◌⊎◌, inl, inr, refl, sym, subst, append_assoc}
 use Rattle.std.proofs.lemmas.List.{append-nil}
 
-from_front : {X : Type 0} (P : List X → Type 0) → ((xs : List X) (x : X) → P xs → P (xs ++ x ∷ [])) → (front back : List X) → P front → P (front ++ back)
+-- what holds of a list and goes on to one more element holds of each list that begins with it
+pub from_front : {X : Type 0} (P : List X → Type 0) → ((xs : List X) (x : X) → P xs → P (xs ++ x ∷ [])) → (front back : List X) → P front → P (front ++ back)
 from_front P step front [] p = subst P (sym (append-nil front)) p
 from_front P step front (x ∷ back) p = subst P (append_assoc front (x ∷ []) back) (from_front P step (front ++ x ∷ []) back (step front x p))
 

@@ -2,16 +2,17 @@
 use Rattle.std.proofs.Common.{◌≡◌, ℕ, ℤ, ◌+◌, Bool, true, List, [], ◌∷◌, ◌++◌, Option, None, Some, refl, sym, ap, subst, ◌∙◌, option_map, remove, slice_get}
 use Rattle.sysv_model.specs.declared.cred.Cred.{Cred}
 use Rattle.sysv_model.specs.declared.attributes.Attributes.{Attributes}
+use Rattle.sysv_model.specs.declared.attributes.SetTo.{SetTo}
 use Rattle.sysv_model.specs.Message.{Message}
 use Rattle.sysv_model.specs.declared.selector.Selector.{Selector}
-use Rattle.sysv_model.specs.History.{Who, Call, Install, Place, Take, Reply, Installed, Accepted, Taken, Entry, History, then_turn, arrived, freed}
-use Rattle.sysv_model.specs.Live.{live, HasId, created, sent_to, received_from}
+use Rattle.sysv_model.specs.History.{Who, Call, Install, Place, Take, Set, Remove, Reply, Installed, Accepted, Taken, Done, Discarded, Entry, History, then_turn, arrived, freed}
+use Rattle.sysv_model.specs.Live.{live, HasId, created, sent_to, received_from, changed_to}
 use Rattle.sysv_model.specs.Waiting.{waiting_on, waiting, held}
 use Rattle.sysv_queue.specs.Slot.{Slot, slot_of}
 use Rattle.sysv_queue.specs.LegalReply.{Legal, IsLegalHistory}
 use Rattle.sysv_queue.specs.StandsFor.{StandsFor, MakesTurn}
 use Rattle.sysv_queue.proofs.Legality.{legal_empty, legal_more}
-use Rattle.sysv_queue.proofs.Turns.{IsStill, IsQuiet, live-more, freed-more, arrived-still, freed-still, waiting-still, still_install}
+use Rattle.sysv_queue.proofs.Turns.{IsStill, IsQuiet, live-more, arrived-more, freed-more, arrived-still, freed-still, waiting-still, still_install, silent_install, still_set}
 use Rattle.sysv_queue.proofs.Ids.{waiting_on-id, keeps_id}
 use Rattle.sysv_queue.proofs.Facts.{facts, waiting-sent, arrived-sent, waiting-taken, arrived-taken}
 use Rattle.std.proofs.Common.{add-zero}
@@ -31,21 +32,27 @@ held_still : (h : History) (e : Entry) (l : Option Attributes) → IsStill e.cal
 held_still h e None s = refl
 held_still h e (Some a) s = waiting-still h e s a.id
 
+-- a change that keeps the identifier keeps what waits
+held_changed : (f : Attributes → Attributes) → ((a : Attributes) → (f a).id ≡ a.id) → (l : Option Attributes) (h : History) → waiting_on (option_map f l) h ≡ waiting_on l h
+held_changed f same None h = refl
+held_changed f same (Some a) h = ap (λ i. waiting i h) (same a)
+
 pub after_quiet : (h : History) (who : Who) (call : Call) (reply : Reply) → IsQuiet call reply → slot_of (then_turn h who call reply) ≡ slot_of h
 after_quiet h who call reply q =
     let e : Entry = record { who = who; call = call; reply = reply } in
     let same_live : live (h ++ e ∷ []) ≡ live h = live-more h e ∙ q.live (live h) in
-    same_slot _ _ _ _ _ _ _ _ same_live (ap (λ l. waiting_on l (h ++ e ∷ [])) same_live ∙ held_still h e (live h) q.still) (arrived-still h e q.still) (freed-still h e q.still)
+    same_slot _ _ _ _ _ _ _ _ same_live (ap (λ l. waiting_on l (h ++ e ∷ [])) same_live ∙ held_still h e (live h) q.still) (arrived-still h e q.silent) (freed-still h e q.silent)
 
 pub after_made : (h : History) (who : Who) (id key : ℤ) (cred : Cred) (mode now : ℕ) → IsLegalHistory h → live h ≡ None →
     slot_of (then_turn h who (Install id key cred mode now) (Installed true)) ≡ slot (Some (created id key cred mode now)) [] (arrived h) (freed h)
 after_made h who id key cred mode now legal vacant =
     let e : Entry = record { who = who; call = Install id key cred mode now; reply = Installed true } in
     let s = still_install id key cred mode now true in
+    let silent = silent_install id key cred mode now true in
     let none : waiting id h ≡ [] = (facts h legal).others id (λ lives. subst (λ l. HasId l id) vacant lives) in
     same_slot _ _ _ _ _ _ _ _ (live-more h e)
     (ap (λ l. waiting_on l (h ++ e ∷ [])) (live-more h e) ∙ (waiting-still h e s id ∙ none))
-    (arrived-still h e s) (freed-still h e s)
+    (arrived-still h e silent) (freed-still h e silent)
 
 pub after_sent : (h : History) (who : Who) (id : ℤ) (cred : Cred) (mtype : ℤ) (bytes : List ℕ) (now number : ℕ) → IsLegalHistory h → HasId (live h) id → number ≡ arrived h →
     slot_of (then_turn h who (Place id cred mtype bytes now) (Accepted number))
@@ -73,6 +80,20 @@ after_taken h who id cred selector size noerror now m place legal lives there =
     ∙ (waiting-taken h who f id cred selector size noerror now m place lives there
     ∙ ap (λ ms. remove ms place) (sym (waiting_on-id (live h) id h lives)))) in
     same_slot _ _ _ _ _ _ _ _ (live-more h e) after (arrived-taken h who f id cred selector size noerror now m place lives there) (freed-more h e)
+
+pub after_changed : (h : History) (who : Who) (id : ℤ) (cred : Cred) (to : SetTo) (now : ℕ) →
+    slot_of (then_turn h who (Set id cred to now) Done) ≡ slot (option_map (changed_to to now) (live h)) (held h) (arrived h + 1) (freed h + 1)
+after_changed h who id cred to now =
+    let e : Entry = record { who = who; call = Set id cred to now; reply = Done } in
+    same_slot _ _ _ _ _ _ _ _ (live-more h e)
+    (ap (λ l. waiting_on l (h ++ e ∷ [])) (live-more h e) ∙ (held_still h e (option_map (changed_to to now) (live h)) (still_set id cred to now Done) ∙ held_changed (changed_to to now) (λ a. refl) (live h) h))
+    (arrived-more h e) (freed-more h e)
+
+pub after_removed : (h : History) (who : Who) (id : ℤ) (cred : Cred) (messages : List Message) →
+    slot_of (then_turn h who (Remove id cred) (Discarded messages)) ≡ slot None [] (arrived h + 1) (freed h + 1)
+after_removed h who id cred messages =
+    let e : Entry = record { who = who; call = Remove id cred; reply = Discarded messages } in
+    same_slot _ _ _ _ _ _ _ _ (live-more h e) (ap (λ l. waiting_on l (h ++ e ∷ [])) (live-more h e)) (arrived-more h e) (freed-more h e)
 
 -- a turn whose reply is legal and whose slot goes on as each history does
 makes_turn : (old new : Slot) (call : Call) (reply : Reply) → Legal old call reply → ((h : History) (who : Who) → StandsFor h old → slot_of (then_turn h who call reply) ≡ new) → MakesTurn old call reply new
@@ -115,3 +136,14 @@ turn_taken s id cred selector size noerror now m place there legal = makes_turn 
     (subst (λ (x : Slot). HasId x.live id) (sym st.seen) legal.0)
     (subst (λ (x : Slot). slice_get x.messages place ≡ Some m) (sym st.seen) there)
     ∙ ap (λ (x : Slot). slot (option_map (received_from cred now) x.live) (remove x.messages place) x.arrived (x.freed + 1)) st.seen)
+
+pub turn_changed : (s : Slot) (id : ℤ) (cred : Cred) (to : SetTo) (now : ℕ) → Legal s (Set id cred to now) Done →
+    MakesTurn s (Set id cred to now) Done (slot (option_map (changed_to to now) s.live) s.messages (s.arrived + 1) (s.freed + 1))
+turn_changed s id cred to now legal = makes_turn s _ _ _ legal
+    (λ h who st. after_changed h who id cred to now
+    ∙ ap (λ (x : Slot). slot (option_map (changed_to to now) x.live) x.messages (x.arrived + 1) (x.freed + 1)) st.seen)
+
+pub turn_removed : (s : Slot) (id : ℤ) (cred : Cred) → Legal s (Remove id cred) (Discarded s.messages) →
+    MakesTurn s (Remove id cred) (Discarded s.messages) (slot None [] (s.arrived + 1) (s.freed + 1))
+turn_removed s id cred legal = makes_turn s _ _ _ legal
+    (λ h who st. after_removed h who id cred s.messages ∙ ap (λ (x : Slot). slot None [] (x.arrived + 1) (x.freed + 1)) st.seen)

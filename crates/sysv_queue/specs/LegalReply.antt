@@ -1,18 +1,20 @@
 -- The legal reply to a call at a slot that is seen so. The causes of a call's replies stand in one
 -- order, and a reply is given exactly where its cause is the first that stands
 -- (POSIX.1-2017, msgget, msgsnd, msgrcv, msgctl, each ERRORS; the order is this profile's). A
--- reply that is not listed is never given; a call without a list has no legal reply.
+-- reply that is not listed is never given.
 use Rattle.std.specs.Prelude.{◌≡◌, ℕ, ℤ, ◌≤◌, ◌⊎◌, Bool, true, false, ◌∷◌, ◌++◌, length, None, Some, MatchOption, IsSome, option_map, slice_get}
 use Rattle.sysv_model.specs.declared.cred.Cred.{Cred}
-use Rattle.sysv_model.specs.declared.errno.Errno.TheVariants.{EACCES, EINVAL}
+use Rattle.sysv_model.specs.declared.errno.Errno.TheVariants.{EPERM, EACCES, EINVAL}
 use Rattle.sysv_model.specs.declared.flags.Flags.{Flags}
+use Rattle.sysv_model.specs.declared.attributes.SetTo.{SetTo}
+use Rattle.sysv_model.specs.declared.limits.TheConstants.{QBYTES_MOST}
 use Rattle.sysv_model.specs.Message.{Message}
 use Rattle.sysv_model.specs.declared.selector.Selector.{Selector}
-use Rattle.sysv_model.specs.History.{Call, Install, Probe, Look, Place, Take, ReadStat, Set, Remove, ReadRow, Reply, Installed, Gone, Denied, Granted, Full, Fits, Accepted, NoMatch, TooLong, Taken, Told, Refused, Shown, Entry, History}
+use Rattle.sysv_model.specs.History.{Call, Install, Probe, Look, Place, Take, ReadStat, Set, Remove, ReadRow, Reply, Installed, Gone, Denied, Granted, Full, Fits, Accepted, NoMatch, TooLong, Taken, Told, Done, Discarded, Refused, Shown, Entry, History}
 use Rattle.sysv_model.specs.Live.{HasId}
 use Rattle.sysv_queue.specs.Slot.{Slot, slot_of}
 use Rattle.sysv_queue.specs.Fits.{Fits as FitsOn}
-use Rattle.sysv_queue.specs.Granted.{MayRead, MayWrite, MayAsAsked}
+use Rattle.sysv_queue.specs.Granted.{MayRead, MayWrite, MayAsAsked, MayControl, MayLimit}
 use Rattle.sysv_queue.specs.Named.{IsNamed}
 use Rattle.sysv_queue.specs.Shown.{stat_of, row_of}
 
@@ -76,6 +78,24 @@ LegalStat s id cred (Refused EACCES) = HasId s.live id × ¬ MayRead cred s.live
 LegalStat s id cred (Told stat) = HasId s.live id × MayRead cred s.live × (option_map (stat_of s.messages) s.live ≡ Some stat)
 LegalStat s id cred reply = ⊥
 
+-- set: EINVAL where the identifier is not live, EPERM for a caller who may not change the queue, EINVAL
+-- for a limit above the greatest, EPERM for one above the present limit from another than user 0, else
+-- done
+abbrev pub LegalSet : Slot → ℤ → Cred → SetTo → Reply → Type 0
+LegalSet s id cred to (Refused EINVAL) = ¬ HasId s.live id ⊎ (HasId s.live id × MayControl cred s.live × ¬ (to.qbytes ≤ QBYTES_MOST))
+LegalSet s id cred to (Refused EPERM) =
+    (HasId s.live id × ¬ MayControl cred s.live) ⊎ (HasId s.live id × MayControl cred s.live × (to.qbytes ≤ QBYTES_MOST) × ¬ MayLimit cred to s.live)
+LegalSet s id cred to Done = HasId s.live id × MayControl cred s.live × (to.qbytes ≤ QBYTES_MOST) × MayLimit cred to s.live
+LegalSet s id cred to reply = ⊥
+
+-- remove: EINVAL where the identifier is not live, EPERM for a caller who may not remove the queue, else
+-- all that waits is discarded, in order
+abbrev pub LegalRemove : Slot → ℤ → Cred → Reply → Type 0
+LegalRemove s id cred (Refused EINVAL) = ¬ HasId s.live id
+LegalRemove s id cred (Refused EPERM) = HasId s.live id × ¬ MayControl cred s.live
+LegalRemove s id cred (Discarded messages) = HasId s.live id × MayControl cred s.live × (messages ≡ s.messages)
+LegalRemove s id cred reply = ⊥
+
 -- row: none where no queue is live, else its line
 abbrev pub LegalRow : Slot → Reply → Type 0
 LegalRow s (Shown row) = row ≡ option_map (row_of s.messages) s.live
@@ -88,10 +108,9 @@ Legal s (Look id cred size) reply = LegalLook s id cred size reply
 Legal s (Place id cred mtype bytes now) reply = LegalPlace s id cred (length bytes) reply
 Legal s (Take id cred selector size noerror now) reply = LegalTake s id cred selector size noerror reply
 Legal s (ReadStat id cred) reply = LegalStat s id cred reply
+Legal s (Set id cred to now) reply = LegalSet s id cred to reply
+Legal s (Remove id cred) reply = LegalRemove s id cred reply
 Legal s ReadRow reply = LegalRow s reply
--- calls without a list
-Legal s (Set id cred to now) reply = ⊥
-Legal s (Remove id cred) reply = ⊥
 
 -- the legal reply to a call after a history
 abbrev pub IsLegalReply : History → Call → Reply → Type 0

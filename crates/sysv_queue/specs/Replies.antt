@@ -1,7 +1,7 @@
 -- The answers of the slot's calls, as replies of its history (this profile's).
-use Rattle.std.specs.Prelude.{◌≡◌, ℕ, List, length, take, Result, Ok, Err}
+use Rattle.std.specs.Prelude.{ℕ, List, Result, Ok, Err, ⊤}
 use Rattle.sysv_model.specs.Message.{Message}
-use Rattle.sysv_model.specs.History.{Reply, Gone, Denied, Granted, Full, Fits, Accepted, NoMatch, TooLong, Told, Refused}
+use Rattle.sysv_model.specs.History.{Reply, Gone, Denied, Granted, Full, Fits, Accepted, NoMatch, TooLong, Taken, Told, Done, Discarded, Refused}
 use Rattle.sysv_model.specs.declared.attributes.Stat.{Stat}
 use Rattle.sysv_model.specs.declared.errno.Errno.{Errno}
 use Rattle.sysv_queue.specs.declared.slot.Probe.{Probe}
@@ -13,7 +13,6 @@ use Rattle.sysv_queue.specs.declared.slot.Unplaced.TheVariants as unplaced
 use Rattle.sysv_queue.specs.declared.slot.PlaceRefused.{PlaceRefused}
 use Rattle.sysv_queue.specs.declared.slot.TakeRefused.{TakeRefused}
 use Rattle.sysv_queue.specs.declared.slot.TakeRefused.TheVariants as untaken
-use Rattle.sysv_queue.specs.declared.slot.Delivery.{Delivery}
 
 abbrev pub probe_reply : Probe → Reply
 probe_reply probe.Gone = Gone
@@ -23,6 +22,15 @@ probe_reply probe.Granted = Granted
 abbrev pub stat_reply : Result Stat Errno → Reply
 stat_reply (Ok stat) = Told stat
 stat_reply (Err why) = Refused why
+
+abbrev pub set_reply : Result ⊤ Errno → Reply
+set_reply (Ok done) = Done
+set_reply (Err why) = Refused why
+
+-- a removal where these messages wait
+abbrev pub remove_reply : {X : Type 0} → List Message → Result X Errno → Reply
+remove_reply messages (Ok done) = Discarded messages
+remove_reply messages (Err why) = Refused why
 
 abbrev pub look_reply : Look → Reply
 look_reply look.Gone = Gone
@@ -45,10 +53,6 @@ untaken_reply untaken.Denied = Denied
 untaken_reply (untaken.NoMatch arrived) = NoMatch arrived
 untaken_reply untaken.TooLong = TooLong
 
--- the delivery gives the message, of whose text the first size bytes are in out
-pub record Gives (delivery : Delivery) (m : Message) (size : ℕ) (out : List ℕ) : Type 0 where
-  pub mtype : delivery.mtype ≡ m.mtype
-  pub sender : delivery.sender ≡ m.sender
-  pub number : delivery.number ≡ m.number
-  pub text : out ≡ take size m.bytes
-  pub len : delivery.len ≡ length out
+abbrev pub take_reply : Result Message TakeRefused → Reply
+take_reply (Ok m) = Taken m
+take_reply (Err why) = untaken_reply why

@@ -1,29 +1,33 @@
-ghost use Rattle.std.specs.Prelude.{false, ℕ, ◌≡◌, ◌+◌, ◌^◌, ◌<◌, ◌≤◌, ◌↔◌, [], ◌∷◌, ◌++◌, length, take, slice_get, IfOk, IfErr, Some, IsTrue, MatchOption, remove, option_map};
-ghost use Rattle.sysv_model.specs.declared.limits.TheConstants.{QUEUE_MESSAGES};
-ghost use Rattle.sysv_model.specs.Message.{Message};
-ghost use Rattle.sysv_model.specs.History.{Install, Place, Take, ReadStat, ReadRow, Installed, Taken, Shown};
+ghost use Rattle.std.specs.Prelude.{false, ℕ, ◌≡◌, ◌+◌, ◌^◌, ◌<◌, ◌≤◌, ◌↔◌, [], ◌∷◌, ◌++◌, length, slice_get, IfOk, IfErr, OnErr, Some, IsTrue, MatchOption, remove, option_map, vec_len, vec_capacity};
+ghost use Rattle.sysv_model.specs.declared.limits.TheConstants.{QUEUE_MESSAGES, MESSAGE_BYTES as most_bytes};
+ghost use Rattle.sysv_model.specs.History.{Install, Place, Take, ReadStat, ReadRow, Set, Remove, Installed, Shown};
 ghost use Rattle.sysv_model.specs.History.{Probe as ProbeCall};
 ghost use Rattle.sysv_model.specs.History.{Look as LookCall};
 ghost use Rattle.sysv_model.specs.Live.{HasId, sent_to, received_from};
+ghost use Rattle.sysv_model.specs.Pool.{blocks_for};
+ghost use Rattle.sysv_queue.specs.Blocks.{blocks_of};
 ghost use Rattle.sysv_queue.specs.Fits.{bytes_of};
 ghost use Rattle.sysv_queue.specs.Fits.{Fits as FitsOn};
-ghost use Rattle.sysv_queue.specs.Granted.{IsGranted, MayAsAsked};
-ghost use Rattle.sysv_queue.specs.Barred.{Bars};
+ghost use Rattle.sysv_queue.specs.Granted.{IsGranted, MayAsAsked, MayControl};
+ghost use Rattle.sysv_queue.specs.Barred.{Bars, BarsControl};
 ghost use Rattle.sysv_queue.specs.Named.{IsNamed};
 ghost use Rattle.sysv_queue.specs.StandsFor.{StandsFor, MakesTurn};
-ghost use Rattle.sysv_queue.specs.Replies.{probe_reply, stat_reply, look_reply, unplaced_reply, place_reply, untaken_reply, Gives};
+ghost use Rattle.sysv_queue.specs.Replies.{probe_reply, stat_reply, set_reply, remove_reply, look_reply, place_reply, take_reply};
 
+use crate::discarded::Discarded;
+use crate::taken::Taken;
+use crate::waiting::Waiting;
 use bitflags::Flags as _;
 use std::alloc::Global;
 use std::marker::Model;
-use sysv_model::attributes::{Attributes, Perm, Row, Stat};
-use sysv_model::body::Body;
+use sysv_model::attributes::{Attributes, Perm, Row, SetTo, Stat};
 use sysv_model::cred::Cred;
 use sysv_model::errno::Errno;
 use sysv_model::flags::Flags;
-use sysv_model::limits::{QBYTES_AT_CREATION, QUEUE_MESSAGES};
+use sysv_model::limits::{QBYTES_AT_CREATION, QBYTES_MOST, QUEUE_MESSAGES};
 use sysv_model::no_memory::NoMemory;
-use sysv_rules::permission::{Want, may};
+use sysv_pool::chain::Chain;
+use sysv_rules::permission::{Want, may, may_control};
 use sysv_rules::selector::{Selector, select_plain};
 use thiserror::Error;
 
@@ -65,26 +69,12 @@ pub enum Unplaced {
     Full { freed: u64 },
 }
 
-/// A refused `place`, with the body that was handed in, as it was.
-#[derive(Drop)]
+/// A refused `place`, with the chain that was handed in, as it was.
 pub struct PlaceRefused {
     /// The cause.
     pub why: Unplaced,
-    /// The body that was handed in.
-    pub body: Body,
-}
-
-/// What `take` gave.
-#[derive(Clone, Copy, PartialEq, Eq, Debug)]
-pub struct Delivery {
-    /// The message's type.
-    pub mtype: i64,
-    /// The bytes that were given, 0 to 8,256.
-    pub len: usize,
-    /// The process that sent it.
-    pub sender: u32,
-    /// Its acceptance number.
-    pub number: u64,
+    /// The chain that was handed in.
+    pub chain: Chain,
 }
 
 /// Why `take` gives no message.
@@ -113,19 +103,10 @@ enum Barred {
     Denied,
 }
 
-/// A message that waits.
-#[derive(Drop)]
-struct Waiting {
-    number: u64,
-    sender: u32,
-    mtype: i64,
-    body: Body,
-}
-
 /// The place of one queue: the live queue's attributes, if one is live, at most 256 messages in the order
 /// of acceptance, and the two counts of arrived and freed, which rise over all the queues that it holds
-/// (POSIX.1-2017, `sys/msg.h`; the slot and its counts are this profile's).
-#[derive(Drop)]
+/// (POSIX.1-2017, `sys/msg.h`; the slot and its counts are this profile's). Each message keeps the chain
+/// that holds its text. A slot can't be dropped: it ends by `end`.
 pub struct QueueSlot {
     live: Option<Attributes>,
     messages: Vec<Waiting>,
@@ -143,14 +124,13 @@ impl Model for QueueSlot {
 
     ghost use Rattle.sysv_model.specs.declared.limits.TheConstants.{QUEUE_MESSAGES};
     ghost use Rattle.sysv_queue.specs.Fits.{bytes_of};
-    ghost use Rattle.sysv_queue.specs.Kept.{messages_of};
     ghost use Rattle.sysv_queue.specs.Named.{types_of};
 
-    ghost view = { λ s. record { live = s.live; messages = messages_of s.messages.items; arrived = s.arrived; freed = s.freed } };
+    ghost view = { λ s. record { live = s.live; messages = s.messages.items; arrived = s.arrived; freed = s.freed } };
 
     // The types stand in a list of their own, where a selection reads them as they lie.
     ghost invariant = { λ s. (vec_len s.messages ≤ QUEUE_MESSAGES) × (QUEUE_MESSAGES ≤ vec_capacity s.messages) × (QUEUE_MESSAGES ≤ vec_capacity s.types)
-        × (s.types.items ≡ types_of (messages_of s.messages.items)) × (s.cbytes ≡ bytes_of (messages_of s.messages.items)) };
+        × (s.types.items ≡ types_of s.messages.items) × (s.cbytes ≡ bytes_of s.messages.items) };
 }
 
 impl QueueSlot {
@@ -158,8 +138,8 @@ impl QueueSlot {
     pub fn open(alloc: Global) -> Result<QueueSlot, NoMemory>
         ensures { IfOk result (λ slot. StandsFor [] slot) }
     {
-        let messages = Vec::with_capacity(alloc, QUEUE_MESSAGES).map_err(|_| NoMemory)?;
         let types = Vec::with_capacity(alloc, QUEUE_MESSAGES).map_err(|_| NoMemory)?;
+        let messages = Vec::with_capacity(alloc, QUEUE_MESSAGES).map_err(|_| NoMemory)?;
         Ok(QueueSlot {
             live: None,
             messages,
@@ -207,24 +187,11 @@ impl QueueSlot {
     pub fn probe(&self, id: i32, cred: Cred, flags: Flags) -> Probe
         ensures turn { MakesTurn self.now (ProbeCall id cred flags) (probe_reply result) self.now }
     {
-        if !self.is_live(id) {
-            return Probe::Gone;
+        match self.queue_of(id) {
+            Some(queue) if may_as_asked(cred, queue, flags) => Probe::Granted,
+            Some(_) => Probe::Denied,
+            None => Probe::Gone,
         }
-        if self.permits_asked(cred, flags) {
-            Probe::Granted
-        } else {
-            Probe::Denied
-        }
-    }
-
-    /// Whether a queue lives, and the caller may do with it what the flags ask.
-    fn permits_asked(&self, cred: Cred, flags: Flags) -> bool
-        ensures { IsTrue result ↔ MayAsAsked flags cred self.now.live }
-    {
-        let asked = flags.bits();
-        let read = asked & 0o444 == 0 || self.permits(cred, Want::Read);
-        let write = asked & 0o222 == 0 || self.permits(cred, Want::Write);
-        read && write
     }
 
     /// The attributes of the live queue with what waits on it (POSIX.1-2017, `msgctl`, IPC_STAT).
@@ -233,26 +200,86 @@ impl QueueSlot {
     pub fn stat(&self, id: i32, cred: Cred) -> Result<Stat, Errno>
         ensures turn { MakesTurn self.now (ReadStat id cred) (stat_reply result) self.now }
     {
-        match self.live {
-            Some(queue) if queue.id == id => {
-                if !may(cred, queue.perm, Want::Read) {
-                    return Err(Errno::EACCES);
-                }
-                Ok(Stat {
-                    key: queue.key,
-                    perm: queue.perm,
-                    cbytes: self.cbytes,
-                    qnum: self.messages.len() as u32,
-                    qbytes: queue.qbytes,
-                    lspid: queue.lspid,
-                    lrpid: queue.lrpid,
-                    stime: queue.stime,
-                    rtime: queue.rtime,
-                    ctime: queue.ctime,
-                })
-            }
-            _ => Err(Errno::EINVAL),
+        let queue = match self.enter(id, cred, Want::Read) {
+            Ok(queue) => queue,
+            Err(Barred::Gone) => return Err(Errno::EINVAL),
+            Err(Barred::Denied) => return Err(Errno::EACCES),
+        };
+        Ok(Stat {
+            key: queue.key,
+            perm: queue.perm,
+            cbytes: self.cbytes,
+            qnum: self.messages.len() as u32,
+            qbytes: queue.qbytes,
+            lspid: queue.lspid,
+            lrpid: queue.lrpid,
+            stime: queue.stime,
+            rtime: queue.rtime,
+            ctime: queue.ctime,
+        })
+    }
+
+    /// Gives the live queue the owner, the group, the low nine bits of the mode and the limit in `to`, and
+    /// makes `now`, in seconds, the moment of its last change (POSIX.1-2017, `msgctl`, IPC_SET). A limit
+    /// below what waits removes nothing. Both counts rise, whatever was changed. The causes of a refusal in
+    /// their order: `EINVAL` where the identifier is not live; `EPERM` for another user than 0, the owner
+    /// and the creator; `EINVAL` for a limit above 65,536; `EPERM` for one above the present limit, from
+    /// another user than 0. A refusal leaves the slot as it was. Both counts have to be below 2^63.
+    pub fn set(&mut self, id: i32, cred: Cred, to: SetTo, now: u64) -> Result<(), Errno>
+        requires arrived { self.old.arrived < 2 ^ 63 }
+        requires freed { self.old.freed < 2 ^ 63 }
+        ensures turn { MakesTurn self.old (Set id cred to now) (set_reply result) self.new }
+        ensures refused { OnErr result (self.new ≡ self.old) }
+    {
+        let queue = self.control(id, cred)?;
+        if to.qbytes > QBYTES_MOST {
+            return Err(Errno::EINVAL);
         }
+        if to.qbytes > queue.qbytes && cred.uid != 0 {
+            return Err(Errno::EPERM);
+        }
+        self.change_to(Some(Attributes {
+            perm: Perm {
+                uid: to.uid,
+                gid: to.gid,
+                mode: (to.mode % 512) as u16,
+                ..queue.perm
+            },
+            qbytes: to.qbytes,
+            ctime: now,
+            ..queue
+        }));
+        Ok(())
+    }
+
+    /// Removes the queue and hands out the blocks of all that waits on it (POSIX.1-2017, `msgctl`,
+    /// IPC_RMID); the slot is vacant from then on. Both counts rise. `EINVAL` where the identifier is not
+    /// live, then `EPERM` for another user than 0, the owner and the creator; a refusal leaves the slot as
+    /// it was. It takes no memory. Both counts have to be below 2^63.
+    pub fn remove(&mut self, id: i32, cred: Cred) -> Result<Discarded, Errno>
+        requires arrived { self.old.arrived < 2 ^ 63 }
+        requires freed { self.old.freed < 2 ^ 63 }
+        ensures turn { MakesTurn self.old (Remove id cred) (remove_reply self.old.messages result) self.new }
+        ensures blocks { IfOk result (λ discarded. discarded ≡ blocks_of self.old.messages) }
+        ensures refused { OnErr result (self.new ≡ self.old) }
+    {
+        self.control(id, cred)?;
+        let chain = joined(&mut self.messages);
+        self.types.clear();
+        self.cbytes = 0;
+        self.change_to(None);
+        Ok(Discarded { chain })
+    }
+
+    /// Puts the changed queue, or none, in the place of the live one, which both counts announce.
+    fn change_to(&mut self, live: Option<Attributes>)
+        requires arrived { self.old.arrived < 2 ^ 63 }
+        requires freed { self.old.freed < 2 ^ 63 }
+        ensures { self.new ≡ record self.old { live = live; arrived = self.old.arrived + 1; freed = self.old.freed + 1 } }
+    {
+        self.live = live;
+        self.arrived += 1;
+        self.freed += 1;
     }
 
     /// The line of the live queue in the list of queues, if one is live (this profile's). No permission
@@ -303,36 +330,30 @@ impl QueueSlot {
         ensures enters { IfOk result (λ queue. (self.now.live ≡ Some queue) × HasId self.now.live id × IsGranted want cred self.now.live) }
         ensures barred { IfErr result (Bars id cred want self.now.live) }
     {
-        match self.live {
-            Some(live) if live.id == id => {
-                if may(cred, live.perm, want) {
-                    Ok(live)
-                } else {
-                    Err(Barred::Denied)
-                }
-            }
-            _ => Err(Barred::Gone),
+        match self.queue_of(id) {
+            Some(queue) if may(cred, queue.perm, want) => Ok(queue),
+            Some(_) => Err(Barred::Denied),
+            None => Err(Barred::Gone),
         }
     }
 
-    /// Whether the live queue has this identifier.
-    fn is_live(&self, id: i32) -> bool
-        ensures { IsTrue result ↔ HasId self.now.live id }
+    /// The live queue, where it has this identifier and the caller may change it and remove it.
+    fn control(&self, id: i32, cred: Cred) -> Result<Attributes, Errno>
+        ensures controls { IfOk result (λ queue. (self.now.live ≡ Some queue) × HasId self.now.live id × MayControl cred self.now.live) }
+        ensures barred { IfErr result (BarsControl id cred self.now.live) }
     {
-        match &self.live {
-            Some(queue) => queue.id == id,
-            None => false,
+        match self.queue_of(id) {
+            Some(queue) if may_control(cred, queue.perm) => Ok(queue),
+            Some(_) => Err(Errno::EPERM),
+            None => Err(Errno::EINVAL),
         }
     }
 
-    /// Whether a queue lives, and the caller may do with it what it wants.
-    fn permits(&self, cred: Cred, want: Want) -> bool
-        ensures { IsTrue result ↔ IsGranted want cred self.now.live }
+    /// The live queue, where it has this identifier.
+    fn queue_of(&self, id: i32) -> Option<Attributes>
+        ensures { MatchOption result (¬ HasId self.now.live id) (λ queue. (self.now.live ≡ Some queue) × HasId self.now.live id) }
     {
-        match &self.live {
-            Some(queue) => may(cred, queue.perm, want),
-            None => false,
-        }
+        self.live.filter(|queue| queue.id == id)
     }
 
     /// Whether a message of `size` bytes fits on a queue with this limit.
@@ -352,29 +373,31 @@ impl QueueSlot {
     }
 
     /// Puts a message that fits at the end.
-    fn accept(&mut self, cred: Cred, mtype: i64, body: Body, now: u64) -> u64
+    fn accept(&mut self, cred: Cred, mtype: i64, chain: Chain, size: usize, now: u64) -> u64
         requires few { length self.old.messages < QUEUE_MESSAGES }
-        requires small { bytes_of self.old.messages + length body < 2 ^ 32 }
+        requires small { bytes_of self.old.messages + size < 2 ^ 32 }
         requires count { self.old.arrived < 2 ^ 63 }
+        requires text { length chain.bytes ≡ size }
+        requires blocks { chain.blocks ≡ blocks_for size }
+        requires short { size ≤ most_bytes }
         ensures number { result ≡ self.old.arrived }
         ensures after { self.new ≡ record {
           live = option_map (sent_to cred now) self.old.live;
-          messages = self.old.messages ++ record { number = self.old.arrived; sender = cred.pid; mtype = mtype; bytes = body } ∷ [];
+          messages = self.old.messages ++ record { number = self.old.arrived; sender = cred.pid; mtype = mtype; bytes = chain.bytes } ∷ [];
           arrived = self.old.arrived + 1;
           freed = self.old.freed;
         } }
     {
         let number = self.arrived;
-        self.cbytes += body.len() as u32;
-        self.types.push(mtype).unwrap();
-        self.messages
-            .push(Waiting {
-                number,
-                sender: cred.pid,
-                mtype,
-                body,
-            })
-            .unwrap();
+        self.messages.push_reserved(Waiting {
+            number,
+            sender: cred.pid,
+            mtype,
+            len: size,
+            chain,
+        });
+        self.types.push_reserved(mtype);
+        self.cbytes += size as u32;
         self.arrived += 1;
         self.live = self.live.map(|queue| Attributes {
             lspid: cred.pid,
@@ -384,11 +407,11 @@ impl QueueSlot {
         number
     }
 
-    /// Takes the message at `place` into `out`, as many of its bytes as `size` allows.
-    fn release(&mut self, place: usize, cred: Cred, size: u32, now: u64, out: &mut Body) -> Delivery
+    /// Takes the message at `place` out of the slot.
+    fn release(&mut self, place: usize, cred: Cred, now: u64) -> Taken
         requires there { place < length self.old.messages }
         requires count { self.old.freed < 2 ^ 63 }
-        ensures given { (m : Message) × (slice_get self.old.messages place ≡ Some m) × Gives result m size out.new }
+        ensures given { slice_get self.old.messages place ≡ Some result }
         ensures after { self.new ≡ record {
           live = option_map (received_from cred now) self.old.live;
           messages = remove self.old.messages place;
@@ -396,68 +419,60 @@ impl QueueSlot {
           freed = self.old.freed + 1;
         } }
     {
-        let Waiting {
-            number,
-            sender,
-            mtype,
-            body,
-        } = self.messages.remove(place);
+        let message = self.messages.remove(place);
         self.types.remove(place);
-        self.cbytes -= body.len() as u32;
+        self.cbytes -= message.len() as u32;
         self.freed += 1;
         self.live = self.live.map(|queue| Attributes {
             lrpid: cred.pid,
             rtime: now,
             ..queue
         });
-        *out = body;
-        out.truncate(size as usize);
-        Delivery {
-            mtype,
-            len: out.len(),
-            sender,
-            number,
-        }
+        Taken { message }
     }
 
-    /// Accepts a message of type `mtype` with the text in `body`, at the moment `now` in seconds,
-    /// and answers its acceptance number, which is the arrived count before it (POSIX.1-2017,
-    /// `msgsnd`). Any type and any body is accepted; the caller refuses those that a send may not
-    /// have. A refusal, the first cause of `Unplaced` that stands, hands the body back and leaves
-    /// the slot as it was. The arrived count has to be below 2^63.
+    /// Accepts a message of type `mtype` whose text of `size` bytes, 0 to 8,192, the chain holds in as many
+    /// blocks as it takes, at the moment `now` in seconds, and answers its acceptance number, which is the
+    /// arrived count before it (POSIX.1-2017, `msgsnd`). Any type is accepted; the caller refuses those
+    /// that a send may not have. A refusal, the first cause of `Unplaced` that stands, hands the chain
+    /// back as it was and leaves the slot as it was. It takes no memory. The arrived count has to be
+    /// below 2^63.
     pub fn place(
         &mut self,
         id: i32,
         cred: Cred,
         mtype: i64,
-        body: Body,
+        chain: Chain,
+        size: usize,
         now: u64,
     ) -> Result<u64, PlaceRefused>
-        requires { self.old.arrived < 2 ^ 63 }
-        ensures turn { MakesTurn self.old (Place id cred mtype body now) (place_reply result) self.new }
-        ensures refused { IfErr result (λ e. (e.body ≡ body) × (self.new ≡ self.old)) }
+        requires count { self.old.arrived < 2 ^ 63 }
+        requires text { length chain.bytes ≡ size }
+        requires blocks { chain.blocks ≡ blocks_for size }
+        requires short { size ≤ most_bytes }
+        ensures turn { MakesTurn self.old (Place id cred mtype chain.bytes now) (place_reply result) self.new }
+        ensures refused { IfErr result (λ e. (e.chain ≡ chain) × (self.new ≡ self.old)) }
     {
-        match self.find(id, cred, body.len()) {
+        match self.find(id, cred, size) {
             Look::Gone => Err(PlaceRefused {
                 why: Unplaced::Gone,
-                body,
+                chain,
             }),
             Look::Denied => Err(PlaceRefused {
                 why: Unplaced::Denied,
-                body,
+                chain,
             }),
             Look::Full { freed } => Err(PlaceRefused {
                 why: Unplaced::Full { freed },
-                body,
+                chain,
             }),
-            Look::Fits => Ok(self.accept(cred, mtype, body, now)),
+            Look::Fits => Ok(self.accept(cred, mtype, chain, size, now)),
         }
     }
 
-    /// Takes the message that `sel` names into `out` at the moment `now` in seconds: its text, or with
-    /// `noerror` the first `size` bytes of a longer one, whose rest is lost (POSIX.1-2017,
-    /// `msgrcv`). A refusal, the first cause of `TakeRefused` that stands, leaves the slot and `out`
-    /// as they were. It takes no memory. The freed count has to be below 2^63.
+    /// Takes the message that `sel` names at the moment `now` in seconds (POSIX.1-2017, `msgrcv`). A text
+    /// longer than `size` bytes is taken with `noerror` alone. A refusal, the first cause of `TakeRefused`
+    /// that stands, leaves the slot as it was. It takes no memory. The freed count has to be below 2^63.
     pub fn take(
         &mut self,
         id: i32,
@@ -466,13 +481,10 @@ impl QueueSlot {
         size: u32,
         noerror: bool,
         now: u64,
-        out: &mut Body,
-    ) -> Result<Delivery, TakeRefused>
+    ) -> Result<Taken, TakeRefused>
         requires { self.old.freed < 2 ^ 63 }
-        ensures taken { IfOk result (λ given. (m : Message) × Gives given m size out.new
-            × MakesTurn self.old (Take id cred sel size noerror now) (Taken m) self.new) }
-        ensures refused { IfErr result (λ why. MakesTurn self.old (Take id cred sel size noerror now) (untaken_reply why) self.new
-            × (self.new ≡ self.old) × (out.new ≡ out.old)) }
+        ensures turn { MakesTurn self.old (Take id cred sel size noerror now) (take_reply result) self.new }
+        ensures refused { OnErr result (self.new ≡ self.old) }
     {
         match self.enter(id, cred, Want::Read) {
             Ok(_) => {}
@@ -484,10 +496,28 @@ impl QueueSlot {
                 arrived: self.arrived,
             });
         };
-        if self.messages[place].body.len() > size as usize && !noerror {
+        if self.messages[place].len() > size as usize && !noerror {
             return Err(TakeRefused::TooLong);
         }
-        Ok(self.release(place, cred, size, now, out))
+        Ok(self.release(place, cred, now))
+    }
+
+    /// Ends the slot, and gives one chain of the blocks of all that waits, in which no text lies. It takes
+    /// no memory.
+    pub fn end(self) -> Chain
+        ensures { result ≡ record { blocks = blocks_of self.messages; bytes = [] } }
+    {
+        let QueueSlot {
+            live: _,
+            mut messages,
+            types: _,
+            cbytes: _,
+            arrived: _,
+            freed: _,
+        } = self;
+        let chain = joined(&mut messages);
+        messages.destroy_empty();
+        chain
     }
 
     /// The arrived count and the freed count, each of which only rises.
@@ -497,6 +527,30 @@ impl QueueSlot {
     {
         (self.arrived, self.freed)
     }
+}
+
+/// Takes out all messages, and gives one chain of their blocks, in which no text lies.
+fn joined(messages: &mut Vec<Waiting>) -> Chain
+    ensures chain { result ≡ record { blocks = blocks_of messages.old.items; bytes = [] } }
+    ensures items { messages.new.items ≡ [] }
+    ensures len { vec_len messages.new ≡ 0 }
+    ensures capacity { vec_capacity messages.new ≡ vec_capacity messages.old }
+{
+    let mut chain = Chain::empty();
+    while let Some(message) = messages.pop() {
+        chain = chain.join(message.into_chain());
+    }
+    chain
+}
+
+/// Whether the caller may do with this queue what the flags ask.
+fn may_as_asked(cred: Cred, queue: Attributes, flags: Flags) -> bool
+    ensures { IsTrue result ↔ MayAsAsked flags cred (Some queue) }
+{
+    let asked = flags.bits();
+    let read = asked & 0o444 == 0 || may(cred, queue.perm, Want::Read);
+    let write = asked & 0o222 == 0 || may(cred, queue.perm, Want::Write);
+    read && write
 }
 
 #[cfg(test)]

@@ -1,8 +1,14 @@
-//! Messages that come and go, receives by each kind of selector, callers of each class, and refusals in
-//! their order.
+//! Messages that come and go, receives by each kind of selector, callers of each class, receipts, and
+//! refusals in their order.
+
+mod control;
 
 use super::*;
+use crate::delivery::Delivery;
+use crate::tally::Tally;
 use std::process::Abort;
+use sysv_model::body::Body;
+use sysv_pool::pool::Pool;
 
 const SENDER: Cred = Cred {
     uid: 1000,
@@ -36,36 +42,100 @@ const USER_ZERO: Cred = Cred {
     pid: 105,
 };
 
+/// A slot, and what its callers have at hand.
+struct Desk {
+    slot: QueueSlot,
+    pool: Pool,
+    text: Body,
+    out: Body,
+}
+
+/// What a receive gave, in a form that can be compared.
+#[derive(Clone, Copy, PartialEq, Eq, Debug)]
+struct Received {
+    mtype: i64,
+    len: usize,
+    sender: u32,
+    number: u64,
+}
+
 /// A vacant slot. Memory is refused once at most.
 fn open_slot(rt: &impl Abort, alloc: Global) -> QueueSlot {
     match QueueSlot::open(alloc) {
         Ok(slot) => slot,
-        Err(NoMemory) => QueueSlot::open(alloc).expect(rt, "a second try"),
+        Err(NoMemory) => match QueueSlot::open(alloc) {
+            Ok(slot) => slot,
+            Err(NoMemory) => panic!(rt; "a second try"),
+        },
+    }
+}
+
+/// A pool of 512 blocks. Memory is refused once at most.
+fn open_pool(rt: &impl Abort, alloc: Global) -> Pool {
+    match Pool::open(alloc, 512) {
+        Ok(pool) => pool,
+        Err(_) => match Pool::open(alloc, 512) {
+            Ok(pool) => pool,
+            Err(why) => panic!(rt; "a second try: {why}"),
+        },
+    }
+}
+
+/// An open body. Memory is refused once at most.
+fn open_body(rt: &impl Abort, alloc: Global) -> Body {
+    match Body::open(alloc) {
+        Ok(body) => body,
+        Err(NoMemory) => Body::open(alloc).expect(rt, "a second try"),
+    }
+}
+
+/// A vacant slot beside a pool of 512 blocks.
+fn open_desk(rt: &impl Abort, alloc: Global) -> Desk {
+    Desk {
+        text: open_body(rt, alloc),
+        out: open_body(rt, alloc),
+        slot: open_slot(rt, alloc),
+        pool: open_pool(rt, alloc),
     }
 }
 
 /// A slot with queue 0.
-fn slot_with_queue(rt: &impl Abort, alloc: Global) -> QueueSlot {
-    let mut slot = open_slot(rt, alloc);
-    assert!(rt; slot.install(0, 0, SENDER, 0o600, 0));
-    slot
+fn desk_with_queue(rt: &impl Abort, alloc: Global) -> Desk {
+    let mut desk = open_desk(rt, alloc);
+    assert!(rt; desk.slot.install(0, 0, SENDER, 0o600, 0));
+    desk
 }
 
 /// A slot with queue 0, which its group may read.
-fn slot_with_shared_queue(rt: &impl Abort, alloc: Global) -> QueueSlot {
-    let mut slot = open_slot(rt, alloc);
-    assert!(rt; slot.install(0, 0, SENDER, 0o640, 0));
-    slot
+fn desk_with_shared_queue(rt: &impl Abort, alloc: Global) -> Desk {
+    let mut desk = open_desk(rt, alloc);
+    assert!(rt; desk.slot.install(0, 0, SENDER, 0o640, 0));
+    desk
 }
 
-/// A body with this text. Memory is refused once at most.
-fn body_of(rt: &impl Abort, alloc: Global, text: &[u8]) -> Body {
-    let mut body = match Body::open(alloc) {
-        Ok(body) => body,
-        Err(NoMemory) => Body::open(alloc).expect(rt, "a second try"),
-    };
-    assert!(rt; body.push_piece(text));
-    body
+/// Gives a chain back to the pool.
+fn give_back(rt: &impl Abort, pool: &mut Pool, chain: Chain) {
+    let released = pool.released();
+    assert!(rt; released < 1 << 63);
+    if let Err(chain) = pool.release(chain) {
+        let blocks = chain.end();
+        panic!(rt; "a chain of {blocks} blocks came back");
+    }
+}
+
+/// Ends the slot, on which that many blocks wait, and the pool, in which all blocks are then free.
+fn end_desk(rt: &impl Abort, desk: Desk, blocks: u32) {
+    let Desk {
+        slot,
+        mut pool,
+        text: _,
+        out: _,
+    } = desk;
+    let chain = slot.end();
+    assert_eq!(rt; chain.blocks(), blocks);
+    give_back(rt, &mut pool, chain);
+    assert_eq!(rt; pool.free(), 512);
+    pool.end();
 }
 
 fn assert_holds(rt: &impl Abort, body: &Body, text: &[u8]) {
@@ -76,66 +146,101 @@ fn assert_holds(rt: &impl Abort, body: &Body, text: &[u8]) {
     }
 }
 
-/// Sends this text to queue `id`. A refused body comes back as it was.
+/// Sends this text to queue `id`. A refused chain comes back as it was.
 fn send_as(
     rt: &impl Abort,
-    alloc: Global,
-    slot: &mut QueueSlot,
+    desk: &mut Desk,
     id: i32,
     cred: Cred,
     mtype: i64,
     text: &[u8],
 ) -> Result<u64, Unplaced> {
-    let body = body_of(rt, alloc, text);
-    let (arrived, _) = slot.counts();
+    desk.text.clear();
+    assert!(rt; desk.text.push_piece(text));
+    let size = desk.text.len();
+    assert!(rt; size <= 8192);
+    let Some(mut chain) = desk.pool.reserve(size) else {
+        panic!(rt; "too few blocks for {size} bytes");
+    };
+    chain.fill(&desk.text);
+    let (arrived, _) = desk.slot.counts();
     assert!(rt; arrived < 1 << 63);
-    slot.place(id, cred, mtype, body, 7).map_err(|refused| {
-        assert_holds(rt, &refused.body, text);
-        refused.why
-    })
+    let free = desk.pool.free();
+    match desk.slot.place(id, cred, mtype, chain, size, 7) {
+        Ok(number) => Ok(number),
+        Err(PlaceRefused { why, chain }) => {
+            desk.out.clear();
+            chain.copy_out(size, &mut desk.out);
+            assert_holds(rt, &desk.out, text);
+            give_back(rt, &mut desk.pool, chain);
+            assert!(rt; free <= 512 && size <= 8192);
+            assert_eq!(rt; desk.pool.free(), free + size.div_ceil(64) as u32);
+            Err(why)
+        }
+    }
 }
 
 /// Sends this text from the sender to queue 0.
-fn send(
+fn send(rt: &impl Abort, desk: &mut Desk, mtype: i64, text: &[u8]) -> Result<u64, Unplaced> {
+    send_as(rt, desk, 0, SENDER, mtype, text)
+}
+
+/// What a delivery gives, which is then written.
+fn written(rt: &impl Abort, delivery: Delivery) -> Received {
+    let got = Received {
+        mtype: delivery.mtype(),
+        len: delivery.len(),
+        sender: delivery.sender(),
+        number: delivery.number(),
+    };
+    let mut tally = Tally::open();
+    delivery.written(&mut tally);
+    assert_eq!(rt; (tally.taken(), tally.written(), tally.lost()), (1, 1, 0));
+    got
+}
+
+/// Receives `size` bytes of a message of queue `id` into `out`. The blocks of the whole text come back.
+fn take_as(
     rt: &impl Abort,
-    alloc: Global,
-    slot: &mut QueueSlot,
-    mtype: i64,
-    text: &[u8],
-) -> Result<u64, Unplaced> {
-    send_as(rt, alloc, slot, 0, SENDER, mtype, text)
+    desk: &mut Desk,
+    id: i32,
+    cred: Cred,
+    sel: Selector,
+    size: u32,
+    noerror: bool,
+) -> Result<Received, TakeRefused> {
+    let (_, freed) = desk.slot.counts();
+    assert!(rt; freed < 1 << 63);
+    let taken = desk.slot.take(id, cred, sel, size, noerror, 9)?;
+    let (delivery, chain) = taken.finish(size, &mut desk.out);
+    give_back(rt, &mut desk.pool, chain);
+    Ok(written(rt, delivery))
 }
 
 /// Receives any message from queue 0.
 fn receive(
     rt: &impl Abort,
-    slot: &mut QueueSlot,
+    desk: &mut Desk,
     size: u32,
     noerror: bool,
-    out: &mut Body,
-) -> Result<Delivery, TakeRefused> {
-    let (_, freed) = slot.counts();
-    assert!(rt; freed < 1 << 63);
-    slot.take(0, RECEIVER, Selector::Any, size, noerror, 9, out)
+) -> Result<Received, TakeRefused> {
+    take_as(rt, desk, 0, RECEIVER, Selector::Any, size, noerror)
 }
 
 /// Receives a text of at most 100 bytes from queue `id`.
 fn receive_as(
     rt: &impl Abort,
-    slot: &mut QueueSlot,
+    desk: &mut Desk,
     id: i32,
     cred: Cred,
     sel: Selector,
-    out: &mut Body,
-) -> Result<Delivery, TakeRefused> {
-    let (_, freed) = slot.counts();
-    assert!(rt; freed < 1 << 63);
-    slot.take(id, cred, sel, 100, false, 9, out)
+) -> Result<Received, TakeRefused> {
+    take_as(rt, desk, id, cred, sel, 100, false)
 }
 
 /// What a receive of this text from the sender gives.
-fn delivery(mtype: i64, text: &[u8], number: u64) -> Delivery {
-    Delivery {
+fn got(mtype: i64, text: &[u8], number: u64) -> Received {
+    Received {
         mtype,
         len: text.len(),
         sender: 101,
@@ -145,117 +250,115 @@ fn delivery(mtype: i64, text: &[u8], number: u64) -> Delivery {
 
 #[test]
 fn a_vacant_slot_has_no_queue(rt: HostRuntime) {
-    let mut slot = open_slot(&rt, rt.alloc());
-    let mut out = body_of(&rt, rt.alloc(), b"kept");
-    assert_eq!(rt; slot.counts(), (0, 0));
-    assert_eq!(rt; slot.look(0, SENDER, 0), Look::Gone);
-    let sent = send(&rt, rt.alloc(), &mut slot, 5, b"hello");
+    let mut desk = open_desk(&rt, rt.alloc());
+    assert_eq!(rt; desk.slot.counts(), (0, 0));
+    assert_eq!(rt; desk.slot.look(0, SENDER, 0), Look::Gone);
+    let sent = send(&rt, &mut desk, 5, b"hello");
     assert_eq!(rt; sent, Err(Unplaced::Gone));
-    let given = receive(&rt, &mut slot, 100, true, &mut out);
+    let given = receive(&rt, &mut desk, 100, true);
     assert_eq!(rt; given, Err(TakeRefused::Gone));
-    assert_holds(&rt, &out, b"kept");
-    assert_eq!(rt; slot.counts(), (0, 0));
+    assert_eq!(rt; desk.slot.counts(), (0, 0));
+    end_desk(&rt, desk, 0);
 }
 
 #[test]
 fn an_installed_queue_stays(rt: HostRuntime) {
-    let mut slot = open_slot(&rt, rt.alloc());
-    assert!(rt; slot.install(0, 0, SENDER, 0o600, 0));
-    assert!(rt; !slot.install(64, 7, RECEIVER, 0o777, 1));
-    assert_eq!(rt; slot.look(0, RECEIVER, 16_384), Look::Fits);
-    assert_eq!(rt; slot.look(64, RECEIVER, 0), Look::Gone);
-    assert_eq!(rt; slot.look(-1, RECEIVER, 0), Look::Gone);
-    assert_eq!(rt; slot.counts(), (0, 0));
+    let mut desk = open_desk(&rt, rt.alloc());
+    assert!(rt; desk.slot.install(0, 0, SENDER, 0o600, 0));
+    assert!(rt; !desk.slot.install(64, 7, RECEIVER, 0o777, 1));
+    assert_eq!(rt; desk.slot.look(0, RECEIVER, 16_384), Look::Fits);
+    assert_eq!(rt; desk.slot.look(64, RECEIVER, 0), Look::Gone);
+    assert_eq!(rt; desk.slot.look(-1, RECEIVER, 0), Look::Gone);
+    assert_eq!(rt; desk.slot.counts(), (0, 0));
+    end_desk(&rt, desk, 0);
 }
 
 #[test]
 fn messages_leave_in_order(rt: HostRuntime) {
-    let mut slot = slot_with_queue(&rt, rt.alloc());
-    let mut out = body_of(&rt, rt.alloc(), b"");
-    let given = receive(&rt, &mut slot, 100, false, &mut out);
+    let mut desk = desk_with_queue(&rt, rt.alloc());
+    let given = receive(&rt, &mut desk, 100, false);
     assert_eq!(rt; given, Err(TakeRefused::NoMatch { arrived: 0 }));
     let messages: [(i64, &[u8], u64); 3] = [(5, b"hello", 0), (2, b"", 1), (9, b"last", 2)];
     for (mtype, text, number) in messages {
-        let sent = send(&rt, rt.alloc(), &mut slot, mtype, text);
+        let sent = send(&rt, &mut desk, mtype, text);
         assert_eq!(rt; sent, Ok(number));
     }
-    assert_eq!(rt; slot.counts(), (3, 0));
+    assert_eq!(rt; desk.slot.counts(), (3, 0));
     for (mtype, text, number) in messages {
-        let given = receive(&rt, &mut slot, 100, false, &mut out);
-        assert_eq!(rt; given, Ok(delivery(mtype, text, number)));
-        assert_holds(&rt, &out, text);
+        let given = receive(&rt, &mut desk, 100, false);
+        assert_eq!(rt; given, Ok(got(mtype, text, number)));
+        assert_holds(&rt, &desk.out, text);
     }
-    let given = receive(&rt, &mut slot, 100, false, &mut out);
+    let given = receive(&rt, &mut desk, 100, false);
     assert_eq!(rt; given, Err(TakeRefused::NoMatch { arrived: 3 }));
-    assert_holds(&rt, &out, b"last");
-    assert_eq!(rt; slot.counts(), (3, 3));
+    assert_holds(&rt, &desk.out, b"last");
+    assert_eq!(rt; desk.slot.counts(), (3, 3));
+    end_desk(&rt, desk, 0);
 }
 
 #[test]
 fn a_long_message_stays_or_is_cut(rt: HostRuntime) {
-    let mut slot = slot_with_queue(&rt, rt.alloc());
-    let mut out = body_of(&rt, rt.alloc(), b"kept");
-    let sent = send(&rt, rt.alloc(), &mut slot, 1, b"0123456789");
+    let mut desk = desk_with_queue(&rt, rt.alloc());
+    let sent = send(&rt, &mut desk, 1, b"0123456789");
     assert_eq!(rt; sent, Ok(0));
     for size in [0, 4, 9] {
-        let given = receive(&rt, &mut slot, size, false, &mut out);
+        let given = receive(&rt, &mut desk, size, false);
         assert_eq!(rt; given, Err(TakeRefused::TooLong), "{size}");
-        assert_holds(&rt, &out, b"kept");
-        assert_eq!(rt; slot.counts(), (1, 0), "{size}");
+        assert_eq!(rt; desk.slot.counts(), (1, 0), "{size}");
     }
-    let given = receive(&rt, &mut slot, 4, true, &mut out);
-    assert_eq!(rt; given, Ok(delivery(1, b"0123", 0)));
-    assert_holds(&rt, &out, b"0123");
-    let given = receive(&rt, &mut slot, 4, true, &mut out);
+    let given = receive(&rt, &mut desk, 4, true);
+    assert_eq!(rt; given, Ok(got(1, b"0123", 0)));
+    assert_holds(&rt, &desk.out, b"0123");
+    let given = receive(&rt, &mut desk, 4, true);
     assert_eq!(rt; given, Err(TakeRefused::NoMatch { arrived: 1 }));
-    assert_eq!(rt; slot.counts(), (1, 1));
+    assert_eq!(rt; desk.slot.counts(), (1, 1));
+    end_desk(&rt, desk, 0);
 }
 
 #[test]
 fn bytes_fill_a_queue(rt: HostRuntime) {
-    let mut slot = slot_with_queue(&rt, rt.alloc());
-    let mut out = body_of(&rt, rt.alloc(), b"");
+    let mut desk = desk_with_queue(&rt, rt.alloc());
     let bytes = [b'x'; 8192];
     let full = Err(Unplaced::Full { freed: 0 });
     for (size, want) in [(8192, Ok(0)), (8192, Ok(1)), (1, full), (0, Ok(2))] {
         assert!(rt; size <= bytes.len());
-        let sent = send(&rt, rt.alloc(), &mut slot, 1, &bytes[..size]);
+        let sent = send(&rt, &mut desk, 1, &bytes[..size]);
         assert_eq!(rt; sent, want, "{size}");
     }
-    assert_eq!(rt; slot.look(0, SENDER, 1), Look::Full { freed: 0 });
-    assert_eq!(rt; slot.look(0, SENDER, 0), Look::Fits);
-    let given = receive(&rt, &mut slot, 8192, false, &mut out);
-    assert_eq!(rt; given, Ok(delivery(1, &bytes, 0)));
-    assert_holds(&rt, &out, &bytes);
-    assert_eq!(rt; slot.look(0, SENDER, 8192), Look::Fits);
-    assert_eq!(rt; slot.look(0, SENDER, 8193), Look::Full { freed: 1 });
+    assert_eq!(rt; desk.slot.look(0, SENDER, 1), Look::Full { freed: 0 });
+    assert_eq!(rt; desk.slot.look(0, SENDER, 0), Look::Fits);
+    let given = receive(&rt, &mut desk, 8192, false);
+    assert_eq!(rt; given, Ok(got(1, &bytes, 0)));
+    assert_holds(&rt, &desk.out, &bytes);
+    assert_eq!(rt; desk.slot.look(0, SENDER, 8192), Look::Fits);
+    assert_eq!(rt; desk.slot.look(0, SENDER, 8193), Look::Full { freed: 1 });
+    end_desk(&rt, desk, 128);
 }
 
 #[test]
 fn messages_fill_a_queue(rt: HostRuntime) {
-    let mut slot = slot_with_queue(&rt, rt.alloc());
-    let mut out = body_of(&rt, rt.alloc(), b"");
+    let mut desk = desk_with_queue(&rt, rt.alloc());
     for number in 0..256 {
-        let sent = send(&rt, rt.alloc(), &mut slot, 1, b"");
+        let sent = send(&rt, &mut desk, 1, b"");
         assert_eq!(rt; sent, Ok(number));
     }
-    let sent = send(&rt, rt.alloc(), &mut slot, 1, b"");
+    let sent = send(&rt, &mut desk, 1, b"");
     assert_eq!(rt; sent, Err(Unplaced::Full { freed: 0 }));
-    assert_eq!(rt; slot.look(0, SENDER, 0), Look::Full { freed: 0 });
-    let given = receive(&rt, &mut slot, 0, false, &mut out);
-    assert_eq!(rt; given, Ok(delivery(1, b"", 0)));
-    let sent = send(&rt, rt.alloc(), &mut slot, 1, b"");
+    assert_eq!(rt; desk.slot.look(0, SENDER, 0), Look::Full { freed: 0 });
+    let given = receive(&rt, &mut desk, 0, false);
+    assert_eq!(rt; given, Ok(got(1, b"", 0)));
+    let sent = send(&rt, &mut desk, 1, b"");
     assert_eq!(rt; sent, Ok(256));
-    assert_eq!(rt; slot.counts(), (257, 1));
+    assert_eq!(rt; desk.slot.counts(), (257, 1));
+    end_desk(&rt, desk, 0);
 }
 
 #[test]
 fn a_selector_names_one_message(rt: HostRuntime) {
-    let mut slot = slot_with_queue(&rt, rt.alloc());
-    let mut out = body_of(&rt, rt.alloc(), b"");
+    let mut desk = desk_with_queue(&rt, rt.alloc());
     let messages: [(i64, &[u8], u64); 3] = [(5, b"a", 0), (2, b"b", 1), (5, b"c", 2)];
     for (mtype, text, number) in messages {
-        let sent = send(&rt, rt.alloc(), &mut slot, mtype, text);
+        let sent = send(&rt, &mut desk, mtype, text);
         assert_eq!(rt; sent, Ok(number));
     }
     let receives: [(Selector, i64, &[u8], u64); 3] = [
@@ -264,56 +367,55 @@ fn a_selector_names_one_message(rt: HostRuntime) {
         (Selector::Any, 5, b"c", 2),
     ];
     for (sel, mtype, text, number) in receives {
-        let given = receive_as(&rt, &mut slot, 0, RECEIVER, sel, &mut out);
-        assert_eq!(rt; given, Ok(delivery(mtype, text, number)), "{sel:?}");
-        assert_holds(&rt, &out, text);
+        let given = receive_as(&rt, &mut desk, 0, RECEIVER, sel);
+        assert_eq!(rt; given, Ok(got(mtype, text, number)), "{sel:?}");
+        assert_holds(&rt, &desk.out, text);
     }
-    assert_eq!(rt; slot.counts(), (3, 3));
+    assert_eq!(rt; desk.slot.counts(), (3, 3));
+    end_desk(&rt, desk, 0);
 }
 
 #[test]
 fn a_bound_takes_the_lowest_type(rt: HostRuntime) {
-    let mut slot = slot_with_queue(&rt, rt.alloc());
-    let mut out = body_of(&rt, rt.alloc(), b"");
-    let sent = send(&rt, rt.alloc(), &mut slot, i64::MAX, b"greatest");
+    let mut desk = desk_with_queue(&rt, rt.alloc());
+    let sent = send(&rt, &mut desk, i64::MAX, b"greatest");
     assert_eq!(rt; sent, Ok(0));
-    let sent = send(&rt, rt.alloc(), &mut slot, 7, b"seven");
+    let sent = send(&rt, &mut desk, 7, b"seven");
     assert_eq!(rt; sent, Ok(1));
     let receives: [(i64, &[u8], u64); 2] = [(7, b"seven", 1), (i64::MAX, b"greatest", 0)];
     for (mtype, text, number) in receives {
         let sel = Selector::UpTo(1 << 63);
-        let given = receive_as(&rt, &mut slot, 0, RECEIVER, sel, &mut out);
-        assert_eq!(rt; given, Ok(delivery(mtype, text, number)));
-        assert_holds(&rt, &out, text);
+        let given = receive_as(&rt, &mut desk, 0, RECEIVER, sel);
+        assert_eq!(rt; given, Ok(got(mtype, text, number)));
+        assert_holds(&rt, &desk.out, text);
     }
+    end_desk(&rt, desk, 0);
 }
 
 #[test]
 fn messages_that_are_not_named_stay(rt: HostRuntime) {
-    let mut slot = slot_with_queue(&rt, rt.alloc());
-    let mut out = body_of(&rt, rt.alloc(), b"kept");
+    let mut desk = desk_with_queue(&rt, rt.alloc());
     let messages: [(i64, &[u8], u64); 3] = [(5, b"a", 0), (2, b"b", 1), (5, b"c", 2)];
     for (mtype, text, number) in messages {
-        let sent = send(&rt, rt.alloc(), &mut slot, mtype, text);
+        let sent = send(&rt, &mut desk, mtype, text);
         assert_eq!(rt; sent, Ok(number));
     }
     for sel in [Selector::Exactly(3), Selector::UpTo(1)] {
-        let given = receive_as(&rt, &mut slot, 0, RECEIVER, sel, &mut out);
+        let given = receive_as(&rt, &mut desk, 0, RECEIVER, sel);
         assert_eq!(rt; given, Err(TakeRefused::NoMatch { arrived: 3 }), "{sel:?}");
-        assert_holds(&rt, &out, b"kept");
-        assert_eq!(rt; slot.counts(), (3, 0), "{sel:?}");
+        assert_eq!(rt; desk.slot.counts(), (3, 0), "{sel:?}");
     }
     for (mtype, text, number) in messages {
-        let given = receive(&rt, &mut slot, 100, false, &mut out);
-        assert_eq!(rt; given, Ok(delivery(mtype, text, number)));
-        assert_holds(&rt, &out, text);
+        let given = receive(&rt, &mut desk, 100, false);
+        assert_eq!(rt; given, Ok(got(mtype, text, number)));
+        assert_holds(&rt, &desk.out, text);
     }
+    end_desk(&rt, desk, 0);
 }
 
 #[test]
 fn each_class_has_its_own_bits(rt: HostRuntime) {
-    let mut slot = slot_with_shared_queue(&rt, rt.alloc());
-    let mut out = body_of(&rt, rt.alloc(), b"");
+    let mut desk = desk_with_shared_queue(&rt, rt.alloc());
     let callers = [
         (SENDER, true, true),
         (MEMBER, false, true),
@@ -321,85 +423,138 @@ fn each_class_has_its_own_bits(rt: HostRuntime) {
         (USER_ZERO, true, true),
     ];
     for (cred, writes, reads) in callers {
-        let found = slot.look(0, cred, 4);
-        let sent = send_as(&rt, rt.alloc(), &mut slot, 0, cred, 1, b"text");
+        let found = desk.slot.look(0, cred, 4);
+        let sent = send_as(&rt, &mut desk, 0, cred, 1, b"text");
         if writes {
             assert_eq!(rt; found, Look::Fits, "{cred:?}");
             assert!(rt; sent.is_ok(), "{cred:?}");
         } else {
             assert_eq!(rt; found, Look::Denied, "{cred:?}");
             assert_eq!(rt; sent, Err(Unplaced::Denied), "{cred:?}");
-            let sent = send(&rt, rt.alloc(), &mut slot, 1, b"text");
+            let sent = send(&rt, &mut desk, 1, b"text");
             assert!(rt; sent.is_ok(), "{cred:?}");
         }
-        let given = receive_as(&rt, &mut slot, 0, cred, Selector::Any, &mut out);
+        let given = receive_as(&rt, &mut desk, 0, cred, Selector::Any);
         if reads {
             assert!(rt; given.is_ok(), "{cred:?}");
-            assert_holds(&rt, &out, b"text");
+            assert_holds(&rt, &desk.out, b"text");
         } else {
             assert_eq!(rt; given, Err(TakeRefused::Denied), "{cred:?}");
         }
     }
-    assert_eq!(rt; slot.counts(), (4, 3));
+    assert_eq!(rt; desk.slot.counts(), (4, 3));
+    end_desk(&rt, desk, 1);
 }
 
 #[test]
 fn the_identifier_is_asked_first_and_permission_next(rt: HostRuntime) {
-    let mut slot = slot_with_shared_queue(&rt, rt.alloc());
-    let mut out = body_of(&rt, rt.alloc(), b"kept");
-    assert_eq!(rt; slot.look(64, STRANGER, 0), Look::Gone);
-    let sent = send_as(&rt, rt.alloc(), &mut slot, 64, STRANGER, 1, b"text");
+    let mut desk = desk_with_shared_queue(&rt, rt.alloc());
+    assert_eq!(rt; desk.slot.look(64, STRANGER, 0), Look::Gone);
+    let sent = send_as(&rt, &mut desk, 64, STRANGER, 1, b"text");
     assert_eq!(rt; sent, Err(Unplaced::Gone));
-    let given = receive_as(&rt, &mut slot, 64, STRANGER, Selector::Any, &mut out);
+    let given = receive_as(&rt, &mut desk, 64, STRANGER, Selector::Any);
     assert_eq!(rt; given, Err(TakeRefused::Gone));
 
-    let given = receive_as(&rt, &mut slot, 0, STRANGER, Selector::Any, &mut out);
+    let given = receive_as(&rt, &mut desk, 0, STRANGER, Selector::Any);
     assert_eq!(rt; given, Err(TakeRefused::Denied));
-    let given = receive_as(&rt, &mut slot, 0, MEMBER, Selector::Any, &mut out);
+    let given = receive_as(&rt, &mut desk, 0, MEMBER, Selector::Any);
     assert_eq!(rt; given, Err(TakeRefused::NoMatch { arrived: 0 }));
 
     let bytes = [b'x'; 8192];
     for number in 0..2 {
-        let sent = send(&rt, rt.alloc(), &mut slot, 1, &bytes);
+        let sent = send(&rt, &mut desk, 1, &bytes);
         assert_eq!(rt; sent, Ok(number));
     }
-    assert_eq!(rt; slot.look(0, STRANGER, 1), Look::Denied);
-    assert_eq!(rt; slot.look(0, SENDER, 1), Look::Full { freed: 0 });
-    let sent = send_as(&rt, rt.alloc(), &mut slot, 0, STRANGER, 1, b"text");
+    assert_eq!(rt; desk.slot.look(0, STRANGER, 1), Look::Denied);
+    assert_eq!(rt; desk.slot.look(0, SENDER, 1), Look::Full { freed: 0 });
+    let sent = send_as(&rt, &mut desk, 0, STRANGER, 1, b"text");
     assert_eq!(rt; sent, Err(Unplaced::Denied));
-    let sent = send(&rt, rt.alloc(), &mut slot, 1, b"text");
+    let sent = send(&rt, &mut desk, 1, b"text");
     assert_eq!(rt; sent, Err(Unplaced::Full { freed: 0 }));
 
-    let given = receive_as(&rt, &mut slot, 0, STRANGER, Selector::Any, &mut out);
+    let given = receive_as(&rt, &mut desk, 0, STRANGER, Selector::Any);
     assert_eq!(rt; given, Err(TakeRefused::Denied));
-    let given = receive_as(&rt, &mut slot, 0, MEMBER, Selector::Exactly(2), &mut out);
+    let given = receive_as(&rt, &mut desk, 0, MEMBER, Selector::Exactly(2));
     assert_eq!(rt; given, Err(TakeRefused::NoMatch { arrived: 2 }));
-    let given = receive_as(&rt, &mut slot, 0, MEMBER, Selector::Any, &mut out);
+    let given = receive_as(&rt, &mut desk, 0, MEMBER, Selector::Any);
     assert_eq!(rt; given, Err(TakeRefused::TooLong));
-    assert_holds(&rt, &out, b"kept");
-    assert_eq!(rt; slot.counts(), (2, 0));
+    assert_eq!(rt; desk.slot.counts(), (2, 0));
+    end_desk(&rt, desk, 256);
 }
 
 #[test]
 fn the_named_message_is_measured(rt: HostRuntime) {
-    let mut slot = slot_with_queue(&rt, rt.alloc());
-    let mut out = body_of(&rt, rt.alloc(), b"kept");
+    let mut desk = desk_with_queue(&rt, rt.alloc());
     let bytes = [b'x'; 101];
-    let sent = send(&rt, rt.alloc(), &mut slot, 5, b"short");
+    let sent = send(&rt, &mut desk, 5, b"short");
     assert_eq!(rt; sent, Ok(0));
-    let sent = send(&rt, rt.alloc(), &mut slot, 2, &bytes);
+    let sent = send(&rt, &mut desk, 2, &bytes);
     assert_eq!(rt; sent, Ok(1));
-    let given = receive_as(&rt, &mut slot, 0, RECEIVER, Selector::UpTo(5), &mut out);
+    let given = receive_as(&rt, &mut desk, 0, RECEIVER, Selector::UpTo(5));
     assert_eq!(rt; given, Err(TakeRefused::TooLong));
-    assert_holds(&rt, &out, b"kept");
-    let given = receive_as(&rt, &mut slot, 0, RECEIVER, Selector::Exactly(5), &mut out);
-    assert_eq!(rt; given, Ok(delivery(5, b"short", 0)));
-    assert_eq!(rt; slot.counts(), (2, 1));
+    let given = receive_as(&rt, &mut desk, 0, RECEIVER, Selector::Exactly(5));
+    assert_eq!(rt; given, Ok(got(5, b"short", 0)));
+    assert_eq!(rt; desk.slot.counts(), (2, 1));
+    end_desk(&rt, desk, 2);
+}
+
+#[test]
+fn a_cut_text_gives_back_its_whole_chain(rt: HostRuntime) {
+    let mut desk = desk_with_queue(&rt, rt.alloc());
+    let sent = send(&rt, &mut desk, 1, &[b'x'; 130]);
+    assert_eq!(rt; sent, Ok(0));
+    assert_eq!(rt; desk.pool.free(), 509);
+    let given = receive(&rt, &mut desk, 1, true);
+    assert_eq!(rt; given, Ok(got(1, b"x", 0)));
+    assert_holds(&rt, &desk.out, b"x");
+    assert_eq!(rt; desk.pool.free(), 512);
+    end_desk(&rt, desk, 0);
+}
+
+#[test]
+fn a_slot_ends_with_the_blocks_of_what_waits(rt: HostRuntime) {
+    let mut desk = desk_with_queue(&rt, rt.alloc());
+    let bytes = [b'x'; 130];
+    for size in [0, 1, 64, 65, 130] {
+        assert!(rt; size <= bytes.len());
+        let sent = send(&rt, &mut desk, 1, &bytes[..size]);
+        assert!(rt; sent.is_ok(), "{size}");
+    }
+    assert_eq!(rt; desk.pool.free(), 505);
+    end_desk(&rt, desk, 7);
+}
+
+#[test]
+fn receipts_are_written_or_lost(rt: HostRuntime) {
+    let mut desk = desk_with_queue(&rt, rt.alloc());
+    let mut tally = Tally::open();
+    assert_eq!(rt; (tally.taken(), tally.written(), tally.lost()), (0, 0, 0));
+    for arrives in [true, false, true] {
+        let sent = send(&rt, &mut desk, 1, b"text");
+        assert!(rt; sent.is_ok());
+        let (_, freed) = desk.slot.counts();
+        assert!(rt; freed < 1 << 63);
+        match desk.slot.take(0, RECEIVER, Selector::Any, 9, false, 9) {
+            Ok(taken) => {
+                let (delivery, chain) = taken.finish(9, &mut desk.out);
+                give_back(&rt, &mut desk.pool, chain);
+                assert!(rt; tally.taken() < 3);
+                if arrives {
+                    delivery.written(&mut tally);
+                } else {
+                    delivery.lost(&mut tally);
+                }
+            }
+            Err(why) => panic!(&rt; "{why}"),
+        }
+    }
+    assert_eq!(rt; (tally.taken(), tally.written(), tally.lost()), (3, 2, 1));
+    end_desk(&rt, desk, 0);
 }
 
 #[test]
 fn a_probe_asks_what_the_mode_asks(rt: HostRuntime) {
-    let slot = slot_with_shared_queue(&rt, rt.alloc());
+    let desk = desk_with_shared_queue(&rt, rt.alloc());
     let table = [
         (SENDER, 0o777, Probe::Granted),
         (MEMBER, 0o640, Probe::Denied),
@@ -412,18 +567,23 @@ fn a_probe_asks_what_the_mode_asks(rt: HostRuntime) {
     ];
     for (cred, bits, found) in table {
         let flags = Flags::from_bits_retain(bits);
-        assert_eq!(rt; slot.probe(0, cred, flags), found, "{cred:?} {bits}");
-        assert_eq!(rt; slot.probe(64, cred, flags), Probe::Gone, "{cred:?} {bits}");
+        assert_eq!(rt; desk.slot.probe(0, cred, flags), found, "{cred:?} {bits}");
+        assert_eq!(rt;
+            desk.slot.probe(64, cred, flags),
+            Probe::Gone,
+            "{cred:?} {bits}"
+        );
     }
+    end_desk(&rt, desk, 0);
 }
 
 #[test]
 fn a_queue_shows_its_attributes(rt: HostRuntime) {
-    let mut slot = open_slot(&rt, rt.alloc());
-    assert_eq!(rt; slot.row(), None);
-    assert_eq!(rt; slot.stat(64, SENDER), Err(Errno::EINVAL));
-    assert!(rt; slot.install(64, 3, SENDER, 0o640, 50));
-    let sent = send_as(&rt, rt.alloc(), &mut slot, 64, SENDER, 4, b"abc");
+    let mut desk = open_desk(&rt, rt.alloc());
+    assert_eq!(rt; desk.slot.row(), None);
+    assert_eq!(rt; desk.slot.stat(64, SENDER), Err(Errno::EINVAL));
+    assert!(rt; desk.slot.install(64, 3, SENDER, 0o640, 50));
+    let sent = send_as(&rt, &mut desk, 64, SENDER, 4, b"abc");
     assert_eq!(rt; sent, Ok(0));
     let shown = Stat {
         key: 3,
@@ -443,9 +603,9 @@ fn a_queue_shows_its_attributes(rt: HostRuntime) {
         rtime: 0,
         ctime: 50,
     };
-    assert_eq!(rt; slot.stat(64, MEMBER), Ok(shown));
-    assert_eq!(rt; slot.stat(64, STRANGER), Err(Errno::EACCES));
-    assert_eq!(rt; slot.stat(0, STRANGER), Err(Errno::EINVAL));
+    assert_eq!(rt; desk.slot.stat(64, MEMBER), Ok(shown));
+    assert_eq!(rt; desk.slot.stat(64, STRANGER), Err(Errno::EACCES));
+    assert_eq!(rt; desk.slot.stat(0, STRANGER), Err(Errno::EINVAL));
     let row = Row {
         id: 64,
         key: 3,
@@ -454,5 +614,6 @@ fn a_queue_shows_its_attributes(rt: HostRuntime) {
         cbytes: 3,
         qnum: 1,
     };
-    assert_eq!(rt; slot.row(), Some(row));
+    assert_eq!(rt; desk.slot.row(), Some(row));
+    end_desk(&rt, desk, 1);
 }

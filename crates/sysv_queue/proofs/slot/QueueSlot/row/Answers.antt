@@ -1,8 +1,6 @@
-use Rattle.std.proofs.Common.{◌≡◌, Option, None, Some, map, option_map, length, refl, sym, ap, ◌∙◌, arith, rules, w32, FitsSigned}
+use Rattle.std.proofs.Common.{option_map, sym, ap, ◌∙◌, rules, w32, FitsSigned}
 use Rattle.std.proofs.lemmas.Int.{to_z-of_z}
-use Rattle.std.proofs.lemmas.List.{length-map}
 use Rattle.sysv_model.specs.declared.attributes.Attributes.{Attributes}
-use Rattle.sysv_queue.specs.Kept.{message_of, messages_of}
 use Rattle.sysv_queue.specs.Shown.{row_of}
 use Rattle.sysv_queue.proofs.Turns.{quiet_row}
 use Rattle.sysv_queue.proofs.Stands.{turn_quiet}
@@ -15,8 +13,8 @@ returns-in-Some c =
     let id_fits : FitsSigned w32 queue.id = search rules in
     let key_fits : FitsSigned w32 queue.key = search rules in
     let queue_messages = c.self.inside.messages in
-    let many = c.len.ensures ∙ (queue_messages.ok.0 ∙ sym (length-map queue_messages.items message_of)) in
-    record { turn = rw (to_z-of_z w32 queue.id id_fits, to_z-of_z w32 queue.key key_fits, ← c.self.view_is) (turn_quiet _ _ _ (quiet_row _) (row_shown (messages_of queue_messages.items) c.self.inside.live queue _ _ c.in-Some.is c.self.invariant.4 many)) }
+    let many = c.len.ensures ∙ queue_messages.ok.0 in
+    record { turn = rw (to_z-of_z w32 queue.id id_fits, to_z-of_z w32 queue.key key_fits, ← c.self.view_is) (turn_quiet _ _ _ (quiet_row _) (row_shown queue_messages.items c.self.inside.live queue _ _ c.in-Some.is c.self.invariant.4 many)) }
 
 pub returns-in-None : goal.returns-in-None
-returns-in-None c = record { turn = rw (← c.self.view_is) (turn_quiet _ _ _ (quiet_row _) (sym (ap (option_map (row_of (messages_of c.self.inside.messages.items))) c.in-None.is))) }
+returns-in-None c = record { turn = rw (← c.self.view_is) (turn_quiet _ _ _ (quiet_row _) (sym (ap (option_map (row_of c.self.inside.messages.items)) c.in-None.is))) }

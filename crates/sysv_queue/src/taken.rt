@@ -1,0 +1,53 @@
+ghost use Rattle.std.specs.Prelude.{◌≡◌, ◌≤◌, length};
+ghost use Rattle.sysv_model.specs.declared.limits.TheConstants.{MESSAGE_BYTES as most_bytes};
+ghost use Rattle.sysv_queue.specs.Blocks.{chain_of};
+ghost use Rattle.sysv_queue.specs.Delivery.{Gives};
+
+use crate::delivery::Delivery;
+use crate::waiting::Waiting;
+use std::marker::Model;
+use sysv_model::body::Body;
+use sysv_pool::chain::Chain;
+
+/// A message that was taken from its queue, with the chain that holds its text (POSIX.1-2017, `msgrcv`).
+/// It is seen as the message, and can be neither dropped nor copied: it is spent by `finish`.
+pub struct Taken {
+    pub(crate) message: Waiting,
+}
+
+impl Model for Taken {
+    ghost use Rattle.sysv_model.specs.Message.{Message};
+
+    ghost Value = { Message };
+
+    ghost view = { λ t. t.message };
+}
+
+impl Taken {
+    /// Clears `out` and writes the text to it, at most 8,192 bytes, or the first `size` bytes of a longer
+    /// one. The whole chain comes back. It takes no memory.
+    pub fn finish(self, size: u32, out: &mut Body) -> (Delivery, Chain)
+        ensures given { Gives result.0 self size out.new }
+        ensures short { length out.new ≤ most_bytes }
+        ensures chain { result.1 ≡ chain_of self.bytes }
+    {
+        let Taken { message } = self;
+        let Waiting {
+            number,
+            sender,
+            mtype,
+            len,
+            chain,
+        } = message;
+        let len = len.min(size as usize);
+        out.clear();
+        chain.copy_out(len, out);
+        let delivery = Delivery {
+            mtype,
+            len,
+            sender,
+            number,
+        };
+        (delivery, chain)
+    }
+}

@@ -1,0 +1,52 @@
+ghost use Rattle.std.specs.Prelude.{◌≡◌, ◌≤◌, length};
+ghost use Rattle.sysv_model.specs.declared.limits.TheConstants.{MESSAGE_BYTES as most_bytes};
+ghost use Rattle.sysv_queue.specs.Blocks.{chain_of};
+
+use std::marker::Model;
+use sysv_pool::chain::Chain;
+
+/// A message that waits, with the chain that holds its text.
+pub(crate) struct Waiting {
+    pub(crate) number: u64,
+    pub(crate) sender: u32,
+    pub(crate) mtype: i64,
+    pub(crate) len: usize,
+    pub(crate) chain: Chain,
+}
+
+impl Model for Waiting {
+    ghost use Rattle.std.specs.Prelude.{◌≡◌, ◌≤◌, length};
+    ghost use Rattle.sysv_model.specs.declared.limits.TheConstants.{MESSAGE_BYTES as most_bytes};
+    ghost use Rattle.sysv_model.specs.Message.{Message};
+    ghost use Rattle.sysv_queue.specs.Blocks.{chain_of};
+
+    ghost Value = { Message };
+
+    ghost view = { λ w. record { number = w.number; sender = w.sender; mtype = w.mtype; bytes = w.chain.bytes } };
+
+    ghost invariant = { λ w. (w.len ≡ length w.chain.bytes) × (w.len ≤ most_bytes) × (w.chain ≡ chain_of w.chain.bytes) };
+}
+
+impl Waiting {
+    /// The bytes of its text.
+    pub(crate) fn len(&self) -> usize
+        ensures value { result ≡ length self.now.bytes }
+        ensures short { result ≤ most_bytes }
+    {
+        self.len
+    }
+
+    /// The chain that holds its text.
+    pub(crate) fn into_chain(self) -> Chain
+        ensures { result ≡ chain_of self.bytes }
+    {
+        let Waiting {
+            number: _,
+            sender: _,
+            mtype: _,
+            len: _,
+            chain,
+        } = self;
+        chain
+    }
+}
