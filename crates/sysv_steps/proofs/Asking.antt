@@ -1,25 +1,24 @@
 -- Each deed of a play is what the call asked for.
-use Rattle.std.proofs.Common.{◌≡◌, ℕ, ℤ, ◌⊎◌, inl, inr, Bool, true, false, List, [], ◌∷◌, ◌++◌, Option, Some, None, cond, length, sum_by, refl, sym, ap, subst, ◌∙◌, arith}
-use Rattle.std.specs.List.{All}
+use Rattle.std.proofs.Common.{◌≡◌, ℕ, ℤ, ◌+◌, inl, inr, Bool, true, false, List, [], ◌∷◌, ◌++◌, Option, Some, None, cond, length, refl, sym, ap, subst, arith}
 use Rattle.std.proofs.lemmas.List.Elements.{All-push}
 use Rattle.sysv_model.specs.declared.cred.Cred.{Cred}
-use Rattle.sysv_model.specs.declared.errno.Errno.TheVariants.{EINVAL}
+use Rattle.sysv_model.specs.declared.errno.Errno.{Errno}
+use Rattle.sysv_model.specs.declared.errno.Errno.TheVariants.{EINVAL, EAGAIN, ENOMSG}
 use Rattle.sysv_model.specs.declared.flags.Flags.{Flags}
 use Rattle.sysv_model.specs.declared.flags.TheConstants.Flags.{MSG_NOERROR}
 use Rattle.sysv_model.specs.declared.attributes.SetTo.{SetTo}
 use Rattle.sysv_model.specs.HasFlag.{has_flag}
 use Rattle.sysv_model.specs.Selector.{selector_for}
-use Rattle.sysv_model.specs.Message.{Message}
-use Rattle.sysv_model.specs.History.{Reply, Gone, Fits, Installed, Discarded, Install, Probe}
+use Rattle.sysv_model.specs.History.{Reply, Gone, Full, Fits, NoMatch, Installed, Discarded, Install, Probe}
 use Rattle.sysv_model.specs.Registry.{Begin, Forget, RegistryReply, Found, Made, Busy, Changed}
-use Rattle.sysv_model.specs.Pool.{Reserve, PoolReply, Reserved, Released, Foreign, blocks_for}
+use Rattle.sysv_model.specs.Pool.{Reserve, PoolReply, Reserved, TooFew, Released, Foreign}
 use Rattle.sysv_model.specs.Turn.{OfSlot, OfRegistry, OfPool, Deed, AtSlot, AtRegistry, AtPool, asked_by}
-use Rattle.sysv_steps.specs.SlotAt.{slot_at}
+use Rattle.sysv_keys.specs.Identifier.{slot_of_id}
 use Rattle.sysv_steps.specs.Call.{SystemCall, Msgget, Msgsnd, Msgrcv, MsgctlStat, MsgctlSet, MsgctlRmid}
-use Rattle.sysv_steps.specs.State.{Getting, Sending, Receiving, Wait, OnSettled, OnFreed, OnReleased, OnArrived, Afterwards, IsRefused, WaitsOn, Phase, AtBegin, AtInstall, AtSettle, AtProbe, AtUnmake, AtLook, AtReserve, AtPlace, AtSendGiveback, AtTake, AtReceiveGiveback, AtStat, AtSet, AtSetGiveback, AtRemove, AtForget, AtRemoveGiveback, Ending, Zero, Refused, State, Goes, Waits, Over}
+use Rattle.sysv_steps.specs.State.{Getting, Sending, Receiving, Wait, OnSettled, OnFreed, OnReleased, OnArrived, Afterwards, IsRefused, WaitsOn, Phase, AtBegin, AtInstall, AtSettle, AtProbe, AtUnmake, AtLook, AtReserve, AtPlace, AtSendGiveback, AtTake, AtReceiveGiveback, AtStat, AtSet, AtSetGiveback, AtRemove, AtForget, AtRemoveGiveback, Ending, Zero, Got, Refused, State, Goes, Waits, Over}
 use Rattle.sysv_steps.specs.Begin.{is_refused, first, begin}
 use Rattle.sysv_steps.specs.Asks.{asks}
-use Rattle.sysv_steps.specs.Next.{next, after_begin, after_install, after_settle, after_unmake, after_probe, goes_on, after_look, after_reserve, after_place, given, after_take, after_stat, after_set, after_remove, after_forget, after_giveback}
+use Rattle.sysv_steps.specs.Next.{next, is_full, after_begin, after_install, after_settle, after_unmake, after_probe, waits_or, goes_on, after_look, after_reserve, after_place, after_take, after_stat, after_set, after_remove, after_forget, after_giveback}
 use Rattle.sysv_steps.specs.Resume.{resume}
 use Rattle.sysv_steps.specs.Played.{Plays, begins, steps, resumes}
 use Rattle.sysv_steps.specs.AsksFor.{AsksFor, AllAskFor}
@@ -64,13 +63,13 @@ PhaseOf cred (Msgsnd id mtype flags text) (AtReserve send) = IsSend cred id mtyp
 PhaseOf cred (Msgsnd id mtype flags text) (AtPlace send blocks) = IsSend cred id mtype text send
 PhaseOf cred (Msgsnd id mtype flags text) (AtSendGiveback blocks afterwards) = AfterOf cred (Msgsnd id mtype flags text) afterwards
 PhaseOf cred (Msgrcv id size mtype flags) (AtTake receive) = IsReceive cred id size mtype flags receive
-PhaseOf cred (Msgrcv id size mtype flags) (AtReceiveGiveback wanted message) = Unit {0}
+PhaseOf cred (Msgrcv id size mtype flags) (AtReceiveGiveback blocks type text) = Unit {0}
 PhaseOf cred (MsgctlStat id) (AtStat by at) = (by ≡ cred) × (at ≡ id)
 PhaseOf cred (MsgctlSet id to) (AtSet by at what) = (by ≡ cred) × (at ≡ id) × (what ≡ to)
 PhaseOf cred (MsgctlSet id to) AtSetGiveback = Unit {0}
 PhaseOf cred (MsgctlRmid id) (AtRemove by at) = (by ≡ cred) × (at ≡ id)
-PhaseOf cred (MsgctlRmid id) (AtForget at messages) = at ≡ id
-PhaseOf cred (MsgctlRmid id) (AtRemoveGiveback messages) = Unit {0}
+PhaseOf cred (MsgctlRmid id) (AtForget at blocks) = at ≡ id
+PhaseOf cred (MsgctlRmid id) (AtRemoveGiveback blocks) = Unit {0}
 PhaseOf cred asked phase = ⊥
 
 abbrev StateOf : Cred → SystemCall → State → Type 0
@@ -94,6 +93,15 @@ begun_of cred (MsgctlSet id to) released false = (refl, refl, refl)
 begun_of cred (MsgctlRmid id) released false = (refl, refl)
 
 module _ (cred : Cred) where
+  -- a call that waits holds what it held, at once or once it has given back its chain
+  after_keeps : (asked : SystemCall) (nowait : Bool) (wait : Wait) (why : Errno) → WaitOf cred asked wait → AfterOf cred asked (waits_or nowait wait why)
+  after_keeps asked true wait why h = tt
+  after_keeps asked false wait why h = h
+
+  waits_keep : (asked : SystemCall) (nowait : Bool) (wait : Wait) (why : Errno) → WaitOf cred asked wait → StateOf cred asked (goes_on (waits_or nowait wait why))
+  waits_keep asked true wait why h = tt
+  waits_keep asked false wait why h = h
+
   -- msgget
   begin_keeps : (key : ℤ) (flags : Flags) (get : Getting) (reply : RegistryReply) → IsGet cred key flags get → NextOf cred (Msgget key flags) (after_begin get reply)
   begin_keeps key flags get (Found id settled) h = h
@@ -128,17 +136,26 @@ module _ (cred : Cred) where
 
   -- msgsnd
   module _ (id mtype : ℤ) (flags : Flags) (text : List ℕ) where
+    full_keeps : (send : Sending) (freed : ℕ) → IsSend cred id mtype text send → StateOf cred (Msgsnd id mtype flags text) (goes_on (is_full send freed))
+    full_keeps send freed h =
+        waits_keep (Msgsnd id mtype flags text) send.nowait (OnFreed (freed + 1) (record send { seen = true })) EAGAIN
+        record { cred = h.cred; id = h.id; mtype = h.mtype; text = h.text }
+
     look_keeps : (send : Sending) (reply : Reply) → IsSend cred id mtype text send → NextOf cred (Msgsnd id mtype flags text) (after_look send reply)
+    look_keeps send (Full freed) h = full_keeps send freed h
     look_keeps send Fits h = record { cred = h.cred; id = h.id; mtype = h.mtype; text = h.text }
     look_keeps send reply h = tt
 
     reserve_keeps : (send : Sending) (reply : PoolReply) → IsSend cred id mtype text send → NextOf cred (Msgsnd id mtype flags text) (after_reserve send reply)
     reserve_keeps send (Reserved blocks) h = h
+    reserve_keeps send TooFew h = waits_keep (Msgsnd id mtype flags text) send.nowait (OnReleased (send.released + 1) send) EAGAIN h
     reserve_keeps send reply h = tt
 
-    place_keeps : (send : Sending) (blocks : ℕ) (reply : Reply) → NextOf cred (Msgsnd id mtype flags text) (after_place send blocks reply)
-    place_keeps send blocks Gone = tt
-    place_keeps send blocks reply = tt
+    place_keeps : (send : Sending) (blocks : ℕ) (reply : Reply) → IsSend cred id mtype text send → NextOf cred (Msgsnd id mtype flags text) (after_place send blocks reply)
+    place_keeps send blocks (Full freed) h =
+        after_keeps (Msgsnd id mtype flags text) send.nowait (OnFreed (freed + 1) (record send { seen = true })) EAGAIN
+        record { cred = h.cred; id = h.id; mtype = h.mtype; text = h.text }
+    place_keeps send blocks reply h = tt
 
     giveback_keeps : (afterwards : Afterwards) (reply : PoolReply) → AfterOf cred (Msgsnd id mtype flags text) afterwards → NextOf cred (Msgsnd id mtype flags text) (after_giveback (goes_on afterwards) reply)
     giveback_keeps (IsRefused why) Released h = tt
@@ -150,22 +167,24 @@ module _ (cred : Cred) where
     sent : (phase : Phase) (deed : Deed) → PhaseOf cred (Msgsnd id mtype flags text) phase → NextOf cred (Msgsnd id mtype flags text) (next phase deed)
     sent (AtLook send) (AtSlot slot call reply) h = look_keeps send reply h
     sent (AtReserve send) (AtPool call reply) h = reserve_keeps send reply h
-    sent (AtPlace send blocks) (AtSlot slot call reply) h = place_keeps send blocks reply
+    sent (AtPlace send blocks) (AtSlot slot call reply) h = place_keeps send blocks reply h
     sent (AtSendGiveback blocks afterwards) (AtPool call reply) h = giveback_keeps afterwards reply h
     sent phase deed h = search h
 
   -- msgrcv
-  take_keeps : (id : ℤ) (size : ℕ) (mtype : ℤ) (flags : Flags) (receive : Receiving) (reply : Reply) → NextOf cred (Msgrcv id size mtype flags) (after_take receive reply)
-  take_keeps id size mtype flags receive Gone = tt
-  take_keeps id size mtype flags receive reply = tt
+  take_keeps : (id : ℤ) (size : ℕ) (mtype : ℤ) (flags : Flags) (receive : Receiving) (reply : Reply) → IsReceive cred id size mtype flags receive → NextOf cred (Msgrcv id size mtype flags) (after_take receive reply)
+  take_keeps id size mtype flags receive (NoMatch arrived) h =
+      waits_keep (Msgrcv id size mtype flags) receive.nowait (OnArrived (arrived + 1) (record receive { seen = true })) ENOMSG
+      record { cred = h.cred; id = h.id; selector = h.selector; size = h.size; noerror = h.noerror }
+  take_keeps id size mtype flags receive reply h = tt
 
   over_keeps : (asked : SystemCall) (ending : Ending) (reply : PoolReply) → NextOf cred asked (after_giveback (Over ending) reply)
   over_keeps asked ending Released = tt
   over_keeps asked ending reply = tt
 
   received : (id : ℤ) (size : ℕ) (mtype : ℤ) (flags : Flags) (phase : Phase) (deed : Deed) → PhaseOf cred (Msgrcv id size mtype flags) phase → NextOf cred (Msgrcv id size mtype flags) (next phase deed)
-  received id size mtype flags (AtTake receive) (AtSlot slot call reply) h = take_keeps id size mtype flags receive reply
-  received id size mtype flags (AtReceiveGiveback wanted message) (AtPool call reply) h = over_keeps (Msgrcv id size mtype flags) (given wanted message) reply
+  received id size mtype flags (AtTake receive) (AtSlot slot call reply) h = take_keeps id size mtype flags receive reply h
+  received id size mtype flags (AtReceiveGiveback blocks type text) (AtPool call reply) h = over_keeps (Msgrcv id size mtype flags) (Got type text) reply
   received id size mtype flags phase deed h = search h
 
   -- msgctl
@@ -181,9 +200,9 @@ module _ (cred : Cred) where
   remove_keeps id at (Discarded messages) h = h
   remove_keeps id at reply h = tt
 
-  forget_keeps : (id : ℤ) (messages : List Message) (reply : RegistryReply) → NextOf cred (MsgctlRmid id) (after_forget messages reply)
-  forget_keeps id messages (Changed done) = tt
-  forget_keeps id messages reply = tt
+  forget_keeps : (id : ℤ) (blocks : ℕ) (reply : RegistryReply) → NextOf cred (MsgctlRmid id) (after_forget blocks reply)
+  forget_keeps id blocks (Changed done) = tt
+  forget_keeps id blocks reply = tt
 
   told : (id : ℤ) (phase : Phase) (deed : Deed) → PhaseOf cred (MsgctlStat id) phase → NextOf cred (MsgctlStat id) (next phase deed)
   told id (AtStat by at) (AtSlot slot call reply) h = stat_keeps id reply
@@ -196,8 +215,8 @@ module _ (cred : Cred) where
 
   removed : (id : ℤ) (phase : Phase) (deed : Deed) → PhaseOf cred (MsgctlRmid id) phase → NextOf cred (MsgctlRmid id) (next phase deed)
   removed id (AtRemove by at) (AtSlot slot call reply) h = remove_keeps id at reply h.1
-  removed id (AtForget at messages) (AtRegistry call reply) h = forget_keeps id messages reply
-  removed id (AtRemoveGiveback messages) (AtPool call reply) h = over_keeps (MsgctlRmid id) Zero reply
+  removed id (AtForget at blocks) (AtRegistry call reply) h = forget_keeps id blocks reply
+  removed id (AtRemoveGiveback blocks) (AtPool call reply) h = over_keeps (MsgctlRmid id) Zero reply
   removed id phase deed h = search h
 
   keeps : (asked : SystemCall) (phase : Phase) (deed : Deed) → PhaseOf cred asked phase → NextOf cred asked (next phase deed)
@@ -219,9 +238,9 @@ module _ (cred : Cred) where
 
   asks_so : (asked : SystemCall) (phase : Phase) (now : ℕ) → PhaseOf cred asked phase → AsksFor cred asked (asks phase now)
   asks_so (Msgget key flags) (AtBegin get) now h = inl (ap (λ (g : Getting). OfRegistry (Begin g.key g.flags)) h.is)
-  asks_so (Msgget key flags) (AtInstall get id) now h = inr (inl (id, now, ap (λ (g : Getting). OfSlot (slot_at id) (Install id g.key g.cred g.flags.0 now)) h.is))
+  asks_so (Msgget key flags) (AtInstall get id) now h = inr (inl (id, now, ap (λ (g : Getting). OfSlot (slot_of_id id) (Install id g.key g.cred g.flags.0 now)) h.is))
   asks_so (Msgget key flags) (AtSettle id) now h = inr (inr (inl (id, refl)))
-  asks_so (Msgget key flags) (AtProbe get id settled) now h = inr (inr (inr (inl (id, ap (λ (g : Getting). OfSlot (slot_at id) (Probe id g.cred g.flags)) h.is))))
+  asks_so (Msgget key flags) (AtProbe get id settled) now h = inr (inr (inr (inl (id, ap (λ (g : Getting). OfSlot (slot_of_id id) (Probe id g.cred g.flags)) h.is))))
   asks_so (Msgget key flags) (AtUnmake id) now h = inr (inr (inr (inr (id, refl))))
   asks_so (Msgsnd id mtype flags text) (AtLook send) now h = let i = h.id in let c = h.cred in let t = h.text in inl cc
   asks_so (Msgsnd id mtype flags text) (AtReserve send) now h = inr (inl (ap (λ (t : List ℕ). OfPool (Reserve (length t))) h.text))
@@ -229,13 +248,13 @@ module _ (cred : Cred) where
   asks_so (Msgsnd id mtype flags text) (AtSendGiveback blocks afterwards) now h = inr (inr (inr (blocks, refl)))
   asks_so (Msgrcv id size mtype flags) (AtTake receive) now h =
       let i = h.id in let c = h.cred in let s = h.selector in let z = h.size in let n = h.noerror in inl (now, cc)
-  asks_so (Msgrcv id size mtype flags) (AtReceiveGiveback wanted message) now h = inr (blocks_for (length message.bytes), refl)
+  asks_so (Msgrcv id size mtype flags) (AtReceiveGiveback blocks type text) now h = inr (blocks, refl)
   asks_so (MsgctlStat id) (AtStat by at) now h = let c = h.0 in let i = h.1 in cc
   asks_so (MsgctlSet id to) (AtSet by at what) now h = let c = h.0 in let i = h.1 in let t = h.2 in inl (now, cc)
   asks_so (MsgctlSet id to) AtSetGiveback now h = inr (0, refl)
   asks_so (MsgctlRmid id) (AtRemove by at) now h = let c = h.0 in let i = h.1 in inl cc
-  asks_so (MsgctlRmid id) (AtForget at messages) now h = inr (inl (ap (λ (i : ℤ). OfRegistry (Forget i)) h))
-  asks_so (MsgctlRmid id) (AtRemoveGiveback messages) now h = inr (inr (sum_by (λ (m : Message). blocks_for (length m.bytes)) messages, refl))
+  asks_so (MsgctlRmid id) (AtForget at blocks) now h = inr (inl (ap (λ (i : ℤ). OfRegistry (Forget i)) h))
+  asks_so (MsgctlRmid id) (AtRemoveGiveback blocks) now h = inr (inr (blocks, refl))
   asks_so asked phase now h = absurd h
 
 -- ---- along a play

@@ -1,16 +1,17 @@
 -- Two plays of the same deeds stand at the same place but for the released count that a send has read, and
 -- for a wait that one of them has left: so they end alike.
-use Rattle.std.proofs.Common.{◌≡◌, ℕ, Bool, true, false, List, [], ◌∷◌, ◌++◌, Option, Some, None, cond, refl, sym, ap, ◌∙◌}
+use Rattle.std.proofs.Common.{◌≡◌, ℕ, ◌+◌, Bool, true, false, List, [], ◌∷◌, ◌++◌, Option, Some, None, cond, refl, sym, ap, ◌∙◌}
 use Rattle.sysv_model.specs.declared.cred.Cred.{Cred}
-use Rattle.sysv_model.specs.declared.errno.Errno.TheVariants.{EINVAL}
-use Rattle.sysv_model.specs.History.{Reply, Fits}
+use Rattle.sysv_model.specs.declared.errno.Errno.{Errno}
+use Rattle.sysv_model.specs.declared.errno.Errno.TheVariants.{EAGAIN, EINVAL}
+use Rattle.sysv_model.specs.History.{Reply, Full, Fits}
 use Rattle.sysv_model.specs.Registry.{RegistryReply}
 use Rattle.sysv_model.specs.Pool.{PoolReply, TooFew, Released, Foreign}
 use Rattle.sysv_model.specs.Turn.{Deed, AtSlot, AtRegistry, AtPool}
 use Rattle.sysv_steps.specs.Call.{SystemCall, Msgget, Msgsnd, Msgrcv, MsgctlStat, MsgctlSet, MsgctlRmid}
-use Rattle.sysv_steps.specs.State.{Getting, Sending, Receiving, Wait, OnSettled, OnFreed, OnReleased, OnArrived, Afterwards, IsRefused, WaitsOn, Phase, AtBegin, AtInstall, AtSettle, AtProbe, AtUnmake, AtLook, AtReserve, AtPlace, AtSendGiveback, AtTake, AtReceiveGiveback, AtStat, AtSet, AtSetGiveback, AtRemove, AtForget, AtRemoveGiveback, Ending, Refused, State, Goes, Waits, Over}
+use Rattle.sysv_steps.specs.State.{Sending, Wait, OnSettled, OnFreed, OnReleased, OnArrived, Afterwards, IsRefused, WaitsOn, Phase, AtBegin, AtLook, AtReserve, AtPlace, AtSendGiveback, Ending, Refused, State, Goes, Waits, Over}
 use Rattle.sysv_steps.specs.Begin.{is_refused, first, begin}
-use Rattle.sysv_steps.specs.Next.{next, next_of_slot, next_of_registry, next_of_pool, after_look, after_reserve, after_place, after_giveback, goes_on}
+use Rattle.sysv_steps.specs.Next.{next, next_of_slot, next_of_registry, next_of_pool, after_look, after_reserve, after_place, after_giveback, waits_or, goes_on, is_full}
 use Rattle.sysv_steps.specs.Resume.{resume}
 use Rattle.sysv_steps.specs.Played.{Plays, begins, steps, resumes}
 
@@ -48,16 +49,31 @@ core_of (Some state) = Some (core state)
 
 -- ---- the table on it
 
+waits_alike : (nowait : Bool) (one other : Wait) (why : Errno) → core (Waits one) ≡ core (Waits other) → core (goes_on (waits_or nowait one why)) ≡ core (goes_on (waits_or nowait other why))
+waits_alike true one other why e = refl
+waits_alike false one other why e = e
+
+after_alike : (nowait : Bool) (one other : Wait) (why : Errno) → bare_wait one ≡ bare_wait other → bare_after (waits_or nowait one why) ≡ bare_after (waits_or nowait other why)
+after_alike true one other why e = refl
+after_alike false one other why e = ap WaitsOn e
+
+full_core : (send : Sending) (freed : ℕ) → core_of (Some (goes_on (is_full (bare send) freed))) ≡ core_of (Some (goes_on (is_full send freed)))
+full_core send freed =
+    ap Some (waits_alike send.nowait (OnFreed (freed + 1) (record (bare send) { seen = true })) (OnFreed (freed + 1) (record send { seen = true })) EAGAIN refl)
+
 look_core : (send : Sending) (reply : Reply) → core_of (after_look (bare send) reply) ≡ core_of (after_look send reply)
+look_core send (Full freed) = full_core send freed
 look_core send Fits = refl
 look_core send reply = refl
 
 place_core : (send : Sending) (blocks : ℕ) (reply : Reply) → core_of (after_place (bare send) blocks reply) ≡ core_of (after_place send blocks reply)
-place_core send blocks Fits = refl
+place_core send blocks (Full freed) =
+    ap (λ (a : Afterwards). Some (Goes (AtSendGiveback blocks a)))
+    (after_alike send.nowait (OnFreed (freed + 1) (record (bare send) { seen = true })) (OnFreed (freed + 1) (record send { seen = true })) EAGAIN refl)
 place_core send blocks reply = refl
 
 reserve_core : (send : Sending) (reply : PoolReply) → core_of (after_reserve (bare send) reply) ≡ core_of (after_reserve send reply)
-reserve_core send TooFew = refl
+reserve_core send TooFew = ap Some (waits_alike send.nowait (OnReleased 1 (bare send)) (OnReleased (send.released + 1) send) EAGAIN refl)
 reserve_core send reply = refl
 
 waits_core : (wait : Wait) → core (goes_on (bare_after (WaitsOn wait))) ≡ core (goes_on (WaitsOn wait))

@@ -1,4 +1,14 @@
+pub mod Among
 pub mod Sends
 pub mod Receives
 pub mod Asking
 pub mod Deciding
+pub mod Gets
+pub mod Controls
+pub mod Removals
+pub mod Waiting
+pub mod Tending
+pub mod Patience
+pub mod WorkedPlays
+pub mod Holding
+pub mod Reading

@@ -1,36 +1,52 @@
--- A send that plays to its end is answered right: it looks once and places once, and each reply says
--- what it answers.
-use Rattle.std.proofs.Common.{◌≡◌, ℕ, ℤ, ◌||◌, inl, inr, Bool, true, false, List, [], ◌∷◌, ◌++◌, Some, cond, refl, sym, ap, subst, ◌∙◌, arith}
+-- A send that plays to its end is answered right. As long as it is under way, nothing of it was accepted,
+-- its identifier was not found gone, and it remembers whether it was found live; one that does not wait has
+-- met no want of room.
+use Rattle.std.proofs.Common.{◌≡◌, ℕ, ℤ, ◌+◌, inl, inr, Bool, true, false, List, [], ◌∷◌, ◌++◌, Some, cond, refl, sym, subst, ◌∙◌, arith}
+use Rattle.std.specs.List.{list_any}
 use Rattle.sysv_model.specs.declared.cred.Cred.{Cred}
-use Rattle.sysv_model.specs.declared.errno.Errno.TheVariants.{EACCES, EAGAIN, EIDRM, EINVAL}
+use Rattle.sysv_model.specs.declared.errno.Errno.TheVariants.{EACCES, EAGAIN, EINVAL}
 use Rattle.sysv_model.specs.declared.flags.Flags.{Flags}
 use Rattle.sysv_model.specs.declared.flags.TheConstants.Flags.{IPC_NOWAIT}
 use Rattle.sysv_model.specs.HasFlag.{has_flag}
 use Rattle.sysv_model.specs.History.{Call, Reply, Gone, Denied, Full, Fits, Accepted}
-use Rattle.sysv_model.specs.Turn.{Deed, AtSlot, AtRegistry, AtPool}
-use Rattle.sysv_steps.specs.Call.{SystemCall, Msgsnd}
-use Rattle.sysv_steps.specs.State.{Sending, Phase, AtLook, AtPlace, Ending, Zero, Refused, State, Goes, Waits, Over}
+use Rattle.sysv_model.specs.Pool.{PoolCall, PoolReply, Reserved, TooFew, Released, Foreign}
+use Rattle.sysv_model.specs.Turn.{Deed, AtSlot, AtPool}
+use Rattle.sysv_steps.specs.Call.{Msgsnd}
+use Rattle.sysv_steps.specs.State.{Sending, Wait, OnFreed, OnReleased, Afterwards, IsRefused, WaitsOn, Phase, AtLook, AtReserve, AtPlace, AtSendGiveback, Ending, Zero, Refused, State, Goes, Waits, Over}
 use Rattle.sysv_steps.specs.Begin.{is_refused, first, begin}
-use Rattle.sysv_steps.specs.Next.{next, gone}
+use Rattle.sysv_steps.specs.Next.{next, next_of_slot, gone, waits_or, goes_on, is_full}
+use Rattle.sysv_steps.specs.Resume.{resume}
 use Rattle.sysv_steps.specs.Played.{Plays, begins, steps, resumes}
-use Rattle.sysv_steps.specs.Answers.{IsRightSend}
-
-pub or_true : (b : Bool) → (b || true) ≡ true
-or_true true = refl
-or_true false = refl
+use Rattle.sysv_steps.specs.Answers.{was_accepted, was_full, was_denied, found_gone, found_live, IsRightSend}
+use Rattle.sysv_steps.proofs.Among.{apart, kept, found, once_at_most, once_still}
 
 module _ (id mtype : ℤ) (flags : Flags) (text : List ℕ) where
-  abbrev the_call : SystemCall
-  the_call = Msgsnd id mtype flags text
-
   abbrev IsRight : List Deed → Ending → Type 0
   IsRight deeds ending = IsRightSend (Msgsnd id mtype flags text) flags deeds ending
 
+  pub record UnderWay (send : Sending) (deeds : List Deed) : Type 0 where
+    pub allowed : is_refused (Msgsnd id mtype flags text) ≡ false
+    pub nowait : send.nowait ≡ has_flag IPC_NOWAIT flags
+    pub accepted : list_any was_accepted deeds ≡ false
+    pub full : send.nowait ≡ true → list_any was_full deeds ≡ false
+    pub denied : list_any was_denied deeds ≡ false
+    pub gone : list_any found_gone deeds ≡ false
+    pub live : list_any found_live deeds ≡ send.seen
+
+  -- what it does once it has given back its chain
+  abbrev pub AfterAt : List Deed → Afterwards → Type 0
+  AfterAt deeds (IsRefused why) = IsRight deeds (Refused why)
+  AfterAt deeds (WaitsOn (OnFreed goal send)) = UnderWay send deeds
+  AfterAt deeds (WaitsOn wait) = ⊥
+
   -- where a send stands after these deeds
-  abbrev SendAt : List Deed → State → Type 0
-  SendAt deeds (Goes (AtLook send)) = (is_refused (Msgsnd id mtype flags text) ≡ false) × (deeds ≡ []) × (send.seen ≡ false)
-  SendAt deeds (Goes (AtPlace send blocks)) =
-      (is_refused (Msgsnd id mtype flags text) ≡ false) × ((slot : ℕ) × (call : Call) × (deeds ≡ AtSlot slot call Fits ∷ [])) × (send.seen ≡ true)
+  abbrev pub SendAt : List Deed → State → Type 0
+  SendAt deeds (Goes (AtLook send)) = UnderWay send deeds
+  SendAt deeds (Goes (AtReserve send)) = UnderWay send deeds
+  SendAt deeds (Goes (AtPlace send blocks)) = UnderWay send deeds
+  SendAt deeds (Goes (AtSendGiveback blocks afterwards)) = AfterAt deeds afterwards
+  SendAt deeds (Waits (OnFreed goal send)) = UnderWay send deeds
+  SendAt deeds (Waits (OnReleased goal send)) = UnderWay send deeds
   SendAt deeds (Over ending) = IsRight deeds ending
   SendAt deeds state = ⊥
 
@@ -42,131 +58,279 @@ module _ (id mtype : ℤ) (flags : Flags) (text : List ℕ) where
     denied = (λ e. cc, λ t. cc);
     removed = (λ e. cc, λ t. cc);
     invalid = (λ e. inl r, λ t. refl);
-  }
-
-  look_gone : is_refused (Msgsnd id mtype flags text) ≡ false → (slot : ℕ) (call : Call) → IsRight (AtSlot slot call Gone ∷ []) (Refused EINVAL)
-  look_gone r slot call = record {
-    zero = (λ e. cc, λ t. cc);
-    once = omega arith;
-    again = (λ e. cc, λ t. cc);
-    denied = (λ e. cc, λ t. cc);
-    removed = (λ e. cc, λ t. cc);
-    invalid = (λ e. inr (refl, refl), λ t. refl);
-  }
-
-  look_denied : is_refused (Msgsnd id mtype flags text) ≡ false → (slot : ℕ) (call : Call) → IsRight (AtSlot slot call Denied ∷ []) (Refused EACCES)
-  look_denied r slot call = record {
-    zero = (λ e. cc, λ t. cc);
-    once = omega arith;
-    again = (λ e. cc, λ t. cc);
-    denied = (λ e. refl, λ t. refl);
-    removed = (λ e. cc, λ t. cc);
-    invalid = (λ e. cc, λ t. elim t [ inl a ↦ cc | inr b ↦ cc ]);
-  }
-
-  look_full : is_refused (Msgsnd id mtype flags text) ≡ false → (slot freed : ℕ) (call : Call) → IsRight (AtSlot slot call (Full freed) ∷ []) (Refused EAGAIN)
-  look_full r slot freed call = record {
-    zero = (λ e. cc, λ t. cc);
-    once = omega arith;
-    again = (λ e. (or_true (has_flag IPC_NOWAIT flags), refl), λ t. refl);
-    denied = (λ e. cc, λ t. cc);
-    removed = (λ e. cc, λ t. cc);
-    invalid = (λ e. cc, λ t. elim t [ inl a ↦ cc | inr b ↦ cc ]);
-  }
-
-  place_gone : is_refused (Msgsnd id mtype flags text) ≡ false → (slot at : ℕ) (call by : Call) → IsRight (AtSlot slot call Fits ∷ AtSlot at by Gone ∷ []) (Refused EIDRM)
-  place_gone r slot at call by = record {
-    zero = (λ e. cc, λ t. cc);
-    once = omega arith;
-    again = (λ e. cc, λ t. cc);
-    denied = (λ e. cc, λ t. cc);
-    removed = (λ e. (refl, refl), λ t. refl);
-    invalid = (λ e. cc, λ t. elim t [ inl a ↦ cc | inr b ↦ cc ]);
-  }
-
-  place_denied : is_refused (Msgsnd id mtype flags text) ≡ false → (slot at : ℕ) (call by : Call) → IsRight (AtSlot slot call Fits ∷ AtSlot at by Denied ∷ []) (Refused EACCES)
-  place_denied r slot at call by = record {
-    zero = (λ e. cc, λ t. cc);
-    once = omega arith;
-    again = (λ e. cc, λ t. cc);
-    denied = (λ e. refl, λ t. refl);
-    removed = (λ e. cc, λ t. cc);
-    invalid = (λ e. cc, λ t. elim t [ inl a ↦ cc | inr b ↦ cc ]);
-  }
-
-  place_full : is_refused (Msgsnd id mtype flags text) ≡ false → (slot at freed : ℕ) (call by : Call) → IsRight (AtSlot slot call Fits ∷ AtSlot at by (Full freed) ∷ []) (Refused EAGAIN)
-  place_full r slot at freed call by = record {
-    zero = (λ e. cc, λ t. cc);
-    once = omega arith;
-    again = (λ e. (or_true (has_flag IPC_NOWAIT flags), refl), λ t. refl);
-    denied = (λ e. cc, λ t. cc);
-    removed = (λ e. cc, λ t. cc);
-    invalid = (λ e. cc, λ t. elim t [ inl a ↦ cc | inr b ↦ cc ]);
-  }
-
-  placed : is_refused (Msgsnd id mtype flags text) ≡ false → (slot at number : ℕ) (call by : Call) → IsRight (AtSlot slot call Fits ∷ AtSlot at by (Accepted number) ∷ []) Zero
-  placed r slot at number call by = record {
-    zero = (λ e. refl, λ t. refl);
-    once = omega arith;
-    again = (λ e. cc, λ t. cc);
-    denied = (λ e. cc, λ t. cc);
-    removed = (λ e. cc, λ t. cc);
-    invalid = (λ e. cc, λ t. elim t [ inl a ↦ cc | inr b ↦ cc ]);
+    only = inr (inr (inr (inr (inl refl))));
   }
 
   started : (cred : Cred) (released : ℕ) (b : Bool) → is_refused (Msgsnd id mtype flags text) ≡ b → SendAt [] (cond b (Over (Refused EINVAL)) (Goes (first cred (Msgsnd id mtype flags text) released)))
   started cred released true r = refused_at_once r
-  started cred released false r = (r, refl, refl)
+  started cred released false r = record { allowed = r; nowait = refl; accepted = refl; full = λ n. refl; denied = refl; gone = refl; live = refl }
 
-  -- one more deed at a look
-  look_step : (deeds : List Deed) (send : Sending) (slot : ℕ) (call : Call) (reply : Reply) (after : State) → SendAt deeds (Goes (AtLook send)) →
-      next (AtLook send) (AtSlot slot call reply) ≡ Some after → SendAt (deeds ++ AtSlot slot call reply ∷ []) after
-  look_step deeds send slot call Gone after at n =
-      let e : Over (Refused (gone send.seen)) ≡ after = cc in
-      subst (λ ds. SendAt (ds ++ AtSlot slot call Gone ∷ []) after) (sym at.1)
-      (subst (SendAt (AtSlot slot call Gone ∷ [])) (ap (λ b. Over (Refused (gone b))) (sym at.2) ∙ e) (look_gone at.0 slot call))
-  look_step deeds send slot call Denied after at n =
-      let e : Over (Refused EACCES) ≡ after = cc in
-      subst (λ ds. SendAt (ds ++ AtSlot slot call Denied ∷ []) after) (sym at.1) (subst (SendAt (AtSlot slot call Denied ∷ [])) e (look_denied at.0 slot call))
-  look_step deeds send slot call (Full freed) after at n =
-      let e : Over (Refused EAGAIN) ≡ after = cc in
-      subst (λ ds. SendAt (ds ++ AtSlot slot call (Full freed) ∷ []) after) (sym at.1) (subst (SendAt (AtSlot slot call (Full freed) ∷ [])) e (look_full at.0 slot freed call))
-  look_step deeds send slot call Fits after at n =
-      let e : Goes (AtPlace (record send { seen = true }) 0) ≡ after = cc in
-      subst (SendAt (deeds ++ AtSlot slot call Fits ∷ [])) e (at.0, (slot, call, ap (λ ds. ds ++ AtSlot slot call Fits ∷ []) at.1), refl)
-  look_step deeds send slot call reply after at n = absurd cc
+  -- a deed of which no sentence speaks
+  record IsQuiet (deed : Deed) : Type 0 where
+    accepted : was_accepted deed ≡ false
+    full : was_full deed ≡ false
+    denied : was_denied deed ≡ false
+    gone : found_gone deed ≡ false
+    live : found_live deed ≡ false
 
-  -- one more deed at a place
-  place_step : (deeds : List Deed) (send : Sending) (blocks slot : ℕ) (call : Call) (reply : Reply) (after : State) → SendAt deeds (Goes (AtPlace send blocks)) →
-      next (AtPlace send blocks) (AtSlot slot call reply) ≡ Some after → SendAt (deeds ++ AtSlot slot call reply ∷ []) after
-  place_step deeds send blocks slot call Gone after at n =
-      let e : Over (Refused (gone send.seen)) ≡ after = cc in
-      subst (λ ds. SendAt (ds ++ AtSlot slot call Gone ∷ []) after) (sym at.1.2)
-      (subst (SendAt (AtSlot at.1.0 at.1.1 Fits ∷ AtSlot slot call Gone ∷ [])) (ap (λ b. Over (Refused (gone b))) (sym at.2) ∙ e) (place_gone at.0 at.1.0 slot at.1.1 call))
-  place_step deeds send blocks slot call Denied after at n =
-      let e : Over (Refused EACCES) ≡ after = cc in
-      subst (λ ds. SendAt (ds ++ AtSlot slot call Denied ∷ []) after) (sym at.1.2)
-      (subst (SendAt (AtSlot at.1.0 at.1.1 Fits ∷ AtSlot slot call Denied ∷ [])) e (place_denied at.0 at.1.0 slot at.1.1 call))
-  place_step deeds send blocks slot call (Full freed) after at n =
-      let e : Over (Refused EAGAIN) ≡ after = cc in
-      subst (λ ds. SendAt (ds ++ AtSlot slot call (Full freed) ∷ []) after) (sym at.1.2)
-      (subst (SendAt (AtSlot at.1.0 at.1.1 Fits ∷ AtSlot slot call (Full freed) ∷ [])) e (place_full at.0 at.1.0 slot freed at.1.1 call))
-  place_step deeds send blocks slot call (Accepted number) after at n =
-      let e : Over Zero ≡ after = cc in
-      subst (λ ds. SendAt (ds ++ AtSlot slot call (Accepted number) ∷ []) after) (sym at.1.2)
-      (subst (SendAt (AtSlot at.1.0 at.1.1 Fits ∷ AtSlot slot call (Accepted number) ∷ [])) e (placed at.0 at.1.0 slot number at.1.1 call))
-  place_step deeds send blocks slot call reply after at n = absurd cc
+  right_still : (deeds : List Deed) (deed : Deed) (ending : Ending) → IsQuiet deed → IsRight deeds ending → IsRight (deeds ++ deed ∷ []) ending
+  right_still deeds deed ending q r =
+      let a = kept was_accepted deeds deed q.accepted in
+      let f = kept was_full deeds deed q.full in
+      let d = kept was_denied deeds deed q.denied in
+      let g = kept found_gone deeds deed q.gone in
+      let l = kept found_live deeds deed q.live in
+      record {
+        zero = (λ e. a ∙ r.zero.0 e, λ t. r.zero.1 (sym a ∙ t));
+        once = once_still was_accepted deeds deed q.accepted r.once;
+        again = (λ e. ((r.again.0 e).0, f ∙ (r.again.0 e).1), λ t. r.again.1 (t.0, sym f ∙ t.1));
+        denied = (λ e. d ∙ r.denied.0 e, λ t. r.denied.1 (sym d ∙ t));
+        removed = (λ e. (g ∙ (r.removed.0 e).0, l ∙ (r.removed.0 e).1), λ t. r.removed.1 (sym g ∙ t.0, sym l ∙ t.1));
+        invalid = (
+          λ e. elim (r.invalid.0 e) [ inl i ↦ inl i | inr b ↦ inr (g ∙ b.0, l ∙ b.1) ],
+          λ t. elim t [ inl i ↦ r.invalid.1 (inl i) | inr b ↦ r.invalid.1 (inr (sym g ∙ b.0, sym l ∙ b.1)) ],
+        );
+        only = r.only;
+      }
+
+  under_way_still : (send : Sending) (deeds : List Deed) (deed : Deed) → IsQuiet deed → UnderWay send deeds → UnderWay send (deeds ++ deed ∷ [])
+  under_way_still send deeds deed q u = record {
+    allowed = u.allowed;
+    nowait = u.nowait;
+    accepted = kept was_accepted deeds deed q.accepted ∙ u.accepted;
+    full = λ t. kept was_full deeds deed q.full ∙ u.full t;
+    denied = kept was_denied deeds deed q.denied ∙ u.denied;
+    gone = kept found_gone deeds deed q.gone ∙ u.gone;
+    live = kept found_live deeds deed q.live ∙ u.live;
+  }
+
+  -- ---- its turns at the pool
+
+  module _ (send : Sending) (deeds : List Deed) (u : UnderWay send deeds) (call : PoolCall) where
+    few_right : send.nowait ≡ true → IsRight (deeds ++ AtPool call TooFew ∷ []) (Refused EAGAIN)
+    few_right n =
+        let a : list_any was_accepted (deeds ++ AtPool call TooFew ∷ []) ≡ false = kept was_accepted deeds (AtPool call TooFew) refl ∙ u.accepted in
+        let f : list_any was_full (deeds ++ AtPool call TooFew ∷ []) ≡ true = found was_full deeds (AtPool call TooFew) refl in
+        let d : list_any was_denied (deeds ++ AtPool call TooFew ∷ []) ≡ false = kept was_denied deeds (AtPool call TooFew) refl ∙ u.denied in
+        let g : list_any found_gone (deeds ++ AtPool call TooFew ∷ []) ≡ false = kept found_gone deeds (AtPool call TooFew) refl ∙ u.gone in
+        record {
+          zero = (λ e. cc, λ t. apart _ t a);
+          once = once_at_most was_accepted deeds (AtPool call TooFew) u.accepted;
+          again = (λ e. (sym u.nowait ∙ n, f), λ t. refl);
+          denied = (λ e. cc, λ t. apart _ t d);
+          removed = (λ e. cc, λ t. apart _ t.0 g);
+          invalid = (λ e. cc, λ t. elim t [ inl r ↦ apart _ r u.allowed | inr b ↦ apart _ b.0 g ]);
+          only = inr (inl refl);
+        }
+
+    few_waits : send.nowait ≡ false → UnderWay send (deeds ++ AtPool call TooFew ∷ [])
+    few_waits n = record {
+      allowed = u.allowed;
+      nowait = u.nowait;
+      accepted = kept was_accepted deeds (AtPool call TooFew) refl ∙ u.accepted;
+      full = λ t. apart _ t n;
+      denied = kept was_denied deeds (AtPool call TooFew) refl ∙ u.denied;
+      gone = kept found_gone deeds (AtPool call TooFew) refl ∙ u.gone;
+      live = kept found_live deeds (AtPool call TooFew) refl ∙ u.live;
+    }
+
+    few_goes : (b : Bool) → send.nowait ≡ b → SendAt (deeds ++ AtPool call TooFew ∷ []) (goes_on (waits_or b (OnReleased (send.released + 1) send) EAGAIN))
+    few_goes true n = few_right n
+    few_goes false n = few_waits n
+
+    reserve_step : (reply : PoolReply) (after : State) → next (AtReserve send) (AtPool call reply) ≡ Some after → SendAt (deeds ++ AtPool call reply ∷ []) after
+    reserve_step (Reserved blocks) after n =
+        let e : Goes (AtPlace send blocks) ≡ after = cc in
+        subst (SendAt (deeds ++ AtPool call (Reserved blocks) ∷ [])) e
+        (under_way_still send deeds (AtPool call (Reserved blocks)) record { accepted = refl; full = refl; denied = refl; gone = refl; live = refl } u)
+    reserve_step TooFew after n =
+        let e : goes_on (waits_or send.nowait (OnReleased (send.released + 1) send) EAGAIN) ≡ after = cc in
+        subst (SendAt (deeds ++ AtPool call TooFew ∷ [])) e (few_goes send.nowait refl)
+    reserve_step reply after n = absurd cc
+
+  given_back : (deeds : List Deed) (afterwards : Afterwards) (deed : Deed) → IsQuiet deed → AfterAt deeds afterwards → SendAt (deeds ++ deed ∷ []) (goes_on afterwards)
+  given_back deeds (IsRefused why) deed q at = right_still deeds deed (Refused why) q at
+  given_back deeds (WaitsOn (OnFreed goal send)) deed q at = under_way_still send deeds deed q at
+  given_back deeds (WaitsOn wait) deed q at = absurd at
+
+  giveback_step : (deeds : List Deed) (blocks : ℕ) (afterwards : Afterwards) (call : PoolCall) (reply : PoolReply) (after : State) → AfterAt deeds afterwards →
+      next (AtSendGiveback blocks afterwards) (AtPool call reply) ≡ Some after → SendAt (deeds ++ AtPool call reply ∷ []) after
+  giveback_step deeds blocks afterwards call Released after at n =
+      let e : goes_on afterwards ≡ after = cc in
+      subst (SendAt (deeds ++ AtPool call Released ∷ [])) e
+      (given_back deeds afterwards (AtPool call Released) record { accepted = refl; full = refl; denied = refl; gone = refl; live = refl } at)
+  giveback_step deeds blocks afterwards call Foreign after at n =
+      let e : goes_on afterwards ≡ after = cc in
+      subst (SendAt (deeds ++ AtPool call Foreign ∷ [])) e
+      (given_back deeds afterwards (AtPool call Foreign) record { accepted = refl; full = refl; denied = refl; gone = refl; live = refl } at)
+  giveback_step deeds blocks afterwards call reply after at n = absurd cc
+
+  -- ---- and those at its queue
+
+  module _ (send : Sending) (deeds : List Deed) (u : UnderWay send deeds) (slot : ℕ) (call : Call) where
+    abbrev with : Reply → List Deed
+    with reply = deeds ++ AtSlot slot call reply ∷ []
+
+    gone_right : (seen : Bool) → list_any found_live deeds ≡ seen → IsRight (with Gone) (Refused (gone seen))
+    gone_right true l =
+        let a : list_any was_accepted (with Gone) ≡ false = kept was_accepted deeds (AtSlot slot call Gone) refl ∙ u.accepted in
+        let f : list_any was_full (with Gone) ≡ list_any was_full deeds = kept was_full deeds (AtSlot slot call Gone) refl in
+        let d : list_any was_denied (with Gone) ≡ false = kept was_denied deeds (AtSlot slot call Gone) refl ∙ u.denied in
+        let g : list_any found_gone (with Gone) ≡ true = found found_gone deeds (AtSlot slot call Gone) refl in
+        let k : list_any found_live (with Gone) ≡ true = kept found_live deeds (AtSlot slot call Gone) refl ∙ l in
+        record {
+          zero = (λ e. cc, λ t. apart _ t a);
+          once = once_at_most was_accepted deeds (AtSlot slot call Gone) u.accepted;
+          again = (λ e. cc, λ t. apart _ t.1 (f ∙ u.full (u.nowait ∙ t.0)));
+          denied = (λ e. cc, λ t. apart _ t d);
+          removed = (λ e. (g, k), λ t. refl);
+          invalid = (λ e. cc, λ t. elim t [ inl r ↦ apart _ r u.allowed | inr b ↦ apart _ k b.1 ]);
+          only = inr (inr (inr (inl refl)));
+        }
+    gone_right false l =
+        let a : list_any was_accepted (with Gone) ≡ false = kept was_accepted deeds (AtSlot slot call Gone) refl ∙ u.accepted in
+        let f : list_any was_full (with Gone) ≡ list_any was_full deeds = kept was_full deeds (AtSlot slot call Gone) refl in
+        let d : list_any was_denied (with Gone) ≡ false = kept was_denied deeds (AtSlot slot call Gone) refl ∙ u.denied in
+        let g : list_any found_gone (with Gone) ≡ true = found found_gone deeds (AtSlot slot call Gone) refl in
+        let k : list_any found_live (with Gone) ≡ false = kept found_live deeds (AtSlot slot call Gone) refl ∙ l in
+        record {
+          zero = (λ e. cc, λ t. apart _ t a);
+          once = once_at_most was_accepted deeds (AtSlot slot call Gone) u.accepted;
+          again = (λ e. cc, λ t. apart _ t.1 (f ∙ u.full (u.nowait ∙ t.0)));
+          denied = (λ e. cc, λ t. apart _ t d);
+          removed = (λ e. cc, λ t. apart _ t.1 k);
+          invalid = (λ e. inr (g, k), λ t. refl);
+          only = inr (inr (inr (inr (inl refl))));
+        }
+
+    denied_right : IsRight (with Denied) (Refused EACCES)
+    denied_right =
+        let a : list_any was_accepted (with Denied) ≡ false = kept was_accepted deeds (AtSlot slot call Denied) refl ∙ u.accepted in
+        let f : list_any was_full (with Denied) ≡ list_any was_full deeds = kept was_full deeds (AtSlot slot call Denied) refl in
+        let d : list_any was_denied (with Denied) ≡ true = found was_denied deeds (AtSlot slot call Denied) refl in
+        let g : list_any found_gone (with Denied) ≡ false = kept found_gone deeds (AtSlot slot call Denied) refl ∙ u.gone in
+        record {
+          zero = (λ e. cc, λ t. apart _ t a);
+          once = once_at_most was_accepted deeds (AtSlot slot call Denied) u.accepted;
+          again = (λ e. cc, λ t. apart _ t.1 (f ∙ u.full (u.nowait ∙ t.0)));
+          denied = (λ e. d, λ t. refl);
+          removed = (λ e. cc, λ t. apart _ t.0 g);
+          invalid = (λ e. cc, λ t. elim t [ inl r ↦ apart _ r u.allowed | inr b ↦ apart _ b.0 g ]);
+          only = inr (inr (inl refl));
+        }
+
+    full_right : (freed : ℕ) → send.nowait ≡ true → IsRight (with (Full freed)) (Refused EAGAIN)
+    full_right freed n =
+        let a : list_any was_accepted (with (Full freed)) ≡ false = kept was_accepted deeds (AtSlot slot call (Full freed)) refl ∙ u.accepted in
+        let f : list_any was_full (with (Full freed)) ≡ true = found was_full deeds (AtSlot slot call (Full freed)) refl in
+        let d : list_any was_denied (with (Full freed)) ≡ false = kept was_denied deeds (AtSlot slot call (Full freed)) refl ∙ u.denied in
+        let g : list_any found_gone (with (Full freed)) ≡ false = kept found_gone deeds (AtSlot slot call (Full freed)) refl ∙ u.gone in
+        record {
+          zero = (λ e. cc, λ t. apart _ t a);
+          once = once_at_most was_accepted deeds (AtSlot slot call (Full freed)) u.accepted;
+          again = (λ e. (sym u.nowait ∙ n, f), λ t. refl);
+          denied = (λ e. cc, λ t. apart _ t d);
+          removed = (λ e. cc, λ t. apart _ t.0 g);
+          invalid = (λ e. cc, λ t. elim t [ inl r ↦ apart _ r u.allowed | inr b ↦ apart _ b.0 g ]);
+          only = inr (inl refl);
+        }
+
+    full_waits : (freed : ℕ) → send.nowait ≡ false → UnderWay (record send { seen = true }) (with (Full freed))
+    full_waits freed n = record {
+      allowed = u.allowed;
+      nowait = u.nowait;
+      accepted = kept was_accepted deeds (AtSlot slot call (Full freed)) refl ∙ u.accepted;
+      full = λ t. apart _ t n;
+      denied = kept was_denied deeds (AtSlot slot call (Full freed)) refl ∙ u.denied;
+      gone = kept found_gone deeds (AtSlot slot call (Full freed)) refl ∙ u.gone;
+      live = found found_live deeds (AtSlot slot call (Full freed)) refl;
+    }
+
+    full_goes : (freed : ℕ) (b : Bool) → send.nowait ≡ b → SendAt (with (Full freed)) (goes_on (waits_or b (OnFreed (freed + 1) (record send { seen = true })) EAGAIN))
+    full_goes freed true n = full_right freed n
+    full_goes freed false n = full_waits freed n
+
+    full_after : (freed : ℕ) (b : Bool) → send.nowait ≡ b → AfterAt (with (Full freed)) (waits_or b (OnFreed (freed + 1) (record send { seen = true })) EAGAIN)
+    full_after freed true n = full_right freed n
+    full_after freed false n = full_waits freed n
+
+    fits_goes : UnderWay (record send { seen = true }) (with Fits)
+    fits_goes = record {
+      allowed = u.allowed;
+      nowait = u.nowait;
+      accepted = kept was_accepted deeds (AtSlot slot call Fits) refl ∙ u.accepted;
+      full = λ t. kept was_full deeds (AtSlot slot call Fits) refl ∙ u.full t;
+      denied = kept was_denied deeds (AtSlot slot call Fits) refl ∙ u.denied;
+      gone = kept found_gone deeds (AtSlot slot call Fits) refl ∙ u.gone;
+      live = found found_live deeds (AtSlot slot call Fits) refl;
+    }
+
+    placed_right : (number : ℕ) → IsRight (with (Accepted number)) Zero
+    placed_right number =
+        let a : list_any was_accepted (with (Accepted number)) ≡ true = found was_accepted deeds (AtSlot slot call (Accepted number)) refl in
+        let f : list_any was_full (with (Accepted number)) ≡ list_any was_full deeds = kept was_full deeds (AtSlot slot call (Accepted number)) refl in
+        let d : list_any was_denied (with (Accepted number)) ≡ false = kept was_denied deeds (AtSlot slot call (Accepted number)) refl ∙ u.denied in
+        let g : list_any found_gone (with (Accepted number)) ≡ false = kept found_gone deeds (AtSlot slot call (Accepted number)) refl ∙ u.gone in
+        record {
+          zero = (λ e. a, λ t. refl);
+          once = once_at_most was_accepted deeds (AtSlot slot call (Accepted number)) u.accepted;
+          again = (λ e. cc, λ t. apart _ t.1 (f ∙ u.full (u.nowait ∙ t.0)));
+          denied = (λ e. cc, λ t. apart _ t d);
+          removed = (λ e. cc, λ t. apart _ t.0 g);
+          invalid = (λ e. cc, λ t. elim t [ inl r ↦ apart _ r u.allowed | inr b ↦ apart _ b.0 g ]);
+          only = inl refl;
+        }
+
+    -- one more deed at a look, and at a place
+    look_step : (reply : Reply) (after : State) → next (AtLook send) (AtSlot slot call reply) ≡ Some after → SendAt (with reply) after
+    look_step Gone after n = let e : Over (Refused (gone send.seen)) ≡ after = cc in subst (SendAt (with Gone)) e (gone_right send.seen u.live)
+    look_step Denied after n = let e : Over (Refused EACCES) ≡ after = cc in subst (SendAt (with Denied)) e denied_right
+    look_step (Full freed) after n = let e : goes_on (is_full send freed) ≡ after = cc in subst (SendAt (with (Full freed))) e (full_goes freed send.nowait refl)
+    look_step Fits after n = let e : Goes (AtReserve (record send { seen = true })) ≡ after = cc in subst (SendAt (with Fits)) e fits_goes
+    look_step reply after n = absurd cc
+
+    place_step : (blocks : ℕ) (reply : Reply) (after : State) → next (AtPlace send blocks) (AtSlot slot call reply) ≡ Some after → SendAt (with reply) after
+    place_step blocks Gone after n =
+        let e : Goes (AtSendGiveback blocks (IsRefused (gone send.seen))) ≡ after = cc in subst (SendAt (with Gone)) e (gone_right send.seen u.live)
+    place_step blocks Denied after n = let e : Goes (AtSendGiveback blocks (IsRefused EACCES)) ≡ after = cc in subst (SendAt (with Denied)) e denied_right
+    place_step blocks (Full freed) after n =
+        let e : Goes (AtSendGiveback blocks (is_full send freed)) ≡ after = cc in subst (SendAt (with (Full freed))) e (full_after freed send.nowait refl)
+    place_step blocks (Accepted number) after n = let e : Over Zero ≡ after = cc in subst (SendAt (with (Accepted number))) e (placed_right number)
+    place_step blocks reply after n = absurd cc
 
   one_step : (deeds : List Deed) (phase : Phase) (deed : Deed) (after : State) → SendAt deeds (Goes phase) → next phase deed ≡ Some after → SendAt (deeds ++ deed ∷ []) after
-  one_step deeds (AtLook send) (AtSlot slot call reply) after at n = look_step deeds send slot call reply after at n
-  one_step deeds (AtPlace send blocks) (AtSlot slot call reply) after at n = place_step deeds send blocks slot call reply after at n
-  one_step deeds (AtLook send) (AtRegistry call reply) after at n = absurd cc
-  one_step deeds (AtLook send) (AtPool call reply) after at n = absurd cc
-  one_step deeds (AtPlace send blocks) (AtRegistry call reply) after at n = absurd cc
-  one_step deeds (AtPlace send blocks) (AtPool call reply) after at n = absurd cc
+  one_step deeds (AtLook send) (AtSlot slot call reply) after at n = look_step send deeds at slot call reply after n
+  one_step deeds (AtReserve send) (AtPool call reply) after at n = reserve_step send deeds at call reply after n
+  one_step deeds (AtPlace send blocks) (AtSlot slot call reply) after at n = place_step send deeds at slot call blocks reply after n
+  one_step deeds (AtSendGiveback blocks afterwards) (AtPool call reply) after at n = giveback_step deeds blocks afterwards call reply after at n
+  one_step deeds (AtLook send) deed after at n = absurd cc
+  one_step deeds (AtReserve send) deed after at n = absurd cc
+  one_step deeds (AtPlace send blocks) deed after at n = absurd cc
+  one_step deeds (AtSendGiveback blocks afterwards) deed after at n = absurd cc
   one_step deeds phase deed after at n = absurd at
+
+  started_again : (send : Sending) (released : ℕ) (deeds : List Deed) → UnderWay send deeds → UnderWay (record send { released = released }) deeds
+  started_again send released deeds u =
+      record { allowed = u.allowed; nowait = u.nowait; accepted = u.accepted; full = u.full; denied = u.denied; gone = u.gone; live = u.live }
+
+  one_wait : (deeds : List Deed) (wait : Wait) (value : ℕ) → SendAt deeds (Waits wait) → SendAt deeds (Goes (resume wait value))
+  one_wait deeds (OnFreed goal send) value at = at
+  one_wait deeds (OnReleased goal send) value at = started_again send value deeds at
+  one_wait deeds wait value at = absurd at
 
   pub send_at : (cred : Cred) (released : ℕ) (deeds : List Deed) (state : State) → Plays (begin cred (Msgsnd id mtype flags text) released) deeds state → SendAt deeds state
   send_at cred released _ _ begins = started cred released (is_refused (Msgsnd id mtype flags text)) refl
   send_at cred released _ _ (steps {deeds} {phase} deed now after p asked n) = one_step deeds phase deed after (send_at cred released deeds (Goes phase) p) n
-  send_at cred released _ _ (resumes {deeds} {wait} value p least) = absurd (send_at cred released deeds (Waits wait) p)
+  send_at cred released _ _ (resumes {deeds} {wait} value p least) = one_wait deeds wait value (send_at cred released deeds (Waits wait) p)
+
+  none_gone : (deeds : List Deed) (phase : Phase) (reply : Reply) (after : State) → SendAt deeds (Goes phase) → next_of_slot phase reply ≡ Some after → list_any found_gone deeds ≡ false
+  none_gone deeds (AtLook send) reply after at n = at.gone
+  none_gone deeds (AtPlace send blocks) reply after at n = at.gone
+  none_gone deeds (AtReserve send) reply after at n = absurd cc
+  none_gone deeds (AtSendGiveback blocks afterwards) reply after at n = absurd cc
+  none_gone deeds phase reply after at n = absurd at
+
+  -- a send that comes to a slot did not find its queue gone before
+  pub send_goes_on : (cred : Cred) (released : ℕ) (deeds : List Deed) (phase : Phase) (reply : Reply) (after : State) → Plays (begin cred (Msgsnd id mtype flags text) released) deeds (Goes phase) →
+      next_of_slot phase reply ≡ Some after → list_any found_gone deeds ≡ false
+  send_goes_on cred released deeds phase reply after p n = none_gone deeds phase reply after (send_at cred released deeds (Goes phase) p) n

@@ -1,29 +1,28 @@
 -- What a call asks at a step, and of which object (this profile's). The moment is that of the step.
-use Rattle.std.specs.Prelude.{ℕ, length, sum_by}
-use Rattle.sysv_model.specs.Message.{Message}
+use Rattle.std.specs.Prelude.{ℕ, length}
 use Rattle.sysv_model.specs.History.{Install, Probe, Look, Place, Take, ReadStat, Set, Remove}
 use Rattle.sysv_model.specs.Registry.{Begin, Settle, Forget}
-use Rattle.sysv_model.specs.Pool.{Reserve, Release, blocks_for}
+use Rattle.sysv_model.specs.Pool.{Reserve, Release}
 use Rattle.sysv_model.specs.Turn.{Ask, OfSlot, OfRegistry, OfPool}
-use Rattle.sysv_steps.specs.SlotAt.{slot_at}
+use Rattle.sysv_keys.specs.Identifier.{slot_of_id}
 use Rattle.sysv_steps.specs.State.{Phase, AtBegin, AtInstall, AtSettle, AtProbe, AtUnmake, AtLook, AtReserve, AtPlace, AtSendGiveback, AtTake, AtReceiveGiveback, AtStat, AtSet, AtSetGiveback, AtRemove, AtForget, AtRemoveGiveback}
 
 abbrev pub asks : Phase → ℕ → Ask
 asks (AtBegin get) now = OfRegistry (Begin get.key get.flags)
-asks (AtInstall get id) now = OfSlot (slot_at id) (Install id get.key get.cred get.flags.0 now)
+asks (AtInstall get id) now = OfSlot (slot_of_id id) (Install id get.key get.cred get.flags.0 now)
 asks (AtSettle id) now = OfRegistry (Settle id)
-asks (AtProbe get id settled) now = OfSlot (slot_at id) (Probe id get.cred get.flags)
+asks (AtProbe get id settled) now = OfSlot (slot_of_id id) (Probe id get.cred get.flags)
 asks (AtUnmake id) now = OfRegistry (Forget id)
-asks (AtLook send) now = OfSlot (slot_at send.id) (Look send.id send.cred (length send.text))
+asks (AtLook send) now = OfSlot (slot_of_id send.id) (Look send.id send.cred (length send.text))
 asks (AtReserve send) now = OfPool (Reserve (length send.text))
-asks (AtPlace send blocks) now = OfSlot (slot_at send.id) (Place send.id send.cred send.mtype send.text now)
+asks (AtPlace send blocks) now = OfSlot (slot_of_id send.id) (Place send.id send.cred send.mtype send.text now)
 asks (AtSendGiveback blocks afterwards) now = OfPool (Release blocks)
 asks (AtTake receive) now =
-    OfSlot (slot_at receive.id) (Take receive.id receive.cred receive.selector receive.size receive.noerror now)
-asks (AtReceiveGiveback size message) now = OfPool (Release (blocks_for (length message.bytes)))
-asks (AtStat cred id) now = OfSlot (slot_at id) (ReadStat id cred)
-asks (AtSet cred id to) now = OfSlot (slot_at id) (Set id cred to now)
+    OfSlot (slot_of_id receive.id) (Take receive.id receive.cred receive.selector receive.size receive.noerror now)
+asks (AtReceiveGiveback blocks mtype text) now = OfPool (Release blocks)
+asks (AtStat cred id) now = OfSlot (slot_of_id id) (ReadStat id cred)
+asks (AtSet cred id to) now = OfSlot (slot_of_id id) (Set id cred to now)
 asks AtSetGiveback now = OfPool (Release 0)
-asks (AtRemove cred id) now = OfSlot (slot_at id) (Remove id cred)
-asks (AtForget id messages) now = OfRegistry (Forget id)
-asks (AtRemoveGiveback messages) now = OfPool (Release (sum_by (λ (m : Message). blocks_for (length m.bytes)) messages))
+asks (AtRemove cred id) now = OfSlot (slot_of_id id) (Remove id cred)
+asks (AtForget id blocks) now = OfRegistry (Forget id)
+asks (AtRemoveGiveback blocks) now = OfPool (Release blocks)

@@ -10,7 +10,7 @@ use Rattle.sysv_model.specs.History.{Install, Probe, Look, Place, Take, ReadStat
 use Rattle.sysv_model.specs.Registry.{Begin, Settle, Forget}
 use Rattle.sysv_model.specs.Pool.{Reserve, Release}
 use Rattle.sysv_model.specs.Turn.{Ask, OfSlot, OfRegistry, OfPool, Deed, asked_by}
-use Rattle.sysv_steps.specs.SlotAt.{slot_at}
+use Rattle.sysv_keys.specs.Identifier.{slot_of_id}
 use Rattle.sysv_steps.specs.Call.{SystemCall, Msgget, Msgsnd, Msgrcv, MsgctlStat, MsgctlSet, MsgctlRmid}
 use Rattle.sysv_steps.specs.State.{State}
 use Rattle.sysv_steps.specs.Begin.{begin}
@@ -23,21 +23,21 @@ GivesBack ask = (blocks : ℕ) × (ask ≡ OfPool (Release blocks))
 abbrev pub AsksFor : Cred → SystemCall → Ask → Type 0
 AsksFor cred (Msgget key flags) ask =
     (ask ≡ OfRegistry (Begin key flags))
-    ⊎ ((id : ℤ) × (now : ℕ) × (ask ≡ OfSlot (slot_at id) (Install id key cred flags.0 now)))
+    ⊎ ((id : ℤ) × (now : ℕ) × (ask ≡ OfSlot (slot_of_id id) (Install id key cred flags.0 now)))
     ⊎ ((id : ℤ) × (ask ≡ OfRegistry (Settle id)))
-    ⊎ ((id : ℤ) × (ask ≡ OfSlot (slot_at id) (Probe id cred flags)))
+    ⊎ ((id : ℤ) × (ask ≡ OfSlot (slot_of_id id) (Probe id cred flags)))
     ⊎ ((id : ℤ) × (ask ≡ OfRegistry (Forget id)))
 AsksFor cred (Msgsnd id mtype flags text) ask =
-    (ask ≡ OfSlot (slot_at id) (Look id cred (length text)))
+    (ask ≡ OfSlot (slot_of_id id) (Look id cred (length text)))
     ⊎ (ask ≡ OfPool (Reserve (length text)))
-    ⊎ ((now : ℕ) × (ask ≡ OfSlot (slot_at id) (Place id cred mtype text now)))
+    ⊎ ((now : ℕ) × (ask ≡ OfSlot (slot_of_id id) (Place id cred mtype text now)))
     ⊎ GivesBack ask
 AsksFor cred (Msgrcv id size mtype flags) ask =
-    ((now : ℕ) × (ask ≡ OfSlot (slot_at id) (Take id cred (selector_for mtype flags) size (has_flag MSG_NOERROR flags) now)))
+    ((now : ℕ) × (ask ≡ OfSlot (slot_of_id id) (Take id cred (selector_for mtype flags) size (has_flag MSG_NOERROR flags) now)))
     ⊎ GivesBack ask
-AsksFor cred (MsgctlStat id) ask = ask ≡ OfSlot (slot_at id) (ReadStat id cred)
-AsksFor cred (MsgctlSet id to) ask = ((now : ℕ) × (ask ≡ OfSlot (slot_at id) (Set id cred to now))) ⊎ GivesBack ask
-AsksFor cred (MsgctlRmid id) ask = (ask ≡ OfSlot (slot_at id) (Remove id cred)) ⊎ (ask ≡ OfRegistry (Forget id)) ⊎ GivesBack ask
+AsksFor cred (MsgctlStat id) ask = ask ≡ OfSlot (slot_of_id id) (ReadStat id cred)
+AsksFor cred (MsgctlSet id to) ask = ((now : ℕ) × (ask ≡ OfSlot (slot_of_id id) (Set id cred to now))) ⊎ GivesBack ask
+AsksFor cred (MsgctlRmid id) ask = (ask ≡ OfSlot (slot_of_id id) (Remove id cred)) ⊎ (ask ≡ OfRegistry (Forget id)) ⊎ GivesBack ask
 
 -- each deed of the call asks for that
 abbrev pub AllAskFor : Cred → SystemCall → List Deed → Type 0

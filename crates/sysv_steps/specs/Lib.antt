@@ -6,9 +6,9 @@ pub use Rattle.sysv_model.specs.History
 pub use Rattle.sysv_model.specs.Registry
 pub use Rattle.sysv_model.specs.Pool
 pub use Rattle.sysv_model.specs.Turn
+pub use Rattle.sysv_keys.specs.Identifier
+pub use Rattle.sysv_queue.specs.Blocks
 pub mod Call
-pub mod Until
-pub mod SlotAt
 pub mod State
 pub mod Begin
 pub mod Asks
@@ -18,4 +18,11 @@ pub mod Played
 pub mod AsksFor
 pub mod OneAnswer
 pub mod Answers
+pub mod AfterRemoval
+pub mod WaitsFor
+pub mod MayWait
+pub mod Tended
+pub mod WorkedPlays
+pub mod HeldBlocks
+pub mod ReadLast
 pub mod Seen

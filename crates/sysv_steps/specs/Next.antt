@@ -1,24 +1,24 @@
 -- The step table: where a call stands after a step, by the reply that it had (POSIX.1-2017, msgget,
 -- msgsnd, msgrcv and msgctl, each ERRORS; the steps are this profile's). A row is a phase and a reply.
 -- A reply that the phase's call never has is no row of it, and then there is no next state.
-use Rattle.std.specs.Prelude.{ℕ, ℤ, ◌+◌, ◌&&◌, Bool, true, false, not, List, take, Option, Some, None, if◌then◌else◌}
+use Rattle.std.specs.Prelude.{ℕ, ℤ, ◌+◌, ◌&&◌, Bool, true, false, length, take, Option, Some, None, if◌then◌else◌}
 use Rattle.sysv_model.specs.declared.errno.Errno.{Errno}
 use Rattle.sysv_model.specs.declared.errno.Errno.TheVariants.{EACCES, EAGAIN, EEXIST, EIDRM, EINVAL, ENOMSG, ENOSPC, E2BIG}
+use Rattle.sysv_model.specs.declared.flags.Flags.{Flags}
 use Rattle.sysv_model.specs.declared.flags.TheConstants.Flags.{IPC_CREAT, IPC_EXCL}
 use Rattle.sysv_model.specs.HasFlag.{has_flag}
-use Rattle.sysv_model.specs.Message.{Message}
 use Rattle.sysv_model.specs.History.{Reply, Installed, Gone, Denied, Granted, Full, Fits, Accepted, NoMatch, TooLong, Taken, Told as TellsStat, Done, Discarded, Refused as IsRefusedFor}
 use Rattle.sysv_model.specs.Registry.{RegistryReply, Found, Made, Busy, Unbound, Changed}
-use Rattle.sysv_model.specs.Pool.{PoolReply, Reserved, TooFew, Released, Foreign}
+use Rattle.sysv_model.specs.Pool.{PoolReply, Reserved, TooFew, Released, Foreign, blocks_for}
 use Rattle.sysv_model.specs.Turn.{Deed, AtSlot, AtRegistry, AtPool}
-use Rattle.sysv_steps.specs.Until.{waiting_is_there, pool_is_there}
-use Rattle.sysv_steps.specs.State.{Getting, Sending, Receiving, Wait, OnSettled, OnFreed, OnReleased, OnArrived, Afterwards, IsRefused, WaitsOn, Phase, AtBegin, AtInstall, AtSettle, AtProbe, AtUnmake, AtLook, AtReserve, AtPlace, AtSendGiveback, AtTake, AtReceiveGiveback, AtStat, AtSet, AtSetGiveback, AtRemove, AtForget, AtRemoveGiveback, Ending, Id, Zero, Got, Told, Refused, State, Goes, Waits, Over}
+use Rattle.sysv_queue.specs.Blocks.{blocks_of}
+use Rattle.sysv_steps.specs.State.{Getting, Sending, Receiving, Wait, OnSettled, OnFreed, OnReleased, OnArrived, Afterwards, IsRefused, WaitsOn, Phase, AtBegin, AtInstall, AtSettle, AtProbe, AtUnmake, AtLook, AtReserve, AtPlace, AtSendGiveback, AtTake, AtReceiveGiveback, AtStat, AtSet, AtSetGiveback, AtRemove, AtForget, AtRemoveGiveback, Id, Zero, Got, Told, Refused, State, Goes, Waits, Over}
 
 -- ---- msgget
 
 -- the flags want a queue that this very call makes
-abbrev pub wants_new : Getting → Bool
-wants_new get = has_flag IPC_CREAT get.flags && has_flag IPC_EXCL get.flags
+abbrev pub wants_new : Flags → Bool
+wants_new flags = has_flag IPC_CREAT flags && has_flag IPC_EXCL flags
 
 abbrev pub after_begin : Getting → RegistryReply → Option State
 after_begin get (Found id settled) = Some (Goes (AtProbe get id settled))
@@ -45,8 +45,8 @@ after_unmake reply = None
 -- a queue that is live is not new, whoever may use it
 abbrev pub after_probe : Getting → ℤ → ℕ → Reply → Option State
 after_probe get id settled Gone = Some (Waits (OnSettled (settled + 1) get))
-after_probe get id settled Denied = Some (Over (Refused (if wants_new get then EEXIST else EACCES)))
-after_probe get id settled Granted = Some (Over (if wants_new get then Refused EEXIST else Id id))
+after_probe get id settled Denied = Some (Over (Refused (if wants_new get.flags then EEXIST else EACCES)))
+after_probe get id settled Granted = Some (Over (if wants_new get.flags then Refused EEXIST else Id id))
 after_probe get id settled reply = None
 
 -- ---- msgsnd and msgrcv
@@ -57,15 +57,11 @@ gone seen = if seen then EIDRM else EINVAL
 
 -- a call that cannot go on waits, or is refused where it does not wait
 abbrev pub waits_or : Bool → Wait → Errno → Afterwards
-waits_or nowait wait why = if waiting_is_there && not nowait then WaitsOn wait else IsRefused why
+waits_or nowait wait why = if nowait then IsRefused why else WaitsOn wait
 
 abbrev pub goes_on : Afterwards → State
 goes_on (IsRefused why) = Over (Refused why)
 goes_on (WaitsOn wait) = Waits wait
-
--- a step at the pool, or what follows it
-abbrev pub at_pool : Phase → State → State
-at_pool phase follow = if pool_is_there then Goes phase else follow
 
 -- no room on the queue
 abbrev pub is_full : Sending → ℕ → Afterwards
@@ -75,7 +71,7 @@ abbrev pub after_look : Sending → Reply → Option State
 after_look send Gone = Some (Over (Refused (gone send.seen)))
 after_look send Denied = Some (Over (Refused EACCES))
 after_look send (Full freed) = Some (goes_on (is_full send freed))
-after_look send Fits = Some (at_pool (AtReserve (record send { seen = true })) (Goes (AtPlace (record send { seen = true }) 0)))
+after_look send Fits = Some (Goes (AtReserve (record send { seen = true })))
 after_look send reply = None
 
 abbrev pub after_reserve : Sending → PoolReply → Option State
@@ -85,7 +81,7 @@ after_reserve send reply = None
 
 -- a refused send gives its chain back first
 abbrev pub gives_back : ℕ → Afterwards → State
-gives_back blocks afterwards = at_pool (AtSendGiveback blocks afterwards) (goes_on afterwards)
+gives_back blocks afterwards = Goes (AtSendGiveback blocks afterwards)
 
 abbrev pub after_place : Sending → ℕ → Reply → Option State
 after_place send blocks Gone = Some (gives_back blocks (IsRefused (gone send.seen)))
@@ -94,17 +90,15 @@ after_place send blocks (Full freed) = Some (gives_back blocks (is_full send fre
 after_place send blocks (Accepted number) = Some (Over Zero)
 after_place send blocks reply = None
 
--- a receive gives at most as many bytes as were wanted
-abbrev pub given : ℕ → Message → Ending
-given size message = Got message.mtype (take size message.bytes)
-
+-- a receive gives at most as many bytes as were wanted, and the message's chain back first
 abbrev pub after_take : Receiving → Reply → Option State
 after_take receive Gone = Some (Over (Refused (gone receive.seen)))
 after_take receive Denied = Some (Over (Refused EACCES))
 after_take receive (NoMatch arrived) =
     Some (goes_on (waits_or receive.nowait (OnArrived (arrived + 1) (record receive { seen = true })) ENOMSG))
 after_take receive TooLong = Some (Over (Refused E2BIG))
-after_take receive (Taken message) = Some (at_pool (AtReceiveGiveback receive.size message) (Over (given receive.size message)))
+after_take receive (Taken message) =
+    Some (Goes (AtReceiveGiveback (blocks_for (length message.bytes)) message.mtype (take receive.size message.bytes)))
 after_take receive reply = None
 
 -- ---- msgctl
@@ -114,23 +108,25 @@ after_stat (TellsStat stat) = Some (Over (Told stat))
 after_stat (IsRefusedFor why) = Some (Over (Refused why))
 after_stat reply = None
 
+-- a set that was done counts at the pool as one that gave room
 abbrev pub after_set : Reply → Option State
-after_set Done = Some (at_pool AtSetGiveback (Over Zero))
+after_set Done = Some (Goes AtSetGiveback)
 after_set (IsRefusedFor why) = Some (Over (Refused why))
 after_set reply = None
 
+-- the row goes in a step of its own; the call holds what it discarded until then
 abbrev pub after_remove : ℤ → Reply → Option State
-after_remove id (Discarded messages) = Some (Goes (AtForget id messages))
+after_remove id (Discarded messages) = Some (Goes (AtForget id (blocks_of messages)))
 after_remove id (IsRefusedFor why) = Some (Over (Refused why))
 after_remove id reply = None
 
-abbrev pub after_forget : List Message → RegistryReply → Option State
-after_forget messages (Changed done) = Some (at_pool (AtRemoveGiveback messages) (Over Zero))
-after_forget messages reply = None
+abbrev pub after_forget : ℕ → RegistryReply → Option State
+after_forget blocks (Changed done) = Some (Goes (AtRemoveGiveback blocks))
+after_forget blocks reply = None
 
 -- ---- the pool
 
--- a chain that came back as foreign changes nothing for the call
+-- a chain that was refused as foreign changes nothing for the call
 abbrev pub after_giveback : State → PoolReply → Option State
 after_giveback follow Released = Some follow
 after_giveback follow Foreign = Some follow
@@ -153,15 +149,15 @@ abbrev pub next_of_registry : Phase → RegistryReply → Option State
 next_of_registry (AtBegin get) reply = after_begin get reply
 next_of_registry (AtSettle id) reply = after_settle id reply
 next_of_registry (AtUnmake id) reply = after_unmake reply
-next_of_registry (AtForget id messages) reply = after_forget messages reply
+next_of_registry (AtForget id blocks) reply = after_forget blocks reply
 next_of_registry phase reply = None
 
 abbrev pub next_of_pool : Phase → PoolReply → Option State
 next_of_pool (AtReserve send) reply = after_reserve send reply
 next_of_pool (AtSendGiveback blocks afterwards) reply = after_giveback (goes_on afterwards) reply
-next_of_pool (AtReceiveGiveback size message) reply = after_giveback (Over (given size message)) reply
+next_of_pool (AtReceiveGiveback blocks mtype text) reply = after_giveback (Over (Got mtype text)) reply
 next_of_pool AtSetGiveback reply = after_giveback (Over Zero) reply
-next_of_pool (AtRemoveGiveback messages) reply = after_giveback (Over Zero) reply
+next_of_pool (AtRemoveGiveback blocks) reply = after_giveback (Over Zero) reply
 next_of_pool phase reply = None
 
 abbrev pub next : Phase → Deed → Option State

@@ -2,7 +2,7 @@
 -- the step that it names (this profile's). Only a wait for blocks keeps the value, which is then the
 -- released count as the call read it last.
 use Rattle.std.specs.Prelude.{ℕ}
-use Rattle.sysv_steps.specs.SlotAt.{slot_at}
+use Rattle.sysv_keys.specs.Identifier.{slot_of_id}
 use Rattle.sysv_steps.specs.State.{Wait, OnSettled, OnFreed, OnReleased, OnArrived, Phase, AtBegin, AtLook, AtTake}
 
 -- a count that rises: of a slot, or of the registry or the pool
@@ -14,9 +14,9 @@ pub data Count : Type 0 where
 
 abbrev pub awaited : Wait → Count
 awaited (OnSettled goal get) = Settled
-awaited (OnFreed goal send) = FreedOf (slot_at send.id)
+awaited (OnFreed goal send) = FreedOf (slot_of_id send.id)
 awaited (OnReleased goal send) = Released
-awaited (OnArrived goal receive) = ArrivedOf (slot_at receive.id)
+awaited (OnArrived goal receive) = ArrivedOf (slot_of_id receive.id)
 
 abbrev pub goal_of : Wait → ℕ
 goal_of (OnSettled goal get) = goal

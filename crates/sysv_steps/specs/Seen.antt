@@ -1,16 +1,25 @@
 -- What the code keeps of a call, with the text that its driver holds, as a state of the definitions (this
 -- profile's). The text is that of a send under way, and of a receive that was given a message what it was
--- given.
-use Rattle.std.specs.Prelude.{ℕ, List}
+-- given. A wait keeps the value that its count has to pass, which is one below the goal. Of a chain the
+-- definitions keep its blocks, and of a delivery its type.
+use Rattle.std.specs.Prelude.{ℕ, ◌+◌, List}
 use Rattle.sysv_steps.specs.declared.ending.Ending.{Ending as EndingKept}
 use Rattle.sysv_steps.specs.declared.ending.Ending.TheVariants as ending
+use Rattle.sysv_steps.specs.declared.get.Getting.{Getting as GetKept}
 use Rattle.sysv_steps.specs.declared.send.Sending.{Sending as SendKept}
 use Rattle.sysv_steps.specs.declared.receive.Receiving.{Receiving as ReceiveKept}
+use Rattle.sysv_steps.specs.declared.wait.Wait.{Wait as WaitKept}
+use Rattle.sysv_steps.specs.declared.wait.Wait.TheVariants as wait
+use Rattle.sysv_steps.specs.declared.afterwards.Afterwards.{Afterwards as AfterwardsKept}
+use Rattle.sysv_steps.specs.declared.afterwards.Afterwards.TheVariants as afterwards
 use Rattle.sysv_steps.specs.declared.state.Phase.{Phase as PhaseKept}
 use Rattle.sysv_steps.specs.declared.state.Phase.TheVariants as phase
 use Rattle.sysv_steps.specs.declared.state.State.{State as StateKept}
 use Rattle.sysv_steps.specs.declared.state.State.TheVariants as state
-use Rattle.sysv_steps.specs.State.{Sending, Receiving, Phase, AtLook, AtPlace, AtTake, Ending, Zero, Got, Refused, State, Goes, Over}
+use Rattle.sysv_steps.specs.State.{Getting, Sending, Receiving, Wait, OnSettled, OnFreed, OnReleased, OnArrived, Afterwards, IsRefused, WaitsOn, Phase, AtBegin, AtInstall, AtSettle, AtProbe, AtUnmake, AtLook, AtReserve, AtPlace, AtSendGiveback, AtTake, AtReceiveGiveback, AtStat, AtSet, AtSetGiveback, AtRemove, AtForget, AtRemoveGiveback, Ending, Id, Zero, Got, Told, Refused, State, Goes, Waits, Over}
+
+abbrev pub getting : GetKept → Getting
+getting g = record { cred = g.cred; key = g.key; flags = g.flags }
 
 abbrev pub sending : SendKept → List ℕ → Sending
 sending s text = record { cred = s.cred; id = s.id; mtype = s.mtype; text = text; nowait = s.nowait; released = s.released; seen = s.live_seen }
@@ -26,16 +35,43 @@ receiving r = record {
   seen = r.live_seen;
 }
 
+abbrev pub wait_of : WaitKept → List ℕ → Wait
+wait_of (wait.Settled above g) text = OnSettled (above + 1) (getting g)
+wait_of (wait.Freed above s) text = OnFreed (above + 1) (sending s text)
+wait_of (wait.Released above s) text = OnReleased (above + 1) (sending s text)
+wait_of (wait.Arrived above r) text = OnArrived (above + 1) (receiving r)
+
+abbrev pub afterwards_of : AfterwardsKept → List ℕ → Afterwards
+afterwards_of (afterwards.Refused why) text = IsRefused why
+afterwards_of (afterwards.Waits w) text = WaitsOn (wait_of w text)
+
 abbrev pub phase_of : PhaseKept → List ℕ → Phase
+phase_of (phase.Begin g) text = AtBegin (getting g)
+phase_of (phase.Install g id) text = AtInstall (getting g) id
+phase_of (phase.Settle id) text = AtSettle id
+phase_of (phase.Probe g id settled) text = AtProbe (getting g) id settled
+phase_of (phase.Unmake id) text = AtUnmake id
 phase_of (phase.Look s) text = AtLook (sending s text)
-phase_of (phase.Place s) text = AtPlace (sending s text) 0
+phase_of (phase.Reserve s) text = AtReserve (sending s text)
+phase_of (phase.Place s chain) text = AtPlace (sending s text) chain.blocks
+phase_of (phase.SendGiveback chain later) text = AtSendGiveback chain.blocks (afterwards_of later text)
 phase_of (phase.Take r) text = AtTake (receiving r)
+phase_of (phase.ReceiveGiveback chain delivery) text = AtReceiveGiveback chain.blocks delivery.mtype text
+phase_of (phase.Stat cred id) text = AtStat cred id
+phase_of (phase.Set cred id to) text = AtSet cred id to
+phase_of phase.SetGiveback text = AtSetGiveback
+phase_of (phase.Remove cred id) text = AtRemove cred id
+phase_of (phase.Forget id chain) text = AtForget id chain.blocks
+phase_of (phase.RemoveGiveback chain) text = AtRemoveGiveback chain.blocks
 
 abbrev pub ending_of : EndingKept → List ℕ → Ending
+ending_of (ending.Id id) text = Id id
 ending_of ending.Zero text = Zero
-ending_of (ending.Got mtype) text = Got mtype text
+ending_of (ending.Got delivery) text = Got delivery.mtype text
+ending_of (ending.Told stat) text = Told stat
 ending_of (ending.Refused why) text = Refused why
 
 abbrev pub state_of : StateKept → List ℕ → State
 state_of (state.Goes p) text = Goes (phase_of p text)
+state_of (state.Waits w) text = Waits (wait_of w text)
 state_of (state.Over end) text = Over (ending_of end text)

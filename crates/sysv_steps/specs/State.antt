@@ -7,7 +7,6 @@ use Rattle.sysv_model.specs.declared.flags.Flags.{Flags}
 use Rattle.sysv_model.specs.declared.attributes.Stat.{Stat}
 use Rattle.sysv_model.specs.declared.attributes.SetTo.{SetTo}
 use Rattle.sysv_model.specs.declared.selector.Selector.{Selector}
-use Rattle.sysv_model.specs.Message.{Message}
 
 -- what a call that looks for a queue or makes one holds
 pub record Getting : Type 0 where
@@ -60,16 +59,16 @@ pub data Phase : Type 0 where
   AtReserve : (send : Sending) → Phase
   AtPlace : (send : Sending) (blocks : ℕ) → Phase
   AtSendGiveback : (blocks : ℕ) (afterwards : Afterwards) → Phase
-  -- of msgrcv, with the message that it was given and the bytes of it that it wants
+  -- of msgrcv, with the blocks of the message that it was given, and of the message what it gives
   AtTake : (receive : Receiving) → Phase
-  AtReceiveGiveback : (size : ℕ) (message : Message) → Phase
-  -- of msgctl
+  AtReceiveGiveback : (blocks : ℕ) (mtype : ℤ) (text : List ℕ) → Phase
+  -- of msgctl, with the blocks of the messages that a removal discarded
   AtStat : (cred : Cred) (id : ℤ) → Phase
   AtSet : (cred : Cred) (id : ℤ) (to : SetTo) → Phase
   AtSetGiveback : Phase
   AtRemove : (cred : Cred) (id : ℤ) → Phase
-  AtForget : (id : ℤ) (messages : List Message) → Phase
-  AtRemoveGiveback : (messages : List Message) → Phase
+  AtForget : (id : ℤ) (blocks : ℕ) → Phase
+  AtRemoveGiveback : (blocks : ℕ) → Phase
 
 -- how a call ends
 pub data Ending : Type 0 where

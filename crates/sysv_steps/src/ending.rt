@@ -1,12 +1,18 @@
+use sysv_model::attributes::Stat;
 use sysv_model::errno::Errno;
+use sysv_queue::delivery::Delivery;
 
-/// How a call ended. The text that a receive was given is with its driver.
-#[derive(Clone, Copy, PartialEq, Eq, Debug)]
+/// How a call ended. The text that a receive was given is with its driver, who spends the delivery once it
+/// has answered.
 pub enum Ending {
+    /// The identifier of a queue.
+    Id(i32),
     /// It succeeded and has nothing to tell.
     Zero,
-    /// A receive was given a message of this type.
-    Got { mtype: i64 },
+    /// A receive was given a message.
+    Got { delivery: Delivery },
+    /// The attributes of a queue, and what waits on it.
+    Told(Stat),
     /// It was refused.
     Refused(Errno),
 }

@@ -1,20 +1,28 @@
-ghost use Rattle.std.specs.Prelude.{◌≡◌, ℕ, List, Some};
+ghost use Rattle.std.specs.Prelude.{◌≡◌, ℕ, List, length, Some, Result, ⊤};
 ghost use Rattle.sysv_model.specs.Message.{Message};
-ghost use Rattle.sysv_model.specs.History.{Taken};
-ghost use Rattle.sysv_queue.specs.Replies.{untaken_reply, Gives};
+ghost use Rattle.sysv_model.specs.History.{NoMatch, Taken};
+ghost use Rattle.sysv_model.specs.Pool.{blocks_for};
+ghost use Rattle.sysv_pool.specs.Chain.{Chained};
+ghost use Rattle.sysv_pool.specs.Replies.{release_reply};
+ghost use Rattle.sysv_queue.specs.Delivery.{Gives};
+ghost use Rattle.sysv_queue.specs.Replies.{untaken_reply};
 ghost use Rattle.sysv_steps.specs.Begin.{begin as begins};
 ghost use Rattle.sysv_steps.specs.Call.{Msgrcv};
-ghost use Rattle.sysv_steps.specs.Next.{after_take as follows_take};
+ghost use Rattle.sysv_steps.specs.Next.{after_take as follows_take, after_giveback as follows_giveback};
 ghost use Rattle.sysv_steps.specs.Seen.{receiving, state_of};
+ghost use Rattle.sysv_steps.specs.State.{Got, Over};
 
 use crate::ending::Ending;
 use crate::state::{Phase, State};
+use crate::wait::Wait;
 use bitflags::Flags as _;
 use sysv_model::cred::Cred;
 use sysv_model::errno::Errno;
 use sysv_model::flags::Flags;
 use sysv_model::selector::Selector;
-use sysv_queue::slot::{Delivery, TakeRefused};
+use sysv_pool::chain::Chain;
+use sysv_queue::delivery::Delivery;
+use sysv_queue::slot::TakeRefused;
 
 /// A receive under way (POSIX.1-2017, `msgrcv`). The body that it fills is with its driver.
 #[derive(Clone, Copy, PartialEq, Eq, Debug)]
@@ -55,24 +63,50 @@ impl Receiving {
         }))
     }
 
-    /// Where the receive stands after it was given a message.
-    pub fn given(self, delivery: Delivery) -> State
-        ensures { (m : Message) (text : List ℕ) → Gives delivery m self.size text → follows_take (receiving self) (Taken m) ≡ Some (state_of result text) }
+    /// Where the receive stands after it took a message, and its driver copied as much of the text as is
+    /// wanted: it gives the message's chain back.
+    pub fn given(self, delivery: Delivery, chain: Chain) -> State
+        ensures { (m : Message) (text : List ℕ) → Gives delivery m self.size text → chain.blocks ≡ blocks_for (length m.bytes) → follows_take (receiving self) (Taken m) ≡ Some (state_of result text) }
     {
-        State::Over(Ending::Got {
-            mtype: delivery.mtype,
-        })
+        State::Goes(Phase::ReceiveGiveback { chain, delivery })
     }
 
-    /// Where the receive stands after no message was given.
+    /// Where a receive stands after the chain of its message was released, or was refused by the pool as
+    /// that of another: at its end with the message.
+    pub fn given_back(delivery: Delivery) -> State
+        ensures { (text : List ℕ) (done : Result ⊤ Chained) → follows_giveback (Over (Got delivery.mtype text)) (release_reply done) ≡ Some (state_of result text) }
+    {
+        State::Over(Ending::Got { delivery })
+    }
+
+    /// Where the receive stands after no message was given: it waits for one where it may; else it is
+    /// refused with EINVAL or EIDRM, EACCES, ENOMSG, or E2BIG (POSIX.1-2017, `msgrcv`, ERRORS).
     pub fn untaken(self, why: TakeRefused) -> State
         ensures { (text : List ℕ) → follows_take (receiving self) (untaken_reply why) ≡ Some (state_of result text) }
     {
         match why {
             TakeRefused::Gone => State::refused_as_gone(self.live_seen),
             TakeRefused::Denied => State::refused(Errno::EACCES),
-            TakeRefused::NoMatch { .. } => State::refused(Errno::ENOMSG),
+            TakeRefused::NoMatch { arrived } => self.finds_none(arrived),
             TakeRefused::TooLong => State::refused(Errno::E2BIG),
         }
+    }
+
+    /// Where the receive stands after its queue, live, had no message that it names, when the arrived
+    /// count was `arrived`: it waits until the count is above that, or is refused with ENOMSG where it
+    /// does not wait.
+    fn finds_none(self, arrived: u64) -> State
+        ensures { (text : List ℕ) → follows_take (receiving self) (NoMatch arrived) ≡ Some (state_of result text) }
+    {
+        if self.nowait {
+            return State::refused(Errno::ENOMSG);
+        }
+        State::Waits(Wait::Arrived {
+            above: arrived,
+            receive: Receiving {
+                live_seen: true,
+                ..self
+            },
+        })
     }
 }

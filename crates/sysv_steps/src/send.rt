@@ -1,17 +1,23 @@
 ghost use Rattle.std.specs.Prelude.{◌≡◌, ℕ, List, length, Some};
+ghost use Rattle.sysv_model.specs.History.{Accepted};
+ghost use Rattle.sysv_pool.specs.Replies.{reserve_reply};
 ghost use Rattle.sysv_queue.specs.Replies.{look_reply, unplaced_reply};
 ghost use Rattle.sysv_steps.specs.Begin.{begin as begins};
 ghost use Rattle.sysv_steps.specs.Call.{Msgsnd};
-ghost use Rattle.sysv_steps.specs.Next.{after_look as follows_look, after_place as follows_place};
-ghost use Rattle.sysv_steps.specs.Seen.{sending, state_of};
+ghost use Rattle.sysv_steps.specs.Next.{after_look as follows_look, after_reserve as follows_reserve, after_place as follows_place, is_full as finds_full};
+ghost use Rattle.sysv_steps.specs.Seen.{sending, afterwards_of, state_of};
+ghost use Rattle.sysv_steps.specs.State.{Sending as Send};
 
+use crate::afterwards::Afterwards;
 use crate::ending::Ending;
-use crate::state::{Phase, State};
+use crate::state::{Phase, State, gone};
+use crate::wait::Wait;
 use bitflags::Flags as _;
 use sysv_model::cred::Cred;
 use sysv_model::errno::Errno;
 use sysv_model::flags::Flags;
 use sysv_model::limits::MESSAGE_BYTES;
+use sysv_pool::chain::Chain;
 use sysv_queue::slot::{Look, Unplaced};
 
 /// A send under way (POSIX.1-2017, `msgsnd`). Its text is with its driver.
@@ -51,29 +57,73 @@ impl Sending {
         }))
     }
 
-    /// Where the send stands after its look found this.
+    /// Where the send stands after its look found this. It goes to its reserve where the text fits; it
+    /// waits for room where it may; else it is refused with EINVAL or EIDRM, EACCES, or EAGAIN
+    /// (POSIX.1-2017, `msgsnd`, ERRORS).
     pub fn looked(self, found: Look) -> State
         ensures { (text : List ℕ) → follows_look (sending self text) (look_reply found) ≡ Some (state_of result text) }
     {
         match found {
             Look::Gone => State::refused_as_gone(self.live_seen),
             Look::Denied => State::refused(Errno::EACCES),
-            Look::Full { .. } => State::refused(Errno::EAGAIN),
-            Look::Fits => State::Goes(Phase::Place(Sending {
+            Look::Full { freed } => self.is_full(freed).goes_on(),
+            Look::Fits => State::Goes(Phase::Reserve(Sending {
                 live_seen: true,
                 ..self
             })),
         }
     }
 
-    /// Where the send stands after its text was refused.
-    pub fn unplaced(self, why: Unplaced) -> State
-        ensures { (text : List ℕ) (blocks : ℕ) → follows_place (sending self text) blocks (unplaced_reply why) ≡ Some (state_of result text) }
+    /// Where the send stands after it asked for blocks. It goes to its place with the chain that it got.
+    /// Where too few were free it waits until the released count is above the value that it read last, or
+    /// is refused with EAGAIN where it does not wait (this profile's).
+    pub fn reserved(self, chain: Option<Chain>) -> State
+        ensures { (text : List ℕ) → follows_reserve (sending self text) (reserve_reply chain) ≡ Some (state_of result text) }
     {
-        match why {
-            Unplaced::Gone => State::refused_as_gone(self.live_seen),
-            Unplaced::Denied => State::refused(Errno::EACCES),
-            Unplaced::Full { .. } => State::refused(Errno::EAGAIN),
+        match chain {
+            Some(chain) => State::Goes(Phase::Place { send: self, chain }),
+            None if self.nowait => State::refused(Errno::EAGAIN),
+            None => State::Waits(Wait::Released {
+                above: self.released,
+                send: self,
+            }),
         }
+    }
+
+    /// Where a send stands after its text was accepted: at its end.
+    pub fn placed() -> State
+        ensures { (send : Send) (blocks number : ℕ) (text : List ℕ) → follows_place send blocks (Accepted number) ≡ Some (state_of result text) }
+    {
+        State::Over(Ending::Zero)
+    }
+
+    /// Where the send stands after its text was refused and its chain came back: it gives the chain back,
+    /// and goes on then as its look would have led it.
+    pub fn unplaced(self, why: Unplaced, chain: Chain) -> State
+        ensures { (text : List ℕ) → follows_place (sending self text) chain.blocks (unplaced_reply why) ≡ Some (state_of result text) }
+    {
+        let afterwards = match why {
+            Unplaced::Gone => Afterwards::Refused(gone(self.live_seen)),
+            Unplaced::Denied => Afterwards::Refused(Errno::EACCES),
+            Unplaced::Full { freed } => self.is_full(freed),
+        };
+        State::Goes(Phase::SendGiveback { chain, afterwards })
+    }
+
+    /// What the send does after its queue, live, had no room, when the freed count was `freed`: it
+    /// waits until the count is above that, or is refused with EAGAIN where it does not wait.
+    fn is_full(self, freed: u64) -> Afterwards
+        ensures { (text : List ℕ) → finds_full (sending self text) freed ≡ afterwards_of result text }
+    {
+        if self.nowait {
+            return Afterwards::Refused(Errno::EAGAIN);
+        }
+        Afterwards::Waits(Wait::Freed {
+            above: freed,
+            send: Sending {
+                live_seen: true,
+                ..self
+            },
+        })
     }
 }

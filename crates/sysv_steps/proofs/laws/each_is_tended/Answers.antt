@@ -1,0 +1,5 @@
+use Rattle.sysv_steps.proofs.Tending.{each_tended}
+use Rattle.sysv_steps.proofs.laws.each_is_tended.Goals as goal
+
+pub returns : goal.returns
+returns c = each_tended

@@ -1,0 +1,30 @@
+-- What a send or a receive is told of a queue that was removed (POSIX.1-2017, msgsnd and msgrcv, ERRORS,
+-- EIDRM and EINVAL). One that had come to its queue before and then found it gone says that it was removed;
+-- one that found it gone at once says that there is none. It does not come to a slot again.
+use Rattle.std.specs.Prelude.{◌≡◌, ℕ, false, List, ◌∷◌, ◌++◌}
+use Rattle.std.specs.List.{list_any}
+use Rattle.sysv_model.specs.declared.cred.Cred.{Cred}
+use Rattle.sysv_model.specs.declared.errno.Errno.TheVariants.{EIDRM, EINVAL}
+use Rattle.sysv_model.specs.History.{Call, Gone}
+use Rattle.sysv_model.specs.Turn.{Deed, AtSlot}
+use Rattle.sysv_steps.specs.Call.{SystemCall, Msgsnd, Msgrcv}
+use Rattle.sysv_steps.specs.State.{Ending, Refused, Over}
+use Rattle.sysv_steps.specs.Begin.{begin}
+use Rattle.sysv_steps.specs.Played.{Plays}
+use Rattle.sysv_steps.specs.Answers.{is_at_slot, some}
+
+abbrev pub SendsOrReceives : SystemCall → Type 0
+SendsOrReceives (Msgsnd id mtype flags text) = Unit {0}
+SendsOrReceives (Msgrcv id size mtype flags) = Unit {0}
+SendsOrReceives asked = ⊥
+
+-- by the deeds before the one that found the queue gone, and by those after it
+pub record IsToldOfRemoval (before after : List Deed) (ending : Ending) : Type 0 where
+  pub removed : some is_at_slot before → ending ≡ Refused EIDRM
+  pub absent : list_any is_at_slot before ≡ false → ending ≡ Refused EINVAL
+  pub last : list_any is_at_slot after ≡ false
+
+abbrev pub EachIsToldOfRemoval : Type 0
+EachIsToldOfRemoval = (cred : Cred) (asked : SystemCall) (released : ℕ) (deeds : List Deed) (ending : Ending) →
+    SendsOrReceives asked → Plays (begin cred asked released) deeds (Over ending) →
+    (before after : List Deed) (slot : ℕ) (call : Call) → deeds ≡ before ++ AtSlot slot call Gone ∷ after → IsToldOfRemoval before after ending

@@ -1,0 +1,62 @@
+-- The blocks that a call holds (this profile's): it neither makes nor loses one. Those that it was given, by
+-- the pool or with what it took from a queue or removed with it, went onto a queue or back to the pool, or it
+-- holds them still. A send that comes to its place holds as many as its text takes.
+use Rattle.std.specs.Prelude.{◌≡◌, ℕ, ◌+◌, List, length, sum_by, Contains}
+use Rattle.sysv_model.specs.declared.cred.Cred.{Cred}
+use Rattle.sysv_model.specs.History.{Call, Place, Accepted, Taken, Discarded}
+use Rattle.sysv_model.specs.Pool.{blocks_for, PoolCall, Reserve, Release, Reserved, Released, Foreign}
+use Rattle.sysv_model.specs.Turn.{Deed, AtSlot, AtPool}
+use Rattle.sysv_queue.specs.Blocks.{blocks_of}
+use Rattle.sysv_steps.specs.Call.{SystemCall}
+use Rattle.sysv_steps.specs.State.{AtPlace, AtSendGiveback, AtReceiveGiveback, AtForget, AtRemoveGiveback, State, Goes}
+use Rattle.sysv_steps.specs.Begin.{begin}
+use Rattle.sysv_steps.specs.Played.{Plays}
+
+-- the blocks that a call holds where it stands
+abbrev pub held : State → ℕ
+held (Goes (AtPlace send blocks)) = blocks
+held (Goes (AtSendGiveback blocks afterwards)) = blocks
+held (Goes (AtReceiveGiveback blocks mtype text)) = blocks
+held (Goes (AtForget id blocks)) = blocks
+held (Goes (AtRemoveGiveback blocks)) = blocks
+held state = 0
+
+-- the blocks that a deed gave the call
+abbrev pub given_by : Deed → ℕ
+given_by (AtPool call (Reserved blocks)) = blocks
+given_by (AtSlot slot call (Taken message)) = blocks_for (length message.bytes)
+given_by (AtSlot slot call (Discarded messages)) = blocks_of messages
+given_by deed = 0
+
+-- the blocks of the text that was to be placed, and of the chain that was to be released
+abbrev pub placed_by : Call → ℕ
+placed_by (Place id cred mtype text now) = blocks_for (length text)
+placed_by call = 0
+
+abbrev pub released_by : PoolCall → ℕ
+released_by (Release blocks) = blocks
+released_by (Reserve size) = 0
+
+-- the blocks that left the call by a deed
+abbrev pub left_by : Deed → ℕ
+left_by (AtSlot slot call (Accepted number)) = placed_by call
+left_by (AtPool call Released) = released_by call
+left_by (AtPool call Foreign) = released_by call
+left_by deed = 0
+
+-- a send before its place holds the blocks that its text takes
+abbrev pub HasItsBlocks : State → Type 0
+HasItsBlocks (Goes (AtPlace send blocks)) = blocks ≡ blocks_for (length send.text)
+HasItsBlocks state = Unit {0}
+
+-- the pool gives as many blocks as a text takes, where it gives any
+abbrev pub GivesWhatIsAsked : List Deed → Type 0
+GivesWhatIsAsked deeds = (size blocks : ℕ) → Contains deeds (AtPool (Reserve size) (Reserved blocks)) → blocks ≡ blocks_for size
+
+pub record HoldsItsBlocks (deeds : List Deed) (state : State) : Type 0 where
+  pub balance : held state + sum_by left_by deeds ≡ sum_by given_by deeds
+  pub at_place : HasItsBlocks state
+
+abbrev pub EachHoldsItsBlocks : Type 0
+EachHoldsItsBlocks = (cred : Cred) (asked : SystemCall) (released : ℕ) (deeds : List Deed) (state : State) →
+    Plays (begin cred asked released) deeds state → GivesWhatIsAsked deeds → HoldsItsBlocks deeds state

@@ -1,0 +1,23 @@
+-- Which calls wait (POSIX.1-2017, msgsnd and msgrcv, DESCRIPTION, of IPC_NOWAIT; that a msgget waits while
+-- another makes the queue of its key is this profile's): a send or a receive that does not say IPC_NOWAIT, and
+-- a msgget. A msgctl never does.
+use Rattle.std.specs.Prelude.{◌≡◌, ℕ, false, List}
+use Rattle.sysv_model.specs.declared.cred.Cred.{Cred}
+use Rattle.sysv_model.specs.Turn.{Deed}
+use Rattle.sysv_steps.specs.Call.{SystemCall, Msgget, Msgsnd, Msgrcv, MsgctlStat, MsgctlSet, MsgctlRmid}
+use Rattle.sysv_steps.specs.State.{Wait, Waits}
+use Rattle.sysv_steps.specs.Begin.{begin}
+use Rattle.sysv_steps.specs.Played.{Plays}
+use Rattle.sysv_steps.specs.Answers.{does_not_wait}
+
+abbrev pub MayWait : SystemCall → Type 0
+MayWait (Msgget key flags) = Unit {0}
+MayWait (Msgsnd id mtype flags text) = does_not_wait flags ≡ false
+MayWait (Msgrcv id size mtype flags) = does_not_wait flags ≡ false
+MayWait (MsgctlStat id) = ⊥
+MayWait (MsgctlSet id to) = ⊥
+MayWait (MsgctlRmid id) = ⊥
+
+abbrev pub EachWaitsWhereItMay : Type 0
+EachWaitsWhereItMay = (cred : Cred) (asked : SystemCall) (released : ℕ) (deeds : List Deed) (wait : Wait) →
+    Plays (begin cred asked released) deeds (Waits wait) → MayWait asked

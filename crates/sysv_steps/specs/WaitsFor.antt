@@ -1,0 +1,49 @@
+-- What a call waits for (this profile's): it was refused by its last deed, for want of a message, of room, of
+-- blocks or of a settled row, and its goal is one above the count that it was told then.
+use Rattle.std.specs.Prelude.{◌≡◌, ℕ, ℤ, ◌+◌, ◌⊎◌, false, List, [], ◌∷◌, ◌++◌, length}
+use Rattle.std.specs.List.{list_any}
+use Rattle.sysv_model.specs.declared.cred.Cred.{Cred}
+use Rattle.sysv_model.specs.History.{Probe, Look, Place, Take, Gone, Full, NoMatch}
+use Rattle.sysv_model.specs.Registry.{Begin, Found, Busy}
+use Rattle.sysv_model.specs.Pool.{Reserve, TooFew}
+use Rattle.sysv_model.specs.Turn.{Deed, AtSlot, AtRegistry, AtPool}
+use Rattle.sysv_keys.specs.Identifier.{slot_of_id}
+use Rattle.sysv_steps.specs.Call.{SystemCall}
+use Rattle.sysv_steps.specs.State.{Getting, Sending, Receiving, Wait, OnSettled, OnFreed, OnReleased, OnArrived, Waits}
+use Rattle.sysv_steps.specs.Begin.{begin}
+use Rattle.sysv_steps.specs.Played.{Plays}
+use Rattle.sysv_steps.specs.Answers.{is_at_slot}
+
+abbrev pub EndsWith : List Deed → List Deed → Type 0
+EndsWith last deeds = (front : List Deed) × (deeds ≡ front ++ last)
+
+-- the last deed at a slot; what a send gives back after it goes to the pool
+abbrev pub IsLastAtSlot : Deed → List Deed → Type 0
+IsLastAtSlot deed deeds = (front after : List Deed) × (deeds ≡ front ++ deed ∷ after) × (list_any is_at_slot after ≡ false)
+
+-- another call was making the queue of the key, or the queue that the key was bound to was not live
+abbrev pub WasUnsettled : Getting → ℕ → List Deed → Type 0
+WasUnsettled get settled deeds =
+    EndsWith (AtRegistry (Begin get.key get.flags) (Busy settled) ∷ []) deeds
+    ⊎ ((id : ℤ) × EndsWith (AtRegistry (Begin get.key get.flags) (Found id settled) ∷ AtSlot (slot_of_id id) (Probe id get.cred get.flags) Gone ∷ []) deeds)
+
+-- there was no room, at a look or at a place
+abbrev pub WasFull : Sending → ℕ → List Deed → Type 0
+WasFull send freed deeds =
+    IsLastAtSlot (AtSlot (slot_of_id send.id) (Look send.id send.cred (length send.text)) (Full freed)) deeds
+    ⊎ ((now : ℕ) × IsLastAtSlot (AtSlot (slot_of_id send.id) (Place send.id send.cred send.mtype send.text now) (Full freed)) deeds)
+
+-- no message was named
+abbrev pub FoundNone : Receiving → ℕ → List Deed → Type 0
+FoundNone receive arrived deeds =
+    (now : ℕ) × IsLastAtSlot (AtSlot (slot_of_id receive.id) (Take receive.id receive.cred receive.selector receive.size receive.noerror now) (NoMatch arrived)) deeds
+
+abbrev pub WaitsFor : Wait → List Deed → Type 0
+WaitsFor (OnSettled goal get) deeds = (settled : ℕ) × (goal ≡ settled + 1) × WasUnsettled get settled deeds
+WaitsFor (OnFreed goal send) deeds = (freed : ℕ) × (goal ≡ freed + 1) × WasFull send freed deeds
+WaitsFor (OnReleased goal send) deeds = (goal ≡ send.released + 1) × EndsWith (AtPool (Reserve (length send.text)) TooFew ∷ []) deeds
+WaitsFor (OnArrived goal receive) deeds = (arrived : ℕ) × (goal ≡ arrived + 1) × FoundNone receive arrived deeds
+
+abbrev pub EachWaitsForItsRefusal : Type 0
+EachWaitsForItsRefusal = (cred : Cred) (asked : SystemCall) (released : ℕ) (deeds : List Deed) (wait : Wait) →
+    Plays (begin cred asked released) deeds (Waits wait) → WaitsFor wait deeds

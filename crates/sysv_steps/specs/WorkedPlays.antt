@@ -1,0 +1,128 @@
+-- What the laws of a call admit and refuse, at five calls by one caller: a msgget that waits for another to
+-- settle its key and then makes the queue, one that wants a new queue and finds one, a receive whose queue is
+-- removed while it waits, a send to a full queue that does not wait and one that does, and a removal.
+use Rattle.std.specs.Prelude.{pos, true, false, List, [], ◌∷◌}
+use Rattle.sysv_model.specs.declared.cred.Cred.{Cred}
+use Rattle.sysv_model.specs.declared.errno.Errno.TheVariants.{EACCES, EAGAIN, EEXIST, EIDRM, EINVAL, ENOSPC}
+use Rattle.sysv_model.specs.declared.flags.Flags.{Flags}
+use Rattle.sysv_model.specs.declared.flags.TheConstants.Flags.{IPC_CREAT, IPC_NOWAIT, MSG_NOERROR}
+use Rattle.sysv_model.specs.declared.selector.Selector.TheVariants.{Any}
+use Rattle.sysv_model.specs.History.{Install, Probe, Look, Take, Remove, Installed, Gone, Denied, Full, NoMatch, Discarded}
+use Rattle.sysv_model.specs.Registry.{Begin, Settle, Forget, Found, Made, Busy, Changed}
+use Rattle.sysv_model.specs.Pool.{Release, Released}
+use Rattle.sysv_model.specs.Turn.{Deed, AtSlot, AtRegistry, AtPool}
+use Rattle.sysv_steps.specs.Call.{SystemCall, Msgget, Msgsnd, Msgrcv, MsgctlRmid}
+use Rattle.sysv_steps.specs.State.{Getting, Receiving, OnArrived, AtForget, Ending, Id, Zero, Refused, State, Goes, Waits, Over}
+use Rattle.sysv_steps.specs.Begin.{begin}
+use Rattle.sysv_steps.specs.Played.{Plays}
+use Rattle.sysv_steps.specs.AfterRemoval.{IsToldOfRemoval}
+use Rattle.sysv_steps.specs.WaitsFor.{WaitsFor}
+use Rattle.sysv_steps.specs.Tended.{IsTended}
+
+abbrev pub caller : Cred
+caller = record { uid = 1000; gid = 1000; pid = 101 }
+
+-- the call of the caller plays these deeds to there, and to this end
+abbrev pub PlaysTo : SystemCall → List Deed → State → Type 0
+PlaysTo asked deeds state = Plays (begin caller asked 0) deeds state
+
+abbrev pub EndsIn : SystemCall → List Deed → Ending → Type 0
+EndsIn asked deeds ending = PlaysTo asked deeds (Over ending)
+
+-- another call is making the queue of key 7; once four changes have become five, identifier 67 is made for
+-- this one, in slot 3
+abbrev pub makes : SystemCall
+makes = Msgget (pos 7) IPC_CREAT
+
+abbrev pub finds_it_busy : Deed
+finds_it_busy = AtRegistry (Begin (pos 7) IPC_CREAT) (Busy 4)
+
+abbrev pub is_given_one : Deed
+is_given_one = AtRegistry (Begin (pos 7) IPC_CREAT) (Made (pos 67))
+
+abbrev pub installs : Deed
+installs = AtSlot 3 (Install (pos 67) (pos 7) caller 512 90) (Installed true)
+
+abbrev pub settles : Deed
+settles = AtRegistry (Settle (pos 67)) (Changed true)
+
+abbrev pub is_made : List Deed
+is_made = finds_it_busy ∷ is_given_one ∷ installs ∷ settles ∷ []
+
+abbrev pub making : Getting
+making = record { cred = caller; key = pos 7; flags = IPC_CREAT }
+
+-- with IPC_CREAT and IPC_EXCL, and the caller may not use the queue that is there
+abbrev pub new_alone : Flags
+new_alone = record { 0 = 1536 }
+
+abbrev pub wants_a_new_one : SystemCall
+wants_a_new_one = Msgget (pos 7) new_alone
+
+abbrev pub finds_one : Deed
+finds_one = AtRegistry (Begin (pos 7) new_alone) (Found (pos 67) 5)
+
+abbrev pub is_denied : Deed
+is_denied = AtSlot 3 (Probe (pos 67) caller new_alone) Denied
+
+abbrev pub is_there : List Deed
+is_there = finds_one ∷ is_denied ∷ []
+
+-- no message waits, two have arrived, and the queue is removed
+abbrev pub receives : SystemCall
+receives = Msgrcv (pos 67) 9 (pos 0) MSG_NOERROR
+
+abbrev pub finds_none : Deed
+finds_none = AtSlot 3 (Take (pos 67) caller Any 9 true 90) (NoMatch 2)
+
+abbrev pub finds_it_gone : Deed
+finds_it_gone = AtSlot 3 (Take (pos 67) caller Any 9 true 91) Gone
+
+abbrev pub waiting : Receiving
+waiting = record { cred = caller; id = pos 67; selector = Any; size = 9; noerror = true; nowait = false; seen = true }
+
+-- a text of one byte, and no room
+abbrev pub sends : Flags → SystemCall
+sends flags = Msgsnd (pos 67) (pos 5) flags (104 ∷ [])
+
+abbrev pub finds_it_full : Deed
+finds_it_full = AtSlot 3 (Look (pos 67) caller 1) (Full 6)
+
+-- one message of one byte is discarded, then the identifier goes, and then its block comes back
+abbrev pub removes : SystemCall
+removes = MsgctlRmid (pos 67)
+
+abbrev pub discards : Deed
+discards = AtSlot 3 (Remove (pos 67) caller) (Discarded (record { number = 0; sender = 101; mtype = pos 5; bytes = 104 ∷ [] } ∷ []))
+
+abbrev pub forgets : Deed
+forgets = AtRegistry (Forget (pos 67)) (Changed true)
+
+abbrev pub releases : Deed
+releases = AtPool (Release 1) Released
+
+pub record WorkedPlays : Type 0 where
+  -- the identifier that was made, no other, and no error
+  pub made : EndsIn makes is_made (Id (pos 67))
+  pub made_another : ¬ EndsIn makes is_made (Id (pos 3))
+  pub made_none : ¬ EndsIn makes is_made (Refused ENOSPC)
+  -- a queue that is there is not new, whoever may use it
+  pub exists : EndsIn wants_a_new_one is_there (Refused EEXIST)
+  pub exists_denied : ¬ EndsIn wants_a_new_one is_there (Refused EACCES)
+  -- a retry after the removal says so
+  pub removed : EndsIn receives (finds_none ∷ finds_it_gone ∷ []) (Refused EIDRM)
+  pub removed_invalid : ¬ EndsIn receives (finds_none ∷ finds_it_gone ∷ []) (Refused EINVAL)
+  pub removed_told : IsToldOfRemoval (finds_none ∷ []) [] (Refused EIDRM)
+  pub removed_untold : ¬ IsToldOfRemoval (finds_none ∷ []) [] (Refused EINVAL)
+  -- it waited for the third arrival, and for no later one
+  pub waits : PlaysTo receives (finds_none ∷ []) (Waits (OnArrived 3 waiting))
+  pub waits_longer : ¬ WaitsFor (OnArrived 4 waiting) (finds_none ∷ [])
+  -- a full queue is EAGAIN for a send that does not wait, and for no other
+  pub full : EndsIn (sends IPC_NOWAIT) (finds_it_full ∷ []) (Refused EAGAIN)
+  pub full_sent : ¬ EndsIn (sends IPC_NOWAIT) (finds_it_full ∷ []) Zero
+  pub full_waits : ¬ EndsIn (sends IPC_CREAT) (finds_it_full ∷ []) (Refused EAGAIN)
+  -- a removal is over once its identifier has gone and its block is back, and not before
+  pub gone : EndsIn removes (discards ∷ forgets ∷ releases ∷ []) Zero
+  pub gone_early : ¬ EndsIn removes (discards ∷ []) Zero
+  pub tended : IsTended (discards ∷ []) (Goes (AtForget (pos 67) 1))
+  pub untended : ¬ IsTended (discards ∷ []) (Over Zero)
