@@ -1,0 +1,5 @@
+pub mod Lists
+pub mod Histories
+pub mod Lifting
+pub mod Placed
+pub mod Legality

@@ -1,0 +1,124 @@
+-- A turn at a slot, at the registry or at the pool is one of the objects.
+use Rattle.std.proofs.Common.{◌≡◌, ◌≢◌, ℕ, ◌+◌, ◌≤◌, List, [], ◌∷◌, ◌++◌, Some, inl, inr, refl, sym, ap, subst, ◌∙◌, arith, length, slice_get, slice_set, length-set}
+use Rattle.sysv_model.specs.History.{Who, Actor, Call, Reply, Entry, arrived, freed, then_turn}
+use Rattle.sysv_model.specs.Registry.{RegistryCall, RegistryReply}
+use Rattle.sysv_model.specs.Pool.{PoolCall, PoolReply}
+use Rattle.sysv_model.specs.Turn.{Deed, AtSlot, AtRegistry, AtPool, Turn, slot_history, registry_history, pool_history}
+use Rattle.sysv_queue.specs.Slot.{Slot}
+use Rattle.sysv_queue.specs.LegalReply.{Legal}
+use Rattle.sysv_queue.specs.StandsFor.{StandsFor as SlotStandsFor, MakesTurn as SlotMakesTurn}
+use Rattle.sysv_pool.specs.State.{State as Pool}
+use Rattle.sysv_pool.specs.StandsFor.{StandsFor as PoolStandsFor, MakesTurn as PoolMakesTurn}
+use Rattle.sysv_pool.specs.LegalReply.{Legal as LegalAtPool}
+use Rattle.sysv_keys.specs.StandsFor.{Registry, StandsFor as RegistryStandsFor, MakesTurn as RegistryMakesTurn}
+use Rattle.sysv_objects.specs.LegalDeed.{IsLegalDeed}
+use Rattle.sysv_objects.specs.Objects.{Objects, CountsUpTo, raises, pool_raises}
+use Rattle.sysv_objects.specs.StandsFor.{StandsFor, Stand, MakesTurn}
+use Rattle.sysv_objects.proofs.Lists.{set_same, get_set}
+use Rattle.sysv_objects.proofs.Histories.{turn_of, at_its_slot, at_another, registry_more, not_at_registry, not_at_slot, slot_not_at_pool, registry_not_at_pool, pool_not_at_slot, pool_not_at_registry, pool_more, arrives, frees}
+
+-- the objects with another slot at that number, with another registry, and with another pool
+abbrev pub with_slot : Objects → ℕ → Slot → Objects
+with_slot objects number slot = record { slots = slice_set objects.slots number slot; registry = objects.registry; pool = objects.pool }
+
+abbrev pub with_registry : Objects → Registry → Objects
+with_registry objects registry = record { slots = objects.slots; registry = registry; pool = objects.pool }
+
+abbrev pub with_pool : Objects → Pool → Objects
+with_pool objects pool = record { slots = objects.slots; registry = objects.registry; pool = pool }
+
+-- objects that stand for some turns stand for some after a turn
+pub stand_on : (old new : Objects) (deed : Deed) → Stand old → MakesTurn old deed new → Stand new
+stand_on old new deed st turn = (st.0, st.1 ++ turn_of (Actor 0 0) deed ∷ [], turn.stands st.0 st.1 (Actor 0 0) st.2)
+
+-- ---- at a slot
+
+module _ (old : Objects) (number : ℕ) (was new : Slot) (call : Call) (reply : Reply) (there : slice_get old.slots number ≡ Some was) (turn : SlotMakesTurn was call reply new) where
+  legal_there : (generation : ℕ) (turns : List Turn) → StandsFor generation turns old → IsLegalDeed generation old.pool.size turns (AtSlot number call reply)
+  legal_there generation turns st = subst (λ s. Legal s call reply) (sym (st.slots number was there).seen) turn.legal
+
+  stands_there : (generation : ℕ) (turns : List Turn) (who : Who) → StandsFor generation turns old →
+      StandsFor generation (turns ++ turn_of who (AtSlot number call reply) ∷ []) (with_slot old number new)
+  stands_there generation turns who st = record {
+    many = length-set old.slots number new ∙ st.many;
+    slots = λ at slot here. elim (get_set old.slots number at new slot here) [
+      | inl same ↦
+          subst (SlotStandsFor _) same.1
+          (subst (λ n. SlotStandsFor (slot_history n (turns ++ turn_of who (AtSlot number call reply) ∷ [])) new) same.0
+          (subst (λ h. SlotStandsFor h new) (sym (at_its_slot number turns who call reply)) (turn.stands (slot_history number turns) who (st.slots number was there))))
+      | inr apart ↦ subst (λ h. SlotStandsFor h slot) (sym (at_another at number turns who call reply apart.0)) (st.slots at slot apart.1)
+    ];
+    registry = subst (λ h. RegistryStandsFor generation h old.registry) (sym (not_at_registry turns who number call reply)) st.registry;
+    pool = subst (λ h. PoolStandsFor h old.pool) (sym (slot_not_at_pool turns who number call reply)) st.pool;
+  }
+
+  rises_there : Stand old → (new.arrived ≤ was.arrived + raises call) × (new.freed ≤ was.freed + raises call)
+  rises_there st =
+      let h = slot_history number st.1 in
+      let before = st.2.slots number was there in
+      let after = turn.stands h (Actor 0 0) before in
+      let e : Entry = record { who = Actor 0 0; call = call; reply = reply } in
+      let a0 = ap (λ (s : Slot). s.arrived) before.seen in
+      let a1 = ap (λ (s : Slot). s.arrived) after.seen in
+      let f0 = ap (λ (s : Slot). s.freed) before.seen in
+      let f1 = ap (λ (s : Slot). s.freed) after.seen in
+      (omega (arith, arrives h e), omega (arith, frees h e))
+
+  pub at_slot : Stand old → MakesTurn old (AtSlot number call reply) (with_slot old number new)
+  at_slot st = record {
+    legal = legal_there;
+    stands = stands_there;
+    size = refl;
+    counts = λ bound up. (
+      λ at slot here. elim (get_set old.slots number at new slot here) [
+        | inl same ↦
+            let was_up = up.0 number was there in
+            let rise = rises_there st in
+            subst (λ (s : Slot). (s.arrived ≤ bound + raises call) × (s.freed ≤ bound + raises call)) same.1 (omega (arith, was_up.0, rise.0), omega (arith, was_up.1, rise.1))
+        | inr apart ↦ let still = up.0 at slot apart.1 in (omega (arith, still.0), omega (arith, still.1))
+      ],
+      omega (arith, up.1),
+    );
+  }
+
+-- a turn that leaves its slot as it is
+pub at_slot_still : (old : Objects) (number : ℕ) (was : Slot) (call : Call) (reply : Reply) → slice_get old.slots number ≡ Some was → SlotMakesTurn was call reply was → Stand old →
+    MakesTurn old (AtSlot number call reply) old
+at_slot_still old number was call reply there turn st =
+    subst (λ slots. MakesTurn old (AtSlot number call reply) (record { slots = slots; registry = old.registry; pool = old.pool })) (set_same old.slots number was there)
+    (at_slot old number was was call reply there turn st)
+
+-- ---- at the registry
+
+pub at_registry : (old : Objects) (new : Registry) (call : RegistryCall) (reply : RegistryReply) → RegistryMakesTurn old.registry call reply new →
+    MakesTurn old (AtRegistry call reply) (with_registry old new)
+at_registry old new call reply turn = record {
+  legal = λ generation turns st. turn.legal generation (registry_history turns) st.registry;
+  stands = λ generation turns who st. record {
+    many = st.many;
+    slots = λ at slot here. subst (λ h. SlotStandsFor h slot) (sym (not_at_slot at turns who call reply)) (st.slots at slot here);
+    registry = subst (λ h. RegistryStandsFor generation h new) (sym (at_the_registry turns who)) (turn.stands generation (registry_history turns) who st.registry);
+    pool = subst (λ h. PoolStandsFor h old.pool) (sym (registry_not_at_pool turns who call reply)) st.pool;
+  };
+  size = refl;
+  counts = λ bound up. (λ at slot here. let still = up.0 at slot here in (omega (arith, still.0), omega (arith, still.1)), omega (arith, up.1));
+}
+  where
+    at_the_registry : (turns : List Turn) (who : Who) → registry_history (turns ++ turn_of who (AtRegistry call reply) ∷ []) ≡ registry_history turns ++ record { who = who; call = call; reply = reply } ∷ []
+    at_the_registry turns who = registry_more turns (turn_of who (AtRegistry call reply))
+
+-- ---- at the pool
+
+pub at_pool : (old : Objects) (new : Pool) (call : PoolCall) (reply : PoolReply) → PoolMakesTurn old.pool call reply new → new.size ≡ old.pool.size → new.released ≤ old.pool.released + pool_raises call →
+    MakesTurn old (AtPool call reply) (with_pool old new)
+at_pool old new call reply turn size rise = record {
+  legal = λ generation turns st. subst (λ p. LegalAtPool p call reply) (sym st.pool.seen) turn.legal;
+  stands = λ generation turns who st. record {
+    many = st.many;
+    slots = λ at slot here. subst (λ h. SlotStandsFor h slot) (sym (pool_not_at_slot at turns who call reply)) (st.slots at slot here);
+    registry = subst (λ h. RegistryStandsFor generation h old.registry) (sym (pool_not_at_registry turns who call reply)) st.registry;
+    pool = subst (λ h. PoolStandsFor h new) (sym (pool_more turns (turn_of who (AtPool call reply)))) (turn.stands (pool_history turns) who st.pool);
+  };
+  size = size;
+  counts = λ bound up. (λ at slot here. let still = up.0 at slot here in (omega (arith, still.0), omega (arith, still.1)), omega (arith, up.1, rise));
+}

@@ -1,0 +1,18 @@
+-- Places in lists.
+use Rattle.std.proofs.Common.{◌≡◌, ◌≢◌, ◌⊎◌, inl, inr, ℕ, zero, suc, ◌<◌, ◌==◌, Bool, true, false, List, [], ◌∷◌, Some, refl, sym, ap, arith, length, slice_get, slice_set}
+
+pub set_same : {X : Type 0} (xs : List X) (i : ℕ) (x : X) → slice_get xs i ≡ Some x → slice_set xs i x ≡ xs
+set_same [] i x e = refl
+set_same (y ∷ xs) zero x e = let same : y ≡ x = cc in ap (λ z. z ∷ xs) (sym same)
+set_same (y ∷ xs) (suc i) x e = ap (λ ys. y ∷ ys) (set_same xs i x e)
+
+-- what stands in a list after one place was changed
+pub get_set : {X : Type 0} (xs : List X) (i j : ℕ) (x y : X) → slice_get (slice_set xs i x) j ≡ Some y → ((i ≡ j) × (x ≡ y)) ⊎ ((i ≢ j) × (slice_get xs j ≡ Some y))
+get_set [] i j x y e = absurd cc
+get_set (z ∷ xs) zero zero x y e = inl (refl, cc)
+get_set (z ∷ xs) zero (suc j) x y e = inr ((λ s. omega arith), e)
+get_set (z ∷ xs) (suc i) zero x y e = inr ((λ s. omega arith), e)
+get_set (z ∷ xs) (suc i) (suc j) x y e = elim (get_set xs i j x y e) [
+  | inl h ↦ inl (ap suc h.0, h.1)
+  | inr h ↦ inr ((λ s. h.0 (omega arith)), h.1)
+]

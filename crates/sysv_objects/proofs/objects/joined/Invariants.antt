@@ -1,0 +1,13 @@
+use Rattle.std.proofs.Common.{◌≡◌, ◌+◌, []}
+use Rattle.sysv_objects.specs.Objects.{blocks_in}
+use Rattle.sysv_objects.proofs.objects.joined.Given as goal
+
+-- the blocks of the slots that were ended are in the chain
+abbrev pub invariant-loop-slot : goal.invariant-loop-slot
+invariant-loop-slot l = record {
+  all : l.chain.blocks + blocks_in l.slots.items ≡ blocks_in l.initial.slots.items;
+  bare : l.chain.bytes ≡ [];
+}
+
+abbrev pub decreases-loop-slot : goal.decreases-loop-slot
+decreases-loop-slot l = goal.left-loop-slot l

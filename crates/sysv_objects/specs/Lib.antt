@@ -1,0 +1,14 @@
+pub use Rattle.sysv_model.specs.Errors
+pub use Rattle.sysv_model.specs.Message
+pub use Rattle.sysv_model.specs.HasFlag
+pub use Rattle.sysv_model.specs.Selector
+pub use Rattle.sysv_model.specs.History
+pub use Rattle.sysv_model.specs.Live
+pub use Rattle.sysv_model.specs.Waiting
+pub use Rattle.sysv_model.specs.Registry
+pub use Rattle.sysv_model.specs.Pool
+pub use Rattle.sysv_model.specs.Turn
+pub mod LegalDeed
+pub mod OneDeed
+pub mod Objects
+pub mod StandsFor

@@ -1,0 +1,41 @@
+-- What the objects are seen as: each slot, by its number, the registry and the pool (this profile's).
+use Rattle.std.specs.Prelude.{◌≡◌, ℕ, ◌+◌, ◌≤◌, List, Some, slice_get, sum_by}
+use Rattle.sysv_model.specs.History.{Call, Place, Take, Set, Remove}
+use Rattle.sysv_model.specs.Pool.{PoolCall, Reserve, Release}
+use Rattle.sysv_model.specs.Turn.{Deed, AtSlot, AtRegistry, AtPool}
+use Rattle.sysv_queue.specs.Slot.{Slot}
+use Rattle.sysv_queue.specs.Blocks.{blocks_of}
+use Rattle.sysv_keys.specs.StandsFor.{Registry}
+use Rattle.sysv_pool.specs.State.{State as Pool}
+
+pub record Objects : Type 0 where
+  pub slots : List Slot
+  pub registry : Registry
+  pub pool : Pool
+
+-- no count of a slot is above this, nor is the released count
+abbrev pub CountsUpTo : ℕ → Objects → Type 0
+CountsUpTo bound objects =
+    ((number : ℕ) (slot : Slot) → slice_get objects.slots number ≡ Some slot → (slot.arrived ≤ bound) × (slot.freed ≤ bound)) × (objects.pool.released ≤ bound)
+
+-- how far a turn raises a count at most: by one where it is a place, a take, a set or a
+-- removal, or a release
+abbrev pub raises : Call → ℕ
+raises (Place id cred mtype bytes now) = 1
+raises (Take id cred selector size noerror now) = 1
+raises (Set id cred to now) = 1
+raises (Remove id cred) = 1
+raises call = 0
+
+abbrev pub pool_raises : PoolCall → ℕ
+pool_raises (Reserve size) = 0
+pool_raises (Release blocks) = 1
+
+abbrev pub raises_by : Deed → ℕ
+raises_by (AtSlot slot call reply) = raises call
+raises_by (AtRegistry call reply) = 0
+raises_by (AtPool call reply) = pool_raises call
+
+-- the blocks of all that waits in these slots
+abbrev pub blocks_in : List Slot → ℕ
+blocks_in slots = sum_by (λ (s : Slot). blocks_of s.messages) slots
