@@ -1,24 +1,27 @@
--- The actors that the code keeps, as the states that are seen; and how far one turn moves the slot's
--- counts.
-use Rattle.std.proofs.Common.{◌≡◌, ℕ, ℤ, ◌+◌, ◌<◌, ◌≤◌, Bool, true, false, cond, List, [], ◌∷◌, ◌++◌, Option, None, Some, refl, sym, ap, ◌∙◌, arith, length, slice_get, slice_set, length-set, option_map, is_some}
+-- The actors that the code keeps, as the states that are seen.
+use Rattle.std.proofs.Common.{◌≡◌, ℕ, ◌+◌, ◌<◌, ◌≤◌, true, false, List, Option, None, Some, refl, sym, ap, subst, ◌∙◌, arith, length, slice_get, slice_set, length-set, option_map, is_some}
 use Rattle.std.specs.List.{slice_index_or}
 use Rattle.std.proofs.lemmas.List.{length-map}
-use Rattle.std.proofs.lemmas.List.Sums.{sum_by-append}
 use Rattle.std.proofs.lemmas.Option.{slice_get-map, slice_get_read}
-use Rattle.sysv_model.specs.declared.cred.Cred.{Cred}
-use Rattle.sysv_model.specs.History.{Actor, Call, Install, Reply, Installed, Entry, History, announces_arrival, announces_room, arrived, freed}
-use Rattle.sysv_queue.specs.Slot.{Slot}
-use Rattle.sysv_queue.specs.StandsFor.{StandsFor, MakesTurn}
-use Rattle.sysv_steps.specs.State.{State, Goes}
-use Rattle.sysv_steps.specs.Seen.{phase_of}
+use Rattle.sysv_objects.specs.Objects.{Objects, CountsUpTo, raises_by}
+use Rattle.sysv_model.specs.History.{Call, Install, Probe, Look, Place, Take, ReadStat, Set, Remove, ReadRow}
+use Rattle.sysv_model.specs.Pool.{Reserve, Release}
+use Rattle.sysv_model.specs.Turn.{Deed, AtSlot, AtRegistry, AtPool}
+use Rattle.sysv_objects.specs.Objects.{raises}
+use Rattle.sysv_steps.specs.State.{State, Goes, Waits, Over}
 use Rattle.sysv_core.specs.declared.doing.Doing.{Doing}
-use Rattle.sysv_core.specs.Kept.{state_kept, states_kept}
+use Rattle.sysv_core.specs.declared.doing.Led.{Led}
+use Rattle.sysv_core.specs.declared.doing.Led.TheVariants as led
+use Rattle.sysv_core.specs.Held.{text_in}
+use Rattle.sysv_core.specs.Standing.{stands_at}
+use Rattle.sysv_core.specs.Kept.{state_kept, states_kept, doing_led, kept_led, counted_led}
+use Rattle.sysv_core.specs.Led.{StepLeads}
 use Rattle.sysv_core.specs.Seen.{Seen}
-use Rattle.sysv_core.proofs.Lists.{map-slice_set, slice_set-same, slice_set-twice}
+use Rattle.sysv_core.proofs.Lists.{map-slice_set, slice_set-same, slice_set-twice, get_set_same}
 
 pub kept_some : (x : Option Doing) → is_some x ≡ true → (p : State) × (state_kept x ≡ Some p)
 kept_some None e = absurd cc
-kept_some (Some p) e = (Goes (phase_of p.phase p.body), refl)
+kept_some (Some d) e = (stands_at d.standing (text_in d.body), refl)
 
 pub kept_none : (x : Option Doing) → is_some x ≡ false → state_kept x ≡ None
 kept_none None e = refl
@@ -51,42 +54,58 @@ module _ (items : List (Option Doing)) (states : List (Option State)) (view : st
   pub still_within : (x : Option Doing) → place < length (states_kept (slice_set items place x))
   still_within x = omega (arith, length-map (slice_set items place x) state_kept, length-set items place x, inside)
 
-pub same_seen : (a b : Slot) (s t : List (Option State)) (m n k l : ℕ) → a ≡ b → s ≡ t → m ≡ n → k ≡ l →
-    let x : Seen = record { slot = a; states = s; steps = m; blocks = k } in let y : Seen = record { slot = b; states = t; steps = n; blocks = l } in x ≡ y
-same_seen a b s t m n k l e f g h = cc
+  -- what is put at that place, over what was taken from it or not
+  pub seen_settled : (new : List (Option Doing)) (l : Led) → new ≡ slice_set items place (doing_led l) → states_kept new ≡ slice_set states place (kept_led l)
+  seen_settled new l e = ap states_kept e ∙ seen_set (doing_led l) (kept_led l) refl
 
-one_more : (b : Bool) → cond b 1 0 ≤ 1
-one_more true = omega arith
-one_more false = omega arith
+  pub seen_resettled : (x : Option Doing) (new : List (Option Doing)) (l : Led) → new ≡ slice_set (slice_set items place x) place (doing_led l) → states_kept new ≡ slice_set states place (kept_led l)
+  seen_resettled x new l e = ap states_kept e ∙ seen_taken x (doing_led l) (kept_led l) refl
 
-arrives : (h : History) (e : Entry) → arrived (h ++ e ∷ []) ≤ arrived h + 1
-arrives h e = omega (arith, sum_by-append (λ (t : Entry). cond (announces_arrival t.call t.reply) 1 0) h (e ∷ []), one_more (announces_arrival e.call e.reply))
+  there : (x : Option Doing) → x ≡ slice_index_or items place x → slice_get items place ≡ Some x
+  there x read = slice_get_read items (length items) place x refl inside read
 
-frees : (h : History) (e : Entry) → freed (h ++ e ∷ []) ≤ freed h + 1
-frees h e = omega (arith, sum_by-append (λ (t : Entry). cond (announces_room t.call t.reply) 1 0) h (e ∷ []), one_more (announces_room e.call e.reply))
+  -- the actor at that place is in no call
+  pub idle_there : (x : Option Doing) → x ≡ slice_index_or items place x → is_some x ≡ false → slice_get items place ≡ Some None
+  idle_there x read e = there x read ∙ ap Some (none_is x e)
+    where
+      none_is : (y : Option Doing) → is_some y ≡ false → y ≡ None
+      none_is None e = refl
+      none_is (Some d) e = absurd cc
 
--- one turn adds at most one to each count
-pub counts_rise : (h : History) (old new : Slot) (call : Call) (reply : Reply) → StandsFor h old → MakesTurn old call reply new →
-    (new.arrived ≤ old.arrived + 1) × (new.freed ≤ old.freed + 1) × ((k : History) × StandsFor k new)
-counts_rise h old new call reply st turn =
-    let e : Entry = record { who = Actor 0 0; call = call; reply = reply } in
-    let next = turn.stands h (Actor 0 0) st in
-    let a0 = ap (λ (s : Slot). s.arrived) st.seen in
-    let a1 = ap (λ (s : Slot). s.arrived) next.seen in
-    let f0 = ap (λ (s : Slot). s.freed) st.seen in
-    let f1 = ap (λ (s : Slot). s.freed) next.seen in
-    (omega (arith, arrives h e), omega (arith, frees h e), (h ++ e ∷ [], next))
+  -- nor is it once its call was taken out
+  pub taken_there : (x : Option Doing) → x ≡ slice_index_or items place x → (new : Option Doing) → new ≡ None → slice_get (slice_set items place new) place ≡ Some None
+  taken_there x read new e = get_set_same items place new x (there x read) ∙ ap Some e
 
--- an install moves neither
-pub install_keeps_counts : (h : History) (old new : Slot) (id key : ℤ) (cred : Cred) (mode now : ℕ) (made : Bool) → StandsFor h old → MakesTurn old (Install id key cred mode now) (Installed made) new →
-    (new.arrived ≡ old.arrived) × (new.freed ≡ old.freed) × ((k : History) × StandsFor k new)
-install_keeps_counts h old new id key cred mode now made st turn =
-    let e : Entry = record { who = Actor 0 0; call = Install id key cred mode now; reply = Installed made } in
-    let next = turn.stands h (Actor 0 0) st in
-    let a0 = ap (λ (s : Slot). s.arrived) st.seen in
-    let a1 = ap (λ (s : Slot). s.arrived) next.seen in
-    let f0 = ap (λ (s : Slot). s.freed) st.seen in
-    let f1 = ap (λ (s : Slot). s.freed) next.seen in
-    let a = sum_by-append (λ (t : Entry). cond (announces_arrival t.call t.reply) 1 0) h (e ∷ []) in
-    let f = sum_by-append (λ (t : Entry). cond (announces_room t.call t.reply) 1 0) h (e ∷ []) in
-    (omega arith, omega arith, (h ++ e ∷ [], next))
+pub same_seen : (o p : Objects) (s t : List (Option State)) (m n : ℕ) → o ≡ p → s ≡ t → m ≡ n →
+    let x : Seen = record { objects = o; states = s; steps = m } in let y : Seen = record { objects = p; states = t; steps = n } in x ≡ y
+same_seen o p s t m n e f g = cc
+
+-- ---- the bound of the counts
+
+pub weaker : (m n : ℕ) (o : Objects) → m ≤ n → CountsUpTo m o → CountsUpTo n o
+weaker m n o le up = (λ number slot here. let u = up.0 number slot here in (omega (arith, u.0), omega (arith, u.1)), omega (arith, up.1))
+
+raises_one : (call : Call) → raises call ≤ 1
+raises_one (Install id key cred mode now) = omega arith
+raises_one (Probe id cred flags) = omega arith
+raises_one (Look id cred size) = omega arith
+raises_one (Place id cred mtype bytes now) = omega arith
+raises_one (Take id cred selector size noerror now) = omega arith
+raises_one (ReadStat id cred) = omega arith
+raises_one (Set id cred to now) = omega arith
+raises_one (Remove id cred) = omega arith
+raises_one ReadRow = omega arith
+
+raises_at_most : (deed : Deed) → raises_by deed ≤ 1
+raises_at_most (AtSlot slot call reply) = raises_one call
+raises_at_most (AtRegistry call reply) = omega arith
+raises_at_most (AtPool (Reserve size) reply) = omega arith
+raises_at_most (AtPool (Release blocks) reply) = omega arith
+
+-- a step raises the counts no further than the step number
+pub counts_on : (old : Objects) (state : State) (now : ℕ) (l : Led) (new : Objects) (n : ℕ) → StepLeads old state now l new → CountsUpTo n old → CountsUpTo (n + counted_led l) new
+counts_on old (Goes phase) now (led.To doing) new n step up = weaker (n + raises_by step.deed) (n + 1) new (omega (arith, raises_at_most step.deed)) (step.turn.counts n up)
+counts_on old (Goes phase) now (led.Over result body) new n step up = weaker (n + raises_by step.deed) (n + 1) new (omega (arith, raises_at_most step.deed)) (step.turn.counts n up)
+counts_on old (Goes phase) now (led.Stays doing) new n step up = absurd step.leads
+counts_on old (Waits wait) now l new n step up = weaker n (n + counted_led l) new (omega arith) (subst (CountsUpTo n) (sym step.1) up)
+counts_on old (Over ending) now l new n step up = absurd step

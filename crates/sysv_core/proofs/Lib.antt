@@ -1,7 +1,19 @@
 pub mod Lists
+pub mod Following
+pub mod Sounding
 pub mod Own
+pub mod Along
+pub mod Installing
+pub mod Telling
+pub mod Tending
+pub mod Settling
+pub mod GetsParked
+pub mod Reserving
+pub mod Waking
+pub mod Parking
 pub mod Obeying
 pub mod KeptActors
+pub mod Presetting
 pub mod SeenSteps
 pub mod Runs
 pub mod OneRun
@@ -9,3 +21,4 @@ pub mod SomeRun
 pub mod WorkedRun
 pub mod WorkedSelection
 pub mod WorkedAnswers
+pub mod WorkedWaits

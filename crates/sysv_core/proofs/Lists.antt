@@ -1,5 +1,5 @@
 -- Places in lists, and what is kept of each element.
-use Rattle.std.proofs.Common.{◌≡◌, ◌≢◌, ◌⊎◌, inl, inr, ℕ, zero, suc, List, [], ◌∷◌, Some, refl, sym, ap, arith, length, map, slice_get, slice_set, replicate}
+use Rattle.std.proofs.Common.{◌≡◌, ◌≢◌, ◌⊎◌, inl, inr, ℕ, zero, suc, ◌<◌, ◌≤◌, List, [], ◌∷◌, Some, refl, sym, ap, arith, length, map, slice_get, slice_set, replicate}
 
 pub map-slice_set : {X Y : Type 0} (f : X → Y) (xs : List X) (i : ℕ) (x : X) → map f (slice_set xs i x) ≡ slice_set (map f xs) i (f x)
 map-slice_set f [] i x = refl
@@ -41,3 +41,8 @@ same_place zero zero = inl refl
 same_place zero (suc j) = inr (λ e. omega arith)
 same_place (suc i) zero = inr (λ e. omega arith)
 same_place (suc i) (suc j) = elim (same_place i j) [ inl e ↦ inl (ap suc e) | inr f ↦ inr (λ e. f (omega arith)) ]
+
+pub at_most : (a b : ℕ) → (a ≤ b) ⊎ (b < a)
+at_most zero b = inl (omega arith)
+at_most (suc a) zero = inr (omega arith)
+at_most (suc a) (suc b) = elim (at_most a b) [ inl h ↦ inl (omega arith) | inr h ↦ inr (omega arith) ]

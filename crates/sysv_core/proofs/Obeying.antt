@@ -1,39 +1,47 @@
 -- Every list of happenings leads only to worlds that obey the laws.
-use Rattle.std.proofs.Common.{◌≡◌, ◌≢◌, ℕ, zero, suc, ◌+◌, ◌<◌, ◌⊎◌, inl, inr, Bool, true, false, cond, List, [], ◌∷◌, ◌++◌, Option, None, Some, refl, sym, ap, subst, ◌∙◌, arith, slice_get, slice_set, replicate, append_assoc, pos, map}
+use Rattle.std.proofs.Common.{◌≡◌, ◌≢◌, ℕ, zero, suc, ◌+◌, ◌<◌, ◌⊎◌, inl, inr, Bool, true, false, cond, List, [], ◌∷◌, ◌++◌, Option, None, Some, refl, sym, ap, subst, ◌∙◌, arith, slice_get, slice_set, append_assoc, map}
 use Rattle.std.specs.List.{All, AllPairs, Contains, filter}
 use Rattle.std.proofs.Math.ListN.{get_or}
-use Rattle.std.proofs.lemmas.Grind.{flat_map-append}
 use Rattle.std.proofs.lemmas.List.{append-nil}
-use Rattle.std.proofs.lemmas.Bool.Decides.{eqb_tells}
-use Rattle.std.proofs.Math.Dec.{eqb}
 use Rattle.std.proofs.lemmas.List.Elements.{All-weaker, All-push, All-contains_itself, All-contains, Contains-get_or, Contains-append_left, Contains-push, Contains-push_cases}
 use Rattle.std.proofs.lemmas.List.Quantifiers.{all_pairs_push}
 use Rattle.sysv_model.specs.declared.cred.Cred.{Cred}
-use Rattle.sysv_model.specs.History.{Who, Actor, Call, Reply, Entry, History, Installed}
-use Rattle.sysv_model.specs.Turn.{Deed, AtSlot, AtRegistry, AtPool, Turn, slot_entry, slot_history, is_same, deeds_of}
-use Rattle.sysv_queue.specs.LegalReply.{IsLegalReply, IsLegalHistory}
+use Rattle.sysv_model.specs.History.{Who, Actor, History}
+use Rattle.sysv_model.specs.Registry.{RegistryHistory}
+use Rattle.sysv_model.specs.Pool.{PoolHistory}
+use Rattle.sysv_model.specs.Turn.{Deed, Turn, slot_history, registry_history, pool_history, is_same, deeds_of}
+use Rattle.sysv_pool.specs.LegalReply.{IsLegalHistory as IsLegalPoolHistory}
+use Rattle.sysv_pool.specs.PoolLaw.{PoolLaw}
+use Rattle.sysv_queue.specs.LegalReply.{IsLegalHistory}
 use Rattle.sysv_queue.specs.QueueLaw.{QueueLaw}
+use Rattle.sysv_queue.specs.StaysRight.{NoMatchStays, FullStays, FullStaysForLook, CountsNeverFall}
+use Rattle.sysv_queue.specs.ForGood.{RemovedForGood}
+use Rattle.sysv_keys.specs.LegalReply.{IsLegalHistory as IsLegalRegistryHistory}
+use Rattle.sysv_keys.specs.RegistryLaw.{RegistryLaw}
+use Rattle.sysv_objects.specs.LegalDeed.{AreLegal}
 use Rattle.sysv_steps.specs.Call.{SystemCall}
-use Rattle.sysv_steps.specs.SlotAt.{slot_at}
 use Rattle.sysv_steps.specs.State.{Phase, Wait, Ending, State, Goes, Waits, Over}
 use Rattle.sysv_steps.specs.Resume.{awaited, resume}
 use Rattle.sysv_steps.specs.Played.{Plays, begins, steps, resumes}
 use Rattle.sysv_steps.specs.AsksFor.{EachDeedIsAskedFor}
 use Rattle.sysv_steps.specs.Answers.{IsRightAnswer, EachAnswerIsRight}
-use Rattle.sysv_core.specs.World.{World, Opening, Started, Doing, Given, Happening, Preset, Start, Step, opening, doing_in, given_in, StaysWith, starting, begun, IsLegal, Turns, value_of, Looks, Continues, StartsAt, StepsAt, preset_call, Presets, Makes}
+use Rattle.sysv_steps.specs.WaitsFor.{EachWaitsForItsRefusal}
+use Rattle.sysv_steps.specs.AfterRemoval.{EachIsToldOfRemoval}
+use Rattle.sysv_core.specs.World.{World, Opening, Started, Doing, Given, Happening, Preset, Start, Step, opening, doing_in, given_in, StaysWith, starting, begun, Turns, value_of, Looks, Continues, StartsAt, StepsAt, preset_who, preset_begin, preset_install, preset_settle, with_preset_turns, Presets, Makes}
 use Rattle.sysv_core.specs.Run.{Leads}
 use Rattle.sysv_core.specs.AnswerLaw.{endings_of, stands_in, standing_of, ended, standing, Fate, IsMade, AsksAsItWasAsked}
 use Rattle.sysv_core.specs.Headline.{Obeys}
+use Rattle.sysv_core.specs.Sound.{IsSound, StaysSound}
+use Rattle.sysv_core.proofs.Sounding.{turn_of, none_busy, opening_sound}
+use Rattle.sysv_core.proofs.Reserving.{are_short}
+use Rattle.sysv_core.proofs.Waking.{are_to_be_woken}
+use Rattle.sysv_core.proofs.Parking.{parked_rightly}
+use Rattle.sysv_core.proofs.Installing.{removed_for_good}
+use Rattle.sysv_core.proofs.Telling.{told_so}
+use Rattle.sysv_core.proofs.Tending.{are_tended}
+use Rattle.sysv_core.proofs.Settling.{settled_once_installed}
 use Rattle.sysv_core.proofs.Lists.{get_set_same, get_set_other, same_place}
 use Rattle.sysv_core.proofs.Own.{same_who, same_itself, not_same, same_or_not, own_deed, other_deed, own_endings, other_endings, IsIn, at_actor, own_standing, other_standing}
-
--- what the queue's laws say of legal histories
-pub record Legality : Type 0 where
-  pub empty : IsLegalHistory []
-  pub more : (h : History) (e : Entry) → IsLegalHistory h → IsLegalReply h e.call e.reply → IsLegalHistory (h ++ e ∷ [])
-
-abbrev AreLegal : List Turn → Type 0
-AreLegal turns = (slot : ℕ) → IsLegalHistory (slot_history slot turns)
 
 -- the call was started by an actor before this step number
 abbrev IsBefore : ℕ → Started → Type 0
@@ -47,7 +55,7 @@ abbrev AreOwn : List Started → List (Option Doing) → Type 0
 AreOwn calls actors = (place : ℕ) (d : Doing) → slice_get actors place ≡ Some (Some d) → IsOwn calls place d
 
 record Inv (w : World) (given : List Given) : Type 0 where
-  legal : AreLegal w.turns
+  sound : IsSound w
   fates : (c : Started) → Contains w.calls c → Fate w given c
   before : (c : Started) → Contains w.calls c → IsBefore w.steps c
   apart : AllPairs (λ (c d : Started). c.who ≢ d.who) w.calls
@@ -55,33 +63,6 @@ record Inv (w : World) (given : List Given) : Type 0 where
   made : All (IsMade w.calls) w.turns
   known : All (λ (g : Given). Contains w.calls g.call) given
   doing : AreOwn w.calls w.actors
-
--- ---- one more turn
-
-none_more : (slot : ℕ) (turns : List Turn) (t : Turn) → slot_history slot (turns ++ t ∷ []) ≡ slot_history slot turns ++ (slot_entry slot t.who t.deed ++ [])
-none_more slot turns t = flat_map-append (λ (x : Turn). slot_entry slot x.who x.deed) turns (t ∷ [])
-
-pub one_more : (slot : ℕ) (turns : List Turn) (t : Turn) → slot_history slot (turns ++ t ∷ []) ≡ slot_history slot turns ++ slot_entry slot t.who t.deed
-one_more slot turns t = none_more slot turns t ∙ ap (λ es. slot_history slot turns ++ es) (append-nil (slot_entry slot t.who t.deed))
-
-module _ (l : Legality) where
-  at_this : (turns : List Turn) (who : Who) (slot at : ℕ) (call : Call) (reply : Reply) → ((eqb at slot ≡ true) × (at ≡ slot)) ⊎ ((eqb at slot ≡ false) × (at ≢ slot)) →
-      AreLegal turns → IsLegalReply (slot_history at turns) call reply → IsLegalHistory (slot_history slot turns ++ slot_entry slot who (AtSlot at call reply))
-  at_this turns who slot at call reply (inl same) legal here =
-      let e : Entry = record { who = who; call = call; reply = reply } in
-      subst (λ b. IsLegalHistory (slot_history slot turns ++ cond b (e ∷ []) [])) (sym same.0)
-      (l.more (slot_history slot turns) e (legal slot) (subst (λ n. IsLegalReply (slot_history n turns) call reply) same.1 here))
-  at_this turns who slot at call reply (inr other) legal here =
-      let e : Entry = record { who = who; call = call; reply = reply } in
-      subst (λ b. IsLegalHistory (slot_history slot turns ++ cond b (e ∷ []) [])) (sym other.0)
-      (subst IsLegalHistory (sym (append-nil (slot_history slot turns))) (legal slot))
-
-  pub still_legal : (turns : List Turn) (who : Who) (deed : Deed) → AreLegal turns → IsLegal turns deed → AreLegal (turns ++ record { who = who; deed = deed } ∷ [])
-  still_legal turns who (AtSlot at call reply) legal here = λ slot.
-      subst IsLegalHistory (sym (one_more slot turns (record { who = who; deed = AtSlot at call reply })))
-      (at_this turns who slot at call reply (eqb_tells at slot) legal here)
-  still_legal turns who (AtRegistry call reply) legal here = absurd here
-  still_legal turns who (AtPool call reply) legal here = absurd here
 
 -- ---- one call moves
 
@@ -97,7 +78,7 @@ OthersStay who turns more = (other : Who) → is_same other who ≡ false → de
 module _ (w : World) (given : List Given) (turns : List Turn) (calls : List Started) (place : ℕ) (was : Option Doing) (call : Started) (state : State)
     (there : slice_get w.actors place ≡ Some was) (within : IsIn call.who was) (stay : OthersStay call.who w.turns turns) where
   abbrev moved : World
-  moved = record { turns = turns; calls = calls; actors = slice_set w.actors place (doing_in call state); steps = w.steps + 1; blocks = w.blocks }
+  moved = record { turns = turns; calls = calls; actors = slice_set w.actors place (doing_in call state); steps = w.steps + 1; blocks = w.blocks; generation = w.generation }
 
   other_fate : (c : Started) → is_same c.who call.who ≡ false → Fate w given c → Fate moved (given ++ given_in call state) c
   other_fate c apart f = record {
@@ -176,10 +157,10 @@ module _ (w : World) (given : List Given) (i : Inv w given) (place : ℕ) (d : D
       let s = its_state f.state (sym f.stands ∙ where_it_stands) in
       record { plays = subst (Plays (begun d.call) (deeds_of d.call.who w.turns)) s.0 f.plays; quiet = f.answered ∙ s.1 }
 
-  goes_on : (turns : List Turn) (state : State) → AreLegal turns → OthersStay d.call.who w.turns turns → Stands turns given d.call state → All (IsMade w.calls) turns →
-      Inv (record { turns = turns; calls = w.calls; actors = slice_set w.actors place (doing_in d.call state); steps = w.steps + 1; blocks = w.blocks }) (given ++ given_in d.call state)
-  goes_on turns state legal stay s made = record {
-    legal = legal;
+  goes_on : (turns : List Turn) (state : State) → IsSound (record { turns = turns; calls = w.calls; actors = slice_set w.actors place (doing_in d.call state); steps = w.steps + 1; blocks = w.blocks; generation = w.generation }) → OthersStay d.call.who w.turns turns → Stands turns given d.call state → All (IsMade w.calls) turns →
+      Inv (record { turns = turns; calls = w.calls; actors = slice_set w.actors place (doing_in d.call state); steps = w.steps + 1; blocks = w.blocks; generation = w.generation }) (given ++ given_in d.call state)
+  goes_on turns state sound stay s made = record {
+    sound = sound;
     fates = λ c has. elim (same_or_not c.who d.call.who (is_same c.who d.call.who) refl) [
       | inl same ↦
           let one : d.call ≡ c = i.named d.call c has_it has (sym (same_who c.who d.call.who same)) in
@@ -234,12 +215,13 @@ module _ (w : World) (given : List Given) (i : Inv w given) (place : ℕ) (there
     quiet = no_endings call.who given (λ g has. not_same call.who g.call.who (λ e. is_new g.call (All-contains (λ (x : Given). Contains w.calls x.call) given g i.known has) (sym e)));
   }
 
-  starts : Inv (record { turns = w.turns; calls = w.calls ++ call ∷ []; actors = slice_set w.actors place (doing_in call (begun call)); steps = w.steps + 1; blocks = w.blocks }) (given ++ given_in call (begun call))
-  starts =
+  starts : IsSound (record { turns = w.turns; calls = w.calls ++ call ∷ []; actors = slice_set w.actors place (doing_in call (begun call)); steps = w.steps + 1; blocks = w.blocks; generation = w.generation }) →
+      Inv (record { turns = w.turns; calls = w.calls ++ call ∷ []; actors = slice_set w.actors place (doing_in call (begun call)); steps = w.steps + 1; blocks = w.blocks; generation = w.generation }) (given ++ given_in call (begun call))
+  starts sound =
       let calls = w.calls ++ call ∷ [] in
       let stay : OthersStay call.who w.turns w.turns = λ other apart. refl in
       record {
-        legal = i.legal;
+        sound = sound;
         fates = λ c has. elim (Contains-push_cases w.calls call c has) [
           | inl old ↦ other_fate w given w.turns calls place None call (begun call) there tt stay c (not_same c.who call.who (is_new c old)) (i.fates c old)
           | inr same ↦ subst (Fate _ (given ++ given_in call (begun call))) same (own_fate w given w.turns calls place None call (begun call) there tt stay w.steps name stands_new)
@@ -302,21 +284,50 @@ right_now w given i right g has =
     is_right right g.call (deeds_of g.call.who w.turns) f.state g.ending f.plays
     (subst (IsAmong g.ending) f.answered (given_is g.call.who given g has (same_itself name.0 name.1 g.call.who name.2)))
 
-pub none_busy : (n place : ℕ) (d : Doing) → slice_get (replicate n None) place ≡ Some (Some d) → ⊥
-none_busy zero place d e = cc
-none_busy (suc n) zero d e = cc
-none_busy (suc n) (suc place) d e = none_busy n place d e
-
 -- ---- what happens
 
 stays : (w after : World) (given one : List Given) → StaysWith w one after → Inv w given → Inv after (given ++ one)
 stays w after given one s i =
     subst (λ gs. Inv after (given ++ gs)) (sym s.0) (subst (λ v. Inv v (given ++ [])) (sym s.1) (subst (Inv w) (sym (append-nil given)) i))
 
-module _ (l : Legality) where
+-- ---- what a world was opened with
+
+continues_opened : (w after : World) (given : List Given) (place now : ℕ) (call : Started) (state : State) → Continues w place now call state given after → (after.generation ≡ w.generation) × (after.blocks ≡ w.blocks)
+continues_opened w after given place now call (Goes phase) s = (ap (λ (v : World). v.generation) s.6, ap (λ (v : World). v.blocks) s.6)
+continues_opened w after given place now call (Waits wait) (inl s) = (ap (λ (v : World). v.generation) s.2, ap (λ (v : World). v.blocks) s.2)
+continues_opened w after given place now call (Waits wait) (inr s) = (ap (λ (v : World). v.generation) s.1.1, ap (λ (v : World). v.blocks) s.1.1)
+continues_opened w after given place now call (Over ending) s = (ap (λ (v : World). v.generation) s.1, ap (λ (v : World). v.blocks) s.1)
+
+starts_opened : (w after : World) (given : List Given) (actor : ℕ) (cred : Cred) (asked : SystemCall) (o : Option (Option Doing)) → StartsAt w actor cred asked o given after → (after.generation ≡ w.generation) × (after.blocks ≡ w.blocks)
+starts_opened w after given actor cred asked None s = (ap (λ (v : World). v.generation) s.1, ap (λ (v : World). v.blocks) s.1)
+starts_opened w after given actor cred asked (Some None) s = (ap (λ (v : World). v.generation) s.1, ap (λ (v : World). v.blocks) s.1)
+starts_opened w after given actor cred asked (Some (Some d)) s = (ap (λ (v : World). v.generation) s.1, ap (λ (v : World). v.blocks) s.1)
+
+steps_opened : (w after : World) (given : List Given) (actor now : ℕ) (o : Option (Option Doing)) → StepsAt w actor now o given after → (after.generation ≡ w.generation) × (after.blocks ≡ w.blocks)
+steps_opened w after given actor now None s = (ap (λ (v : World). v.generation) s.1, ap (λ (v : World). v.blocks) s.1)
+steps_opened w after given actor now (Some None) s = (ap (λ (v : World). v.generation) s.1, ap (λ (v : World). v.blocks) s.1)
+steps_opened w after given actor now (Some (Some d)) s = continues_opened w after given actor now d.call d.state s
+
+pub makes_opened : (w after : World) (x : Happening) (given : List Given) → Makes w x given after → (after.generation ≡ w.generation) × (after.blocks ≡ w.blocks)
+makes_opened w after Preset given (none, (made, inl p)) = (ap (λ (v : World). v.generation) p.2, ap (λ (v : World). v.blocks) p.2)
+makes_opened w after Preset given (none, (made, inr p)) = (ap (λ (v : World). v.generation) p.2, ap (λ (v : World). v.blocks) p.2)
+makes_opened w after (Start actor cred asked) given (inl worn) = (ap (λ (v : World). v.generation) worn.1.1, ap (λ (v : World). v.blocks) worn.1.1)
+makes_opened w after (Start actor cred asked) given (inr young) = starts_opened w after given actor cred asked _ young.1
+makes_opened w after (Step actor now) given (inl worn) = (ap (λ (v : World). v.generation) worn.1.1, ap (λ (v : World). v.blocks) worn.1.1)
+makes_opened w after (Step actor now) given (inr young) = steps_opened w after given actor now _ young.1
+
+leads_generation : (w after : World) (xs : List Happening) (given : List Given) → Leads w xs given after → after.generation ≡ w.generation
+leads_generation w after [] given l = ap (λ (v : World). v.generation) l.1
+leads_generation w after (x ∷ xs) given l = leads_generation l.0 after xs l.2 l.4 ∙ (makes_opened w l.0 x l.1 l.3).0
+
+pub leads_blocks : (w after : World) (xs : List Happening) (given : List Given) → Leads w xs given after → after.blocks ≡ w.blocks
+leads_blocks w after [] given l = ap (λ (v : World). v.blocks) l.1
+leads_blocks w after (x ∷ xs) given l = leads_blocks l.0 after xs l.2 l.4 ∙ (makes_opened w l.0 x l.1 l.3).1
+
+module _ (sound : StaysSound) where
   turns_keep : (w after : World) (given one : List Given) (place : ℕ) (call : Started) (phase : Phase) (now : ℕ) → Inv w given → slice_get w.actors place ≡ Some (Some record { call = call; state = Goes phase }) →
-      Turns w (suc place) call phase now one after → Inv after (given ++ one)
-  turns_keep w after given one place call phase now i there t =
+      Turns w (suc place) call phase now one after → IsSound after → Inv after (given ++ one)
+  turns_keep w after given one place call phase now i there t ok =
       let d : Doing = record { call = call; state = Goes phase } in
       let deed = t.0 in
       let state = t.1 in
@@ -326,74 +337,74 @@ module _ (l : Legality) where
       let own = own_deed call.who w.turns turn (same_itself place name.0 call.who name.1) in
       subst (λ gs. Inv after (given ++ gs)) (sym t.5) (subst (λ v. Inv v (given ++ given_in call state)) (sym t.6)
       (goes_on w given i place d there (w.turns ++ turn ∷ []) state
-      (still_legal l w.turns call.who deed i.legal t.3)
+      (subst IsSound t.6 ok)
       (λ other apart. other_deed other w.turns turn apart)
       (record { plays = subst (λ ds. Plays (begun call) ds state) (sym own) (steps deed now state here.plays t.2 t.4); quiet = here.quiet })
       (All-push (IsMade w.calls) w.turns turn i.made (inr (call, has_it w given i place d there, refl)))))
 
   looks_keep : (w after : World) (given one : List Given) (place : ℕ) (call : Started) (wait : Wait) → Inv w given → slice_get w.actors place ≡ Some (Some record { call = call; state = Waits wait }) →
-      Looks w (suc place) call wait one after → Inv after (given ++ one)
-  looks_keep w after given one place call wait i there (inl t) =
+      Looks w (suc place) call wait one after → IsSound after → Inv after (given ++ one)
+  looks_keep w after given one place call wait i there (inl t) ok =
       let d : Doing = record { call = call; state = Waits wait } in
       let value = value_of w.turns (awaited wait) in
       let state = Goes (resume wait value) in
       let here = stands_there w given i place d there in
       subst (λ gs. Inv after (given ++ gs)) (sym t.1) (subst (λ v. Inv v (given ++ given_in call state)) (sym t.2)
-      (goes_on w given i place d there w.turns state i.legal (λ other apart. refl)
+      (goes_on w given i place d there w.turns state (subst IsSound t.2 ok) (λ other apart. refl)
       (record { plays = resumes value here.plays t.0; quiet = here.quiet })
       i.made))
-  looks_keep w after given one place call wait i there (inr t) = stays w after given one t.1 i
+  looks_keep w after given one place call wait i there (inr t) ok = stays w after given one t.1 i
 
   continues_keep : (w after : World) (given one : List Given) (place now : ℕ) (call : Started) (state : State) → Inv w given → slice_get w.actors place ≡ Some (Some record { call = call; state = state }) →
-      Continues w (suc place) now call state one after → Inv after (given ++ one)
-  continues_keep w after given one place now call (Goes phase) i there c = turns_keep w after given one place call phase now i there c
-  continues_keep w after given one place now call (Waits wait) i there c = looks_keep w after given one place call wait i there c
-  continues_keep w after given one place now call (Over ending) i there c = stays w after given one c i
+      Continues w (suc place) now call state one after → IsSound after → Inv after (given ++ one)
+  continues_keep w after given one place now call (Goes phase) i there c ok = turns_keep w after given one place call phase now i there c ok
+  continues_keep w after given one place now call (Waits wait) i there c ok = looks_keep w after given one place call wait i there c ok
+  continues_keep w after given one place now call (Over ending) i there c ok = stays w after given one c i
 
-  steps_keep : (w after : World) (given one : List Given) (place now : ℕ) (o : Option (Option Doing)) → Inv w given → slice_get w.actors place ≡ o → StepsAt w (suc place) now o one after → Inv after (given ++ one)
-  steps_keep w after given one place now None i there s = stays w after given one s i
-  steps_keep w after given one place now (Some None) i there s = stays w after given one s i
-  steps_keep w after given one place now (Some (Some d)) i there s = continues_keep w after given one place now d.call d.state i there s
+  steps_keep : (w after : World) (given one : List Given) (place now : ℕ) (o : Option (Option Doing)) → Inv w given → slice_get w.actors place ≡ o → StepsAt w (suc place) now o one after → IsSound after → Inv after (given ++ one)
+  steps_keep w after given one place now None i there s ok = stays w after given one s i
+  steps_keep w after given one place now (Some None) i there s ok = stays w after given one s i
+  steps_keep w after given one place now (Some (Some d)) i there s ok = continues_keep w after given one place now d.call d.state i there s ok
 
   starts_keep : (w after : World) (given one : List Given) (place : ℕ) (cred : Cred) (asked : SystemCall) (o : Option (Option Doing)) → Inv w given → slice_get w.actors place ≡ o →
-      StartsAt w (suc place) cred asked o one after → Inv after (given ++ one)
-  starts_keep w after given one place cred asked None i there s = stays w after given one s i
-  starts_keep w after given one place cred asked (Some (Some d)) i there s = stays w after given one s i
-  starts_keep w after given one place cred asked (Some None) i there s =
+      StartsAt w (suc place) cred asked o one after → IsSound after → Inv after (given ++ one)
+  starts_keep w after given one place cred asked None i there s ok = stays w after given one s i
+  starts_keep w after given one place cred asked (Some (Some d)) i there s ok = stays w after given one s i
+  starts_keep w after given one place cred asked (Some None) i there s ok =
       let call = starting w (suc place) cred asked in
-      subst (λ gs. Inv after (given ++ gs)) (sym s.0) (subst (λ v. Inv v (given ++ given_in call (begun call))) (sym s.1) (starts w given i place there call refl))
+      subst (λ gs. Inv after (given ++ gs)) (sym s.0) (subst (λ v. Inv v (given ++ given_in call (begun call))) (sym s.1) (starts w given i place there call refl (subst IsSound s.1 ok)))
 
-  preset_keeps : (w after : World) (given : List Given) (made : Bool) → Inv w given → Presets w made after → Inv after given
-  preset_keeps w after given made i (inr p) = subst (λ v. Inv v given) (sym p.2) i
-  preset_keeps w after given made i (inl p) =
-      let turn : Turn = record { who = Actor 0 0; deed = AtSlot (slot_at (pos 0)) preset_call (Installed true) } in
-      let calls_apart : (c : Started) → Contains w.calls c → is_same c.who (Actor 0 0) ≡ false = λ c has. not_same c.who (Actor 0 0) (λ e. let b = i.before c has in let bad : Actor (suc b.0) b.1 ≡ Actor 0 0 = sym b.2 ∙ e in cc) in
+  preset_keeps : (w after : World) (given : List Given) (made : Bool) → Inv w given → Presets w made after → IsSound after → Inv after given
+  preset_keeps w after given made i (inr p) ok = subst (λ v. Inv v given) (sym p.2) i
+  preset_keeps w after given made i (inl p) ok =
+      let calls_apart : (c : Started) → Contains w.calls c → is_same c.who preset_who ≡ false = λ c has. not_same c.who preset_who (λ e. let b = i.before c has in let bad : Actor (suc b.0) b.1 ≡ Actor 0 0 = sym b.2 ∙ e in cc) in
+      let first = w.turns ++ turn_of preset_who preset_begin ∷ [] in
+      let second = first ++ turn_of preset_who preset_install ∷ [] in
+      let same : (c : Started) → Contains w.calls c → deeds_of c.who (with_preset_turns w.turns) ≡ deeds_of c.who w.turns = λ c has.
+      other_deed c.who second (turn_of preset_who preset_settle) (calls_apart c has)
+      ∙ (other_deed c.who first (turn_of preset_who preset_install) (calls_apart c has) ∙ other_deed c.who w.turns (turn_of preset_who preset_begin) (calls_apart c has)) in
       subst (λ v. Inv v given) (sym p.2) record {
-        legal = still_legal l w.turns (Actor 0 0) (AtSlot (slot_at (pos 0)) preset_call (Installed true)) i.legal p.0;
+        sound = subst IsSound p.2 ok;
         fates = λ c has.
             let f = i.fates c has in
-            record {
-              state = f.state;
-              plays = subst (λ ds. Plays (begun c) ds f.state) (sym (other_deed c.who w.turns turn (calls_apart c has))) f.plays;
-              answered = f.answered;
-              stands = f.stands;
-            };
+            record { state = f.state; plays = subst (λ ds. Plays (begun c) ds f.state) (sym (same c has)) f.plays; answered = f.answered; stands = f.stands };
         before = i.before;
         apart = i.apart;
         named = i.named;
-        made = All-push (IsMade w.calls) w.turns turn i.made (inl refl);
+        made = All-push (IsMade w.calls) second (turn_of preset_who preset_settle)
+            (All-push (IsMade w.calls) first (turn_of preset_who preset_install) (All-push (IsMade w.calls) w.turns (turn_of preset_who preset_begin) i.made (inl refl)) (inl refl)) (inl refl);
         known = i.known;
         doing = i.doing;
       }
 
   makes_keeps : (w after : World) (x : Happening) (given one : List Given) → Inv w given → Makes w x one after → Inv after (given ++ one)
-  makes_keeps w after Preset given one i m = subst (λ gs. Inv after (given ++ gs)) (sym m.0) (subst (Inv after) (sym (append-nil given)) (preset_keeps w after given m.1.0 i m.1.1))
+  makes_keeps w after Preset given one i m = subst (λ gs. Inv after (given ++ gs)) (sym m.0) (subst (Inv after) (sym (append-nil given)) (preset_keeps w after given m.1.0 i m.1.1 (sound w after Preset one i.sound m)))
   makes_keeps w after (Start actor cred asked) given one i (inl worn) = stays w after given one worn.1 i
   makes_keeps w after (Start zero cred asked) given one i (inr young) = stays w after given one young.1 i
-  makes_keeps w after (Start (suc place) cred asked) given one i (inr young) = starts_keep w after given one place cred asked (slice_get w.actors place) i refl young.1
+  makes_keeps w after (Start (suc place) cred asked) given one i (inr young) = starts_keep w after given one place cred asked (slice_get w.actors place) i refl young.1 (sound w after (Start (suc place) cred asked) one i.sound (inr young))
   makes_keeps w after (Step actor now) given one i (inl worn) = stays w after given one worn.1 i
   makes_keeps w after (Step zero now) given one i (inr young) = stays w after given one young.1 i
-  makes_keeps w after (Step (suc place) now) given one i (inr young) = steps_keep w after given one place now (slice_get w.actors place) i refl young.1
+  makes_keeps w after (Step (suc place) now) given one i (inr young) = steps_keep w after given one place now (slice_get w.actors place) i refl young.1 (sound w after (Step (suc place) now) one i.sound (inr young))
 
   leads_keeps : (w after : World) (xs : List Happening) (given more : List Given) → Inv w given → Leads w xs more after → Inv after (given ++ more)
   leads_keeps w after [] given more i s = stays w after given more s i
@@ -404,9 +415,9 @@ module _ (l : Legality) where
   nothing_in : {X : Type 0} (x : X) → Contains [] x → ⊥
   nothing_in x has = omega (arith, has.1)
 
-  opens : (o : Opening) → Inv (opening o) []
-  opens o = record {
-    legal = λ slot. l.empty;
+  opens : (o : Opening) → AreLegal o.generation o.blocks [] → Inv (opening o) []
+  opens o legal = record {
+    sound = opening_sound o legal;
     fates = λ c has. absurd (nothing_in c has);
     before = λ c has. absurd (nothing_in c has);
     apart = λ i j d low high. absurd (omega (arith, low, high));
@@ -416,12 +427,20 @@ module _ (l : Legality) where
     doing = λ place d e. absurd (none_busy o.actors place d e);
   }
 
-  pub run_obeys : ((h : History) → IsLegalHistory h → QueueLaw h) → EachDeedIsAskedFor → EachAnswerIsRight →
-      (o : Opening) (list : List Happening) (given : List Given) (w : World) → Leads (opening o) list given w → Obeys w given
-  run_obeys law asked right o list given w led =
-      let i : Inv w given = leads_keeps (opening o) w list [] given (opens o) led in
+  pub run_obeys : ((generation blocks : ℕ) → AreLegal generation blocks []) → ((h : History) → IsLegalHistory h → QueueLaw h) →
+      ((generation : ℕ) (h : RegistryHistory) → IsLegalRegistryHistory generation h → RegistryLaw generation h) → ((size : ℕ) (h : PoolHistory) → IsLegalPoolHistory size h → PoolLaw size h) → EachDeedIsAskedFor → EachAnswerIsRight →
+      NoMatchStays → FullStays → FullStaysForLook → CountsNeverFall → EachWaitsForItsRefusal → RemovedForGood → EachIsToldOfRemoval →
+      (o : Opening) (list : List Happening) (given : List Given) (w : World) → Leads (opening o) list given w → Obeys o w given
+  run_obeys none law registry_law pool_law asked right no_match full full_for_look counts refused for_good told o list given w led =
+      let i : Inv w given = leads_keeps (opening o) w list [] given (opens o (none o.generation o.blocks)) led in
+      let same = leads_generation (opening o) w list given led in
+      let of_registry = subst (λ g. RegistryLaw g (registry_history w.turns)) same (registry_law w.generation (registry_history w.turns) i.sound.legal.registry) in
+      let good = removed_for_good sound for_good o w list given (opening_sound o (none o.generation o.blocks)) led of_registry i.sound.legal.slots in
+      let tended = are_tended sound o w list given (opening_sound o (none o.generation o.blocks)) led in
       record {
-        queues = λ slot. law (slot_history slot w.turns) (i.legal slot);
+        queues = λ slot. law (slot_history slot w.turns) (i.sound.legal.slots slot);
+        pool = subst (λ n. PoolLaw n (pool_history w.turns)) (leads_blocks (opening o) w list given led) (pool_law w.blocks (pool_history w.turns) i.sound.legal.pool);
+        registry = of_registry;
         calls = All-weaker (Contains w.calls) (Fate w given) i.fates w.calls (All-contains_itself w.calls);
         apart = i.apart;
         made = i.made;
@@ -430,4 +449,10 @@ module _ (l : Legality) where
         known = i.known;
         right = All-weaker (Contains given) (λ (g : Given). IsRightAnswer g.call.asked (deeds_of g.call.who w.turns) g.ending)
             (λ g has. right_now w given i right g has) given (All-contains_itself given);
+        parked = parked_rightly w i.sound.legal (λ place d there. (stands_there w given i place d there).plays) no_match full full_for_look counts refused asked tended good (settled_once_installed o w list given led) (are_short o w list given led)
+            (are_to_be_woken sound o w list given (opening_sound o (none o.generation o.blocks)) led);
+        removed = good;
+        tended = tended;
+        told = λ id before after t call whole removal has q. let f = i.fates call has in
+            told_so w given call f told (asked call.cred call.asked call.released (deeds_of call.who w.turns) f.state f.plays) good id before after t whole removal q;
       }

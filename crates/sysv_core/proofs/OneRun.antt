@@ -1,21 +1,21 @@
 -- Each event, preset and list leads to one world at most.
 use Rattle.std.proofs.Common.{◌≡◌, ℕ, inl, inr, Bool, List, [], ◌∷◌, ◌++◌, Option, None, Some, refl, sym, ap, subst, ◌∙◌, arith}
 use Rattle.sysv_model.specs.declared.cred.Cred.{Cred}
-use Rattle.sysv_model.specs.History.{Call, Reply}
-use Rattle.sysv_model.specs.Turn.{Deed, AtSlot, AtRegistry, AtPool, asked_by, slot_history}
-use Rattle.sysv_queue.specs.LegalReply.{IsLegalReply}
-use Rattle.sysv_queue.specs.OneReply.{NoTwoRepliesAreLegal}
+use Rattle.sysv_model.specs.Turn.{Deed}
+use Rattle.sysv_objects.specs.OneDeed.{NoTwoDeedsAreLegal}
 use Rattle.sysv_steps.specs.Call.{SystemCall}
-use Rattle.sysv_steps.specs.State.{Phase, Wait, Ending, Id, Zero, Got, Told, Refused, State, Goes, Waits, Over}
+use Rattle.sysv_steps.specs.State.{Phase, Wait, Ending, State, Goes, Waits, Over}
 use Rattle.sysv_steps.specs.Next.{next}
 use Rattle.sysv_core.specs.declared.event.Answer.{Answer}
 use Rattle.sysv_core.specs.declared.event.Outcome.{Outcome}
 use Rattle.sysv_core.specs.declared.event.Stepped.{Stepped}
 use Rattle.sysv_core.specs.declared.event.Stepped.TheVariants as stepped
-use Rattle.sysv_core.specs.World.{World, Started, Doing, Given, Happening, Preset, Start, Step, actor_at, given_in, in_state, with_turn, IsLegal, Turns, Looks, Continues, StartsAt, StepsAt, Presets, Makes}
+use Rattle.sysv_core.specs.World.{World, Started, Doing, Given, Happening, Preset, Start, Step, actor_at, given_in, in_state, with_turn, Turns, Looks, Continues, StartsAt, StepsAt, Presets, Makes}
 use Rattle.sysv_core.specs.Run.{Leads}
-use Rattle.sysv_core.specs.Answered.{receives, TellsEnding}
-use Rattle.sysv_core.specs.Seen.{IsToCaller, Tells, Gives, happening_of}
+use Rattle.sysv_core.specs.Answered.{TellsEnding}
+use Rattle.sysv_core.specs.Kinds.{kind_of, gives_back}
+use Rattle.sysv_core.specs.Sound.{IsToCaller, IsSound, StaysSound}
+use Rattle.sysv_core.specs.Seen.{Tells, Gives, happening_of}
 use Rattle.sysv_model.specs.History.{Who, Actor, Seat}
 use Rattle.sysv_core.specs.OneRun.{OneStep, OnePreset, OneRun}
 
@@ -35,25 +35,10 @@ presets_once w made did a b (inr h) (inr k) = (h.1 ∙ sym k.1, h.2 ∙ sym k.2)
 one_state : (s t : State) → Some s ≡ Some t → s ≡ t
 one_state s t e = cc
 
-module _ (one : NoTwoRepliesAreLegal) where
-  one_reply : (turns : _) (slot at : ℕ) (call other : Call) (reply answer : Reply) → slot ≡ at → call ≡ other → IsLegalReply (slot_history slot turns) call reply → IsLegalReply (slot_history at turns) other answer → reply ≡ answer
-  one_reply turns slot at call other reply answer e f l m =
-      one (slot_history slot turns) call reply answer l (subst (λ n. IsLegalReply (slot_history n turns) call answer) (sym e) (subst (λ c. IsLegalReply (slot_history at turns) c answer) (sym f) m))
-
-  one_deed : (turns : _) (d e : Deed) → asked_by d ≡ asked_by e → IsLegal turns d → IsLegal turns e → d ≡ e
-  one_deed turns (AtSlot slot call reply) (AtSlot at other answer) same l m =
-      let slots : slot ≡ at = cc in
-      let calls : call ≡ other = cc in
-      let replies = one_reply turns slot at call other reply answer slots calls l m in
-      cc
-  one_deed turns (AtSlot slot call reply) (AtRegistry other answer) same l m = absurd m
-  one_deed turns (AtSlot slot call reply) (AtPool other answer) same l m = absurd m
-  one_deed turns (AtRegistry call reply) e same l m = absurd l
-  one_deed turns (AtPool call reply) e same l m = absurd l
-
-  turns_once : (w : World) (actor : ℕ) (call : Started) (phase : Phase) (now : ℕ) (r s : List Given) (a b : World) → Turns w actor call phase now r a → Turns w actor call phase now s b → Same r s a b
-  turns_once w actor call phase now r s a b h k =
-      let deeds : h.0 ≡ k.0 = one_deed w.turns h.0 k.0 (h.2 ∙ sym k.2) h.3 k.3 in
+module _ (one : NoTwoDeedsAreLegal) (stays : StaysSound) where
+  turns_once : (w : World) (actor : ℕ) (call : Started) (phase : Phase) (now : ℕ) (r s : List Given) (a b : World) → IsSound w → Turns w actor call phase now r a → Turns w actor call phase now s b → Same r s a b
+  turns_once w actor call phase now r s a b ok h k =
+      let deeds : h.0 ≡ k.0 = one w.generation w.blocks w.turns h.0 k.0 ok.legal (h.2 ∙ sym k.2) h.3 k.3 in
       let states : h.1 ≡ k.1 = one_state h.1 k.1 (sym h.4 ∙ (ap (next phase) deeds ∙ k.4)) in
       let world : Deed → State → World = λ d st. in_state (with_turn w call.who d) actor call st in (
         h.5 ∙ (ap (given_in call) states ∙ sym k.5),
@@ -66,10 +51,10 @@ module _ (one : NoTwoRepliesAreLegal) where
   looks_once w actor call wait r s a b (inr h) (inl k) = let x = h.0 in let y = k.0 in absurd (omega arith)
   looks_once w actor call wait r s a b (inr h) (inr k) = both_are r s [] a b w h.1 k.1
 
-  continues_once : (w : World) (actor now : ℕ) (call : Started) (state : State) (r s : List Given) (a b : World) → Continues w actor now call state r a → Continues w actor now call state s b → Same r s a b
-  continues_once w actor now call (Goes phase) r s a b h k = turns_once w actor call phase now r s a b h k
-  continues_once w actor now call (Waits wait) r s a b h k = looks_once w actor call wait r s a b h k
-  continues_once w actor now call (Over ending) r s a b h k = both_are r s [] a b w h k
+  continues_once : (w : World) (actor now : ℕ) (call : Started) (state : State) (r s : List Given) (a b : World) → IsSound w → Continues w actor now call state r a → Continues w actor now call state s b → Same r s a b
+  continues_once w actor now call (Goes phase) r s a b ok h k = turns_once w actor call phase now r s a b ok h k
+  continues_once w actor now call (Waits wait) r s a b ok h k = looks_once w actor call wait r s a b h k
+  continues_once w actor now call (Over ending) r s a b ok h k = both_are r s [] a b w h k
 
   starts_once : (w : World) (actor : ℕ) (cred : Cred) (asked : SystemCall) (o : Option (Option Doing)) (r s : List Given) (a b : World) →
       StartsAt w actor cred asked o r a → StartsAt w actor cred asked o s b → Same r s a b
@@ -77,28 +62,28 @@ module _ (one : NoTwoRepliesAreLegal) where
   starts_once w actor cred asked (Some None) r s a b h k = both_are r s _ a b _ h k
   starts_once w actor cred asked (Some (Some doing)) r s a b h k = both_are r s [] a b w h k
 
-  steps_at_once : (w : World) (actor now : ℕ) (o : Option (Option Doing)) (r s : List Given) (a b : World) → StepsAt w actor now o r a → StepsAt w actor now o s b → Same r s a b
-  steps_at_once w actor now None r s a b h k = both_are r s [] a b w h k
-  steps_at_once w actor now (Some None) r s a b h k = both_are r s [] a b w h k
-  steps_at_once w actor now (Some (Some doing)) r s a b h k = continues_once w actor now doing.call doing.state r s a b h k
+  steps_at_once : (w : World) (actor now : ℕ) (o : Option (Option Doing)) (r s : List Given) (a b : World) → IsSound w → StepsAt w actor now o r a → StepsAt w actor now o s b → Same r s a b
+  steps_at_once w actor now None r s a b ok h k = both_are r s [] a b w h k
+  steps_at_once w actor now (Some None) r s a b ok h k = both_are r s [] a b w h k
+  steps_at_once w actor now (Some (Some doing)) r s a b ok h k = continues_once w actor now doing.call doing.state r s a b ok h k
 
-  makes_once : (w : World) (x : Happening) (r s : List Given) (a b : World) → Makes w x r a → Makes w x s b → Same r s a b
-  makes_once w Preset r s a b h k = (h.0 ∙ sym k.0, (presets_once w h.1.0 k.1.0 a b h.1.1 k.1.1).1)
-  makes_once w (Start actor cred asked) r s a b (inl h) (inl k) = both_are r s [] a b w h.1 k.1
-  makes_once w (Start actor cred asked) r s a b (inl h) (inr k) = let x = h.0 in let y = k.0 in absurd (omega arith)
-  makes_once w (Start actor cred asked) r s a b (inr h) (inl k) = let x = h.0 in let y = k.0 in absurd (omega arith)
-  makes_once w (Start actor cred asked) r s a b (inr h) (inr k) = starts_once w actor cred asked (actor_at w.actors actor) r s a b h.1 k.1
-  makes_once w (Step actor now) r s a b (inl h) (inl k) = both_are r s [] a b w h.1 k.1
-  makes_once w (Step actor now) r s a b (inl h) (inr k) = let x = h.0 in let y = k.0 in absurd (omega arith)
-  makes_once w (Step actor now) r s a b (inr h) (inl k) = let x = h.0 in let y = k.0 in absurd (omega arith)
-  makes_once w (Step actor now) r s a b (inr h) (inr k) = steps_at_once w actor now (actor_at w.actors actor) r s a b h.1 k.1
+  makes_once : (w : World) (x : Happening) (r s : List Given) (a b : World) → IsSound w → Makes w x r a → Makes w x s b → Same r s a b
+  makes_once w Preset r s a b ok h k = (h.0 ∙ sym k.0, (presets_once w h.1.0 k.1.0 a b h.1.1 k.1.1).1)
+  makes_once w (Start actor cred asked) r s a b ok (inl h) (inl k) = both_are r s [] a b w h.1 k.1
+  makes_once w (Start actor cred asked) r s a b ok (inl h) (inr k) = let x = h.0 in let y = k.0 in absurd (omega arith)
+  makes_once w (Start actor cred asked) r s a b ok (inr h) (inl k) = let x = h.0 in let y = k.0 in absurd (omega arith)
+  makes_once w (Start actor cred asked) r s a b ok (inr h) (inr k) = starts_once w actor cred asked (actor_at w.actors actor) r s a b h.1 k.1
+  makes_once w (Step actor now) r s a b ok (inl h) (inl k) = both_are r s [] a b w h.1 k.1
+  makes_once w (Step actor now) r s a b ok (inl h) (inr k) = let x = h.0 in let y = k.0 in absurd (omega arith)
+  makes_once w (Step actor now) r s a b ok (inr h) (inl k) = let x = h.0 in let y = k.0 in absurd (omega arith)
+  makes_once w (Step actor now) r s a b ok (inr h) (inr k) = steps_at_once w actor now (actor_at w.actors actor) r s a b ok h.1 k.1
 
-  leads_once : (list : List Happening) (w after other : World) (given told : List Given) → Leads w list given after → Leads w list told other → (given ≡ told) × (after ≡ other)
-  leads_once [] w after other given told h k = both_are given told [] after other w h k
-  leads_once (x ∷ list) w after other given told h k =
-      let here = makes_once w x h.1 k.1 h.0 k.0 h.3 k.3 in
+  leads_once : (list : List Happening) (w after other : World) (given told : List Given) → IsSound w → Leads w list given after → Leads w list told other → (given ≡ told) × (after ≡ other)
+  leads_once [] w after other given told ok h k = both_are given told [] after other w h k
+  leads_once (x ∷ list) w after other given told ok h k =
+      let here = makes_once w x h.1 k.1 h.0 k.0 ok h.3 k.3 in
       let onward : Leads h.0 list k.2 other = subst (λ mid. Leads mid list k.2 other) (sym here.1) k.4 in
-      let rest = leads_once list h.0 after other h.2 k.2 h.4 onward in
+      let rest = leads_once list h.0 after other h.2 k.2 (stays w h.0 x h.1 ok h.3) h.4 onward in
       (h.5 ∙ (ap (λ gs. gs ++ h.2) here.0 ∙ (ap (λ gs. k.1 ++ gs) rest.0 ∙ sym k.5)), rest.1)
 
 -- ---- what is told of an ending
@@ -108,11 +93,7 @@ one_caller (Actor actor start) a b h k = h ∙ sym k
 one_caller (Seat n) a b h k = absurd h
 
 one_ending : (r : Bool) (e : Ending) (x y : Outcome) (m n : Option (List ℕ)) → TellsEnding r e x m → TellsEnding r e y n → (x ≡ y) × (m ≡ n)
-one_ending r Zero x y m n h k = (h.0 ∙ sym k.0, h.1 ∙ sym k.1)
-one_ending r (Got mtype text) x y m n h k = (h.0 ∙ sym k.0, h.1 ∙ sym k.1)
-one_ending r (Refused why) x y m n h k = (h.0 ∙ sym k.0, h.1 ∙ sym k.1)
-one_ending r (Id id) x y m n h k = absurd h
-one_ending r (Told stat) x y m n h k = absurd h
+one_ending r e x y m n h k = (h.0 ∙ sym k.0, h.1 ∙ sym k.1)
 
 same_answer : (a b : Answer) → a.actor ≡ b.actor → a.result ≡ b.result → a.body ≡ b.body → a ≡ b
 same_answer a b e f g =
@@ -121,7 +102,7 @@ same_answer a b e f g =
 
 one_answer : (g : Given) (a b : Answer) → Tells g a → Tells g b → a ≡ b
 one_answer g a b h k =
-    let e = one_ending (receives g.call.asked) g.ending a.result b.result a.body b.body h.ending k.ending in
+    let e = one_ending (gives_back (Some (kind_of g.call.asked))) g.ending a.result b.result a.body b.body h.ending k.ending in
     same_answer a b (one_caller g.call.who a.actor b.actor h.caller k.caller) e.0 e.1
 
 one_given : (f g : Given) → f ∷ [] ≡ g ∷ [] → f ≡ g
@@ -143,13 +124,13 @@ gives_once w given (stepped.Answer a) (stepped.Answer b) h k =
     let same : h.1.0 ≡ k.1.0 = one_given h.1.0 k.1.0 (sym h.1.1 ∙ k.1.1) in
     ap stepped.Answer (one_answer h.1.0 a b h.1.2 (subst (λ (g : Given). Tells g b) (sym same) k.1.2))
 
-pub one_step : NoTwoRepliesAreLegal → OneStep
-one_step one = λ w after other event result given h k.
-    let same = makes_once one w (happening_of event) h.0 k.0 after other h.1 k.1 in
+pub one_step : NoTwoDeedsAreLegal → StaysSound → OneStep
+one_step one stays = λ w after other event result given ok h k.
+    let same = makes_once one stays w (happening_of event) h.0 k.0 after other ok h.1 k.1 in
     (gives_once w h.0 result given h.2 (subst (λ gs. Gives w gs given) (sym same.0) k.2), same.1)
 
 pub one_preset : OnePreset
 one_preset = λ w after other made did h k. presets_once w made did after other h k
 
-pub one_run : NoTwoRepliesAreLegal → OneRun
-one_run one = λ w after other list given told h k. leads_once one list w after other given told h k
+pub one_run : NoTwoDeedsAreLegal → StaysSound → OneRun
+one_run one stays = λ w after other list given told ok h k. leads_once one stays list w after other given told ok h k

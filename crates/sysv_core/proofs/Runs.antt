@@ -1,5 +1,5 @@
 -- A list that leads somewhere goes on by one more happening.
-use Rattle.std.proofs.Common.{◌≡◌, ◌≤◌, ◌⊎◌, inl, inr, Bool, List, [], ◌∷◌, ◌++◌, Option, None, Some, refl, sym, ap, subst, ◌∙◌, append_assoc, map}
+use Rattle.std.proofs.Common.{◌≡◌, ◌≤◌, ◌⊎◌, inl, Bool, List, [], ◌∷◌, ◌++◌, refl, sym, ap, subst, ◌∙◌, append_assoc, map}
 use Rattle.std.proofs.lemmas.List.{append-nil, map-append}
 use Rattle.sysv_model.specs.declared.limits.TheConstants.{WORN}
 use Rattle.sysv_core.specs.declared.event.Event.{Event}
@@ -7,10 +7,9 @@ use Rattle.sysv_core.specs.declared.event.Event.TheVariants.{Start, Step}
 use Rattle.sysv_core.specs.declared.event.Answer.{Answer}
 use Rattle.sysv_core.specs.declared.event.Stepped.{Stepped}
 use Rattle.sysv_core.specs.declared.event.Stepped.TheVariants as stepped
-use Rattle.sysv_steps.specs.State.{State, Goes, Waits, Over}
-use Rattle.sysv_core.specs.World.{World, Opening, Started, Doing, Given, Happening, Preset, Start as Begun, Step as Stepping, opening, actor_at, StartsAt, StepsAt, Continues, Makes}
+use Rattle.sysv_core.specs.World.{World, Opening, Given, Happening, Preset, opening, Makes}
 use Rattle.sysv_core.specs.Run.{Leads}
-use Rattle.sysv_core.specs.Seen.{Seen, StandsFor, happening_of, Tells, TellAll, Gives, PresetsSeen, StepsSeen, IsOpenedWith}
+use Rattle.sysv_core.specs.Seen.{Seen, StandsFor, happening_of, Tells, TellAll, Gives, PresetsSeen, StepsSeen}
 use Rattle.sysv_core.specs.Headline.{StandsWithEvent, RunsOn, LawsHold, EveryRunObeys}
 
 pub leads_more : (w : World) (xs : List Happening) (x : Happening) (given more : List Given) (mid after : World) →
@@ -110,36 +109,3 @@ runs_on start new events done left answers u split worn o es given s =
 -- each world of a list obeys the laws
 pub laws_hold : EveryRunObeys → (seen : Seen) → LawsHold seen
 laws_hold obeys seen = λ o list given s. obeys o list given s.world s.led
-
--- ---- the blocks of a world
-
-makes_blocks : (w after : World) (x : Happening) (given : List Given) → Makes w x given after → after.blocks ≡ w.blocks
-makes_blocks w after Preset given (none, (made, inl p)) = ap (λ (v : World). v.blocks) p.2
-makes_blocks w after Preset given (none, (made, inr p)) = ap (λ (v : World). v.blocks) p.2
-makes_blocks w after (Begun actor cred asked) given (inl worn) = ap (λ (v : World). v.blocks) worn.1.1
-makes_blocks w after (Begun actor cred asked) given (inr young) = starts_blocks (actor_at w.actors actor) young.1
-  where
-    starts_blocks : (o : Option (Option Doing)) → StartsAt w actor cred asked o given after → after.blocks ≡ w.blocks
-    starts_blocks None s = ap (λ (v : World). v.blocks) s.1
-    starts_blocks (Some None) s = ap (λ (v : World). v.blocks) s.1
-    starts_blocks (Some (Some d)) s = ap (λ (v : World). v.blocks) s.1
-makes_blocks w after (Stepping actor now) given (inl worn) = ap (λ (v : World). v.blocks) worn.1.1
-makes_blocks w after (Stepping actor now) given (inr young) = steps_blocks (actor_at w.actors actor) young.1
-  where
-    continues_blocks : (call : Started) (state : State) → Continues w actor now call state given after → after.blocks ≡ w.blocks
-    continues_blocks call (Goes phase) s = ap (λ (v : World). v.blocks) s.6
-    continues_blocks call (Waits wait) (inl s) = ap (λ (v : World). v.blocks) s.2
-    continues_blocks call (Waits wait) (inr s) = ap (λ (v : World). v.blocks) s.1.1
-    continues_blocks call (Over ending) s = ap (λ (v : World). v.blocks) s.1
-
-    steps_blocks : (o : Option (Option Doing)) → StepsAt w actor now o given after → after.blocks ≡ w.blocks
-    steps_blocks None s = ap (λ (v : World). v.blocks) s.1
-    steps_blocks (Some None) s = ap (λ (v : World). v.blocks) s.1
-    steps_blocks (Some (Some d)) s = continues_blocks d.call d.state s
-
-leads_blocks : (w after : World) (xs : List Happening) (given : List Given) → Leads w xs given after → after.blocks ≡ w.blocks
-leads_blocks w after [] given l = ap (λ (v : World). v.blocks) l.1
-leads_blocks w after (x ∷ xs) given l = leads_blocks l.0 after xs l.2 l.4 ∙ makes_blocks w l.0 x l.1 l.3
-
-pub opened_with : (seen : Seen) → IsOpenedWith seen seen.blocks
-opened_with seen = λ o list given s. sym s.sight.blocks ∙ leads_blocks (opening o) s.world list given s.led

@@ -1,20 +1,23 @@
 -- What the answer law admits and refuses at the worked run's send.
-use Rattle.std.proofs.Common.{◌≡◌, ℕ, zero, suc, inl, inr, [], ◌∷◌, None, Some, refl, ap, subst, arith}
+use Rattle.std.proofs.Common.{◌≡◌, ℕ, zero, suc, pos, true, inl, inr, [], ◌∷◌, None, Some, refl, ap, subst, arith}
 use Rattle.std.specs.List.{Contains}
 use Rattle.sysv_model.specs.declared.errno.Errno.TheVariants.{EAGAIN}
 use Rattle.sysv_model.specs.History.{Actor}
 use Rattle.sysv_model.specs.Turn.{OfSlot, Deed, deeds_of}
-use Rattle.sysv_steps.specs.State.{Ending, Zero, Refused, State, Goes, Waits, Over}
+use Rattle.sysv_steps.specs.State.{AtPlace, Ending, Zero, Refused, State, Goes, Waits, Over}
 use Rattle.sysv_steps.specs.Played.{Plays, begins, steps}
 use Rattle.sysv_steps.specs.AsksFor.{AsksFor, EachDeedIsAskedFor}
 use Rattle.sysv_steps.specs.Answers.{EachAnswerIsRight}
 use Rattle.sysv_core.specs.World.{Started, begun}
 use Rattle.sysv_core.specs.AnswerLaw.{IsMade, ended, standing}
-use Rattle.sysv_core.specs.WorkedRun.{the_calls, look_for}
-use Rattle.sysv_core.specs.WorkedAnswers.{the_send, the_end, still_placing, looking, look_fits, accepts, WorkedAnswers}
+use Rattle.sysv_core.specs.WorkedRun.{hello, the_calls, look_for}
+use Rattle.sysv_core.specs.WorkedAnswers.{the_send, the_end, still_reserving, looking, look_fits, gets_a_block, accepts, WorkedAnswers}
 
-its_play : Plays (begun the_send) (look_fits ∷ accepts 0 ∷ []) (Over Zero)
-its_play = steps (accepts 0) 0 (Over Zero) (steps look_fits 0 still_placing begins refl refl) refl refl
+abbrev placing : State
+placing = Goes (AtPlace record { cred = the_send.cred; id = pos 0; mtype = pos 5; text = hello; nowait = true; released = 0; seen = true } 1)
+
+its_play : Plays (begun the_send) (look_fits ∷ gets_a_block ∷ accepts 0 ∷ []) (Over Zero)
+its_play = steps (accepts 0) 0 (Over Zero) (steps gets_a_block 0 placing (steps look_fits 0 still_reserving begins refl refl) refl refl) refl refl
 
 no_answer : (state : State) → [] ≡ ended state → None ≡ standing state → ⊥
 no_answer (Goes phase) e f = cc
@@ -71,8 +74,8 @@ worked_answers asked right = record {
       let full = (r.again.0 refl).1 in
       cc;
   answered_twice = λ f. two_answers Zero Zero f.state f.answered;
-  goes_on = λ f. over_and_going Zero still_placing f.state f.answered f.stands;
-  looks = record { state = still_placing; plays = steps look_fits 0 still_placing begins refl refl; answered = refl; stands = refl };
+  goes_on = λ f. over_and_going Zero still_reserving f.state f.answered f.stands;
+  looks = record { state = still_reserving; plays = steps look_fits 0 still_reserving begins refl refl; answered = refl; stands = refl };
   looks_otherwise = λ f. other_size ((asked the_send.cred the_send.asked 0 (deeds_of the_send.who (looking 6).turns) f.state f.plays) 0 look_fits (omega arith));
   by_nobody = nobody;
 }

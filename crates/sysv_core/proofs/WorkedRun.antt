@@ -6,15 +6,16 @@ use Rattle.sysv_model.specs.declared.selector.Selector.TheVariants.{Any}
 use Rattle.sysv_model.specs.Message.{Message}
 use Rattle.sysv_model.specs.History.{Fits, Accepted, NoMatch, Taken}
 use Rattle.sysv_model.specs.Live.{live}
-use Rattle.sysv_model.specs.Turn.{AtSlot}
+use Rattle.sysv_model.specs.Pool.{Reserve, Release, Reserved, Released}
+use Rattle.sysv_model.specs.Turn.{AtSlot, AtPool}
 use Rattle.sysv_queue.specs.Granted.{MayRead, MayWrite}
 use Rattle.sysv_queue.specs.Named.{IsNamed}
 use Rattle.sysv_queue.specs.LegalReply.{IsLegalReply}
-use Rattle.sysv_steps.specs.State.{Phase, AtLook, AtPlace, AtTake, Zero, Got, Refused, Goes, Over}
+use Rattle.sysv_steps.specs.State.{Phase, AtLook, AtReserve, AtPlace, AtTake, AtReceiveGiveback, Zero, Got, Refused, Goes, Over}
 use Rattle.sysv_steps.specs.Begin.{is_refused}
 use Rattle.sysv_core.specs.World.{World, Started, Given, Happening, Preset, opening, with_actor, Makes}
 use Rattle.sysv_core.specs.Run.{Leads}
-use Rattle.sysv_core.specs.WorkedRun.{sender, receiver, hello, receive_up_to_100, send_hello, send_nothing, one_starts, two_starts, steps, the_happenings, send_typeless, one_calls, two_calls, the_calls, the_answers, the_turns, of_16, one_ends, two_ends, hello_message, empty_message, take_by, look_for, place_hello, place_nothing, WorkedRun, after_turns, NoWrongReply, start_of, ExactFit}
+use Rattle.sysv_core.specs.WorkedRun.{sender, receiver, hello, receive_up_to_100, send_hello, send_nothing, one_starts, two_starts, steps, the_happenings, send_typeless, one_calls, two_calls, the_calls, the_answers, the_turns, of_16, one_ends, two_ends, last_ends, hello_message, empty_message, take_by, look_for, place_hello, place_nothing, WorkedRun, after_turns, NoWrongReply, start_of, ExactFit}
 
 -- ---- the legal replies of the run
 
@@ -61,24 +62,28 @@ legal_third_take = (refl, may_read, none_is_named, refl)
 abbrev after_calls : ℕ → List Started
 after_calls count = take count the_calls
 
--- after that many turns, calls and counted events, where no actor is in a call, and where one is
+-- after that many turns at the slot, calls and counted events, where no actor is in a call, and where one is
 abbrev pub idle_at : (turns calls count : ℕ) → World
-idle_at turns calls count = record { turns = take turns the_turns; calls = after_calls calls; actors = replicate 16 None; steps = count; blocks = 128 }
+idle_at turns calls count = record { turns = take (turns + 2) the_turns; calls = after_calls calls; actors = replicate 16 None; steps = count; blocks = 128; generation = 0 }
 
 abbrev pub calling_at : (turns calls count actor : ℕ) → Started → Phase → World
 calling_at turns calls count actor call phase = record {
-  turns = take turns the_turns;
+  turns = take (turns + 2) the_turns;
   calls = after_calls calls;
   actors = with_actor (replicate 16 None) actor (Some record { call = call; state = Goes phase });
   steps = count;
   blocks = 128;
+  generation = 0;
 }
 
 abbrev look_of : List ℕ → ℤ → Phase
 look_of text mtype = AtLook record { cred = sender; id = pos 0; mtype = mtype; text = text; nowait = true; released = 0; seen = false }
 
-abbrev place_of : List ℕ → ℤ → Phase
-place_of text mtype = AtPlace record { cred = sender; id = pos 0; mtype = mtype; text = text; nowait = true; released = 0; seen = true } 0
+abbrev reserve_of : List ℕ → ℤ → Phase
+reserve_of text mtype = AtReserve record { cred = sender; id = pos 0; mtype = mtype; text = text; nowait = true; released = 0; seen = true }
+
+abbrev place_of : List ℕ → ℤ → ℕ → Phase
+place_of text mtype blocks = AtPlace (record { cred = sender; id = pos 0; mtype = mtype; text = text; nowait = true; released = 0; seen = true }) blocks
 
 abbrev take_of : Cred → Phase
 take_of cred = AtTake record { cred = cred; id = pos 0; selector = Any; size = 100; noerror = false; nowait = true; seen = false }
@@ -93,7 +98,7 @@ record Led (w : World) (xs : List Happening) (given : List Given) (after : World
   pub leads : Leads w xs given after
 
 goes_preset : Went (opening of_16) Preset [] (idle_at 1 0 0)
-goes_preset = record { goes = (refl, (true, inl (refl, refl, refl))) }
+goes_preset = record { goes = (refl, (true, inl (record { empty = λ row w here. let none = w.made in cc; first = refl }, refl, refl))) }
 
 begins_none : Went (idle_at 1 0 0) (one_starts receive_up_to_100) [] (calling_at 1 1 1 1 (one_calls 0 receive_up_to_100) (take_of sender))
 begins_none = record { goes = inr (omega arith, (refl, refl)) }
@@ -104,41 +109,53 @@ goes_none = record { goes = inr (omega arith, (AtSlot 0 (take_by sender) (NoMatc
 begins_hello : Went (idle_at 2 1 2) (one_starts send_hello) [] (calling_at 2 2 3 1 (one_calls 2 send_hello) (look_of hello (pos 5)))
 begins_hello = record { goes = inr (omega arith, (refl, refl)) }
 
-goes_look : Went (calling_at 2 2 3 1 (one_calls 2 send_hello) (look_of hello (pos 5))) (steps 1) [] (calling_at 3 2 4 1 (one_calls 2 send_hello) (place_of hello (pos 5)))
-goes_look = record { goes = inr (omega arith, (AtSlot 0 (look_for 5) Fits, Goes (place_of hello (pos 5)), refl, legal_look, refl, refl, refl)) }
+goes_look : Went (calling_at 2 2 3 1 (one_calls 2 send_hello) (look_of hello (pos 5))) (steps 1) [] (calling_at 3 2 4 1 (one_calls 2 send_hello) (reserve_of hello (pos 5)))
+goes_look = record { goes = inr (omega arith, (AtSlot 0 (look_for 5) Fits, Goes (reserve_of hello (pos 5)), refl, legal_look, refl, refl, refl)) }
 
-goes_place : Went (calling_at 3 2 4 1 (one_calls 2 send_hello) (place_of hello (pos 5))) (steps 1) (one_ends 2 send_hello Zero ∷ []) (idle_at 4 2 5)
+goes_reserve : Went (calling_at 3 2 4 1 (one_calls 2 send_hello) (reserve_of hello (pos 5))) (steps 1) [] (calling_at 4 2 5 1 (one_calls 2 send_hello) (place_of hello (pos 5) 1))
+goes_reserve = record { goes = inr (omega arith, (AtPool (Reserve 5) (Reserved 1), Goes (place_of hello (pos 5) 1), refl, (omega arith, refl), refl, refl, refl)) }
+
+goes_place : Went (calling_at 4 2 5 1 (one_calls 2 send_hello) (place_of hello (pos 5) 1)) (steps 1) (one_ends 2 send_hello Zero ∷ []) (idle_at 5 2 6)
 goes_place = record { goes = inr (omega arith, (AtSlot 0 place_hello (Accepted 0), Over Zero, refl, legal_place, refl, refl, refl)) }
 
-begins_nothing : Went (idle_at 4 2 5) (one_starts send_nothing) [] (calling_at 4 3 6 1 (one_calls 5 send_nothing) (look_of [] (pos 2)))
+begins_nothing : Went (idle_at 5 2 6) (one_starts send_nothing) [] (calling_at 5 3 7 1 (one_calls 6 send_nothing) (look_of [] (pos 2)))
 begins_nothing = record { goes = inr (omega arith, (refl, refl)) }
 
-goes_second_look : Went (calling_at 4 3 6 1 (one_calls 5 send_nothing) (look_of [] (pos 2))) (steps 1) [] (calling_at 5 3 7 1 (one_calls 5 send_nothing) (place_of [] (pos 2)))
-goes_second_look = record { goes = inr (omega arith, (AtSlot 0 (look_for 0) Fits, Goes (place_of [] (pos 2)), refl, legal_second_look, refl, refl, refl)) }
+goes_second_look : Went (calling_at 5 3 7 1 (one_calls 6 send_nothing) (look_of [] (pos 2))) (steps 1) [] (calling_at 6 3 8 1 (one_calls 6 send_nothing) (reserve_of [] (pos 2)))
+goes_second_look = record { goes = inr (omega arith, (AtSlot 0 (look_for 0) Fits, Goes (reserve_of [] (pos 2)), refl, legal_second_look, refl, refl, refl)) }
 
-goes_second_place : Went (calling_at 5 3 7 1 (one_calls 5 send_nothing) (place_of [] (pos 2))) (steps 1) (one_ends 5 send_nothing Zero ∷ []) (idle_at 6 3 8)
+goes_second_reserve : Went (calling_at 6 3 8 1 (one_calls 6 send_nothing) (reserve_of [] (pos 2))) (steps 1) [] (calling_at 7 3 9 1 (one_calls 6 send_nothing) (place_of [] (pos 2) 0))
+goes_second_reserve = record { goes = inr (omega arith, (AtPool (Reserve 0) (Reserved 0), Goes (place_of [] (pos 2) 0), refl, (omega arith, refl), refl, refl, refl)) }
+
+goes_second_place : Went (calling_at 7 3 9 1 (one_calls 6 send_nothing) (place_of [] (pos 2) 0)) (steps 1) (one_ends 6 send_nothing Zero ∷ []) (idle_at 8 3 10)
 goes_second_place = record { goes = inr (omega arith, (AtSlot 0 place_nothing (Accepted 1), Over Zero, refl, legal_second_place, refl, refl, refl)) }
 
-begins_take : Went (idle_at 6 3 8) (two_starts receive_up_to_100) [] (calling_at 6 4 9 2 (two_calls 8 receive_up_to_100) (take_of receiver))
+begins_take : Went (idle_at 8 3 10) (two_starts receive_up_to_100) [] (calling_at 8 4 11 2 (two_calls 10 0 receive_up_to_100) (take_of receiver))
 begins_take = record { goes = inr (omega arith, (refl, refl)) }
 
-goes_take : Went (calling_at 6 4 9 2 (two_calls 8 receive_up_to_100) (take_of receiver)) (steps 2) (two_ends 8 receive_up_to_100 (Got (pos 5) hello) ∷ []) (idle_at 7 4 10)
-goes_take = record { goes = inr (omega arith, (AtSlot 0 (take_by receiver) (Taken hello_message), Over (Got (pos 5) hello), refl, legal_take, refl, refl, refl)) }
+goes_take : Went (calling_at 8 4 11 2 (two_calls 10 0 receive_up_to_100) (take_of receiver)) (steps 2) [] (calling_at 9 4 12 2 (two_calls 10 0 receive_up_to_100) (AtReceiveGiveback 1 (pos 5) hello))
+goes_take = record { goes = inr (omega arith, (AtSlot 0 (take_by receiver) (Taken hello_message), Goes (AtReceiveGiveback 1 (pos 5) hello), refl, legal_take, refl, refl, refl)) }
 
-begins_second_take : Went (idle_at 7 4 10) (two_starts receive_up_to_100) [] (calling_at 7 5 11 2 (two_calls 10 receive_up_to_100) (take_of receiver))
+goes_giveback : Went (calling_at 9 4 12 2 (two_calls 10 0 receive_up_to_100) (AtReceiveGiveback 1 (pos 5) hello)) (steps 2) (two_ends 10 0 receive_up_to_100 (Got (pos 5) hello) ∷ []) (idle_at 10 4 13)
+goes_giveback = record { goes = inr (omega arith, (AtPool (Release 1) Released, Over (Got (pos 5) hello), refl, omega arith, refl, refl, refl)) }
+
+begins_second_take : Went (idle_at 10 4 13) (two_starts receive_up_to_100) [] (calling_at 10 5 14 2 (two_calls 13 1 receive_up_to_100) (take_of receiver))
 begins_second_take = record { goes = inr (omega arith, (refl, refl)) }
 
-goes_second_take : Went (calling_at 7 5 11 2 (two_calls 10 receive_up_to_100) (take_of receiver)) (steps 2) (two_ends 10 receive_up_to_100 (Got (pos 2) []) ∷ []) (idle_at 8 5 12)
-goes_second_take = record { goes = inr (omega arith, (AtSlot 0 (take_by receiver) (Taken empty_message), Over (Got (pos 2) []), refl, legal_second_take, refl, refl, refl)) }
+goes_second_take : Went (calling_at 10 5 14 2 (two_calls 13 1 receive_up_to_100) (take_of receiver)) (steps 2) [] (calling_at 11 5 15 2 (two_calls 13 1 receive_up_to_100) (AtReceiveGiveback 0 (pos 2) []))
+goes_second_take = record { goes = inr (omega arith, (AtSlot 0 (take_by receiver) (Taken empty_message), Goes (AtReceiveGiveback 0 (pos 2) []), refl, legal_second_take, refl, refl, refl)) }
 
-begins_third_take : Went (idle_at 8 5 12) (two_starts receive_up_to_100) [] (calling_at 8 6 13 2 (two_calls 12 receive_up_to_100) (take_of receiver))
+goes_second_giveback : Went (calling_at 11 5 15 2 (two_calls 13 1 receive_up_to_100) (AtReceiveGiveback 0 (pos 2) [])) (steps 2) (two_ends 13 1 receive_up_to_100 (Got (pos 2) []) ∷ []) (idle_at 12 5 16)
+goes_second_giveback = record { goes = inr (omega arith, (AtPool (Release 0) Released, Over (Got (pos 2) []), refl, omega arith, refl, refl, refl)) }
+
+begins_third_take : Went (idle_at 12 5 16) (two_starts receive_up_to_100) [] (calling_at 12 6 17 2 (two_calls 16 2 receive_up_to_100) (take_of receiver))
 begins_third_take = record { goes = inr (omega arith, (refl, refl)) }
 
-goes_third_take : Went (calling_at 8 6 13 2 (two_calls 12 receive_up_to_100) (take_of receiver)) (steps 2) (two_ends 12 receive_up_to_100 (Refused ENOMSG) ∷ []) (idle_at 9 6 14)
+goes_third_take : Went (calling_at 12 6 17 2 (two_calls 16 2 receive_up_to_100) (take_of receiver)) (steps 2) (two_ends 16 2 receive_up_to_100 (Refused ENOMSG) ∷ []) (idle_at 13 6 18)
 goes_third_take = record { goes = inr (omega arith, (AtSlot 0 (take_by receiver) (NoMatch 2), Over (Refused ENOMSG), refl, legal_third_take, refl, refl, refl)) }
 
 -- a send of type 0 is refused
-goes_typeless : Went (idle_at 9 6 14) (one_starts send_typeless) (one_ends 14 send_typeless (Refused EINVAL) ∷ []) (idle_at 9 7 15)
+goes_typeless : Went (idle_at 13 6 18) (one_starts send_typeless) (last_ends (Refused EINVAL) ∷ []) (idle_at 13 7 19)
 goes_typeless = record { goes = inr (omega arith, (refl, refl)) }
 
 -- ---- the run
@@ -146,22 +163,22 @@ goes_typeless = record { goes = inr (omega arith, (refl, refl)) }
 on : {w mid after : World} {x : Happening} {xs : List Happening} {one rest : List Given} → Went w x one mid → Led mid xs rest after → Led w (x ∷ xs) (one ++ rest) after
 on {w} {mid} {after} {x} {xs} {one} {rest} went led = record { leads = (mid, one, rest, went.goes, led.leads, refl) }
 
-over : Led (idle_at 9 7 15) [] [] (idle_at 9 7 15)
+over : Led (idle_at 13 7 19) [] [] (idle_at 13 7 19)
 over = record { leads = (refl, refl) }
 
-receives_then : Led (idle_at 7 4 10) (two_starts receive_up_to_100 ∷ steps 2 ∷ two_starts receive_up_to_100 ∷ steps 2 ∷ one_starts send_typeless ∷ [])
-    (two_ends 10 receive_up_to_100 (Got (pos 2) []) ∷ two_ends 12 receive_up_to_100 (Refused ENOMSG) ∷ one_ends 14 send_typeless (Refused EINVAL) ∷ [])
-    (idle_at 9 7 15)
-receives_then = on begins_second_take (on goes_second_take (on begins_third_take (on goes_third_take (on goes_typeless over))))
+receives_then : Led (idle_at 10 4 13) (two_starts receive_up_to_100 ∷ steps 2 ∷ steps 2 ∷ two_starts receive_up_to_100 ∷ steps 2 ∷ one_starts send_typeless ∷ [])
+    (two_ends 13 1 receive_up_to_100 (Got (pos 2) []) ∷ two_ends 16 2 receive_up_to_100 (Refused ENOMSG) ∷ last_ends (Refused EINVAL) ∷ [])
+    (idle_at 13 7 19)
+receives_then = on begins_second_take (on goes_second_take (on goes_second_giveback (on begins_third_take (on goes_third_take (on goes_typeless over)))))
 
 pub worked_run : WorkedRun
 worked_run =
-    let all : Led (opening of_16) the_happenings the_answers (idle_at 9 7 15) =
+    let all : Led (opening of_16) the_happenings the_answers (idle_at 13 7 19) =
     on goes_preset (on begins_none (on goes_none
-    (on begins_hello (on goes_look (on goes_place
-    (on begins_nothing (on goes_second_look (on goes_second_place
-    (on begins_take (on goes_take receives_then)))))))))) in
-    (idle_at 9 7 15, all.leads, refl, refl)
+    (on begins_hello (on goes_look (on goes_reserve (on goes_place
+    (on begins_nothing (on goes_second_look (on goes_second_reserve (on goes_second_place
+    (on begins_take (on goes_take (on goes_giveback receives_then))))))))))))) in
+    (idle_at 13 7 19, all.leads, refl, refl)
 
 -- ---- replies that are not legal
 

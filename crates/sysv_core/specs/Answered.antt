@@ -1,25 +1,27 @@
 -- How the code tells the ending of a call (this profile's): the result, and for a receive the body that it
--- brought, with the text that it was given, or empty. No call ends with an identifier or attributes yet.
-use Rattle.std.specs.Prelude.{◌≡◌, Bool, true, false, ℕ, List, [], length, Option, Some, None, if◌then◌else◌}
+-- brought, with the text that it was given, or empty.
+use Rattle.std.specs.Prelude.{◌≡◌, Bool, ℕ, List, [], length, Option, Some, None, if◌then◌else◌}
 use Rattle.sysv_core.specs.declared.event.Outcome.{Outcome}
 use Rattle.sysv_core.specs.declared.event.Outcome.TheVariants as outcome
-use Rattle.sysv_steps.specs.Call.{SystemCall, Msgget, Msgsnd, Msgrcv, MsgctlStat, MsgctlSet, MsgctlRmid}
 use Rattle.sysv_steps.specs.State.{Ending, Id, Zero, Got, Told, Refused}
 
-abbrev pub receives : SystemCall → Bool
-receives (Msgrcv id size mtype flags) = true
-receives (Msgget key flags) = false
-receives (Msgsnd id mtype flags text) = false
-receives (MsgctlStat id) = false
-receives (MsgctlSet id to) = false
-receives (MsgctlRmid id) = false
+abbrev pub outcome_of : Ending → Outcome
+outcome_of (Id id) = outcome.Id id
+outcome_of Zero = outcome.Zero
+outcome_of (Got mtype text) = outcome.Got mtype (length text)
+outcome_of (Told stat) = outcome.Stat stat
+outcome_of (Refused why) = outcome.Refused why
+
+-- the text that it was given
+abbrev pub text_given : Ending → List ℕ
+text_given (Id id) = []
+text_given Zero = []
+text_given (Got mtype text) = text
+text_given (Told stat) = []
+text_given (Refused why) = []
 
 abbrev pub body_with : Bool → List ℕ → Option (List ℕ)
 body_with receives text = if receives then Some text else None
 
 abbrev pub TellsEnding : Bool → Ending → Outcome → Option (List ℕ) → Type 0
-TellsEnding receives (Id id) result body = ⊥
-TellsEnding receives Zero result body = (result ≡ outcome.Zero) × (body ≡ body_with receives [])
-TellsEnding receives (Got mtype text) result body = (result ≡ outcome.Got mtype (length text)) × (body ≡ body_with receives text)
-TellsEnding receives (Told stat) result body = ⊥
-TellsEnding receives (Refused why) result body = (result ≡ outcome.Refused why) × (body ≡ body_with receives [])
+TellsEnding receives ending result body = (result ≡ outcome_of ending) × (body ≡ body_with receives (text_given ending))

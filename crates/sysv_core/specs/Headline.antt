@@ -1,16 +1,21 @@
 -- The headline. For every list of atomic steps of any number of senders and receivers: what each queue
 -- accepted is, each message once, what it delivered, discarded by removal or still holds; each receive
--- takes the very message its selector names; messages of one type leave in the order of acceptance; and
--- every answer is decided by what its call asked for and by the turns of that call (what POSIX.1-2017
--- says of msgsnd and msgrcv, in this profile's steps).
+-- takes the very message its selector names; messages of one type leave in the order of acceptance; every
+-- answer is decided by what its call asked for and by the turns of that call; a receive waits only while
+-- no message is named, a send only while there is no room or too few blocks are free, a get only while another
+-- call has its key in hand; after a removal nothing is accepted or leaves under that identifier, for good; and
+-- then the sends and receives that had come to the queue answer EIDRM, and later ones EINVAL (what
+-- POSIX.1-2017 says of msgget, msgsnd, msgrcv and msgctl, in this profile's steps).
 --
 -- EveryRunObeys is the sentence. A world of the code stands for the list of what has happened in it, and
 -- a step, a preset and a run of events lead from the world of a list to the world of the longer list,
 -- with the answers of that run and no others.
 use Rattle.std.specs.Prelude.{◌≡◌, ◌≢◌, ◌⊎◌, ℕ, ◌≤◌, List, [], ◌∷◌, ◌++◌, map, All, AllPairs, Contains}
 use Rattle.sysv_model.specs.declared.limits.TheConstants.{WORN}
-use Rattle.sysv_model.specs.Turn.{slot_history, deeds_of}
+use Rattle.sysv_model.specs.Turn.{slot_history, registry_history, pool_history, deeds_of}
+use Rattle.sysv_pool.specs.PoolLaw.{PoolLaw}
 use Rattle.sysv_queue.specs.QueueLaw.{QueueLaw}
+use Rattle.sysv_keys.specs.RegistryLaw.{RegistryLaw}
 use Rattle.sysv_steps.specs.Answers.{IsRightAnswer}
 use Rattle.sysv_core.specs.declared.event.Event.{Event}
 use Rattle.sysv_core.specs.declared.event.Answer.{Answer}
@@ -18,12 +23,20 @@ use Rattle.sysv_core.specs.declared.event.Stepped.{Stepped}
 use Rattle.sysv_core.specs.World.{World, Opening, Started, Given, Happening, Preset, opening}
 use Rattle.sysv_core.specs.Run.{Leads}
 use Rattle.sysv_core.specs.AnswerLaw.{Fate, IsMade, AsksAsItWasAsked}
+use Rattle.sysv_core.specs.Parked.{AreParkedRightly}
+use Rattle.sysv_core.specs.Removed.{AreRemovedForGood}
+use Rattle.sysv_core.specs.LastWords.{AreToldOfRemovals}
+use Rattle.sysv_core.specs.Tending.{AreTended}
 use Rattle.sysv_core.specs.Seen.{Seen, StandsFor, happening_of, TellAll, Gives}
 
--- what holds of a world and of the endings given on the way to it
-pub record Obeys (w : World) (given : List Given) : Type 0 where
+-- what holds of a world that was opened so, and of the endings given on the way to it
+pub record Obeys (o : Opening) (w : World) (given : List Given) : Type 0 where
   -- the history of each slot obeys the queue law
   pub queues : (slot : ℕ) → QueueLaw (slot_history slot w.turns)
+  -- that of the registry obeys the registry law: no identifier is made twice
+  pub registry : RegistryLaw o.generation (registry_history w.turns)
+  -- that of the pool obeys the pool law: each block is free or out
+  pub pool : PoolLaw o.blocks (pool_history w.turns)
   -- each call plays its own turns, and has one answer where it is over
   pub calls : All (Fate w given) w.calls
   -- no two calls have one name
@@ -36,10 +49,18 @@ pub record Obeys (w : World) (given : List Given) : Type 0 where
   pub known : All (λ (g : Given). Contains w.calls g.call) given
   -- each answer is the right one for what was asked and for the turns of that call
   pub right : All (λ (g : Given). IsRightAnswer g.call.asked (deeds_of g.call.who w.turns) g.ending) given
+  -- who waits has a reason to
+  pub parked : AreParkedRightly w
+  -- a row that is not settled, or whose queue does not live, is some actor's to settle or to forget
+  pub tended : AreTended w
+  -- what was removed is gone for good
+  pub removed : AreRemovedForGood w.turns
+  -- and the sends and receives of its queue are told so
+  pub told : AreToldOfRemovals w given
 
 -- every list leads from every opening only to worlds that obey the laws
 abbrev pub EveryRunObeys : Type 0
-EveryRunObeys = (o : Opening) (list : List Happening) (given : List Given) (w : World) → Leads (opening o) list given w → Obeys w given
+EveryRunObeys = (o : Opening) (list : List Happening) (given : List Given) (w : World) → Leads (opening o) list given w → Obeys o w given
 
 -- For every list that the world stood for, it now stands for that list and a preset.
 abbrev pub StandsWithPreset : Seen → Seen → Type 0
@@ -71,4 +92,4 @@ StandsWithEvents old events answers new = (o : Opening) (list : List Happening) 
 
 -- For every list that the world stands for, the world to which it leads obeys the laws.
 abbrev pub LawsHold : Seen → Type 0
-LawsHold seen = (o : Opening) (list : List Happening) (given : List Given) (s : StandsFor o list given seen) → Obeys s.world given
+LawsHold seen = (o : Opening) (list : List Happening) (given : List Given) (s : StandsFor o list given seen) → Obeys o s.world given

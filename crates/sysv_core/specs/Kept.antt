@@ -1,24 +1,48 @@
 -- What a world of the code keeps of its actors, as states of the definitions (this profile's).
-use Rattle.std.specs.Prelude.{ℕ, List, Option, Some, None, option_map, map}
-use Rattle.sysv_steps.specs.State.{State, Goes}
-use Rattle.sysv_steps.specs.Seen.{phase_of}
+use Rattle.std.specs.Prelude.{ℕ, List, Option, Some, None, option_map, map, sum_by}
+use Rattle.sysv_steps.specs.State.{State}
+use Rattle.sysv_steps.specs.HeldBlocks.{held}
 use Rattle.sysv_core.specs.declared.doing.Doing.{Doing}
 use Rattle.sysv_core.specs.declared.doing.Led.{Led}
 use Rattle.sysv_core.specs.declared.doing.Led.TheVariants as led
 use Rattle.sysv_core.specs.declared.event.Stepped.{Stepped}
 use Rattle.sysv_core.specs.declared.event.Stepped.TheVariants as stepped
+use Rattle.sysv_core.specs.Standing.{stands_at}
+use Rattle.sysv_core.specs.Held.{text_in}
 
 abbrev pub state_kept : Option Doing → Option State
-state_kept doing = option_map (λ (d : Doing). Goes (phase_of d.phase d.body)) doing
+state_kept doing = option_map (λ (d : Doing). stands_at d.standing (text_in d.body)) doing
 
 abbrev pub states_kept : List (Option Doing) → List (Option State)
 states_kept actors = map state_kept actors
 
+-- the blocks that they hold
+abbrev pub blocks_at : Option State → ℕ
+blocks_at None = 0
+blocks_at (Some state) = held state
+
+abbrev pub blocks_held : List (Option State) → ℕ
+blocks_held states = sum_by blocks_at states
+
+abbrev pub blocks_kept : List (Option Doing) → ℕ
+blocks_kept actors = blocks_held (states_kept actors)
+
 -- what is kept of a call after a start or a step, and what is told of it
+abbrev pub doing_led : Led → Option Doing
+doing_led (led.To doing) = Some doing
+doing_led (led.Stays doing) = Some doing
+doing_led (led.Over result body) = None
+
 abbrev pub kept_led : Led → Option State
-kept_led (led.To doing) = state_kept (Some doing)
-kept_led (led.Over result body) = None
+kept_led l = state_kept (doing_led l)
+
+-- the steps that it counts: none where the call waits on
+abbrev pub counted_led : Led → ℕ
+counted_led (led.To doing) = 1
+counted_led (led.Stays doing) = 0
+counted_led (led.Over result body) = 1
 
 abbrev pub told_by : ℕ → Led → Stepped
 told_by actor (led.To doing) = stepped.Nothing
+told_by actor (led.Stays doing) = stepped.Nothing
 told_by actor (led.Over result body) = stepped.Answer record { actor = actor; result = result; body = body }

@@ -1,38 +1,52 @@
 -- What the code's start or step of a call leads to, as a state of the definitions (this profile's).
-use Rattle.std.specs.Prelude.{◌≡◌, ℕ, pos, Bool, true, false, Some}
-use Rattle.sysv_model.specs.History.{Call, Reply}
-use Rattle.sysv_model.specs.Turn.{OfSlot, AtSlot}
-use Rattle.sysv_queue.specs.Slot.{Slot}
-use Rattle.sysv_queue.specs.StandsFor.{MakesTurn}
-use Rattle.sysv_steps.specs.SlotAt.{slot_at}
-use Rattle.sysv_steps.specs.State.{Phase, AtTake, State, Goes, Waits, Over}
+use Rattle.std.specs.Prelude.{◌≡◌, ◌<◌, ◌≤◌, ◌⊎◌, ℕ, Bool, List, Some}
+use Rattle.sysv_model.specs.Turn.{Deed, Turn, asked_by}
+use Rattle.sysv_objects.specs.Objects.{Objects}
+use Rattle.sysv_objects.specs.StandsFor.{StandsFor, MakesTurn}
+use Rattle.sysv_steps.specs.State.{Phase, Wait, State, Goes, Waits, Over}
 use Rattle.sysv_steps.specs.Asks.{asks}
 use Rattle.sysv_steps.specs.Next.{next}
-use Rattle.sysv_steps.specs.Seen.{phase_of}
+use Rattle.sysv_steps.specs.Resume.{awaited, goal_of, resume}
 use Rattle.sysv_core.specs.declared.doing.Led.{Led}
 use Rattle.sysv_core.specs.declared.doing.Led.TheVariants as led
 use Rattle.sysv_core.specs.Answered.{TellsEnding}
+use Rattle.sysv_core.specs.Kinds.{phase_kind, wait_kind, gives_back}
+use Rattle.sysv_core.specs.Standing.{stands_at}
+use Rattle.sysv_core.specs.Held.{text_in}
+use Rattle.sysv_core.specs.World.{value_of}
 
--- the code's call goes on where the definitions' call stands, or is over and tells its ending; a receive
--- takes its body back
+-- the code's call goes on where the definitions' call stands, or is over and tells its ending, and gives
+-- its body back or not
 abbrev pub LeadsTo : Bool → State → Led → Type 0
-LeadsTo receives (Goes phase) (led.To doing) = phase ≡ phase_of doing.phase doing.body
-LeadsTo receives (Goes phase) (led.Over result body) = ⊥
-LeadsTo receives (Waits wait) result = ⊥
-LeadsTo receives (Over ending) (led.To doing) = ⊥
-LeadsTo receives (Over ending) (led.Over result body) = TellsEnding receives ending result body
+LeadsTo back state (led.To doing) = state ≡ stands_at doing.standing (text_in doing.body)
+LeadsTo back (Over ending) (led.Over result body) = TellsEnding back ending result body
+LeadsTo back (Goes phase) (led.Over result body) = ⊥
+LeadsTo back (Waits wait) (led.Over result body) = ⊥
+LeadsTo back state (led.Stays doing) = ⊥
 
--- the phase is one of a receive
-abbrev pub is_receiving : Phase → Bool
-is_receiving (AtTake receive) = true
-is_receiving phase = false
-
--- one turn of the call in that phase at the slot, and what it led to
-pub record TurnLeads (old : Slot) (phase : Phase) (now : ℕ) (result : Led) (new : Slot) : Type 0 where
-  pub call : Call
-  pub reply : Reply
+-- one turn of the call in that phase at its object, and what it led to
+pub record TurnLeads (old : Objects) (phase : Phase) (now : ℕ) (result : Led) (new : Objects) : Type 0 where
+  pub deed : Deed
   pub state : State
-  pub asked : asks phase now ≡ OfSlot (slot_at (pos 0)) call
-  pub turn : MakesTurn old call reply new
-  pub goes : next phase (AtSlot (slot_at (pos 0)) call reply) ≡ Some state
-  pub leads : LeadsTo (is_receiving phase) state result
+  pub asked : asked_by deed ≡ asks phase now
+  pub turn : MakesTurn old deed new
+  pub goes : next phase deed ≡ Some state
+  pub leads : LeadsTo (gives_back (phase_kind phase)) state result
+
+-- the call stands where it stood
+abbrev pub Stays : State → Led → Type 0
+Stays state (led.Stays doing) = state ≡ stands_at doing.standing (text_in doing.body)
+Stays state (led.To doing) = ⊥
+Stays state (led.Over result body) = ⊥
+
+-- the call's look at the count for which it waits: it goes on where its goal is reached, and else it stays
+abbrev pub LookLeads : Objects → Wait → Led → Type 0
+LookLeads objects wait result = (generation : ℕ) (turns : List Turn) → StandsFor generation turns objects →
+    ((goal_of wait ≤ value_of turns (awaited wait)) × LeadsTo (gives_back (wait_kind wait)) (Goes (resume wait (value_of turns (awaited wait)))) result)
+    ⊎ ((value_of turns (awaited wait) < goal_of wait) × Stays (Waits wait) result)
+
+-- one step of a call that stands there
+abbrev pub StepLeads : Objects → State → ℕ → Led → Objects → Type 0
+StepLeads old (Goes phase) now result new = TurnLeads old phase now result new
+StepLeads old (Waits wait) now result new = LookLeads old wait result × (new ≡ old)
+StepLeads old (Over ending) now result new = ⊥

@@ -6,15 +6,16 @@ use Rattle.sysv_core.specs.declared.event.Event.{Event}
 use Rattle.sysv_core.specs.declared.event.Stepped.{Stepped}
 use Rattle.sysv_core.specs.World.{World, Happening, Given, Presets}
 use Rattle.sysv_core.specs.Run.{Leads}
+use Rattle.sysv_core.specs.Sound.{IsSound}
 use Rattle.sysv_core.specs.Seen.{Steps}
 
 abbrev pub OneStep : Type 0
-OneStep = (w after other : World) (event : Event) (result given : Stepped) →
+OneStep = (w after other : World) (event : Event) (result given : Stepped) → IsSound w →
     Steps w event result after → Steps w event given other → (result ≡ given) × (after ≡ other)
 
 abbrev pub OnePreset : Type 0
 OnePreset = (w after other : World) (made did : Bool) → Presets w made after → Presets w did other → (made ≡ did) × (after ≡ other)
 
 abbrev pub OneRun : Type 0
-OneRun = (w after other : World) (list : List Happening) (given told : List Given) →
+OneRun = (w after other : World) (list : List Happening) (given told : List Given) → IsSound w →
     Leads w list given after → Leads w list told other → (given ≡ told) × (after ≡ other)

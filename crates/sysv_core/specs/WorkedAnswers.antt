@@ -1,12 +1,13 @@
 -- What the answer law admits and refuses, at the send of hello in the worked run: it started at step number
--- 2, looked, placed its text and was answered zero.
+-- 2, looked, got a block, placed its text and was answered zero.
 use Rattle.std.specs.Prelude.{ℕ, pos, [], ◌∷◌, ◌++◌, true, Some}
 use Rattle.sysv_model.specs.declared.errno.Errno.TheVariants.{EAGAIN}
-use Rattle.sysv_model.specs.History.{Actor, Installed, Fits, Accepted, Full}
-use Rattle.sysv_model.specs.Turn.{Deed, AtSlot}
-use Rattle.sysv_steps.specs.State.{AtPlace, Zero, Refused, State, Goes, Over}
+use Rattle.sysv_model.specs.History.{Actor, Fits, Accepted, Full}
+use Rattle.sysv_model.specs.Pool.{Reserve, Reserved}
+use Rattle.sysv_model.specs.Turn.{Deed, AtSlot, AtPool}
+use Rattle.sysv_steps.specs.State.{AtReserve, Zero, Refused, State, Goes, Over}
 use Rattle.sysv_steps.specs.Played.{Plays}
-use Rattle.sysv_core.specs.World.{World, Started, opening, with_actor, begun, preset_call}
+use Rattle.sysv_core.specs.World.{World, Started, opening, with_actor, begun, with_preset_turns}
 use Rattle.sysv_core.specs.AnswerLaw.{Fate, IsMade}
 use Rattle.sysv_core.specs.WorkedRun.{hello, send_hello, place_hello, look_for, one_calls, one_ends, the_calls, the_turns, the_answers, of_16}
 
@@ -15,34 +16,38 @@ the_send = one_calls 2 send_hello
 
 -- the world after the run: every actor is idle
 abbrev pub the_end : World
-the_end = record { turns = the_turns; calls = the_calls; actors = (opening of_16).actors; steps = 15; blocks = 128 }
+the_end = record { turns = the_turns; calls = the_calls; actors = (opening of_16).actors; steps = 19; blocks = 128; generation = 0 }
 
 -- the same, but actor 1 is in that call still, where it stood after its look
-abbrev pub still_placing : State
-still_placing = Goes (AtPlace record { cred = the_send.cred; id = pos 0; mtype = pos 5; text = hello; nowait = true; released = 0; seen = true } 0)
+abbrev pub still_reserving : State
+still_reserving = Goes (AtReserve record { cred = the_send.cred; id = pos 0; mtype = pos 5; text = hello; nowait = true; released = 0; seen = true })
 
 abbrev pub going_on : World
-going_on = record the_end { actors = with_actor (opening of_16).actors 1 (Some record { call = the_send; state = still_placing }) }
+going_on = record the_end { actors = with_actor (opening of_16).actors 1 (Some record { call = the_send; state = still_reserving }) }
 
 -- the send under way after one look for that many bytes
 abbrev pub looking : ℕ → World
 looking size = record {
-  turns = record { who = Actor 0 0; deed = AtSlot 0 preset_call (Installed true) } ∷ record { who = the_send.who; deed = AtSlot 0 (look_for size) Fits } ∷ [];
+  turns = with_preset_turns [] ++ record { who = the_send.who; deed = AtSlot 0 (look_for size) Fits } ∷ [];
   calls = the_send ∷ [];
-  actors = with_actor (opening of_16).actors 1 (Some record { call = the_send; state = still_placing });
+  actors = with_actor (opening of_16).actors 1 (Some record { call = the_send; state = still_reserving });
   steps = 4;
   blocks = 128;
+  generation = 0;
 }
 
 abbrev pub look_fits : Deed
 look_fits = AtSlot 0 (look_for 5) Fits
+
+abbrev pub gets_a_block : Deed
+gets_a_block = AtPool (Reserve 5) (Reserved 1)
 
 abbrev pub accepts : ℕ → Deed
 accepts number = AtSlot 0 place_hello (Accepted number)
 
 pub record WorkedAnswers : Type 0 where
   -- the call plays its own turns to the answer that it was given
-  pub plays : Plays (begun the_send) (look_fits ∷ accepts 0 ∷ []) (Over Zero)
+  pub plays : Plays (begun the_send) (look_fits ∷ gets_a_block ∷ accepts 0 ∷ []) (Over Zero)
   pub admitted : Fate the_end the_answers the_send
   -- a full queue is not answered zero
   pub full_sent : ¬ Plays (begun the_send) (AtSlot 0 (look_for 5) (Full 0) ∷ []) (Over Zero)

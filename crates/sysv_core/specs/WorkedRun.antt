@@ -6,21 +6,22 @@
 --
 -- Below it stand replies that are no legal ones at its turns, and the sums of two messages that fill
 -- a queue to the byte.
-use Rattle.std.specs.Prelude.{◌≡◌, ◌≢◌, ℕ, pos, List, [], ◌∷◌, ◌++◌, true, false, length, take, map, codes}
+use Rattle.std.specs.Prelude.{◌≡◌, ◌≢◌, ℕ, pos, List, [], ◌∷◌, ◌++◌, true, false, length, take, codes}
 use Rattle.sysv_model.specs.declared.cred.Cred.{Cred}
 use Rattle.sysv_model.specs.declared.errno.Errno.TheVariants.{EINVAL, ENOMSG}
 use Rattle.sysv_model.specs.declared.flags.Flags.{Flags}
 use Rattle.sysv_model.specs.declared.flags.TheConstants.Flags.{IPC_NOWAIT}
 use Rattle.sysv_model.specs.declared.selector.Selector.TheVariants.{Any}
 use Rattle.sysv_model.specs.Message.{Message}
-use Rattle.sysv_model.specs.History.{Actor, Call, Look, Place, Take, Reply, Installed, Gone, Full, Fits, Accepted, NoMatch, Taken, Entry, History}
-use Rattle.sysv_model.specs.Turn.{AtSlot, Turn}
+use Rattle.sysv_model.specs.declared.limits.TheConstants.{IPC_PRIVATE}
+use Rattle.sysv_model.specs.History.{Actor, Call, Install, Look, Place, Take, Reply, Installed, Gone, Full, Fits, Accepted, NoMatch, Taken, Entry, History}
+use Rattle.sysv_model.specs.Pool.{PoolCall, Reserve, Release, PoolReply, Reserved, Released}
+use Rattle.sysv_model.specs.Turn.{AtSlot, AtPool, Turn}
 use Rattle.sysv_queue.specs.LegalReply.{IsLegalReply}
 use Rattle.sysv_steps.specs.Call.{SystemCall, Msgsnd, Msgrcv}
-use Rattle.sysv_steps.specs.SlotAt.{slot_at}
 use Rattle.sysv_steps.specs.State.{Ending, Zero, Got, Refused}
 use Rattle.sysv_steps.specs.Begin.{is_refused}
-use Rattle.sysv_core.specs.World.{World, Opening, Started, Given, Happening, Preset, Start, Step, opening, preset_call}
+use Rattle.sysv_core.specs.World.{World, Opening, Started, Given, Happening, Preset, Start, Step, opening, preset_cred, preset_flags, with_preset_turns}
 use Rattle.sysv_core.specs.Run.{Leads}
 
 abbrev pub sender : Cred
@@ -48,7 +49,8 @@ send_nothing = Msgsnd (pos 0) (pos 2) nowait []
 abbrev pub send_typeless : SystemCall
 send_typeless = Msgsnd (pos 0) (pos 0) nowait hello
 
--- what happens: each call is its start and its steps, a receive one and a send two
+-- what happens: each call is its start and its steps, a receive one, or two where it is given a message, and
+-- a send three
 abbrev pub one_starts : SystemCall → Happening
 one_starts call = Start 1 sender call
 
@@ -62,46 +64,52 @@ abbrev pub the_happenings : List Happening
 the_happenings =
     Preset
     ∷ one_starts receive_up_to_100 ∷ steps 1
-    ∷ one_starts send_hello ∷ steps 1 ∷ steps 1
-    ∷ one_starts send_nothing ∷ steps 1 ∷ steps 1
-    ∷ two_starts receive_up_to_100 ∷ steps 2
-    ∷ two_starts receive_up_to_100 ∷ steps 2
+    ∷ one_starts send_hello ∷ steps 1 ∷ steps 1 ∷ steps 1
+    ∷ one_starts send_nothing ∷ steps 1 ∷ steps 1 ∷ steps 1
+    ∷ two_starts receive_up_to_100 ∷ steps 2 ∷ steps 2
+    ∷ two_starts receive_up_to_100 ∷ steps 2 ∷ steps 2
     ∷ two_starts receive_up_to_100 ∷ steps 2
     ∷ one_starts send_typeless ∷ []
 
--- the calls, each with the step number at which it was started
+-- the calls, each with the step number at which it was started, and the released count at its start
 abbrev pub one_calls : (start : ℕ) → SystemCall → Started
 one_calls start call = record { who = Actor 1 start; cred = sender; asked = call; released = 0 }
 
-abbrev pub two_calls : (start : ℕ) → SystemCall → Started
-two_calls start call = record { who = Actor 2 start; cred = receiver; asked = call; released = 0 }
+abbrev pub two_calls : (start released : ℕ) → SystemCall → Started
+two_calls start released call = record { who = Actor 2 start; cred = receiver; asked = call; released = released }
+
+abbrev pub last_call : Started
+last_call = record { who = Actor 1 18; cred = sender; asked = send_typeless; released = 2 }
 
 abbrev pub the_calls : List Started
 the_calls =
     one_calls 0 receive_up_to_100
     ∷ one_calls 2 send_hello
-    ∷ one_calls 5 send_nothing
-    ∷ two_calls 8 receive_up_to_100
-    ∷ two_calls 10 receive_up_to_100
-    ∷ two_calls 12 receive_up_to_100
-    ∷ one_calls 14 send_typeless ∷ []
+    ∷ one_calls 6 send_nothing
+    ∷ two_calls 10 0 receive_up_to_100
+    ∷ two_calls 13 1 receive_up_to_100
+    ∷ two_calls 16 2 receive_up_to_100
+    ∷ last_call ∷ []
 
 -- how they end, in order
 abbrev pub one_ends : (start : ℕ) → SystemCall → Ending → Given
 one_ends start call ending = record { call = one_calls start call; ending = ending }
 
-abbrev pub two_ends : (start : ℕ) → SystemCall → Ending → Given
-two_ends start call ending = record { call = two_calls start call; ending = ending }
+abbrev pub two_ends : (start released : ℕ) → SystemCall → Ending → Given
+two_ends start released call ending = record { call = two_calls start released call; ending = ending }
+
+abbrev pub last_ends : Ending → Given
+last_ends ending = record { call = last_call; ending = ending }
 
 abbrev pub the_answers : List Given
 the_answers =
     one_ends 0 receive_up_to_100 (Refused ENOMSG)
     ∷ one_ends 2 send_hello Zero
-    ∷ one_ends 5 send_nothing Zero
-    ∷ two_ends 8 receive_up_to_100 (Got (pos 5) hello)
-    ∷ two_ends 10 receive_up_to_100 (Got (pos 2) [])
-    ∷ two_ends 12 receive_up_to_100 (Refused ENOMSG)
-    ∷ one_ends 14 send_typeless (Refused EINVAL) ∷ []
+    ∷ one_ends 6 send_nothing Zero
+    ∷ two_ends 10 0 receive_up_to_100 (Got (pos 5) hello)
+    ∷ two_ends 13 1 receive_up_to_100 (Got (pos 2) [])
+    ∷ two_ends 16 2 receive_up_to_100 (Refused ENOMSG)
+    ∷ last_ends (Refused EINVAL) ∷ []
 
 -- the two messages, and the turns at the slot with their replies
 abbrev pub hello_message : Message
@@ -125,20 +133,49 @@ place_hello = Place (pos 0) sender (pos 5) hello 0
 abbrev pub place_nothing : Call
 place_nothing = Place (pos 0) sender (pos 2) [] 0
 
-abbrev pub the_entries : History
-the_entries =
-    turn_of 0 0 preset_call (Installed true)
-    ∷ turn_of 1 0 (take_by sender) (NoMatch 0)
+abbrev pub preset_call : Call
+preset_call = Install (pos 0) IPC_PRIVATE preset_cred preset_flags.0 0
+
+-- those of the calls, and before them that of the preset
+abbrev pub the_later_entries : History
+the_later_entries =
+    turn_of 1 0 (take_by sender) (NoMatch 0)
     ∷ turn_of 1 2 (look_for 5) Fits
     ∷ turn_of 1 2 place_hello (Accepted 0)
-    ∷ turn_of 1 5 (look_for 0) Fits
-    ∷ turn_of 1 5 place_nothing (Accepted 1)
-    ∷ turn_of 2 8 (take_by receiver) (Taken hello_message)
-    ∷ turn_of 2 10 (take_by receiver) (Taken empty_message)
-    ∷ turn_of 2 12 (take_by receiver) (NoMatch 2) ∷ []
+    ∷ turn_of 1 6 (look_for 0) Fits
+    ∷ turn_of 1 6 place_nothing (Accepted 1)
+    ∷ turn_of 2 10 (take_by receiver) (Taken hello_message)
+    ∷ turn_of 2 13 (take_by receiver) (Taken empty_message)
+    ∷ turn_of 2 16 (take_by receiver) (NoMatch 2) ∷ []
+
+abbrev pub the_entries : History
+the_entries = turn_of 0 0 preset_call (Installed true) ∷ the_later_entries
+
+-- a turn at the slot, and one at the pool
+abbrev pub slot_turn : (actor start : ℕ) → Call → Reply → Turn
+slot_turn actor start call reply = record { who = Actor actor start; deed = AtSlot 0 call reply }
+
+abbrev pub pool_turn : (actor start : ℕ) → PoolCall → PoolReply → Turn
+pool_turn actor start call reply = record { who = Actor actor start; deed = AtPool call reply }
+
+-- all turns: the preset's three, and those of the calls; hello takes one block, and no text takes none
+abbrev pub the_later_turns : List Turn
+the_later_turns =
+    slot_turn 1 0 (take_by sender) (NoMatch 0)
+    ∷ slot_turn 1 2 (look_for 5) Fits
+    ∷ pool_turn 1 2 (Reserve 5) (Reserved 1)
+    ∷ slot_turn 1 2 place_hello (Accepted 0)
+    ∷ slot_turn 1 6 (look_for 0) Fits
+    ∷ pool_turn 1 6 (Reserve 0) (Reserved 0)
+    ∷ slot_turn 1 6 place_nothing (Accepted 1)
+    ∷ slot_turn 2 10 (take_by receiver) (Taken hello_message)
+    ∷ pool_turn 2 10 (Release 1) Released
+    ∷ slot_turn 2 13 (take_by receiver) (Taken empty_message)
+    ∷ pool_turn 2 13 (Release 0) Released
+    ∷ slot_turn 2 16 (take_by receiver) (NoMatch 2) ∷ []
 
 abbrev pub the_turns : List Turn
-the_turns = map (λ (e : Entry). record { who = e.who; deed = AtSlot (slot_at (pos 0)) e.call e.reply }) the_entries
+the_turns = with_preset_turns [] ++ the_later_turns
 
 -- a world of 16 actors
 abbrev pub of_16 : Opening
@@ -148,7 +185,7 @@ of_16 = record { actors = 16; blocks = 128; first = 0; generation = 0 }
 abbrev pub WorkedRun : Type 0
 WorkedRun = (w : World) × Leads (opening of_16) the_happenings the_answers w × (w.calls ≡ the_calls) × (w.turns ≡ the_turns)
 
--- the slot's history after that many turns of the run
+-- the slot's history after that many turns of the run at the slot
 abbrev pub after_turns : ℕ → History
 after_turns count = take count the_entries
 

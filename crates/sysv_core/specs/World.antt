@@ -3,17 +3,17 @@
 -- of an actor's call, or one step of it: one turn at one object, which has a legal reply, or a look at the
 -- count for which the call waits (this profile's).
 use Rattle.std.specs.Prelude.{◌≡◌, ℕ, zero, suc, pos, ◌+◌, ◌<◌, ◌≤◌, ◌⊎◌, Bool, true, false, List, [], ◌∷◌, ◌++◌, Option, Some, None, replicate, slice_get, slice_set}
+use Rattle.sysv_model.specs.declared.flags.Flags.{Flags}
 use Rattle.sysv_model.specs.declared.cred.Cred.{Cred}
 use Rattle.sysv_model.specs.declared.flags.TheConstants.Flags.{USER_READ, USER_WRITE}
 use Rattle.sysv_model.specs.declared.limits.TheConstants.{IPC_PRIVATE, WORN}
-use Rattle.sysv_model.specs.History.{Who, Actor, Call, Install, Installed, arrived, freed}
-use Rattle.sysv_model.specs.Registry.{settled}
+use Rattle.sysv_model.specs.History.{Who, Actor, Install, Installed, arrived, freed}
+use Rattle.sysv_model.specs.Registry.{Begin, Settle, Made, Changed, settled}
 use Rattle.sysv_model.specs.Pool.{released}
-use Rattle.sysv_model.specs.Live.{live}
-use Rattle.sysv_model.specs.Turn.{Deed, AtSlot, AtRegistry, AtPool, asked_by, Turn, slot_history, registry_history, pool_history}
-use Rattle.sysv_queue.specs.LegalReply.{IsLegalReply}
+use Rattle.sysv_model.specs.Turn.{Deed, AtSlot, AtRegistry, asked_by, Turn, slot_history, registry_history, pool_history}
+use Rattle.sysv_keys.specs.Rows.{IsUnused}
+use Rattle.sysv_objects.specs.LegalDeed.{IsLegalDeed}
 use Rattle.sysv_steps.specs.Call.{SystemCall}
-use Rattle.sysv_steps.specs.SlotAt.{slot_at}
 use Rattle.sysv_steps.specs.State.{Phase, Wait, Ending, State, Goes, Waits, Over}
 use Rattle.sysv_steps.specs.Begin.{begin}
 use Rattle.sysv_steps.specs.Asks.{asks}
@@ -46,11 +46,12 @@ pub record World : Type 0 where
   pub calls : List Started  -- all that were started, in order
   pub actors : List (Option Doing)  -- none where the actor is idle
   pub steps : ℕ
-  pub blocks : ℕ  -- those that it was opened with; there is no pool yet
+  pub blocks : ℕ  -- those of the pool that it was opened with
+  pub generation : ℕ  -- that with which its identifiers began
 
 -- the world in which nothing has happened
 abbrev pub opening : Opening → World
-opening o = record { turns = []; calls = []; actors = replicate o.actors None; steps = o.first; blocks = o.blocks }
+opening o = record { turns = []; calls = []; actors = replicate o.actors None; steps = o.first; blocks = o.blocks; generation = o.generation }
 
 -- a call that is over, and how it ended
 pub record Given : Type 0 where
@@ -108,16 +109,10 @@ Begins w actor call given after = (given ≡ given_in call (begun call)) × (aft
 
 -- ---- a step of a call
 
--- the reply is the legal one at its object; the registry and the pool are not there yet
-abbrev pub IsLegal : List Turn → Deed → Type 0
-IsLegal turns (AtSlot slot call reply) = IsLegalReply (slot_history slot turns) call reply
-IsLegal turns (AtRegistry call reply) = ⊥
-IsLegal turns (AtPool call reply) = ⊥
-
 -- one turn of the call, which asks what it asks in that phase and goes where the reply leads
 abbrev pub Turns : World → ℕ → Started → Phase → ℕ → List Given → World → Type 0
 Turns w actor call phase now given after =
-    (deed : Deed) × (state : State) × (asked_by deed ≡ asks phase now) × IsLegal w.turns deed × (next phase deed ≡ Some state)
+    (deed : Deed) × (state : State) × (asked_by deed ≡ asks phase now) × IsLegalDeed w.generation w.blocks w.turns deed × (next phase deed ≡ Some state)
     × (given ≡ given_in call state) × (after ≡ in_state (with_turn w call.who deed) actor call state)
 
 abbrev pub value_of : List Turn → Count → ℕ
@@ -158,17 +153,39 @@ StepsAt w actor now None given after = StaysWith w given after
 StepsAt w actor now (Some None) given after = StaysWith w given after
 StepsAt w actor now (Some (Some doing)) given after = Continues w actor now doing.call doing.state given after
 
--- the preset queue: private, of user and group 1000, readable and writable by its user, made at moment 0
--- by no actor
-abbrev pub preset_call : Call
-preset_call = Install (pos 0) IPC_PRIVATE record { uid = 1000; gid = 1000; pid = 0 } (USER_READ.0 + USER_WRITE.0) 0
+-- the preset queue: what msgget makes of the private key for user and group 1000, readable and writable by
+-- its user, at moment 0. No actor makes it.
+abbrev pub preset_who : Who
+preset_who = Actor 0 0
 
--- a preset makes it where no queue is live, and else changes nothing; it is not counted
+abbrev pub preset_cred : Cred
+preset_cred = record { uid = 1000; gid = 1000; pid = 0 }
+
+abbrev pub preset_flags : Flags
+preset_flags = record { 0 = USER_READ.0 + USER_WRITE.0 }
+
+abbrev pub preset_begin : Deed
+preset_begin = AtRegistry (Begin IPC_PRIVATE preset_flags) (Made (pos 0))
+
+abbrev pub preset_install : Deed
+preset_install = AtSlot 0 (Install (pos 0) IPC_PRIVATE preset_cred preset_flags.0 0) (Installed true)
+
+abbrev pub preset_settle : Deed
+preset_settle = AtRegistry (Settle (pos 0)) (Changed true)
+
+abbrev pub with_preset_turns : List Turn → List Turn
+with_preset_turns turns =
+    ((turns ++ record { who = preset_who; deed = preset_begin } ∷ []) ++ record { who = preset_who; deed = preset_install } ∷ []) ++ record { who = preset_who; deed = preset_settle } ∷ []
+
+abbrev pub with_preset : World → World
+with_preset w = record w { turns = with_preset_turns w.turns }
+
+-- a preset makes it in three turns where slot 0 has no row and its generation is 0, and else changes
+-- nothing; it is not counted
 abbrev pub Presets : World → Bool → World → Type 0
 Presets w made after =
-    ((live (slot_history (slot_at (pos 0)) w.turns) ≡ None) × (made ≡ true)
-    × (after ≡ with_turn w (Actor 0 0) (AtSlot (slot_at (pos 0)) preset_call (Installed true))))
-    ⊎ (¬ (live (slot_history (slot_at (pos 0)) w.turns) ≡ None) × (made ≡ false) × (after ≡ w))
+    (IsUnused w.generation (registry_history w.turns) 0 × (made ≡ true) × (after ≡ with_preset w))
+    ⊎ (¬ IsUnused w.generation (registry_history w.turns) 0 × (made ≡ false) × (after ≡ w))
 
 -- from step number 2^62 on a start or a step finds the world worn out and changes nothing
 abbrev pub Makes : World → Happening → List Given → World → Type 0

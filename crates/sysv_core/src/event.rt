@@ -1,12 +1,23 @@
+use sysv_model::attributes::{SetTo, Stat};
 use sysv_model::body::Body;
 use sysv_model::cred::Cred;
 use sysv_model::errno::Errno;
 use sysv_model::flags::Flags;
+use sysv_steps::state::Phase;
+use sysv_steps::wait::Wait;
 
 /// A call that an actor can start. Where one of its own arguments is refused it answers EINVAL at its
 /// start, and nothing else has changed. Flags that a call does not use are ignored.
 #[derive(Drop)]
 pub enum Call {
+    /// `msgget`: the identifier of `key`, or that of a new queue (POSIX.1-2017, `msgget`).
+    Get {
+        /// The key; IPC_PRIVATE always makes a new queue.
+        key: i32,
+        /// IPC_CREAT, IPC_EXCL and the mode, whose low nine bits are those of a new queue; of a queue
+        /// that is there they say which permissions are asked.
+        flags: Flags,
+    },
     /// `msgsnd`: the text in `body` as a message of type `mtype` (POSIX.1-2017, `msgsnd`). It does not
     /// give the body back.
     Send {
@@ -14,7 +25,7 @@ pub enum Call {
         id: i32,
         /// The message's type, from 1; a lower one is refused.
         mtype: i64,
-        /// None is used.
+        /// With IPC_NOWAIT the call does not wait for room.
         flags: Flags,
         /// The text, at most 8,192 bytes; a longer one is refused.
         body: Body,
@@ -29,10 +40,29 @@ pub enum Call {
         /// 0 for the first message, a positive type for the first of it, a negative one for the first
         /// of the lowest type that is at most its absolute value.
         mtype: i64,
-        /// With MSG_NOERROR a longer text is cut; MSG_EXCEPT is refused.
+        /// With MSG_NOERROR a longer text is cut, and with IPC_NOWAIT the call does not wait for a
+        /// message; MSG_EXCEPT is refused.
         flags: Flags,
         /// What it holds is dropped at the start.
         body: Body,
+    },
+    /// `msgctl` with IPC_STAT: the attributes of the queue (POSIX.1-2017, `msgctl`).
+    Stat {
+        /// The queue, from 0; a negative one is refused.
+        id: i32,
+    },
+    /// `msgctl` with IPC_SET: gives the queue this owner, this mode and this limit (POSIX.1-2017,
+    /// `msgctl`).
+    Set {
+        /// The queue, from 0; a negative one is refused.
+        id: i32,
+        /// What it is given.
+        to: SetTo,
+    },
+    /// `msgctl` with IPC_RMID: removes the queue with all that waits on it (POSIX.1-2017, `msgctl`).
+    Remove {
+        /// The queue, from 0; a negative one is refused.
+        id: i32,
     },
 }
 
@@ -49,12 +79,24 @@ pub enum Event {
 /// How a call ended.
 #[derive(Clone, Copy, PartialEq, Eq, Debug)]
 pub enum Outcome {
+    /// A get succeeded: the identifier of the queue.
+    Id(i32),
     /// The call succeeded and has nothing to tell.
     Zero,
     /// A receive succeeded: the message's type and the number of bytes given.
     Got { mtype: i64, len: usize },
+    /// The attributes of the queue.
+    Stat(Stat),
     /// The call was refused.
     Refused(Errno),
+}
+
+/// Where a call under way stands. What it holds there can be neither dropped nor copied.
+pub enum Standing {
+    /// Before this step.
+    At(Phase),
+    /// In this wait, until a step of its actor finds the count above.
+    Waits(Wait),
 }
 
 /// The answer to an actor's call.

@@ -1,53 +1,82 @@
 //! Laws over the definitions alone.
 
 ghost use Rattle.sysv_core.specs.Headline.{EveryRunObeys};
+ghost use Rattle.sysv_core.specs.Sound.{StaysSound};
 ghost use Rattle.sysv_core.specs.OneRun.{OneStep, OnePreset, OneRun};
 ghost use Rattle.sysv_core.specs.SomeRun.{SomeStep, SomePreset, SomeRun};
 ghost use Rattle.sysv_core.specs.WorkedRun.{WorkedRun, NoWrongReply, ExactFit};
 ghost use Rattle.sysv_core.specs.WorkedSelection.{WorkedSelection};
 ghost use Rattle.sysv_core.specs.WorkedAnswers.{WorkedAnswers};
+ghost use Rattle.sysv_core.specs.WorkedWaits.{WorkedWaits};
 
-use sysv_queue::laws::{legal_history, one_legal_reply, queue_law};
-use sysv_steps::laws::{each_answer_is_right, each_deed_is_asked_for};
+use sysv_keys::laws::{registry_law, unused_slots};
+use sysv_objects::laws::{legal_turns, one_legal_deed};
+use sysv_pool::laws::pool_law;
+use sysv_queue::laws::{queue_law, removed_for_good, stays_right};
+use sysv_steps::laws::{
+    after_removal, each_answer_is_right, each_deed_is_asked_for, waits_for_its_refusal,
+};
 
 /// The headline: every list of happenings leads from every opening only to worlds that obey the laws.
 pub fn every_run_obeys()
     ensures { EveryRunObeys }
 {
-    legal_history();
+    each_world_is_sound();
+    legal_turns();
     queue_law();
+    registry_law();
+    pool_law();
     each_deed_is_asked_for();
     each_answer_is_right();
+    stays_right();
+    waits_for_its_refusal();
+    removed_for_good();
+    after_removal();
 }
 
-/// An event, and a preset, makes one world at most of a world, and gives one result.
+/// Whatever happens in a sound world leaves a sound world.
+pub fn each_world_is_sound()
+    ensures { StaysSound }
+{
+    legal_turns();
+    unused_slots();
+}
+
+/// An event, and a preset, makes one world at most of a sound world, and gives one result.
 pub fn one_step()
     ensures step { OneStep }
     ensures preset { OnePreset }
 {
-    one_legal_reply();
+    each_world_is_sound();
+    one_legal_deed();
 }
 
-/// Each event, and each preset, leads somewhere from a world whose actors are in sends and receives.
+/// Each event, and each preset, leads somewhere from a sound world.
 pub fn some_step()
     ensures step { SomeStep }
     ensures preset { SomePreset }
 {
-    one_legal_reply();
+    each_world_is_sound();
+    one_legal_deed();
+    unused_slots();
 }
 
-/// Each list of presets, starts of sends and receives, and steps leads somewhere from an opening.
+/// Each list of happenings leads somewhere from an opening.
 pub fn some_run()
     ensures { SomeRun }
 {
-    one_legal_reply();
+    each_world_is_sound();
+    legal_turns();
+    one_legal_deed();
+    unused_slots();
 }
 
-/// A list of happenings leads to one world at most, with one list of endings.
+/// A list of happenings leads from a sound world to one world at most, with one list of endings.
 pub fn one_run()
     ensures { OneRun }
 {
-    one_legal_reply();
+    each_world_is_sound();
+    one_legal_deed();
 }
 
 /// The worked run is a run of the definitions, with its endings in their places.
@@ -73,6 +102,12 @@ pub fn worked_answers()
     each_deed_is_asked_for();
     each_answer_is_right();
 }
+
+/// The laws of waits and of removals admit a receive that waits rightly and is told of a removal, and refuse
+/// one that sleeps on, one that is told something else and an identifier that comes back.
+pub fn worked_waits()
+    ensures { WorkedWaits }
+{}
 
 /// Two messages of 8,192 bytes fill the queue to the byte.
 pub fn exact_fit()

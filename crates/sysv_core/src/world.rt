@@ -1,20 +1,26 @@
 ghost use Rattle.std.specs.Prelude.{ℕ, List, false, IsTrue, ◌≡◌, ◌≢◌, ◌+◌, ◌^◌, ◌<◌, ◌≤◌, ◌⊎◌, ◌↔◌, ◌++◌, ◌∷◌, [], length, IfOk, IfErr, MatchResult, Err, MatchOption, Some, None, slice_set, slice_get, replicate};
 ghost use Rattle.sysv_model.specs.declared.limits.TheConstants.{ACTORS_MOST as most_actors, BLOCKS_LEAST as least_blocks, BLOCKS_MOST as most_blocks, WORN as worn};
+ghost use Rattle.sysv_keys.specs.declared.identifier.TheConstants.{GENERATION_LAST as last_generation};
 ghost use Rattle.sysv_core.specs.Headline.{StandsWithPreset, StandsWithEvent, StandsWithEvents, LawsHold};
-ghost use Rattle.sysv_core.specs.Seen.{StandsFor, PresetsSeen, StepsSeen, IsOpenedWith};
-ghost use Rattle.sysv_core.specs.Kept.{kept_led, told_by};
-ghost use Rattle.sysv_core.specs.Standing.{state_at, StandsBefore};
+ghost use Rattle.sysv_core.specs.Seen.{StandsFor, PresetsSeen, StepsSeen, IsFreed};
+ghost use Rattle.sysv_core.specs.Kept.{doing_led, told_by};
+ghost use Rattle.sysv_core.specs.Standing.{state_at, StandsNowhere, StandsThere};
 ghost use Rattle.sysv_core.specs.declared.event.Event.TheVariants.{Start, Step};
 
-use crate::doing::{Doing, Led, advance, begin};
-use crate::event::{Answer, Call, Event, Stepped};
-use crate::laws::every_run_obeys;
+use crate::doing::{Doing, Led};
+use crate::driver::{advance, begin, counted};
+use crate::event::{Answer, Call, Event, Standing, Stepped};
+use crate::giveback::{chain_in, end_all};
+use crate::laws::{each_world_is_sound, every_run_obeys};
+use crate::preset::preset_queue;
 use std::alloc::Global;
 use std::marker::Model;
+use sysv_keys::identifier::GENERATION_LAST;
+use sysv_keys::laws::unused_slots;
 use sysv_model::cred::Cred;
-use sysv_model::limits::{ACTORS_MOST, BLOCKS_LEAST, BLOCKS_MOST, IPC_PRIVATE, WORN};
-use sysv_queue::slot::QueueSlot;
-use sysv_steps::state::Phase;
+use sysv_model::limits::{ACTORS_MOST, BLOCKS_LEAST, BLOCKS_MOST, WORN};
+use sysv_objects::laws::legal_turns;
+use sysv_objects::objects::Objects;
 use thiserror::Error;
 
 /// Why a world is not opened.
@@ -23,86 +29,106 @@ pub enum OpenRefused {
     /// Memory was refused.
     #[error("no memory")]
     NoMemory,
-    /// The number of actors is not 1 to 1,024, or that of blocks not 128 to 65,536.
+    /// The number of actors is not 1 to 1,024, that of blocks not 128 to 65,536, the first step number
+    /// above 2^62, or the generation above the last one.
     #[error("a size out of range")]
     BadSize,
 }
 
-/// The credentials with which the preset queue is made.
-const PRESET: Cred = Cred {
-    uid: 1000,
-    gid: 1000,
-    pid: 0,
-};
-
-const PRESET_MODE: u32 = 0o600;
-
-/// One queue slot and its actors, which make their calls step by step. Actors count from 1. A world can't be
+/// Queues and their actors, which make their calls step by step. Actors count from 1. A world can't be
 /// dropped: it ends by `end`.
 pub struct World {
-    slot: QueueSlot,
+    objects: Objects,
     actors: Vec<Option<Doing>>,
     steps: u64,
-    blocks: u32,
 }
 
 impl Model for World {
     ghost use Rattle.std.specs.Prelude.{◌≤◌, ◌^◌};
-    ghost use Rattle.sysv_core.specs.Seen.{Seen};
+    ghost use Rattle.sysv_core.specs.Seen.{Seen, IsSeen};
 
     ghost Value = { Seen };
 
+    ghost use Rattle.sysv_objects.specs.Objects.{CountsUpTo};
     ghost use Rattle.sysv_core.specs.Kept.{states_kept};
-    ghost use Rattle.sysv_model.specs.History.{History};
-    ghost use Rattle.sysv_queue.specs.StandsFor.{StandsFor};
 
-    ghost view = { λ w. record { slot = w.slot; states = states_kept w.actors.items; steps = w.steps; blocks = w.blocks } };
+    ghost view = { λ w. record { objects = w.objects; states = states_kept w.actors.items; steps = w.steps } };
 
-    // The step number bounds the slot's counts.
-    ghost invariant = { λ w. (w.steps ≤ 2 ^ 62) × (w.slot.arrived ≤ w.steps) × (w.slot.freed ≤ w.steps) × ((h : History) × StandsFor h w.slot) };
+    // The step number bounds the counts of the slots and of the pool.
+    ghost invariant = { λ w. (w.steps ≤ 2 ^ 62) × CountsUpTo w.steps w.objects
+        × IsSeen (record { objects = w.objects; states = states_kept w.actors.items; steps = w.steps }) };
 }
 
 impl World {
-    /// A world of 1 to 1,024 idle actors and a vacant slot (this profile's). `blocks`, 128 to 65,536,
-    /// is checked against its range alone. `BadSize` where one of them is out of its range, `NoMemory`
-    /// where memory was refused.
+    /// A world of 1 to 1,024 idle actors, vacant slots, a registry without rows, and a pool of `blocks`
+    /// blocks, 128 to 65,536. `BadSize` where one of them is out of its range,
+    /// `NoMemory` where memory was refused.
     pub fn open(alloc: Global, actors: u32, blocks: u32) -> Result<World, OpenRefused>
         ensures opened { IfOk result (λ world. StandsFor record { actors = actors; blocks = blocks; first = 0; generation = 0 } [] [] world) }
         ensures bad_size { (result ≡ Err OpenRefused.BadSize) ↔ ((actors < 1) ⊎ (most_actors < actors) ⊎ (blocks < least_blocks) ⊎ (most_blocks < blocks)) }
     {
+        World::open_at(alloc, actors, blocks, 0, 0)
+    }
+
+    /// As `open`, with another first step number, 0 to 2^62, and another generation with which the
+    /// identifiers of all slots begin, up to the last one. `BadSize` where one of the four is out of its
+    /// range, `NoMemory` where memory was refused.
+    pub fn open_at(
+        alloc: Global,
+        actors: u32,
+        blocks: u32,
+        first_step: u64,
+        generation: u32,
+    ) -> Result<World, OpenRefused>
+        ensures opened { IfOk result (λ world. StandsFor record { actors = actors; blocks = blocks; first = first_step; generation = generation } [] [] world) }
+        ensures bad_size { (result ≡ Err OpenRefused.BadSize) ↔ ((actors < 1) ⊎ (most_actors < actors) ⊎ (blocks < least_blocks) ⊎ (most_blocks < blocks)
+            ⊎ (worn < first_step) ⊎ (last_generation < generation)) }
+    {
+        legal_turns();
         if actors < 1 || actors > ACTORS_MOST || blocks < BLOCKS_LEAST || blocks > BLOCKS_MOST {
             return Err(OpenRefused::BadSize);
         }
-        let Ok(slot) = QueueSlot::open(alloc) else {
-            return Err(OpenRefused::NoMemory);
-        };
+        if first_step > WORN || generation > GENERATION_LAST {
+            return Err(OpenRefused::BadSize);
+        }
         let actors = idle(alloc, actors as usize)?;
-        Ok(World {
-            slot,
-            actors,
-            steps: 0,
-            blocks,
-        })
+        match Objects::open_at(alloc, generation, blocks) {
+            Ok(objects) => Ok(World {
+                objects,
+                actors,
+                steps: first_step,
+            }),
+            Err(_) => {
+                end_all(actors).end();
+                Err(OpenRefused::NoMemory)
+            }
+        }
     }
 
     /// Makes a live private queue 0 of user and group 1000 and mode 0600 at moment 0, as `msgget` does
-    /// for IPC_PRIVATE (POSIX.1-2017, `msgget`), by process 0. `false`, with nothing changed, where a
-    /// queue is live. It is not counted, and takes no memory.
+    /// for IPC_PRIVATE (POSIX.1-2017, `msgget`), by process 0. `false`, with nothing changed, where slot
+    /// 0 has a row or a generation other than 0. It is not counted, and takes no memory.
     pub fn preset(&mut self) -> bool
         // For every list of happenings that the world stands for, it then stands for that list and a preset.
         ensures stands { StandsWithPreset self.old self.new }
         // What the preset makes of each world as which it is seen.
         ensures single { PresetsSeen self.old result self.new }
-        ensures live { IsTrue result ↔ (self.old.slot.live ≡ None) }
         ensures refused { result ≡ false → self.new ≡ self.old }
     {
-        self.slot.install(0, IPC_PRIVATE, PRESET, PRESET_MODE, 0)
+        each_world_is_sound();
+        legal_turns();
+        unused_slots();
+        if !self.objects.is_unused(0) {
+            return false;
+        }
+        preset_queue(&mut self.objects)
     }
 
-    /// Lets one event happen, and says what it gave: the start of a call, or one turn of it at the slot
-    /// (POSIX.1-2017, `msgsnd` and `msgrcv`; the steps are this profile's). An event that is not
-    /// possible in its actor's phase gives nothing and changes nothing. Once 2^62 events were counted
-    /// the world is worn, and nothing changes any more. It takes no memory.
+    /// Lets one event happen, and says what it gave: the start of a call, one turn of it at its object, or
+    /// one look at the count for which it waits (POSIX.1-2017, `msgget`, `msgsnd`, `msgrcv` and `msgctl`;
+    /// the steps are this profile's). An event that is not possible in its actor's phase, and the step of
+    /// an actor that waits on, gives nothing and changes nothing. Once 2^62 events were counted the world
+    /// is worn, and nothing changes any more. It takes no memory.
     pub fn step(&mut self, event: Event) -> Stepped
         // For every list of happenings that the world stands for, it then stands for that list and the
         // event, and gives what the run gives.
@@ -146,30 +172,31 @@ impl World {
         Ok(answers)
     }
 
-    /// The step before which the call of `actor` stands; `None` where it is idle, and for a number that
-    /// no actor has. Actors count from 1.
-    pub fn standing(&self, actor: u32) -> Option<Phase>
-        ensures { StandsBefore (state_at self.now.states actor) result }
+    /// Where the call of `actor` stands: before a step, or in a wait. `None` where the actor is idle, and
+    /// for a number that no actor has. Actors count from 1.
+    pub fn standing(&self, actor: u32) -> Option<&Standing>
+        ensures { MatchOption result (StandsNowhere (state_at self.now.states actor)) (λ standing. StandsThere (state_at self.now.states actor) standing.now) }
     {
         let place = self.place_of(actor)?;
         match &self.actors[place] {
-            Some(doing) => Some(doing.phase),
+            Some(doing) => Some(&doing.standing),
             None => None,
         }
     }
 
-    /// Ends the world, with all that it holds, and answers the blocks that it was opened with. It takes no
+    /// Ends the world: puts the blocks of all that waits, and those that calls under way hold, back into the
+    /// pool, and answers how many blocks are free then. Where they would be more than the pool was opened
+    /// with none of them is put back. A message that a receive under way was given is lost. It takes no
     /// memory.
     pub fn end(self) -> u32
-        ensures { IsOpenedWith self result }
+        ensures { IsFreed self result }
     {
         let World {
-            slot: _slot,
-            actors: _actors,
+            objects,
+            actors,
             steps: _steps,
-            blocks: opened,
         } = self;
-        opened
+        objects.end(end_all(actors))
     }
 
     /// Starts a call of an idle actor.
@@ -178,6 +205,7 @@ impl World {
         ensures single { StepsSeen self.old (Start actor cred call) result self.new }
         ensures not_worn { result ≢ Stepped.Worn }
     {
+        each_world_is_sound();
         let Some(place) = self.place_of(actor) else {
             return Stepped::Nothing;
         };
@@ -185,46 +213,26 @@ impl World {
             return Stepped::Nothing;
         }
         self.steps += 1;
-        self.settle(actor, place, begin(cred, call))
+        let released = self.objects.released();
+        settle(&mut self.actors, actor, place, begin(cred, call, released))
     }
 
-    /// Makes one step of the actor's call.
+    /// Makes one step of the actor's call, which is counted unless the call waits on.
     fn turn(&mut self, actor: u32, now: u64) -> Stepped
         requires { self.old.steps < worn }
         ensures single { StepsSeen self.old (Step actor now) result self.new }
         ensures not_worn { result ≢ Stepped.Worn }
     {
+        each_world_is_sound();
         let Some(place) = self.place_of(actor) else {
             return Stepped::Nothing;
         };
         let Some(doing) = self.actors[place].take() else {
             return Stepped::Nothing;
         };
-        self.steps += 1;
-        let led = advance(&mut self.slot, doing, now);
-        self.settle(actor, place, led)
-    }
-
-    /// The actor goes on with its call, or is idle and its answer is given.
-    fn settle(&mut self, actor: u32, place: usize, led: Led) -> Stepped
-        requires { place < length self.old.states }
-        ensures kept { self.new ≡ record self.old { states = slice_set self.old.states place (kept_led led) } }
-        ensures told { result ≡ told_by actor led }
-    {
-        match led {
-            Led::To(doing) => {
-                self.actors[place] = Some(doing);
-                Stepped::Nothing
-            }
-            Led::Over(result, body) => {
-                self.actors[place] = None;
-                Stepped::Answer(Answer {
-                    actor,
-                    result,
-                    body,
-                })
-            }
-        }
+        let led = advance(&mut self.objects, doing, now);
+        self.steps += counted(&led);
+        settle(&mut self.actors, actor, place, led)
     }
 
     /// Where the actor stands in the list, if there is such an actor.
@@ -237,13 +245,34 @@ impl World {
     }
 }
 
+/// The actor at that place, which is in no call, goes on with its call, or is idle and its answer is given.
+fn settle(actors: &mut Vec<Option<Doing>>, actor: u32, place: usize, led: Led) -> Stepped
+    requires { slice_get actors.old.items place ≡ Some None }
+    ensures kept { actors.new.items ≡ slice_set actors.old.items place (doing_led led) }
+    ensures told { result ≡ told_by actor led }
+{
+    match led {
+        Led::To(doing) | Led::Stays(doing) => {
+            if let Some(before) = actors[place].replace(doing) {
+                chain_in(before).end();
+            }
+            Stepped::Nothing
+        }
+        Led::Over(result, body) => Stepped::Answer(Answer {
+            actor,
+            result,
+            body,
+        }),
+    }
+}
+
 /// That many idle actors.
 fn idle(alloc: Global, actors: usize) -> Result<Vec<Option<Doing>>, OpenRefused>
     ensures { MatchResult result (λ made. made.items ≡ replicate actors None) (λ e. e ≡ OpenRefused.NoMemory) }
 {
     let mut idle = Vec::with_capacity(alloc, actors).map_err(|_| OpenRefused::NoMemory)?;
     for _ in 0..actors {
-        idle.push(None).map_err(|_| OpenRefused::NoMemory)?;
+        idle.push_reserved(None);
     }
     Ok(idle)
 }

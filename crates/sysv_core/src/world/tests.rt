@@ -1,29 +1,85 @@
 //! Two actors that take turns step by step, events that are not possible, sizes out of range, and a
 //! list of events with its answers.
 
+mod blocks;
+mod keys;
+mod waits;
+
 use super::*;
 use crate::event::Outcome;
 use bitflags::Flags as _;
 use std::process::Abort;
+use sysv_model::attributes::{Perm, SetTo, Stat};
 use sysv_model::body::Body;
 use sysv_model::errno::Errno;
 use sysv_model::flags::Flags;
+use sysv_steps::state::Phase;
 
 /// What an answer is to be: whose, how the call ended, and the text of the body that comes with it.
 type Want<'a> = (u32, Outcome, Option<&'a [u8]>);
 
-/// A world with queue 0. Memory is refused once at most.
+/// A world of 1,024 blocks with queue 0. Memory is refused once at most.
 fn world_with_queue(rt: &impl Abort, alloc: Global, actors: u32) -> World {
-    let mut world = match World::open(alloc, actors, 128) {
+    let mut world = match World::open(alloc, actors, 1024) {
         Ok(world) => world,
         Err(why) => {
             assert_eq!(rt; why, OpenRefused::NoMemory);
-            World::open(alloc, actors, 128).expect(rt, "a second try")
+            World::open(alloc, actors, 1024).expect(rt, "a second try")
         }
     };
     assert!(rt; world.preset());
     assert!(rt; !world.preset());
     world
+}
+
+/// A world of four actors and 128 blocks that begins with this step number and this generation. Memory is refused
+/// once at most.
+fn world_at(rt: &impl Abort, alloc: Global, first_step: u64, generation: u32) -> World {
+    match World::open_at(alloc, 4, 128, first_step, generation) {
+        Ok(world) => world,
+        Err(why) => {
+            assert_eq!(rt; why, OpenRefused::NoMemory);
+            World::open_at(alloc, 4, 128, first_step, generation).expect(rt, "a second try")
+        }
+    }
+}
+
+/// Steps of the actor until its call is answered.
+fn go(rt: &impl Abort, world: &mut World, actor: u32) -> Outcome {
+    for _ in 0..8 {
+        match world.step(step(actor)) {
+            Stepped::Answer(answer) => {
+                assert_eq!(rt; answer.actor, actor);
+                return answer.result;
+            }
+            Stepped::Nothing => {}
+            Stepped::Worn => panic!(rt; "worn"),
+        }
+    }
+    panic!(rt; "no answer")
+}
+
+/// The actor makes a call that goes through.
+fn make(rt: &impl Abort, world: &mut World, actor: u32, call: Call) -> Outcome {
+    assert_nothing(rt, world.step(start(actor, call)));
+    go(rt, world, actor)
+}
+
+fn is_waiting(world: &World, actor: u32) -> bool {
+    matches!(world.standing(actor), Some(Standing::Waits(_)))
+}
+
+/// The flags with these bits.
+fn flags(bits: u32) -> Flags {
+    Flags::from_bits_retain(bits)
+}
+
+/// A get of this key, with IPC_CREAT and mode 0600.
+fn get_or_make(key: i32) -> Call {
+    Call::Get {
+        key,
+        flags: flags(512 + 0o600),
+    }
 }
 
 /// A body with this text. Memory is refused once at most.
@@ -105,11 +161,27 @@ fn assert_answer(rt: &impl Abort, stepped: Stepped, want: Want<'_>) {
     }
 }
 
+/// Steps of the actor until its call is answered so.
+fn assert_ends(rt: &impl Abort, world: &mut World, want: Want<'_>) {
+    let (actor, _, _) = want;
+    for _ in 0..8 {
+        match world.step(step(actor)) {
+            Stepped::Answer(answer) => {
+                assert_is(rt, &answer, want);
+                return;
+            }
+            Stepped::Nothing => {}
+            Stepped::Worn => panic!(rt; "worn"),
+        }
+    }
+    panic!(rt; "no answer")
+}
+
 /// The actor receives from start to end.
 fn assert_receives(rt: &impl Abort, alloc: Global, world: &mut World, want: Want<'_>) {
     let (actor, _, _) = want;
     assert_nothing(rt, world.step(receive(rt, alloc, actor)));
-    assert_answer(rt, world.step(step(actor)), want);
+    assert_ends(rt, world, want);
 }
 
 /// The actor sends from start to end, and is answered zero.
@@ -126,8 +198,7 @@ fn assert_sends_type(
     text: &[u8],
 ) {
     assert_nothing(rt, world.step(send(rt, alloc, actor, mtype, text)));
-    assert_nothing(rt, world.step(step(actor)));
-    assert_answer(rt, world.step(step(actor)), (actor, Outcome::Zero, None));
+    assert_ends(rt, world, (actor, Outcome::Zero, None));
 }
 
 #[test]
@@ -137,6 +208,7 @@ fn a_send_and_a_receive_run_between_look_and_place(rt: HostRuntime) {
     let no_message = Outcome::Refused(Errno::ENOMSG);
     assert_nothing(&rt, world.step(send(&rt, alloc, 1, 5, b"hello")));
     assert_nothing(&rt, world.step(step(1)));
+    assert_nothing(&rt, world.step(step(1)));
     assert_sends(&rt, alloc, &mut world, 2, b"between");
     let got = Outcome::Got { mtype: 7, len: 7 };
     assert_receives(&rt, alloc, &mut world, (2, got, Some(b"between")));
@@ -145,7 +217,7 @@ fn a_send_and_a_receive_run_between_look_and_place(rt: HostRuntime) {
     let got = Outcome::Got { mtype: 5, len: 5 };
     assert_receives(&rt, alloc, &mut world, (2, got, Some(b"hello")));
     assert_receives(&rt, alloc, &mut world, (2, no_message, Some(b"")));
-    assert_eq!(rt; world.end(), 128);
+    assert_eq!(rt; world.end(), 1024);
 }
 
 #[test]
@@ -155,12 +227,20 @@ fn a_place_finds_that_the_room_is_gone(rt: HostRuntime) {
     let bytes = [b'x'; 8192];
     assert_nothing(&rt, world.step(send(&rt, alloc, 1, 5, b"y")));
     assert_nothing(&rt, world.step(step(1)));
+    assert_nothing(&rt, world.step(step(1)));
     assert_sends(&rt, alloc, &mut world, 2, &bytes);
     assert_sends(&rt, alloc, &mut world, 2, &bytes);
     let full = Outcome::Refused(Errno::EAGAIN);
+    assert_nothing(&rt, world.step(step(1)));
+    assert!(rt;
+        matches!(
+            world.standing(1),
+            Some(Standing::At(Phase::SendGiveback { .. }))
+        )
+    );
     assert_answer(&rt, world.step(step(1)), (1, full, None));
     assert_sends(&rt, alloc, &mut world, 2, b"");
-    assert_eq!(rt; world.end(), 128);
+    assert_eq!(rt; world.end(), 1024);
 }
 
 #[test]
@@ -189,12 +269,12 @@ fn a_receive_takes_what_it_names(rt: HostRuntime) {
     for (mtype, size, flags, outcome, text) in receives {
         let call = receive_of(&rt, alloc, size, mtype, flags);
         assert_nothing(&rt, world.step(start(2, call)));
-        assert_answer(&rt, world.step(step(2)), (2, outcome, Some(text)));
+        assert_ends(&rt, &mut world, (2, outcome, Some(text)));
     }
     let call = receive_of(&rt, alloc, 9, 0, Flags::MSG_EXCEPT);
     let invalid = Outcome::Refused(Errno::EINVAL);
     assert_answer(&rt, world.step(start(2, call)), (2, invalid, Some(b"")));
-    assert_eq!(rt; world.end(), 128);
+    assert_eq!(rt; world.end(), 1024);
 }
 
 #[test]
@@ -224,7 +304,7 @@ fn a_stranger_is_denied(rt: HostRuntime) {
     assert_answer(&rt, world.step(step(2)), (2, denied, None));
     let none = Outcome::Refused(Errno::ENOMSG);
     assert_receives(&rt, alloc, &mut world, (1, none, Some(b"")));
-    assert_eq!(rt; world.end(), 128);
+    assert_eq!(rt; world.end(), 1024);
 }
 
 #[test]
@@ -241,13 +321,13 @@ fn what_is_not_possible_gives_nothing(rt: HostRuntime) {
     assert_nothing(&rt, world.step(receive(&rt, alloc, 1)));
     assert_nothing(&rt, world.step(step(1)));
     assert_nothing(&rt, world.step(send(&rt, alloc, 1, 6, b"other")));
-    assert_answer(&rt, world.step(step(1)), (1, Outcome::Zero, None));
+    assert_ends(&rt, &mut world, (1, Outcome::Zero, None));
     assert_nothing(&rt, world.step(step(1)));
     let got = Outcome::Got { mtype: 5, len: 4 };
     assert_receives(&rt, alloc, &mut world, (2, got, Some(b"kept")));
     let no_message = Outcome::Refused(Errno::ENOMSG);
     assert_receives(&rt, alloc, &mut world, (2, no_message, Some(b"")));
-    assert_eq!(rt; world.end(), 128);
+    assert_eq!(rt; world.end(), 1024);
 }
 
 #[test]
@@ -256,6 +336,12 @@ fn a_size_out_of_range_opens_no_world(rt: HostRuntime) {
         match World::open(rt.alloc(), actors, blocks) {
             Ok(_) => panic!(rt; "a world of {actors} actors and {blocks} blocks"),
             Err(why) => assert_eq!(rt; why, OpenRefused::BadSize, "{actors} {blocks}"),
+        }
+    }
+    for (first_step, generation) in [((1 << 62) + 1, 0), (0, 33_554_432)] {
+        match World::open_at(rt.alloc(), 2, 128, first_step, generation) {
+            Ok(_) => panic!(rt; "a world from step {first_step} and generation {generation}"),
+            Err(why) => assert_eq!(rt; why, OpenRefused::BadSize, "{first_step} {generation}"),
         }
     }
     for (actors, blocks) in [(1, 128), (1024, 65_536)] {
@@ -268,20 +354,20 @@ fn a_size_out_of_range_opens_no_world(rt: HostRuntime) {
 
 /// Actor 1 receives, sends `hello` and sends nothing; actor 2 receives three times.
 fn six_calls(rt: &impl Abort, alloc: Global) -> Vec<Event> {
-    let mut events = match Vec::with_capacity(alloc, 14) {
+    let mut events = match Vec::with_capacity(alloc, 19) {
         Ok(events) => events,
-        Err(_) => Vec::with_capacity(alloc, 14).expect(rt, "a second try"),
+        Err(_) => Vec::with_capacity(alloc, 19).expect(rt, "a second try"),
     };
     for event in [receive(rt, alloc, 1), step(1)] {
         assert!(rt; events.push(event).is_ok());
     }
     for (mtype, text) in [(5, b"hello".as_slice()), (2, b"")] {
-        for event in [send(rt, alloc, 1, mtype, text), step(1), step(1)] {
+        for event in [send(rt, alloc, 1, mtype, text), step(1), step(1), step(1)] {
             assert!(rt; events.push(event).is_ok());
         }
     }
     for _ in 0..3 {
-        for event in [receive(rt, alloc, 2), step(2)] {
+        for event in [receive(rt, alloc, 2), step(2), step(2)] {
             assert!(rt; events.push(event).is_ok());
         }
     }
@@ -296,7 +382,7 @@ fn six_calls_have_six_answers(rt: HostRuntime) {
     let answers = match world.run(alloc, events) {
         Ok(answers) => answers,
         Err(back) => {
-            assert_eq!(rt; back.len(), 14);
+            assert_eq!(rt; back.len(), 19);
             match world.run(alloc, back) {
                 Ok(answers) => answers,
                 Err(_) => panic!(rt; "a second try"),
@@ -316,7 +402,7 @@ fn six_calls_have_six_answers(rt: HostRuntime) {
     for (answer, want) in answers.iter().zip(wants) {
         assert_is(&rt, answer, want);
     }
-    assert_eq!(rt; world.end(), 128);
+    assert_eq!(rt; world.end(), 1024);
 }
 
 #[test]
@@ -326,9 +412,11 @@ fn an_actor_stands_before_its_next_step(rt: HostRuntime) {
     assert!(rt; world.standing(1).is_none());
     assert!(rt; world.standing(3).is_none());
     let _started = world.step(send(&rt, rt.alloc(), 1, 5, b"hello"));
-    assert!(rt; matches!(world.standing(1), Some(Phase::Look(_))));
+    assert!(rt; matches!(world.standing(1), Some(Standing::At(Phase::Look(_)))));
     assert!(rt; world.standing(2).is_none());
     let _looked = world.step(Event::Step { actor: 1, now: 0 });
-    assert!(rt; matches!(world.standing(1), Some(Phase::Place(_))));
-    let _blocks = world.end();
+    assert!(rt; matches!(world.standing(1), Some(Standing::At(Phase::Reserve(_)))));
+    let _reserved = world.step(Event::Step { actor: 1, now: 0 });
+    assert!(rt; matches!(world.standing(1), Some(Standing::At(Phase::Place { .. }))));
+    assert_eq!(rt; world.end(), 1024);
 }

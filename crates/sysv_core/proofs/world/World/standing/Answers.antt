@@ -1,10 +1,11 @@
-use Rattle.std.proofs.Common.{◌≡◌, ◌+◌, ℕ, suc, ◌<◌, List, Option, Some, None, length, get_or, slice_get, sym, refl, ap, subst, ◌∙◌, rules, arith}
+use Rattle.std.proofs.Common.{◌≡◌, ◌+◌, ℕ, suc, ◌<◌, List, Option, Some, None, length, get_or, slice_get, sym, refl, ap, subst, ◌∙◌, arith}
 use Rattle.std.proofs.lemmas.List.{length-map}
 use Rattle.std.proofs.lemmas.Option.{slice_get-map, slice_get-get_or}
 use Rattle.sysv_steps.specs.State.{State}
 use Rattle.sysv_core.specs.declared.doing.Doing.{Doing}
 use Rattle.sysv_core.specs.Kept.{state_kept, states_kept}
-use Rattle.sysv_core.specs.Standing.{state_at, StandsBefore}
+use Rattle.sysv_core.specs.Standing.{state_at, StandsNowhere, StandsThere}
+use Rattle.sysv_core.specs.Held.{text_in}
 use Rattle.sysv_core.specs.Seen.{Seen}
 use Rattle.sysv_core.proofs.world.World.standing.Goals as goal
 
@@ -37,10 +38,10 @@ returns-in-Some c =
     let doing = c.in-Some.doing in
     let there = stands_there c.self.inside.actors.items c.args.self.now.states c.args.actor c.in_ok-place.place c.index.result.now (Some doing)
     (ap (λ (v : Seen). v.states) c.self.view_is) c.in_ok-place.ensures c.index.ensures c.in-Some.is in
-    subst (λ s. StandsBefore s (Some doing.phase)) (sym there) (doing.body, refl)
+    subst (λ s. StandsThere s doing.standing) (sym there) (text_in doing.body, refl)
 
 pub returns-in-None : goal.returns-in-None
 returns-in-None c =
     let there = stands_there c.self.inside.actors.items c.args.self.now.states c.args.actor c.in_ok-place.place c.index.result.now None
     (ap (λ (v : Seen). v.states) c.self.view_is) c.in_ok-place.ensures c.index.ensures c.in-None.is in
-    subst (λ s. StandsBefore s None) (sym there) tt
+    subst StandsNowhere (sym there) tt

@@ -15,3 +15,9 @@ returns-in-Start-clause-stands c = rw c.in-Start.is (stands_step c.args.self.now
 
 pub returns-in-Step-clause-stands : goal.returns-in-Step-clause-stands
 returns-in-Step-clause-stands c = rw c.in-Step.is (stands_step c.args.self.now c.turn.new.self (Step c.in-Step.actor c.in-Step.now) c.turn.result c.turn.ensures.single)
+
+pub returns-in-Start-clause-single : goal.returns-in-Start-clause-single
+returns-in-Start-clause-single c = rw c.in-Start.is c.start.ensures.single
+
+pub returns-in-Step-clause-single : goal.returns-in-Step-clause-single
+returns-in-Step-clause-single c = rw c.in-Step.is c.turn.ensures.single

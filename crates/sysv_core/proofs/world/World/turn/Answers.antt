@@ -1,10 +1,14 @@
-use Rattle.std.proofs.Common.{Some, None, sym, ap, subst, ◌∙◌, arith, rules}
-use Rattle.sysv_steps.specs.Seen.{phase_of}
-use Rattle.sysv_core.specs.Seen.{Seen}
-use Rattle.sysv_core.specs.Kept.{state_kept, kept_led}
-use Rattle.sysv_core.specs.Led.{TurnLeads}
-use Rattle.sysv_core.proofs.SeenSteps.{step_idle, step_busy}
-use Rattle.sysv_core.proofs.KeptActors.{seen_at, seen_same, seen_over, still_within, counts_rise}
+use Rattle.std.proofs.Common.{◌+◌, Some, None, refl, sym, ap, subst, ◌∙◌, arith, rules}
+use Rattle.sysv_core.specs.declared.event.Event.TheVariants.{Step}
+use Rattle.sysv_core.specs.declared.event.Stepped.TheVariants.{Nothing}
+use Rattle.sysv_objects.specs.Objects.{CountsUpTo}
+use Rattle.sysv_core.specs.Held.{text_in}
+use Rattle.sysv_core.specs.Standing.{stands_at}
+use Rattle.sysv_core.specs.Seen.{Seen, IsSeenAs}
+use Rattle.sysv_core.specs.Kept.{state_kept, counted_led}
+use Rattle.sysv_core.specs.Led.{StepLeads}
+use Rattle.sysv_core.proofs.SeenSteps.{moves_as, step_idle, step_busy}
+use Rattle.sysv_core.proofs.KeptActors.{seen_at, seen_same, seen_resettled, taken_there, same_seen, counts_on}
 use Rattle.sysv_core.proofs.world.World.turn.Goals as goal
 
 pub returns-in_default-take-clause-single : goal.returns-in_default-take-clause-single
@@ -14,29 +18,36 @@ returns-in_default-take-clause-single c = λ w s.
     let idle = ap state_kept (sym c.take.ensures.value ∙ c.in_default-take.is) in
     let there = seen_at c.self.inside.actors.items c.args.self.now.states view c.in-Some.place c.in-Some.ensures.1 x c.index_mut.ensures.value ∙ ap Some idle in
     let states = seen_same c.self.inside.actors.items c.args.self.now.states view c.in-Some.place c.in-Some.ensures.1 c.take.new.self None (ap state_kept c.take.ensures.after) there in
-    let stays = step_idle w c.args.self.now s c.args.actor c.in-Some.place c.args.now (search rules) c.in-Some.ensures.0 there in
-    rw (states, ap (λ (v : Seen). v.slot) c.self.view_is, ap (λ (v : Seen). v.steps) c.self.view_is, ap (λ (v : Seen). v.blocks) c.self.view_is) stays
-
-pub invariant_of-self-2 : goal.invariant_of-self-2
-invariant_of-self-2 c =
-    let t = c.advance-led.ensures in
-    let rise = counts_rise c.self.invariant.3.0 c.self.inside.slot c.advance-led.new.slot t.call t.reply c.self.invariant.3.1 t.turn in
-    let steps = ap (λ (v : Seen). v.steps) c.self.view_is in
-    (omega arith, omega (arith, rise.0), omega (arith, rise.1), rise.2)
-
-pub settle-requires : goal.settle-requires
-settle-requires c =
-    let view = ap (λ (v : Seen). v.states) c.self.view_is in
-    still_within c.self.inside.actors.items c.args.self.now.states view c.in-Some.place c.in-Some.ensures.1 c.take.new.self
+    let same = same_seen _ _ _ _ _ _ (ap (λ (v : Seen). v.objects) c.self.view_is) states (ap (λ (v : Seen). v.steps) c.self.view_is) in
+    let stays = step_idle w c.args.self.now s c.each_world_is_sound.ensures c.args.actor c.in-Some.place c.args.now (search rules) c.in-Some.ensures.0 there in
+    moves_as w (Step c.args.actor c.args.now) Nothing Nothing _ _ refl same stays
 
 pub returns-clause-single : goal.returns-clause-single
 returns-clause-single c = λ w s.
     let view = ap (λ (v : Seen). v.states) c.self.view_is in
     let x = c.index_mut.result.now in
     let d = c.in-Some-take.doing in
+    let state = stands_at d.standing (text_in d.body) in
     let busy = ap state_kept (sym c.take.ensures.value ∙ c.in-Some-take.is) in
     let there = seen_at c.self.inside.actors.items c.args.self.now.states view c.in-Some.place c.in-Some.ensures.1 x c.index_mut.ensures.value ∙ ap Some busy in
-    let turn = subst (λ slot. TurnLeads slot (phase_of d.phase d.body) c.args.now c.advance-led.result c.advance-led.new.slot) (ap (λ (v : Seen). v.slot) c.self.view_is) c.advance-led.ensures in
-    let goes = step_busy w c.args.self.now s c.args.actor c.in-Some.place c.args.now (phase_of d.phase d.body) c.advance-led.result c.advance-led.new.slot (search rules) c.in-Some.ensures.0 there turn in
-    let over = seen_over c.self.inside.actors.items c.args.self.now.states view c.in-Some.place c.in-Some.ensures.1 c.take.new.self (kept_led c.advance-led.result) in
-    rw (c.settle.ensures.told, c.settle.ensures.kept, over, ap (λ (v : Seen). v.steps) c.self.view_is, ap (λ (v : Seen). v.blocks) c.self.view_is) goes
+    let step = subst (λ (v : Seen). StepLeads v.objects state c.args.now c.advance-led.result c.advance-led.new.objects) c.self.view_is c.advance-led.ensures in
+    let goes = step_busy w c.args.self.now s c.each_world_is_sound.ensures c.args.actor c.in-Some.place c.args.now state c.advance-led.result c.advance-led.new.objects (search rules) c.in-Some.ensures.0 there step in
+    let states = seen_resettled c.self.inside.actors.items c.args.self.now.states view c.in-Some.place c.in-Some.ensures.1 c.take.new.self c.settle.new.actors.items c.advance-led.result c.settle.ensures.kept in
+    let steps = ap (λ n. c.self.inside.steps + n) c.counted.ensures.counted ∙ ap (λ (v : Seen). v.steps + counted_led c.advance-led.result) c.self.view_is in
+    let same = same_seen c.advance-led.new.objects _ _ _ _ _ refl states steps in
+    moves_as w (Step c.args.actor c.args.now) _ _ _ _ c.settle.ensures.told same goes
+
+pub settle-requires : goal.settle-requires
+settle-requires c =
+    let view = ap (λ (v : Seen). v.states) c.self.view_is in
+    taken_there c.self.inside.actors.items c.args.self.now.states view c.in-Some.place c.in-Some.ensures.1 c.index_mut.result.now c.index_mut.ensures.value c.take.new.self c.take.ensures.after
+
+pub invariant_of-self-2 : goal.invariant_of-self-2
+invariant_of-self-2 c =
+    let d = c.in-Some-take.doing in
+    let was = c.self.invariant.2 in
+    let now = returns-clause-single c was.0 (subst (IsSeenAs was.0) c.self.view_is was.1) in
+    let steps = ap (λ (v : Seen). v.steps) c.self.view_is in
+    let up = counts_on c.self.inside.objects (stands_at d.standing (text_in d.body)) c.args.now c.advance-led.result c.advance-led.new.objects c.self.inside.steps c.advance-led.ensures c.self.invariant.1 in
+    let least = c.counted.ensures.least in
+    (omega arith, subst (λ n. CountsUpTo (c.self.inside.steps + n) c.advance-led.new.objects) (sym c.counted.ensures.counted) up, (now.0, now.2))

@@ -1,0 +1,85 @@
+-- A deed of a call, and the turn that made it, among all turns; and the entry of that turn in the history of
+-- its object.
+use Rattle.std.proofs.Common.{◌≡◌, ℕ, Bool, true, false, cond, List, [], ◌∷◌, ◌++◌, refl, ap, subst, ◌∙◌, arith, map}
+use Rattle.std.specs.List.{filter}
+use Rattle.std.proofs.Math.Dec.{eqb}
+use Rattle.std.proofs.lemmas.Grind.{flat_map-append}
+use Rattle.std.proofs.lemmas.Bool.Decides.{nat_tests}
+use Rattle.sysv_model.specs.History.{Who, Call, Reply, Entry}
+use Rattle.sysv_model.specs.Registry.{RegistryCall, RegistryReply}
+use Rattle.sysv_model.specs.Pool.{PoolCall, PoolReply}
+use Rattle.sysv_model.specs.Turn.{Deed, AtSlot, AtRegistry, AtPool, Turn, slot_entry, registry_entry, pool_entry, slot_history, registry_history, pool_history, is_same, deeds_of}
+use Rattle.sysv_core.proofs.Sounding.{turn_of}
+
+-- the turn of that deed, with the deeds of the call before it and after it
+pub record Made (who : Who) (turns : List Turn) (front : List Deed) (deed : Deed) (later : List Deed) : Type 0 where
+  pub before : List Turn
+  pub by : Who
+  pub after : List Turn
+  pub whole : turns ≡ before ++ turn_of by deed ∷ after
+  pub own : is_same who by ≡ true
+  pub front_is : deeds_of who before ≡ front
+  pub later_is : deeds_of who after ≡ later
+
+abbrev kept : Who → Bool → Turn → List Turn → List Deed
+kept who b t ts = map (λ (x : Turn). x.deed) (cond b (t ∷ filter (λ (x : Turn). is_same who x.who) ts) (filter (λ (x : Turn). is_same who x.who) ts))
+
+one_more : (who : Who) (t : Turn) (ts : List Turn) (front : List Deed) (deed : Deed) (later : List Deed) (b : Bool) → is_same who t.who ≡ b →
+    Made who ts front deed later → Made who (t ∷ ts) (cond b (t.deed ∷ front) front) deed later
+one_more who t ts front deed later b is m = record {
+  before = t ∷ m.before;
+  by = m.by;
+  after = m.after;
+  whole = ap (λ xs. t ∷ xs) m.whole;
+  own = m.own;
+  front_is = ap (λ c. kept who c t m.before) is ∙ still b;
+  later_is = m.later_is;
+}
+  where
+    still : (c : Bool) → kept who c t m.before ≡ cond c (t.deed ∷ front) front
+    still true = ap (λ ds. t.deed ∷ ds) m.front_is
+    still false = m.front_is
+
+made_here : (who : Who) (t : Turn) (ts : List Turn) (b : Bool) → is_same who t.who ≡ b → ((front : List Deed) (deed : Deed) (later : List Deed) → deeds_of who ts ≡ front ++ deed ∷ later → Made who ts front deed later) →
+    (front : List Deed) (deed : Deed) (later : List Deed) → kept who b t ts ≡ front ++ deed ∷ later → Made who (t ∷ ts) front deed later
+made_here who t ts true is rest [] deed later e =
+    let same : t.deed ≡ deed = cc in
+    record {
+      before = [];
+      by = t.who;
+      after = ts;
+      whole = ap (λ d. turn_of t.who d ∷ ts) same;
+      own = is;
+      front_is = refl;
+      later_is = cc;
+    }
+made_here who t ts true is rest (f ∷ front) deed later e =
+    let same : t.deed ≡ f = cc in
+    subst (λ ds. Made who (t ∷ ts) ds deed later) (ap (λ d. d ∷ front) same) (one_more who t ts front deed later true is (rest front deed later cc))
+made_here who t ts false is rest front deed later e = one_more who t ts front deed later false is (rest front deed later e)
+
+pub made_at : (who : Who) (turns : List Turn) (front : List Deed) (deed : Deed) (later : List Deed) → deeds_of who turns ≡ front ++ deed ∷ later → Made who turns front deed later
+made_at who [] [] deed later e = absurd cc
+made_at who [] (f ∷ front) deed later e = absurd cc
+made_at who (t ∷ ts) front deed later e = made_here who t ts (is_same who t.who) refl (made_at who ts) front deed later e
+
+itself : (n : ℕ) → eqb n n ≡ true
+itself n = grind (arith, nat_tests)
+
+-- the history of a slot around one of its turns
+pub slot_around : (slot : ℕ) (before after : List Turn) (who : Who) (call : Call) (reply : Reply) →
+    slot_history slot (before ++ turn_of who (AtSlot slot call reply) ∷ after) ≡ slot_history slot before ++ record { who = who; call = call; reply = reply } ∷ slot_history slot after
+slot_around slot before after who call reply =
+    let e : Entry = record { who = who; call = call; reply = reply } in
+    flat_map-append (λ (x : Turn). slot_entry slot x.who x.deed) before (turn_of who (AtSlot slot call reply) ∷ after)
+    ∙ ap (λ b. slot_history slot before ++ (cond b (e ∷ []) [] ++ slot_history slot after)) (itself slot)
+
+-- and that of the registry
+pub registry_around : (before after : List Turn) (who : Who) (call : RegistryCall) (reply : RegistryReply) →
+    registry_history (before ++ turn_of who (AtRegistry call reply) ∷ after) ≡ registry_history before ++ record { who = who; call = call; reply = reply } ∷ registry_history after
+registry_around before after who call reply = flat_map-append (λ (x : Turn). registry_entry x.who x.deed) before (turn_of who (AtRegistry call reply) ∷ after)
+
+-- and that of the pool
+pub pool_around : (before after : List Turn) (who : Who) (call : PoolCall) (reply : PoolReply) →
+    pool_history (before ++ turn_of who (AtPool call reply) ∷ after) ≡ pool_history before ++ record { who = who; call = call; reply = reply } ∷ pool_history after
+pool_around before after who call reply = flat_map-append (λ (x : Turn). pool_entry x.who x.deed) before (turn_of who (AtPool call reply) ∷ after)

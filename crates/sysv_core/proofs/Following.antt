@@ -1,0 +1,366 @@
+-- A step of a call leads to a state of a call of the same kind.
+use Rattle.std.proofs.Common.{◌≡◌, ◌↔◌, ◌<◌, ◌≤◌, inl, inr, IsTrue, rules, arith, ℕ, ℤ, ◌+◌, Bool, true, false, cond, ◌||◌, nat_lt, length, List, Option, Some, None, is_some, refl, sym, ap, subst, ◌∙◌}
+use Rattle.sysv_model.specs.declared.cred.Cred.{Cred}
+use Rattle.std.proofs.lemmas.Bool.Decides.{nat_tests}
+use Rattle.sysv_model.specs.declared.flags.Flags.{Flags}
+use Rattle.sysv_model.specs.declared.limits.TheConstants.{MESSAGE_BYTES}
+use Rattle.sysv_model.specs.declared.errno.Errno.{Errno}
+use Rattle.sysv_model.specs.declared.errno.Errno.TheVariants.{EINVAL}
+use Rattle.sysv_model.specs.History.{Reply, Installed, Gone, Denied, Granted, Full, Fits, Accepted, NoMatch, TooLong, Taken, Told as TellsStat, Done, Discarded, Refused as IsRefusedFor}
+use Rattle.sysv_model.specs.Registry.{RegistryCall, RegistryReply, Found, Made, Busy, Unbound, Changed}
+use Rattle.sysv_model.specs.Pool.{blocks_for, PoolCall, Reserve, PoolReply, Reserved, TooFew, Released, Foreign}
+use Rattle.sysv_model.specs.Turn.{OfPool, Deed, AtSlot, AtRegistry, AtPool, asked_by, Turn, pool_history}
+use Rattle.sysv_pool.specs.LegalReply.{IsLegalReply as IsLegalPoolReply}
+use Rattle.sysv_queue.specs.Blocks.{blocks_of}
+use Rattle.sysv_objects.specs.LegalDeed.{IsLegalDeed}
+use Rattle.sysv_steps.specs.Call.{SystemCall, Msgget, Msgsnd, Msgrcv, MsgctlStat, MsgctlSet, MsgctlRmid}
+use Rattle.sysv_steps.specs.State.{Getting, Sending, Receiving, Wait, OnSettled, OnFreed, OnReleased, OnArrived, Afterwards, IsRefused, WaitsOn, Phase, AtBegin, AtInstall, AtSettle, AtProbe, AtUnmake, AtLook, AtReserve, AtPlace, AtSendGiveback, AtTake, AtReceiveGiveback, AtStat, AtSet, AtSetGiveback, AtRemove, AtForget, AtRemoveGiveback, State, Goes, Waits, Over, Refused}
+use Rattle.sysv_steps.specs.Begin.{is_refused, first, begin}
+use Rattle.sysv_steps.specs.Next.{waits_or, goes_on, after_begin, after_install, after_settle, after_unmake, after_probe, after_look, after_reserve, after_place, after_giveback, after_take, after_stat, after_set, after_remove, after_forget, next}
+use Rattle.sysv_steps.specs.Resume.{resume}
+use Rattle.sysv_steps.specs.Asks.{asks}
+use Rattle.sysv_steps.specs.HeldBlocks.{HasItsBlocks}
+use Rattle.sysv_pool.specs.Chain.{Chained}
+use Rattle.sysv_steps.specs.declared.send.Sending.{Sending as SendKept}
+use Rattle.sysv_steps.specs.declared.state.Phase.{Phase as PhaseKept}
+use Rattle.sysv_steps.specs.declared.state.Phase.TheVariants as kept
+use Rattle.sysv_steps.specs.Seen.{phase_of, sending}
+use Rattle.sysv_core.specs.declared.doing.Led.{Led}
+use Rattle.sysv_core.specs.declared.doing.Led.TheVariants as led
+use Rattle.sysv_core.specs.Led.{LeadsTo}
+use Rattle.sysv_core.specs.Kinds.{Kind, Sends, Receives, Bare, kind_of, phase_kind, wait_kind, gives_back, IsOf, brings}
+use Rattle.sysv_core.specs.Held.{text_in, IsHeldBy, IsHeldOrOver}
+use Rattle.sysv_core.proofs.Lists.{at_most}
+
+-- the step is an install
+abbrev pub is_install : Phase → Bool
+is_install (AtInstall get id) = true
+is_install phase = false
+
+-- a state of that kind, with the blocks that its text takes, and not one before an install
+abbrev pub IsLater : Kind → State → Type 0
+IsLater kind (Goes phase) = (phase_kind phase ≡ Some kind) × (is_install phase ≡ false) × HasItsBlocks (Goes phase)
+IsLater kind (Waits wait) = wait_kind wait ≡ Some kind
+IsLater kind (Over ending) = Unit {0}
+
+pub later_of : (kind : Kind) (s : State) → IsLater kind s → IsOf kind s
+later_of kind (Goes phase) l = l.0
+later_of kind (Waits wait) l = l
+later_of kind (Over ending) l = tt
+
+some_is : {X : Type 0} {x y : X} → Some x ≡ Some y → x ≡ y
+some_is e = cc
+
+fine : (kind : Kind) (s t : State) → IsLater kind s → Some s ≡ Some t → IsLater kind t
+fine kind s t l e = subst (IsLater kind) (some_is e) l
+
+goes_on_later : (kind : Kind) (nowait : Bool) (wait : Wait) (why : Errno) → wait_kind wait ≡ Some kind → IsLater kind (goes_on (waits_or nowait wait why))
+goes_on_later kind true wait why e = tt
+goes_on_later kind false wait why e = e
+
+giveback_later : (blocks : ℕ) (nowait : Bool) (wait : Wait) (why : Errno) → wait_kind wait ≡ Some Sends → IsLater Sends (Goes (AtSendGiveback blocks (waits_or nowait wait why)))
+giveback_later blocks true wait why e = (refl, refl, tt)
+giveback_later blocks false wait why e = (e, refl, tt)
+
+-- ---- the rows
+
+install_later : (id : ℤ) (reply : Reply) (t : State) → after_install id reply ≡ Some t → IsLater Bare t
+install_later id (Installed true) t e = fine Bare (Goes (AtSettle id)) t (refl, refl, tt) e
+install_later id (Installed false) t e = fine Bare (Goes (AtUnmake id)) t (refl, refl, tt) e
+install_later id reply t e = absurd cc
+
+settle_later : (id : ℤ) (reply : RegistryReply) (t : State) → after_settle id reply ≡ Some t → IsLater Bare t
+settle_later id (Changed done) t e = fine Bare (Over _) t tt e
+settle_later id reply t e = absurd cc
+
+unmake_later : (reply : RegistryReply) (t : State) → after_unmake reply ≡ Some t → IsLater Bare t
+unmake_later (Changed done) t e = fine Bare (Over _) t tt e
+unmake_later reply t e = absurd cc
+
+probe_later : (get : Getting) (id : ℤ) (settled : ℕ) (reply : Reply) (t : State) → after_probe get id settled reply ≡ Some t → IsLater Bare t
+probe_later get id settled Gone t e = fine Bare (Waits (OnSettled (settled + 1) get)) t refl e
+probe_later get id settled Denied t e = fine Bare (Over _) t tt e
+probe_later get id settled Granted t e = fine Bare (Over _) t tt e
+probe_later get id settled reply t e = absurd cc
+
+look_later : (send : Sending) (reply : Reply) (t : State) → after_look send reply ≡ Some t → IsLater Sends t
+look_later send Gone t e = fine Sends (Over _) t tt e
+look_later send Denied t e = fine Sends (Over _) t tt e
+look_later send (Full freed) t e = fine Sends _ t (goes_on_later Sends send.nowait _ _ refl) e
+look_later send Fits t e = fine Sends (Goes (AtReserve (record send { seen = true }))) t (refl, refl, tt) e
+look_later send reply t e = absurd cc
+
+place_later : (send : Sending) (blocks : ℕ) (reply : Reply) (t : State) → after_place send blocks reply ≡ Some t → IsLater Sends t
+place_later send blocks Gone t e = fine Sends (Goes (AtSendGiveback blocks (IsRefused _))) t (refl, refl, tt) e
+place_later send blocks Denied t e = fine Sends (Goes (AtSendGiveback blocks (IsRefused _))) t (refl, refl, tt) e
+place_later send blocks (Full freed) t e = fine Sends _ t (giveback_later blocks send.nowait _ _ refl) e
+place_later send blocks (Accepted number) t e = fine Sends (Over _) t tt e
+place_later send blocks reply t e = absurd cc
+
+take_later : (receive : Receiving) (reply : Reply) (t : State) → after_take receive reply ≡ Some t → IsLater Receives t
+take_later receive Gone t e = fine Receives (Over _) t tt e
+take_later receive Denied t e = fine Receives (Over _) t tt e
+take_later receive (NoMatch arrived) t e = fine Receives _ t (goes_on_later Receives receive.nowait _ _ refl) e
+take_later receive TooLong t e = fine Receives (Over _) t tt e
+take_later receive (Taken message) t e = fine Receives (Goes (AtReceiveGiveback _ _ _)) t (refl, refl, tt) e
+take_later receive reply t e = absurd cc
+
+stat_later : (reply : Reply) (t : State) → after_stat reply ≡ Some t → IsLater Bare t
+stat_later (TellsStat stat) t e = fine Bare (Over _) t tt e
+stat_later (IsRefusedFor why) t e = fine Bare (Over _) t tt e
+stat_later reply t e = absurd cc
+
+set_later : (reply : Reply) (t : State) → after_set reply ≡ Some t → IsLater Bare t
+set_later Done t e = fine Bare (Goes AtSetGiveback) t (refl, refl, tt) e
+set_later (IsRefusedFor why) t e = fine Bare (Over _) t tt e
+set_later reply t e = absurd cc
+
+remove_later : (id : ℤ) (reply : Reply) (t : State) → after_remove id reply ≡ Some t → IsLater Bare t
+remove_later id (Discarded messages) t e = fine Bare (Goes (AtForget id (blocks_of messages))) t (refl, refl, tt) e
+remove_later id (IsRefusedFor why) t e = fine Bare (Over _) t tt e
+remove_later id reply t e = absurd cc
+
+forget_later : (blocks : ℕ) (reply : RegistryReply) (t : State) → after_forget blocks reply ≡ Some t → IsLater Bare t
+forget_later blocks (Changed done) t e = fine Bare (Goes (AtRemoveGiveback blocks)) t (refl, refl, tt) e
+forget_later blocks reply t e = absurd cc
+
+-- ---- the rows of the pool
+
+-- a chain that the pool reserves for a text has the blocks that it takes
+abbrev pub GivesBlocks : Phase → Deed → Type 0
+GivesBlocks (AtReserve send) (AtPool call (Reserved blocks)) = blocks ≡ blocks_for (length send.text)
+GivesBlocks phase deed = Unit {0}
+
+reserve_later : (send : Sending) (call : PoolCall) (reply : PoolReply) (t : State) → GivesBlocks (AtReserve send) (AtPool call reply) → after_reserve send reply ≡ Some t → IsLater Sends t
+reserve_later send call (Reserved blocks) t g e = fine Sends (Goes (AtPlace send blocks)) t (refl, refl, g) e
+reserve_later send call TooFew t g e = fine Sends _ t (goes_on_later Sends send.nowait _ _ refl) e
+reserve_later send call Released t g e = absurd cc
+reserve_later send call Foreign t g e = absurd cc
+
+given_back : (kind : Kind) (follow : State) (reply : PoolReply) (t : State) → IsLater kind follow → after_giveback follow reply ≡ Some t → IsLater kind t
+given_back kind follow Released t l e = fine kind follow t l e
+given_back kind follow Foreign t l e = fine kind follow t l e
+given_back kind follow (Reserved blocks) t l e = absurd cc
+given_back kind follow TooFew t l e = absurd cc
+
+goes_later : (kind : Kind) (blocks : ℕ) (afterwards : Afterwards) → phase_kind (AtSendGiveback blocks afterwards) ≡ Some kind → IsLater kind (goes_on afterwards)
+goes_later kind blocks (IsRefused why) k = tt
+goes_later kind blocks (WaitsOn wait) k = k
+
+-- the state is one before the install of an identifier that this turn made
+pub record IsNewlyMade (phase : Phase) (deed : Deed) (t : State) : Type 0 where
+  pub get : Getting
+  pub id : ℤ
+  pub call : RegistryCall
+  pub was : phase ≡ AtBegin get
+  pub made : deed ≡ AtRegistry call (Made id)
+  pub is : t ≡ Goes (AtInstall get id)
+
+pub data Leads (kind : Kind) (phase : Phase) (deed : Deed) (t : State) : Type 0 where
+  later : IsLater kind t → Leads kind phase deed t
+  makes : kind ≡ Bare → IsNewlyMade phase deed t → Leads kind phase deed t
+
+kinds : (k kind : Kind) → Some k ≡ Some kind → k ≡ kind
+kinds k kind e = cc
+
+at_kind : (k kind : Kind) (phase : Phase) (deed : Deed) (t : State) → Some k ≡ Some kind → IsLater k t → Leads kind phase deed t
+at_kind k kind phase deed t e l = later (subst (λ x. IsLater x t) (kinds k kind e) l)
+
+begin_leads : (get : Getting) (call : RegistryCall) (reply : RegistryReply) (t : State) → after_begin get reply ≡ Some t → Leads Bare (AtBegin get) (AtRegistry call reply) t
+begin_leads get call (Found id settled) t e = later (fine Bare (Goes (AtProbe get id settled)) t (refl, refl, tt) e)
+begin_leads get call (Made id) t e = makes refl (record { get = get; id = id; call = call; was = refl; made = refl; is = sym (some_is e) })
+begin_leads get call (Busy settled) t e = later (fine Bare (Waits (OnSettled (settled + 1) get)) t refl e)
+begin_leads get call (Unbound why) t e = later (fine Bare (Over _) t tt e)
+begin_leads get call (Changed done) t e = absurd cc
+
+pub leads_on : (kind : Kind) (phase : Phase) (deed : Deed) (t : State) → GivesBlocks phase deed → phase_kind phase ≡ Some kind → next phase deed ≡ Some t → Leads kind phase deed t
+leads_on kind (AtBegin get) (AtRegistry call reply) t g k e = subst (λ x. Leads x (AtBegin get) (AtRegistry call reply) t) (kinds Bare kind k) (begin_leads get call reply t e)
+leads_on kind (AtInstall get id) (AtSlot slot call reply) t g k e = at_kind Bare kind _ _ t k (install_later id reply t e)
+leads_on kind (AtSettle id) (AtRegistry call reply) t g k e = at_kind Bare kind _ _ t k (settle_later id reply t e)
+leads_on kind (AtProbe get id settled) (AtSlot slot call reply) t g k e = at_kind Bare kind _ _ t k (probe_later get id settled reply t e)
+leads_on kind (AtUnmake id) (AtRegistry call reply) t g k e = at_kind Bare kind _ _ t k (unmake_later reply t e)
+leads_on kind (AtLook send) (AtSlot slot call reply) t g k e = at_kind Sends kind _ _ t k (look_later send reply t e)
+leads_on kind (AtPlace send blocks) (AtSlot slot call reply) t g k e = at_kind Sends kind _ _ t k (place_later send blocks reply t e)
+leads_on kind (AtTake receive) (AtSlot slot call reply) t g k e = at_kind Receives kind _ _ t k (take_later receive reply t e)
+leads_on kind (AtStat cred id) (AtSlot slot call reply) t g k e = at_kind Bare kind _ _ t k (stat_later reply t e)
+leads_on kind (AtSet cred id to) (AtSlot slot call reply) t g k e = at_kind Bare kind _ _ t k (set_later reply t e)
+leads_on kind (AtRemove cred id) (AtSlot slot call reply) t g k e = at_kind Bare kind _ _ t k (remove_later id reply t e)
+leads_on kind (AtForget id blocks) (AtRegistry call reply) t g k e = at_kind Bare kind _ _ t k (forget_later blocks reply t e)
+leads_on kind (AtReserve send) (AtPool call reply) t g k e = at_kind Sends kind _ _ t k (reserve_later send call reply t g e)
+leads_on kind (AtSendGiveback blocks afterwards) (AtPool call reply) t g k e = later (given_back kind (goes_on afterwards) reply t (goes_later kind blocks afterwards k) e)
+leads_on kind (AtReceiveGiveback blocks mtype text) (AtPool call reply) t g k e = at_kind Receives kind _ _ t k (given_back Receives (Over _) reply t tt e)
+leads_on kind AtSetGiveback (AtPool call reply) t g k e = at_kind Bare kind _ _ t k (given_back Bare (Over _) reply t tt e)
+leads_on kind (AtRemoveGiveback blocks) (AtPool call reply) t g k e = at_kind Bare kind _ _ t k (given_back Bare (Over _) reply t tt e)
+leads_on kind phase deed t g k e = absurd cc
+
+pub newly_of : (phase : Phase) (deed : Deed) (t : State) → IsNewlyMade phase deed t → IsOf Bare t
+newly_of phase deed t n = subst (IsOf Bare) (sym n.is) refl
+
+pub of_next : (kind : Kind) (phase : Phase) (deed : Deed) (t : State) → GivesBlocks phase deed → phase_kind phase ≡ Some kind → next phase deed ≡ Some t → IsOf kind t
+of_next kind phase deed t g k e = elim (leads_on kind phase deed t g k e) [
+  | later l ↦ later_of kind t l
+  | makes is n ↦ subst (λ x. IsOf x t) (sym is) (newly_of phase deed t n)
+]
+
+pub blocks_later : (kind : Kind) (s : State) → IsLater kind s → HasItsBlocks s
+blocks_later kind (Goes phase) l = l.2
+blocks_later kind (Waits wait) l = tt
+blocks_later kind (Over ending) l = tt
+
+pub blocks_next : (kind : Kind) (phase : Phase) (deed : Deed) (t : State) → GivesBlocks phase deed → phase_kind phase ≡ Some kind → next phase deed ≡ Some t → HasItsBlocks t
+blocks_next kind phase deed t g k e = elim (leads_on kind phase deed t g k e) [
+  | later l ↦ blocks_later kind t l
+  | makes is n ↦ subst HasItsBlocks (sym n.is) tt
+]
+
+-- what is asked of the pool and answered as it has to be
+pool_call : {call other : PoolCall} → OfPool call ≡ OfPool other → call ≡ other
+pool_call e = cc
+
+reserves : (blocks : ℕ) (turns : List Turn) (send : Sending) (call : PoolCall) (reply : PoolReply) → call ≡ Reserve (length send.text) → IsLegalPoolReply blocks (pool_history turns) call reply → GivesBlocks (AtReserve send) (AtPool call reply)
+reserves blocks turns send call (Reserved n) e l = (subst (λ c. IsLegalPoolReply blocks (pool_history turns) c (Reserved n)) e l).1
+reserves blocks turns send call TooFew e l = tt
+reserves blocks turns send call Released e l = tt
+reserves blocks turns send call Foreign e l = tt
+
+pub gives_blocks : (generation blocks : ℕ) (turns : List Turn) (phase : Phase) (now : ℕ) (deed : Deed) → asked_by deed ≡ asks phase now → IsLegalDeed generation blocks turns deed → GivesBlocks phase deed
+gives_blocks generation blocks turns (AtReserve send) now (AtPool call reply) e l = reserves blocks turns send call reply (pool_call e) l
+gives_blocks generation blocks turns (AtReserve send) now (AtSlot slot call reply) e l = tt
+gives_blocks generation blocks turns (AtReserve send) now (AtRegistry call reply) e l = tt
+gives_blocks generation blocks turns phase now deed e l = tt
+
+-- ---- the end of a wait, and the start
+
+pub resumed_kind : (wait : Wait) (value : ℕ) → phase_kind (resume wait value) ≡ wait_kind wait
+resumed_kind (OnSettled goal get) value = refl
+resumed_kind (OnFreed goal send) value = refl
+resumed_kind (OnArrived goal receive) value = refl
+resumed_kind (OnReleased goal send) value = refl
+
+pub resumed_later : (kind : Kind) (wait : Wait) (value : ℕ) → wait_kind wait ≡ Some kind → IsLater kind (Goes (resume wait value))
+resumed_later kind (OnSettled goal get) value k = (k, refl, tt)
+resumed_later kind (OnFreed goal send) value k = (k, refl, tt)
+resumed_later kind (OnArrived goal receive) value k = (k, refl, tt)
+resumed_later kind (OnReleased goal send) value k = (k, refl, tt)
+
+-- a call whose wait is over has what it had
+pub resumed_held : (wait : Wait) (value : ℕ) (phase : Phase) (body : Option (List ℕ)) → resume wait value ≡ phase → IsHeldBy (Waits wait) body → IsHeldBy (Goes phase) body
+resumed_held (OnSettled goal get) value phase body e h = subst (λ p. IsHeldBy (Goes p) body) e (record { has = h.has; short = h.short; blocks = λ send n f. absurd cc })
+resumed_held (OnFreed goal send) value phase body e h = subst (λ p. IsHeldBy (Goes p) body) e (record { has = h.has; short = h.short; blocks = λ send n f. absurd cc })
+resumed_held (OnArrived goal receive) value phase body e h = subst (λ p. IsHeldBy (Goes p) body) e (record { has = h.has; short = h.short; blocks = λ send n f. absurd cc })
+resumed_held (OnReleased goal send) value phase body e h = subst (λ p. IsHeldBy (Goes p) body) e (record { has = h.has; short = h.short; blocks = λ send n f. absurd cc })
+
+first_later : (cred : Cred) (asked : SystemCall) (released : ℕ) → IsLater (kind_of asked) (Goes (first cred asked released))
+first_later cred (Msgget key flags) released = (refl, refl, tt)
+first_later cred (Msgsnd id mtype flags text) released = (refl, refl, tt)
+first_later cred (Msgrcv id size mtype flags) released = (refl, refl, tt)
+first_later cred (MsgctlStat id) released = (refl, refl, tt)
+first_later cred (MsgctlSet id to) released = (refl, refl, tt)
+first_later cred (MsgctlRmid id) released = (refl, refl, tt)
+
+begun_by : (cred : Cred) (asked : SystemCall) (released : ℕ) (b : Bool) → IsLater (kind_of asked) (cond b (Over (Refused EINVAL)) (Goes (first cred asked released)))
+begun_by cred asked released true = tt
+begun_by cred asked released false = first_later cred asked released
+
+pub begun_later : (cred : Cred) (asked : SystemCall) (released : ℕ) → IsLater (kind_of asked) (begin cred asked released)
+begun_later cred asked released = begun_by cred asked released (is_refused asked)
+
+-- ---- the body that a call holds
+
+-- a body of such a call, whose text is short where it is sent
+pub record IsBrought (kind : Kind) (body : Option (List ℕ)) : Type 0 where
+  pub has : is_some body ≡ brings (Some kind)
+  pub short : kind ≡ Sends → length (text_in body) ≤ MESSAGE_BYTES
+
+kind_is : (o : Option Kind) (k kind : Kind) → o ≡ Some kind → o ≡ Some k → kind ≡ k
+kind_is o k kind e f = let both : Some kind ≡ Some k = sym e ∙ f in cc
+
+pub held_of : (kind : Kind) (s : State) (body : Option (List ℕ)) → IsBrought kind body → IsOf kind s → HasItsBlocks s → IsHeldOrOver s body
+held_of kind (Goes phase) body h k b = record { has = h.has ∙ ap brings (sym k); short = λ e. h.short (kind_is (phase_kind phase) Sends kind k e); blocks = λ send n e. subst HasItsBlocks e b }
+held_of kind (Waits wait) body h k b = record { has = h.has ∙ ap brings (sym k); short = λ e. h.short (kind_is (wait_kind wait) Sends kind k e); blocks = λ send n e. subst HasItsBlocks e b }
+held_of kind (Over ending) body h k b = tt
+
+pub bare : IsBrought Bare None
+bare = record { has = refl; short = λ e. absurd cc }
+
+pub received : (text : List ℕ) → IsBrought Receives (Some text)
+received text = record { has = refl; short = λ e. absurd cc }
+
+pub sent : (text : List ℕ) → length text ≤ MESSAGE_BYTES → IsBrought Sends (Some text)
+sent text low = record { has = refl; short = λ e. low }
+
+-- a call that was just started
+pub held_begun : (cred : Cred) (asked : SystemCall) (released : ℕ) (s : State) (body : Option (List ℕ)) → IsBrought (kind_of asked) body → begin cred asked released ≡ s → IsHeldOrOver s body
+held_begun cred asked released s body h e =
+    let l = begun_later cred asked released in
+    held_of (kind_of asked) s body h (subst (IsOf (kind_of asked)) e (later_of (kind_of asked) (begin cred asked released) l)) (subst HasItsBlocks e (blocks_later (kind_of asked) (begin cred asked released) l))
+
+or_false : (a b c : Bool) → (a || b || c) ≡ false → b ≡ false
+or_false true b c e = absurd cc
+or_false false true c e = absurd cc
+or_false false false c e = refl
+
+not_long : (a b : ℕ) → nat_lt a b ≡ false → b ≤ a
+not_long a b e = elim (at_most b a) [
+  | inl low ↦ low
+  | inr high ↦ let yes : nat_lt a b ≡ true = grind (arith, nat_tests, high) in absurd cc
+]
+
+sent_by : (cred : Cred) (id mtype : ℤ) (flags : Flags) (text : List ℕ) (released : ℕ) (s : State) (b : Bool) → is_refused (Msgsnd id mtype flags text) ≡ b → begin cred (Msgsnd id mtype flags text) released ≡ s → IsHeldOrOver s (Some text)
+sent_by cred id mtype flags text released s true r e =
+    subst (λ x. IsHeldOrOver x (Some text)) (ap (λ b. cond b (Over (Refused EINVAL)) (Goes (first cred (Msgsnd id mtype flags text) released))) (sym r) ∙ e) tt
+sent_by cred id mtype flags text released s false r e =
+    held_begun cred (Msgsnd id mtype flags text) released s (Some text) (sent text (not_long MESSAGE_BYTES (length text) (or_false _ _ _ r))) e
+
+pub held_sent : (cred : Cred) (id mtype : ℤ) (flags : Flags) (text : List ℕ) (released : ℕ) (s : State) → begin cred (Msgsnd id mtype flags text) released ≡ s → IsHeldOrOver s (Some text)
+held_sent cred id mtype flags text released s e = sent_by cred id mtype flags text released s (is_refused (Msgsnd id mtype flags text)) refl e
+
+-- a call that made a step
+pub held_next : (kind : Kind) (phase : Phase) (deed : Deed) (s : State) (body : Option (List ℕ)) → IsBrought kind body → GivesBlocks phase deed → phase_kind phase ≡ Some kind → next phase deed ≡ Some s → IsHeldOrOver s body
+held_next kind phase deed s body h g k e = held_of kind s body h (of_next kind phase deed s g k e) (blocks_next kind phase deed s g k e)
+
+abbrev IsWaiting : State → Type 0
+IsWaiting (Waits wait) = Unit {0}
+IsWaiting (Goes phase) = ⊥
+IsWaiting (Over ending) = ⊥
+
+-- a send that gave its chain back
+pub held_given_back : (blocks : ℕ) (afterwards : Afterwards) (reply : PoolReply) (s : State) (body : Option (List ℕ)) → IsHeldBy (Goes (AtSendGiveback blocks afterwards)) body →
+    after_giveback (goes_on afterwards) reply ≡ Some s → IsHeldOrOver s body
+held_given_back blocks (IsRefused why) Released s body h e = let is : Over (Refused why) ≡ s = some_is e in subst (λ x. IsHeldOrOver x body) is tt
+held_given_back blocks (IsRefused why) Foreign s body h e = let is : Over (Refused why) ≡ s = some_is e in subst (λ x. IsHeldOrOver x body) is tt
+held_given_back blocks (WaitsOn wait) Released s body h e =
+    let is : Waits wait ≡ s = some_is e in subst (λ x. IsHeldOrOver x body) is (record { has = h.has; short = h.short; blocks = λ send n f. absurd cc })
+held_given_back blocks (WaitsOn wait) Foreign s body h e =
+    let is : Waits wait ≡ s = some_is e in subst (λ x. IsHeldOrOver x body) is (record { has = h.has; short = h.short; blocks = λ send n f. absurd cc })
+held_given_back blocks afterwards (Reserved n) s body h e = absurd cc
+held_given_back blocks afterwards TooFew s body h e = absurd cc
+
+-- it gives its body back to nobody
+led_so : (b : Bool) (s : State) (l : Led) → IsWaiting s → LeadsTo false s l → LeadsTo b s l
+led_so b (Waits wait) (led.To doing) w h = h
+led_so b (Waits wait) (led.Over result body) w h = h
+led_so b (Waits wait) (led.Stays doing) w h = h
+led_so b (Goes phase) l w h = absurd w
+led_so b (Over ending) l w h = absurd w
+
+pub led_back : (blocks : ℕ) (afterwards : Afterwards) (reply : PoolReply) (s : State) (l : Led) → after_giveback (goes_on afterwards) reply ≡ Some s →
+    LeadsTo false s l → LeadsTo (gives_back (phase_kind (AtSendGiveback blocks afterwards))) s l
+led_back blocks (IsRefused why) reply s l e h = h
+led_back blocks (WaitsOn wait) Released s l e h = led_so (gives_back (wait_kind wait)) s l (subst IsWaiting (some_is e) tt) h
+led_back blocks (WaitsOn wait) Foreign s l e h = led_so (gives_back (wait_kind wait)) s l (subst IsWaiting (some_is e) tt) h
+led_back blocks (WaitsOn wait) (Reserved n) s l e h = absurd cc
+led_back blocks (WaitsOn wait) TooFew s l e h = absurd cc
+
+-- a send before its place holds the blocks that its text takes
+pub place_blocks : (p : PhaseKept) (body : Option (List ℕ)) (send : SendKept) (chain : Chained) (text : List ℕ) → p ≡ kept.Place send chain → body ≡ Some text →
+    IsHeldBy (Goes (phase_of p (text_in body))) body → chain.blocks ≡ blocks_for (length text)
+place_blocks p body send chain text is has h =
+    h.blocks (sending send text) chain.blocks (ap (λ x. Goes (phase_of x (text_in body))) is ∙ ap (λ b. Goes (phase_of (kept.Place send chain) (text_in b))) has)
+
+-- a wait whose test says that it is not over
+pub not_over : (b : Bool) → b ≡ false → (goal count value : ℕ) → IsTrue b ↔ goal ≤ count → count ≡ value → value < goal
+not_over b off goal count value test is = elim (at_most goal count) [
+  | inl reached ↦ let bad : IsTrue false = subst IsTrue off (test.1 reached) in search rules
+  | inr below ↦ omega arith
+]

@@ -1,0 +1,303 @@
+-- Who waits below its goal has a reason to: its last turn at the slot was a refusal, which is right as long as
+-- the count has not risen.
+use Rattle.std.proofs.Common.{◌≡◌, inl, inr, ℕ, ℤ, ◌+◌, ◌<◌, Bool, List, ◌∷◌, ◌++◌, Option, None, Some, MatchOption, refl, sym, ap, subst, ◌∙◌, arith, length, slice_get}
+use Rattle.std.specs.List.{Contains}
+use Rattle.std.proofs.lemmas.List.Elements.{All-contains, Contains-append_right}
+use Rattle.sysv_model.specs.declared.attributes.Attributes.{Attributes}
+use Rattle.sysv_model.specs.declared.cred.Cred.{Cred}
+use Rattle.sysv_model.specs.declared.selector.Selector.{Selector}
+use Rattle.sysv_model.specs.Message.{Message}
+use Rattle.sysv_model.specs.Selector.{selector_for}
+use Rattle.sysv_model.specs.History.{Who, Call, Look, Place, Take, Reply, Full, NoMatch, History, arrived, freed}
+use Rattle.sysv_model.specs.Live.{live, HasId}
+use Rattle.sysv_model.specs.Waiting.{waiting, waiting_on, held}
+use Rattle.sysv_model.specs.Registry.{Begin, settled}
+use Rattle.sysv_model.specs.Pool.{Reserve, released}
+use Rattle.sysv_model.specs.Turn.{Deed, AtSlot, OfSlot, OfRegistry, OfPool, asked_by, Turn, slot_history, registry_history, pool_history, deeds_of}
+use Rattle.sysv_queue.specs.Fits.{Fits as FitsOn}
+use Rattle.sysv_queue.specs.Named.{IsNamed}
+use Rattle.sysv_queue.specs.LegalReply.{IsLegalReply, IsLegalHistory}
+use Rattle.sysv_queue.specs.StaysRight.{NoMatchStays, FullStays, FullStaysForLook, CountsNeverFall}
+use Rattle.sysv_keys.specs.Identifier.{slot_of_id}
+use Rattle.sysv_objects.specs.LegalDeed.{AreLegal}
+use Rattle.sysv_steps.specs.Call.{SystemCall, Msgget, Msgsnd, Msgrcv, MsgctlStat, MsgctlSet, MsgctlRmid}
+use Rattle.sysv_steps.specs.State.{Getting, Sending, Receiving, Wait, OnSettled, OnFreed, OnReleased, OnArrived, Waits}
+use Rattle.sysv_steps.specs.Resume.{awaited, goal_of}
+use Rattle.sysv_steps.specs.Played.{Plays}
+use Rattle.sysv_steps.specs.AsksFor.{AsksFor, AllAskFor, EachDeedIsAskedFor}
+use Rattle.sysv_steps.specs.WaitsFor.{WaitsFor, WasUnsettled, FoundNone, IsLastAtSlot, EachWaitsForItsRefusal}
+use Rattle.sysv_core.specs.World.{World, Started, Doing, begun, value_of}
+use Rattle.sysv_core.specs.Parked.{HasNothingToTake, HasNoRoom, HasTooFewBlocks, IsToBeWoken, IsBeingChanged, HasReason, AreParkedRightly}
+use Rattle.sysv_core.specs.Removed.{AreRemovedForGood}
+use Rattle.sysv_core.specs.Tending.{AreTended}
+use Rattle.sysv_core.proofs.Settling.{SettledOnceInstalled}
+use Rattle.sysv_core.proofs.Reserving.{AreShort}
+use Rattle.sysv_core.proofs.Waking.{AreToBeWoken}
+use Rattle.sysv_core.proofs.GetsParked.{being_changed}
+use Rattle.sysv_core.proofs.Along.{Made, made_at, slot_around}
+
+-- what waits on the live queue
+held_is : (l : Option Attributes) (h : History) (id : ℤ) → HasId l id → waiting_on l h ≡ waiting id h
+held_is None h id lives = absurd lives
+held_is (Some a) h id lives = ap (λ i. waiting i h) lives
+
+crowded_is : (l : Option Attributes) (a : Attributes) (ms : List Message) (size : ℕ) → ¬ MatchOption l ⊥ (λ (b : Attributes). FitsOn b.qbytes ms size) → l ≡ Some a → ¬ FitsOn a.qbytes ms size
+crowded_is l a ms size crowded is = subst (λ (o : Option Attributes). ¬ MatchOption o ⊥ (λ (b : Attributes). FitsOn b.qbytes ms size)) is crowded
+
+-- what such a refusal says
+nothing_to_take : (h : History) (id : ℤ) (cred : Cred) (selector : Selector) (size : ℕ) (noerror : Bool) (now count : ℕ) → IsLegalReply h (Take id cred selector size noerror now) (NoMatch count) → HasNothingToTake h id cred selector
+nothing_to_take h id cred selector size noerror now count l = record {
+  lives = l.0;
+  may_read = l.1;
+  unnamed = subst (λ (ms : List Message). (place : ℕ) → ¬ IsNamed selector ms place) (held_is (live h) h id l.0) l.2;
+}
+
+no_room : (h : History) (id : ℤ) (cred : Cred) (size count : ℕ) → IsLegalReply h (Look id cred size) (Full count) → HasNoRoom h id cred size
+no_room h id cred size count l = record {
+  lives = l.0;
+  may_write = l.1;
+  crowded = λ a is. subst (λ (ms : List Message). ¬ FitsOn a.qbytes ms size) (held_is (live h) h id l.0) (crowded_is (live h) a (held h) size l.2 is);
+}
+
+-- ---- the refusal is right still
+
+module _ (w : World) (legal : AreLegal w.generation w.blocks w.turns) (who : Who) (slot : ℕ) (call : Call) (reply : Reply) (front later : List Deed) (m : Made who w.turns front (AtSlot slot call reply) later) where
+  -- the history of the slot up to that turn, and from it on
+  abbrev earlier : History
+  earlier = slot_history slot m.before
+
+  abbrev since : History
+  since = record { who = m.by; call = call; reply = reply } ∷ slot_history slot m.after
+
+  whole : slot_history slot w.turns ≡ earlier ++ since
+  whole = ap (slot_history slot) m.whole ∙ slot_around slot m.before m.after m.by call reply
+
+  was_legal : IsLegalReply earlier call reply
+  was_legal = legal.slots slot earlier (record { who = m.by; call = call; reply = reply }) (slot_history slot m.after) whole
+
+  all_legal : IsLegalHistory (earlier ++ since)
+  all_legal = subst IsLegalHistory whole (legal.slots slot)
+
+receive_parked : (w : World) → AreLegal w.generation w.blocks w.turns → NoMatchStays → CountsNeverFall → (who : Who) (r : Receiving) (told : ℕ) → FoundNone r told (deeds_of who w.turns) →
+    arrived (slot_history (slot_of_id r.id) w.turns) < told + 1 → HasNothingToTake (slot_history (slot_of_id r.id) w.turns) r.id r.cred r.selector
+receive_parked w legal stays counts who r told f below =
+    let slot = slot_of_id r.id in
+    let call = Take r.id r.cred r.selector r.size r.noerror f.0 in
+    let m = made_at who w.turns f.1.0 (AtSlot slot call (NoMatch told)) f.1.1 f.1.2 in
+    let h = earlier w legal who slot call (NoMatch told) f.1.0 f.1.1 m in
+    let more = since w legal who slot call (NoMatch told) f.1.0 f.1.1 m in
+    let same = whole w legal who slot call (NoMatch told) f.1.0 f.1.1 m in
+    let was = was_legal w legal who slot call (NoMatch told) f.1.0 f.1.1 m in
+    let low : arrived (h ++ more) < told + 1 = subst (λ (k : History). arrived k < told + 1) same below in
+    let is : told ≡ arrived h = was.3 in
+    let kept : arrived (h ++ more) ≡ arrived h = omega (arith, low, is, (counts h more).0) in
+    subst (λ (k : History). HasNothingToTake k r.id r.cred r.selector) (sym same)
+    (nothing_to_take (h ++ more) r.id r.cred r.selector r.size r.noerror f.0 told
+    (stays h more r.id r.cred r.selector r.size r.noerror f.0 f.0 told (all_legal w legal who slot call (NoMatch told) f.1.0 f.1.1 m) kept was))
+
+module _ (w : World) (legal : AreLegal w.generation w.blocks w.turns) (full : FullStays) (full_for_look : FullStaysForLook) (counts : CountsNeverFall) (who : Who) (s : Sending) (told : ℕ) (below : freed (slot_history (slot_of_id s.id) w.turns) < told + 1) where
+  looker_parked : IsLastAtSlot (AtSlot (slot_of_id s.id) (Look s.id s.cred (length s.text)) (Full told)) (deeds_of who w.turns) → HasNoRoom (slot_history (slot_of_id s.id) w.turns) s.id s.cred (length s.text)
+  looker_parked f =
+      let slot = slot_of_id s.id in
+      let call = Look s.id s.cred (length s.text) in
+      let m = made_at who w.turns f.0 (AtSlot slot call (Full told)) f.1 f.2 in
+      let h = earlier w legal who slot call (Full told) f.0 f.1 m in
+      let more = since w legal who slot call (Full told) f.0 f.1 m in
+      let same = whole w legal who slot call (Full told) f.0 f.1 m in
+      let was = was_legal w legal who slot call (Full told) f.0 f.1 m in
+      let low : freed (h ++ more) < told + 1 = subst (λ (k : History). freed k < told + 1) same below in
+      let is : told ≡ freed h = was.3 in
+      let kept : freed (h ++ more) ≡ freed h = omega (arith, low, is, (counts h more).1) in
+      subst (λ (k : History). HasNoRoom k s.id s.cred (length s.text)) (sym same)
+      (no_room (h ++ more) s.id s.cred (length s.text) told
+      (full h more s.id s.cred (length s.text) told (all_legal w legal who slot call (Full told) f.0 f.1 m) kept was))
+
+  placer_parked : (now : ℕ) → IsLastAtSlot (AtSlot (slot_of_id s.id) (Place s.id s.cred s.mtype s.text now) (Full told)) (deeds_of who w.turns) → HasNoRoom (slot_history (slot_of_id s.id) w.turns) s.id s.cred (length s.text)
+  placer_parked now f =
+      let slot = slot_of_id s.id in
+      let call = Place s.id s.cred s.mtype s.text now in
+      let m = made_at who w.turns f.0 (AtSlot slot call (Full told)) f.1 f.2 in
+      let h = earlier w legal who slot call (Full told) f.0 f.1 m in
+      let more = since w legal who slot call (Full told) f.0 f.1 m in
+      let same = whole w legal who slot call (Full told) f.0 f.1 m in
+      let was = was_legal w legal who slot call (Full told) f.0 f.1 m in
+      let low : freed (h ++ more) < told + 1 = subst (λ (k : History). freed k < told + 1) same below in
+      let is : told ≡ freed h = was.3 in
+      let kept : freed (h ++ more) ≡ freed h = omega (arith, low, is, (counts h more).1) in
+      subst (λ (k : History). HasNoRoom k s.id s.cred (length s.text)) (sym same)
+      (no_room (h ++ more) s.id s.cred (length s.text) told
+      (full_for_look h more s.id s.cred s.mtype s.text now told (all_legal w legal who slot call (Full told) f.0 f.1 m) kept was))
+
+-- ---- in the words of what was asked
+
+a_receive : (w : World) (cred : Cred) (asked : SystemCall) (r : Receiving) (now goal : ℕ) → AsksFor cred asked (OfSlot (slot_of_id r.id) (Take r.id r.cred r.selector r.size r.noerror now)) →
+    HasNothingToTake (slot_history (slot_of_id r.id) w.turns) r.id r.cred r.selector → HasReason w cred asked (OnArrived goal r)
+a_receive w cred (Msgrcv id size mtype flags) r now goal (inl (at, e)) n =
+    let ids : r.id ≡ id = cc in
+    let creds : r.cred ≡ cred = cc in
+    let selectors : r.selector ≡ selector_for mtype flags = cc in
+    subst (λ i. HasNothingToTake (slot_history (slot_of_id i) w.turns) i cred (selector_for mtype flags)) ids
+    (subst (λ c. HasNothingToTake (slot_history (slot_of_id r.id) w.turns) r.id c (selector_for mtype flags)) creds
+    (subst (HasNothingToTake (slot_history (slot_of_id r.id) w.turns) r.id r.cred) selectors n))
+a_receive w cred (Msgrcv id size mtype flags) r now goal (inr (blocks, e)) n = absurd cc
+a_receive w cred (Msgget key flags) r now goal (inl e) n = absurd cc
+a_receive w cred (Msgget key flags) r now goal (inr (inl (i, at, e))) n = absurd cc
+a_receive w cred (Msgget key flags) r now goal (inr (inr (inl (i, e)))) n = absurd cc
+a_receive w cred (Msgget key flags) r now goal (inr (inr (inr (inl (i, e))))) n = absurd cc
+a_receive w cred (Msgget key flags) r now goal (inr (inr (inr (inr (i, e))))) n = absurd cc
+a_receive w cred (Msgsnd id mtype flags text) r now goal (inl e) n = absurd cc
+a_receive w cred (Msgsnd id mtype flags text) r now goal (inr (inl e)) n = absurd cc
+a_receive w cred (Msgsnd id mtype flags text) r now goal (inr (inr (inl (at, e)))) n = absurd cc
+a_receive w cred (Msgsnd id mtype flags text) r now goal (inr (inr (inr (blocks, e)))) n = absurd cc
+a_receive w cred (MsgctlStat id) r now goal e n = absurd cc
+a_receive w cred (MsgctlSet id to) r now goal (inl (at, e)) n = absurd cc
+a_receive w cred (MsgctlSet id to) r now goal (inr (blocks, e)) n = absurd cc
+a_receive w cred (MsgctlRmid id) r now goal (inl e) n = absurd cc
+a_receive w cred (MsgctlRmid id) r now goal (inr (inl e)) n = absurd cc
+a_receive w cred (MsgctlRmid id) r now goal (inr (inr (blocks, e))) n = absurd cc
+
+-- the call is a look or a place of the send
+data IsOfSend (s : Sending) : Call → Type 0 where
+  looks : IsOfSend s (Look s.id s.cred (length s.text))
+  places : (now : ℕ) → IsOfSend s (Place s.id s.cred s.mtype s.text now)
+
+send_is : (turns : List Turn) (cred : Cred) (id : ℤ) (text : List ℕ) (s : Sending) → s.id ≡ id → s.cred ≡ cred → length s.text ≡ length text →
+    HasNoRoom (slot_history (slot_of_id s.id) turns) s.id s.cred (length s.text) → HasNoRoom (slot_history (slot_of_id id) turns) id cred (length text)
+send_is turns cred id text s ids creds sizes n =
+    subst (λ i. HasNoRoom (slot_history (slot_of_id i) turns) i cred (length text)) ids
+    (subst (λ c. HasNoRoom (slot_history (slot_of_id s.id) turns) s.id c (length text)) creds
+    (subst (HasNoRoom (slot_history (slot_of_id s.id) turns) s.id s.cred) sizes n))
+
+a_send : (w : World) (cred : Cred) (asked : SystemCall) (s : Sending) (goal : ℕ) (call : Call) → IsOfSend s call → AsksFor cred asked (OfSlot (slot_of_id s.id) call) →
+    HasNoRoom (slot_history (slot_of_id s.id) w.turns) s.id s.cred (length s.text) → HasReason w cred asked (OnFreed goal s)
+a_send w cred (Msgsnd id mtype flags text) s goal _ looks (inl e) n =
+    let ids : s.id ≡ id = cc in
+    let creds : s.cred ≡ cred = cc in
+    let sizes : length s.text ≡ length text = cc in
+    send_is w.turns cred id text s ids creds sizes n
+a_send w cred (Msgsnd id mtype flags text) s goal _ looks (inr (inl e)) n = absurd cc
+a_send w cred (Msgsnd id mtype flags text) s goal _ looks (inr (inr (inl (at, e)))) n = absurd cc
+a_send w cred (Msgsnd id mtype flags text) s goal _ looks (inr (inr (inr (blocks, e)))) n = absurd cc
+a_send w cred (Msgsnd id mtype flags text) s goal _ (places now) (inl e) n = absurd cc
+a_send w cred (Msgsnd id mtype flags text) s goal _ (places now) (inr (inl e)) n = absurd cc
+a_send w cred (Msgsnd id mtype flags text) s goal _ (places now) (inr (inr (inl (at, e)))) n =
+    let ids : s.id ≡ id = cc in
+    let creds : s.cred ≡ cred = cc in
+    let texts : s.text ≡ text = cc in
+    send_is w.turns cred id text s ids creds (ap (λ (t : List ℕ). length t) texts) n
+a_send w cred (Msgsnd id mtype flags text) s goal _ (places now) (inr (inr (inr (blocks, e)))) n = absurd cc
+a_send w cred (Msgget key flags) s goal _ looks (inl e) n = absurd cc
+a_send w cred (Msgget key flags) s goal _ looks (inr (inl (i, at, e))) n = absurd cc
+a_send w cred (Msgget key flags) s goal _ looks (inr (inr (inl (i, e)))) n = absurd cc
+a_send w cred (Msgget key flags) s goal _ looks (inr (inr (inr (inl (i, e))))) n = absurd cc
+a_send w cred (Msgget key flags) s goal _ looks (inr (inr (inr (inr (i, e))))) n = absurd cc
+a_send w cred (Msgget key flags) s goal _ (places now) (inl e) n = absurd cc
+a_send w cred (Msgget key flags) s goal _ (places now) (inr (inl (i, at, e))) n = absurd cc
+a_send w cred (Msgget key flags) s goal _ (places now) (inr (inr (inl (i, e)))) n = absurd cc
+a_send w cred (Msgget key flags) s goal _ (places now) (inr (inr (inr (inl (i, e))))) n = absurd cc
+a_send w cred (Msgget key flags) s goal _ (places now) (inr (inr (inr (inr (i, e))))) n = absurd cc
+a_send w cred (Msgrcv id size mtype flags) s goal _ looks (inl (at, e)) n = absurd cc
+a_send w cred (Msgrcv id size mtype flags) s goal _ looks (inr (blocks, e)) n = absurd cc
+a_send w cred (Msgrcv id size mtype flags) s goal _ (places now) (inl (at, e)) n = absurd cc
+a_send w cred (Msgrcv id size mtype flags) s goal _ (places now) (inr (blocks, e)) n = absurd cc
+a_send w cred (MsgctlStat id) s goal _ looks e n = absurd cc
+a_send w cred (MsgctlStat id) s goal _ (places now) e n = absurd cc
+a_send w cred (MsgctlSet id to) s goal _ looks (inl (at, e)) n = absurd cc
+a_send w cred (MsgctlSet id to) s goal _ looks (inr (blocks, e)) n = absurd cc
+a_send w cred (MsgctlSet id to) s goal _ (places now) (inl (at, e)) n = absurd cc
+a_send w cred (MsgctlSet id to) s goal _ (places now) (inr (blocks, e)) n = absurd cc
+a_send w cred (MsgctlRmid id) s goal _ looks (inl e) n = absurd cc
+a_send w cred (MsgctlRmid id) s goal _ looks (inr (inl e)) n = absurd cc
+a_send w cred (MsgctlRmid id) s goal _ looks (inr (inr (blocks, e))) n = absurd cc
+a_send w cred (MsgctlRmid id) s goal _ (places now) (inl e) n = absurd cc
+a_send w cred (MsgctlRmid id) s goal _ (places now) (inr (inl e)) n = absurd cc
+a_send w cred (MsgctlRmid id) s goal _ (places now) (inr (inr (blocks, e))) n = absurd cc
+
+-- a get is the only call that begins a key
+a_get : (w : World) (cred : Cred) (asked : SystemCall) (get : Getting) (goal : ℕ) → AsksFor cred asked (OfRegistry (Begin get.key get.flags)) → IsBeingChanged w get.key → HasReason w cred asked (OnSettled goal get)
+a_get w cred (Msgget key flags) get goal (inl e) b = let keys : get.key ≡ key = cc in subst (IsBeingChanged w) keys b
+a_get w cred (Msgget key flags) get goal (inr (inl (i, at, e))) b = absurd cc
+a_get w cred (Msgget key flags) get goal (inr (inr (inl (i, e)))) b = absurd cc
+a_get w cred (Msgget key flags) get goal (inr (inr (inr (inl (i, e))))) b = absurd cc
+a_get w cred (Msgget key flags) get goal (inr (inr (inr (inr (i, e))))) b = absurd cc
+a_get w cred (Msgsnd id mtype flags text) get goal (inl e) b = absurd cc
+a_get w cred (Msgsnd id mtype flags text) get goal (inr (inl e)) b = absurd cc
+a_get w cred (Msgsnd id mtype flags text) get goal (inr (inr (inl (at, e)))) b = absurd cc
+a_get w cred (Msgsnd id mtype flags text) get goal (inr (inr (inr (blocks, e)))) b = absurd cc
+a_get w cred (Msgrcv id size mtype flags) get goal (inl (at, e)) b = absurd cc
+a_get w cred (Msgrcv id size mtype flags) get goal (inr (blocks, e)) b = absurd cc
+a_get w cred (MsgctlStat id) get goal e b = absurd cc
+a_get w cred (MsgctlSet id to) get goal (inl (at, e)) b = absurd cc
+a_get w cred (MsgctlSet id to) get goal (inr (blocks, e)) b = absurd cc
+a_get w cred (MsgctlRmid id) get goal (inl e) b = absurd cc
+a_get w cred (MsgctlRmid id) get goal (inr (inl e)) b = absurd cc
+a_get w cred (MsgctlRmid id) get goal (inr (inr (blocks, e))) b = absurd cc
+
+-- a send is the only call that reserves blocks
+a_reserve : (w : World) (cred : Cred) (asked : SystemCall) (s : Sending) (goal : ℕ) → AsksFor cred asked (OfPool (Reserve (length s.text))) → HasTooFewBlocks w (length s.text) × IsToBeWoken w s.id s.cred → HasReason w cred asked (OnReleased goal s)
+a_reserve w cred (Msgsnd id mtype flags text) s goal (inl e) few = absurd cc
+a_reserve w cred (Msgsnd id mtype flags text) s goal (inr (inl e)) few = let sizes : length s.text ≡ length text = cc in (subst (HasTooFewBlocks w) sizes few.0, few.1)
+a_reserve w cred (Msgsnd id mtype flags text) s goal (inr (inr (inl (at, e)))) few = absurd cc
+a_reserve w cred (Msgsnd id mtype flags text) s goal (inr (inr (inr (blocks, e)))) few = absurd cc
+a_reserve w cred (Msgget key flags) s goal (inl e) few = absurd cc
+a_reserve w cred (Msgget key flags) s goal (inr (inl (i, at, e))) few = absurd cc
+a_reserve w cred (Msgget key flags) s goal (inr (inr (inl (i, e)))) few = absurd cc
+a_reserve w cred (Msgget key flags) s goal (inr (inr (inr (inl (i, e))))) few = absurd cc
+a_reserve w cred (Msgget key flags) s goal (inr (inr (inr (inr (i, e))))) few = absurd cc
+a_reserve w cred (Msgrcv id size mtype flags) s goal (inl (at, e)) few = absurd cc
+a_reserve w cred (Msgrcv id size mtype flags) s goal (inr (blocks, e)) few = absurd cc
+a_reserve w cred (MsgctlStat id) s goal e few = absurd cc
+a_reserve w cred (MsgctlSet id to) s goal (inl (at, e)) few = absurd cc
+a_reserve w cred (MsgctlSet id to) s goal (inr e) few = absurd cc
+a_reserve w cred (MsgctlRmid id) s goal (inl e) few = absurd cc
+a_reserve w cred (MsgctlRmid id) s goal (inr (inl e)) few = absurd cc
+a_reserve w cred (MsgctlRmid id) s goal (inr (inr (blocks, e))) few = absurd cc
+
+-- ---- every wait
+
+-- where it waits for blocks
+abbrev IsShortOf : World → Wait → Type 0
+IsShortOf w (OnReleased goal s) = released (pool_history w.turns) < goal → HasTooFewBlocks w (length s.text) × IsToBeWoken w s.id s.cred
+IsShortOf w wait = Unit {0}
+
+last_of : (deeds front after : List Deed) (deed : Deed) → deeds ≡ front ++ deed ∷ after → Contains deeds deed
+last_of deeds front after deed e = subst (λ (ds : List Deed). Contains ds deed) (sym e) (Contains-append_right front (deed ∷ after) deed (0, omega arith, refl))
+
+module _ (w : World) (legal : AreLegal w.generation w.blocks w.turns) (no_match : NoMatchStays) (full : FullStays) (full_for_look : FullStaysForLook) (counts : CountsNeverFall) (tended : AreTended w) (good : AreRemovedForGood w.turns) (order : SettledOnceInstalled w.turns) (call : Started)
+    (all : AllAskFor call.cred call.asked (deeds_of call.who w.turns)) where
+  asked_for : (deed : Deed) (front after : List Deed) → deeds_of call.who w.turns ≡ front ++ deed ∷ after → AsksFor call.cred call.asked (asked_by deed)
+  asked_for deed front after e = All-contains (λ (d : Deed). AsksFor call.cred call.asked (asked_by d)) (deeds_of call.who w.turns) deed all (last_of (deeds_of call.who w.turns) front after deed e)
+
+  began : (get : Getting) (told : ℕ) → WasUnsettled get told (deeds_of call.who w.turns) → AsksFor call.cred call.asked (OfRegistry (Begin get.key get.flags))
+  began get told (inl f) = asked_for _ f.0 _ f.1
+  began get told (inr f) = asked_for _ f.1.0 _ f.1.1
+
+  has_reason : (wait : Wait) → IsShortOf w wait → WaitsFor wait (deeds_of call.who w.turns) → value_of w.turns (awaited wait) < goal_of wait → HasReason w call.cred call.asked wait
+  has_reason (OnArrived goal r) short (told, is, f) below =
+      a_receive w call.cred call.asked r f.0 goal (asked_for _ f.1.0 f.1.1 f.1.2)
+      (receive_parked w legal no_match counts call.who r told f (subst (λ n. arrived (slot_history (slot_of_id r.id) w.turns) < n) is below))
+  has_reason (OnFreed goal s) short (told, is, inl f) below =
+      a_send w call.cred call.asked s goal _ looks (asked_for _ f.0 f.1 f.2)
+      (looker_parked w legal full full_for_look counts call.who s told (subst (λ n. freed (slot_history (slot_of_id s.id) w.turns) < n) is below) f)
+  has_reason (OnFreed goal s) short (told, is, inr f) below =
+      a_send w call.cred call.asked s goal _ (places f.0) (asked_for _ f.1.0 f.1.1 f.1.2)
+      (placer_parked w legal full full_for_look counts call.who s told (subst (λ n. freed (slot_history (slot_of_id s.id) w.turns) < n) is below) f.0 f.1)
+  has_reason (OnReleased goal s) short f below = a_reserve w call.cred call.asked s goal (asked_for _ f.1.0 _ f.1.1) (short below)
+  has_reason (OnSettled goal get) short (told, is, f) below =
+      a_get w call.cred call.asked get goal (began get told f)
+      (being_changed w legal tended good order call.who get told (subst (λ n. settled (registry_history w.turns) < n) is below) f)
+
+pub parked_rightly : (w : World) → AreLegal w.generation w.blocks w.turns → ((place : ℕ) (d : Doing) → slice_get w.actors place ≡ Some (Some d) → Plays (begun d.call) (deeds_of d.call.who w.turns) d.state) →
+    NoMatchStays → FullStays → FullStaysForLook → CountsNeverFall → EachWaitsForItsRefusal → EachDeedIsAskedFor → AreTended w → AreRemovedForGood w.turns → SettledOnceInstalled w.turns → AreShort w → AreToBeWoken w → AreParkedRightly w
+parked_rightly w legal plays no_match full full_for_look counts refused asked tended good order short woken place d wait p =
+    let played : Plays (begun d.call) (deeds_of d.call.who w.turns) (Waits wait) = subst (Plays (begun d.call) (deeds_of d.call.who w.turns)) p.waits (plays place d p.there) in
+    has_reason w legal no_match full full_for_look counts tended good order d.call
+    (asked d.call.cred d.call.asked d.call.released (deeds_of d.call.who w.turns) (Waits wait) played)
+    wait (short_of wait p.waits)
+    (refused d.call.cred d.call.asked d.call.released (deeds_of d.call.who w.turns) wait played) p.below
+  where
+    short_of : (x : Wait) → d.state ≡ Waits x → IsShortOf w x
+    short_of (OnReleased goal send) is = λ below. (short place d goal send p.there is below, woken place d goal send p.there is below)
+    short_of (OnSettled goal get) is = tt
+    short_of (OnFreed goal send) is = tt
+    short_of (OnArrived goal receive) is = tt

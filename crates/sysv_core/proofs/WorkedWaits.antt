@@ -1,0 +1,38 @@
+-- What the laws of waits and of removals admit and refuse.
+use Rattle.std.proofs.Common.{◌≡◌, ℕ, ◌<◌, inl, inr, true, [], ◌∷◌, refl, arith, pos}
+use Rattle.std.specs.List.{All}
+use Rattle.std.proofs.lemmas.List.Elements.{All-push, All-contains}
+use Rattle.sysv_model.specs.declared.errno.Errno.TheVariants.{EIDRM, EINVAL}
+use Rattle.sysv_model.specs.declared.selector.Selector.TheVariants.{Any}
+use Rattle.sysv_model.specs.Turn.{Deed}
+use Rattle.sysv_queue.specs.Named.{IsNamed}
+use Rattle.sysv_steps.specs.State.{Ending, Refused}
+use Rattle.sysv_steps.specs.Answers.{is_at_slot, found_gone}
+use Rattle.sysv_core.specs.WorkedWaits.{finds_none, finds_it_gone, WorkedWaits}
+
+none_is_named : (place : ℕ) → ¬ IsNamed Any [] place
+none_is_named place named = let below : place < 0 = named.0.0 in omega arith
+
+no_deed : (P : Deed → Type 0) → All P []
+no_deed P k d low = absurd (omega (arith, low))
+
+no_ending : (P : Ending → Type 0) → All P []
+no_ending P k d low = absurd (omega (arith, low))
+
+all_gone : All (λ (deed : Deed). is_at_slot deed ≡ true → found_gone deed ≡ true) (finds_it_gone ∷ [])
+all_gone = All-push (λ (deed : Deed). is_at_slot deed ≡ true → found_gone deed ≡ true) [] finds_it_gone (no_deed _) (λ at. refl)
+
+one_ending : (e : Ending) → All (λ (x : Ending). x ≡ e) (e ∷ [])
+one_ending e = All-push (λ (x : Ending). x ≡ e) [] e (no_ending _) refl
+
+pub worked_waits : WorkedWaits
+worked_waits = record {
+  waits = record { lives = refl; may_read = inr (inl (inl refl, λ none. cc)); unnamed = none_is_named };
+  sleeps_on = λ n. n.unnamed 0 ((omega arith, tt), λ earlier below q. omega arith);
+  sleeps_for_ever = λ n. n.lives;
+  told = record { gone = all_gone; removed = λ there come. one_ending (Refused EIDRM); absent = λ none come. absurd cc };
+  told_never = λ t. let bad = All-contains (λ (x : Ending). x ≡ Refused EIDRM) (Refused EINVAL ∷ []) (Refused EINVAL) (t.removed refl refl) (0, omega arith, refl) in cc;
+  told_to_a_later_one = record { gone = all_gone; removed = λ there come. absurd cc; absent = λ none come. one_ending (Refused EINVAL) };
+  found_again = λ t. let bad = All-contains (λ (deed : Deed). is_at_slot deed ≡ true → found_gone deed ≡ true) (finds_none ∷ []) finds_none t.gone (0, omega arith, refl) refl in cc;
+  comes_back = λ r. let bad = r.once 0 (pos 0) [] (_ ∷ []) [] _ _ refl refl in cc;
+}

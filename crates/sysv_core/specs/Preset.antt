@@ -1,0 +1,19 @@
+-- What the code's preset makes of the objects (this profile's): where slot 0 is unused and no queue lives in
+-- it, the three turns of the preset queue, which raise no count.
+use Rattle.std.specs.Prelude.{◌≡◌, ℕ, Bool, true, List, None}
+use Rattle.sysv_model.specs.Live.{live}
+use Rattle.sysv_model.specs.Turn.{Turn, slot_history, registry_history}
+use Rattle.sysv_keys.specs.Rows.{IsUnused}
+use Rattle.sysv_objects.specs.Objects.{Objects, CountsUpTo}
+use Rattle.sysv_objects.specs.StandsFor.{StandsFor}
+use Rattle.sysv_core.specs.World.{with_preset_turns}
+
+pub record PresetMade (generation : ℕ) (turns : List Turn) (old : Objects) (result : Bool) (new : Objects) : Type 0 where
+  pub made : result ≡ true
+  pub stands : StandsFor generation (with_preset_turns turns) new
+  pub size : new.pool.size ≡ old.pool.size
+  pub counts : (bound : ℕ) → CountsUpTo bound old → CountsUpTo bound new
+
+abbrev pub MakesPreset : Objects → Bool → Objects → Type 0
+MakesPreset old result new = (generation : ℕ) (turns : List Turn) → StandsFor generation turns old → IsUnused generation (registry_history turns) 0 →
+    live (slot_history 0 turns) ≡ None → PresetMade generation turns old result new
