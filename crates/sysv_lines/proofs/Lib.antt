@@ -1,8 +1,4 @@
-pub mod Numerals
-pub mod SignedLemmas
-pub mod Parsing
-pub mod OneLine
-pub mod Deciding
-pub mod DecidingWords
-pub mod DecidingFlags
-pub mod DecidingLines
+pub mod Naming
+pub mod LineKinds
+pub mod ReadingCalls
+pub mod OneSaying

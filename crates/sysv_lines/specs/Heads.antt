@@ -1,36 +1,76 @@
 -- The lines that a script prints, up to the bytes of a message (this project's script language).
-use Rattle.std.specs.Prelude.{ℕ, List, ◌++◌, codes}
+use Rattle.std.specs.Prelude.{ℕ, ◌/◌, ◌%◌, List, ◌++◌, codes}
 use Rattle.std.specs.Fmt.{decimal, signed_decimal}
 use Rattle.sysv_model.specs.Errors.{name_of}
-use Rattle.sysv_lines.specs.declared.head.Operation.{Operation}
-use Rattle.sysv_lines.specs.declared.head.Operation.TheVariants.{Send, Receive}
-use Rattle.sysv_lines.specs.declared.head.Step.{Step}
-use Rattle.sysv_lines.specs.declared.head.Step.TheVariants.{Look, Place, Take}
-use Rattle.sysv_lines.specs.declared.head.Told.{Told}
-use Rattle.sysv_lines.specs.declared.head.Told.TheVariants.{Zero, Got, Refused}
+use Rattle.sysv_model.specs.declared.attributes.Perm.{Perm}
+use Rattle.sysv_model.specs.declared.attributes.Stat.{Stat}
+use Rattle.sysv_lines.specs.declared.names.Operation.{Operation}
+use Rattle.sysv_lines.specs.declared.names.Operation.TheVariants.{Get, Send, Receive, Stat as OfStat, Set as OfSet, Remove as OfRemove}
+use Rattle.sysv_lines.specs.declared.names.Step.{Step}
+use Rattle.sysv_lines.specs.declared.names.Step.TheVariants.{Begin, Install, Settle, Probe, Forget, Look, Reserve, Place, Giveback, Take, Stat as AtStat, Set as AtSet, Remove as AtRemove}
+use Rattle.sysv_lines.specs.declared.told.Told.{Told}
+use Rattle.sysv_lines.specs.declared.told.Told.TheVariants.{Id, Zero, Got, Stat as IsStat, Refused}
 use Rattle.sysv_lines.specs.declared.head.Head.{Head}
-use Rattle.sysv_lines.specs.declared.head.Head.TheVariants.{Answers, At, Busy, Idle, Worn, Bad}
+use Rattle.sysv_lines.specs.declared.head.Head.TheVariants.{Answers, At, Waits, Busy, Idle, Worn, Bad}
 
--- what a script calls msgsnd and msgrcv
+-- what a script calls the six calls
 abbrev pub operation_name : Operation → List ℕ
+operation_name Get = codes "get"
 operation_name Send = codes "snd"
 operation_name Receive = codes "rcv"
+operation_name OfStat = codes "stat"
+operation_name OfSet = codes "set"
+operation_name OfRemove = codes "rm"
 
 -- the steps by their names
 abbrev pub step_name : Step → List ℕ
+step_name Begin = codes "begin"
+step_name Install = codes "install"
+step_name Settle = codes "settle"
+step_name Probe = codes "probe"
+step_name Forget = codes "forget"
 step_name Look = codes "look"
+step_name Reserve = codes "reserve"
 step_name Place = codes "place"
+step_name Giveback = codes "giveback"
 step_name Take = codes "take"
+step_name AtStat = codes "stat"
+step_name AtSet = codes "set"
+step_name AtRemove = codes "remove"
+
+-- the attributes of a queue, in three parts: owner, creator and the three octal digits of the mode; what
+-- waits, the limit and the processes; the moments
+abbrev pub mode_text : ℕ → List ℕ
+mode_text mode = decimal (mode / 64 % 8) ++ decimal (mode / 8 % 8) ++ decimal (mode % 8)
+
+unfoldable pub perm_text : Perm → List ℕ
+perm_text p =
+    codes "uid " ++ decimal p.uid ++ codes " gid " ++ decimal p.gid ++ codes " cuid " ++ decimal p.cuid ++ codes " cgid " ++ decimal p.cgid
+    ++ codes " mode " ++ mode_text p.mode
+
+unfoldable pub counts_text : Stat → List ℕ
+counts_text s =
+    codes "bytes " ++ decimal s.cbytes ++ codes " num " ++ decimal s.qnum ++ codes " qbytes " ++ decimal s.qbytes
+    ++ codes " lspid " ++ decimal s.lspid ++ codes " lrpid " ++ decimal s.lrpid
+
+unfoldable pub times_text : Stat → List ℕ
+times_text s = codes "stime " ++ decimal s.stime ++ codes " rtime " ++ decimal s.rtime ++ codes " ctime " ++ decimal s.ctime
+
+abbrev pub stat_text : Stat → List ℕ
+stat_text s = codes "key " ++ signed_decimal s.key ++ codes " " ++ perm_text s.perm ++ codes " " ++ counts_text s ++ codes " " ++ times_text s
 
 -- how a call was answered
 abbrev pub told_text : Told → List ℕ
+told_text (Id id) = codes "= " ++ signed_decimal id
 told_text Zero = codes "= 0"
 told_text (Got len mtype) = codes "= " ++ decimal len ++ codes " type " ++ signed_decimal mtype ++ codes " ="
+told_text (IsStat stat) = codes "= " ++ stat_text stat
 told_text (Refused why) = codes "! " ++ name_of why
 
 abbrev pub head_text : Head → List ℕ
 head_text (Answers actor operation told) = decimal actor ++ codes " " ++ operation_name operation ++ codes " " ++ told_text told
 head_text (At actor operation step) = decimal actor ++ codes " " ++ operation_name operation ++ codes " at " ++ step_name step
+head_text (Waits actor operation) = decimal actor ++ codes " " ++ operation_name operation ++ codes " waits"
 head_text (Busy actor) = decimal actor ++ codes " busy"
 head_text (Idle actor) = decimal actor ++ codes " idle"
 head_text (Worn actor) = decimal actor ++ codes " worn"

@@ -1,11 +1,11 @@
-pub use Rattle.sysv_core.specs.World
 pub use Rattle.sysv_steps.specs.State
-pub mod Words
-pub mod FlagNames
+pub use Rattle.sysv_steps.specs.Call
+pub use Rattle.sysv_words.specs.Words
+pub use Rattle.sysv_words.specs.FlagNames
+pub use Rattle.sysv_words.specs.Octal
 pub mod Heads
 pub mod Names
 pub mod Said
 pub mod Lines
 pub mod SaidBy
-pub mod OneSplit
 pub mod OneLine

@@ -1,25 +1,35 @@
 -- What a line of a script says (this project's script language): its words stand one space apart,
--- and the text of a message is the rest of the line. Numerals are decimal and stand for a number
--- that its place can hold.
-use Rattle.std.specs.Prelude.{◌≡◌, ◌≤◌, ◌⊎◌, ℕ, ℤ, pos, List, [], ◌∷◌, ◌++◌, length, codes, replicate}
-use Rattle.std.specs.Int.{w32, w64}
-use Rattle.std.specs.Int.RustNames.{FitsSigned}
-use Rattle.sysv_model.specs.declared.limits.TheConstants.{BODY_ROOM}
-use Rattle.sysv_lines.specs.declared.line.TheConstants.{SCRIPT_ACTORS, LINE_BYTES}
-use Rattle.sysv_lines.specs.FlagNames.{IsFlags}
-use Rattle.sysv_lines.specs.Words.{AreWords, IsNumber, number_in}
-use Rattle.sysv_lines.specs.Said.{Said, Nothing, MakesPreset, GivesCred, Starts}
-use Rattle.sysv_model.specs.declared.cred.Cred.{Cred}
-use Rattle.sysv_core.specs.declared.event.Call.{Call}
-use Rattle.sysv_core.specs.declared.event.Call.TheVariants.{Send, Receive}
+-- and the text of a message is the rest of the line.
+use Rattle.std.specs.Prelude.{◌≡◌, ◌≤◌, ◌⊎◌, ℕ, pos, true, false, List, [], ◌∷◌, length, codes, replicate}
+use Rattle.sysv_model.specs.declared.limits.TheConstants.{BODY_ROOM, BLOCKS_LEAST, BLOCKS_MOST}
+use Rattle.sysv_words.specs.Words.{Pair, After, IsNumeralOf, IsInt32, IsInt64, IsNat32, IsNat64}
+use Rattle.sysv_words.specs.FlagNames.{IsFlagList}
+use Rattle.sysv_words.specs.declared.octal.Octal.{Octal}
+use Rattle.sysv_words.specs.Octal.{IsOctal}
+use Rattle.sysv_steps.specs.Call.{SystemCall, Msgget, Msgsnd, Msgrcv, MsgctlStat, MsgctlSet, MsgctlRmid}
+use Rattle.sysv_lines.specs.declared.actor.Actor.{Actor}
+use Rattle.sysv_lines.specs.declared.blocks.Blocks.{Blocks}
+use Rattle.sysv_lines.specs.declared.actor.TheConstants.{SCRIPT_ACTORS}
+use Rattle.sysv_lines.specs.declared.line.TheConstants.{LINE_BYTES}
+use Rattle.sysv_lines.specs.Said.{Said, Nothing, MakesPreset, GivesCred, GivesMoment, Starts, StepsOnce, Continues, AllContinue, GivesBlocks}
 
--- the word is a numeral, and this is its number
-abbrev pub IsNumeralOf : List ℕ → ℤ → Type 0
-IsNumeralOf word number = IsNumber word × (number_in word ≡ number)
+-- the number of an actor, 1 to 16
+pub record IsActor (word : List ℕ) (actor : Actor) : Type 0 where
+  pub number : IsNumeralOf word (pos actor.0)
+  pub least : 1 ≤ actor.0
+  pub most : actor.0 ≤ SCRIPT_ACTORS
 
--- the word is a numeral of a number from 0 to 4294967295
-abbrev pub IsUnsignedNumeralOf : List ℕ → ℕ → Type 0
-IsUnsignedNumeralOf word number = IsNumeralOf word (pos number) × (number ≤ 4294967295)
+abbrev pub actor : ℕ → Actor
+actor number = record { 0 = number }
+
+-- a number of blocks that a pool can have
+pub record IsBlocks (word : List ℕ) (blocks : Blocks) : Type 0 where
+  pub number : IsNumeralOf word (pos blocks.0)
+  pub least : BLOCKS_LEAST ≤ blocks.0
+  pub most : blocks.0 ≤ BLOCKS_MOST
+
+abbrev pub of_blocks : ℕ → Blocks
+of_blocks number = record { 0 = number }
 
 -- a body that gives a number of letters x
 pub record GivesLetters (body text : List ℕ) : Type 0 where
@@ -32,73 +42,115 @@ pub record GivesLetters (body text : List ℕ) : Type 0 where
 abbrev pub SaysText : List ℕ → List ℕ → Type 0
 SaysText body text = (length text ≤ BODY_ROOM) × ((body ≡ 61 ∷ text) ⊎ GivesLetters body text)
 
--- `ID MTYPE FLAGS BODY`
-pub record SaysSend (words : List ℕ) (id mtype : ℤ) (flags : ℕ) (text : List ℕ) : Type 0 where
-  pub id_word : List ℕ
-  pub mtype_word : List ℕ
-  pub flags_word : List ℕ
-  pub body : List ℕ
-  pub are : AreWords (id_word ∷ mtype_word ∷ flags_word ∷ body ∷ []) words
-  pub id_is : IsNumeralOf id_word id × FitsSigned w32 id
-  pub mtype_is : IsNumeralOf mtype_word mtype × FitsSigned w64 mtype
-  pub flags_are : IsFlags flags_word flags
-  pub text_is : SaysText body text
+-- ---- calls
 
--- `ID SIZE MTYPE FLAGS`
-pub record SaysReceive (words : List ℕ) (id : ℤ) (size : ℕ) (mtype : ℤ) (flags : ℕ) : Type 0 where
-  pub id_word : List ℕ
-  pub size_word : List ℕ
-  pub mtype_word : List ℕ
-  pub flags_word : List ℕ
-  pub are : AreWords (id_word ∷ size_word ∷ mtype_word ∷ flags_word ∷ []) words
-  pub id_is : IsNumeralOf id_word id × FitsSigned w32 id
-  pub size_is : IsUnsignedNumeralOf size_word size
-  pub mtype_is : IsNumeralOf mtype_word mtype × FitsSigned w64 mtype
-  pub flags_are : IsFlags flags_word flags
+-- how a script names a call
+abbrev pub call_name : SystemCall → List ℕ
+call_name (Msgget key flags) = codes "get"
+call_name (Msgsnd id mtype flags text) = codes "snd"
+call_name (Msgrcv id size mtype flags) = codes "rcv"
+call_name (MsgctlStat id) = codes "stat"
+call_name (MsgctlSet id to) = codes "set"
+call_name (MsgctlRmid id) = codes "rm"
 
--- `ACTOR UID GID PID`
-pub record NamesCred (words : List ℕ) (actor : ℕ) (cred : Cred) : Type 0 where
-  pub actor_word : List ℕ
-  pub uid_word : List ℕ
-  pub gid_word : List ℕ
-  pub pid_word : List ℕ
-  pub are : AreWords (actor_word ∷ uid_word ∷ gid_word ∷ pid_word ∷ []) words
-  pub actor_is : IsNumeralOf actor_word (pos actor)
-  pub least : 1 ≤ actor
-  pub most : actor ≤ SCRIPT_ACTORS
-  pub uid_is : IsUnsignedNumeralOf uid_word cred.uid
-  pub gid_is : IsUnsignedNumeralOf gid_word cred.gid
-  pub pid_is : IsUnsignedNumeralOf pid_word cred.pid
+abbrev pub octal : ℕ → Octal
+octal mode = record { 0 = mode }
 
--- `as`, an actor, 1 to 16, and the credentials of its calls from then on
-abbrev pub SaysCred : List ℕ → ℕ → Cred → Type 0
-SaysCred line actor cred = (words : List ℕ) × (line ≡ codes "as " ++ words) × NamesCred words actor cred
+-- the words behind the name: `KEY FLAGS`, `ID MTYPE FLAGS BODY`, `ID SIZE MTYPE FLAGS`, `ID`,
+-- `ID UID GID MODE QBYTES`, `ID`
+abbrev pub SaysArguments : List ℕ → SystemCall → Type 0
+SaysArguments words (Msgget key flags) = Pair IsInt32 IsFlagList words (key, flags)
+SaysArguments words (Msgsnd id mtype flags text) = Pair IsInt32 (Pair IsInt64 (Pair IsFlagList SaysText)) words (id, (mtype, (flags, text)))
+SaysArguments words (Msgrcv id size mtype flags) = Pair IsInt32 (Pair IsNat32 (Pair IsInt64 IsFlagList)) words (id, (size, (mtype, flags)))
+SaysArguments words (MsgctlStat id) = IsInt32 words id
+SaysArguments words (MsgctlSet id to) =
+    Pair IsInt32 (Pair IsNat32 (Pair IsNat32 (Pair IsOctal IsNat32))) words (id, (to.uid, (to.gid, (octal to.mode, to.qbytes))))
+SaysArguments words (MsgctlRmid id) = IsInt32 words id
 
--- the operation and the words behind it ask for this call
-abbrev pub SaysCall : List ℕ → List ℕ → Call → Type 0
-SaysCall operation words (Send id mtype flags text) = (operation ≡ codes "snd") × SaysSend words id mtype flags.0 text
-SaysCall operation words (Receive id size mtype flags body) = (operation ≡ codes "rcv") × (body ≡ []) × SaysReceive words id size mtype flags.0
+-- the call of this name with these arguments
+pub record SaysNamed (name words : List ℕ) (asked : SystemCall) : Type 0 where
+  pub is : call_name asked ≡ name
+  pub arguments : SaysArguments words asked
 
--- an actor, 1 to 16, an operation and its words
-pub record SaysStart (line : List ℕ) (actor : ℕ) (call : Call) : Type 0 where
-  pub actor_word : List ℕ
-  pub operation : List ℕ
-  pub words : List ℕ
-  pub are : AreWords (actor_word ∷ operation ∷ words ∷ []) line
-  pub actor_is : IsNumeralOf actor_word (pos actor)
-  pub least : 1 ≤ actor
-  pub most : actor ≤ SCRIPT_ACTORS
-  pub call_is : SaysCall operation words call
+-- the name of the call, and its arguments
+abbrev pub SaysCall : List ℕ → SystemCall → Type 0
+SaysCall words asked = After (call_name asked) SaysArguments words asked
+
+-- ---- lines
 
 -- a line that is skipped is empty, or a comment
 abbrev pub IsSkipped : List ℕ → Type 0
 IsSkipped line = (line ≡ []) ⊎ ((comment : List ℕ) × (line ≡ 35 ∷ comment))
 
+-- ---- a line of a name and its arguments
+
+-- the name, where there is one
+abbrev pub order_name : Said → List ℕ
+order_name (GivesBlocks blocks) = codes "pool"
+order_name (GivesCred who cred) = codes "as"
+order_name (GivesMoment moment) = codes "now"
+order_name (StepsOnce who) = codes "step"
+order_name (Continues who) = codes "go"
+order_name Nothing = []
+order_name MakesPreset = []
+order_name (Starts who asked goes) = []
+order_name AllContinue = []
+
+-- the words behind it: `N`, `ACTOR UID GID PID`, `T`, `ACTOR`, `ACTOR`
+abbrev pub SaysOrderArguments : List ℕ → Said → Type 0
+SaysOrderArguments words (GivesBlocks blocks) = IsBlocks words (of_blocks blocks)
+SaysOrderArguments words (GivesCred who cred) = Pair IsActor (Pair IsNat32 (Pair IsNat32 IsNat32)) words (actor who, (cred.uid, (cred.gid, cred.pid)))
+SaysOrderArguments words (GivesMoment moment) = IsNat64 words moment
+SaysOrderArguments words (StepsOnce who) = IsActor words (actor who)
+SaysOrderArguments words (Continues who) = IsActor words (actor who)
+SaysOrderArguments words Nothing = ⊥
+SaysOrderArguments words MakesPreset = ⊥
+SaysOrderArguments words (Starts who asked goes) = ⊥
+SaysOrderArguments words AllContinue = ⊥
+
+-- the order of this name with these arguments
+pub record OrderNamed (name words : List ℕ) (said : Said) : Type 0 where
+  pub is : order_name said ≡ name
+  pub arguments : SaysOrderArguments words said
+
+abbrev pub SaysOrder : List ℕ → Said → Type 0
+SaysOrder line said = After (order_name said) SaysOrderArguments line said
+
+-- ---- a line that starts a call
+
+-- an actor and a call
+abbrev pub SaysStart : List ℕ → ℕ → SystemCall → Type 0
+SaysStart words who asked = Pair IsActor SaysCall words (actor who, asked)
+
+-- a `+` before them
+abbrev pub SaysStartOnly : List ℕ → ℕ → SystemCall → Type 0
+SaysStartOnly line who asked = (words : List ℕ) × (line ≡ 43 ∷ words) × SaysStart words who asked
+
+-- ---- all of them
+
+-- a line of one word
+abbrev pub TellsAlone : List ℕ → Said → Type 0
+TellsAlone line MakesPreset = line ≡ codes "preset"
+TellsAlone line AllContinue = line ≡ codes "all"
+TellsAlone line said = ⊥
+
+-- a line of one word or several, before which no `+` stands
+abbrev pub TellsInWords : List ℕ → Said → Type 0
+TellsInWords line MakesPreset = TellsAlone line MakesPreset
+TellsInWords line AllContinue = TellsAlone line AllContinue
+TellsInWords line (Starts who asked true) = SaysStart line who asked
+TellsInWords line (Starts who asked false) = ⊥
+TellsInWords line (GivesBlocks blocks) = SaysOrder line (GivesBlocks blocks)
+TellsInWords line (GivesCred who cred) = SaysOrder line (GivesCred who cred)
+TellsInWords line (GivesMoment moment) = SaysOrder line (GivesMoment moment)
+TellsInWords line (StepsOnce who) = SaysOrder line (StepsOnce who)
+TellsInWords line (Continues who) = SaysOrder line (Continues who)
+TellsInWords line Nothing = ⊥
+
 abbrev pub Tells : List ℕ → Said → Type 0
 Tells line Nothing = IsSkipped line
-Tells line MakesPreset = line ≡ codes "preset"
-Tells line (GivesCred actor cred) = SaysCred line actor cred
-Tells line (Starts actor call) = SaysStart line actor call
+Tells line (Starts who asked false) = SaysStartOnly line who asked
+Tells line said = TellsInWords line said
 
 -- a line has at most 9,000 bytes
 abbrev pub Says : List ℕ → Said → Type 0

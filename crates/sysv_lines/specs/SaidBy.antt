@@ -1,45 +1,67 @@
 -- What the code's lines, requests and texts stand for (this project's script language).
-use Rattle.std.specs.Prelude.{◌≤◌, ⊤, ℕ, List, [], length, replicate}
-use Rattle.sysv_model.specs.declared.limits.TheConstants.{BODY_ROOM}
-use Rattle.sysv_lines.specs.declared.line.TheConstants.{SCRIPT_ACTORS}
-use Rattle.sysv_lines.specs.Said.{Said, Nothing, MakesPreset, GivesCred, Starts}
-use Rattle.sysv_core.specs.declared.event.Call.{Call}
-use Rattle.sysv_core.specs.declared.event.Call.TheVariants as calls
-use Rattle.sysv_lines.specs.declared.line.Text.{Text}
-use Rattle.sysv_lines.specs.declared.line.Text.TheVariants.{Given, Letters}
-use Rattle.sysv_lines.specs.declared.line.Request.{Request}
-use Rattle.sysv_lines.specs.declared.line.Request.TheVariants.{Send, Receive}
+use Rattle.std.specs.Prelude.{◌≤◌, ⊤, ℕ, List, length, replicate}
+use Rattle.sysv_model.specs.declared.limits.TheConstants.{BODY_ROOM, BLOCKS_LEAST, BLOCKS_MOST}
+use Rattle.sysv_steps.specs.Call.{SystemCall, Msgget, Msgsnd, Msgrcv, MsgctlStat, MsgctlSet, MsgctlRmid}
+use Rattle.sysv_lines.specs.declared.actor.TheConstants.{SCRIPT_ACTORS}
+use Rattle.sysv_lines.specs.Said.{Said, Nothing, MakesPreset, GivesCred, GivesMoment, Starts, StepsOnce, Continues, AllContinue, GivesBlocks}
+use Rattle.sysv_lines.specs.declared.request.Text.{Text}
+use Rattle.sysv_lines.specs.declared.request.Text.TheVariants.{Given, Letters}
+use Rattle.sysv_lines.specs.declared.request.Request.{Request}
+use Rattle.sysv_lines.specs.declared.request.Request.TheVariants as request
 use Rattle.sysv_lines.specs.declared.line.Line.{Line}
-use Rattle.sysv_lines.specs.declared.line.Line.TheVariants.{Skipped, Preset, Cred, Start}
+use Rattle.sysv_lines.specs.declared.line.Line.TheVariants as line
 
 abbrev pub text_bytes : Text → List ℕ
 text_bytes (Given bytes) = bytes.now
 text_bytes (Letters count) = replicate count 120
 
-abbrev pub call_asked : Request → Call
-call_asked (Send id mtype flags text) = calls.Send id mtype flags (text_bytes text)
-call_asked (Receive id size mtype flags) = calls.Receive id size mtype flags []
+abbrev pub call_asked : Request → SystemCall
+call_asked (request.Get key flags) = Msgget key flags
+call_asked (request.Send id mtype flags text) = Msgsnd id mtype flags (text_bytes text)
+call_asked (request.Receive id size mtype flags) = Msgrcv id size mtype flags
+call_asked (request.Stat id) = MsgctlStat id
+call_asked (request.Set id to) = MsgctlSet id to
+call_asked (request.Remove id) = MsgctlRmid id
 
 abbrev pub said_of : Line → Said
-said_of Skipped = Nothing
-said_of Preset = MakesPreset
-said_of (Cred actor cred) = GivesCred actor cred
-said_of (Start actor request) = Starts actor (call_asked request)
+said_of line.Skipped = Nothing
+said_of line.Preset = MakesPreset
+said_of (line.Pool blocks) = GivesBlocks blocks
+said_of (line.Cred actor cred) = GivesCred actor cred
+said_of (line.Moment moment) = GivesMoment moment
+said_of (line.Start actor request goes) = Starts actor (call_asked request) goes
+said_of (line.Step actor) = StepsOnce actor
+said_of (line.Go actor) = Continues actor
+said_of line.All = AllContinue
 
-abbrev pub IsOfActors : ℕ → Type 0
-IsOfActors actor = (1 ≤ actor) × (actor ≤ SCRIPT_ACTORS)
+pub record IsOfActors (actor : ℕ) : Type 0 where
+  pub least : 1 ≤ actor
+  pub most : actor ≤ SCRIPT_ACTORS
+
+pub record IsPoolSize (blocks : ℕ) : Type 0 where
+  pub least : BLOCKS_LEAST ≤ blocks
+  pub most : blocks ≤ BLOCKS_MOST
 
 -- A text fits a message's body.
 abbrev pub FitsBody : Text → Type 0
 FitsBody text = length (text_bytes text) ≤ BODY_ROOM
 
 abbrev pub RequestFits : Request → Type 0
-RequestFits (Send id mtype flags text) = FitsBody text
-RequestFits (Receive id size mtype flags) = ⊤
+RequestFits (request.Send id mtype flags text) = FitsBody text
+RequestFits (request.Get key flags) = ⊤
+RequestFits (request.Receive id size mtype flags) = ⊤
+RequestFits (request.Stat id) = ⊤
+RequestFits (request.Set id to) = ⊤
+RequestFits (request.Remove id) = ⊤
 
--- An actor is one of 16, and the text of a call fits a body.
+-- An actor is one of 16, the text of a call fits a body, and the blocks are as many as a pool can have.
 abbrev pub LineFits : Line → Type 0
-LineFits Skipped = ⊤
-LineFits Preset = ⊤
-LineFits (Cred actor cred) = IsOfActors actor
-LineFits (Start actor request) = IsOfActors actor × RequestFits request
+LineFits line.Skipped = ⊤
+LineFits line.Preset = ⊤
+LineFits (line.Pool blocks) = IsPoolSize blocks
+LineFits (line.Cred actor cred) = IsOfActors actor
+LineFits (line.Moment moment) = ⊤
+LineFits (line.Start actor request goes) = IsOfActors actor × RequestFits request
+LineFits (line.Step actor) = IsOfActors actor
+LineFits (line.Go actor) = IsOfActors actor
+LineFits line.All = ⊤

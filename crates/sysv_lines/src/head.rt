@@ -1,79 +1,15 @@
 //! The lines that a script prints.
 ghost use Rattle.std.specs.Prelude.{◌≡◌, ℕ, List, Some};
-ghost use Rattle.sysv_steps.specs.State.{Goes};
-ghost use Rattle.sysv_steps.specs.Seen.{phase_of};
+ghost use Rattle.sysv_steps.specs.State.{Goes, Waits};
+ghost use Rattle.sysv_steps.specs.Seen.{phase_of, wait_of};
 ghost use Rattle.sysv_lines.specs.Names.{standing_text};
-ghost use Rattle.sysv_lines.specs.Heads.{operation_name, step_name, told_text, head_text};
+ghost use Rattle.sysv_lines.specs.Heads.{head_text};
 
+use crate::names::{Operation, Step};
+use crate::told::Told;
 use std::fmt;
-use sysv_model::errno::Errno;
 use sysv_steps::state::Phase;
-
-/// The kind of a call, as a script names it.
-#[derive(Clone, Copy)]
-pub enum Operation {
-    /// `msgsnd`.
-    Send,
-    /// `msgrcv`.
-    Receive,
-}
-
-impl fmt::Display for Operation {
-    ghost output = { λ operation. Some (operation_name operation) };
-
-    fn fmt<W: fmt::Write>(&self, f: &mut fmt::Formatter<W>) -> fmt::Result {
-        f.write_str(match self {
-            Operation::Send => "snd",
-            Operation::Receive => "rcv",
-        })
-    }
-}
-
-/// The step before which a call stands, as a script names it.
-#[derive(Clone, Copy)]
-pub enum Step {
-    /// A send looks whether its text would fit.
-    Look,
-    /// A send puts its text on the queue.
-    Place,
-    /// A receive takes a message.
-    Take,
-}
-
-impl fmt::Display for Step {
-    ghost output = { λ step. Some (step_name step) };
-
-    fn fmt<W: fmt::Write>(&self, f: &mut fmt::Formatter<W>) -> fmt::Result {
-        f.write_str(match self {
-            Step::Look => "look",
-            Step::Place => "place",
-            Step::Take => "take",
-        })
-    }
-}
-
-/// How a call was answered.
-#[derive(Clone, Copy)]
-pub enum Told {
-    /// It succeeded and has nothing to tell.
-    Zero,
-    /// A receive succeeded; its message's text, which has this length, follows.
-    Got { len: usize, mtype: i64 },
-    /// It was refused.
-    Refused(Errno),
-}
-
-impl fmt::Display for Told {
-    ghost output = { λ told. Some (told_text told) };
-
-    fn fmt<W: fmt::Write>(&self, f: &mut fmt::Formatter<W>) -> fmt::Result {
-        match self {
-            Told::Zero => f.write_str("= 0"),
-            Told::Got { len, mtype } => write!(f, "= {len} type {mtype} ="),
-            Told::Refused(why) => write!(f, "! {why}"),
-        }
-    }
-}
+use sysv_steps::wait::Wait;
 
 /// What a line of the output says, up to the bytes of a message.
 #[derive(Clone, Copy)]
@@ -89,6 +25,11 @@ pub enum Head {
         actor: u32,
         operation: Operation,
         step: Step,
+    },
+    /// An actor's call waits for a count.
+    Waits {
+        actor: u32,
+        operation: Operation,
     },
     /// The actor is in a call, and starts no other.
     Busy {
@@ -110,18 +51,23 @@ pub enum Head {
 
 impl Head {
     /// What a line says of an actor whose call stands before the step of `phase`.
-    pub fn at(actor: u32, phase: Phase) -> Head
-        ensures { (text : List ℕ) → head_text result ≡ standing_text actor (Goes (phase_of phase text)) }
+    pub fn at(actor: u32, phase: &Phase) -> Head
+        ensures { (text : List ℕ) → head_text result ≡ standing_text actor (Goes (phase_of phase.now text)) }
     {
-        let (operation, step) = match phase {
-            Phase::Look(_) => (Operation::Send, Step::Look),
-            Phase::Place(_) => (Operation::Send, Step::Place),
-            Phase::Take(_) => (Operation::Receive, Step::Take),
-        };
         Head::At {
             actor,
-            operation,
-            step,
+            operation: Operation::of_phase(phase),
+            step: Step::of_phase(phase),
+        }
+    }
+
+    /// What a line says of an actor whose call waits.
+    pub fn waits(actor: u32, wait: Wait) -> Head
+        ensures { (text : List ℕ) → head_text result ≡ standing_text actor (Waits (wait_of wait text)) }
+    {
+        Head::Waits {
+            actor,
+            operation: Operation::of_wait(wait),
         }
     }
 }
@@ -141,6 +87,7 @@ impl fmt::Display for Head {
                 operation,
                 step,
             } => write!(f, "{actor} {operation} at {step}"),
+            Head::Waits { actor, operation } => write!(f, "{actor} {operation} waits"),
             Head::Busy { actor } => write!(f, "{actor} busy"),
             Head::Idle { actor } => write!(f, "{actor} idle"),
             Head::Worn { actor } => write!(f, "{actor} worn"),

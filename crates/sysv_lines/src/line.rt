@@ -1,22 +1,16 @@
 //! What a line of a script says.
-ghost use Rattle.std.specs.Prelude.{◌≡◌, ◌≤◌, ◌++◌, ℕ, List, pos, length, codes, IfSome, MatchOption};
-ghost use Rattle.std.specs.Option.{SomeIff};
-ghost use Rattle.std.specs.Int.{w32};
-ghost use Rattle.std.specs.Int.RustNames.{FitsSigned};
+ghost use Rattle.std.specs.Prelude.{ℕ, codes, IfSome, MatchOption};
+ghost use Rattle.sysv_steps.specs.Call.{SystemCall};
 ghost use Rattle.sysv_lines.specs.Said.{Said};
-ghost use Rattle.sysv_lines.specs.Lines.{SaysText, SaysCall, SaysStart, NamesCred, Says, Tells};
-ghost use Rattle.sysv_lines.specs.SaidBy.{FitsBody, RequestFits, LineFits, IsOfActors, said_of, call_asked, text_bytes};
-ghost use Rattle.sysv_core.specs.declared.event.Call.{Call};
-ghost use Rattle.sysv_lines.specs.Words.{IsNumber, IsUnsigned, IsActor, IsLetters, number_in};
+ghost use Rattle.sysv_lines.specs.Lines.{OrderNamed, SaysStart, TellsAlone, TellsInWords, Says};
+ghost use Rattle.sysv_lines.specs.SaidBy.{IsOfActors, RequestFits, LineFits, call_asked, said_of};
 
-use crate::flags::flags_of;
-use crate::word::{four_words, number, three_words};
+use crate::actor::Actor;
+use crate::blocks::Blocks;
+use crate::request::{Request, request_of};
 use sysv_model::cred::Cred;
-use sysv_model::flags::Flags;
-use sysv_model::limits::BODY_ROOM;
-
-/// The actors of a script count from 1 to this.
-pub const SCRIPT_ACTORS: u32 = 16;
+use sysv_words::reads::{Reads, first};
+use sysv_words::word::split_at_mark;
 
 /// The most bytes that a line may have, its LF not counted.
 pub const LINE_BYTES: usize = 9000;
@@ -26,45 +20,40 @@ pub const LINE_BYTES: usize = 9000;
 pub enum Line<'a> {
     /// A comment, or nothing.
     Skipped,
+    /// `pool`: how many blocks the pool has.
+    Pool {
+        blocks: u32,
+    },
     /// `preset`: makes the private queue 0.
     Preset,
     /// `as`: the credentials of the calls that an actor starts from then on.
-    Cred { actor: u32, cred: Cred },
-    /// An actor starts a call.
-    Start { actor: u32, request: Request<'a> },
-}
-
-/// The call that a line starts.
-#[derive(Clone, Copy)]
-pub enum Request<'a> {
-    /// `snd`: a send.
-    Send {
-        id: i32,
-        mtype: i64,
-        flags: Flags,
-        text: Text<'a>,
+    Cred {
+        actor: u32,
+        cred: Cred,
     },
-    /// `rcv`: a receive.
-    Receive {
-        id: i32,
-        size: u32,
-        mtype: i64,
-        flags: Flags,
+    /// `now`: the moment of later steps, in seconds.
+    Moment(u64),
+    /// An actor starts a call, which goes on at once or, behind a `+`, stays before its first step.
+    Start {
+        actor: u32,
+        request: Request<'a>,
+        goes: bool,
     },
-}
-
-/// The text of a message, at most 8,256 bytes.
-#[derive(Clone, Copy)]
-pub enum Text<'a> {
-    /// These bytes.
-    Given(&'a [u8]),
-    /// That many letters x.
-    Letters(usize),
+    /// `step`: an actor makes one step of its call.
+    Step {
+        actor: u32,
+    },
+    /// `go`: an actor's call goes on.
+    Go {
+        actor: u32,
+    },
+    /// `all`: each call under way goes on.
+    All,
 }
 
 /// What a line says; `None` where it is none of the language's.
 pub fn line_of(line: &[u8]) -> Option<Line<'_>>
-    ensures says { MatchOption result ((said : Said) → Says line.now said → ⊥) (λ understood. Says line.now (said_of understood)) }
+    ensures says { MatchOption result ((said : Said) → ¬ Says line.now said) (λ understood. Says line.now (said_of understood)) }
     ensures fits { IfSome result LineFits }
 {
     if line.len() > LINE_BYTES {
@@ -72,130 +61,125 @@ pub fn line_of(line: &[u8]) -> Option<Line<'_>>
     }
     match line {
         [] | [b'#', ..] => Some(Line::Skipped),
-        b"preset" => Some(Line::Preset),
-        [b'a', b's', b' ', words @ ..] => cred_of(words),
-        _ => start_of(line),
+        [b'+', words @ ..] => {
+            let (actor, request) = start_of(words)?;
+            Some(Line::Start {
+                actor,
+                request,
+                goes: false,
+            })
+        }
+        _ => words_of(line),
     }
 }
 
-/// `A UID GID PID`, behind `as` and its space: the credentials of actor A.
-fn cred_of(words: &[u8]) -> Option<Line<'_>>
-    ensures says { MatchOption result ((actor : ℕ) (cred : Cred) → NamesCred words.now actor cred → ⊥) (λ understood. Tells (codes "as " ++ words.now) (said_of understood)) }
+/// What a line says that is none to skip, and before which no `+` stands.
+fn words_of(line: &[u8]) -> Option<Line<'_>>
+    ensures says { MatchOption result ((said : Said) → ¬ TellsInWords line.now said) (λ understood. TellsInWords line.now (said_of understood)) }
     ensures fits { IfSome result LineFits }
 {
-    let (actor, uid, gid, pid) = four_words(words)?;
+    let Some((name, words)) = split_at_mark(line, b' ') else {
+        return alone(line);
+    };
+    if let Some(order) = order_of(name, words) {
+        return Some(order);
+    }
+    let (actor, request) = start_of(line)?;
+    Some(Line::Start {
+        actor,
+        request,
+        goes: true,
+    })
+}
+
+/// A line of one word.
+fn alone(word: &[u8]) -> Option<Line<'_>>
+    ensures says { MatchOption result ((said : Said) → ¬ TellsAlone word.now said) (λ understood. TellsAlone word.now (said_of understood)) }
+    ensures fits { IfSome result LineFits }
+{
+    if word == b"preset".as_slice() {
+        Some(Line::Preset)
+    } else if word == b"all".as_slice() {
+        Some(Line::All)
+    } else {
+        None
+    }
+}
+
+/// The order of this name that the arguments give.
+fn order_of<'a>(name: &[u8], arguments: &'a [u8]) -> Option<Line<'a>>
+    ensures says { MatchOption result ((said : Said) → ¬ OrderNamed name.now arguments.now said) (λ order. OrderNamed name.now arguments.now (said_of order)) }
+    ensures fits { IfSome result LineFits }
+{
+    if name == b"pool".as_slice() {
+        pool_of(arguments)
+    } else if name == b"as".as_slice() {
+        cred_of(arguments)
+    } else if name == b"now".as_slice() {
+        moment_of(arguments)
+    } else if name == b"step".as_slice() {
+        step_of(arguments)
+    } else if name == b"go".as_slice() {
+        go_of(arguments)
+    } else {
+        None
+    }
+}
+
+/// `N`, the blocks of the pool.
+fn pool_of(arguments: &[u8]) -> Option<Line<'_>>
+    ensures says { MatchOption result ((said : Said) → ¬ OrderNamed (codes "pool") arguments.now said) (λ order. OrderNamed (codes "pool") arguments.now (said_of order)) }
+    ensures fits { IfSome result LineFits }
+{
+    let Blocks(blocks) = Blocks::read(arguments)?;
+    Some(Line::Pool { blocks })
+}
+
+/// `ACTOR UID GID PID`.
+fn cred_of(arguments: &[u8]) -> Option<Line<'_>>
+    ensures says { MatchOption result ((said : Said) → ¬ OrderNamed (codes "as") arguments.now said) (λ order. OrderNamed (codes "as") arguments.now (said_of order)) }
+    ensures fits { IfSome result LineFits }
+{
+    let (Actor(actor), (uid, (gid, pid))) = <(Actor, (u32, (u32, u32)))>::read(arguments)?;
     Some(Line::Cred {
-        actor: actor_of(actor)?,
-        cred: Cred {
-            uid: unsigned(uid)?,
-            gid: unsigned(gid)?,
-            pid: unsigned(pid)?,
-        },
+        actor,
+        cred: Cred { uid, gid, pid },
     })
 }
 
-/// `A snd ..` and `A rcv ..`: a call of actor A.
-fn start_of(line: &[u8]) -> Option<Line<'_>>
-    ensures says { MatchOption result ((actor : ℕ) (call : Call) → SaysStart line.now actor call → ⊥) (λ understood. Tells line.now (said_of understood)) }
+/// `T`.
+fn moment_of(arguments: &[u8]) -> Option<Line<'_>>
+    ensures says { MatchOption result ((said : Said) → ¬ OrderNamed (codes "now") arguments.now said) (λ order. OrderNamed (codes "now") arguments.now (said_of order)) }
     ensures fits { IfSome result LineFits }
 {
-    let (actor, operation, words) = three_words(line)?;
-    let actor = actor_of(actor)?;
-    let request = request_of(operation, words)?;
-    Some(Line::Start { actor, request })
+    let moment = u64::read(arguments)?;
+    Some(Line::Moment(moment))
 }
 
-/// The call that an operation and the words behind it ask for.
-fn request_of<'a>(operation: &[u8], words: &'a [u8]) -> Option<Request<'a>>
-    ensures says { MatchOption result ((call : Call) → SaysCall operation.now words.now call → ⊥) (λ request. SaysCall operation.now words.now (call_asked request)) }
-    ensures fits { IfSome result RequestFits }
+/// `ACTOR`, of which one step is asked.
+fn step_of(arguments: &[u8]) -> Option<Line<'_>>
+    ensures says { MatchOption result ((said : Said) → ¬ OrderNamed (codes "step") arguments.now said) (λ order. OrderNamed (codes "step") arguments.now (said_of order)) }
+    ensures fits { IfSome result LineFits }
 {
-    match operation {
-        b"snd" => send_of(words),
-        b"rcv" => receive_of(words),
-        _ => None,
-    }
+    let Actor(actor) = Actor::read(arguments)?;
+    Some(Line::Step { actor })
 }
 
-/// `ID MTYPE FLAGS BODY`.
-fn send_of(words: &[u8]) -> Option<Request<'_>>
-    ensures says { MatchOption result ((call : Call) → SaysCall (codes "snd") words.now call → ⊥) (λ request. SaysCall (codes "snd") words.now (call_asked request)) }
-    ensures fits { IfSome result RequestFits }
+/// `ACTOR`, whose call is to go on.
+fn go_of(arguments: &[u8]) -> Option<Line<'_>>
+    ensures says { MatchOption result ((said : Said) → ¬ OrderNamed (codes "go") arguments.now said) (λ order. OrderNamed (codes "go") arguments.now (said_of order)) }
+    ensures fits { IfSome result LineFits }
 {
-    let (id, mtype, flags, body) = four_words(words)?;
-    Some(Request::Send {
-        id: identifier_of(id)?,
-        mtype: number(mtype)?,
-        flags: flags_of(flags)?,
-        text: text_of(body)?,
-    })
+    let Actor(actor) = Actor::read(arguments)?;
+    Some(Line::Go { actor })
 }
 
-/// `ID SIZE MTYPE FLAGS`.
-fn receive_of(words: &[u8]) -> Option<Request<'_>>
-    ensures says { MatchOption result ((call : Call) → SaysCall (codes "rcv") words.now call → ⊥) (λ request. SaysCall (codes "rcv") words.now (call_asked request)) }
-    ensures fits { IfSome result RequestFits }
+/// An actor, and the call that it starts.
+fn start_of(words: &[u8]) -> Option<(u32, Request<'_>)>
+    ensures says { MatchOption result ((who : ℕ) (asked : SystemCall) → ¬ SaysStart words.now who asked) (λ start. SaysStart words.now start.0 (call_asked start.1)) }
+    ensures fits { IfSome result (λ start. IsOfActors start.0 × RequestFits start.1) }
 {
-    let (id, size, mtype, flags) = four_words(words)?;
-    Some(Request::Receive {
-        id: identifier_of(id)?,
-        size: unsigned(size)?,
-        mtype: number(mtype)?,
-        flags: flags_of(flags)?,
-    })
-}
-
-/// The identifier of a queue.
-fn identifier_of(word: &[u8]) -> Option<i32>
-    ensures { SomeIff result (IsNumber word.now × FitsSigned w32 (number_in word.now)) (number_in word.now) }
-{
-    match number(word) {
-        Some(identifier) => i32::try_from(identifier).ok(),
-        None => None,
-    }
-}
-
-/// A number from 0 to 2^32 - 1.
-fn unsigned(word: &[u8]) -> Option<u32>
-    ensures { MatchOption result (¬ (IsNumber word.now × IsUnsigned (number_in word.now)))
-        (λ value. IsNumber word.now × (number_in word.now ≡ pos value)) }
-{
-    match number(word) {
-        Some(value) => u32::try_from(value).ok(),
-        None => None,
-    }
-}
-
-/// An actor's number, 1 to 16.
-fn actor_of(word: &[u8]) -> Option<u32>
-    ensures { MatchOption result (¬ (IsNumber word.now × IsActor (number_in word.now)))
-        (λ actor. IsNumber word.now × (number_in word.now ≡ pos actor) × IsOfActors actor) }
-{
-    match unsigned(word) {
-        Some(actor) if actor >= 1 && actor <= SCRIPT_ACTORS => Some(actor),
-        _ => None,
-    }
-}
-
-/// `=` and the text itself, or `*N` for N letters x.
-fn text_of(body: &[u8]) -> Option<Text<'_>>
-    ensures says { MatchOption result ((text : List ℕ) → SaysText body.now text → ⊥) (λ said. SaysText body.now (text_bytes said)) }
-    ensures fits { IfSome result FitsBody }
-{
-    match body {
-        [b'=', text @ ..] if text.len() <= BODY_ROOM => Some(Text::Given(text)),
-        [b'*', count @ ..] => Some(Text::Letters(letters_of(count)?)),
-        _ => None,
-    }
-}
-
-/// The number of letters, 0 to 8,256.
-fn letters_of(word: &[u8]) -> Option<usize>
-    ensures { MatchOption result (¬ (IsNumber word.now × IsLetters (number_in word.now)))
-        (λ count. IsNumber word.now × (number_in word.now ≡ pos count) × (count ≤ BODY_ROOM)) }
-{
-    match unsigned(word) {
-        Some(count) if count as usize <= BODY_ROOM => Some(count as usize),
-        _ => None,
-    }
+    let (Actor(actor), words) = first::<Actor>(words)?;
+    let request = request_of(words)?;
+    Some((actor, request))
 }

@@ -1,5 +1,8 @@
-use crate::head::{Head, Operation, Told};
-use crate::line::{Line, Request, Text, line_of};
+use crate::head::Head;
+use crate::line::{Line, line_of};
+use crate::names::Operation;
+use crate::request::{Request, Text};
+use crate::told::Told;
 use bitflags::Flags as _;
 use std::io::Write;
 use sysv_model::errno::Errno;
@@ -8,10 +11,18 @@ use sysv_model::flags::Flags;
 #[test]
 fn a_line_says_what_an_actor_starts(rt: HostRuntime) {
     let said = line_of(b"2 snd -1 9223372036854775807 NOWAIT+0600 =a b");
-    let Some(Line::Start { actor, request }) = said else {
+    let Some(
+        Line::Start {
+            actor,
+            request,
+            goes,
+        },
+    ) = said
+    else {
         panic!(rt; "no start");
     };
     assert_eq!(rt; actor, 2);
+    assert!(rt; goes);
     let Request::Send {
         id,
         mtype,
@@ -33,6 +44,56 @@ fn a_line_says_what_an_actor_starts(rt: HostRuntime) {
     };
     assert_eq!(rt; bytes, b"a b".as_slice());
     assert!(rt; line_of(b"17 snd 0 1 - =").is_none());
+}
+
+#[test]
+fn orders_are_understood(rt: HostRuntime) {
+    assert!(rt;
+        matches!(
+            line_of(b"now 18446744073709551615"),
+            Some(Line::Moment(u64::MAX))
+        )
+    );
+    assert!(rt; matches!(line_of(b"step 16"), Some(Line::Step { actor: 16 })));
+    assert!(rt; matches!(line_of(b"go 01"), Some(Line::Go { actor: 1 })));
+    assert!(rt; matches!(line_of(b"all"), Some(Line::All)));
+    assert!(rt; matches!(line_of(b"pool 128"), Some(Line::Pool { blocks: 128 })));
+    assert!(rt; line_of(b"pool 127").is_none());
+    assert!(rt; line_of(b"pool 65537").is_none());
+    assert!(rt; matches!(line_of(b"as 3 5 6 7"), Some(Line::Cred { actor: 3, .. })));
+    assert!(rt; line_of(b"go 0").is_none());
+    assert!(rt; line_of(b"all ").is_none());
+    assert!(rt; line_of(b"wait 1").is_none());
+}
+
+#[test]
+fn each_call_is_understood(rt: HostRuntime) {
+    let get = line_of(b"+1 get -4 CREAT+0600");
+    let Some(Line::Start { request, goes, .. }) = get else {
+        panic!(rt; "no get");
+    };
+    assert!(rt; !goes);
+    assert!(rt; matches!(request, Request::Get { key: -4, .. }));
+    let Some(Line::Start { request, .. }) = line_of(b"1 set 64 5 6 0640 70000") else {
+        panic!(rt; "no set");
+    };
+    let Request::Set { id, to } = request else {
+        panic!(rt; "no set");
+    };
+    assert_eq!(rt;
+        (id, to.uid, to.gid, to.mode, to.qbytes),
+        (64, 5, 6, 416, 70000)
+    );
+    let Some(Line::Start { request, .. }) = line_of(b"2 rm 7") else {
+        panic!(rt; "no removal");
+    };
+    assert!(rt; matches!(request, Request::Remove { id: 7 }));
+    let Some(Line::Start { request, .. }) = line_of(b"2 stat 8") else {
+        panic!(rt; "no stat");
+    };
+    assert!(rt; matches!(request, Request::Stat { id: 8 }));
+    assert!(rt; line_of(b"1 set 0 1 1 1000 5").is_none());
+    assert!(rt; line_of(b"1 rm 0 ").is_none());
 }
 
 #[test]

@@ -1,25 +1,29 @@
 -- A text prints something in whole: line by line, each of which does something or is bad.
-use Rattle.std.proofs.Common.{◌≡◌, ◌+◌, ◌-◌, ◌≤◌, ◌<◌, ◌⊎◌, ℕ, zero, suc, inl, inr, Bool, true, false, List, [], ◌∷◌, ◌++◌, Option, Some, None, length, get_or, replicate, slice_get, refl, sym, ap, subst, ◌∙◌, arith}
+use Rattle.std.proofs.Common.{◌≡◌, ◌+◌, ◌-◌, ◌≤◌, ◌<◌, ◌⊎◌, ℕ, zero, suc, inl, inr, Bool, true, false, List, [], ◌∷◌, ◌++◌, Option, Some, None, length, get_or, refl, ap, ◌∙◌, arith}
+use Rattle.std.proofs.Common.{subst, if◌then◌else◌}
 use Rattle.std.proofs.lemmas.List.{length-set}
 use Rattle.sysv_model.specs.declared.cred.Cred.{Cred}
-use Rattle.sysv_core.specs.declared.event.Call.{Call}
+use Rattle.std.specs.List.{range_with_len}
+use Rattle.sysv_steps.specs.Call.{SystemCall}
+use Rattle.sysv_lines.specs.declared.names.Operation.{Operation}
 use Rattle.sysv_core.specs.declared.event.Event.{Event}
 use Rattle.sysv_core.specs.declared.event.Event.TheVariants.{Start, Step}
 use Rattle.sysv_core.specs.declared.event.Stepped.{Stepped}
 use Rattle.sysv_core.specs.declared.event.Stepped.TheVariants as stepped
-use Rattle.sysv_core.specs.World.{World, Doing, actor_at, Presets}
-use Rattle.sysv_core.specs.Seen.{AreThere}
+use Rattle.sysv_core.specs.World.{World, actor_at, Presets}
+use Rattle.sysv_core.specs.Sound.{IsSound}
 use Rattle.sysv_core.specs.SomeRun.{SomeStep, SomePreset}
 use Rattle.sysv_streams.specs.Faults.{bad_line_text}
 use Rattle.sysv_lines.specs.Heads.{head_text}
 use Rattle.sysv_lines.specs.declared.head.Head.TheVariants as head
 use Rattle.sysv_lines.specs.Lines.{Says}
-use Rattle.sysv_lines.specs.Said.{Said, Nothing, MakesPreset, GivesCred, Starts}
-use Rattle.sysv_script.specs.ScriptRun.{Scene, opening_scene, first_cred, in_world, cred_at, with_cred, Advances, GoesOn, CallRuns, StartRuns, operation_of, printed}
+use Rattle.sysv_lines.specs.Said.{Said, Nothing, MakesPreset, GivesCred, GivesMoment, Starts, StepsOnce, Continues, AllContinue, GivesBlocks}
+use Rattle.sysv_script.specs.ScriptRun.{Scene, opening_scene, opening_world, begun_scene, first_cred, in_world, cred_at, with_cred, Advances, GoesOn, call_for, most_steps, CallRuns, StartRuns, StepsRun, OneRuns, AllRun, LineRuns, operation_of, under_way, printed}
 use Rattle.sysv_script.specs.ScriptText.{BeginsWith, LineDoes, IsBad, Ending, Whole, BadLine, TooMany, Prints, Ends, Exceeds, Fails, Goes}
 use Rattle.sysv_script.specs.EachText.{EachTextPrints}
 use Rattle.sysv_script.proofs.CredLemmas.{cred_held}
-use Rattle.sysv_lines.specs.OneSplit.{OneSplit}
+use Rattle.sysv_script.proofs.Opening.{OpeningsLegal, opening_sound}
+use Rattle.sysv_words.specs.OneSplit.{OneSplit}
 use Rattle.sysv_lines.specs.OneLine.{EachLineIsDecided}
 
 -- a number is at most another, or above it
@@ -46,9 +50,9 @@ first_line split text some = elim (split.either 10 text) [
 
 -- ---- a line
 
--- each of the 16 actors has credentials, and is idle or in a send or a receive of its own
+-- each of the 16 actors has credentials, and the world is as runs leave it
 abbrev IsManned : Scene → Type 0
-IsManned s = (length s.creds ≡ 16) × AreThere s.world.actors
+IsManned s = (length s.creds ≡ 16) × IsSound s.world
 
 -- the line does something, and leaves a scene of 16 actors
 record LineDone (s : Scene) (line : List ℕ) : Type 0 where
@@ -58,10 +62,10 @@ record LineDone (s : Scene) (line : List ℕ) : Type 0 where
   manned : IsManned after
 
 -- a preset makes the queue, or comes too late
-presets_or_not : (s : Scene) (line : List ℕ) (made : Bool) (after : World) → Presets s.world made after → AreThere after.actors → IsManned s → Says line MakesPreset → LineDone s line ⊎ IsBad s line
+presets_or_not : (s : Scene) (line : List ℕ) (made : Bool) (after : World) → Presets s.world made after → IsSound after → IsManned s → Says line MakesPreset → LineDone s line ⊎ IsBad s line
 presets_or_not s line true after p there manned says =
-    inl (record { out = []; after = in_world s after; does = (MakesPreset, says, (p, refl, refl)); manned = (manned.0, there) })
-presets_or_not s line false after p there manned says = inr (inr (MakesPreset, [], in_world s after, says, (p, refl, refl)))
+    inl (record { out = []; after = in_world (begun_scene s) after; does = (MakesPreset, says, (p, refl, refl)); manned = (manned.0, there) })
+presets_or_not s line false after p there manned says = inr (inr (MakesPreset, [], in_world (begun_scene s) after, says, (p, refl, refl)))
 
 -- the text prints something in whole
 abbrev PrintsWhole : Scene → ℕ → List ℕ → Type 0
@@ -72,79 +76,116 @@ goes_first : (s : Scene) (n : ℕ) (text : List ℕ) (first : FirstLine text) �
 goes_first s n text first few does more =
     (does.out ++ more.0, more.1, Goes s n text first.line first.rest does.out does.after more.0 more.1 few first.begins does.does more.2)
 
-module _ (split : OneSplit) (decided : EachLineIsDecided) (some : SomeStep) (preset : SomePreset) where
-  -- an event leaves a scene with the credentials as they were
-  advances : (s : Scene) (event : Event) → AreThere s.world.actors → (given : Stepped) × (after : Scene) × Advances s event given after × ((after.creds ≡ s.creds) × AreThere after.world.actors)
-  advances s event all =
-      let step = some s.world event all in
+module _ (split : OneSplit) (decided : EachLineIsDecided) (some : SomeStep) (preset : SomePreset) (legal : OpeningsLegal) where
+  -- what is left behind has the credentials as they were, and a sound world
+  abbrev IsKept : Scene → Scene → Type 0
+  IsKept s after = (after.creds ≡ s.creds) × IsSound after.world
+
+  manned_after : (s after : Scene) → IsManned s → IsKept s after → IsManned after
+  manned_after s after manned kept = (ap length kept.0 ∙ manned.0, kept.1)
+
+  -- an event leaves such a scene
+  advances : (s : Scene) (event : Event) → IsSound s.world → (given : Stepped) × (after : Scene) × Advances s event given after × IsKept s after
+  advances s event sound =
+      let step = some s.world event sound in
       (step.0, in_world s step.1, (step.2, refl), (refl, step.3))
 
   -- a call goes on for at most that many steps
-  goes_on : (n : ℕ) (s : Scene) (actor : ℕ) (first : Stepped) → AreThere s.world.actors → (given : Stepped) × (after : Scene) × GoesOn n s actor first given after × ((after.creds ≡ s.creds) × AreThere after.world.actors)
-  goes_on zero s actor stepped.Nothing all = (stepped.Nothing, s, (refl, refl), (refl, all))
-  goes_on zero s actor (stepped.Answer answer) all = (stepped.Answer answer, s, (refl, refl), (refl, all))
-  goes_on zero s actor stepped.Worn all = (stepped.Worn, s, (refl, refl), (refl, all))
-  goes_on (suc n) s actor stepped.Nothing all =
-      let step = advances s (Step actor s.moment) all in
+  goes_on : (n : ℕ) (s : Scene) (actor : ℕ) (first : Stepped) → IsSound s.world → (given : Stepped) × (after : Scene) × GoesOn n s actor first given after × IsKept s after
+  goes_on zero s actor stepped.Nothing sound = (stepped.Nothing, s, (refl, refl), (refl, sound))
+  goes_on zero s actor (stepped.Answer answer) sound = (stepped.Answer answer, s, (refl, refl), (refl, sound))
+  goes_on zero s actor stepped.Worn sound = (stepped.Worn, s, (refl, refl), (refl, sound))
+  goes_on (suc n) s actor stepped.Nothing sound =
+      let step = advances s (Step actor s.moment) sound in
       let more = goes_on n step.1 actor step.0 step.3.1 in
       (more.0, more.1, (step.1, step.0, step.2, more.2), (more.3.0 ∙ step.3.0, more.3.1))
-  goes_on (suc n) s actor (stepped.Answer answer) all = (stepped.Answer answer, s, (refl, refl), (refl, all))
-  goes_on (suc n) s actor stepped.Worn all = (stepped.Worn, s, (refl, refl), (refl, all))
+  goes_on (suc n) s actor (stepped.Answer answer) sound = (stepped.Answer answer, s, (refl, refl), (refl, sound))
+  goes_on (suc n) s actor stepped.Worn sound = (stepped.Worn, s, (refl, refl), (refl, sound))
 
   -- a call of an actor that has credentials runs
-  call_runs : (s : Scene) (actor : ℕ) (call : Call) (cred : Cred) → AreThere s.world.actors → cred_at s.creds actor ≡ Some cred →
-      (given : Stepped) × (after : Scene) × CallRuns s actor call given after × ((after.creds ≡ s.creds) × AreThere after.world.actors)
-  call_runs s actor call cred all held =
-      let start = advances s (Start actor cred call) all in
-      let more = goes_on 16 start.1 actor start.0 start.3.1 in
-      (more.0, more.1, (cred, start.1, start.0, held, start.2, more.2), (more.3.0 ∙ start.3.0, more.3.1))
+  call_runs : (s : Scene) (actor : ℕ) (asked : SystemCall) (goes : Bool) (cred : Cred) → IsSound s.world → cred_at s.creds actor ≡ Some cred →
+      (given : Stepped) × (after : Scene) × CallRuns s actor asked goes given after × IsKept s after
+  call_runs s actor asked goes cred sound held =
+      let start = advances s (Start actor cred (call_for asked)) sound in
+      let more = goes_on (most_steps goes) start.1 actor start.0 start.3.1 in
+      (more.0, more.1, (start.1, start.0, (cred, held, start.2), more.2), (more.3.0 ∙ start.3.0, more.3.1))
 
-  -- a line that starts a call does it, or finds the actor in one
-  start_here : (s : Scene) (line : List ℕ) (actor : ℕ) (call : Call) (o : Option (Option Doing)) → actor_at s.world.actors actor ≡ o → IsManned s → 1 ≤ actor → actor ≤ 16 → Says line (Starts actor call) → LineDone s line
-  start_here s line actor call (Some (Some doing)) at manned least most says = record {
-    out = head_text (head.Busy actor) ++ 10 ∷ [];
-    after = s;
-    does = (Starts actor call, says, (refl, subst (λ o. StartRuns s actor call o (head_text (head.Busy actor) ++ 10 ∷ []) s) (sym at) (refl, refl)));
-    manned = manned;
-  }
-  start_here s line actor call (Some None) at manned least most says =
+  -- what a line of calls prints and leaves
+  abbrev Done : (Scene → List ℕ → Scene → Type 0) → Scene → Type 0
+  Done Runs s = (out : List ℕ) × (after : Scene) × Runs s out after × IsKept s after
+
+  -- a line starts a call, or finds the actor in one
+  start_runs : (s : Scene) (actor : ℕ) (asked : SystemCall) (goes : Bool) (o : Option Operation) → IsManned s → 1 ≤ actor → actor ≤ 16 → Done (λ m out after. StartRuns m actor asked goes o out after) s
+  start_runs s actor asked goes (Some operation) manned least most = (head_text (head.Busy actor) ++ 10 ∷ [], s, (refl, refl), (refl, manned.1))
+  start_runs s actor asked goes None manned least most =
       let cred : Cred = get_or s.creds (actor - 1) (first_cred 0) in
       let held = cred_held s.creds actor (first_cred 0) least (omega (arith, most, manned.0)) in
-      let run = call_runs s actor call cred manned.1 held in
-      let out = printed run.1.world actor (operation_of call) run.0 in
-      record {
-        out = out;
-        after = run.1;
-        does = (Starts actor call, says, (refl, subst (λ o. StartRuns s actor call o out run.1) (sym at) (run.0, run.2, refl)));
-        manned = (ap length run.3.0 ∙ manned.0, run.3.1);
-      }
-  start_here s line actor call None at manned least most says =
-      let cred : Cred = get_or s.creds (actor - 1) (first_cred 0) in
-      let held = cred_held s.creds actor (first_cred 0) least (omega (arith, most, manned.0)) in
-      let run = call_runs s actor call cred manned.1 held in
-      let out = printed run.1.world actor (operation_of call) run.0 in
-      record {
-        out = out;
-        after = run.1;
-        does = (Starts actor call, says, (refl, subst (λ o. StartRuns s actor call o out run.1) (sym at) (run.0, run.2, refl)));
-        manned = (ap length run.3.0 ∙ manned.0, run.3.1);
-      }
+      let run = call_runs s actor asked goes cred manned.1 held in
+      (printed run.1.world actor (operation_of asked) run.0, run.1, (run.0, run.2, refl), run.3)
 
-  start_does : (s : Scene) (line : List ℕ) (actor : ℕ) (call : Call) → IsManned s → 1 ≤ actor → actor ≤ 16 → Says line (Starts actor call) → LineDone s line
-  start_does s line actor call manned least most says = start_here s line actor call (actor_at s.world.actors actor) refl manned least most says
+  steps_run : (n : ℕ) (s : Scene) (actor : ℕ) (o : Option Operation) → IsSound s.world → Done (λ m out after. StepsRun n m actor o out after) s
+  steps_run n s actor None sound = (head_text (head.Idle actor) ++ 10 ∷ [], s, (refl, refl), (refl, sound))
+  steps_run n s actor (Some operation) sound =
+      let run = goes_on n s actor stepped.Nothing sound in
+      (printed run.1.world actor operation run.0, run.1, (run.0, run.2, refl), run.3)
 
-  -- a line that says something does it, or it is a preset that comes too late
+  one_runs : (s : Scene) (actor : ℕ) (o : Option Operation) → IsSound s.world → Done (λ m out after. OneRuns m actor o out after) s
+  one_runs s actor None sound = ([], s, (refl, refl), (refl, sound))
+  one_runs s actor (Some operation) sound = steps_run 16 s actor (Some operation) sound
+
+  all_run : (actors : List ℕ) (s : Scene) → IsSound s.world → Done (λ m out after. AllRun actors m out after) s
+  all_run [] s sound = ([], s, (refl, refl), (refl, sound))
+  all_run (actor ∷ actors) s sound =
+      let one = one_runs s actor (under_way (actor_at s.world.actors actor)) sound in
+      let more = all_run actors one.1 one.3.1 in
+      (one.0 ++ more.0, more.1, (one.1, one.0, more.0, one.2, more.2, refl), (more.3.0 ∙ one.3.0, more.3.1))
+
+  line_done : (s : Scene) (line : List ℕ) (said : Said) (out : List ℕ) (after : Scene) → IsManned s → Says line said → LineRuns s said true out after → IsKept s after → LineDone s line ⊎ IsBad s line
+  line_done s line said out after manned says runs kept = inl (record { out = out; after = after; does = (said, says, runs); manned = manned_after s after manned kept })
+
+  -- the size of the pool is given, or it comes too late
+  pool_goes : (s : Scene) (line : List ℕ) (blocks : ℕ) (fresh : Bool) → fresh ≡ s.fresh → IsManned s → Says line (GivesBlocks blocks) → LineDone s line ⊎ IsBad s line
+  pool_goes s line blocks true e manned says =
+      let after = in_world (begun_scene s) (opening_world blocks) in
+      inl (record {
+        out = [];
+        after = after;
+        does = (GivesBlocks blocks, says, (refl, (e, subst (λ b. after ≡ (if b then after else s)) e refl)));
+        manned = (manned.0, opening_sound blocks (legal blocks));
+      })
+  pool_goes s line blocks false e manned says =
+      let opened = in_world (begun_scene s) (opening_world blocks) in
+      inr (inr (GivesBlocks blocks, [], s, says, (refl, (e, subst (λ b. s ≡ (if b then opened else s)) e refl))))
+
+  -- a line that says something does it, or it is a preset, or a size of the pool, that comes too late
   line_goes : (s : Scene) (line : List ℕ) (said : Said) → IsManned s → Says line said → LineDone s line ⊎ IsBad s line
   line_goes s line Nothing manned says = inl (record { out = []; after = s; does = (Nothing, says, (refl, refl, refl)); manned = manned })
   line_goes s line MakesPreset manned says = let made = preset s.world manned.1 in presets_or_not s line made.0 made.1 made.2 made.3 manned says
+  line_goes s line (GivesBlocks blocks) manned says = pool_goes s line blocks s.fresh (λ i. s.fresh) manned says
   line_goes s line (GivesCred actor cred) manned says =
       inl (record {
         out = [];
-        after = record s { creds = with_cred s.creds actor cred };
+        after = record s { creds = with_cred s.creds actor cred; fresh = false };
         does = (GivesCred actor cred, says, (refl, refl, refl));
         manned = (length-set s.creds (actor - 1) cred ∙ manned.0, manned.1);
       })
-  line_goes s line (Starts actor call) manned says = inl (start_does s line actor call manned says.1.least says.1.most says)
+  line_goes s line (GivesMoment moment) manned says =
+      inl (record { out = []; after = record s { moment = moment; fresh = false }; does = (GivesMoment moment, says, (refl, refl, refl)); manned = manned })
+  line_goes s line (Starts actor asked true) manned says =
+      let run = start_runs (begun_scene s) actor asked true (under_way (actor_at s.world.actors actor)) manned says.1.one.least says.1.one.most in
+      line_done s line (Starts actor asked true) run.0 run.1 manned says (refl, run.2) run.3
+  line_goes s line (Starts actor asked false) manned says =
+      let run = start_runs (begun_scene s) actor asked false (under_way (actor_at s.world.actors actor)) manned says.1.2.one.least says.1.2.one.most in
+      line_done s line (Starts actor asked false) run.0 run.1 manned says (refl, run.2) run.3
+  line_goes s line (StepsOnce actor) manned says =
+      let run = steps_run 1 (begun_scene s) actor (under_way (actor_at s.world.actors actor)) manned.1 in
+      line_done s line (StepsOnce actor) run.0 run.1 manned says (refl, run.2) run.3
+  line_goes s line (Continues actor) manned says =
+      let run = steps_run 16 (begun_scene s) actor (under_way (actor_at s.world.actors actor)) manned.1 in
+      line_done s line (Continues actor) run.0 run.1 manned says (refl, run.2) run.3
+  line_goes s line AllContinue manned says =
+      let run = all_run (range_with_len 1 16) (begun_scene s) manned.1 in
+      line_done s line AllContinue run.0 run.1 manned says (refl, run.2) run.3
 
   -- a line does something, or it is bad
   does_or_bad : (s : Scene) (line : List ℕ) → IsManned s → LineDone s line ⊎ IsBad s line
@@ -170,14 +211,5 @@ module _ (split : OneSplit) (decided : EachLineIsDecided) (some : SomeStep) (pre
         ]
   ]
 
-  none_busy : (n place : ℕ) (d : Doing) → slice_get (replicate n None) place ≡ Some (Some d) → ⊥
-  none_busy zero place d e = cc
-  none_busy (suc n) zero d e = cc
-  none_busy (suc n) (suc place) d e = none_busy n place d e
-
-  -- the 16 actors have credentials at first
-  opening_manned : IsManned opening_scene
-  opening_manned = (refl, λ place d e. absurd (none_busy 16 place d e))
-
   pub each_text_prints : EachTextPrints
-  each_text_prints text = prints_bounded (length text) 1 opening_scene text (omega arith) opening_manned
+  each_text_prints text = prints_bounded (length text) 1 opening_scene text (omega arith) (refl, opening_sound 1024 (legal 1024))

@@ -1,29 +1,22 @@
--- A call of a script under way: where its steps so far have led, and what is left to show.
-use Rattle.std.proofs.Common.{◌≡◌, ℕ, zero, suc, Some, refl, sym, ap, subst, ◌∙◌}
-use Rattle.sysv_core.specs.declared.event.Call.{Call}
-use Rattle.sysv_core.specs.declared.event.Event.TheVariants.{Start, Step}
+-- The steps of an actor's call so far, and what is left to show.
+use Rattle.std.proofs.Common.{◌≡◌, ℕ, zero, suc, refl, sym, subst}
+use Rattle.sysv_core.specs.declared.event.Event.TheVariants.{Step}
 use Rattle.sysv_core.specs.declared.event.Stepped.{Stepped}
 use Rattle.sysv_core.specs.declared.event.Stepped.TheVariants as stepped
-use Rattle.sysv_model.specs.declared.cred.Cred.{Cred}
-use Rattle.sysv_script.specs.ScriptRun.{Scene, cred_at, Advances, GoesOn, CallRuns}
+use Rattle.sysv_script.specs.ScriptRun.{Scene, Advances, GoesOn}
 use Rattle.sysv_script.specs.declared.stage.Stage.{Stage}
 use Rattle.sysv_script.specs.Staged.{IsSceneOf}
 
-pub record GoingOn (start now : Stage) (actor : ℕ) (call : Call) (last : Stepped) (left : ℕ) : Type 0 where
-  pub going : (s : Scene) → IsSceneOf s start → (m : Scene) × IsSceneOf m now × ((given : Stepped) (after : Scene) → GoesOn left m actor last given after → CallRuns s actor call given after)
+-- from what it gave first, with all its steps before it, to what it gave last, with those that are left
+pub record GoingOn (start now : Stage) (actor all : ℕ) (first last : Stepped) (left : ℕ) : Type 0 where
+  pub going : (s : Scene) → IsSceneOf s start → (m : Scene) × IsSceneOf m now × ((given : Stepped) (after : Scene) → GoesOn left m actor last given after → GoesOn all s actor first given after)
 
-pub begins : (start now : Stage) (actor : ℕ) (call : Call) (cred : Cred) (first : Stepped) → cred_at start.creds actor ≡ Some cred →
-    ((s : Scene) → IsSceneOf s start → (after : Scene) × Advances s (Start actor cred call) first after × IsSceneOf after now) → GoingOn start now actor call first 16
-begins start now actor call cred first is step = record {
-  going = λ s seen.
-      let g = step s seen in
-      let held : cred_at s.creds actor ≡ Some cred = ap (λ creds. cred_at creds actor) seen.creds ∙ is in
-      (g.0, g.2, λ given after goes. (cred, g.0, first, held, g.1, goes));
-}
+pub begins : (start : Stage) (actor all : ℕ) (first : Stepped) → GoingOn start start actor all first first all
+begins start actor all first = record { going = λ s seen. (s, seen, λ given after goes. goes) }
 
-pub goes_more : (start now new : Stage) (actor : ℕ) (call : Call) (next : Stepped) (left rest : ℕ) → left ≡ suc rest → GoingOn start now actor call stepped.Nothing left →
-    ((s : Scene) → IsSceneOf s now → (after : Scene) × Advances s (Step actor now.moment) next after × IsSceneOf after new) → GoingOn start new actor call next rest
-goes_more start now new actor call next left rest e on step = record {
+pub goes_more : (start now new : Stage) (actor all : ℕ) (first next : Stepped) (left rest : ℕ) → left ≡ suc rest → GoingOn start now actor all first stepped.Nothing left →
+    ((s : Scene) → IsSceneOf s now → (after : Scene) × Advances s (Step actor now.moment) next after × IsSceneOf after new) → GoingOn start new actor all first next rest
+goes_more start now new actor all first next left rest e on step = record {
   going = λ s seen.
       let g = on.going s seen in
       let h = step g.0 g.1 in
@@ -43,12 +36,12 @@ none_left m actor stepped.Nothing = (refl, refl)
 none_left m actor (stepped.Answer a) = (refl, refl)
 none_left m actor stepped.Worn = (refl, refl)
 
-pub ends_over : (start now : Stage) (actor : ℕ) (call : Call) (last : Stepped) (left : ℕ) → GoingOn start now actor call last left → (last ≡ stepped.Nothing → ⊥) →
-    (s : Scene) → IsSceneOf s start → (after : Scene) × CallRuns s actor call last after × IsSceneOf after now
-ends_over start now actor call last left on f s seen =
+pub ends_over : (start now : Stage) (actor all : ℕ) (first last : Stepped) (left : ℕ) → GoingOn start now actor all first last left → (last ≡ stepped.Nothing → ⊥) →
+    (s : Scene) → IsSceneOf s start → (after : Scene) × GoesOn all s actor first last after × IsSceneOf after now
+ends_over start now actor all first last left on f s seen =
     let g = on.going s seen in (g.0, g.2 last g.0 (over left g.0 actor last f), g.1)
 
-pub ends_none : (start now : Stage) (actor : ℕ) (call : Call) (last : Stepped) (left : ℕ) → left ≡ 0 → GoingOn start now actor call last left →
-    (s : Scene) → IsSceneOf s start → (after : Scene) × CallRuns s actor call last after × IsSceneOf after now
-ends_none start now actor call last left e on s seen =
+pub ends_none : (start now : Stage) (actor all : ℕ) (first last : Stepped) (left : ℕ) → left ≡ 0 → GoingOn start now actor all first last left →
+    (s : Scene) → IsSceneOf s start → (after : Scene) × GoesOn all s actor first last after × IsSceneOf after now
+ends_none start now actor all first last left e on s seen =
     let g = on.going s seen in (g.0, g.2 last g.0 (subst (λ n. GoesOn n g.0 actor last last g.0) (sym e) (none_left g.0 actor last)), g.1)

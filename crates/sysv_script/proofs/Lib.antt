@@ -8,3 +8,7 @@ pub mod FaultLemmas
 pub mod StreamLemmas
 pub mod OneText
 pub mod EachText
+pub mod Kept
+pub mod Ran
+pub mod AllOn
+pub mod Opening

@@ -12,7 +12,7 @@ use Rattle.sysv_streams.specs.Streams.{AppendsPart}
 use Rattle.sysv_streams.specs.Found.{IsNextLine}
 use Rattle.sysv_streams.specs.Faults.{IsFrontOf, IsStreamFault, IsLineFault, EndsAtLine}
 use Rattle.sysv_script.specs.ScriptText.{IsBad, Ending, Whole, BadLine, TooMany, ScriptPrints, WritesScript, WritesAll, WritesFront, WritesAtFault}
-use Rattle.sysv_lines.specs.OneSplit.{OneSplit}
+use Rattle.sysv_words.specs.OneSplit.{OneSplit}
 use Rattle.sysv_script.specs.OneText.{OneText}
 use Rattle.sysv_script.specs.EachText.{EachTextPrints}
 use Rattle.sysv_script.specs.ScriptSofar.{Halt, AtEnd, Before, Runs, IsText, RunsOn, RunsNext, LeavesAll, LeavesFront, LeavesAtFault, Leaves}
@@ -143,7 +143,7 @@ module _ (one : OneText) (each : EachTextPrints) where
   in_whole text old new (AtEnd ending, out, printed, part) = (ending, out, printed, part)
   in_whole text old new (Before, out, printed, part) =
       let all = each text in
-      front_of_part text out all.0 all.1 old new all.2 (one.sofar opening_scene 1 text out all.0 all.1 printed all.2) part
+      front_of_part text out all.0 all.1 old new all.2 (one.sofar opening_scene 1 text out all.0 all.1 one.sound printed all.2) part
 
   fault_out : (fault : ScriptFault) (text : List ℕ) (old mid new : Option (List ℕ)) (composed : List ℕ) → LeavesAtFault fault opening_scene text old mid composed → Appends mid new composed → WritesAtFault fault text old new
   fault_out (Line n) text old mid new composed left all = all_out (BadLine n) text old mid new composed left all

@@ -11,8 +11,8 @@ use Rattle.sysv_script.specs.ScriptRun.{Scene}
 use Rattle.sysv_script.specs.declared.stage.Stage.{Stage}
 use Rattle.sysv_script.specs.Staged.{IsSceneOf}
 use Rattle.std.proofs.lemmas.List.Elements.{Contains-append_cases}
-use Rattle.sysv_lines.specs.Words.{SplitsAt}
-use Rattle.sysv_lines.specs.OneSplit.{OneSplit}
+use Rattle.sysv_words.specs.Words.{SplitsAt}
+use Rattle.sysv_words.specs.OneSplit.{OneSplit}
 use Rattle.sysv_streams.specs.Streams.{AppendsPart, HandsOn, TakesIn}
 use Rattle.sysv_streams.specs.Found.{HasNoEnd, IsFirstLine, IsLastLine, IsNextLine, HasNoLine}
 use Rattle.sysv_streams.specs.Faults.{IsFrontOf, bad_line_text}

@@ -1,6 +1,6 @@
 pub use Rattle.sysv_core.specs.World
 pub use Rattle.sysv_core.specs.Run
-pub use Rattle.sysv_lines.specs.Words
+pub use Rattle.sysv_words.specs.Words
 pub use Rattle.sysv_lines.specs.Heads
 pub use Rattle.sysv_lines.specs.Names
 pub use Rattle.sysv_lines.specs.Said

@@ -5,7 +5,7 @@ use Rattle.std.specs.Io.KnownBytes.{Appends}
 use Rattle.sysv_lines.specs.Said.{Said}
 use Rattle.sysv_script.specs.ScriptRun.{Scene, opening_scene, LineRuns}
 use Rattle.sysv_lines.specs.Lines.{Says}
-use Rattle.sysv_lines.specs.Words.{SplitsAt}
+use Rattle.sysv_words.specs.Words.{SplitsAt}
 use Rattle.sysv_streams.specs.Found.{HasNoEnd}
 use Rattle.sysv_streams.specs.Streams.{AppendsPart}
 use Rattle.sysv_streams.specs.Faults.{bad_line_text}

@@ -9,3 +9,4 @@ pub record IsSceneOf (s : Scene) (stage : Stage) : Type 0 where
   pub world : IsSeenAs s.world stage.world
   pub creds : s.creds ≡ stage.creds
   pub moment : s.moment ≡ stage.moment
+  pub fresh : s.fresh ≡ stage.fresh

@@ -3,14 +3,18 @@
 ghost use Rattle.sysv_script.specs.EachText.{EachTextPrints};
 ghost use Rattle.sysv_script.specs.OneText.{OneText};
 
-use sysv_core::laws::{one_step, some_step};
-use sysv_lines::laws::{each_line_is_decided, one_saying, one_split};
+use sysv_core::laws::{each_world_is_sound, one_step, some_step};
+use sysv_lines::laws::{each_line_is_decided, one_saying};
+use sysv_objects::laws::legal_turns;
+use sysv_words::laws::one_split;
 
 /// From a scene, which is a world and its actors' credentials, a text prints one thing only and ends in
 /// one way, and what it has printed before a line is a prefix of that.
 pub fn one_text()
     ensures { OneText }
 {
+    legal_turns();
+    each_world_is_sound();
     one_step();
     one_saying();
     one_split();
@@ -20,6 +24,7 @@ pub fn one_text()
 pub fn each_text_prints()
     ensures { EachTextPrints }
 {
+    legal_turns();
     some_step();
     each_line_is_decided();
     one_split();

@@ -2,17 +2,23 @@ ghost use Rattle.std.specs.Prelude.{false, ◌≡◌, ◌+◌, ◌<◌, ◌++◌
 ghost use Rattle.std.specs.List.{range_with_len};
 ghost use Rattle.sysv_streams.specs.Faults.{IsFrontOf};
 ghost use Rattle.sysv_lines.specs.Heads.{head_text};
-ghost use Rattle.sysv_script.specs.ScriptRun.{Scene, opening_scene, Advances, LineRuns, StartRuns, CallRuns, printed, standing_line};
+ghost use Rattle.sysv_script.specs.ScriptRun.{Scene, opening_scene, Advances, LineRuns, LineActs, PoolGiven, StartRuns, StartsAs, call_for, GoesOn, StepsRun, OneRuns, AllRun, printed, standing_line};
 ghost use Rattle.sysv_core.specs.World.{actor_at};
-ghost use Rattle.sysv_script.specs.ScriptRun.{first_cred as script_cred, operation_of as call_operation, told_of as outcome_told};
-ghost use Rattle.sysv_lines.specs.SaidBy.{FitsBody, RequestFits, LineFits, IsOfActors, text_bytes, call_asked, said_of};
+ghost use Rattle.sysv_lines.specs.declared.actor.TheConstants.{SCRIPT_ACTORS};
+ghost use Rattle.sysv_script.specs.ScriptRun.{first_cred as script_cred, operation_of as call_operation, told_of as outcome_told, under_way as doing_at, most_steps as steps_at_start};
+ghost use Rattle.sysv_lines.specs.SaidBy.{FitsBody, RequestFits, LineFits, IsOfActors, IsPoolSize, text_bytes, call_asked, said_of};
 ghost use Rattle.sysv_script.specs.Staged.{IsSceneOf};
 
 use std::alloc::Global;
-use sysv_core::event::{Answer, Call, Event, Outcome, Stepped};
+use std::mem;
+use sysv_core::event::{Answer, Call, Event, Outcome, Standing, Stepped};
 use sysv_core::world::World;
-use sysv_lines::head::{Head, Operation, Told};
-use sysv_lines::line::{Line, Request, SCRIPT_ACTORS, Text};
+use sysv_lines::actor::SCRIPT_ACTORS;
+use sysv_lines::head::Head;
+use sysv_lines::line::Line;
+use sysv_lines::names::Operation;
+use sysv_lines::request::{Request, Text};
+use sysv_lines::told::Told;
 use sysv_model::body::Body;
 use sysv_model::cred::Cred;
 use sysv_model::no_memory::NoMemory;
@@ -31,6 +37,8 @@ pub(crate) struct Stage {
     /// The credentials of actor A stand at place A - 1.
     creds: [Cred; SCRIPT_ACTORS as usize],
     moment: u64,
+    /// Every line so far was one that is skipped.
+    fresh: bool,
     spare: Option<Body>,
 }
 
@@ -45,6 +53,7 @@ impl Stage {
             world,
             creds: first_creds(),
             moment: 0,
+            fresh: true,
             spare,
         })
     }
@@ -55,12 +64,14 @@ impl Stage {
             world,
             creds: _creds,
             moment: _moment,
+            fresh: _fresh,
             spare: _spare,
         } = self;
         let _blocks = world.end();
     }
 
-    /// Does what a line says, and composes its answer. `false` for a `preset` that comes too late.
+    /// Does what a line says, and composes what it prints. `false` for a `preset`, or a size of the pool, that
+    /// comes too late.
     pub(crate) fn run(
         &mut self,
         alloc: Global,
@@ -77,50 +88,166 @@ impl Stage {
     {
         match line {
             Line::Skipped => Ok(true),
-            Line::Preset => Ok(self.world.preset()),
-            Line::Cred { actor, cred } => {
-                self.creds[actor as usize - 1] = cred;
-                Ok(true)
-            }
-            Line::Start { actor, request } => {
-                self.start(alloc, actor, request, output)?;
-                Ok(true)
+            Line::Pool { blocks } => self.size_pool(alloc, blocks),
+            _ => {
+                self.fresh = false;
+                self.act(alloc, line, output)
             }
         }
     }
 
-    /// Starts a call of an actor, makes its steps, and composes the line that it prints. An actor in a
-    /// call starts no other.
+    /// Opens the world anew with that many blocks, where every line so far was one that is skipped.
+    fn size_pool(&mut self, alloc: Global, blocks: u32) -> Result<bool, NoMemory>
+        requires { IsPoolSize blocks }
+        ensures { IfOk result (λ understood. (s : Scene) → IsSceneOf s self.old →
+            (after : Scene) × PoolGiven s blocks understood after × IsSceneOf after self.new) }
+    {
+        if !self.fresh {
+            return Ok(false);
+        }
+        let world = World::open(alloc, SCRIPT_ACTORS, blocks).map_err(|_| NoMemory)?;
+        let _blocks = mem::replace(&mut self.world, world).end();
+        self.fresh = false;
+        Ok(true)
+    }
+
+    /// Does what a line says that comes once another was run, and composes what it prints.
+    fn act(
+        &mut self,
+        alloc: Global,
+        line: Line<'_>,
+        output: &mut Output,
+    ) -> Result<bool, NoMemory>
+        requires { LineFits line }
+        ensures runs { IfOk result (λ understood. (s : Scene) → IsSceneOf s self.old →
+            (after : Scene) × (out : List ℕ) × LineActs s (said_of line.entry) understood out after
+            × IsSceneOf after self.new × (output.new ≡ output.old ++ out)) }
+        ensures quiet { IfOk result (λ understood. understood ≡ false → output.new ≡ output.old) }
+        ensures err { OnErr result (IsFrontOf output.new output.old) }
+    {
+        match line {
+            Line::Preset => return Ok(self.world.preset()),
+            Line::Pool { .. } => return Ok(false),
+            Line::Skipped => {}
+            Line::Cred { actor, cred } => self.creds[actor as usize - 1] = cred,
+            Line::Moment(moment) => self.moment = moment,
+            Line::Start {
+                actor,
+                request,
+                goes,
+            } => self.start(alloc, actor, request, goes, output)?,
+            Line::Step { actor } => self.take_on(actor, 1, output)?,
+            Line::Go { actor } => self.take_on(actor, STEPS_MOST, output)?,
+            Line::All => self.take_all_on(output)?,
+        }
+        Ok(true)
+    }
+
+    /// Starts a call of an actor, makes its steps if it is to go on, and composes the line that it prints.
+    /// An actor in a call starts no other.
     fn start(
         &mut self,
         alloc: Global,
         actor: u32,
         request: Request<'_>,
+        goes: bool,
         output: &mut Output,
     ) -> Result<(), NoMemory>
         requires actor { IsOfActors actor }
         requires fits { RequestFits request }
         ensures runs { OnOk result ((s : Scene) → IsSceneOf s self.old → (after : Scene) × (out : List ℕ)
-            × StartRuns s actor (call_asked request.entry) (actor_at s.world.actors actor) out after
+            × StartRuns s actor (call_asked request.entry) goes (doing_at (actor_at s.world.actors actor)) out after
             × IsSceneOf after self.new × (output.new ≡ output.old ++ out)) }
         ensures err { OnErr result (IsFrontOf output.new output.old) }
     {
-        if let Some(_phase) = self.world.standing(actor) {
+        if let Some(_operation) = self.under_way(actor) {
             return output.tell(Head::Busy { actor });
         }
         let operation = operation_of(request);
         let call = self.call_of(alloc, request)?;
-        let stepped = self.go(actor, call);
-        self.tell(actor, operation, stepped, output)
+        let first = self.begin(actor, call);
+        let given = self.go(actor, first, most_steps(goes));
+        self.tell(actor, operation, given, output)
+    }
+
+    /// Makes at most that many steps of an actor's call, and composes the line that it prints.
+    fn take_on(&mut self, actor: u32, steps: u32, output: &mut Output) -> Result<(), NoMemory>
+        ensures runs { OnOk result ((s : Scene) → IsSceneOf s self.old → (after : Scene) × (out : List ℕ)
+            × StepsRun steps s actor (doing_at (actor_at s.world.actors actor)) out after
+            × IsSceneOf after self.new × (output.new ≡ output.old ++ out)) }
+        ensures err { OnErr result (output.new ≡ []) }
+    {
+        match self.under_way(actor) {
+            Some(operation) => self.go_on(actor, operation, steps, output),
+            None => output.tell(Head::Idle { actor }),
+        }
+    }
+
+    /// Takes each call under way on, in the order of the actors.
+    fn take_all_on(&mut self, output: &mut Output) -> Result<(), NoMemory>
+        ensures runs { OnOk result ((s : Scene) → IsSceneOf s self.old → (after : Scene) × (out : List ℕ)
+            × AllRun (range_with_len 1 SCRIPT_ACTORS) s out after
+            × IsSceneOf after self.new × (output.new ≡ output.old ++ out)) }
+        ensures err { OnErr result (IsFrontOf output.new output.old) }
+    {
+        for actor in 1..SCRIPT_ACTORS + 1 {
+            self.take_one_on(actor, output)?;
+        }
+        Ok(())
+    }
+
+    /// Takes the call of an actor on, if it is in one.
+    fn take_one_on(&mut self, actor: u32, output: &mut Output) -> Result<(), NoMemory>
+        ensures runs { OnOk result ((s : Scene) → IsSceneOf s self.old → (after : Scene) × (out : List ℕ)
+            × OneRuns s actor (doing_at (actor_at s.world.actors actor)) out after
+            × IsSceneOf after self.new × (output.new ≡ output.old ++ out)) }
+        ensures err { OnErr result (output.new ≡ []) }
+    {
+        match self.under_way(actor) {
+            Some(operation) => self.go_on(actor, operation, STEPS_MOST, output),
+            None => Ok(()),
+        }
+    }
+
+    /// Makes at most that many steps of an actor's call, which is of this kind, and composes the line that
+    /// it prints.
+    fn go_on(
+        &mut self,
+        actor: u32,
+        operation: Operation,
+        steps: u32,
+        output: &mut Output,
+    ) -> Result<(), NoMemory>
+        ensures runs { OnOk result ((s : Scene) → IsSceneOf s self.old → (after : Scene) × (out : List ℕ)
+            × StepsRun steps s actor (Some operation) out after
+            × IsSceneOf after self.new × (output.new ≡ output.old ++ out)) }
+        ensures err { OnErr result (output.new ≡ []) }
+    {
+        let given = self.go(actor, Stepped::Nothing, steps);
+        self.tell(actor, operation, given, output)
+    }
+
+    /// The kind of the call that an actor is in, if it is in one.
+    fn under_way(&self, actor: u32) -> Option<Operation>
+        ensures { (s : Scene) → IsSceneOf s self.now → result ≡ doing_at (actor_at s.world.actors actor) }
+    {
+        match self.world.standing(actor)? {
+            Standing::At(phase) => Some(Operation::of_phase(phase)),
+            Standing::Waits(wait) => Some(Operation::of_wait(*wait)),
+        }
     }
 
     /// The call that a request asks for, with a body of its own.
     fn call_of(&mut self, alloc: Global, request: Request<'_>) -> Result<Call, NoMemory>
         requires { RequestFits request }
-        ensures call { IfOk result (λ call. call ≡ call_asked request.entry) }
+        ensures call { IfOk result (λ call. call ≡ call_for (call_asked request.entry)) }
         ensures kept { self.new ≡ record self.old { spare = self.new.spare } }
     {
         match request {
+            Request::Get { key, flags } => Ok(Call::Get { key, flags }),
+            Request::Stat { id } => Ok(Call::Stat { id }),
+            Request::Set { id, to } => Ok(Call::Set { id, to }),
+            Request::Remove { id } => Ok(Call::Remove { id }),
             Request::Send {
                 id,
                 mtype,
@@ -167,24 +294,32 @@ impl Stage {
         }
     }
 
-    /// Starts a call, and makes its steps up to the answer.
-    fn go(&mut self, actor: u32, call: Call) -> Stepped
+    /// Starts a call with the credentials that the actor has now.
+    fn begin(&mut self, actor: u32, call: Call) -> Stepped
         requires { IsOfActors actor }
         ensures { (s : Scene) → IsSceneOf s self.old →
-            (after : Scene) × CallRuns s actor call result after × IsSceneOf after self.new }
+            (after : Scene) × StartsAs s actor call result after × IsSceneOf after self.new }
     {
         let cred = self.creds[actor as usize - 1];
-        let mut stepped = self.step(Event::Start { actor, cred, call });
-        for _ in 0..STEPS_MOST {
-            match stepped {
+        self.step(Event::Start { actor, cred, call })
+    }
+
+    /// Makes at most that many steps of a call, after what it gave last, up to its answer.
+    fn go(&mut self, actor: u32, last: Stepped, steps: u32) -> Stepped
+        ensures { (s : Scene) → IsSceneOf s self.old →
+            (after : Scene) × GoesOn steps s actor last result after × IsSceneOf after self.new }
+    {
+        let mut given = last;
+        for _ in 0..steps {
+            match given {
                 Stepped::Nothing => {
                     let now = self.moment;
-                    stepped = self.step(Event::Step { actor, now });
+                    given = self.step(Event::Step { actor, now });
                 }
                 _ => break,
             }
         }
-        stepped
+        given
     }
 
     /// Lets one event happen in the world.
@@ -234,7 +369,8 @@ impl Stage {
         ensures { (s : Scene) → IsSceneOf s self.now → head_text result ++ 10 ∷ [] ≡ standing_line actor (actor_at s.world.actors actor) }
     {
         match self.world.standing(actor) {
-            Some(phase) => Head::at(actor, phase),
+            Some(Standing::At(phase)) => Head::at(actor, phase),
+            Some(Standing::Waits(wait)) => Head::waits(actor, *wait),
             None => Head::Idle { actor },
         }
     }
@@ -292,12 +428,23 @@ fn first_cred(actor: u32) -> Cred
     }
 }
 
+/// How many steps a call makes at the line that starts it.
+fn most_steps(goes: bool) -> u32
+    ensures { result ≡ steps_at_start goes }
+{
+    if goes { STEPS_MOST } else { 0 }
+}
+
 fn operation_of(request: Request<'_>) -> Operation
     ensures { result ≡ call_operation (call_asked request.entry) }
 {
     match request {
+        Request::Get { .. } => Operation::Get,
         Request::Send { .. } => Operation::Send,
         Request::Receive { .. } => Operation::Receive,
+        Request::Stat { .. } => Operation::Stat,
+        Request::Set { .. } => Operation::Set,
+        Request::Remove { .. } => Operation::Remove,
     }
 }
 
@@ -305,8 +452,10 @@ fn told_of(outcome: Outcome) -> Told
     ensures { result ≡ outcome_told outcome }
 {
     match outcome {
+        Outcome::Id(id) => Told::Id(id),
         Outcome::Zero => Told::Zero,
         Outcome::Got { mtype, len } => Told::Got { len, mtype },
+        Outcome::Stat(stat) => Told::Stat(stat),
         Outcome::Refused(why) => Told::Refused(why),
     }
 }

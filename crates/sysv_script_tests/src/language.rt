@@ -35,7 +35,7 @@ fn lettered(alloc: Global, start: &[u8], letters: usize) -> Result<Vec<u8>, Fail
     Ok(line)
 }
 
-const BAD: [&[u8]; 77] = [
+const BAD: [&[u8]; 101] = [
     b"hello",
     b"preset ",
     b" preset",
@@ -46,8 +46,36 @@ const BAD: [&[u8]; 77] = [
     b" ",
     b" # no comment",
     b"pool 128",
-    b"go 1",
-    b"all",
+    b"go",
+    b"go 0",
+    b"go 1 ",
+    b"all ",
+    b"all 1",
+    b"step",
+    b"step 17",
+    b"now",
+    b"now -1",
+    b"now 18446744073709551616",
+    b"+",
+    b"+ 1 rm 0",
+    b"++1 rm 0",
+    b"+go 1",
+    b"1 get",
+    b"1 get 4",
+    b"1 get 4 CREAT+0600 ",
+    b"1 get 2147483648 -",
+    b"1 rm",
+    b"1 rm 0 ",
+    b"1 stat -",
+    b"1 set 0 1 1 600",
+    b"1 set 0 1 1 1000 5",
+    b"1 set 0 1 1 00600 5",
+    b"1 set 0 1 1 608 5",
+    b"1 set 0 -1 1 600 5",
+    b"pool",
+    b"pool 127",
+    b"pool 65537",
+    b"pool 128 ",
     b"as",
     b"as 1",
     b"as 1 2 3",
@@ -60,10 +88,6 @@ const BAD: [&[u8]; 77] = [
     b"as 1 1 1 +1",
     b"AS 1 1 1 1",
     b"as 1 1 1 1 1",
-    b"now 5",
-    b"1 get 4 CREAT+0600",
-    b"1 rm 0",
-    b"+1 snd 0 1 NOWAIT =a",
     b"snd",
     b"snd 0 1 NOWAIT =a",
     b"1",
@@ -139,7 +163,23 @@ fn names_bad_lines(rt: HostRuntime) -> Result<(), Fail> {
     Ok(())
 }
 
-const ANSWERED: [(&[u8], &[u8]); 39] = [
+const ANSWERED: [(&[u8], &[u8]); 49] = [
+    (b"go 1", b"1 idle\n"),
+    (b"step 16", b"16 idle\n"),
+    (b"all", b""),
+    (b"now 18446744073709551615", b""),
+    (b"+1 snd 0 1 NOWAIT =a", b"1 snd at look\n"),
+    (
+        b"+1 rcv 0 9 0 -\n1 stat 0\nstep 1\nstep 1\ngo 1",
+        b"1 rcv at take\n1 busy\n1 rcv waits\n1 rcv waits\n1 rcv waits\n",
+    ),
+    (b"1 get -4 -", b"1 get ! ENOENT\n"),
+    (b"1 get 4 CREAT+0600", b"1 get = 1\n"),
+    (b"1 rm -1", b"1 rm ! EINVAL\n"),
+    (
+        b"1 set 0 1000 1000 7 16384\n1 snd 0 1 - =a",
+        b"1 set = 0\n1 snd ! EACCES\n",
+    ),
     (b"", b""),
     (b"# preset", b""),
     (b"as 1 0 0 1", b""),

@@ -1,20 +1,14 @@
-use Rattle.std.proofs.Common.{[], sym, refl, ap}
-use Rattle.std.proofs.lemmas.List.{append-nil}
-use Rattle.sysv_script.specs.ScriptRun.{with_cred, in_world}
+use Rattle.sysv_script.proofs.StreamLemmas.{OnErr-from}
+use Rattle.sysv_script.proofs.Ran.{acted}
+use Rattle.sysv_script.proofs.ScriptEnds.{IsFrontOf-all}
 use Rattle.sysv_script.proofs.stage.Stage.run.Goals as goal
 
-pub returns-in-Preset-clause-runs : goal.returns-in-Preset-clause-runs
-returns-in-Preset-clause-runs c = λ s seen.
-    let made = c.preset.ensures.single s.world seen.world in
-    (in_world s made.0, [], (rw c.in-Preset.is (made.1, refl, refl)), record { world = made.2; creds = seen.creds; moment = seen.moment }, sym (append-nil c.args.output.now))
+pub returns-in-Pool-clause-err : goal.returns-in-Pool-clause-err
+returns-in-Pool-clause-err c = OnErr-from c.size_pool.result (IsFrontOf-all c.args.output.now)
 
-pub returns-in-Cred-clause-runs : goal.returns-in-Cred-clause-runs
-returns-in-Cred-clause-runs c = λ s seen.
-    let actor = c.in-Cred.actor in
-    let cred = c.in-Cred.cred in (
-      record s { creds = with_cred s.creds actor cred },
-      [],
-      (rw c.in-Cred.is (refl, refl, refl)),
-      record { world = seen.world; creds = ap (λ creds. with_cred creds actor cred) seen.creds; moment = seen.moment },
-      sym (append-nil c.args.output.now),
-    )
+pub returns-in_default : goal.returns-in_default
+returns-in_default c = record {
+  runs = acted c.args.line c.act.result c.args.self.now c.act.new.self c.args.output.now c.act.new.output c.in_default.not-Skipped c.in_default.not-Pool c.act.ensures.runs;
+  quiet = c.act.ensures.quiet;
+  err = c.act.ensures.err;
+}

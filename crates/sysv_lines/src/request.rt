@@ -1,0 +1,189 @@
+//! The calls that a line can start.
+ghost use Rattle.std.specs.Prelude.{◌≤◌, ℕ, List, pos, codes, IfSome, MatchOption};
+ghost use Rattle.sysv_words.specs.Words.{IsNumeralOf};
+ghost use Rattle.sysv_steps.specs.Call.{SystemCall};
+ghost use Rattle.sysv_lines.specs.Lines.{SaysText, SaysNamed, SaysCall};
+ghost use Rattle.sysv_lines.specs.SaidBy.{FitsBody, RequestFits, call_asked, text_bytes};
+
+use sysv_model::attributes::SetTo;
+use sysv_model::flags::Flags;
+use sysv_model::limits::BODY_ROOM;
+use sysv_words::octal::Octal;
+use sysv_words::reads::{Reads, first};
+use sysv_words::word::split_at_mark;
+
+/// The call that a line starts.
+#[derive(Clone, Copy)]
+pub enum Request<'a> {
+    /// `get`: msgget.
+    Get {
+        key: i32,
+        flags: Flags,
+    },
+    /// `snd`: msgsnd.
+    Send {
+        id: i32,
+        mtype: i64,
+        flags: Flags,
+        text: Text<'a>,
+    },
+    /// `rcv`: msgrcv.
+    Receive {
+        id: i32,
+        size: u32,
+        mtype: i64,
+        flags: Flags,
+    },
+    /// `stat`: msgctl with IPC_STAT.
+    Stat {
+        id: i32,
+    },
+    /// `set`: msgctl with IPC_SET.
+    Set {
+        id: i32,
+        to: SetTo,
+    },
+    /// `rm`: msgctl with IPC_RMID.
+    Remove {
+        id: i32,
+    },
+}
+
+/// The text of a message, at most 8,256 bytes.
+#[derive(Clone, Copy)]
+pub enum Text<'a> {
+    /// These bytes.
+    Given(&'a [u8]),
+    /// That many letters x.
+    Letters(usize),
+}
+
+/// The call that a name and the words behind it ask for; `None` where they ask for none.
+pub(crate) fn request_of(words: &[u8]) -> Option<Request<'_>>
+    ensures says { MatchOption result ((asked : SystemCall) → ¬ SaysCall words.now asked) (λ request. SaysCall words.now (call_asked request)) }
+    ensures fits { IfSome result RequestFits }
+{
+    let (name, arguments) = split_at_mark(words, b' ')?;
+    named(name, arguments)
+}
+
+/// The call of this name that the arguments ask for.
+fn named<'a>(name: &[u8], arguments: &'a [u8]) -> Option<Request<'a>>
+    ensures says { MatchOption result ((asked : SystemCall) → ¬ SaysNamed name.now arguments.now asked) (λ request. SaysNamed name.now arguments.now (call_asked request)) }
+    ensures fits { IfSome result RequestFits }
+{
+    if name == b"get".as_slice() {
+        get_of(arguments)
+    } else if name == b"snd".as_slice() {
+        send_of(arguments)
+    } else if name == b"rcv".as_slice() {
+        receive_of(arguments)
+    } else if name == b"stat".as_slice() {
+        stat_of(arguments)
+    } else if name == b"set".as_slice() {
+        set_of(arguments)
+    } else if name == b"rm".as_slice() {
+        remove_of(arguments)
+    } else {
+        None
+    }
+}
+
+/// `KEY FLAGS`.
+fn get_of(arguments: &[u8]) -> Option<Request<'_>>
+    ensures says { MatchOption result ((asked : SystemCall) → ¬ SaysNamed (codes "get") arguments.now asked) (λ request. SaysNamed (codes "get") arguments.now (call_asked request)) }
+    ensures fits { IfSome result RequestFits }
+{
+    let (key, flags) = <(i32, Flags)>::read(arguments)?;
+    Some(Request::Get { key, flags })
+}
+
+/// `ID MTYPE FLAGS BODY`.
+fn send_of(arguments: &[u8]) -> Option<Request<'_>>
+    ensures says { MatchOption result ((asked : SystemCall) → ¬ SaysNamed (codes "snd") arguments.now asked) (λ request. SaysNamed (codes "snd") arguments.now (call_asked request)) }
+    ensures fits { IfSome result RequestFits }
+{
+    let (id, rest) = first::<i32>(arguments)?;
+    let (mtype, rest) = first::<i64>(rest)?;
+    let (flags, body) = first::<Flags>(rest)?;
+    let text = text_of(body)?;
+    Some(Request::Send {
+        id,
+        mtype,
+        flags,
+        text,
+    })
+}
+
+/// `ID SIZE MTYPE FLAGS`.
+fn receive_of(arguments: &[u8]) -> Option<Request<'_>>
+    ensures says { MatchOption result ((asked : SystemCall) → ¬ SaysNamed (codes "rcv") arguments.now asked) (λ request. SaysNamed (codes "rcv") arguments.now (call_asked request)) }
+    ensures fits { IfSome result RequestFits }
+{
+    let (id, (size, (mtype, flags))) = <(i32, (u32, (i64, Flags)))>::read(arguments)?;
+    Some(Request::Receive {
+        id,
+        size,
+        mtype,
+        flags,
+    })
+}
+
+/// `ID`.
+fn stat_of(arguments: &[u8]) -> Option<Request<'_>>
+    ensures says { MatchOption result ((asked : SystemCall) → ¬ SaysNamed (codes "stat") arguments.now asked) (λ request. SaysNamed (codes "stat") arguments.now (call_asked request)) }
+    ensures fits { IfSome result RequestFits }
+{
+    let id = i32::read(arguments)?;
+    Some(Request::Stat { id })
+}
+
+/// `ID UID GID MODE QBYTES`.
+fn set_of(arguments: &[u8]) -> Option<Request<'_>>
+    ensures says { MatchOption result ((asked : SystemCall) → ¬ SaysNamed (codes "set") arguments.now asked) (λ request. SaysNamed (codes "set") arguments.now (call_asked request)) }
+    ensures fits { IfSome result RequestFits }
+{
+    let (id, (uid, (gid, (Octal(mode), qbytes)))) = <(i32, (u32, (u32, (Octal, u32))))>::read(
+        arguments,
+    )?;
+    Some(Request::Set {
+        id,
+        to: SetTo {
+            uid,
+            gid,
+            mode,
+            qbytes,
+        },
+    })
+}
+
+/// `ID`.
+fn remove_of(arguments: &[u8]) -> Option<Request<'_>>
+    ensures says { MatchOption result ((asked : SystemCall) → ¬ SaysNamed (codes "rm") arguments.now asked) (λ request. SaysNamed (codes "rm") arguments.now (call_asked request)) }
+    ensures fits { IfSome result RequestFits }
+{
+    let id = i32::read(arguments)?;
+    Some(Request::Remove { id })
+}
+
+/// `=` and the text itself, or `*N` for N letters x.
+fn text_of(body: &[u8]) -> Option<Text<'_>>
+    ensures says { MatchOption result ((text : List ℕ) → SaysText body.now text → ⊥) (λ said. SaysText body.now (text_bytes said)) }
+    ensures fits { IfSome result FitsBody }
+{
+    match body {
+        [b'=', text @ ..] if text.len() <= BODY_ROOM => Some(Text::Given(text)),
+        [b'*', count @ ..] => Some(Text::Letters(letters_of(count)?)),
+        _ => None,
+    }
+}
+
+/// The number of letters, 0 to 8,256.
+fn letters_of(word: &[u8]) -> Option<usize>
+    ensures { MatchOption result ((count : ℕ) → ¬ (IsNumeralOf word.now (pos count) × (count ≤ BODY_ROOM))) (λ count. IsNumeralOf word.now (pos count) × (count ≤ BODY_ROOM)) }
+{
+    match u32::read(word) {
+        Some(count) if count as usize <= BODY_ROOM => Some(count as usize),
+        _ => None,
+    }
+}

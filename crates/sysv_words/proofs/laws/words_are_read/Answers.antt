@@ -1,0 +1,5 @@
+use Rattle.sysv_words.proofs.ReadingWords.{each_word}
+use Rattle.sysv_words.proofs.laws.words_are_read.Goals as goal
+
+pub returns : goal.returns
+returns c = each_word

@@ -1,0 +1,27 @@
+-- What the words say is one thing, and whether they say something is decided (this project's words).
+use Rattle.std.specs.Prelude.{◌≡◌, ◌⊎◌, ℕ, List}
+use Rattle.sysv_words.specs.Words.{IsInt32, IsInt64, IsNat32, IsNat64}
+use Rattle.sysv_words.specs.FlagNames.{IsFlagList}
+use Rattle.sysv_words.specs.Octal.{IsOctal}
+
+-- a text says one value at most
+abbrev pub SaysOnce : {A : Type 0} → (List ℕ → A → Type 0) → Type 0
+SaysOnce {A} Says = (text : List ℕ) (one other : A) → Says text one → Says text other → one ≡ other
+
+-- a text says a value, or none
+abbrev pub IsDecided : {A : Type 0} → (List ℕ → A → Type 0) → Type 0
+IsDecided {A} Says = (text : List ℕ) → ((value : A) × Says text value) ⊎ ((value : A) → ¬ Says text value)
+
+-- both
+pub record IsReading {A : Type 0} (Says : List ℕ → A → Type 0) : Type 0 where
+  pub once : SaysOnce Says
+  pub decided : IsDecided Says
+
+-- each kind of word is read so
+pub record WordsAreRead : Type 0 where
+  pub int32 : IsReading IsInt32
+  pub int64 : IsReading IsInt64
+  pub nat32 : IsReading IsNat32
+  pub nat64 : IsReading IsNat64
+  pub flags : IsReading IsFlagList
+  pub octal : IsReading IsOctal
