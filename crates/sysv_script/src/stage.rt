@@ -112,12 +112,7 @@ impl Stage {
     }
 
     /// Does what a line says that comes once another was run, and composes what it prints.
-    fn act(
-        &mut self,
-        alloc: Global,
-        line: Line<'_>,
-        output: &mut Output,
-    ) -> Result<bool, NoMemory>
+    fn act(&mut self, alloc: Global, line: Line<'_>, output: &mut Output) -> Result<bool, NoMemory>
         requires { LineFits line }
         ensures runs { IfOk result (λ understood. (s : Scene) → IsSceneOf s self.old →
             (after : Scene) × (out : List ℕ) × LineActs s (said_of line.entry) understood out after

@@ -13,8 +13,7 @@ returns c = λ s seen.
     let held : true ≡ c.args.self.now.fresh = search rules in
     let fresh : true ≡ s.fresh = held ∙ sym seen.fresh in
     let after = in_world (begun_scene s) (opening_world blocks) in
-    let opened : IsSeenAs (opening_world blocks) c.in_ok-world.world = subst (λ w. IsSeenAs w c.in_ok-world.world) stands.led.1 stands.sight in
-    (
+    let opened : IsSeenAs (opening_world blocks) c.in_ok-world.world = subst (λ w. IsSeenAs w c.in_ok-world.world) stands.led.1 stands.sight in (
       after,
       (fresh, subst (λ b. after ≡ (if b then after else s)) fresh refl),
       record { world = subst (IsSeenAs (opening_world blocks)) (sym c.replace.ensures.after) opened; creds = seen.creds; moment = seen.moment; fresh = refl },
