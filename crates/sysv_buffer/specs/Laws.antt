@@ -7,7 +7,7 @@ use Rattle.sysv_buffer.specs.declared.view.View.{View}
 use Rattle.sysv_buffer.specs.declared.view.Role.TheVariants.{Producer, Consumer}
 use Rattle.sysv_buffer.specs.Ring.{Kept}
 
--- What was taken is a beginning of what was put, shorter by at most the number of cells, whatever the state is
+-- What was taken is a prefix of what was put, shorter by at most the number of cells, whatever the state is
 abbrev pub TakenIsABeginning : Type 0 → Type 0
 TakenIsABeginning T =
     (s : State (Option T) (View T)) → Kept s → (i k : ℕ) (p c : View T) → get_elem? s.views i ≡ some p → p.role ≡ Producer → get_elem? s.views k ≡ some c → c.role ≡ Consumer

@@ -28,7 +28,7 @@ module _ {T : Type 0} where
   abbrev pub split_off : Holding T → Holding T
   split_off h = record h { puts = []; takes = [] }
 
-  -- one seat has taken in another: the longer of the two beginnings that they have seen, and the places of both
+  -- one seat has taken in another: the longer of the two prefixes that they have seen, and the places of both
   abbrev pub joined : Holding T → Holding T → Holding T
   joined one two = record one { seen = longer_of one.seen two.seen; puts = one.puts ++ two.puts; takes = one.takes ++ two.takes }
 

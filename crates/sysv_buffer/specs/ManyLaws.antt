@@ -6,8 +6,8 @@ use Rattle.atomic_table.specs.Table.{State}
 use Rattle.sysv_buffer.specs.declared.many_view.Sight.{Sight}
 use Rattle.sysv_buffer.specs.ManyRing.{times, Crowded}
 
--- There is one list of what was put. What was taken is a beginning of it, shorter by at most the number of cells. Each
--- seat has seen a beginning of it, the places of its own items are in it, and those that it took from are in the beginning
+-- There is one list of what was put. What was taken is a prefix of it, shorter by at most the number of cells. Each
+-- seat has seen a prefix of it, the places of its own items are in it, and those that it took from are in the prefix
 -- that was taken
 abbrev pub OneList : Type 0 → Type 0
 OneList T =

@@ -77,7 +77,7 @@ module _ {T : Type 0} where
   abbrev pub beside : Sight T → Sight T
   beside v = record v { puts = []; takes = []; put_ticket = []; take_ticket = []; fills = false; empties = false }
 
-  -- the longer of two beginnings of one list
+  -- the longer of two prefixes of one list
   abbrev pub longer_of : List T → List T → List T
   longer_of [] ys = ys
   longer_of (x ∷ xs) [] = x ∷ xs

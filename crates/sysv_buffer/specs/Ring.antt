@@ -18,7 +18,7 @@ module _ {T : Type 0} where
   pub record Runs (n : ℕ) (put : List T) (taken : ℕ) (homes : Homes T) (p c : View T) : Type 0 where
     pub room : 0 < n
     pub size : length homes ≡ n
-    -- taken is a beginning of what was put, shorter by at most n
+    -- taken is a prefix of what was put, shorter by at most n
     pub order : taken ≤ length put
     pub within : length put ≤ taken + n
     pub limit : length put ≤ 2 ^ 62
@@ -26,7 +26,7 @@ module _ {T : Type 0} where
     pub producer : p.role ≡ Producer
     pub puts : p.put ≡ put
     pub may_put : p.holds ≡ true → (length put < taken + n) × (length put < 2 ^ 62)
-    -- the consumer knows how many were taken, and a beginning of what was put
+    -- the consumer knows how many were taken, and a prefix of what was put
     pub consumer : c.role ≡ Consumer
     pub takes : c.taken ≡ taken
     pub seen : (more : List T) × (put ≡ c.put ++ more)

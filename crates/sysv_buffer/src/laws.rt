@@ -2,12 +2,12 @@
 ghost use Rattle.sysv_buffer.specs.Laws.{TakenIsABeginning};
 ghost use Rattle.sysv_buffer.specs.ManyLaws.{OneList, NoPlaceTwice};
 
-/// What was taken is a beginning of what was put, shorter by at most the number of cells.
+/// What was taken is a prefix of what was put, shorter by at most the number of cells.
 pub fn taken_is_a_beginning<T>()
     ensures { TakenIsABeginning T }
 {}
 
-/// In a buffer of many there is one list of what was put, and what was taken is a beginning of it, shorter by at most the
+/// In a buffer of many there is one list of what was put, and what was taken is a prefix of it, shorter by at most the
 /// number of cells.
 pub fn one_list_of_many<T>()
     ensures { OneList T }

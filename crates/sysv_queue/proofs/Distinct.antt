@@ -41,7 +41,7 @@ distinct_permuted ms ns moved h =
     let apart = IsPermutation-keeps ms AreApart (apart_places ms h) apart_swapped ns moved in
     λ i j d less within e. let same = apart i j d (omega arith) within e in omega arith
 
--- the numbers of a front of such a list are pairwise different too
+-- the numbers of a prefix of such a list are pairwise different too
 pub distinct_front : (ms ns : List Message) → AllPairs (λ (m n : Message). m.number ≢ n.number) (ms ++ ns) → AllPairs (λ (m n : Message). m.number ≢ n.number) ms
 distinct_front ms ns h i j d less within e =
     let long = length-append ms ns in

@@ -26,10 +26,10 @@ use sysv_words::laws::one_split;
 /// Runs the script that `reader` gives on a world of 16 actors, and writes to `writer` a line for
 /// each call that it starts. The answers to what was read are written before more is read.
 ///
-/// A bad line, one that is not understood, is longer than 9,000 bytes, or is a `preset` where a queue
-/// is live, is answered by `line N: bad`, and ends the script with `Line(N)`; a line behind the
-/// millionth ends it with `Bound`. After `Read`, `Write` and `NoMemory` what was written is a
-/// beginning of the answers. Nothing but `write` is called on `writer`: one with a buffer of its own
+/// A bad line is one that is not understood, or is longer than 9,000 bytes, or a `preset` where slot 0 has or had a
+/// queue, or a `pool` after any other line that is not skipped. It is answered by `line N: bad`, and ends the script
+/// with `Line(N)`; a line after the millionth ends it with `Bound`. After `Read`, `Write` and `NoMemory` what was
+/// written is a prefix of the answers. Nothing but `write` is called on `writer`: one with a buffer of its own
 /// is for the caller to flush.
 pub fn run_script<R: Read, W: Write>(
     alloc: Global,

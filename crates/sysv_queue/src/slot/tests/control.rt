@@ -164,7 +164,14 @@ fn a_removal_discards_what_waits(rt: HostRuntime) {
     }
     assert_eq!(rt; remove_as(&rt, &mut desk, 0, USER_ZERO), Ok(4));
     assert_eq!(rt; desk.slot.counts(), (3, 1));
+    assert_eq!(rt; desk.slot.row(), None);
+    end_desk(&rt, desk, 0);
+}
 
+#[test]
+fn a_removed_queue_is_gone(rt: HostRuntime) {
+    let mut desk = desk_with_shared_queue(&rt, rt.alloc());
+    assert_eq!(rt; remove_as(&rt, &mut desk, 0, USER_ZERO), Ok(0));
     for cred in [SENDER, STRANGER, USER_ZERO] {
         assert_eq!(rt;
             remove_as(&rt, &mut desk, 0, cred),
@@ -178,7 +185,6 @@ fn a_removal_discards_what_waits(rt: HostRuntime) {
         );
         assert_eq!(rt; desk.slot.stat(0, cred), Err(Errno::EINVAL), "{cred:?}");
     }
-    assert_eq!(rt; desk.slot.row(), None);
     assert_eq!(rt; desk.slot.look(0, SENDER, 0), Look::Gone);
     let given = receive(&rt, &mut desk, 100, false);
     assert_eq!(rt; given, Err(TakeRefused::Gone));
@@ -186,9 +192,9 @@ fn a_removal_discards_what_waits(rt: HostRuntime) {
     assert!(rt; desk.slot.install(64, 0, SENDER, 0o600, 0));
     assert_eq!(rt; desk.slot.look(0, SENDER, 0), Look::Gone);
     let given = receive_as(&rt, &mut desk, 64, SENDER, Selector::Any);
-    assert_eq!(rt; given, Err(TakeRefused::NoMatch { arrived: 3 }));
+    assert_eq!(rt; given, Err(TakeRefused::NoMatch { arrived: 1 }));
     let sent = send_as(&rt, &mut desk, 64, SENDER, 1, b"next");
-    assert_eq!(rt; sent, Ok(3));
-    assert_eq!(rt; desk.slot.counts(), (4, 1));
+    assert_eq!(rt; sent, Ok(1));
+    assert_eq!(rt; desk.slot.counts(), (2, 1));
     end_desk(&rt, desk, 1);
 }
