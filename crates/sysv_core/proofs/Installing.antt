@@ -26,7 +26,7 @@ use Rattle.sysv_core.specs.World.{World, Opening, Started, Doing, Given, Happeni
 use Rattle.sysv_core.specs.Run.{Leads}
 use Rattle.sysv_core.specs.Sound.{IsSound, StaysSound}
 use Rattle.sysv_core.specs.Removed.{IsInItsSlot, AreRemovedForGood}
-use Rattle.sysv_core.proofs.Sounding.{turn_of}
+use Rattle.sysv_core.proofs.Histories.{turn_of}
 use Rattle.sysv_objects.specs.LegalDeed.{IsLegalDeed}
 use Rattle.sysv_core.proofs.Following.{IsLater, leads_on, gives_blocks, later, makes as newly, begun_later, resumed_later}
 

@@ -1,5 +1,7 @@
 pub mod Lists
 pub mod Following
+pub mod Histories
+pub mod Conserving
 pub mod Sounding
 pub mod Own
 pub mod Along
@@ -12,6 +14,7 @@ pub mod Reserving
 pub mod Waking
 pub mod Parking
 pub mod Obeying
+pub mod Freeing
 pub mod KeptActors
 pub mod Presetting
 pub mod SeenSteps

@@ -24,9 +24,10 @@ use Rattle.sysv_steps.specs.Next.{waits_or, goes_on, after_reserve, next}
 use Rattle.sysv_steps.specs.Resume.{resume, awaited}
 use Rattle.sysv_core.specs.World.{World, Opening, Started, Doing, Given, Happening, Preset, Start, Step, opening, doing_in, starting, begun, value_of, Continues, StartsAt, StepsAt, preset_who, preset_cred, preset_flags, preset_begin, preset_install, preset_settle, Presets, Makes}
 use Rattle.sysv_core.specs.Run.{Leads}
-use Rattle.sysv_core.proofs.Sounding.{turn_of, moved, other, does, none_busy}
+use Rattle.sysv_core.proofs.Histories.{turn_of, slot_more, registry_more}
+use Rattle.sysv_core.proofs.Sounding.{moved, other, does, none_busy}
 use Rattle.sysv_core.proofs.Along.{slot_around}
-use Rattle.sysv_core.proofs.Tending.{BeforeSettle, install_goes, slot_more, registry_more, one_of, or_left, or_right, same_int}
+use Rattle.sysv_core.proofs.Tending.{BeforeSettle, install_goes, one_of, or_left, or_right, same_int}
 
 -- ---- what leads to a settle
 

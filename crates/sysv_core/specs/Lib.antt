@@ -22,6 +22,7 @@ pub use Rattle.sysv_steps.specs.Answers
 pub mod World
 pub mod Run
 pub mod Kinds
+pub mod Conserved
 pub mod Sound
 pub mod Answered
 pub mod Asked
