@@ -34,7 +34,7 @@ use Rattle.sysv_steps.specs.Next.{next}
 use Rattle.sysv_steps.specs.HeldBlocks.{held, given_by, left_by, HasItsBlocks, GivesWhatIsAsked, EachStepKeepsItsBlocks}
 use Rattle.sysv_core.specs.World.{Started, Doing, doing_in, preset_who, preset_cred, preset_flags, preset_begin, preset_settle, with_preset_turns}
 use Rattle.sysv_core.specs.Conserved.{blocks_waiting, blocks_in_call, blocks_in_calls, AreConserved}
-use Rattle.sysv_core.proofs.Lists.{same_place, at_most}
+use Rattle.sysv_core.proofs.Lists.{same_place, at_most, sum_set}
 use Rattle.sysv_core.proofs.Histories.{turn_of, slot_more, pool_more, pool_stays, slot_stays, begun_turns, installed_turns, preset_slot, preset_pool, returned_more, reserved_more}
 use Rattle.sysv_core.proofs.Along.{slot_around}
 
@@ -147,13 +147,6 @@ free_moves size h e law legal = by_turn e.call e.reply legal (returned_more h e)
     by_turn call reply l back out = absurd l
 
 -- ---- what the calls hold
-
-sum_set : (f : Option Doing → ℕ) (xs : List (Option Doing)) (place : ℕ) (was new : Option Doing) → slice_get xs place ≡ Some was → sum_by f (slice_set xs place new) + f was ≡ sum_by f xs + f new
-sum_set f [] place was new e = absurd cc
-sum_set f (x ∷ xs) zero was new e =
-    let same : x ≡ was = cc in
-    omega (arith, sum_by-cons f new xs, sum_by-cons f x xs, ap f same)
-sum_set f (x ∷ xs) (suc place) was new e = omega (arith, sum_by-cons f x (slice_set xs place new), sum_by-cons f x xs, sum_set f xs place was new e)
 
 in_state : (call : Started) (state : State) → blocks_in_call (doing_in call state) ≡ held state
 in_state call (Goes phase) = refl

@@ -9,6 +9,7 @@ pub mod Installing
 pub mod Telling
 pub mod Tending
 pub mod Settling
+pub mod Vacating
 pub mod GetsParked
 pub mod Reserving
 pub mod Waking

@@ -44,7 +44,7 @@ or_right : (a b : Bool) → b ≡ true → (a || b) ≡ true
 or_right true b e = refl
 or_right false b e = e
 
-made_more : (id key : ℤ) (turns : List Turn) (t : Turn) → is_made id key (registry_history turns) ≡ true → is_made id key (registry_history (turns ++ t ∷ [])) ≡ true
+pub made_more : (id key : ℤ) (turns : List Turn) (t : Turn) → is_made id key (registry_history turns) ≡ true → is_made id key (registry_history (turns ++ t ∷ [])) ≡ true
 made_more id key turns t e =
     ap (is_made id key) (registry_more turns t)
     ∙ (list_any-append (λ (x : RegistryEntry). makes id key x.call x.reply) (registry_history turns) (registry_entry t.who t.deed)
@@ -57,17 +57,14 @@ same_int : (a : ℤ) → int_eq a a ≡ true
 same_int a = (Decides-int_eq a a).1 refl
 
 -- a begin that makes an identifier
+pub made_it : (turns : List Turn) (who : Who) (key : ℤ) (flags : Flags) (id : ℤ) → is_made id key (registry_history (turns ++ turn_of who (AtRegistry (Begin key flags) (Made id)) ∷ [])) ≡ true
+made_it turns who key flags id =
+    ap (is_made id key) (registry_more turns (turn_of who (AtRegistry (Begin key flags) (Made id))))
+    ∙ (list_any-append (λ (x : RegistryEntry). makes id key x.call x.reply) (registry_history turns) (registry_entry who (AtRegistry (Begin key flags) (Made id)))
+    ∙ or_right (is_made id key (registry_history turns)) _ (or_left (makes id key (Begin key flags) (Made id)) false (ap (λ b. b && int_eq key key) (same_int id) ∙ same_int key)))
+
 pub made_now : (turns : List Turn) (who : Who) (key : ℤ) (flags : Flags) (id : ℤ) → IsMadeIn (turns ++ turn_of who (AtRegistry (Begin key flags) (Made id)) ∷ []) (slot_of_id id)
-made_now turns who key flags id =
-    let t = turn_of who (AtRegistry (Begin key flags) (Made id)) in
-    record {
-      id = id;
-      key = key;
-      made = ap (is_made id key) (registry_more turns t)
-          ∙ (list_any-append (λ (x : RegistryEntry). makes id key x.call x.reply) (registry_history turns) (registry_entry who (AtRegistry (Begin key flags) (Made id)))
-          ∙ or_right (is_made id key (registry_history turns)) _ (or_left (makes id key (Begin key flags) (Made id)) false (ap (λ b. b && int_eq key key) (same_int id) ∙ same_int key)));
-      here = refl;
-    }
+made_now turns who key flags id = record { id = id; key = key; made = made_it turns who key flags id; here = refl }
 
 -- ---- where a queue lives
 

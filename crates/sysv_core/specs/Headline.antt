@@ -26,6 +26,7 @@ use Rattle.sysv_core.specs.AnswerLaw.{Fate, IsMade, AsksAsItWasAsked}
 use Rattle.sysv_core.specs.Conserved.{AreConserved}
 use Rattle.sysv_core.specs.Parked.{AreParkedRightly}
 use Rattle.sysv_core.specs.Removed.{AreRemovedForGood}
+use Rattle.sysv_core.specs.Vacant.{AllFindVacant}
 use Rattle.sysv_core.specs.LastWords.{AreToldOfRemovals}
 use Rattle.sysv_core.specs.Tending.{AreTended}
 use Rattle.sysv_core.specs.Seen.{Seen, StandsFor, happening_of, TellAll, Gives}
@@ -56,6 +57,8 @@ pub record Obeys (o : Opening) (w : World) (given : List Given) : Type 0 where
   pub parked : AreParkedRightly w
   -- a row that is not settled, or whose queue does not live, is some actor's to settle or to forget
   pub tended : AreTended w
+  -- each msgget finds the slot of its new identifier vacant
+  pub vacant : AllFindVacant w.turns
   -- what was removed is gone for good
   pub removed : AreRemovedForGood w.turns
   -- and the sends and receives of its queue are told so

@@ -35,6 +35,7 @@ pub mod Preset
 pub mod Tending
 pub mod Parked
 pub mod Removed
+pub mod Vacant
 pub mod AnswerLaw
 pub mod LastWords
 pub mod Headline
