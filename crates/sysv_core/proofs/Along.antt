@@ -9,7 +9,7 @@ use Rattle.sysv_model.specs.History.{Who, Call, Reply, Entry}
 use Rattle.sysv_model.specs.Registry.{RegistryCall, RegistryReply}
 use Rattle.sysv_model.specs.Pool.{PoolCall, PoolReply}
 use Rattle.sysv_model.specs.Turn.{Deed, AtSlot, AtRegistry, AtPool, Turn, slot_entry, registry_entry, pool_entry, slot_history, registry_history, pool_history, is_same, deeds_of}
-use Rattle.sysv_core.proofs.Sounding.{turn_of}
+use Rattle.sysv_core.proofs.Histories.{turn_of}
 
 -- the turn of that deed, with the deeds of the call before it and after it
 pub record Made (who : Who) (turns : List Turn) (front : List Deed) (deed : Deed) (later : List Deed) : Type 0 where

@@ -23,7 +23,7 @@ use Rattle.sysv_core.specs.World.{World}
 use Rattle.sysv_core.specs.Parked.{IsBeingChanged}
 use Rattle.sysv_core.specs.Removed.{AreRemovedForGood}
 use Rattle.sysv_core.specs.Tending.{AreTended}
-use Rattle.sysv_core.proofs.Sounding.{turn_of}
+use Rattle.sysv_core.proofs.Histories.{turn_of}
 use Rattle.sysv_core.proofs.Along.{Made, made_at, slot_around, registry_around}
 use Rattle.sysv_core.proofs.Tending.{any_more, or_left, live_more}
 use Rattle.sysv_core.proofs.Settling.{SettledOnceInstalled}

@@ -26,56 +26,50 @@ use Rattle.sysv_core.specs.World.{World, Opening, Started, Doing, Given, Happeni
 use Rattle.sysv_core.specs.Run.{Leads}
 use Rattle.sysv_core.specs.Sound.{IsSound, StaysSound}
 use Rattle.sysv_core.specs.Removed.{IsInItsSlot, AreRemovedForGood}
-use Rattle.sysv_core.proofs.Sounding.{turn_of}
+use Rattle.sysv_core.proofs.Lists.{sum_set}
+use Rattle.sysv_core.proofs.Histories.{turn_of}
 use Rattle.sysv_objects.specs.LegalDeed.{IsLegalDeed}
 use Rattle.sysv_core.proofs.Following.{IsLater, leads_on, gives_blocks, later, makes as newly, begun_later, resumed_later}
 
 -- ---- what is counted
 
-abbrev one : Bool → ℕ
+abbrev pub one : Bool → ℕ
 one b = cond {A = ℕ} b 1 0
 
-abbrev gives : ℤ → RegistryReply → Bool
+abbrev pub gives : ℤ → RegistryReply → Bool
 gives id (Made at) = int_eq at id
 gives id reply = false
 
-abbrev makes_id : ℤ → Deed → Bool
+abbrev pub makes_id : ℤ → Deed → Bool
 makes_id id (AtSlot slot call reply) = false
 makes_id id (AtRegistry call reply) = gives id reply
 makes_id id (AtPool call reply) = false
 
-abbrev installs_id : ℤ → Deed → Bool
+abbrev pub installs_id : ℤ → Deed → Bool
 installs_id id (AtSlot slot call reply) = installs id call reply
 installs_id id (AtRegistry call reply) = false
 installs_id id (AtPool call reply) = false
 
 -- a call that stands before the install
-abbrev holds_in : ℤ → State → ℕ
+abbrev pub holds_in : ℤ → State → ℕ
 holds_in id (Goes (AtInstall get at)) = one (int_eq at id)
 holds_in id state = 0
 
-abbrev holds : ℤ → Option Doing → ℕ
+abbrev pub holds : ℤ → Option Doing → ℕ
 holds id None = 0
 holds id (Some d) = holds_in id d.state
 
-abbrev made_count : ℤ → List Turn → ℕ
+abbrev pub made_count : ℤ → List Turn → ℕ
 made_count id turns = sum_by (λ (t : Turn). one (makes_id id t.deed)) turns
 
-abbrev installed_count : ℤ → List Turn → ℕ
+abbrev pub installed_count : ℤ → List Turn → ℕ
 installed_count id turns = sum_by (λ (t : Turn). one (installs_id id t.deed)) turns
 
-record Counted (turns : List Turn) (actors : List (Option Doing)) : Type 0 where
-  count : (id : ℤ) → installed_count id turns + sum_by (holds id) actors ≤ made_count id turns
-  home : All (λ (t : Turn). IsInItsSlot t.deed) turns
+pub record Counted (turns : List Turn) (actors : List (Option Doing)) : Type 0 where
+  pub count : (id : ℤ) → installed_count id turns + sum_by (holds id) actors ≤ made_count id turns
+  pub home : All (λ (t : Turn). IsInItsSlot t.deed) turns
 
 -- ---- sums
-
-sum_set : {X : Type 0} (f : X → ℕ) (xs : List X) (i : ℕ) (x y : X) → slice_get xs i ≡ Some x → sum_by f (slice_set xs i y) + f x ≡ sum_by f xs + f y
-sum_set f [] i x y e = absurd cc
-sum_set f (z ∷ xs) zero x y e =
-    let same : z ≡ x = cc in
-    omega (arith, ap f same, sum_by-cons f y xs, sum_by-cons f z xs)
-sum_set f (z ∷ xs) (suc i) x y e = omega (arith, sum_set f xs i x y e, sum_by-cons f z xs, sum_by-cons f z (slice_set xs i y))
 
 sum_more : {X : Type 0} (f : X → ℕ) (xs : List X) (x : X) → sum_by f (xs ++ x ∷ []) ≡ sum_by f xs + f x
 sum_more f xs x = omega (arith, sum_by-append f xs (x ∷ []), sum_by-cons f x [])
@@ -149,7 +143,7 @@ module _ (w : World) (s : IsSound w) (c : Counted w.turns w.actors) (place : ℕ
 
 -- ---- what happens
 
-abbrev Counts : World → Type 0
+abbrev pub Counts : World → Type 0
 Counts w = Counted w.turns w.actors
 
 same_counts : (w after : World) → after ≡ w → Counts w → Counts after
@@ -201,7 +195,7 @@ preset_counts w after made c (inl p) =
           (All-push (λ (x : Turn). IsInItsSlot x.deed) first (turn_of preset_who preset_install) (All-push (λ (x : Turn). IsInItsSlot x.deed) w.turns (turn_of preset_who preset_begin) c.home tt) refl) tt;
     }
 
-makes_counts : (w after : World) (x : Happening) (given : List Given) → IsSound w → Counts w → Makes w x given after → Counts after
+pub makes_counts : (w after : World) (x : Happening) (given : List Given) → IsSound w → Counts w → Makes w x given after → Counts after
 makes_counts w after Preset given s c m = preset_counts w after m.1.0 c m.1.1
 makes_counts w after (Start actor cred asked) given s c (inl worn) = same_counts w after worn.1.1 c
 makes_counts w after (Start zero cred asked) given s c (inr young) = same_counts w after young.1.1 c
@@ -217,10 +211,10 @@ leads_counts sound w after (x ∷ xs) given s c l = leads_counts sound l.0 after
 -- ---- once at most
 
 -- the registry made it once
-abbrev Once : ℤ → RegistryHistory → Type 0
+abbrev pub Once : ℤ → RegistryHistory → Type 0
 Once id h = (before middle after : RegistryHistory) (e f : RegistryEntry) → h ≡ before ++ e ∷ (middle ++ f ∷ after) → e.reply ≡ Made id → f.reply ≢ Made id
 
-abbrev given_count : ℤ → RegistryHistory → ℕ
+abbrev pub given_count : ℤ → RegistryHistory → ℕ
 given_count id h = sum_by (λ (e : RegistryEntry). one (gives id e.reply)) h
 
 gave : (id : ℤ) (reply : RegistryReply) → gives id reply ≡ true → reply ≡ Made id
@@ -241,7 +235,7 @@ not_given id (e ∷ h) none =
     no_gift true g = absurd (none [] h e refl (gave id e.reply g))
     no_gift false g = g
 
-given_once : (id : ℤ) (h : RegistryHistory) → Once id h → given_count id h ≤ 1
+pub given_once : (id : ℤ) (h : RegistryHistory) → Once id h → given_count id h ≤ 1
 given_once id [] once = omega arith
 given_once id (e ∷ h) once = by_first (given_once id h (λ before middle after x f same. once (e ∷ before) middle after x f (ap (λ k. e ∷ k) same))) (gives id e.reply) refl
   where
@@ -269,11 +263,11 @@ made_there id who (AtRegistry call reply) turns e =
       sum_by-cons (λ (x : RegistryEntry). one (gives id x.reply)) (record { who = who; call = call; reply = reply }) (registry_history turns),
     )
 
-made_in_registry : (id : ℤ) (turns : List Turn) → made_count id turns ≡ given_count id (registry_history turns)
+pub made_in_registry : (id : ℤ) (turns : List Turn) → made_count id turns ≡ given_count id (registry_history turns)
 made_in_registry id [] = refl
 made_in_registry id (t ∷ turns) = made_there id t.who t.deed turns (made_in_registry id turns)
 
-abbrev slot_count : ℤ → History → ℕ
+abbrev pub slot_count : ℤ → History → ℕ
 slot_count id h = sum_by (λ (e : Entry). one (installs id e.call e.reply)) h
 
 slot_there : (id : ℤ) (slot : ℕ) (who : Who) (deed : Deed) (turns : List Turn) → slot_count id (slot_history slot turns) ≤ installed_count id turns →
@@ -293,7 +287,7 @@ slot_there id slot who (AtSlot at call reply) turns e =
 slot_there id slot who (AtRegistry call reply) turns e = omega (arith, e, sum_by-cons (λ (x : Turn). one (installs_id id x.deed)) (turn_of who (AtRegistry call reply)) turns)
 slot_there id slot who (AtPool call reply) turns e = omega (arith, e, sum_by-cons (λ (x : Turn). one (installs_id id x.deed)) (turn_of who (AtPool call reply)) turns)
 
-installed_in_slot : (id : ℤ) (slot : ℕ) (turns : List Turn) → slot_count id (slot_history slot turns) ≤ installed_count id turns
+pub installed_in_slot : (id : ℤ) (slot : ℕ) (turns : List Turn) → slot_count id (slot_history slot turns) ≤ installed_count id turns
 installed_in_slot id slot [] = omega arith
 installed_in_slot id slot (t ∷ turns) = slot_there id slot t.who t.deed turns (installed_in_slot id slot turns)
 
@@ -321,21 +315,25 @@ installed_once id h few before middle after e f same first = elim_second (instal
 
 -- ---- for good
 
-opening_counts : (o : Opening) → Counts (opening o)
+pub opening_counts : (o : Opening) → Counts (opening o)
 opening_counts o = record {
   count = λ id. omega (arith, none_held id o.actors);
   home = λ k d low. absurd (omega (arith, low));
 }
 
-pub removed_for_good : StaysSound → RemovedForGood → (o : Opening) (w : World) (list : List Happening) (given : List Given) → IsSound (opening o) → Leads (opening o) list given w →
-    RegistryLaw o.generation (registry_history w.turns) → ((slot : ℕ) → IsLegalHistory (slot_history slot w.turns)) → AreRemovedForGood w.turns
-removed_for_good sound for_good o w list given s led law legal =
-    let c = leads_counts sound (opening o) w list given s (opening_counts o) led in
-    let once : (slot : ℕ) (id : ℤ) → IsInstalledOnce id (slot_history slot w.turns) = λ slot id.
-    installed_once id (slot_history slot w.turns)
-    (omega (arith, installed_in_slot id slot w.turns, c.count id, made_in_registry id w.turns, given_once id (registry_history w.turns) (λ before middle after e f same. law.once before middle after e f id same))) in
+-- in such a world
+pub good_of : RemovedForGood → (generation : ℕ) (turns : List Turn) (actors : List (Option Doing)) → Counted turns actors → RegistryLaw generation (registry_history turns) → ((slot : ℕ) → IsLegalHistory (slot_history slot turns)) → AreRemovedForGood turns
+good_of for_good generation turns actors c law legal =
+    let once : (slot : ℕ) (id : ℤ) → IsInstalledOnce id (slot_history slot turns) = λ slot id.
+    installed_once id (slot_history slot turns)
+    (omega (arith, installed_in_slot id slot turns, c.count id, made_in_registry id turns, given_once id (registry_history turns) (λ before middle after e f same. law.once before middle after e f id same))) in
     record {
       at_home = c.home;
       once = once;
-      gone = λ slot id before after e same. for_good (slot_history slot w.turns) id (legal slot) (once slot id) before after e same;
+      gone = λ slot id before after e same. for_good (slot_history slot turns) id (legal slot) (once slot id) before after e same;
     }
+
+pub removed_for_good : StaysSound → RemovedForGood → (o : Opening) (w : World) (list : List Happening) (given : List Given) → IsSound (opening o) → Leads (opening o) list given w →
+    RegistryLaw o.generation (registry_history w.turns) → ((slot : ℕ) → IsLegalHistory (slot_history slot w.turns)) → AreRemovedForGood w.turns
+removed_for_good sound for_good o w list given s led law legal =
+    good_of for_good o.generation w.turns w.actors (leads_counts sound (opening o) w list given s (opening_counts o) led) law legal

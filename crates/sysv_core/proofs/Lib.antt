@@ -1,5 +1,7 @@
 pub mod Lists
 pub mod Following
+pub mod Histories
+pub mod Conserving
 pub mod Sounding
 pub mod Own
 pub mod Along
@@ -7,11 +9,13 @@ pub mod Installing
 pub mod Telling
 pub mod Tending
 pub mod Settling
+pub mod Vacating
 pub mod GetsParked
 pub mod Reserving
 pub mod Waking
 pub mod Parking
 pub mod Obeying
+pub mod Freeing
 pub mod KeptActors
 pub mod Presetting
 pub mod SeenSteps

@@ -25,18 +25,22 @@ use Rattle.sysv_steps.specs.Resume.{awaited, resume}
 use Rattle.sysv_steps.specs.Played.{Plays, begins, steps, resumes}
 use Rattle.sysv_steps.specs.AsksFor.{EachDeedIsAskedFor}
 use Rattle.sysv_steps.specs.Answers.{IsRightAnswer, EachAnswerIsRight}
+use Rattle.sysv_steps.specs.HoldsAsked.{EachHoldsWhatItWasAsked}
 use Rattle.sysv_steps.specs.WaitsFor.{EachWaitsForItsRefusal}
 use Rattle.sysv_steps.specs.AfterRemoval.{EachIsToldOfRemoval}
 use Rattle.sysv_core.specs.World.{World, Opening, Started, Doing, Given, Happening, Preset, Start, Step, opening, doing_in, given_in, StaysWith, starting, begun, Turns, value_of, Looks, Continues, StartsAt, StepsAt, preset_who, preset_begin, preset_install, preset_settle, with_preset_turns, Presets, Makes}
 use Rattle.sysv_core.specs.Run.{Leads}
 use Rattle.sysv_core.specs.AnswerLaw.{endings_of, stands_in, standing_of, ended, standing, Fate, IsMade, AsksAsItWasAsked}
 use Rattle.sysv_core.specs.Headline.{Obeys}
+use Rattle.sysv_core.specs.Conserved.{AreConserved}
 use Rattle.sysv_core.specs.Sound.{IsSound, StaysSound}
-use Rattle.sysv_core.proofs.Sounding.{turn_of, none_busy, opening_sound}
+use Rattle.sysv_core.proofs.Histories.{turn_of}
+use Rattle.sysv_core.proofs.Sounding.{none_busy, opening_sound}
 use Rattle.sysv_core.proofs.Reserving.{are_short}
 use Rattle.sysv_core.proofs.Waking.{are_to_be_woken}
 use Rattle.sysv_core.proofs.Parking.{parked_rightly}
 use Rattle.sysv_core.proofs.Installing.{removed_for_good}
+use Rattle.sysv_core.proofs.Vacating.{all_find_vacant}
 use Rattle.sysv_core.proofs.Telling.{told_so}
 use Rattle.sysv_core.proofs.Tending.{are_tended}
 use Rattle.sysv_core.proofs.Settling.{settled_once_installed}
@@ -429,9 +433,9 @@ module _ (sound : StaysSound) where
 
   pub run_obeys : ((generation blocks : ℕ) → AreLegal generation blocks []) → ((h : History) → IsLegalHistory h → QueueLaw h) →
       ((generation : ℕ) (h : RegistryHistory) → IsLegalRegistryHistory generation h → RegistryLaw generation h) → ((size : ℕ) (h : PoolHistory) → IsLegalPoolHistory size h → PoolLaw size h) → EachDeedIsAskedFor → EachAnswerIsRight →
-      NoMatchStays → FullStays → FullStaysForLook → CountsNeverFall → EachWaitsForItsRefusal → RemovedForGood → EachIsToldOfRemoval →
+      NoMatchStays → FullStays → FullStaysForLook → CountsNeverFall → EachWaitsForItsRefusal → EachHoldsWhatItWasAsked → RemovedForGood → EachIsToldOfRemoval →
       (o : Opening) (list : List Happening) (given : List Given) (w : World) → Leads (opening o) list given w → Obeys o w given
-  run_obeys none law registry_law pool_law asked right no_match full full_for_look counts refused for_good told o list given w led =
+  run_obeys none law registry_law pool_law asked right no_match full full_for_look counts refused holds for_good told o list given w led =
       let i : Inv w given = leads_keeps (opening o) w list [] given (opens o (none o.generation o.blocks)) led in
       let same = leads_generation (opening o) w list given led in
       let of_registry = subst (λ g. RegistryLaw g (registry_history w.turns)) same (registry_law w.generation (registry_history w.turns) i.sound.legal.registry) in
@@ -440,6 +444,7 @@ module _ (sound : StaysSound) where
       record {
         queues = λ slot. law (slot_history slot w.turns) (i.sound.legal.slots slot);
         pool = subst (λ n. PoolLaw n (pool_history w.turns)) (leads_blocks (opening o) w list given led) (pool_law w.blocks (pool_history w.turns) i.sound.legal.pool);
+        conserved = subst (λ n. AreConserved n w.turns w.actors) (leads_blocks (opening o) w list given led) i.sound.blocks;
         registry = of_registry;
         calls = All-weaker (Contains w.calls) (Fate w given) i.fates w.calls (All-contains_itself w.calls);
         apart = i.apart;
@@ -449,9 +454,10 @@ module _ (sound : StaysSound) where
         known = i.known;
         right = All-weaker (Contains given) (λ (g : Given). IsRightAnswer g.call.asked (deeds_of g.call.who w.turns) g.ending)
             (λ g has. right_now w given i right g has) given (All-contains_itself given);
-        parked = parked_rightly w i.sound.legal (λ place d there. (stands_there w given i place d there).plays) no_match full full_for_look counts refused asked tended good (settled_once_installed o w list given led) (are_short o w list given led)
+        parked = parked_rightly w i.sound.legal (λ place d there. (stands_there w given i place d there).plays) no_match full full_for_look counts refused holds tended good (settled_once_installed o w list given led) (are_short o w list given led)
             (are_to_be_woken sound o w list given (opening_sound o (none o.generation o.blocks)) led);
         removed = good;
+        vacant = all_find_vacant for_good registry_law sound o w list given (opening_sound o (none o.generation o.blocks)) led;
         tended = tended;
         told = λ id before after t call whole removal has q. let f = i.fates call has in
             told_so w given call f told (asked call.cred call.asked call.released (deeds_of call.who w.turns) f.state f.plays) good id before after t whole removal q;

@@ -1,31 +1,30 @@
 -- Who waits below its goal has a reason to: its last turn at the slot was a refusal, which is right as long as
 -- the count has not risen.
-use Rattle.std.proofs.Common.{◌≡◌, inl, inr, ℕ, ℤ, ◌+◌, ◌<◌, Bool, List, ◌∷◌, ◌++◌, Option, None, Some, MatchOption, refl, sym, ap, subst, ◌∙◌, arith, length, slice_get}
-use Rattle.std.specs.List.{Contains}
-use Rattle.std.proofs.lemmas.List.Elements.{All-contains, Contains-append_right}
+use Rattle.std.proofs.Common.{◌≡◌, inl, inr, ℕ, ℤ, ◌+◌, ◌<◌, Bool, List, ◌∷◌, ◌++◌, Option, None, Some, MatchOption, sym, ap, subst, ◌∙◌, arith, length, slice_get}
 use Rattle.sysv_model.specs.declared.attributes.Attributes.{Attributes}
 use Rattle.sysv_model.specs.declared.cred.Cred.{Cred}
+use Rattle.sysv_model.specs.declared.flags.Flags.{Flags}
 use Rattle.sysv_model.specs.declared.selector.Selector.{Selector}
 use Rattle.sysv_model.specs.Message.{Message}
 use Rattle.sysv_model.specs.Selector.{selector_for}
 use Rattle.sysv_model.specs.History.{Who, Call, Look, Place, Take, Reply, Full, NoMatch, History, arrived, freed}
 use Rattle.sysv_model.specs.Live.{live, HasId}
 use Rattle.sysv_model.specs.Waiting.{waiting, waiting_on, held}
-use Rattle.sysv_model.specs.Registry.{Begin, settled}
-use Rattle.sysv_model.specs.Pool.{Reserve, released}
-use Rattle.sysv_model.specs.Turn.{Deed, AtSlot, OfSlot, OfRegistry, OfPool, asked_by, Turn, slot_history, registry_history, pool_history, deeds_of}
+use Rattle.sysv_model.specs.Registry.{settled}
+use Rattle.sysv_model.specs.Pool.{released}
+use Rattle.sysv_model.specs.Turn.{Deed, AtSlot, Turn, slot_history, registry_history, pool_history, deeds_of}
 use Rattle.sysv_queue.specs.Fits.{Fits as FitsOn}
 use Rattle.sysv_queue.specs.Named.{IsNamed}
 use Rattle.sysv_queue.specs.LegalReply.{IsLegalReply, IsLegalHistory}
 use Rattle.sysv_queue.specs.StaysRight.{NoMatchStays, FullStays, FullStaysForLook, CountsNeverFall}
 use Rattle.sysv_keys.specs.Identifier.{slot_of_id}
 use Rattle.sysv_objects.specs.LegalDeed.{AreLegal}
-use Rattle.sysv_steps.specs.Call.{SystemCall, Msgget, Msgsnd, Msgrcv, MsgctlStat, MsgctlSet, MsgctlRmid}
+use Rattle.sysv_steps.specs.Call.{SystemCall, Msgget, Msgsnd, Msgrcv}
 use Rattle.sysv_steps.specs.State.{Getting, Sending, Receiving, Wait, OnSettled, OnFreed, OnReleased, OnArrived, Waits}
 use Rattle.sysv_steps.specs.Resume.{awaited, goal_of}
 use Rattle.sysv_steps.specs.Played.{Plays}
-use Rattle.sysv_steps.specs.AsksFor.{AsksFor, AllAskFor, EachDeedIsAskedFor}
-use Rattle.sysv_steps.specs.WaitsFor.{WaitsFor, WasUnsettled, FoundNone, IsLastAtSlot, EachWaitsForItsRefusal}
+use Rattle.sysv_steps.specs.HoldsAsked.{IsSend, IsReceive, WaitHolds, EachHoldsWhatItWasAsked}
+use Rattle.sysv_steps.specs.WaitsFor.{WaitsFor, FoundNone, IsLastAtSlot, EachWaitsForItsRefusal}
 use Rattle.sysv_core.specs.World.{World, Started, Doing, begun, value_of}
 use Rattle.sysv_core.specs.Parked.{HasNothingToTake, HasNoRoom, HasTooFewBlocks, IsToBeWoken, IsBeingChanged, HasReason, AreParkedRightly}
 use Rattle.sysv_core.specs.Removed.{AreRemovedForGood}
@@ -130,128 +129,19 @@ module _ (w : World) (legal : AreLegal w.generation w.blocks w.turns) (full : Fu
 
 -- ---- in the words of what was asked
 
-a_receive : (w : World) (cred : Cred) (asked : SystemCall) (r : Receiving) (now goal : ℕ) → AsksFor cred asked (OfSlot (slot_of_id r.id) (Take r.id r.cred r.selector r.size r.noerror now)) →
-    HasNothingToTake (slot_history (slot_of_id r.id) w.turns) r.id r.cred r.selector → HasReason w cred asked (OnArrived goal r)
-a_receive w cred (Msgrcv id size mtype flags) r now goal (inl (at, e)) n =
-    let ids : r.id ≡ id = cc in
-    let creds : r.cred ≡ cred = cc in
-    let selectors : r.selector ≡ selector_for mtype flags = cc in
-    subst (λ i. HasNothingToTake (slot_history (slot_of_id i) w.turns) i cred (selector_for mtype flags)) ids
-    (subst (λ c. HasNothingToTake (slot_history (slot_of_id r.id) w.turns) r.id c (selector_for mtype flags)) creds
-    (subst (HasNothingToTake (slot_history (slot_of_id r.id) w.turns) r.id r.cred) selectors n))
-a_receive w cred (Msgrcv id size mtype flags) r now goal (inr (blocks, e)) n = absurd cc
-a_receive w cred (Msgget key flags) r now goal (inl e) n = absurd cc
-a_receive w cred (Msgget key flags) r now goal (inr (inl (i, at, e))) n = absurd cc
-a_receive w cred (Msgget key flags) r now goal (inr (inr (inl (i, e)))) n = absurd cc
-a_receive w cred (Msgget key flags) r now goal (inr (inr (inr (inl (i, e))))) n = absurd cc
-a_receive w cred (Msgget key flags) r now goal (inr (inr (inr (inr (i, e))))) n = absurd cc
-a_receive w cred (Msgsnd id mtype flags text) r now goal (inl e) n = absurd cc
-a_receive w cred (Msgsnd id mtype flags text) r now goal (inr (inl e)) n = absurd cc
-a_receive w cred (Msgsnd id mtype flags text) r now goal (inr (inr (inl (at, e)))) n = absurd cc
-a_receive w cred (Msgsnd id mtype flags text) r now goal (inr (inr (inr (blocks, e)))) n = absurd cc
-a_receive w cred (MsgctlStat id) r now goal e n = absurd cc
-a_receive w cred (MsgctlSet id to) r now goal (inl (at, e)) n = absurd cc
-a_receive w cred (MsgctlSet id to) r now goal (inr (blocks, e)) n = absurd cc
-a_receive w cred (MsgctlRmid id) r now goal (inl e) n = absurd cc
-a_receive w cred (MsgctlRmid id) r now goal (inr (inl e)) n = absurd cc
-a_receive w cred (MsgctlRmid id) r now goal (inr (inr (blocks, e))) n = absurd cc
+a_receive : (turns : List Turn) (cred : Cred) (id : ℤ) (size : ℕ) (mtype : ℤ) (flags : Flags) (r : Receiving) → IsReceive cred id size mtype flags r →
+    HasNothingToTake (slot_history (slot_of_id r.id) turns) r.id r.cred r.selector → HasNothingToTake (slot_history (slot_of_id id) turns) id cred (selector_for mtype flags)
+a_receive turns cred id size mtype flags r is n =
+    subst (λ i. HasNothingToTake (slot_history (slot_of_id i) turns) i cred (selector_for mtype flags)) is.id
+    (subst (λ c. HasNothingToTake (slot_history (slot_of_id r.id) turns) r.id c (selector_for mtype flags)) is.cred
+    (subst (HasNothingToTake (slot_history (slot_of_id r.id) turns) r.id r.cred) is.selector n))
 
--- the call is a look or a place of the send
-data IsOfSend (s : Sending) : Call → Type 0 where
-  looks : IsOfSend s (Look s.id s.cred (length s.text))
-  places : (now : ℕ) → IsOfSend s (Place s.id s.cred s.mtype s.text now)
-
-send_is : (turns : List Turn) (cred : Cred) (id : ℤ) (text : List ℕ) (s : Sending) → s.id ≡ id → s.cred ≡ cred → length s.text ≡ length text →
+a_send : (turns : List Turn) (cred : Cred) (id mtype : ℤ) (text : List ℕ) (s : Sending) → IsSend cred id mtype text s →
     HasNoRoom (slot_history (slot_of_id s.id) turns) s.id s.cred (length s.text) → HasNoRoom (slot_history (slot_of_id id) turns) id cred (length text)
-send_is turns cred id text s ids creds sizes n =
-    subst (λ i. HasNoRoom (slot_history (slot_of_id i) turns) i cred (length text)) ids
-    (subst (λ c. HasNoRoom (slot_history (slot_of_id s.id) turns) s.id c (length text)) creds
-    (subst (HasNoRoom (slot_history (slot_of_id s.id) turns) s.id s.cred) sizes n))
-
-a_send : (w : World) (cred : Cred) (asked : SystemCall) (s : Sending) (goal : ℕ) (call : Call) → IsOfSend s call → AsksFor cred asked (OfSlot (slot_of_id s.id) call) →
-    HasNoRoom (slot_history (slot_of_id s.id) w.turns) s.id s.cred (length s.text) → HasReason w cred asked (OnFreed goal s)
-a_send w cred (Msgsnd id mtype flags text) s goal _ looks (inl e) n =
-    let ids : s.id ≡ id = cc in
-    let creds : s.cred ≡ cred = cc in
-    let sizes : length s.text ≡ length text = cc in
-    send_is w.turns cred id text s ids creds sizes n
-a_send w cred (Msgsnd id mtype flags text) s goal _ looks (inr (inl e)) n = absurd cc
-a_send w cred (Msgsnd id mtype flags text) s goal _ looks (inr (inr (inl (at, e)))) n = absurd cc
-a_send w cred (Msgsnd id mtype flags text) s goal _ looks (inr (inr (inr (blocks, e)))) n = absurd cc
-a_send w cred (Msgsnd id mtype flags text) s goal _ (places now) (inl e) n = absurd cc
-a_send w cred (Msgsnd id mtype flags text) s goal _ (places now) (inr (inl e)) n = absurd cc
-a_send w cred (Msgsnd id mtype flags text) s goal _ (places now) (inr (inr (inl (at, e)))) n =
-    let ids : s.id ≡ id = cc in
-    let creds : s.cred ≡ cred = cc in
-    let texts : s.text ≡ text = cc in
-    send_is w.turns cred id text s ids creds (ap (λ (t : List ℕ). length t) texts) n
-a_send w cred (Msgsnd id mtype flags text) s goal _ (places now) (inr (inr (inr (blocks, e)))) n = absurd cc
-a_send w cred (Msgget key flags) s goal _ looks (inl e) n = absurd cc
-a_send w cred (Msgget key flags) s goal _ looks (inr (inl (i, at, e))) n = absurd cc
-a_send w cred (Msgget key flags) s goal _ looks (inr (inr (inl (i, e)))) n = absurd cc
-a_send w cred (Msgget key flags) s goal _ looks (inr (inr (inr (inl (i, e))))) n = absurd cc
-a_send w cred (Msgget key flags) s goal _ looks (inr (inr (inr (inr (i, e))))) n = absurd cc
-a_send w cred (Msgget key flags) s goal _ (places now) (inl e) n = absurd cc
-a_send w cred (Msgget key flags) s goal _ (places now) (inr (inl (i, at, e))) n = absurd cc
-a_send w cred (Msgget key flags) s goal _ (places now) (inr (inr (inl (i, e)))) n = absurd cc
-a_send w cred (Msgget key flags) s goal _ (places now) (inr (inr (inr (inl (i, e))))) n = absurd cc
-a_send w cred (Msgget key flags) s goal _ (places now) (inr (inr (inr (inr (i, e))))) n = absurd cc
-a_send w cred (Msgrcv id size mtype flags) s goal _ looks (inl (at, e)) n = absurd cc
-a_send w cred (Msgrcv id size mtype flags) s goal _ looks (inr (blocks, e)) n = absurd cc
-a_send w cred (Msgrcv id size mtype flags) s goal _ (places now) (inl (at, e)) n = absurd cc
-a_send w cred (Msgrcv id size mtype flags) s goal _ (places now) (inr (blocks, e)) n = absurd cc
-a_send w cred (MsgctlStat id) s goal _ looks e n = absurd cc
-a_send w cred (MsgctlStat id) s goal _ (places now) e n = absurd cc
-a_send w cred (MsgctlSet id to) s goal _ looks (inl (at, e)) n = absurd cc
-a_send w cred (MsgctlSet id to) s goal _ looks (inr (blocks, e)) n = absurd cc
-a_send w cred (MsgctlSet id to) s goal _ (places now) (inl (at, e)) n = absurd cc
-a_send w cred (MsgctlSet id to) s goal _ (places now) (inr (blocks, e)) n = absurd cc
-a_send w cred (MsgctlRmid id) s goal _ looks (inl e) n = absurd cc
-a_send w cred (MsgctlRmid id) s goal _ looks (inr (inl e)) n = absurd cc
-a_send w cred (MsgctlRmid id) s goal _ looks (inr (inr (blocks, e))) n = absurd cc
-a_send w cred (MsgctlRmid id) s goal _ (places now) (inl e) n = absurd cc
-a_send w cred (MsgctlRmid id) s goal _ (places now) (inr (inl e)) n = absurd cc
-a_send w cred (MsgctlRmid id) s goal _ (places now) (inr (inr (blocks, e))) n = absurd cc
-
--- a get is the only call that begins a key
-a_get : (w : World) (cred : Cred) (asked : SystemCall) (get : Getting) (goal : ℕ) → AsksFor cred asked (OfRegistry (Begin get.key get.flags)) → IsBeingChanged w get.key → HasReason w cred asked (OnSettled goal get)
-a_get w cred (Msgget key flags) get goal (inl e) b = let keys : get.key ≡ key = cc in subst (IsBeingChanged w) keys b
-a_get w cred (Msgget key flags) get goal (inr (inl (i, at, e))) b = absurd cc
-a_get w cred (Msgget key flags) get goal (inr (inr (inl (i, e)))) b = absurd cc
-a_get w cred (Msgget key flags) get goal (inr (inr (inr (inl (i, e))))) b = absurd cc
-a_get w cred (Msgget key flags) get goal (inr (inr (inr (inr (i, e))))) b = absurd cc
-a_get w cred (Msgsnd id mtype flags text) get goal (inl e) b = absurd cc
-a_get w cred (Msgsnd id mtype flags text) get goal (inr (inl e)) b = absurd cc
-a_get w cred (Msgsnd id mtype flags text) get goal (inr (inr (inl (at, e)))) b = absurd cc
-a_get w cred (Msgsnd id mtype flags text) get goal (inr (inr (inr (blocks, e)))) b = absurd cc
-a_get w cred (Msgrcv id size mtype flags) get goal (inl (at, e)) b = absurd cc
-a_get w cred (Msgrcv id size mtype flags) get goal (inr (blocks, e)) b = absurd cc
-a_get w cred (MsgctlStat id) get goal e b = absurd cc
-a_get w cred (MsgctlSet id to) get goal (inl (at, e)) b = absurd cc
-a_get w cred (MsgctlSet id to) get goal (inr (blocks, e)) b = absurd cc
-a_get w cred (MsgctlRmid id) get goal (inl e) b = absurd cc
-a_get w cred (MsgctlRmid id) get goal (inr (inl e)) b = absurd cc
-a_get w cred (MsgctlRmid id) get goal (inr (inr (blocks, e))) b = absurd cc
-
--- a send is the only call that reserves blocks
-a_reserve : (w : World) (cred : Cred) (asked : SystemCall) (s : Sending) (goal : ℕ) → AsksFor cred asked (OfPool (Reserve (length s.text))) → HasTooFewBlocks w (length s.text) × IsToBeWoken w s.id s.cred → HasReason w cred asked (OnReleased goal s)
-a_reserve w cred (Msgsnd id mtype flags text) s goal (inl e) few = absurd cc
-a_reserve w cred (Msgsnd id mtype flags text) s goal (inr (inl e)) few = let sizes : length s.text ≡ length text = cc in (subst (HasTooFewBlocks w) sizes few.0, few.1)
-a_reserve w cred (Msgsnd id mtype flags text) s goal (inr (inr (inl (at, e)))) few = absurd cc
-a_reserve w cred (Msgsnd id mtype flags text) s goal (inr (inr (inr (blocks, e)))) few = absurd cc
-a_reserve w cred (Msgget key flags) s goal (inl e) few = absurd cc
-a_reserve w cred (Msgget key flags) s goal (inr (inl (i, at, e))) few = absurd cc
-a_reserve w cred (Msgget key flags) s goal (inr (inr (inl (i, e)))) few = absurd cc
-a_reserve w cred (Msgget key flags) s goal (inr (inr (inr (inl (i, e))))) few = absurd cc
-a_reserve w cred (Msgget key flags) s goal (inr (inr (inr (inr (i, e))))) few = absurd cc
-a_reserve w cred (Msgrcv id size mtype flags) s goal (inl (at, e)) few = absurd cc
-a_reserve w cred (Msgrcv id size mtype flags) s goal (inr (blocks, e)) few = absurd cc
-a_reserve w cred (MsgctlStat id) s goal e few = absurd cc
-a_reserve w cred (MsgctlSet id to) s goal (inl (at, e)) few = absurd cc
-a_reserve w cred (MsgctlSet id to) s goal (inr e) few = absurd cc
-a_reserve w cred (MsgctlRmid id) s goal (inl e) few = absurd cc
-a_reserve w cred (MsgctlRmid id) s goal (inr (inl e)) few = absurd cc
-a_reserve w cred (MsgctlRmid id) s goal (inr (inr (blocks, e))) few = absurd cc
+a_send turns cred id mtype text s is n =
+    subst (λ i. HasNoRoom (slot_history (slot_of_id i) turns) i cred (length text)) is.id
+    (subst (λ c. HasNoRoom (slot_history (slot_of_id s.id) turns) s.id c (length text)) is.cred
+    (subst (λ (t : List ℕ). HasNoRoom (slot_history (slot_of_id s.id) turns) s.id s.cred (length t)) is.text n))
 
 -- ---- every wait
 
@@ -260,40 +150,34 @@ abbrev IsShortOf : World → Wait → Type 0
 IsShortOf w (OnReleased goal s) = released (pool_history w.turns) < goal → HasTooFewBlocks w (length s.text) × IsToBeWoken w s.id s.cred
 IsShortOf w wait = Unit {0}
 
-last_of : (deeds front after : List Deed) (deed : Deed) → deeds ≡ front ++ deed ∷ after → Contains deeds deed
-last_of deeds front after deed e = subst (λ (ds : List Deed). Contains ds deed) (sym e) (Contains-append_right front (deed ∷ after) deed (0, omega arith, refl))
-
-module _ (w : World) (legal : AreLegal w.generation w.blocks w.turns) (no_match : NoMatchStays) (full : FullStays) (full_for_look : FullStaysForLook) (counts : CountsNeverFall) (tended : AreTended w) (good : AreRemovedForGood w.turns) (order : SettledOnceInstalled w.turns) (call : Started)
-    (all : AllAskFor call.cred call.asked (deeds_of call.who w.turns)) where
-  asked_for : (deed : Deed) (front after : List Deed) → deeds_of call.who w.turns ≡ front ++ deed ∷ after → AsksFor call.cred call.asked (asked_by deed)
-  asked_for deed front after e = All-contains (λ (d : Deed). AsksFor call.cred call.asked (asked_by d)) (deeds_of call.who w.turns) deed all (last_of (deeds_of call.who w.turns) front after deed e)
-
-  began : (get : Getting) (told : ℕ) → WasUnsettled get told (deeds_of call.who w.turns) → AsksFor call.cred call.asked (OfRegistry (Begin get.key get.flags))
-  began get told (inl f) = asked_for _ f.0 _ f.1
-  began get told (inr f) = asked_for _ f.1.0 _ f.1.1
-
-  has_reason : (wait : Wait) → IsShortOf w wait → WaitsFor wait (deeds_of call.who w.turns) → value_of w.turns (awaited wait) < goal_of wait → HasReason w call.cred call.asked wait
-  has_reason (OnArrived goal r) short (told, is, f) below =
-      a_receive w call.cred call.asked r f.0 goal (asked_for _ f.1.0 f.1.1 f.1.2)
+module _ (w : World) (legal : AreLegal w.generation w.blocks w.turns) (no_match : NoMatchStays) (full : FullStays) (full_for_look : FullStaysForLook) (counts : CountsNeverFall) (tended : AreTended w) (good : AreRemovedForGood w.turns) (order : SettledOnceInstalled w.turns) (call : Started) where
+  has_reason : (asked : SystemCall) (wait : Wait) → WaitHolds call.cred asked wait → IsShortOf w wait → WaitsFor wait (deeds_of call.who w.turns) → value_of w.turns (awaited wait) < goal_of wait → HasReason w call.cred asked wait
+  has_reason (Msgrcv id size mtype flags) (OnArrived goal r) holds short (told, is, f) below =
+      a_receive w.turns call.cred id size mtype flags r holds
       (receive_parked w legal no_match counts call.who r told f (subst (λ n. arrived (slot_history (slot_of_id r.id) w.turns) < n) is below))
-  has_reason (OnFreed goal s) short (told, is, inl f) below =
-      a_send w call.cred call.asked s goal _ looks (asked_for _ f.0 f.1 f.2)
+  has_reason (Msgsnd id mtype flags text) (OnFreed goal s) holds short (told, is, inl f) below =
+      a_send w.turns call.cred id mtype text s holds
       (looker_parked w legal full full_for_look counts call.who s told (subst (λ n. freed (slot_history (slot_of_id s.id) w.turns) < n) is below) f)
-  has_reason (OnFreed goal s) short (told, is, inr f) below =
-      a_send w call.cred call.asked s goal _ (places f.0) (asked_for _ f.1.0 f.1.1 f.1.2)
+  has_reason (Msgsnd id mtype flags text) (OnFreed goal s) holds short (told, is, inr f) below =
+      a_send w.turns call.cred id mtype text s holds
       (placer_parked w legal full full_for_look counts call.who s told (subst (λ n. freed (slot_history (slot_of_id s.id) w.turns) < n) is below) f.0 f.1)
-  has_reason (OnReleased goal s) short f below = a_reserve w call.cred call.asked s goal (asked_for _ f.1.0 _ f.1.1) (short below)
-  has_reason (OnSettled goal get) short (told, is, f) below =
-      a_get w call.cred call.asked get goal (began get told f)
+  has_reason (Msgsnd id mtype flags text) (OnReleased goal s) holds short f below =
+      let now = short below in (
+        subst (λ (t : List ℕ). HasTooFewBlocks w (length t)) holds.text now.0,
+        subst (λ i. IsToBeWoken w i call.cred) holds.id (subst (IsToBeWoken w s.id) holds.cred now.1),
+      )
+  has_reason (Msgget key flags) (OnSettled goal get) holds short (told, is, f) below =
+      subst (IsBeingChanged w) (ap (λ (g : Getting). g.key) holds.is)
       (being_changed w legal tended good order call.who get told (subst (λ n. settled (registry_history w.turns) < n) is below) f)
+  has_reason asked wait holds short f below = absurd holds
 
 pub parked_rightly : (w : World) → AreLegal w.generation w.blocks w.turns → ((place : ℕ) (d : Doing) → slice_get w.actors place ≡ Some (Some d) → Plays (begun d.call) (deeds_of d.call.who w.turns) d.state) →
-    NoMatchStays → FullStays → FullStaysForLook → CountsNeverFall → EachWaitsForItsRefusal → EachDeedIsAskedFor → AreTended w → AreRemovedForGood w.turns → SettledOnceInstalled w.turns → AreShort w → AreToBeWoken w → AreParkedRightly w
-parked_rightly w legal plays no_match full full_for_look counts refused asked tended good order short woken place d wait p =
+    NoMatchStays → FullStays → FullStaysForLook → CountsNeverFall → EachWaitsForItsRefusal → EachHoldsWhatItWasAsked → AreTended w → AreRemovedForGood w.turns → SettledOnceInstalled w.turns → AreShort w → AreToBeWoken w → AreParkedRightly w
+parked_rightly w legal plays no_match full full_for_look counts refused holds tended good order short woken place d wait p =
     let played : Plays (begun d.call) (deeds_of d.call.who w.turns) (Waits wait) = subst (Plays (begun d.call) (deeds_of d.call.who w.turns)) p.waits (plays place d p.there) in
-    has_reason w legal no_match full full_for_look counts tended good order d.call
-    (asked d.call.cred d.call.asked d.call.released (deeds_of d.call.who w.turns) (Waits wait) played)
-    wait (short_of wait p.waits)
+    has_reason w legal no_match full full_for_look counts tended good order d.call d.call.asked wait
+    (holds d.call.cred d.call.asked d.call.released (deeds_of d.call.who w.turns) (Waits wait) played)
+    (short_of wait p.waits)
     (refused d.call.cred d.call.asked d.call.released (deeds_of d.call.who w.turns) wait played) p.below
   where
     short_of : (x : Wait) → d.state ≡ Waits x → IsShortOf w x

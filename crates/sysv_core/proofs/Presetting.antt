@@ -22,7 +22,7 @@ use Rattle.sysv_objects.specs.Objects.{Objects, CountsUpTo}
 use Rattle.sysv_objects.specs.StandsFor.{StandsFor, MakesTurn}
 use Rattle.sysv_core.specs.World.{preset_who, preset_cred, preset_flags, preset_begin, preset_install, preset_settle}
 use Rattle.sysv_core.specs.Preset.{PresetMade}
-use Rattle.sysv_core.proofs.Sounding.{turn_of}
+use Rattle.sysv_core.proofs.Histories.{turn_of}
 
 -- a begin that made no identifier told that it did not
 made_of : (b : Begun) (id : ℤ) → begun_reply b ≡ Made id → b ≡ begun.Made id

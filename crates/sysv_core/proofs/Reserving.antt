@@ -1,10 +1,8 @@
 -- A send that waits for blocks below its goal waits while too few are free. It read the released count before
 -- it was refused, so as long as the count is not above what it read, nothing came back since the refusal, and
 -- what was reserved since only took blocks.
-use Rattle.std.proofs.Common.{◌≡◌, ◌⊎◌, inl, inr, ℕ, zero, suc, ◌+◌, ◌<◌, ◌≤◌, Bool, true, false, cond, List, [], ◌∷◌, ◌++◌, Option, None, Some, refl, sym, ap, subst, ◌∙◌, arith, length, slice_get, slice_set}
-use Rattle.std.proofs.lemmas.Grind.{flat_map-append}
+use Rattle.std.proofs.Common.{◌≡◌, ◌⊎◌, inl, inr, ℕ, zero, suc, ◌+◌, ◌<◌, ◌≤◌, Bool, true, false, cond, List, [], ◌∷◌, ◌++◌, Option, None, Some, refl, sym, subst, arith, length, slice_get, slice_set}
 use Rattle.std.proofs.lemmas.List.{append-nil}
-use Rattle.std.proofs.lemmas.List.Sums.{sum_by-cons, sum_by-append}
 use Rattle.std.specs.Prelude.{ℤ}
 use Rattle.sysv_model.specs.declared.cred.Cred.{Cred}
 use Rattle.sysv_model.specs.declared.errno.Errno.{Errno}
@@ -13,7 +11,7 @@ use Rattle.sysv_model.specs.History.{Who, Reply, Gone, Denied, Granted, Full, Fi
 use Rattle.sysv_model.specs.Registry.{RegistryReply, Made, Found, Busy, Unbound, Changed}
 use Rattle.sysv_model.specs.Pool.{PoolCall, Reserve, Release, PoolReply, Reserved, TooFew, Released, Foreign, PoolEntry, PoolHistory, blocks_for, frees, released}
 use Rattle.sysv_model.specs.Turn.{OfPool, Deed, AtSlot, AtRegistry, AtPool, asked_by, Turn, pool_entry, pool_history}
-use Rattle.sysv_pool.specs.State.{reserved_by, returned_by, reserved, returned, free_after}
+use Rattle.sysv_pool.specs.State.{returned_by, free_after}
 use Rattle.sysv_pool.specs.LegalReply.{IsLegalReply}
 use Rattle.sysv_objects.specs.LegalDeed.{IsLegalDeed}
 use Rattle.sysv_steps.specs.Call.{SystemCall, Msgget, Msgsnd, Msgrcv, MsgctlStat, MsgctlSet, MsgctlRmid}
@@ -24,7 +22,8 @@ use Rattle.sysv_steps.specs.Next.{after_begin, after_install, after_settle, afte
 use Rattle.sysv_steps.specs.Resume.{resume, awaited}
 use Rattle.sysv_core.specs.World.{World, Opening, Started, Doing, Given, Happening, Preset, Start, Step, opening, doing_in, starting, begun, value_of, Continues, StartsAt, StepsAt, preset_who, preset_begin, preset_install, preset_settle, Presets, Makes}
 use Rattle.sysv_core.specs.Run.{Leads}
-use Rattle.sysv_core.proofs.Sounding.{turn_of, moved, other, does, none_busy}
+use Rattle.sysv_core.proofs.Histories.{turn_of, pool_more, one, released_more, returned_more, reserved_more}
+use Rattle.sysv_core.proofs.Sounding.{moved, other, does, none_busy}
 
 -- ---- what a call keeps
 
@@ -54,18 +53,6 @@ pub record IsRight (size : ℕ) (h : PoolHistory) (state : State) : Type 0 where
   pub short : IsShort size h state
 
 -- ---- one more turn at the pool
-
-abbrev one : Bool → ℕ
-one b = cond {A = ℕ} b 1 0
-
-pub released_more : (h : PoolHistory) (e : PoolEntry) → released (h ++ e ∷ []) ≡ released h + one (frees e.reply)
-released_more h e = let f = λ (x : PoolEntry). one (frees x.reply) in omega (arith, sum_by-append f h (e ∷ []), sum_by-cons f e [])
-
-returned_more : (h : PoolHistory) (e : PoolEntry) → returned (h ++ e ∷ []) ≡ returned h + returned_by e.call e.reply
-returned_more h e = let f = λ (x : PoolEntry). returned_by x.call x.reply in omega (arith, sum_by-append f h (e ∷ []), sum_by-cons f e [])
-
-reserved_more : (h : PoolHistory) (e : PoolEntry) → reserved (h ++ e ∷ []) ≡ reserved h + reserved_by e.reply
-reserved_more h e = let f = λ (x : PoolEntry). reserved_by x.reply in omega (arith, sum_by-append f h (e ∷ []), sum_by-cons f e [])
 
 -- it counts at the pool, or it frees nothing
 counts_or_not : (call : PoolCall) (reply : PoolReply) → (one (frees reply) ≡ 1) ⊎ (returned_by call reply ≡ 0)
@@ -266,10 +253,6 @@ told_too_few generation blocks turns phase now deed asked legal = tt
 
 abbrev pub AreRight : ℕ → List Turn → List (Option Doing) → Type 0
 AreRight blocks turns actors = (place : ℕ) (d : Doing) → slice_get actors place ≡ Some (Some d) → IsRight blocks (pool_history turns) d.state
-
-pub pool_more : (turns : List Turn) (t : Turn) → pool_history (turns ++ t ∷ []) ≡ pool_history turns ++ pool_entry t.who t.deed
-pool_more turns t =
-    flat_map-append (λ (x : Turn). pool_entry x.who x.deed) turns (t ∷ []) ∙ ap (λ es. pool_history turns ++ es) (append-nil (pool_entry t.who t.deed))
 
 -- after one more turn, whoever made it
 still_right : (blocks : ℕ) (turns : List Turn) (who : Who) (deed : Deed) (state : State) → IsRight blocks (pool_history turns) state → IsRight blocks (pool_history (turns ++ turn_of who deed ∷ [])) state

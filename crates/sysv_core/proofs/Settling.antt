@@ -24,9 +24,10 @@ use Rattle.sysv_steps.specs.Next.{waits_or, goes_on, after_reserve, next}
 use Rattle.sysv_steps.specs.Resume.{resume, awaited}
 use Rattle.sysv_core.specs.World.{World, Opening, Started, Doing, Given, Happening, Preset, Start, Step, opening, doing_in, starting, begun, value_of, Continues, StartsAt, StepsAt, preset_who, preset_cred, preset_flags, preset_begin, preset_install, preset_settle, Presets, Makes}
 use Rattle.sysv_core.specs.Run.{Leads}
-use Rattle.sysv_core.proofs.Sounding.{turn_of, moved, other, does, none_busy}
+use Rattle.sysv_core.proofs.Histories.{turn_of, slot_more, registry_more}
+use Rattle.sysv_core.proofs.Sounding.{moved, other, does, none_busy}
 use Rattle.sysv_core.proofs.Along.{slot_around}
-use Rattle.sysv_core.proofs.Tending.{BeforeSettle, install_goes, slot_more, registry_more, one_of, or_left, or_right, same_int}
+use Rattle.sysv_core.proofs.Tending.{BeforeSettle, install_goes, one_of, or_left, or_right, same_int}
 
 -- ---- what leads to a settle
 
@@ -106,14 +107,14 @@ prefix_more (z ∷ xs) x (y ∷ front) back e =
       | inr r ↦ inr (r.0, ap (λ w. w ∷ xs) same ∙ ap (λ ys. y ∷ ys) r.1)
     ]
 
-was_more : (id : ℤ) (turns : List Turn) (t : Turn) → was_installed id turns ≡ true → was_installed id (turns ++ t ∷ []) ≡ true
+pub was_more : (id : ℤ) (turns : List Turn) (t : Turn) → was_installed id turns ≡ true → was_installed id (turns ++ t ∷ []) ≡ true
 was_more id turns t e =
     ap (list_any (λ (x : Entry). installs id x.call x.reply)) (slot_more (slot_of_id id) turns t)
     ∙ (list_any-append (λ (x : Entry). installs id x.call x.reply) (slot_history (slot_of_id id) turns) (slot_entry (slot_of_id id) t.who t.deed)
     ∙ or_left (was_installed id turns) (list_any (λ (x : Entry). installs id x.call x.reply) (slot_entry (slot_of_id id) t.who t.deed)) e)
 
 -- a turn at the slot that installs it
-was_now : (id : ℤ) (slot : ℕ) (turns : List Turn) (who : Who) (c : Call) (reply : Reply) → slot ≡ slot_of_id id → installs id c reply ≡ true → was_installed id (turns ++ turn_of who (AtSlot slot c reply) ∷ []) ≡ true
+pub was_now : (id : ℤ) (slot : ℕ) (turns : List Turn) (who : Who) (c : Call) (reply : Reply) → slot ≡ slot_of_id id → installs id c reply ≡ true → was_installed id (turns ++ turn_of who (AtSlot slot c reply) ∷ []) ≡ true
 was_now id slot turns who c reply here is =
     let e : Entry = record { who = who; call = c; reply = reply } in
     let p = λ (x : Entry). installs id x.call x.reply in
@@ -147,7 +148,7 @@ settles_phase : (id : ℤ) (phase : Phase) (now : ℕ) (c : RegistryCall) (reply
 settles_phase id phase now (Settle at) (Changed true) a m = settle_phase id phase now at a ((Decides-int_eq at id).0 m)
 settles_phase id phase now c reply a m = absurd cc
 
-or_none : (b : Bool) → (b || false) ≡ true → b ≡ true
+pub or_none : (b : Bool) → (b || false) ≡ true → b ≡ true
 or_none true e = refl
 or_none false e = absurd cc
 

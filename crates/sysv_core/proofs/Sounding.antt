@@ -4,7 +4,6 @@ use Rattle.std.proofs.Math.Dec.{eqb}
 use Rattle.std.proofs.lemmas.Bool.Decides.{Decides-int_eq}
 use Rattle.std.proofs.lemmas.Bool.{eqb-true}
 use Rattle.std.specs.Ordering.{int_eq}
-use Rattle.std.proofs.lemmas.Grind.{flat_map-append}
 use Rattle.std.proofs.lemmas.List.{append-nil}
 use Rattle.std.proofs.lemmas.List.Folds.{list_any-append}
 use Rattle.std.proofs.lemmas.List.Sums.{fold-append}
@@ -15,7 +14,7 @@ use Rattle.sysv_model.specs.declared.limits.TheConstants.{IPC_PRIVATE}
 use Rattle.sysv_model.specs.History.{Who, Call, Install, Place, Take, Set, Remove, Reply, Accepted, Taken, Done, Discarded, Entry}
 use Rattle.sysv_model.specs.Live.{live, live_after}
 use Rattle.sysv_model.specs.Registry.{RegistryEntry, Begin, Settle, Made, Changed}
-use Rattle.sysv_model.specs.Turn.{OfSlot, Deed, AtSlot, AtRegistry, AtPool, asked_by, Turn, slot_entry, registry_entry, slot_history, registry_history}
+use Rattle.sysv_model.specs.Turn.{OfSlot, Deed, AtSlot, AtRegistry, AtPool, asked_by, Turn, registry_entry, slot_history, registry_history}
 use Rattle.sysv_keys.specs.Identifier.{slot_of_id}
 use Rattle.sysv_keys.specs.Rows.{makes, is_made, IsUnused}
 use Rattle.sysv_keys.specs.LegalReply.{IsLegalReply as IsLegalRegistryReply}
@@ -25,16 +24,15 @@ use Rattle.sysv_steps.specs.Call.{SystemCall}
 use Rattle.sysv_steps.specs.State.{Getting, Phase, AtBegin, AtInstall, AtSettle, AtProbe, AtUnmake, AtLook, AtReserve, AtPlace, AtSendGiveback, AtTake, AtReceiveGiveback, AtStat, AtSet, AtSetGiveback, AtRemove, AtForget, AtRemoveGiveback, State, Goes, Waits, Over}
 use Rattle.sysv_steps.specs.Asks.{asks}
 use Rattle.sysv_steps.specs.Next.{next}
-use Rattle.sysv_steps.specs.HeldBlocks.{HasItsBlocks}
+use Rattle.sysv_steps.specs.HeldBlocks.{held, HasItsBlocks}
 use Rattle.sysv_steps.specs.Resume.{resume, awaited}
 use Rattle.sysv_core.specs.Kinds.{Kind, kind_of, IsOf}
 use Rattle.sysv_core.specs.World.{World, Opening, Started, Doing, Given, Preset, Start, Step, opening, doing_in, starting, begun, value_of, Continues, StartsAt, StepsAt, preset_who, preset_flags, preset_begin, preset_install, preset_settle, with_preset_turns, Presets}
 use Rattle.sysv_core.specs.Sound.{IsToCaller, AreOwn, IsMadeIn, IsSound, StaysSound}
 use Rattle.sysv_core.proofs.Lists.{get_set_same, get_set_other, same_place}
+use Rattle.sysv_core.proofs.Histories.{turn_of, slot_more, registry_more}
+use Rattle.sysv_core.proofs.Conserving.{BlockLaws, turn_conserves, stands_conserves, resumed_holds, begun_holds, preset_conserves, opening_conserves}
 use Rattle.sysv_core.proofs.Following.{IsLater, later_of, later, makes as newly, leads_on, of_next, blocks_later, blocks_next, gives_blocks, begun_later, resumed_later}
-
-abbrev pub turn_of : Who → Deed → Turn
-turn_of who deed = record { who = who; deed = deed }
 
 -- ---- what was made stays made
 
@@ -46,11 +44,7 @@ or_right : (a b : Bool) → b ≡ true → (a || b) ≡ true
 or_right true b e = refl
 or_right false b e = e
 
-registry_more : (turns : List Turn) (t : Turn) → registry_history (turns ++ t ∷ []) ≡ registry_history turns ++ registry_entry t.who t.deed
-registry_more turns t =
-    flat_map-append (λ (x : Turn). registry_entry x.who x.deed) turns (t ∷ []) ∙ ap (λ es. registry_history turns ++ es) (append-nil (registry_entry t.who t.deed))
-
-made_more : (id key : ℤ) (turns : List Turn) (t : Turn) → is_made id key (registry_history turns) ≡ true → is_made id key (registry_history (turns ++ t ∷ [])) ≡ true
+pub made_more : (id key : ℤ) (turns : List Turn) (t : Turn) → is_made id key (registry_history turns) ≡ true → is_made id key (registry_history (turns ++ t ∷ [])) ≡ true
 made_more id key turns t e =
     ap (is_made id key) (registry_more turns t)
     ∙ (list_any-append (λ (x : RegistryEntry). makes id key x.call x.reply) (registry_history turns) (registry_entry t.who t.deed)
@@ -63,23 +57,16 @@ same_int : (a : ℤ) → int_eq a a ≡ true
 same_int a = (Decides-int_eq a a).1 refl
 
 -- a begin that makes an identifier
+pub made_it : (turns : List Turn) (who : Who) (key : ℤ) (flags : Flags) (id : ℤ) → is_made id key (registry_history (turns ++ turn_of who (AtRegistry (Begin key flags) (Made id)) ∷ [])) ≡ true
+made_it turns who key flags id =
+    ap (is_made id key) (registry_more turns (turn_of who (AtRegistry (Begin key flags) (Made id))))
+    ∙ (list_any-append (λ (x : RegistryEntry). makes id key x.call x.reply) (registry_history turns) (registry_entry who (AtRegistry (Begin key flags) (Made id)))
+    ∙ or_right (is_made id key (registry_history turns)) _ (or_left (makes id key (Begin key flags) (Made id)) false (ap (λ b. b && int_eq key key) (same_int id) ∙ same_int key)))
+
 pub made_now : (turns : List Turn) (who : Who) (key : ℤ) (flags : Flags) (id : ℤ) → IsMadeIn (turns ++ turn_of who (AtRegistry (Begin key flags) (Made id)) ∷ []) (slot_of_id id)
-made_now turns who key flags id =
-    let t = turn_of who (AtRegistry (Begin key flags) (Made id)) in
-    record {
-      id = id;
-      key = key;
-      made = ap (is_made id key) (registry_more turns t)
-          ∙ (list_any-append (λ (x : RegistryEntry). makes id key x.call x.reply) (registry_history turns) (registry_entry who (AtRegistry (Begin key flags) (Made id)))
-          ∙ or_right (is_made id key (registry_history turns)) _ (or_left (makes id key (Begin key flags) (Made id)) false (ap (λ b. b && int_eq key key) (same_int id) ∙ same_int key)));
-      here = refl;
-    }
+made_now turns who key flags id = record { id = id; key = key; made = made_it turns who key flags id; here = refl }
 
 -- ---- where a queue lives
-
-slot_more : (slot : ℕ) (turns : List Turn) (t : Turn) → slot_history slot (turns ++ t ∷ []) ≡ slot_history slot turns ++ slot_entry slot t.who t.deed
-slot_more slot turns t =
-    flat_map-append (λ (x : Turn). slot_entry slot x.who x.deed) turns (t ∷ []) ∙ ap (λ es. slot_history slot turns ++ es) (append-nil (slot_entry slot t.who t.deed))
 
 pub data IsInstall (call : Call) : Type 0 where
   installs : (id key : ℤ) (cred : Cred) (mode now : ℕ) → call ≡ Install id key cred mode now → IsInstall call
@@ -197,7 +184,7 @@ later_installs turns more actors place was call state kind there still all l = �
 same_install : (g h : Getting) (i j : ℤ) → Goes (AtInstall g i) ≡ Goes (AtInstall h j) → i ≡ j
 same_install g h i j e = cc
 
-module _ (more : (generation blocks : ℕ) (turns : List Turn) (who : Who) (deed : Deed) → AreLegal generation blocks turns → IsLegalDeed generation blocks turns deed → AreLegal generation blocks (turns ++ turn_of who deed ∷ [])) where
+module _ (more : (generation blocks : ℕ) (turns : List Turn) (who : Who) (deed : Deed) → AreLegal generation blocks turns → IsLegalDeed generation blocks turns deed → AreLegal generation blocks (turns ++ turn_of who deed ∷ [])) (b : BlockLaws) where
   stays_sound : (w after : World) → after ≡ w → IsSound w → IsSound after
   stays_sound w after e s = subst IsSound (sym e) s
 
@@ -227,6 +214,7 @@ module _ (more : (generation blocks : ℕ) (turns : List Turn) (who : Who) (deed
               | other old ↦ still (slot_of_id id) (s.installs at e get id old is)
             ]
           ];
+          blocks = turn_conserves b w.generation w.blocks w.turns w.actors s.legal s.blocks place call phase there own.2 now state deed asked legal goes;
           lives = λ slot a lives. elim (lived w.turns call.who deed slot a lives) [
             | before b old ↦ still slot (s.lives slot b old)
             | installed c reply is (installs id key cred mode moment asks_it) ↦
@@ -236,12 +224,13 @@ module _ (more : (generation blocks : ℕ) (turns : List Turn) (who : Who) (deed
         }
 
     -- once the call goes on without a turn
-    look_sound : (d : Doing) (state : State) → d.call ≡ call → slice_get w.actors place ≡ Some (Some d) → IsLater (kind_of call.asked) state → IsSound (record w { actors = slice_set w.actors place (doing_in call state); steps = w.steps + 1 })
-    look_sound d state is there l = record {
+    look_sound : (d : Doing) (state : State) → d.call ≡ call → slice_get w.actors place ≡ Some (Some d) → IsLater (kind_of call.asked) state → held state ≡ held d.state → IsSound (record w { actors = slice_set w.actors place (doing_in call state); steps = w.steps + 1 })
+    look_sound d state is there l held_same = record {
       legal = s.legal;
       own = own_still w.actors place (Some d) call state there s.own (later_of (kind_of call.asked) state l) (subst (λ (c : Started). IsToCaller c.who (suc place)) is (s.own place d there).1) (blocks_later (kind_of call.asked) state l);
       installs = later_installs w.turns w.turns w.actors place (Some d) call state (kind_of call.asked) there (λ slot m. m) s.installs l;
       lives = s.lives;
+      blocks = stands_conserves w.blocks w.turns w.actors place (Some d) call state there held_same s.blocks;
     }
 
   start_sound : (w : World) (place : ℕ) (cred : Cred) (asked : SystemCall) → IsSound w → slice_get w.actors place ≡ Some None →
@@ -255,6 +244,7 @@ module _ (more : (generation blocks : ℕ) (turns : List Turn) (who : Who) (deed
         own = own_still w.actors place None call (begun call) there s.own (later_of (kind_of asked) (begun call) l) refl (blocks_later (kind_of asked) (begun call) l);
         installs = later_installs w.turns w.turns w.actors place None call (begun call) (kind_of asked) there (λ slot m. m) s.installs l;
         lives = s.lives;
+        blocks = stands_conserves w.blocks w.turns w.actors place None call (begun call) there (begun_holds cred asked call.released) s.blocks;
       }
 
   continues_sound : (w after : World) (given : List Given) (place now : ℕ) (call : Started) (state : State) → IsSound w → slice_get w.actors place ≡ Some (Some record { call = call; state = state }) →
@@ -262,7 +252,8 @@ module _ (more : (generation blocks : ℕ) (turns : List Turn) (who : Who) (deed
   continues_sound w after given place now call (Goes phase) s there t = stays_sound _ after t.6 (turn_sound w s place call phase now t.0 t.1 there t.2 t.3 t.4)
   continues_sound w after given place now call (Waits wait) s there (inl t) =
       let d : Doing = record { call = call; state = Waits wait } in
-      stays_sound _ after t.2 (look_sound w s place call d (Goes (resume wait (value_of w.turns (awaited wait)))) refl there (resumed_later (kind_of call.asked) wait (value_of w.turns (awaited wait)) (s.own place d there).0))
+      stays_sound _ after t.2 (look_sound w s place call d (Goes (resume wait (value_of w.turns (awaited wait)))) refl there (resumed_later (kind_of call.asked) wait (value_of w.turns (awaited wait)) (s.own place d there).0)
+      (resumed_holds wait (value_of w.turns (awaited wait))))
   continues_sound w after given place now call (Waits wait) s there (inr t) = stays_sound w after t.1.1 s
   continues_sound w after given place now call (Over ending) s there t = stays_sound w after t.1 s
 
@@ -276,78 +267,80 @@ module _ (more : (generation blocks : ℕ) (turns : List Turn) (who : Who) (deed
   starts_sound w after given place cred asked (Some (Some d)) s there t = stays_sound w after t.1 s
   starts_sound w after given place cred asked (Some None) s there t = stays_sound _ after t.1 (start_sound w place cred asked s there)
 
-  -- ---- the preset
+-- ---- the preset
 
-  module _ (unused : UnusedSlots) where
-    -- no queue lives in an unused slot
-    pub vacant_there : (w : World) → IsSound w → IsUnused w.generation (registry_history w.turns) 0 → live (slot_history 0 w.turns) ≡ None
-    vacant_there w s u = none_lives (live (slot_history 0 w.turns)) refl
-      where
-        none_lives : (o : Option Attributes) → live (slot_history 0 w.turns) ≡ o → live (slot_history 0 w.turns) ≡ None
-        none_lives None e = e
-        none_lives (Some a) e = let m = s.lives 0 a e in absurd (unused.never w.generation 0 (registry_history w.turns) u m.id m.key m.made m.here)
+module _ (more : (generation blocks : ℕ) (turns : List Turn) (who : Who) (deed : Deed) → AreLegal generation blocks turns → IsLegalDeed generation blocks turns deed → AreLegal generation blocks (turns ++ turn_of who deed ∷ [])) (unused : UnusedSlots) where
+  -- no queue lives in an unused slot
+  pub vacant_there : (w : World) → IsSound w → IsUnused w.generation (registry_history w.turns) 0 → live (slot_history 0 w.turns) ≡ None
+  vacant_there w s u = none_lives (live (slot_history 0 w.turns)) refl
+    where
+      none_lives : (o : Option Attributes) → live (slot_history 0 w.turns) ≡ o → live (slot_history 0 w.turns) ≡ None
+      none_lives None e = e
+      none_lives (Some a) e = let m = s.lives 0 a e in absurd (unused.never w.generation 0 (registry_history w.turns) u m.id m.key m.made m.here)
 
-    -- the three turns are legal
-    pub preset_legal : (generation blocks : ℕ) (turns : List Turn) → AreLegal generation blocks turns → IsUnused generation (registry_history turns) 0 → live (slot_history 0 turns) ≡ None →
-        (AreLegal generation blocks (with_preset_turns turns))
-    preset_legal generation blocks turns legal u vacant =
-        let one = more generation blocks turns preset_who preset_begin legal (unused.zero generation (registry_history turns) preset_flags u) in
-        let first = turns ++ turn_of preset_who preset_begin ∷ [] in
-        let same : slot_history 0 first ≡ slot_history 0 turns = slot_more 0 turns (turn_of preset_who preset_begin) ∙ append-nil (slot_history 0 turns) in
-        let two = more generation blocks first preset_who preset_install one (ap live same ∙ vacant) in
-        let second = first ++ turn_of preset_who preset_install ∷ [] in
-        let registry : registry_history second ≡ registry_history turns ++ registry_entry preset_who preset_begin =
-        registry_more first (turn_of preset_who preset_install) ∙ (append-nil (registry_history first) ∙ registry_more turns (turn_of preset_who preset_begin)) in
-        more generation blocks second preset_who preset_settle two
-        (subst (λ h. IsLegalRegistryReply generation h (Settle (pos 0)) (Changed true)) (sym registry)
-        (unused.settles generation (registry_history turns) preset_who IPC_PRIVATE preset_flags (pos 0) legal.registry (unused.zero generation (registry_history turns) preset_flags u)))
+  -- the three turns are legal
+  pub preset_legal : (generation blocks : ℕ) (turns : List Turn) → AreLegal generation blocks turns → IsUnused generation (registry_history turns) 0 → live (slot_history 0 turns) ≡ None →
+      (AreLegal generation blocks (with_preset_turns turns))
+  preset_legal generation blocks turns legal u vacant =
+      let one = more generation blocks turns preset_who preset_begin legal (unused.zero generation (registry_history turns) preset_flags u) in
+      let first = turns ++ turn_of preset_who preset_begin ∷ [] in
+      let same : slot_history 0 first ≡ slot_history 0 turns = slot_more 0 turns (turn_of preset_who preset_begin) ∙ append-nil (slot_history 0 turns) in
+      let two = more generation blocks first preset_who preset_install one (ap live same ∙ vacant) in
+      let second = first ++ turn_of preset_who preset_install ∷ [] in
+      let registry : registry_history second ≡ registry_history turns ++ registry_entry preset_who preset_begin =
+      registry_more first (turn_of preset_who preset_install) ∙ (append-nil (registry_history first) ∙ registry_more turns (turn_of preset_who preset_begin)) in
+      more generation blocks second preset_who preset_settle two
+      (subst (λ h. IsLegalRegistryReply generation h (Settle (pos 0)) (Changed true)) (sym registry)
+      (unused.settles generation (registry_history turns) preset_who IPC_PRIVATE preset_flags (pos 0) legal.registry (unused.zero generation (registry_history turns) preset_flags u)))
 
-    preset_sound : (w after : World) (made : Bool) → IsSound w → Presets w made after → IsSound after
-    preset_sound w after made s (inr p) = stays_sound w after p.2 s
-    preset_sound w after made s (inl p) = stays_sound _ after p.2 record {
-      legal = preset_legal w.generation w.blocks w.turns s.legal p.0 (vacant_there w s p.0);
-      own = s.own;
-      installs = λ place d get id here e. past (slot_of_id id) (s.installs place d get id here e);
-      lives = λ slot a lives. settle_lives slot a lives;
-    }
-      where
-        first : List Turn
-        first = w.turns ++ turn_of preset_who preset_begin ∷ []
+module _ (more : (generation blocks : ℕ) (turns : List Turn) (who : Who) (deed : Deed) → AreLegal generation blocks turns → IsLegalDeed generation blocks turns deed → AreLegal generation blocks (turns ++ turn_of who deed ∷ [])) (b : BlockLaws) (unused : UnusedSlots) where
+  preset_sound : (w after : World) (made : Bool) → IsSound w → Presets w made after → IsSound after
+  preset_sound w after made s (inr p) = stays_sound more b w after p.2 s
+  preset_sound w after made s (inl p) = stays_sound more b _ after p.2 record {
+    legal = preset_legal more unused w.generation w.blocks w.turns s.legal p.0 (vacant_there more unused w s p.0);
+    own = s.own;
+    installs = λ place d get id here e. past (slot_of_id id) (s.installs place d get id here e);
+    lives = λ slot a lives. settle_lives slot a lives;
+    blocks = preset_conserves b w.generation w.blocks w.turns w.actors s.legal s.blocks (preset_legal more unused w.generation w.blocks w.turns s.legal p.0 (vacant_there more unused w s p.0));
+  }
+    where
+      first : List Turn
+      first = w.turns ++ turn_of preset_who preset_begin ∷ []
 
-        second : List Turn
-        second = first ++ turn_of preset_who preset_install ∷ []
+      second : List Turn
+      second = first ++ turn_of preset_who preset_install ∷ []
 
-        begin_lives : (slot : ℕ) (a : Attributes) → live (slot_history slot first) ≡ Some a → IsMadeIn first slot
-        begin_lives slot a e = elim (lived w.turns preset_who preset_begin slot a e) [
-          | before b old ↦ still_made w.turns (turn_of preset_who preset_begin) slot (s.lives slot b old)
-          | installed c reply is i ↦ absurd cc
-        ]
+      begin_lives : (slot : ℕ) (a : Attributes) → live (slot_history slot first) ≡ Some a → IsMadeIn first slot
+      begin_lives slot a e = elim (lived w.turns preset_who preset_begin slot a e) [
+        | before b old ↦ still_made w.turns (turn_of preset_who preset_begin) slot (s.lives slot b old)
+        | installed c reply is i ↦ absurd cc
+      ]
 
-        install_lives : (slot : ℕ) (a : Attributes) → live (slot_history slot second) ≡ Some a → IsMadeIn second slot
-        install_lives slot a e = elim (lived first preset_who preset_install slot a e) [
-          | before b old ↦ still_made first (turn_of preset_who preset_install) slot (begin_lives slot b old)
-          | installed c reply is i ↦
-              let here : 0 ≡ slot = cc in
-              still_made first (turn_of preset_who preset_install) slot (subst (IsMadeIn first) here (made_now w.turns preset_who IPC_PRIVATE preset_flags (pos 0)))
-        ]
+      install_lives : (slot : ℕ) (a : Attributes) → live (slot_history slot second) ≡ Some a → IsMadeIn second slot
+      install_lives slot a e = elim (lived first preset_who preset_install slot a e) [
+        | before b old ↦ still_made first (turn_of preset_who preset_install) slot (begin_lives slot b old)
+        | installed c reply is i ↦
+            let here : 0 ≡ slot = cc in
+            still_made first (turn_of preset_who preset_install) slot (subst (IsMadeIn first) here (made_now w.turns preset_who IPC_PRIVATE preset_flags (pos 0)))
+      ]
 
-        settle_lives : (slot : ℕ) (a : Attributes) → live (slot_history slot (with_preset_turns w.turns)) ≡ Some a → IsMadeIn (with_preset_turns w.turns) slot
-        settle_lives slot a e = elim (lived second preset_who preset_settle slot a e) [
-          | before b old ↦ still_made second (turn_of preset_who preset_settle) slot (install_lives slot b old)
-          | installed c reply is i ↦ absurd cc
-        ]
+      settle_lives : (slot : ℕ) (a : Attributes) → live (slot_history slot (with_preset_turns w.turns)) ≡ Some a → IsMadeIn (with_preset_turns w.turns) slot
+      settle_lives slot a e = elim (lived second preset_who preset_settle slot a e) [
+        | before b old ↦ still_made second (turn_of preset_who preset_settle) slot (install_lives slot b old)
+        | installed c reply is i ↦ absurd cc
+      ]
 
-        past : (slot : ℕ) → IsMadeIn w.turns slot → IsMadeIn (with_preset_turns w.turns) slot
-        past slot m = still_made _ (turn_of preset_who preset_settle) slot (still_made _ (turn_of preset_who preset_install) slot (still_made w.turns (turn_of preset_who preset_begin) slot m))
+      past : (slot : ℕ) → IsMadeIn w.turns slot → IsMadeIn (with_preset_turns w.turns) slot
+      past slot m = still_made _ (turn_of preset_who preset_settle) slot (still_made _ (turn_of preset_who preset_install) slot (still_made w.turns (turn_of preset_who preset_begin) slot m))
 
-    pub makes_sound : StaysSound
-    makes_sound w after Preset given s m = preset_sound w after m.1.0 s m.1.1
-    makes_sound w after (Start actor cred asked) given s (inl worn) = stays_sound w after worn.1.1 s
-    makes_sound w after (Start zero cred asked) given s (inr young) = stays_sound w after young.1.1 s
-    makes_sound w after (Start (suc place) cred asked) given s (inr young) = starts_sound w after given place cred asked (slice_get w.actors place) s refl young.1
-    makes_sound w after (Step actor now) given s (inl worn) = stays_sound w after worn.1.1 s
-    makes_sound w after (Step zero now) given s (inr young) = stays_sound w after young.1.1 s
-    makes_sound w after (Step (suc place) now) given s (inr young) = steps_sound w after given place now (slice_get w.actors place) s refl young.1
+  pub makes_sound : StaysSound
+  makes_sound w after Preset given s m = preset_sound w after m.1.0 s m.1.1
+  makes_sound w after (Start actor cred asked) given s (inl worn) = stays_sound more b w after worn.1.1 s
+  makes_sound w after (Start zero cred asked) given s (inr young) = stays_sound more b w after young.1.1 s
+  makes_sound w after (Start (suc place) cred asked) given s (inr young) = starts_sound more b w after given place cred asked (slice_get w.actors place) s refl young.1
+  makes_sound w after (Step actor now) given s (inl worn) = stays_sound more b w after worn.1.1 s
+  makes_sound w after (Step zero now) given s (inr young) = stays_sound more b w after young.1.1 s
+  makes_sound w after (Step (suc place) now) given s (inr young) = steps_sound more b w after given place now (slice_get w.actors place) s refl young.1
 
 pub none_busy : (n place : ℕ) (d : Doing) → slice_get (replicate n None) place ≡ Some (Some d) → ⊥
 none_busy zero place d e = cc
@@ -360,4 +353,5 @@ opening_sound o legal = record {
   own = λ place d e. absurd (none_busy o.actors place d e);
   installs = λ place d get id e is. absurd (none_busy o.actors place d e);
   lives = λ slot a e. absurd cc;
+  blocks = opening_conserves o.actors o.blocks;
 }

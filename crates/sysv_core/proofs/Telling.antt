@@ -26,7 +26,7 @@ use Rattle.sysv_core.specs.World.{World, Started, Given, begun}
 use Rattle.sysv_core.specs.AnswerLaw.{endings_of, ended, Fate}
 use Rattle.sysv_core.specs.Removed.{AreRemovedForGood}
 use Rattle.sysv_core.specs.LastWords.{IsOfQueue, IsRemoval, IsToldSo}
-use Rattle.sysv_core.proofs.Sounding.{turn_of}
+use Rattle.sysv_core.proofs.Histories.{turn_of}
 use Rattle.sysv_core.proofs.Along.{made_at, slot_around}
 
 -- ---- lists

@@ -5,7 +5,6 @@ use Rattle.std.specs.Ordering.{int_eq}
 use Rattle.std.proofs.Math.Dec.{eqb}
 use Rattle.std.proofs.lemmas.Bool.{eqb-true}
 use Rattle.std.proofs.lemmas.Bool.Decides.{Decides-int_eq}
-use Rattle.std.proofs.lemmas.Grind.{flat_map-append}
 use Rattle.std.proofs.lemmas.List.{append-nil}
 use Rattle.std.proofs.lemmas.List.Folds.{list_any-append}
 use Rattle.std.proofs.lemmas.List.Sums.{fold-append}
@@ -18,7 +17,7 @@ use Rattle.sysv_model.specs.History.{Who, Call, Install, Place, Take, Set, Remov
 use Rattle.sysv_model.specs.Live.{live, live_after, HasId, IsLive}
 use Rattle.sysv_model.specs.Registry.{RegistryCall, RegistryReply, RegistryEntry, RegistryHistory, Begin, Settle, Forget, Made, Changed}
 use Rattle.sysv_model.specs.Pool.{PoolCall, PoolReply}
-use Rattle.sysv_model.specs.Turn.{OfSlot, OfRegistry, AtSlot, AtRegistry, AtPool, Turn, slot_entry, registry_entry, slot_history, registry_history}
+use Rattle.sysv_model.specs.Turn.{OfSlot, OfRegistry, AtSlot, AtRegistry, AtPool, Turn, slot_history, registry_history}
 use Rattle.sysv_queue.specs.Slot.{Slot, slot_of}
 use Rattle.sysv_queue.specs.LegalReply.{Legal, IsLegalHistory}
 use Rattle.sysv_keys.specs.declared.registry.KeyRow.{KeyRow}
@@ -36,7 +35,7 @@ use Rattle.sysv_core.specs.Run.{Leads}
 use Rattle.sysv_core.specs.Sound.{IsSound, StaysSound}
 use Rattle.sysv_core.specs.Tending.{IsTended, AreTended}
 use Rattle.sysv_core.proofs.Lists.{get_set_same, get_set_other, same_place}
-use Rattle.sysv_core.proofs.Sounding.{turn_of}
+use Rattle.sysv_core.proofs.Histories.{turn_of, slot_more, registry_more}
 use Rattle.sysv_core.proofs.Along.{slot_around, registry_around}
 
 -- ---- actors
@@ -129,14 +128,6 @@ same_int a = (Decides-int_eq a a).1 refl
 
 pub any_more : (p : RegistryEntry → Bool) (h : RegistryHistory) (e : RegistryEntry) → list_any p (h ++ e ∷ []) ≡ (list_any p h || p e)
 any_more p h e = list_any-append p h (e ∷ []) ∙ ap (λ b. list_any p h || b) (or_no (p e))
-
-pub slot_more : (slot : ℕ) (turns : List Turn) (t : Turn) → slot_history slot (turns ++ t ∷ []) ≡ slot_history slot turns ++ slot_entry slot t.who t.deed
-slot_more slot turns t =
-    flat_map-append (λ (x : Turn). slot_entry slot x.who x.deed) turns (t ∷ []) ∙ ap (λ es. slot_history slot turns ++ es) (append-nil (slot_entry slot t.who t.deed))
-
-pub registry_more : (turns : List Turn) (t : Turn) → registry_history (turns ++ t ∷ []) ≡ registry_history turns ++ registry_entry t.who t.deed
-registry_more turns t =
-    flat_map-append (λ (x : Turn). registry_entry x.who x.deed) turns (t ∷ []) ∙ ap (λ es. registry_history turns ++ es) (append-nil (registry_entry t.who t.deed))
 
 -- ---- a turn at a slot
 

@@ -1,10 +1,11 @@
 -- The queue of a send that waits for blocks is live and may be written to, or a set of it or its removal has
--- still to come to its giveback, which ends the wait.
-use Rattle.std.proofs.Common.{◌≡◌, ◌⊎◌, inl, inr, ℕ, zero, suc, ℤ, pos, ◌+◌, ◌<◌, ◌≤◌, Bool, true, false, cond, List, [], ◌∷◌, ◌++◌, Option, None, Some, refl, sym, ap, subst, ◌∙◌, arith, length, slice_get, slice_set, option_map}
+-- still to come to its giveback, which ends the wait, since the pool takes back every chain.
+use Rattle.std.proofs.Common.{◌≡◌, ◌≢◌, ◌⊎◌, inl, inr, ℕ, zero, suc, ℤ, pos, ◌+◌, ◌<◌, ◌≤◌, Bool, true, false, cond, List, [], ◌∷◌, ◌++◌, Option, None, Some, refl, sym, ap, subst, ◌∙◌, arith, length, slice_get, slice_set, option_map}
 use Rattle.std.proofs.Math.Dec.{eqb}
 use Rattle.std.proofs.lemmas.Bool.{eqb-true}
 use Rattle.std.proofs.lemmas.List.{append-nil}
-use Rattle.std.proofs.lemmas.List.Elements.{Contains-append_left, Contains-append_right}
+use Rattle.std.proofs.lemmas.List.Elements.{All-contains, Contains-append_right}
+use Rattle.std.specs.List.{Contains}
 use Rattle.sysv_model.specs.declared.attributes.Attributes.{Attributes}
 use Rattle.sysv_model.specs.declared.attributes.SetTo.{SetTo}
 use Rattle.sysv_model.specs.declared.cred.Cred.{Cred}
@@ -16,7 +17,7 @@ use Rattle.sysv_model.specs.History.{Who, Call, Install, Look, Place, Take, Set,
 use Rattle.sysv_model.specs.Live.{live_after, HasId}
 use Rattle.sysv_model.specs.Registry.{Changed}
 use Rattle.sysv_model.specs.Pool.{PoolCall, PoolReply, Released, Foreign, PoolEntry, PoolHistory, released}
-use Rattle.sysv_model.specs.Turn.{OfSlot, Deed, AtSlot, AtRegistry, AtPool, asked_by, Turn, slot_entry, pool_entry, slot_history, pool_history}
+use Rattle.sysv_model.specs.Turn.{OfSlot, Deed, AtSlot, AtRegistry, AtPool, asked_by, Turn, pool_entry, slot_history, pool_history}
 use Rattle.sysv_queue.specs.Granted.{MayWrite}
 use Rattle.sysv_queue.specs.Slot.{Slot, slot_of}
 use Rattle.sysv_queue.specs.LegalReply.{Legal, IsLegalReply, IsLegalHistory}
@@ -28,15 +29,16 @@ use Rattle.sysv_steps.specs.Begin.{is_refused, first}
 use Rattle.sysv_steps.specs.Asks.{asks}
 use Rattle.sysv_steps.specs.Next.{waits_or, goes_on, after_set, after_remove, next}
 use Rattle.sysv_steps.specs.Resume.{resume, awaited}
-use Rattle.sysv_core.specs.World.{World, Opening, Started, Doing, Given, Happening, Preset, Start, Step, opening, doing_in, starting, begun, value_of, Continues, StartsAt, StepsAt, preset_who, preset_cred, preset_flags, preset_begin, preset_install, preset_settle, with_preset_turns, Presets, Makes}
+use Rattle.sysv_core.specs.World.{World, Opening, Started, Doing, Given, Happening, Preset, Start, Step, opening, doing_in, starting, begun, value_of, Continues, StartsAt, StepsAt, preset_who, preset_cred, preset_flags, preset_begin, with_preset_turns, Presets, Makes}
 use Rattle.sysv_core.specs.Run.{Leads}
 use Rattle.sysv_core.specs.Sound.{IsSound, StaysSound}
-use Rattle.sysv_core.specs.Parked.{IsOpenTo, HasToGiveBack, HasRefusedAChain, IsToBeWoken}
+use Rattle.sysv_core.specs.Parked.{IsOpenTo, HasToGiveBack, IsToBeWoken}
 use Rattle.sysv_core.proofs.Lists.{get_set_same, get_set_other, same_place}
-use Rattle.sysv_core.proofs.Sounding.{turn_of, moved, other, does, none_busy}
+use Rattle.sysv_core.proofs.Histories.{turn_of, slot_more, pool_more, slot_stays, pool_stays, begun_turns, preset_slot, preset_pool, released_more}
+use Rattle.sysv_core.proofs.Sounding.{moved, other, does, none_busy}
 use Rattle.sysv_core.proofs.Along.{slot_around}
-use Rattle.sysv_core.proofs.Tending.{slot_more, live_more}
-use Rattle.sysv_core.proofs.Reserving.{IsRight, IsShort, AllRight, Comes, Follows, FollowsIn, followed, told_too_few, makes_right, pool_more, released_more}
+use Rattle.sysv_core.proofs.Tending.{live_more}
+use Rattle.sysv_core.proofs.Reserving.{IsRight, IsShort, AllRight, Comes, Follows, FollowsIn, followed, told_too_few, makes_right}
 
 some_is : {X : Type 0} {x y : X} → Some x ≡ Some y → y ≡ x
 some_is e = cc
@@ -172,47 +174,38 @@ gives_now id actors place was call (Over ending) there p = absurd (never call.as
 abbrev Woken : List Turn → List (Option Doing) → Sending → Type 0
 Woken turns actors s =
     IsOpenTo (slot_history (slot_of_id s.id) turns) s.id s.cred
-    ⊎ SomeGive s.id actors ⊎ (s.released < released (pool_history turns)) ⊎ HasRefusedAChain (pool_history turns)
+    ⊎ SomeGive s.id actors ⊎ (s.released < released (pool_history turns))
 
 abbrev IsWoken : List Turn → List (Option Doing) → State → Type 0
 IsWoken turns actors (Goes (AtReserve s)) = Woken turns actors s
 IsWoken turns actors (Waits (OnReleased goal s)) = Woken turns actors s
 IsWoken turns actors state = Unit {0}
 
-refused_more : (h more : PoolHistory) → HasRefusedAChain h → HasRefusedAChain (h ++ more)
-refused_more h more r = (r.0, Contains-append_left h more r.0 r.1, r.2)
-
--- a turn that is not at the pool leaves its history
-pool_stays : (turns : List Turn) (who : Who) (deed : Deed) → pool_entry who deed ≡ [] → pool_history (turns ++ turn_of who deed ∷ []) ≡ pool_history turns
-pool_stays turns who deed none = pool_more turns (turn_of who deed) ∙ (ap (λ es. pool_history turns ++ es) none ∙ append-nil (pool_history turns))
-
-slot_stays : (slot : ℕ) (turns : List Turn) (who : Who) (deed : Deed) → slot_entry slot who deed ≡ [] → slot_history slot (turns ++ turn_of who deed ∷ []) ≡ slot_history slot turns
-slot_stays slot turns who deed none = slot_more slot turns (turn_of who deed) ∙ (ap (λ es. slot_history slot turns ++ es) none ∙ append-nil (slot_history slot turns))
-
--- a turn at the pool that takes a chain back, or refuses one, ends each wait or is a refusal
-after_giving : (turns : List Turn) (who : Who) (deed : Deed) (n : ℕ) → n ≤ released (pool_history turns) → AtPoolWith Released deed ⊎ AtPoolWith Foreign deed →
-    (n < released (pool_history (turns ++ turn_of who deed ∷ []))) ⊎ HasRefusedAChain (pool_history (turns ++ turn_of who deed ∷ []))
-after_giving turns who deed n read (inl (c, is)) =
+-- a turn at the pool that takes a chain back ends each wait
+after_giving : (turns : List Turn) (who : Who) (deed : Deed) (n : ℕ) → n ≤ released (pool_history turns) → AtPoolWith Released deed → n < released (pool_history (turns ++ turn_of who deed ∷ []))
+after_giving turns who deed n read (c, is) =
     let e : PoolEntry = record { who = who; call = c; reply = Released } in
     let more : pool_history (turns ++ turn_of who deed ∷ []) ≡ pool_history turns ++ e ∷ [] = pool_more turns (turn_of who deed) ∙ ap (λ d. pool_history turns ++ pool_entry who d) is in
-    inl (subst (λ h. n < released h) (sym more) (omega (arith, read, released_more (pool_history turns) e)))
-after_giving turns who deed n read (inr (c, is)) =
-    let e : PoolEntry = record { who = who; call = c; reply = Foreign } in
-    let more : pool_history (turns ++ turn_of who deed ∷ []) ≡ pool_history turns ++ e ∷ [] = pool_more turns (turn_of who deed) ∙ ap (λ d. pool_history turns ++ pool_entry who d) is in
-    inr (subst HasRefusedAChain (sym more) (e, Contains-append_right (pool_history turns) (e ∷ []) e (0, omega arith, refl), refl))
+    subst (λ h. n < released h) (sym more) (omega (arith, read, released_more (pool_history turns) e))
 
--- the pool's part stays
-pool_part : (turns : List Turn) (who : Who) (deed : Deed) (n : ℕ) → (n < released (pool_history turns)) ⊎ HasRefusedAChain (pool_history turns) →
-    (n < released (pool_history (turns ++ turn_of who deed ∷ []))) ⊎ HasRefusedAChain (pool_history (turns ++ turn_of who deed ∷ []))
-pool_part turns who (AtSlot slot c reply) n p = subst (λ h. (n < released h) ⊎ HasRefusedAChain h) (sym (pool_stays turns who (AtSlot slot c reply) refl)) p
-pool_part turns who (AtRegistry c reply) n p = subst (λ h. (n < released h) ⊎ HasRefusedAChain h) (sym (pool_stays turns who (AtRegistry c reply) refl)) p
-pool_part turns who (AtPool c reply) n (inl since) =
+-- and no turn takes that away
+pool_part : (turns : List Turn) (who : Who) (deed : Deed) (n : ℕ) → n < released (pool_history turns) → n < released (pool_history (turns ++ turn_of who deed ∷ []))
+pool_part turns who (AtSlot slot c reply) n since = subst (λ h. n < released h) (sym (pool_stays turns who (AtSlot slot c reply) refl)) since
+pool_part turns who (AtRegistry c reply) n since = subst (λ h. n < released h) (sym (pool_stays turns who (AtRegistry c reply) refl)) since
+pool_part turns who (AtPool c reply) n since =
     let e : PoolEntry = record { who = who; call = c; reply = reply } in
-    inl (subst (λ h. n < released h) (sym (pool_more turns (turn_of who (AtPool c reply)))) (omega (arith, since, released_more (pool_history turns) e)))
-pool_part turns who (AtPool c reply) n (inr r) = inr (subst HasRefusedAChain (sym (pool_more turns (turn_of who (AtPool c reply)))) (refused_more (pool_history turns) _ r))
+    subst (λ h. n < released h) (sym (pool_more turns (turn_of who (AtPool c reply)))) (omega (arith, since, released_more (pool_history turns) e))
+
+-- no chain is refused
+never_foreign : (w after : World) (who : Who) (deed : Deed) → IsSound after → after.turns ≡ w.turns ++ turn_of who deed ∷ [] → AtPoolWith Foreign deed → ⊥
+never_foreign w after who deed s turns_are (c, is) =
+    let e : PoolEntry = record { who = who; call = c; reply = Foreign } in
+    let more : pool_history after.turns ≡ pool_history w.turns ++ e ∷ [] = ap pool_history turns_are ∙ (pool_more w.turns (turn_of who deed) ∙ ap (λ d. pool_history w.turns ++ pool_entry who d) is) in
+    All-contains (λ (x : PoolEntry). x.reply ≢ Foreign) (pool_history after.turns) e s.blocks.taken_back
+    (subst (λ (h : PoolHistory). Contains h e) (sym more) (Contains-append_right (pool_history w.turns) (e ∷ []) e (0, omega arith, refl))) refl
 
 module _ (generation blocks : ℕ) (turns : List Turn) (actors : List (Option Doing)) (place : ℕ) (call : Started) (phase : Phase) (there : slice_get actors place ≡ Some (Some record { call = call; state = Goes phase })) (now : ℕ) (deed : Deed) (state : State)
-    (asked : asked_by deed ≡ asks phase now) (legal : IsLegalDeed generation blocks turns deed) (goes : next phase deed ≡ Some state) (own : IsAsked call.asked (Goes phase)) where
+    (asked : asked_by deed ≡ asks phase now) (legal : IsLegalDeed generation blocks turns deed) (goes : next phase deed ≡ Some state) (own : IsAsked call.asked (Goes phase)) (back : AtPoolWith Foreign deed → ⊥) where
   abbrev was : Option Doing
   was = Some record { call = call; state = Goes phase }
 
@@ -246,7 +239,8 @@ module _ (generation blocks : ℕ) (turns : List Turn) (actors : List (Option Do
     | inr on ↦ inr (inl on)
     | inl m ↦ elim (giver_goes call.asked phase deed state s.id (mover_gives s.id m) goes) [
       | inl p ↦ inr (inl (gives_now s.id actors place was call state there p))
-      | inr gave ↦ inr (inr (after_giving turns call.who deed s.released read gave))
+      | inr (inl gave) ↦ inr (inr (after_giving turns call.who deed s.released read gave))
+      | inr (inr refused) ↦ absurd (back refused)
     ]
   ]
   woken_on s read (inr (inr p)) = inr (inr (pool_part turns call.who deed s.released p))
@@ -304,11 +298,12 @@ record AllWoken (w : World) : Type 0 where
 same_woken : (w after : World) → after ≡ w → AllWoken w → AllWoken after
 same_woken w after e k = subst AllWoken (sym e) k
 
-turn_woken : (w after : World) (place now : ℕ) (call : Started) (phase : Phase) (deed : Deed) (state : State) → AllWoken w → AllRight after → slice_get w.actors place ≡ Some (Some record { call = call; state = Goes phase }) →
+turn_woken : (w after : World) (place now : ℕ) (call : Started) (phase : Phase) (deed : Deed) (state : State) → AllWoken w → AllRight after → IsSound after → slice_get w.actors place ≡ Some (Some record { call = call; state = Goes phase }) →
     asked_by deed ≡ asks phase now → IsLegalDeed w.generation w.blocks w.turns deed → next phase deed ≡ Some state → after.turns ≡ w.turns ++ turn_of call.who deed ∷ [] → after.actors ≡ slice_set w.actors place (doing_in call state) → AllWoken after
-turn_woken w after place now call phase deed state k right there asked legal goes turns_are actors_are =
+turn_woken w after place now call phase deed state k right sound there asked legal goes turns_are actors_are =
     let d : Doing = record { call = call; state = Goes phase } in
     let own = k.asked place d there in
+    let back = never_foreign w after call.who deed sound turns_are in
     let r = k.right place d there in
     let f : Follows w.blocks (pool_history w.turns) phase state = subst (FollowsIn w.blocks (pool_history w.turns) phase) goes
     (followed w.blocks (pool_history w.turns) phase deed r.short (told_too_few w.generation w.blocks w.turns phase now deed asked legal)) in
@@ -319,12 +314,12 @@ turn_woken w after place now call phase deed state k right there asked legal goe
           (subst (λ xs. IsWoken (w.turns ++ turn_of call.who deed ∷ []) xs e.state) (sym actors_are)
           (elim (does w.actors place (Some d) call state at e there (subst (λ xs. slice_get xs at ≡ Some (Some e)) actors_are here)) [
             | moved same c s ↦ subst (IsWoken (w.turns ++ turn_of call.who deed ∷ []) (slice_set w.actors place (doing_in call state))) (sym s)
-                (own_woken w.generation w.blocks w.turns w.actors place call phase there now deed state asked legal goes own r (k.woken place d there) state refl f.comes)
-            | other old ↦ still_woken w.generation w.blocks w.turns w.actors place call phase there now deed state asked legal goes own e.state (k.right at e old) (k.woken at e old)
+                (own_woken w.generation w.blocks w.turns w.actors place call phase there now deed state asked legal goes own back r (k.woken place d there) state refl f.comes)
+            | other old ↦ still_woken w.generation w.blocks w.turns w.actors place call phase there now deed state asked legal goes own back e.state (k.right at e old) (k.woken at e old)
           ]));
       asked = λ at e here. elim (does w.actors place (Some d) call state at e there (subst (λ xs. slice_get xs at ≡ Some (Some e)) actors_are here)) [
         | moved same c s ↦ subst (λ (x : Started). IsAsked x.asked e.state) (sym c) (subst (IsAsked call.asked) (sym s)
-            (own_asked w.generation w.blocks w.turns w.actors place call phase there now deed state asked legal goes own state f.comes))
+            (own_asked w.generation w.blocks w.turns w.actors place call phase there now deed state asked legal goes own back state f.comes))
         | other old ↦ k.asked at e old
       ];
     }
@@ -407,22 +402,22 @@ begun_asked cred (MsgctlRmid id) n false = refl
 
 -- ---- what happens
 
-continues_woken : (w after : World) (given : List Given) (place now : ℕ) (call : Started) (state : State) → AllWoken w → AllRight after → slice_get w.actors place ≡ Some (Some record { call = call; state = state }) →
+continues_woken : (w after : World) (given : List Given) (place now : ℕ) (call : Started) (state : State) → AllWoken w → AllRight after → IsSound after → slice_get w.actors place ≡ Some (Some record { call = call; state = state }) →
     Continues w (suc place) now call state given after → AllWoken after
-continues_woken w after given place now call (Goes phase) k right there t =
-    turn_woken w after place now call phase t.0 t.1 k right there t.2 t.3 t.4 (ap (λ (x : World). x.turns) t.6) (ap (λ (x : World). x.actors) t.6)
-continues_woken w after given place now call (Waits wait) k right there (inl t) =
+continues_woken w after given place now call (Goes phase) k right sound there t =
+    turn_woken w after place now call phase t.0 t.1 k right sound there t.2 t.3 t.4 (ap (λ (x : World). x.turns) t.6) (ap (λ (x : World). x.actors) t.6)
+continues_woken w after given place now call (Waits wait) k right sound there (inl t) =
     let value = value_of w.turns (awaited wait) in
     stand_woken w after place (Some record { call = call; state = Waits wait }) call (Goes (resume wait value)) k right there
     (λ d id is p. let same : d ≡ record { call = call; state = Waits wait } = some_is is in waits_gives call.asked wait id (subst (λ (x : Doing). HasToGiveBack x.call.asked x.state id) same p))
     (resumed_woken wait value) (resumed_asked call.asked wait value) (ap (λ (x : World). x.turns) t.2) (ap (λ (x : World). x.actors) t.2)
-continues_woken w after given place now call (Waits wait) k right there (inr t) = same_woken w after t.1.1 k
-continues_woken w after given place now call (Over ending) k right there t = same_woken w after t.1 k
+continues_woken w after given place now call (Waits wait) k right sound there (inr t) = same_woken w after t.1.1 k
+continues_woken w after given place now call (Over ending) k right sound there t = same_woken w after t.1 k
 
-steps_woken : (w after : World) (given : List Given) (place now : ℕ) (o : Option (Option Doing)) → AllWoken w → AllRight after → slice_get w.actors place ≡ o → StepsAt w (suc place) now o given after → AllWoken after
-steps_woken w after given place now None k right there t = same_woken w after t.1 k
-steps_woken w after given place now (Some None) k right there t = same_woken w after t.1 k
-steps_woken w after given place now (Some (Some d)) k right there t = continues_woken w after given place now d.call d.state k right there t
+steps_woken : (w after : World) (given : List Given) (place now : ℕ) (o : Option (Option Doing)) → AllWoken w → AllRight after → IsSound after → slice_get w.actors place ≡ o → StepsAt w (suc place) now o given after → AllWoken after
+steps_woken w after given place now None k right sound there t = same_woken w after t.1 k
+steps_woken w after given place now (Some None) k right sound there t = same_woken w after t.1 k
+steps_woken w after given place now (Some (Some d)) k right sound there t = continues_woken w after given place now d.call d.state k right sound there t
 
 starts_woken : (w after : World) (given : List Given) (place : ℕ) (cred : Cred) (asked : SystemCall) (o : Option (Option Doing)) → AllWoken w → AllRight after → slice_get w.actors place ≡ o → StartsAt w (suc place) cred asked o given after → AllWoken after
 starts_woken w after given place cred asked None k right there t = same_woken w after t.1 k
@@ -432,35 +427,20 @@ starts_woken w after given place cred asked (Some None) k right there t =
     stand_woken w after place None call (begun call) k right there (λ d id e. absurd cc) (begun_woken cred asked call.released (is_refused asked)) (begun_asked cred asked call.released (is_refused asked))
     (ap (λ (x : World). x.turns) t.1) (ap (λ (x : World). x.actors) t.1)
 
-abbrev begun_turns : List Turn → List Turn
-begun_turns turns = turns ++ turn_of preset_who preset_begin ∷ []
-
-abbrev installed_turns : List Turn → List Turn
-installed_turns turns = begun_turns turns ++ turn_of preset_who preset_install ∷ []
-
 -- the three turns of a preset leave each queue as it was that is open
 preset_open : (turns : List Turn) → IsLegalHistory (slot_history 0 (with_preset_turns turns)) → (id : ℤ) (by : Cred) → IsOpenTo (slot_history (slot_of_id id) turns) id by → IsOpenTo (slot_history (slot_of_id id) (with_preset_turns turns)) id by
 preset_open turns legal id by o =
-    subst (λ (h : History). IsOpenTo h id by) (sym (last_slot (slot_of_id id)))
+    subst (λ (h : History). IsOpenTo h id by) (sym (preset_slot (slot_of_id id) turns))
     (elim (open_past (begun_turns turns) preset_who 0 (Install (pos 0) IPC_PRIVATE preset_cred preset_flags.0 0) (Installed true) id by install_legal (subst (λ (h : History). IsOpenTo h id by) (sym (slot_stays (slot_of_id id) turns preset_who preset_begin refl)) o)) [
       | inl still ↦ still
       | inr (inl set) ↦ let bad = set.4 in absurd cc
       | inr (inr gone) ↦ let bad = gone.3 in absurd cc
     ])
   where
-    last_slot : (slot : ℕ) → slot_history slot (with_preset_turns turns) ≡ slot_history slot (installed_turns turns)
-    last_slot slot = slot_stays slot (installed_turns turns) preset_who preset_settle refl
-
     install_legal : Legal (slot_of (slot_history 0 (begun_turns turns))) (Install (pos 0) IPC_PRIVATE preset_cred preset_flags.0 0) (Installed true)
     install_legal =
         legal (slot_history 0 (begun_turns turns)) (record { who = preset_who; call = Install (pos 0) IPC_PRIVATE preset_cred preset_flags.0 0; reply = Installed true }) []
-        (last_slot 0 ∙ slot_around 0 (begun_turns turns) [] preset_who (Install (pos 0) IPC_PRIVATE preset_cred preset_flags.0 0) (Installed true))
-
-preset_pool : (turns : List Turn) → pool_history (with_preset_turns turns) ≡ pool_history turns
-preset_pool turns =
-    let begun_turns = turns ++ turn_of preset_who preset_begin ∷ [] in
-    let installed_turns = begun_turns ++ turn_of preset_who preset_install ∷ [] in
-    pool_stays installed_turns preset_who preset_settle refl ∙ (pool_stays begun_turns preset_who preset_install refl ∙ pool_stays turns preset_who preset_begin refl)
+        (preset_slot 0 turns ∙ slot_around 0 (begun_turns turns) [] preset_who (Install (pos 0) IPC_PRIVATE preset_cred preset_flags.0 0) (Installed true))
 
 preset_still : (turns : List Turn) (actors : List (Option Doing)) → IsLegalHistory (slot_history 0 (with_preset_turns turns)) → (st : State) → IsWoken turns actors st → IsWoken (with_preset_turns turns) actors st
 preset_still turns actors legal st k = by_state st k
@@ -468,7 +448,7 @@ preset_still turns actors legal st k = by_state st k
     still : (s : Sending) → Woken turns actors s → Woken (with_preset_turns turns) actors s
     still s (inl o) = inl (preset_open turns legal s.id s.cred o)
     still s (inr (inl g)) = inr (inl g)
-    still s (inr (inr p)) = inr (inr (subst (λ h. (s.released < released h) ⊎ HasRefusedAChain h) (sym (preset_pool turns)) p))
+    still s (inr (inr p)) = inr (inr (subst (λ h. s.released < released h) (sym (preset_pool turns)) p))
 
     by_state : (x : State) → IsWoken turns actors x → IsWoken (with_preset_turns turns) actors x
     by_state (Goes (AtReserve s)) q = still s q
@@ -500,7 +480,7 @@ makes_woken w after (Start zero cred asked) given k right s (inr young) = same_w
 makes_woken w after (Start (suc place) cred asked) given k right s (inr young) = starts_woken w after given place cred asked (slice_get w.actors place) k right refl young.1
 makes_woken w after (Step actor now) given k right s (inl worn) = same_woken w after worn.1.1 k
 makes_woken w after (Step zero now) given k right s (inr young) = same_woken w after young.1.1 k
-makes_woken w after (Step (suc place) now) given k right s (inr young) = steps_woken w after given place now (slice_get w.actors place) k right refl young.1
+makes_woken w after (Step (suc place) now) given k right s (inr young) = steps_woken w after given place now (slice_get w.actors place) k right s refl young.1
 
 leads_woken : StaysSound → (w after : World) (xs : List Happening) (given : List Given) → IsSound w → AllWoken w → Leads w xs given after → AllWoken after
 leads_woken sound w after [] given s k l = same_woken w after l.1 k
@@ -516,9 +496,8 @@ AreToBeWoken w = (place : ℕ) (d : Doing) (goal : ℕ) (send : Sending) → sli
 
 to_be_woken : (w : World) (goal : ℕ) (send : Sending) → released (pool_history w.turns) < goal → goal ≡ send.released + 1 → Woken w.turns w.actors send → IsToBeWoken w send.id send.cred
 to_be_woken w goal send below is (inl o) = inl o
-to_be_woken w goal send below is (inr (inl g)) = inr (inl record { place = g.place; doing = g.doing; there = g.there; gives = g.gives })
-to_be_woken w goal send below is (inr (inr (inl since))) = absurd (omega (arith, below, is, since))
-to_be_woken w goal send below is (inr (inr (inr r))) = inr (inr r)
+to_be_woken w goal send below is (inr (inl g)) = inr (record { place = g.place; doing = g.doing; there = g.there; gives = g.gives })
+to_be_woken w goal send below is (inr (inr since)) = absurd (omega (arith, below, is, since))
 
 pub are_to_be_woken : StaysSound → (o : Opening) (w : World) (list : List Happening) (given : List Given) → IsSound (opening o) → Leads (opening o) list given w → AreToBeWoken w
 are_to_be_woken sound o w list given s led = λ place d goal send there waits below.

@@ -23,8 +23,10 @@ use Rattle.sysv_core.specs.declared.event.Stepped.{Stepped}
 use Rattle.sysv_core.specs.World.{World, Opening, Started, Given, Happening, Preset, opening}
 use Rattle.sysv_core.specs.Run.{Leads}
 use Rattle.sysv_core.specs.AnswerLaw.{Fate, IsMade, AsksAsItWasAsked}
+use Rattle.sysv_core.specs.Conserved.{AreConserved}
 use Rattle.sysv_core.specs.Parked.{AreParkedRightly}
 use Rattle.sysv_core.specs.Removed.{AreRemovedForGood}
+use Rattle.sysv_core.specs.Vacant.{AllFindVacant}
 use Rattle.sysv_core.specs.LastWords.{AreToldOfRemovals}
 use Rattle.sysv_core.specs.Tending.{AreTended}
 use Rattle.sysv_core.specs.Seen.{Seen, StandsFor, happening_of, TellAll, Gives}
@@ -37,6 +39,8 @@ pub record Obeys (o : Opening) (w : World) (given : List Given) : Type 0 where
   pub registry : RegistryLaw o.generation (registry_history w.turns)
   -- that of the pool obeys the pool law: each block is free or out
   pub pool : PoolLaw o.blocks (pool_history w.turns)
+  -- each block is free, under a message that waits, or held by a call, and the pool takes back every chain
+  pub conserved : AreConserved o.blocks w.turns w.actors
   -- each call plays its own turns, and has one answer where it is over
   pub calls : All (Fate w given) w.calls
   -- no two calls have one name
@@ -53,6 +57,8 @@ pub record Obeys (o : Opening) (w : World) (given : List Given) : Type 0 where
   pub parked : AreParkedRightly w
   -- a row that is not settled, or whose queue does not live, is some actor's to settle or to forget
   pub tended : AreTended w
+  -- each msgget finds the slot of its new identifier vacant
+  pub vacant : AllFindVacant w.turns
   -- what was removed is gone for good
   pub removed : AreRemovedForGood w.turns
   -- and the sends and receives of its queue are told so

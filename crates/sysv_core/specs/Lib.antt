@@ -22,6 +22,7 @@ pub use Rattle.sysv_steps.specs.Answers
 pub mod World
 pub mod Run
 pub mod Kinds
+pub mod Conserved
 pub mod Sound
 pub mod Answered
 pub mod Asked
@@ -34,6 +35,7 @@ pub mod Preset
 pub mod Tending
 pub mod Parked
 pub mod Removed
+pub mod Vacant
 pub mod AnswerLaw
 pub mod LastWords
 pub mod Headline

@@ -3,11 +3,10 @@
 -- queue is live, it may read, and no message that waits there is named by its selector. A send that waits
 -- for room below its goal has none: its queue is live, it may write, and its text does not fit. A get that
 -- waits below its goal finds its key bound to a row that another call has still to settle or to forget. A
--- send that waits for blocks below its goal finds too few free for its text; and the queue that it holds is
--- live and it may write, or a set or a removal of that queue has still to come to its giveback, which ends the
--- wait, as long as the pool refused no chain. So nobody sleeps past what it waits for, or for good on a queue
--- that was removed or closed to it.
-use Rattle.std.specs.Prelude.{◌≡◌, ◌<◌, ◌⊎◌, ℕ, ℤ, Some, length, slice_get, Contains}
+-- send that waits for blocks below its goal finds too few free for its text; and its queue is live and it may
+-- write, or a set or a removal of that queue has still to come to its giveback, which ends the wait. So nobody
+-- sleeps past what it waits for, or for good on a queue that was removed or closed to it.
+use Rattle.std.specs.Prelude.{◌≡◌, ◌<◌, ◌⊎◌, ℕ, ℤ, Some, length, slice_get}
 use Rattle.sysv_model.specs.declared.attributes.Attributes.{Attributes}
 use Rattle.sysv_model.specs.declared.cred.Cred.{Cred}
 use Rattle.sysv_model.specs.declared.selector.Selector.{Selector}
@@ -15,7 +14,7 @@ use Rattle.sysv_model.specs.Selector.{selector_for}
 use Rattle.sysv_model.specs.History.{History}
 use Rattle.sysv_model.specs.Live.{live, IsLive}
 use Rattle.sysv_model.specs.Waiting.{waiting}
-use Rattle.sysv_model.specs.Pool.{Foreign, PoolEntry, PoolHistory, blocks_for}
+use Rattle.sysv_model.specs.Pool.{blocks_for}
 use Rattle.sysv_model.specs.Turn.{slot_history, registry_history, pool_history}
 use Rattle.sysv_pool.specs.State.{free_after}
 use Rattle.sysv_queue.specs.Fits.{Fits}
@@ -71,19 +70,15 @@ pub record IsBeingChangedBy (w : World) (id : ℤ) : Type 0 where
   pub there : slice_get w.actors place ≡ Some (Some doing)
   pub gives : HasToGiveBack doing.call.asked doing.state id
 
--- the pool refused a chain as foreign, so that it was not counted as one that came back
-abbrev pub HasRefusedAChain : PoolHistory → Type 0
-HasRefusedAChain h = (e : PoolEntry) × Contains h e × (e.reply ≡ Foreign)
-
--- it is open still, or its change is still to be told, as long as the pool refused no chain
+-- it is open still, or its change is still to be told
 abbrev pub IsToBeWoken : World → ℤ → Cred → Type 0
-IsToBeWoken w id cred = IsOpenTo (slot_history (slot_of_id id) w.turns) id cred ⊎ IsBeingChangedBy w id ⊎ HasRefusedAChain (pool_history w.turns)
+IsToBeWoken w id cred = IsOpenTo (slot_history (slot_of_id id) w.turns) id cred ⊎ IsBeingChangedBy w id
 
 -- the reason of a call with these credentials that was asked so; no other call waits so
 abbrev pub HasReason : World → Cred → SystemCall → Wait → Type 0
 HasReason w cred (Msgrcv id size mtype flags) (OnArrived goal receive) = HasNothingToTake (slot_history (slot_of_id id) w.turns) id cred (selector_for mtype flags)
 HasReason w cred (Msgsnd id mtype flags text) (OnFreed goal send) = HasNoRoom (slot_history (slot_of_id id) w.turns) id cred (length text)
-HasReason w cred (Msgsnd id mtype flags text) (OnReleased goal send) = HasTooFewBlocks w (length text) × IsToBeWoken w send.id send.cred
+HasReason w cred (Msgsnd id mtype flags text) (OnReleased goal send) = HasTooFewBlocks w (length text) × IsToBeWoken w id cred
 HasReason w cred (Msgget key flags) (OnSettled goal get) = IsBeingChanged w key
 HasReason w cred asked wait = ⊥
 

@@ -1,8 +1,8 @@
 -- The code's data as the definitions': its events, its answers, and what a world of the code is seen as
 -- (this profile's).
-use Rattle.std.specs.Prelude.{◌≡◌, ℕ, ◌+◌, ◌<◌, ◌≤◌, Bool, List, [], ◌∷◌, Option, Some, option_map, map}
+use Rattle.std.specs.Prelude.{◌≡◌, ℕ, ◌<◌, ◌≤◌, Bool, List, [], ◌∷◌, Option, Some, option_map, map}
 use Rattle.sysv_model.specs.declared.limits.TheConstants.{WORN}
-use Rattle.sysv_objects.specs.Objects.{Objects, blocks_in}
+use Rattle.sysv_objects.specs.Objects.{Objects}
 use Rattle.sysv_objects.specs.StandsFor.{StandsFor as ObjectsStandFor}
 use Rattle.sysv_steps.specs.State.{State}
 use Rattle.sysv_core.specs.declared.event.Event.{Event}
@@ -12,7 +12,6 @@ use Rattle.sysv_core.specs.declared.event.Stepped.{Stepped}
 use Rattle.sysv_core.specs.declared.event.Stepped.TheVariants as stepped
 use Rattle.sysv_core.specs.World.{World, Opening, Doing, Given, Happening, Start, Step, Makes, Presets, opening}
 use Rattle.sysv_core.specs.Run.{Leads}
-use Rattle.sysv_core.specs.Kept.{blocks_held}
 use Rattle.sysv_core.specs.Asked.{asked_of}
 use Rattle.sysv_core.specs.Answered.{TellsEnding}
 use Rattle.sysv_core.specs.Kinds.{kind_of, gives_back}
@@ -82,10 +81,7 @@ pub record StandsFor (o : Opening) (list : List Happening) (given : List Given) 
   pub led : Leads (opening o) list given world
   pub sight : IsSeenAs world seen
 
--- the blocks that are free, that lie under what waits and that calls under way hold
-abbrev pub blocks_seen : Seen → ℕ
-blocks_seen seen = seen.objects.pool.free + (blocks_in seen.objects.slots + blocks_held seen.states)
-
--- the number is that of all of them, where they are no more than the pool was opened with
-abbrev pub IsFreed : Seen → ℕ → Type 0
-IsFreed seen blocks = blocks_seen seen ≤ seen.objects.pool.size → blocks ≡ blocks_seen seen
+-- so many blocks are free once the world is ended: all that it was opened with, for every list of happenings
+-- for which it stands
+abbrev pub AreAllFree : Seen → ℕ → Type 0
+AreAllFree seen blocks = (o : Opening) (list : List Happening) (given : List Given) → StandsFor o list given seen → blocks ≡ o.blocks

@@ -1,5 +1,6 @@
 -- What every world keeps that runs from an opening (this profile's): its turns are legal, its actors are
--- in calls of their own, and no queue is installed but under an identifier that the registry made.
+-- in calls of their own, no queue is installed but under an identifier that the registry made, and each block
+-- of the pool is free, under a message that waits, or held by a call.
 use Rattle.std.specs.Prelude.{◌≡◌, ℕ, suc, ℤ, true, List, Option, Some, slice_get}
 use Rattle.sysv_model.specs.declared.attributes.Attributes.{Attributes}
 use Rattle.sysv_model.specs.History.{Who, Actor, Seat}
@@ -11,7 +12,8 @@ use Rattle.sysv_objects.specs.LegalDeed.{AreLegal}
 use Rattle.sysv_steps.specs.State.{Getting, AtInstall, Goes}
 use Rattle.sysv_steps.specs.HeldBlocks.{HasItsBlocks}
 use Rattle.sysv_core.specs.Kinds.{kind_of, IsOf}
-use Rattle.sysv_core.specs.World.{World, Doing, Happening, Given, Makes}
+use Rattle.sysv_core.specs.World.{World, Opening, Doing, Happening, Given, Makes, opening}
+use Rattle.sysv_core.specs.Conserved.{AreConserved}
 
 -- the call is this actor's
 abbrev pub IsToCaller : Who → ℕ → Type 0
@@ -36,6 +38,11 @@ pub record IsSound (w : World) : Type 0 where
   -- where an actor is to install a queue, and where one lives, an identifier of that slot was made
   pub installs : (place : ℕ) (d : Doing) (get : Getting) (id : ℤ) → slice_get w.actors place ≡ Some (Some d) → d.state ≡ Goes (AtInstall get id) → IsMadeIn w.turns (slot_of_id id)
   pub lives : (slot : ℕ) (a : Attributes) → live (slot_history slot w.turns) ≡ Some a → IsMadeIn w.turns slot
+  pub blocks : AreConserved w.blocks w.turns w.actors
+
+-- a world in which nothing has happened is such a world
+abbrev pub OpensSound : Type 0
+OpensSound = (o : Opening) → IsSound (opening o)
 
 -- whatever happens in such a world leaves such a world
 abbrev pub StaysSound : Type 0

@@ -1,7 +1,7 @@
 //! Laws over the definitions alone.
 
 ghost use Rattle.sysv_core.specs.Headline.{EveryRunObeys};
-ghost use Rattle.sysv_core.specs.Sound.{StaysSound};
+ghost use Rattle.sysv_core.specs.Sound.{OpensSound, StaysSound};
 ghost use Rattle.sysv_core.specs.OneRun.{OneStep, OnePreset, OneRun};
 ghost use Rattle.sysv_core.specs.SomeRun.{SomeStep, SomePreset, SomeRun};
 ghost use Rattle.sysv_core.specs.WorkedRun.{WorkedRun, NoWrongReply, ExactFit};
@@ -12,9 +12,10 @@ ghost use Rattle.sysv_core.specs.WorkedWaits.{WorkedWaits};
 use sysv_keys::laws::{registry_law, unused_slots};
 use sysv_objects::laws::{legal_turns, one_legal_deed};
 use sysv_pool::laws::pool_law;
-use sysv_queue::laws::{queue_law, removed_for_good, stays_right};
+use sysv_queue::laws::{blocks_kept, queue_law, removed_for_good, stays_right};
 use sysv_steps::laws::{
-    after_removal, each_answer_is_right, each_deed_is_asked_for, waits_for_its_refusal,
+    after_removal, each_answer_is_right, each_deed_is_asked_for, each_holds_its_blocks,
+    each_holds_what_it_was_asked, waits_for_its_refusal,
 };
 
 /// The headline: every list of happenings leads from every opening only to worlds that obey the laws.
@@ -30,16 +31,21 @@ pub fn every_run_obeys()
     each_answer_is_right();
     stays_right();
     waits_for_its_refusal();
+    each_holds_what_it_was_asked();
     removed_for_good();
     after_removal();
 }
 
-/// Whatever happens in a sound world leaves a sound world.
+/// A world in which nothing has happened is sound, and whatever happens in a sound world leaves a sound world.
 pub fn each_world_is_sound()
-    ensures { StaysSound }
+    ensures opens { OpensSound }
+    ensures stays { StaysSound }
 {
     legal_turns();
     unused_slots();
+    blocks_kept();
+    pool_law();
+    each_holds_its_blocks();
 }
 
 /// An event, and a preset, makes one world at most of a sound world, and gives one result.

@@ -2,7 +2,7 @@ ghost use Rattle.std.specs.Prelude.{ℕ, List, false, IsTrue, ◌≡◌, ◌≢�
 ghost use Rattle.sysv_model.specs.declared.limits.TheConstants.{ACTORS_MOST as most_actors, BLOCKS_LEAST as least_blocks, BLOCKS_MOST as most_blocks, WORN as worn};
 ghost use Rattle.sysv_keys.specs.declared.identifier.TheConstants.{GENERATION_LAST as last_generation};
 ghost use Rattle.sysv_core.specs.Headline.{StandsWithPreset, StandsWithEvent, StandsWithEvents, LawsHold};
-ghost use Rattle.sysv_core.specs.Seen.{StandsFor, PresetsSeen, StepsSeen, IsFreed};
+ghost use Rattle.sysv_core.specs.Seen.{StandsFor, PresetsSeen, StepsSeen, AreAllFree};
 ghost use Rattle.sysv_core.specs.Kept.{doing_led, told_by};
 ghost use Rattle.sysv_core.specs.Standing.{state_at, StandsNowhere, StandsThere};
 ghost use Rattle.sysv_core.specs.declared.event.Event.TheVariants.{Start, Step};
@@ -185,11 +185,11 @@ impl World {
     }
 
     /// Ends the world: puts the blocks of all that waits, and those that calls under way hold, back into the
-    /// pool, and answers how many blocks are free then. Where they would be more than the pool was opened
-    /// with none of them is put back. A message that a receive under way was given is lost. It takes no
-    /// memory.
+    /// pool, and answers how many blocks are free then, which are all that the world was opened with. A message
+    /// that a receive under way was given is lost. It takes no memory.
     pub fn end(self) -> u32
-        ensures { IsFreed self result }
+        // For every list of happenings that the world stands for.
+        ensures { AreAllFree self result }
     {
         let World {
             objects,

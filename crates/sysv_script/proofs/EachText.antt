@@ -11,7 +11,7 @@ use Rattle.sysv_core.specs.declared.event.Event.TheVariants.{Start, Step}
 use Rattle.sysv_core.specs.declared.event.Stepped.{Stepped}
 use Rattle.sysv_core.specs.declared.event.Stepped.TheVariants as stepped
 use Rattle.sysv_core.specs.World.{World, actor_at, Presets}
-use Rattle.sysv_core.specs.Sound.{IsSound}
+use Rattle.sysv_core.specs.Sound.{IsSound, OpensSound}
 use Rattle.sysv_core.specs.SomeRun.{SomeStep, SomePreset}
 use Rattle.sysv_streams.specs.Faults.{bad_line_text}
 use Rattle.sysv_lines.specs.Heads.{head_text}
@@ -22,7 +22,7 @@ use Rattle.sysv_script.specs.ScriptRun.{Scene, opening_scene, opening_world, beg
 use Rattle.sysv_script.specs.ScriptText.{BeginsWith, LineDoes, IsBad, Ending, Whole, BadLine, TooMany, Prints, Ends, Exceeds, Fails, Goes}
 use Rattle.sysv_script.specs.EachText.{EachTextPrints}
 use Rattle.sysv_script.proofs.CredLemmas.{cred_held}
-use Rattle.sysv_script.proofs.Opening.{OpeningsLegal, opening_sound}
+use Rattle.sysv_script.proofs.Opening.{opening_sound}
 use Rattle.sysv_words.specs.OneSplit.{OneSplit}
 use Rattle.sysv_lines.specs.OneLine.{EachLineIsDecided}
 
@@ -76,7 +76,7 @@ goes_first : (s : Scene) (n : ℕ) (text : List ℕ) (first : FirstLine text) �
 goes_first s n text first few does more =
     (does.out ++ more.0, more.1, Goes s n text first.line first.rest does.out does.after more.0 more.1 few first.begins does.does more.2)
 
-module _ (split : OneSplit) (decided : EachLineIsDecided) (some : SomeStep) (preset : SomePreset) (legal : OpeningsLegal) where
+module _ (split : OneSplit) (decided : EachLineIsDecided) (some : SomeStep) (preset : SomePreset) (opens : OpensSound) where
   -- what is left behind has the credentials as they were, and a sound world
   abbrev IsKept : Scene → Scene → Type 0
   IsKept s after = (after.creds ≡ s.creds) × IsSound after.world
@@ -151,7 +151,7 @@ module _ (split : OneSplit) (decided : EachLineIsDecided) (some : SomeStep) (pre
         out = [];
         after = after;
         does = (GivesBlocks blocks, says, (refl, (e, subst (λ b. after ≡ (if b then after else s)) e refl)));
-        manned = (manned.0, opening_sound blocks (legal blocks));
+        manned = (manned.0, opening_sound opens blocks);
       })
   pool_goes s line blocks false e manned says =
       let opened = in_world (begun_scene s) (opening_world blocks) in
@@ -212,4 +212,4 @@ module _ (split : OneSplit) (decided : EachLineIsDecided) (some : SomeStep) (pre
   ]
 
   pub each_text_prints : EachTextPrints
-  each_text_prints text = prints_bounded (length text) 1 opening_scene text (omega arith) (refl, opening_sound 1024 (legal 1024))
+  each_text_prints text = prints_bounded (length text) 1 opening_scene text (omega arith) (refl, opening_sound opens 1024)

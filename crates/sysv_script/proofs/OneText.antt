@@ -7,8 +7,8 @@ use Rattle.sysv_steps.specs.Call.{SystemCall}
 use Rattle.sysv_lines.specs.declared.names.Operation.{Operation}
 use Rattle.sysv_core.specs.declared.event.Call.{Call}
 use Rattle.sysv_core.specs.Seen.{happening_of}
-use Rattle.sysv_core.specs.Sound.{IsSound, StaysSound}
-use Rattle.sysv_script.proofs.Opening.{OpeningsLegal, opening_sound}
+use Rattle.sysv_core.specs.Sound.{IsSound, OpensSound, StaysSound}
+use Rattle.sysv_script.proofs.Opening.{opening_sound}
 use Rattle.sysv_core.specs.declared.event.Event.{Event}
 use Rattle.sysv_core.specs.declared.event.Event.TheVariants.{Start, Step}
 use Rattle.sysv_core.specs.declared.event.Stepped.{Stepped}
@@ -139,7 +139,7 @@ module _ (split : OneSplit) (saying : OneSaying) where
   one_cred : (a b : Cred) → Some a ≡ Some b → a ≡ b
   one_cred a b e = cc
 
-  module _ (one : OneStep) (preset : OnePreset) (stays : StaysSound) (legal : OpeningsLegal) where
+  module _ (one : OneStep) (preset : OnePreset) (stays : StaysSound) (openings : OpensSound) where
     advances_once : (s : Scene) (event : Event) (result given : Stepped) (a b : Scene) → IsSound s.world → Advances s event result a → Advances s event given b → (result ≡ given) × (a ≡ b)
     advances_once s event result given a b sound h k =
         let here = one s.world a.world b.world event result given sound h.0 k.0 in
@@ -264,7 +264,7 @@ module _ (split : OneSplit) (saying : OneSaying) where
     act_sound s AllContinue out a sound h = all_sound (range_with_len 1 16) s out a sound h.1
 
     pool_sound : (s : Scene) (blocks : ℕ) (fresh : Bool) (a : Scene) → IsSound s.world → a ≡ (if fresh then in_world (begun_scene s) (opening_world blocks) else s) → IsSound a.world
-    pool_sound s blocks true a sound e = subst (λ (m : Scene). IsSound m.world) (sym e) (opening_sound blocks (legal blocks))
+    pool_sound s blocks true a sound e = subst (λ (m : Scene). IsSound m.world) (sym e) (opening_sound openings blocks)
     pool_sound s blocks false a sound e = subst (λ (m : Scene). IsSound m.world) (sym e) sound
 
     line_sound : (s : Scene) (said : Said) (out : List ℕ) (a : Scene) → IsSound s.world → LineRuns s said true out a → IsSound a.world
@@ -328,9 +328,9 @@ module _ (split : OneSplit) (saying : OneSaying) where
         let tail = sofar s n text out other end sound h k in
         (length out, sym (ap (take (length out)) tail.1 ∙ take-append_seam out tail.0))
 
-pub one_text : OneSplit → OneSaying → OneStep → OnePreset → StaysSound → OpeningsLegal → OneText
-one_text split saying one preset stays legal = record {
-  sound = opening_sound 1024 (legal 1024);
-  once = λ s n text out other ending end sound h k. agrees split saying one preset stays legal s n text out other ending end sound h k;
-  sofar = λ s n text out other end sound h k. front_of split saying one preset stays legal s n text out other end sound h k;
+pub one_text : OneSplit → OneSaying → OneStep → OnePreset → StaysSound → OpensSound → OneText
+one_text split saying one preset stays openings = record {
+  sound = opening_sound openings 1024;
+  once = λ s n text out other ending end sound h k. agrees split saying one preset stays openings s n text out other ending end sound h k;
+  sofar = λ s n text out other end sound h k. front_of split saying one preset stays openings s n text out other end sound h k;
 }

@@ -5,7 +5,6 @@ ghost use Rattle.sysv_script.specs.OneText.{OneText};
 
 use sysv_core::laws::{each_world_is_sound, one_step, some_step};
 use sysv_lines::laws::{each_line_is_decided, one_saying};
-use sysv_objects::laws::legal_turns;
 use sysv_words::laws::one_split;
 
 /// From a scene, which is a world and its actors' credentials, a text prints one thing only and ends in
@@ -13,7 +12,6 @@ use sysv_words::laws::one_split;
 pub fn one_text()
     ensures { OneText }
 {
-    legal_turns();
     each_world_is_sound();
     one_step();
     one_saying();
@@ -24,7 +22,7 @@ pub fn one_text()
 pub fn each_text_prints()
     ensures { EachTextPrints }
 {
-    legal_turns();
+    each_world_is_sound();
     some_step();
     each_line_is_decided();
     one_split();

@@ -22,68 +22,17 @@ use Rattle.sysv_steps.specs.Next.{next, is_full, after_begin, after_install, aft
 use Rattle.sysv_steps.specs.Resume.{resume}
 use Rattle.sysv_steps.specs.Played.{Plays, begins, steps, resumes}
 use Rattle.sysv_steps.specs.AsksFor.{AsksFor, AllAskFor}
+use Rattle.sysv_steps.specs.HoldsAsked.{IsGet, IsSend, IsReceive, WaitHolds, AfterwardsHolds, PhaseHolds, Holds}
 
 -- ---- what a call holds is what it was asked
 
-record IsGet (cred : Cred) (key : ℤ) (flags : Flags) (get : Getting) : Type 0 where
-  is : get ≡ record { cred = cred; key = key; flags = flags }
-
-record IsSend (by : Cred) (at type : ℤ) (bytes : List ℕ) (send : Sending) : Type 0 where
-  cred : send.cred ≡ by
-  id : send.id ≡ at
-  mtype : send.mtype ≡ type
-  text : send.text ≡ bytes
-
-record IsReceive (by : Cred) (at : ℤ) (wanted : ℕ) (type : ℤ) (flags : Flags) (receive : Receiving) : Type 0 where
-  cred : receive.cred ≡ by
-  id : receive.id ≡ at
-  selector : receive.selector ≡ selector_for type flags
-  size : receive.size ≡ wanted
-  noerror : receive.noerror ≡ has_flag MSG_NOERROR flags
-
-abbrev WaitOf : Cred → SystemCall → Wait → Type 0
-WaitOf cred (Msgget key flags) (OnSettled goal get) = IsGet cred key flags get
-WaitOf cred (Msgsnd id mtype flags text) (OnFreed goal send) = IsSend cred id mtype text send
-WaitOf cred (Msgsnd id mtype flags text) (OnReleased goal send) = IsSend cred id mtype text send
-WaitOf cred (Msgrcv id size mtype flags) (OnArrived goal receive) = IsReceive cred id size mtype flags receive
-WaitOf cred asked wait = ⊥
-
-abbrev AfterOf : Cred → SystemCall → Afterwards → Type 0
-AfterOf cred asked (IsRefused why) = Unit {0}
-AfterOf cred asked (WaitsOn wait) = WaitOf cred asked wait
-
-abbrev PhaseOf : Cred → SystemCall → Phase → Type 0
-PhaseOf cred (Msgget key flags) (AtBegin get) = IsGet cred key flags get
-PhaseOf cred (Msgget key flags) (AtInstall get id) = IsGet cred key flags get
-PhaseOf cred (Msgget key flags) (AtSettle id) = Unit {0}
-PhaseOf cred (Msgget key flags) (AtProbe get id settled) = IsGet cred key flags get
-PhaseOf cred (Msgget key flags) (AtUnmake id) = Unit {0}
-PhaseOf cred (Msgsnd id mtype flags text) (AtLook send) = IsSend cred id mtype text send
-PhaseOf cred (Msgsnd id mtype flags text) (AtReserve send) = IsSend cred id mtype text send
-PhaseOf cred (Msgsnd id mtype flags text) (AtPlace send blocks) = IsSend cred id mtype text send
-PhaseOf cred (Msgsnd id mtype flags text) (AtSendGiveback blocks afterwards) = AfterOf cred (Msgsnd id mtype flags text) afterwards
-PhaseOf cred (Msgrcv id size mtype flags) (AtTake receive) = IsReceive cred id size mtype flags receive
-PhaseOf cred (Msgrcv id size mtype flags) (AtReceiveGiveback blocks type text) = Unit {0}
-PhaseOf cred (MsgctlStat id) (AtStat by at) = (by ≡ cred) × (at ≡ id)
-PhaseOf cred (MsgctlSet id to) (AtSet by at what) = (by ≡ cred) × (at ≡ id) × (what ≡ to)
-PhaseOf cred (MsgctlSet id to) AtSetGiveback = Unit {0}
-PhaseOf cred (MsgctlRmid id) (AtRemove by at) = (by ≡ cred) × (at ≡ id)
-PhaseOf cred (MsgctlRmid id) (AtForget at blocks) = at ≡ id
-PhaseOf cred (MsgctlRmid id) (AtRemoveGiveback blocks) = Unit {0}
-PhaseOf cred asked phase = ⊥
-
-abbrev StateOf : Cred → SystemCall → State → Type 0
-StateOf cred asked (Goes phase) = PhaseOf cred asked phase
-StateOf cred asked (Waits wait) = WaitOf cred asked wait
-StateOf cred asked (Over ending) = Unit {0}
-
 abbrev NextOf : Cred → SystemCall → Option State → Type 0
 NextOf cred asked None = Unit {0}
-NextOf cred asked (Some state) = StateOf cred asked state
+NextOf cred asked (Some state) = Holds cred asked state
 
 -- ---- it holds them from its start to its end
 
-begun_of : (cred : Cred) (asked : SystemCall) (released : ℕ) (refused : Bool) → StateOf cred asked (cond refused (Over (Refused EINVAL)) (Goes (first cred asked released)))
+begun_of : (cred : Cred) (asked : SystemCall) (released : ℕ) (refused : Bool) → Holds cred asked (cond refused (Over (Refused EINVAL)) (Goes (first cred asked released)))
 begun_of cred asked released true = tt
 begun_of cred (Msgget key flags) released false = record { is = refl }
 begun_of cred (Msgsnd id mtype flags text) released false = record { cred = refl; id = refl; mtype = refl; text = refl }
@@ -94,11 +43,11 @@ begun_of cred (MsgctlRmid id) released false = (refl, refl)
 
 module _ (cred : Cred) where
   -- a call that waits holds what it held, at once or once it has given back its chain
-  after_keeps : (asked : SystemCall) (nowait : Bool) (wait : Wait) (why : Errno) → WaitOf cred asked wait → AfterOf cred asked (waits_or nowait wait why)
+  after_keeps : (asked : SystemCall) (nowait : Bool) (wait : Wait) (why : Errno) → WaitHolds cred asked wait → AfterwardsHolds cred asked (waits_or nowait wait why)
   after_keeps asked true wait why h = tt
   after_keeps asked false wait why h = h
 
-  waits_keep : (asked : SystemCall) (nowait : Bool) (wait : Wait) (why : Errno) → WaitOf cred asked wait → StateOf cred asked (goes_on (waits_or nowait wait why))
+  waits_keep : (asked : SystemCall) (nowait : Bool) (wait : Wait) (why : Errno) → WaitHolds cred asked wait → Holds cred asked (goes_on (waits_or nowait wait why))
   waits_keep asked true wait why h = tt
   waits_keep asked false wait why h = h
 
@@ -126,7 +75,7 @@ module _ (cred : Cred) where
   unmake_keeps key flags (Changed done) = tt
   unmake_keeps key flags reply = tt
 
-  got : (key : ℤ) (flags : Flags) (phase : Phase) (deed : Deed) → PhaseOf cred (Msgget key flags) phase → NextOf cred (Msgget key flags) (next phase deed)
+  got : (key : ℤ) (flags : Flags) (phase : Phase) (deed : Deed) → PhaseHolds cred (Msgget key flags) phase → NextOf cred (Msgget key flags) (next phase deed)
   got key flags (AtBegin get) (AtRegistry call reply) h = begin_keeps key flags get reply h
   got key flags (AtInstall get id) (AtSlot slot call reply) h = install_keeps key flags id reply
   got key flags (AtSettle id) (AtRegistry call reply) h = settle_keeps key flags id reply
@@ -136,7 +85,7 @@ module _ (cred : Cred) where
 
   -- msgsnd
   module _ (id mtype : ℤ) (flags : Flags) (text : List ℕ) where
-    full_keeps : (send : Sending) (freed : ℕ) → IsSend cred id mtype text send → StateOf cred (Msgsnd id mtype flags text) (goes_on (is_full send freed))
+    full_keeps : (send : Sending) (freed : ℕ) → IsSend cred id mtype text send → Holds cred (Msgsnd id mtype flags text) (goes_on (is_full send freed))
     full_keeps send freed h =
         waits_keep (Msgsnd id mtype flags text) send.nowait (OnFreed (freed + 1) (record send { seen = true })) EAGAIN
         record { cred = h.cred; id = h.id; mtype = h.mtype; text = h.text }
@@ -157,14 +106,14 @@ module _ (cred : Cred) where
         record { cred = h.cred; id = h.id; mtype = h.mtype; text = h.text }
     place_keeps send blocks reply h = tt
 
-    giveback_keeps : (afterwards : Afterwards) (reply : PoolReply) → AfterOf cred (Msgsnd id mtype flags text) afterwards → NextOf cred (Msgsnd id mtype flags text) (after_giveback (goes_on afterwards) reply)
+    giveback_keeps : (afterwards : Afterwards) (reply : PoolReply) → AfterwardsHolds cred (Msgsnd id mtype flags text) afterwards → NextOf cred (Msgsnd id mtype flags text) (after_giveback (goes_on afterwards) reply)
     giveback_keeps (IsRefused why) Released h = tt
     giveback_keeps (IsRefused why) reply h = tt
     giveback_keeps (WaitsOn wait) Released h = h
     giveback_keeps (WaitsOn wait) Foreign h = h
     giveback_keeps (WaitsOn wait) reply h = tt
 
-    sent : (phase : Phase) (deed : Deed) → PhaseOf cred (Msgsnd id mtype flags text) phase → NextOf cred (Msgsnd id mtype flags text) (next phase deed)
+    sent : (phase : Phase) (deed : Deed) → PhaseHolds cred (Msgsnd id mtype flags text) phase → NextOf cred (Msgsnd id mtype flags text) (next phase deed)
     sent (AtLook send) (AtSlot slot call reply) h = look_keeps send reply h
     sent (AtReserve send) (AtPool call reply) h = reserve_keeps send reply h
     sent (AtPlace send blocks) (AtSlot slot call reply) h = place_keeps send blocks reply h
@@ -182,7 +131,7 @@ module _ (cred : Cred) where
   over_keeps asked ending Released = tt
   over_keeps asked ending reply = tt
 
-  received : (id : ℤ) (size : ℕ) (mtype : ℤ) (flags : Flags) (phase : Phase) (deed : Deed) → PhaseOf cred (Msgrcv id size mtype flags) phase → NextOf cred (Msgrcv id size mtype flags) (next phase deed)
+  received : (id : ℤ) (size : ℕ) (mtype : ℤ) (flags : Flags) (phase : Phase) (deed : Deed) → PhaseHolds cred (Msgrcv id size mtype flags) phase → NextOf cred (Msgrcv id size mtype flags) (next phase deed)
   received id size mtype flags (AtTake receive) (AtSlot slot call reply) h = take_keeps id size mtype flags receive reply h
   received id size mtype flags (AtReceiveGiveback blocks type text) (AtPool call reply) h = over_keeps (Msgrcv id size mtype flags) (Got type text) reply
   received id size mtype flags phase deed h = search h
@@ -204,22 +153,22 @@ module _ (cred : Cred) where
   forget_keeps id blocks (Changed done) = tt
   forget_keeps id blocks reply = tt
 
-  told : (id : ℤ) (phase : Phase) (deed : Deed) → PhaseOf cred (MsgctlStat id) phase → NextOf cred (MsgctlStat id) (next phase deed)
+  told : (id : ℤ) (phase : Phase) (deed : Deed) → PhaseHolds cred (MsgctlStat id) phase → NextOf cred (MsgctlStat id) (next phase deed)
   told id (AtStat by at) (AtSlot slot call reply) h = stat_keeps id reply
   told id phase deed h = search h
 
-  set : (id : ℤ) (to : SetTo) (phase : Phase) (deed : Deed) → PhaseOf cred (MsgctlSet id to) phase → NextOf cred (MsgctlSet id to) (next phase deed)
+  set : (id : ℤ) (to : SetTo) (phase : Phase) (deed : Deed) → PhaseHolds cred (MsgctlSet id to) phase → NextOf cred (MsgctlSet id to) (next phase deed)
   set id to (AtSet by at what) (AtSlot slot call reply) h = set_keeps id to reply
   set id to AtSetGiveback (AtPool call reply) h = over_keeps (MsgctlSet id to) Zero reply
   set id to phase deed h = search h
 
-  removed : (id : ℤ) (phase : Phase) (deed : Deed) → PhaseOf cred (MsgctlRmid id) phase → NextOf cred (MsgctlRmid id) (next phase deed)
+  removed : (id : ℤ) (phase : Phase) (deed : Deed) → PhaseHolds cred (MsgctlRmid id) phase → NextOf cred (MsgctlRmid id) (next phase deed)
   removed id (AtRemove by at) (AtSlot slot call reply) h = remove_keeps id at reply h.1
   removed id (AtForget at blocks) (AtRegistry call reply) h = forget_keeps id blocks reply
   removed id (AtRemoveGiveback blocks) (AtPool call reply) h = over_keeps (MsgctlRmid id) Zero reply
   removed id phase deed h = search h
 
-  keeps : (asked : SystemCall) (phase : Phase) (deed : Deed) → PhaseOf cred asked phase → NextOf cred asked (next phase deed)
+  keeps : (asked : SystemCall) (phase : Phase) (deed : Deed) → PhaseHolds cred asked phase → NextOf cred asked (next phase deed)
   keeps (Msgget key flags) phase deed h = got key flags phase deed h
   keeps (Msgsnd id mtype flags text) phase deed h = sent id mtype flags text phase deed h
   keeps (Msgrcv id size mtype flags) phase deed h = received id size mtype flags phase deed h
@@ -227,7 +176,7 @@ module _ (cred : Cred) where
   keeps (MsgctlSet id to) phase deed h = set id to phase deed h
   keeps (MsgctlRmid id) phase deed h = removed id phase deed h
 
-  resumes_so : (asked : SystemCall) (wait : Wait) (value : ℕ) → WaitOf cred asked wait → PhaseOf cred asked (resume wait value)
+  resumes_so : (asked : SystemCall) (wait : Wait) (value : ℕ) → WaitHolds cred asked wait → PhaseHolds cred asked (resume wait value)
   resumes_so (Msgget key flags) (OnSettled goal get) value h = h
   resumes_so (Msgsnd id mtype flags text) (OnFreed goal send) value h = h
   resumes_so (Msgsnd id mtype flags text) (OnReleased goal send) value h = record { cred = h.cred; id = h.id; mtype = h.mtype; text = h.text }
@@ -236,7 +185,7 @@ module _ (cred : Cred) where
 
   -- ---- what it asks then
 
-  asks_so : (asked : SystemCall) (phase : Phase) (now : ℕ) → PhaseOf cred asked phase → AsksFor cred asked (asks phase now)
+  asks_so : (asked : SystemCall) (phase : Phase) (now : ℕ) → PhaseHolds cred asked phase → AsksFor cred asked (asks phase now)
   asks_so (Msgget key flags) (AtBegin get) now h = inl (ap (λ (g : Getting). OfRegistry (Begin g.key g.flags)) h.is)
   asks_so (Msgget key flags) (AtInstall get id) now h = inr (inl (id, now, ap (λ (g : Getting). OfSlot (slot_of_id id) (Install id g.key g.cred g.flags.0 now)) h.is))
   asks_so (Msgget key flags) (AtSettle id) now h = inr (inr (inl (id, refl)))
@@ -260,7 +209,7 @@ module _ (cred : Cred) where
 -- ---- along a play
 
 record Asked (cred : Cred) (asked : SystemCall) (deeds : List Deed) (state : State) : Type 0 where
-  holds : StateOf cred asked state
+  holds : Holds cred asked state
   all : AllAskFor cred asked deeds
 
 after_one : (cred : Cred) (asked : SystemCall) (phase : Phase) (deed : Deed) (now : ℕ) (after : State) (deeds : List Deed) →
@@ -279,3 +228,6 @@ along cred asked released _ _ (resumes {deeds} {wait} value p least) =
 
 pub each_asked : (cred : Cred) (asked : SystemCall) (released : ℕ) (deeds : List Deed) (state : State) → Plays (begin cred asked released) deeds state → AllAskFor cred asked deeds
 each_asked cred asked released deeds state p = (along cred asked released deeds state p).all
+
+pub each_holds_asked : (cred : Cred) (asked : SystemCall) (released : ℕ) (deeds : List Deed) (state : State) → Plays (begin cred asked released) deeds state → Holds cred asked state
+each_holds_asked cred asked released deeds state p = (along cred asked released deeds state p).holds

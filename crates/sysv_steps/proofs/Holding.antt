@@ -181,3 +181,7 @@ each_holds cred asked released _ _ (steps {deeds} {phase} deed now after p is n)
     let before = each_holds cred asked released deeds (Goes phase) p (fewer deeds deed g) in
     one_more deeds phase deed after (subst (IsKeptIf (held (Goes phase)) deed) n (one_row deeds phase deed now before.at_place is g)) before
 each_holds cred asked released _ _ (resumes {deeds} {wait} value p least) g = resumed deeds wait value (each_holds cred asked released deeds (Waits wait) p g)
+
+pub each_step_keeps : (phase : Phase) (deed : Deed) (now : ℕ) (after : State) → HasItsBlocks (Goes phase) → GivesWhatIsAsked (deed ∷ []) →
+    asked_by deed ≡ asks phase now → next phase deed ≡ Some after → held after + left_by deed ≡ held (Goes phase) + given_by deed
+each_step_keeps phase deed now after h g is n = (subst (IsKeptIf (held (Goes phase)) deed) n (one_row [] phase deed now h is g)).balance

@@ -1,15 +1,17 @@
 -- The blocks that a call holds (this profile's): it neither makes nor loses one. Those that it was given, by
 -- the pool or with what it took from a queue or removed with it, went onto a queue or back to the pool, or it
 -- holds them still. A send that comes to its place holds as many as its text takes.
-use Rattle.std.specs.Prelude.{◌≡◌, ℕ, ◌+◌, List, length, sum_by, Contains}
+use Rattle.std.specs.Prelude.{◌≡◌, ℕ, ◌+◌, List, [], ◌∷◌, Some, length, sum_by, Contains}
 use Rattle.sysv_model.specs.declared.cred.Cred.{Cred}
 use Rattle.sysv_model.specs.History.{Call, Place, Accepted, Taken, Discarded}
 use Rattle.sysv_model.specs.Pool.{blocks_for, PoolCall, Reserve, Release, Reserved, Released, Foreign}
-use Rattle.sysv_model.specs.Turn.{Deed, AtSlot, AtPool}
+use Rattle.sysv_model.specs.Turn.{Deed, AtSlot, AtPool, asked_by}
 use Rattle.sysv_queue.specs.Blocks.{blocks_of}
 use Rattle.sysv_steps.specs.Call.{SystemCall}
-use Rattle.sysv_steps.specs.State.{AtPlace, AtSendGiveback, AtReceiveGiveback, AtForget, AtRemoveGiveback, State, Goes}
+use Rattle.sysv_steps.specs.State.{Phase, AtPlace, AtSendGiveback, AtReceiveGiveback, AtForget, AtRemoveGiveback, State, Goes}
 use Rattle.sysv_steps.specs.Begin.{begin}
+use Rattle.sysv_steps.specs.Asks.{asks}
+use Rattle.sysv_steps.specs.Next.{next}
 use Rattle.sysv_steps.specs.Played.{Plays}
 
 -- the blocks that a call holds where it stands
@@ -60,3 +62,8 @@ pub record HoldsItsBlocks (deeds : List Deed) (state : State) : Type 0 where
 abbrev pub EachHoldsItsBlocks : Type 0
 EachHoldsItsBlocks = (cred : Cred) (asked : SystemCall) (released : ℕ) (deeds : List Deed) (state : State) →
     Plays (begin cred asked released) deeds state → GivesWhatIsAsked deeds → HoldsItsBlocks deeds state
+
+-- and at each step: what it held and was given is what left it and what it holds then
+abbrev pub EachStepKeepsItsBlocks : Type 0
+EachStepKeepsItsBlocks = (phase : Phase) (deed : Deed) (now : ℕ) (after : State) → HasItsBlocks (Goes phase) → GivesWhatIsAsked (deed ∷ []) →
+    asked_by deed ≡ asks phase now → next phase deed ≡ Some after → held after + left_by deed ≡ held (Goes phase) + given_by deed

@@ -16,6 +16,7 @@ pub mod Next
 pub mod Resume
 pub mod Played
 pub mod AsksFor
+pub mod HoldsAsked
 pub mod OneAnswer
 pub mod Answers
 pub mod AfterRemoval

@@ -3,7 +3,8 @@
 ghost use Rattle.sysv_steps.specs.AfterRemoval.{EachIsToldOfRemoval};
 ghost use Rattle.sysv_steps.specs.Answers.{EachAnswerIsRight};
 ghost use Rattle.sysv_steps.specs.AsksFor.{EachDeedIsAskedFor};
-ghost use Rattle.sysv_steps.specs.HeldBlocks.{EachHoldsItsBlocks};
+ghost use Rattle.sysv_steps.specs.HeldBlocks.{EachHoldsItsBlocks, EachStepKeepsItsBlocks};
+ghost use Rattle.sysv_steps.specs.HoldsAsked.{EachHoldsWhatItWasAsked};
 ghost use Rattle.sysv_steps.specs.MayWait.{EachWaitsWhereItMay};
 ghost use Rattle.sysv_steps.specs.OneAnswer.{OneAnswer};
 ghost use Rattle.sysv_steps.specs.ReadLast.{EachWaitsAboveWhatItRead};
@@ -43,10 +44,16 @@ pub fn each_is_tended()
     ensures { EachIsTended }
 {}
 
-/// A call neither makes nor loses a block of the pool, and a send that comes to its place holds as many as its
-/// text takes.
+/// A call neither makes nor loses a block of the pool, at any of its steps and along its play, and a send that
+/// comes to its place holds as many as its text takes.
 pub fn each_holds_its_blocks()
-    ensures { EachHoldsItsBlocks }
+    ensures play { EachHoldsItsBlocks }
+    ensures step { EachStepKeepsItsBlocks }
+{}
+
+/// Wherever a call stands it holds the credentials and the arguments that it began with.
+pub fn each_holds_what_it_was_asked()
+    ensures { EachHoldsWhatItWasAsked }
 {}
 
 /// A call asks the objects for what it was asked, and for nothing else, however far it has come.

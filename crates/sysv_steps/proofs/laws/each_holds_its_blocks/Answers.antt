@@ -1,5 +1,5 @@
-use Rattle.sysv_steps.proofs.Holding.{each_holds}
+use Rattle.sysv_steps.proofs.Holding.{each_holds, each_step_keeps}
 use Rattle.sysv_steps.proofs.laws.each_holds_its_blocks.Goals as goal
 
 pub returns : goal.returns
-returns c = each_holds
+returns c = record { play = each_holds; step = each_step_keeps }

@@ -1,8 +1,9 @@
-use Rattle.std.proofs.Common.{◌≡◌, ◌≤◌, ◌+◌, ◌^◌, ℕ, subst}
+use Rattle.std.proofs.Common.{◌≡◌, ◌≤◌, ◌+◌, ◌^◌, subst}
 use Rattle.sysv_objects.specs.Objects.{blocks_in}
 use Rattle.sysv_core.specs.Kept.{states_kept, blocks_held}
-use Rattle.sysv_core.specs.Seen.{IsFreed}
+use Rattle.sysv_core.specs.Seen.{Seen, AreAllFree}
 use Rattle.sysv_core.proofs.KeptActors.{weaker}
+use Rattle.sysv_core.proofs.Freeing.{all_free}
 use Rattle.sysv_core.proofs.world.World.end.Goals as goal
 
 pub end-requires : goal.end-requires
@@ -11,7 +12,7 @@ end-requires c = weaker c.self.inside.steps (2 ^ 62) c.self.inside.objects c.sel
 pub returns : goal.returns
 returns c =
     let o = c.self.inside.objects in
-    let freed : (n : ℕ) → n ≡ blocks_held (states_kept c.self.inside.actors.items) → (o.pool.free + (blocks_in o.slots + n) ≤ o.pool.size → c.end.result ≡ o.pool.free + (blocks_in o.slots + n)) →
-    IsFreed (record { objects = o; states = states_kept c.self.inside.actors.items; steps = c.self.inside.steps }) c.end.result =
-    λ n is f. subst (λ m. o.pool.free + (blocks_in o.slots + m) ≤ o.pool.size → c.end.result ≡ o.pool.free + (blocks_in o.slots + m)) is f in
-    subst (λ v. IsFreed v c.end.result) c.self.view_is (freed c.end_all.result.blocks c.end_all.ensures c.end.ensures)
+    let seen : Seen = record { objects = o; states = states_kept c.self.inside.actors.items; steps = c.self.inside.steps } in
+    let freed : o.pool.free + (blocks_in o.slots + blocks_held seen.states) ≤ o.pool.size → c.end.result ≡ o.pool.free + (blocks_in o.slots + blocks_held seen.states) =
+    subst (λ n. o.pool.free + (blocks_in o.slots + n) ≤ o.pool.size → c.end.result ≡ o.pool.free + (blocks_in o.slots + n)) c.end_all.ensures c.end.ensures in
+    subst (λ v. AreAllFree v c.end.result) c.self.view_is (λ opened list given s. all_free opened list given seen c.end.result freed s)

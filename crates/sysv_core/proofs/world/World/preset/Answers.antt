@@ -11,7 +11,7 @@ pub returns-then-not-is_unused-clause-single : goal.returns-then-not-is_unused-c
 returns-then-not-is_unused-clause-single c = λ w s.
     let stands : StandsFor w.generation w.turns c.self.inside.objects = subst (λ (v : Seen). StandsFor w.generation w.turns v.objects) (sym c.self.view_is) s.objects in
     let test = c.is_unused.ensures w.generation w.turns stands in
-    preset_used w c.args.self.now s c.each_world_is_sound.ensures c.legal_turns.ensures.more c.unused_slots.ensures
+    preset_used w c.args.self.now s c.each_world_is_sound.ensures.stays c.legal_turns.ensures.more c.unused_slots.ensures
     (λ u. let bad : IsTrue false = subst IsTrue c.if-not-is_unused.true (test.1 u) in search rules)
 
 pub returns-then-not-is_unused-clause-stands : goal.returns-then-not-is_unused-clause-stands
@@ -23,7 +23,7 @@ returns-clause-single c = λ w s.
     let test = c.is_unused.ensures w.generation w.turns stands in
     let yes : IsTrue c.is_unused.result = search rules in
     let makes = subst (λ (v : Seen). MakesPreset v.objects c.preset_queue.result c.preset_queue.new.objects) c.self.view_is c.preset_queue.ensures in
-    let made = preset_unused w c.args.self.now s c.each_world_is_sound.ensures c.legal_turns.ensures.more c.unused_slots.ensures c.preset_queue.result c.preset_queue.new.objects (test.0 yes) makes in
+    let made = preset_unused w c.args.self.now s c.each_world_is_sound.ensures.stays c.legal_turns.ensures.more c.unused_slots.ensures c.preset_queue.result c.preset_queue.new.objects (test.0 yes) makes in
     rw (ap (λ (v : Seen). v.states) c.self.view_is, ap (λ (v : Seen). v.steps) c.self.view_is) made
 
 pub returns-clause-stands : goal.returns-clause-stands

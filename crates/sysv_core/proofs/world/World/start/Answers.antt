@@ -7,7 +7,7 @@ use Rattle.sysv_core.proofs.SeenSteps.{moves_as, start_absent, start_busy, start
 use Rattle.sysv_core.proofs.world.World.start.Goals as goal
 
 pub returns-in_default-clause-single : goal.returns-in_default-clause-single
-returns-in_default-clause-single c = λ w s. start_absent w c.args.self.now s c.each_world_is_sound.ensures c.args.actor c.args.cred c.args.call (search rules) c.in_default.ensures
+returns-in_default-clause-single c = λ w s. start_absent w c.args.self.now s c.each_world_is_sound.ensures.stays c.args.actor c.args.cred c.args.call (search rules) c.in_default.ensures
 
 pub returns-then-is_some-clause-single : goal.returns-then-is_some-clause-single
 returns-then-is_some-clause-single c = λ w s.
@@ -15,7 +15,7 @@ returns-then-is_some-clause-single c = λ w s.
     let x = c.index.result.now in
     let busy = kept_some x (sym c.is_some.ensures ∙ c.if-is_some.true) in
     let there = seen_at c.self.inside.actors.items c.args.self.now.states view c.in-Some.place c.in-Some.ensures.1 x c.index.ensures ∙ ap Some busy.1 in
-    start_busy w c.args.self.now s c.each_world_is_sound.ensures c.args.actor c.in-Some.place c.args.cred c.args.call busy.0 (search rules) c.in-Some.ensures.0 there
+    start_busy w c.args.self.now s c.each_world_is_sound.ensures.stays c.args.actor c.in-Some.place c.args.cred c.args.call busy.0 (search rules) c.in-Some.ensures.0 there
 
 pub returns-clause-single : goal.returns-clause-single
 returns-clause-single c = λ w s.
@@ -24,7 +24,7 @@ returns-clause-single c = λ w s.
     let stands : ObjectsStandFor w.generation w.turns c.self.inside.objects = subst (λ (v : Seen). ObjectsStandFor w.generation w.turns v.objects) (sym c.self.view_is) s.objects in
     let idle = kept_none x (sym c.is_some.ensures ∙ c.if-is_some.false) in
     let there = seen_at c.self.inside.actors.items c.args.self.now.states view c.in-Some.place c.in-Some.ensures.1 x c.index.ensures ∙ ap Some idle in
-    let begins = start_idle w c.args.self.now s c.each_world_is_sound.ensures c.args.actor c.in-Some.place c.args.cred c.args.call c.released-released.result c.begin.result (search rules) c.in-Some.ensures.0 there c.begin.ensures (c.released-released.ensures w.generation w.turns stands) in
+    let begins = start_idle w c.args.self.now s c.each_world_is_sound.ensures.stays c.args.actor c.in-Some.place c.args.cred c.args.call c.released-released.result c.begin.result (search rules) c.in-Some.ensures.0 there c.begin.ensures (c.released-released.ensures w.generation w.turns stands) in
     let states = seen_settled c.self.inside.actors.items c.args.self.now.states view c.in-Some.place c.in-Some.ensures.1 c.settle.new.actors.items c.begin.result c.settle.ensures.kept in
     let same = same_seen _ _ _ _ _ _ (ap (λ (v : Seen). v.objects) c.self.view_is) states (ap (λ (v : Seen). v.steps + 1) c.self.view_is) in
     moves_as w (Start c.args.actor c.args.cred c.args.call) _ _ _ _ c.settle.ensures.told same begins

@@ -19,7 +19,7 @@ returns-in_default-take-clause-single c = λ w s.
     let there = seen_at c.self.inside.actors.items c.args.self.now.states view c.in-Some.place c.in-Some.ensures.1 x c.index_mut.ensures.value ∙ ap Some idle in
     let states = seen_same c.self.inside.actors.items c.args.self.now.states view c.in-Some.place c.in-Some.ensures.1 c.take.new.self None (ap state_kept c.take.ensures.after) there in
     let same = same_seen _ _ _ _ _ _ (ap (λ (v : Seen). v.objects) c.self.view_is) states (ap (λ (v : Seen). v.steps) c.self.view_is) in
-    let stays = step_idle w c.args.self.now s c.each_world_is_sound.ensures c.args.actor c.in-Some.place c.args.now (search rules) c.in-Some.ensures.0 there in
+    let stays = step_idle w c.args.self.now s c.each_world_is_sound.ensures.stays c.args.actor c.in-Some.place c.args.now (search rules) c.in-Some.ensures.0 there in
     moves_as w (Step c.args.actor c.args.now) Nothing Nothing _ _ refl same stays
 
 pub returns-clause-single : goal.returns-clause-single
@@ -31,7 +31,7 @@ returns-clause-single c = λ w s.
     let busy = ap state_kept (sym c.take.ensures.value ∙ c.in-Some-take.is) in
     let there = seen_at c.self.inside.actors.items c.args.self.now.states view c.in-Some.place c.in-Some.ensures.1 x c.index_mut.ensures.value ∙ ap Some busy in
     let step = subst (λ (v : Seen). StepLeads v.objects state c.args.now c.advance-led.result c.advance-led.new.objects) c.self.view_is c.advance-led.ensures in
-    let goes = step_busy w c.args.self.now s c.each_world_is_sound.ensures c.args.actor c.in-Some.place c.args.now state c.advance-led.result c.advance-led.new.objects (search rules) c.in-Some.ensures.0 there step in
+    let goes = step_busy w c.args.self.now s c.each_world_is_sound.ensures.stays c.args.actor c.in-Some.place c.args.now state c.advance-led.result c.advance-led.new.objects (search rules) c.in-Some.ensures.0 there step in
     let states = seen_resettled c.self.inside.actors.items c.args.self.now.states view c.in-Some.place c.in-Some.ensures.1 c.take.new.self c.settle.new.actors.items c.advance-led.result c.settle.ensures.kept in
     let steps = ap (λ n. c.self.inside.steps + n) c.counted.ensures.counted ∙ ap (λ (v : Seen). v.steps + counted_led c.advance-led.result) c.self.view_is in
     let same = same_seen c.advance-led.new.objects _ _ _ _ _ refl states steps in

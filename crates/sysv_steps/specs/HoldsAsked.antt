@@ -1,0 +1,71 @@
+-- What a call holds of what it was asked (this profile's): wherever it stands it has the credentials and the
+-- arguments that it began with. Nothing that it did since has changed them.
+use Rattle.std.specs.Prelude.{◌≡◌, ℕ, ℤ, List}
+use Rattle.sysv_model.specs.declared.cred.Cred.{Cred}
+use Rattle.sysv_model.specs.declared.flags.Flags.{Flags}
+use Rattle.sysv_model.specs.declared.flags.TheConstants.Flags.{MSG_NOERROR}
+use Rattle.sysv_model.specs.HasFlag.{has_flag}
+use Rattle.sysv_model.specs.Selector.{selector_for}
+use Rattle.sysv_model.specs.Turn.{Deed}
+use Rattle.sysv_steps.specs.Call.{SystemCall, Msgget, Msgsnd, Msgrcv, MsgctlStat, MsgctlSet, MsgctlRmid}
+use Rattle.sysv_steps.specs.State.{Getting, Sending, Receiving, Wait, OnSettled, OnFreed, OnReleased, OnArrived, Afterwards, IsRefused, WaitsOn, Phase, AtBegin, AtInstall, AtSettle, AtProbe, AtUnmake, AtLook, AtReserve, AtPlace, AtSendGiveback, AtTake, AtReceiveGiveback, AtStat, AtSet, AtSetGiveback, AtRemove, AtForget, AtRemoveGiveback, State, Goes, Waits, Over}
+use Rattle.sysv_steps.specs.Begin.{begin}
+use Rattle.sysv_steps.specs.Played.{Plays}
+
+pub record IsGet (cred : Cred) (key : ℤ) (flags : Flags) (get : Getting) : Type 0 where
+  pub is : get ≡ record { cred = cred; key = key; flags = flags }
+
+pub record IsSend (by : Cred) (at type : ℤ) (bytes : List ℕ) (send : Sending) : Type 0 where
+  pub cred : send.cred ≡ by
+  pub id : send.id ≡ at
+  pub mtype : send.mtype ≡ type
+  pub text : send.text ≡ bytes
+
+pub record IsReceive (by : Cred) (at : ℤ) (wanted : ℕ) (type : ℤ) (flags : Flags) (receive : Receiving) : Type 0 where
+  pub cred : receive.cred ≡ by
+  pub id : receive.id ≡ at
+  pub selector : receive.selector ≡ selector_for type flags
+  pub size : receive.size ≡ wanted
+  pub noerror : receive.noerror ≡ has_flag MSG_NOERROR flags
+
+-- in a wait; no call but these waits, nor for another count
+abbrev pub WaitHolds : Cred → SystemCall → Wait → Type 0
+WaitHolds cred (Msgget key flags) (OnSettled goal get) = IsGet cred key flags get
+WaitHolds cred (Msgsnd id mtype flags text) (OnFreed goal send) = IsSend cred id mtype text send
+WaitHolds cred (Msgsnd id mtype flags text) (OnReleased goal send) = IsSend cred id mtype text send
+WaitHolds cred (Msgrcv id size mtype flags) (OnArrived goal receive) = IsReceive cred id size mtype flags receive
+WaitHolds cred asked wait = ⊥
+
+abbrev pub AfterwardsHolds : Cred → SystemCall → Afterwards → Type 0
+AfterwardsHolds cred asked (IsRefused why) = Unit {0}
+AfterwardsHolds cred asked (WaitsOn wait) = WaitHolds cred asked wait
+
+-- before a step; no call but this one comes to it
+abbrev pub PhaseHolds : Cred → SystemCall → Phase → Type 0
+PhaseHolds cred (Msgget key flags) (AtBegin get) = IsGet cred key flags get
+PhaseHolds cred (Msgget key flags) (AtInstall get id) = IsGet cred key flags get
+PhaseHolds cred (Msgget key flags) (AtSettle id) = Unit {0}
+PhaseHolds cred (Msgget key flags) (AtProbe get id settled) = IsGet cred key flags get
+PhaseHolds cred (Msgget key flags) (AtUnmake id) = Unit {0}
+PhaseHolds cred (Msgsnd id mtype flags text) (AtLook send) = IsSend cred id mtype text send
+PhaseHolds cred (Msgsnd id mtype flags text) (AtReserve send) = IsSend cred id mtype text send
+PhaseHolds cred (Msgsnd id mtype flags text) (AtPlace send blocks) = IsSend cred id mtype text send
+PhaseHolds cred (Msgsnd id mtype flags text) (AtSendGiveback blocks afterwards) = AfterwardsHolds cred (Msgsnd id mtype flags text) afterwards
+PhaseHolds cred (Msgrcv id size mtype flags) (AtTake receive) = IsReceive cred id size mtype flags receive
+PhaseHolds cred (Msgrcv id size mtype flags) (AtReceiveGiveback blocks type text) = Unit {0}
+PhaseHolds cred (MsgctlStat id) (AtStat by at) = (by ≡ cred) × (at ≡ id)
+PhaseHolds cred (MsgctlSet id to) (AtSet by at what) = (by ≡ cred) × (at ≡ id) × (what ≡ to)
+PhaseHolds cred (MsgctlSet id to) AtSetGiveback = Unit {0}
+PhaseHolds cred (MsgctlRmid id) (AtRemove by at) = (by ≡ cred) × (at ≡ id)
+PhaseHolds cred (MsgctlRmid id) (AtForget at blocks) = at ≡ id
+PhaseHolds cred (MsgctlRmid id) (AtRemoveGiveback blocks) = Unit {0}
+PhaseHolds cred asked phase = ⊥
+
+abbrev pub Holds : Cred → SystemCall → State → Type 0
+Holds cred asked (Goes phase) = PhaseHolds cred asked phase
+Holds cred asked (Waits wait) = WaitHolds cred asked wait
+Holds cred asked (Over ending) = Unit {0}
+
+abbrev pub EachHoldsWhatItWasAsked : Type 0
+EachHoldsWhatItWasAsked = (cred : Cred) (asked : SystemCall) (released : ℕ) (deeds : List Deed) (state : State) →
+    Plays (begin cred asked released) deeds state → Holds cred asked state
