@@ -5,3 +5,4 @@ pub mod Output
 pub mod Turn
 pub mod Session
 pub mod Parts
+pub mod Course

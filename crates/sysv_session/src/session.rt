@@ -1,7 +1,8 @@
 //! A session, from its hello to its end.
-ghost use Rattle.std.specs.Prelude.{◌≡◌, ◌≢◌, ◌<◌, ◌-◌, ◌^◌, List, ℕ, [], IfOk};
+ghost use Rattle.std.specs.Prelude.{◌≡◌, ◌≢◌, ◌<◌, ◌-◌, ◌^◌, List, ℕ, [], Some, IfOk};
 ghost use Rattle.sysv_queue.specs.Tally.{taken_in};
 ghost use Rattle.sysv_session.specs.Session.{Serves, ServesBy};
+ghost use Rattle.sysv_session.specs.Course.{Course, Follows, Takes};
 ghost use Rattle.sysv_session.specs.Parts.{Goes, Opens};
 ghost use Rattle.sysv_session.specs.Turn.{Turns};
 
@@ -15,6 +16,7 @@ use sysv_model::cred::Cred;
 use sysv_model::no_memory::NoMemory;
 use sysv_queue::tally::Tally;
 use sysv_wire::frame::Op;
+use sysv_wire::laws::{one_answer_to_requests, one_request};
 use sysv_wire::reply::{Outcome as Told, Reply};
 use sysv_wire::request::Request;
 
@@ -31,8 +33,12 @@ pub fn serve<R: Read, W: Write, K: Kernel>(
     kernel: &mut K,
 ) -> Served
     ensures serves { Serves K.meaning result kernel.old kernel.new (R.remaining reader.old) (R.remaining reader.new) (W.contents writer.old) (W.contents writer.new) }
+    // It ends as its input tells, unless it is cut short.
+    ensures only { (input : List ℕ) (course : Course) → R.remaining reader.old ≡ Some input → Takes input course → Follows course result }
     ensures memory { result.«end» ≡ End.NoMemory → (reader.new ≡ reader.old) × (writer.new ≡ writer.old) }
 {
+    one_request();
+    one_answer_to_requests();
     let Ok(mut session) = Session::open(alloc) else {
         return Served {
             end: End::NoMemory,
@@ -100,7 +106,7 @@ impl Session {
         ensures tally { self.new.tally ≡ self.old.tally }
     {
         let cred = read_hello(reader, &mut self.text)?;
-        self.requests += 1;
+        self.requests = 1;
         self.given.clear();
         let reply = Reply {
             op: Op::Hello.number(),
