@@ -8,4 +8,6 @@ mod failing;
 #[cfg(test)]
 mod shelf;
 #[cfg(test)]
+mod waiting;
+#[cfg(test)]
 mod worked;
