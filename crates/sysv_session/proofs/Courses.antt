@@ -7,12 +7,11 @@ use Rattle.sysv_model.specs.declared.cred.Cred.{Cred}
 use Rattle.sysv_queue.specs.Tally.{Tallied}
 use Rattle.sysv_session.specs.declared.served.End.{End}
 use Rattle.sysv_session.specs.declared.served.End.TheVariants as «end»
-use Rattle.sysv_session.specs.Answers.{IsAsked}
 use Rattle.sysv_session.specs.Calls.{Call, IsCall, Meaning}
 use Rattle.sysv_session.specs.Course.{Asked, Asks, Course, EndsAsTold, IsCutShort, LaterAt, Takes, is_hello, later, stop_answer}
 use Rattle.sysv_session.specs.Course.Course.{NoRequest, NoHello, BadFirst, Greeted}
 use Rattle.sysv_session.specs.Input.{EndsAfter, EndsBefore, LaterFault, asked_spelling, hello_of, hello_spelling}
-use Rattle.sysv_session.specs.Session.{ServesBy, Stays, Talks}
+use Rattle.sysv_session.specs.Session.{ServesBy}
 use Rattle.sysv_wire.specs.declared.fault.Fault.{Fault}
 use Rattle.sysv_wire.specs.declared.fault.Fault.TheVariants.{Truncated, TooLong, BadOp, BadField, Read}
 use Rattle.sysv_wire.specs.declared.frame.Op.TheVariants as op
@@ -220,5 +219,5 @@ pub follows : {K : Type 0} → OneAnswerToRequests → OneRequest → (Means : M
 follows oneA oneR Means why tally requests old new input left rest taken more known (inl stays) course takes =
     before oneA why input rest requests stays.counts (subst (λ (l : Option (List ℕ)). EndsBefore why l rest) known stays.ends) course takes
 follows oneA oneR Means why tally requests old new input left rest taken more known (inr talks) course takes =
-    after oneA oneR talks.cred talks.calls why requests input talks.behind rest talks.known talks.are_calls
-    (subst (λ (l : Option (List ℕ)). Consumes l talks.behind (hello_spelling talks.cred ++ asked_spelling talks.calls)) known talks.reads) talks.ends talks.counts course takes
+    after oneA oneR talks.cred talks.calls why requests input talks.unread rest talks.known talks.are_calls
+    (subst (λ (l : Option (List ℕ)). Consumes l talks.unread (hello_spelling talks.cred ++ asked_spelling talks.calls)) known talks.reads) talks.ends talks.counts course takes

@@ -106,7 +106,7 @@ module _ {K : Type 0} where
     calls = so_far.calls ++ turn.call ∷ [];
     are_calls = all_more IsCall so_far.calls turn.call so_far.are_calls turn.is_call;
     leads = leads_more Means cred so_far.calls turn.call old mid new so_far.leads turn.means;
-    behind = rest;
+    unread = rest;
     reads = subst (Consumes left rest) (sym (asked_more so_far.calls turn.call)) (Consumes-trans left behind rest _ _ so_far.reads turn.reads);
     ends = refl;
     writes = (frames_of so_far.calls, _, more, frames_more so_far.calls turn.call, so_far.writes, turn.answers.0);
@@ -124,7 +124,7 @@ module _ {K : Type 0} where
     calls = so_far.calls;
     are_calls = so_far.are_calls;
     leads = subst (Leads Means cred old so_far.calls) (sym quiet.kernel) so_far.leads;
-    behind = behind;
+    unread = behind;
     reads = so_far.reads;
     ends = quiet.ends;
     writes = writes;

@@ -33,8 +33,8 @@ module _ {K : Type 0} where
     calls = goes.calls;
     are_calls = goes.are_calls;
     leads = goes.leads;
-    behind = goes.behind;
-    reads = Consumes-trans left mid goes.behind (hello_spelling cred) _ hello.0.1 goes.reads;
+    unread = goes.unread;
+    reads = Consumes-trans left mid goes.unread (hello_spelling cred) _ hello.0.1 goes.reads;
     ends = goes.ends;
     writes = writes_after why hello_frame (frames_of goes.calls) taken more most hello.1 goes.writes;
     tallies = goes.tallies;
@@ -60,7 +60,7 @@ module _ {K : Type 0} where
     calls = [];
     are_calls = tt;
     leads = refl;
-    behind = rest;
+    unread = rest;
     reads = subst (Consumes left rest) (sym (append-nil (hello_spelling hello.0))) hello.1.1;
     ends = refl;
     writes = ([], hello_frame, taken, refl, Appends-nil taken, hello.2);

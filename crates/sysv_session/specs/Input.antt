@@ -51,7 +51,7 @@ EndsBefore («end».Fault fault) old new = Faults RequestFault fault old new
 EndsBefore «end».Write old new = ⊥
 EndsBefore «end».Bound old new = ⊥
 
--- Why it ends later, by what it took behind the last request that it took up.
+-- Why it ends later, by what it took after the last request that it took up.
 abbrev pub EndsAfter : End → Option (List ℕ) → Option (List ℕ) → Type 0
 EndsAfter «end».Ended old new = Consumes old new [] × IsAtEnd new
 EndsAfter «end».NoMemory old new = ⊥

@@ -37,9 +37,9 @@ module _ {K : Type 0} where
     pub calls : List Call
     pub are_calls : AllByRecursion IsCall calls
     pub leads : Leads Means cred old calls new
-    pub behind : Option (List ℕ)
-    pub reads : Consumes left behind (asked_spelling calls)
-    pub ends : EndsAfter why behind rest
+    pub unread : Option (List ℕ)
+    pub reads : Consumes left unread (asked_spelling calls)
+    pub ends : EndsAfter why unread rest
     pub writes : Writes why (frames_of calls) taken more
     pub tallies : Tallies why calls tally
     pub counts : many ≡ 1 + length calls

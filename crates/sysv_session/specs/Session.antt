@@ -40,9 +40,9 @@ module _ {K : Type 0} where
     pub calls : List Call
     pub are_calls : AllByRecursion IsCall calls
     pub leads : Leads Means cred old calls new
-    pub behind : Option (List ℕ)  -- what the reader had left behind the last request that was taken up
-    pub reads : Consumes left behind (hello_spelling cred ++ asked_spelling calls)
-    pub ends : EndsAfter why behind rest
+    pub unread : Option (List ℕ)  -- what the reader had left after the last request that was taken up
+    pub reads : Consumes left unread (hello_spelling cred ++ asked_spelling calls)
+    pub ends : EndsAfter why unread rest
     pub writes : Writes why (hello_frame ∷ frames_of calls) taken more
     pub tallies : Tallies why calls tally
     pub counts : requests ≡ 1 + length calls

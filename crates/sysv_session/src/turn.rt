@@ -74,8 +74,32 @@ fn message_reply(delivery: &Delivery) -> Reply
     }
 }
 
-/// Writes what the kernel answered, and spends the message that it gave: as written where the reply
-/// was written whole and flushed, else as lost.
+/// Writes a message that the kernel gave, and spends its delivery: as written where the reply was written
+/// whole and flushed, else as lost.
+fn deliver<W: Write>(
+    writer: &mut W,
+    delivery: Delivery,
+    given: &Body,
+    tally: &mut Tally,
+) -> Result<(), End>
+    requires text { length given.now ≤ MESSAGE_BYTES }
+    requires room { taken_in tally.old < 2 ^ 64 - 1 }
+    ensures { Answers result (Outcome.Got delivery) given.now (W.contents writer.old) (W.contents writer.new) tally.old tally.new }
+{
+    let reply = message_reply(&delivery);
+    match send(writer, &reply, given) {
+        Ok(()) => {
+            delivery.written(tally);
+            Ok(())
+        }
+        Err(WriteFault) => {
+            delivery.lost(tally);
+            Err(End::Write)
+        }
+    }
+}
+
+/// Writes what the kernel answered.
 pub(crate) fn answer<W: Write>(
     writer: &mut W,
     outcome: Outcome,
@@ -92,18 +116,6 @@ pub(crate) fn answer<W: Write>(
             send(writer, &reply, given)?;
             Ok(())
         }
-        Outcome::Got(delivery) => {
-            let reply = message_reply(&delivery);
-            match send(writer, &reply, given) {
-                Ok(()) => {
-                    delivery.written(tally);
-                    Ok(())
-                }
-                Err(WriteFault) => {
-                    delivery.lost(tally);
-                    Err(End::Write)
-                }
-            }
-        }
+        Outcome::Got(delivery) => deliver(writer, delivery, given, tally),
     }
 }
