@@ -43,6 +43,10 @@ fn a_kernel_may_wait(rt: HostRuntime) {
     let mut page = Page::new();
     let told = serve(rt.alloc(), &mut reader, &mut page, &mut kernel);
     if told.end == End::NoMemory {
+        assert_eq!(rt; counts_of(&told), (0, 0, 0, 0));
+        assert_eq!(rt; reader.front.len(), 108);
+        assert_eq!(rt; page.written().len(), 0);
+        assert_eq!(rt; *asked.lock(&rt), 0);
         return;
     }
     assert_eq!(rt; told.end, End::Ended);
