@@ -1,0 +1,4 @@
+pub mod ListLemmas
+pub mod Talking
+pub mod Whole
+pub mod Courses

@@ -1,0 +1,89 @@
+-- What an input asks of a session, taken for itself (this profile's): it does not begin with a hello; or it does, and
+-- then come requests, and then what stops them.
+use Rattle.std.specs.Prelude.{◌≡◌, ◌+◌, ◌⊎◌, ⊤, ℕ, Bool, true, false, List, [], ◌∷◌, ◌++◌, length, Option, None, Some, Result, Ok, Err, if◌then◌else◌}
+use Rattle.sysv_model.specs.declared.cred.Cred.{Cred}
+use Rattle.sysv_session.specs.declared.served.End.{End}
+use Rattle.sysv_session.specs.declared.served.End.TheVariants as «end»
+use Rattle.sysv_session.specs.declared.served.Served.{Served}
+use Rattle.sysv_session.specs.Answers.{IsAsked}
+use Rattle.sysv_session.specs.Input.{hello_of, hello_spelling}
+use Rattle.sysv_wire.specs.declared.fault.Fault.{Fault}
+use Rattle.sysv_wire.specs.declared.fault.Fault.TheVariants.{Truncated, TooLong, BadOp, BadField, Read}
+use Rattle.sysv_wire.specs.declared.request.Ask.{Ask}
+use Rattle.sysv_wire.specs.declared.request.Ask.TheVariants.{Hello, Get, Snd, Rcv, Stat, Set, Rm, Row}
+use Rattle.sysv_wire.specs.declared.request.Request.{Request}
+use Rattle.sysv_wire.specs.OneAnswer.{RequestAt}
+use Rattle.sysv_wire.specs.Requests.{FitsRequest, request_spelling}
+
+abbrev pub is_hello : Ask → Bool
+is_hello (Hello cred) = true
+is_hello (Get key flags) = false
+is_hello (Snd id mtype flags) = false
+is_hello (Rcv id size mtype flags) = false
+is_hello (Stat id) = false
+is_hello (Set id to) = false
+is_hello (Rm id) = false
+is_hello (Row slot) = false
+
+-- a request after the hello is read as any request, but another hello is refused
+abbrev pub later : Result (Option Request) Fault → Result (Option Request) Fault
+later (Ok None) = Ok None
+later (Ok (Some request)) = if is_hello request.ask then Err BadOp else Ok (Some request)
+later (Err fault) = Err fault
+
+-- This is read next after the hello.
+abbrev pub LaterAt : List ℕ → Result (Option Request) Fault → Type 0
+LaterAt input answer = (first : Result (Option Request) Fault) × RequestAt input first × (answer ≡ later first)
+
+-- what stops the requests: the end of the input, or a fault
+abbrev pub stop_answer : Option Fault → Result (Option Request) Fault
+stop_answer None = Ok None
+stop_answer (Some fault) = Err fault
+
+-- a request and its text
+pub record Asked : Type 0 where
+  pub request : Request
+  pub text : List ℕ
+
+-- The input is these requests, none of them a hello, and then this stops them.
+abbrev pub Asks : List ℕ → List Asked → Option Fault → Type 0
+Asks input [] stop = LaterAt input (stop_answer stop)
+Asks input (asked ∷ more) stop = (rest : List ℕ) × IsAsked asked.request asked.text × (input ≡ request_spelling asked.request asked.text ++ rest) × Asks rest more stop
+
+-- the course of an input
+pub data Course : Type 0 where
+  NoRequest : Course
+  NoHello : Course
+  BadFirst : (fault : Fault) → Course
+  Greeted : (cred : Cred) (asked : List Asked) (stop : Option Fault) → Course
+
+abbrev pub Takes : List ℕ → Course → Type 0
+Takes input NoRequest = RequestAt input (Ok None)
+Takes input NoHello = (request : Request) × (is_hello request.ask ≡ false) × RequestAt input (Ok (Some request))
+Takes input (BadFirst fault) = RequestAt input (Err fault)
+Takes input (Greeted cred asked stop) = (rest : List ℕ) × FitsRequest (hello_of cred) [] × (input ≡ hello_spelling cred ++ rest) × Asks rest asked stop
+
+-- A session of that course ends so, after so many requests, where neither memory nor a stream failed.
+abbrev pub EndsAsTold : Course → End → ℕ → Type 0
+EndsAsTold NoRequest why requests = (why ≡ «end».Ended) × (requests ≡ 0)
+EndsAsTold NoHello why requests = (why ≡ «end».NoHello) × (requests ≡ 0)
+EndsAsTold (BadFirst fault) why requests = (why ≡ «end».Fault fault) × (requests ≡ 0)
+EndsAsTold (Greeted cred asked None) why requests = (why ≡ «end».Ended) × (requests ≡ 1 + length asked)
+EndsAsTold (Greeted cred asked (Some fault)) why requests = (why ≡ «end».Fault fault) × (requests ≡ 1 + length asked)
+
+-- Memory was refused, the reader or the writer failed, or the session had as many requests as it may have.
+abbrev pub IsCutShort : End → Type 0
+IsCutShort «end».Ended = ⊥
+IsCutShort «end».NoMemory = ⊤
+IsCutShort «end».NoHello = ⊥
+IsCutShort («end».Fault Truncated) = ⊥
+IsCutShort («end».Fault TooLong) = ⊥
+IsCutShort («end».Fault BadOp) = ⊥
+IsCutShort («end».Fault BadField) = ⊥
+IsCutShort («end».Fault Read) = ⊤
+IsCutShort «end».Write = ⊤
+IsCutShort «end».Bound = ⊤
+
+-- A session ends as the course of its input tells, or it was cut short.
+abbrev pub Follows : Course → Served → Type 0
+Follows course served = EndsAsTold course served.«end» served.requests ⊎ IsCutShort served.«end»

@@ -1,0 +1,8 @@
+pub mod Answers
+pub mod Calls
+pub mod Input
+pub mod Output
+pub mod Turn
+pub mod Session
+pub mod Parts
+pub mod Course

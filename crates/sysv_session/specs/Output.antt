@@ -1,0 +1,54 @@
+-- What a session writes (this profile's): the reply to the hello and the replies to the calls, in order, and nothing
+-- else.
+use Rattle.std.specs.Prelude.{◌≡◌, ◌-◌, ℕ, List, [], ◌∷◌, ◌++◌, Option, length, take, map}
+use Rattle.std.specs.List.{concat}
+use Rattle.std.specs.Io.KnownBytes.{Appends}
+use Rattle.sysv_queue.specs.Tally.{Tallied, taken_in}
+use Rattle.sysv_session.specs.declared.served.End.{End}
+use Rattle.sysv_session.specs.declared.served.End.TheVariants.{Ended, NoMemory, NoHello, Fault, Write, Bound}
+use Rattle.sysv_session.specs.Answers.{outcome_spelling}
+use Rattle.sysv_session.specs.Calls.{Call, messages_of}
+use Rattle.sysv_wire.specs.declared.frame.Op.TheVariants as op
+use Rattle.sysv_wire.specs.declared.reply.Outcome.TheVariants.{Hello}
+use Rattle.sysv_wire.specs.declared.reply.Reply.{Reply}
+use Rattle.sysv_wire.specs.Frames.{op_number}
+use Rattle.sysv_wire.specs.Replies.{reply_spelling}
+use Rattle.sysv_wire.specs.Streams.{AppendsPrefix}
+
+abbrev pub hello_reply : Reply
+hello_reply = record { op = op_number op.Hello; result = Hello }
+
+-- the frame that answers a hello
+abbrev pub hello_frame : List ℕ
+hello_frame = reply_spelling hello_reply []
+
+-- the frames that answer the calls, in order
+abbrev pub frames_of : List Call → List (List ℕ)
+frames_of calls = map (λ call. outcome_spelling call.outcome call.given) calls
+
+-- The frames before the last are written whole, and then a prefix of the last, perhaps all of it.
+abbrev pub BreaksOff : List (List ℕ) → Option (List ℕ) → Option (List ℕ) → Type 0
+BreaksOff frames old new = (done : List (List ℕ)) × (last : List ℕ) × (mid : Option (List ℕ))
+    × (frames ≡ done ++ last ∷ []) × Appends old mid (concat done) × AppendsPrefix mid new last
+
+-- All the frames are written whole, unless the writer failed.
+abbrev pub Writes : End → List (List ℕ) → Option (List ℕ) → Option (List ℕ) → Type 0
+Writes Ended frames old new = Appends old new (concat frames)
+Writes NoMemory frames old new = Appends old new (concat frames)
+Writes NoHello frames old new = Appends old new (concat frames)
+Writes (Fault fault) frames old new = Appends old new (concat frames)
+Writes Write frames old new = BreaksOff frames old new
+Writes Bound frames old new = Appends old new (concat frames)
+
+-- the calls whose replies were written whole and flushed: all, but for the last where the writer failed
+abbrev pub answered : End → List Call → List Call
+answered Ended calls = calls
+answered NoMemory calls = calls
+answered NoHello calls = calls
+answered (Fault fault) calls = calls
+answered Write calls = take (length calls - 1) calls
+answered Bound calls = calls
+
+-- The tally tells how many messages the kernel gave, and how many of them were written whole and flushed.
+abbrev pub Tallies : End → List Call → Tallied → Type 0
+Tallies why calls tally = (taken_in tally ≡ messages_of calls) × (tally.written ≡ messages_of (answered why calls))

@@ -1,0 +1,58 @@
+-- One turn of a session after its hello: a request is read, the kernel is asked, and the reply is written.
+use Rattle.std.specs.Prelude.{◌≡◌, ◌+◌, ⊤, ℕ, List, Option, Result, Ok, Err}
+use Rattle.std.specs.Io.KnownBytes.{Appends, Consumes}
+use Rattle.sysv_model.specs.declared.cred.Cred.{Cred}
+use Rattle.sysv_queue.specs.Tally.{Tallied}
+use Rattle.sysv_session.specs.declared.kernel.Outcome.{Outcome}
+use Rattle.sysv_session.specs.declared.served.End.{End}
+use Rattle.sysv_session.specs.declared.served.End.TheVariants.{Ended, NoMemory, NoHello, Fault, Write, Bound}
+use Rattle.sysv_session.specs.Answers.{messages_in, outcome_spelling}
+use Rattle.sysv_session.specs.Calls.{Call, IsCall, Meaning}
+use Rattle.sysv_session.specs.Input.{EndsAfter}
+use Rattle.sysv_wire.specs.Requests.{request_spelling}
+use Rattle.sysv_wire.specs.Streams.{AppendsPrefix}
+
+-- a message more was written, if the outcome is one
+abbrev pub one_written : Outcome → Tallied → Tallied
+one_written outcome tally = record { written = tally.written + messages_in outcome; lost = tally.lost }
+
+-- a message more was lost, if the outcome is one
+abbrev pub one_lost : Outcome → Tallied → Tallied
+one_lost outcome tally = record { written = tally.written; lost = tally.lost + messages_in outcome }
+
+-- an outcome is written as its frame, whole and flushed, and counted as written
+abbrev pub Answers : Result ⊤ End → Outcome → List ℕ → (old new : Option (List ℕ)) → (before after : Tallied) → Type 0
+Answers (Ok done) outcome given old new before after = Appends old new (outcome_spelling outcome given) × (after ≡ one_written outcome before)
+Answers (Err Write) outcome given old new before after = AppendsPrefix old new (outcome_spelling outcome given) × (after ≡ one_lost outcome before)
+Answers (Err Ended) outcome given old new before after = ⊥
+Answers (Err NoMemory) outcome given old new before after = ⊥
+Answers (Err NoHello) outcome given old new before after = ⊥
+Answers (Err (Fault fault)) outcome given old new before after = ⊥
+Answers (Err Bound) outcome given old new before after = ⊥
+
+module _ {K : Type 0} where
+  -- a request was read and the kernel was asked, and its outcome was written, or it broke off
+  pub record Takes (Means : Meaning K) (cred : Cred) (result : Result ⊤ End) (old new : K) (left rest : Option (List ℕ)) (taken more : Option (List ℕ)) (before after : Tallied) (few many : ℕ) : Type 0 where
+    pub call : Call
+    pub is_call : IsCall call
+    pub means : Means old cred call.request call.text call.outcome call.given new
+    pub reads : Consumes left rest (request_spelling call.request call.text)
+    pub answers : Answers result call.outcome call.given taken more before after
+    pub counts : many ≡ few + 1
+
+  -- nothing was asked and nothing written
+  pub record Rests (why : End) (old new : K) (left rest : Option (List ℕ)) (taken more : Option (List ℕ)) (before after : Tallied) (few many : ℕ) : Type 0 where
+    pub kernel : new ≡ old
+    pub ends : EndsAfter why left rest
+    pub writes : more ≡ taken
+    pub tally : after ≡ before
+    pub counts : many ≡ few
+
+  abbrev pub Turns : Meaning K → Cred → Result ⊤ End → (old new : K) → (left rest : Option (List ℕ)) → (taken more : Option (List ℕ)) → (before after : Tallied) → (few many : ℕ) → Type 0
+  Turns Means cred (Ok done) old new left rest taken more before after few many = Takes Means cred (Ok done) old new left rest taken more before after few many
+  Turns Means cred (Err Write) old new left rest taken more before after few many = Takes Means cred (Err Write) old new left rest taken more before after few many
+  Turns Means cred (Err Ended) old new left rest taken more before after few many = Rests Ended old new left rest taken more before after few many
+  Turns Means cred (Err (Fault fault)) old new left rest taken more before after few many = Rests (Fault fault) old new left rest taken more before after few many
+  Turns Means cred (Err NoMemory) old new left rest taken more before after few many = ⊥
+  Turns Means cred (Err NoHello) old new left rest taken more before after few many = ⊥
+  Turns Means cred (Err Bound) old new left rest taken more before after few many = ⊥

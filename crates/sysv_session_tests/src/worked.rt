@@ -1,0 +1,148 @@
+//! A session whose bytes are worked by hand, whole and cut short, and sessions that end early.
+use crate::ends::{ANSWER_ENDS, ANSWERS, Page, Pieces, REQUEST_ENDS, SESSION, counts_of, served};
+use std::alloc::Global;
+use std::process::Abort;
+use sysv_session::served::End;
+use sysv_wire::fault::Fault;
+
+#[test]
+fn the_session_cut_after_each_byte(rt: HostRuntime) {
+    for cut in 0..SESSION.len() + 1 {
+        let mut reader = Pieces::new(&SESSION[..cut], &SESSION[cut..], usize::MAX);
+        let mut page = Page::new();
+        let told = served(&rt, rt.alloc(), &mut reader, &mut page);
+        assert_eq!(rt; told.end, End::Ended, "{cut}");
+        assert_eq!(rt; counts_of(&told), (5, 1, 1, 0), "{cut}");
+        assert!(rt; page.written() == ANSWERS, "{cut}");
+    }
+}
+
+#[test]
+fn the_session_byte_by_byte(rt: HostRuntime) {
+    for piece in [1, 2, 3, 7, 64] {
+        let mut reader = Pieces::new(SESSION, &[], piece);
+        let mut page = Page::new();
+        page.piece = piece;
+        let told = served(&rt, rt.alloc(), &mut reader, &mut page);
+        assert_eq!(rt; told.end, End::Ended, "{piece}");
+        assert_eq!(rt; counts_of(&told), (5, 1, 1, 0), "{piece}");
+        assert!(rt; page.written() == ANSWERS, "{piece}");
+    }
+}
+
+#[test]
+fn each_reply_is_flushed_once(rt: HostRuntime) {
+    let mut reader = Pieces::new(SESSION, &[], usize::MAX);
+    let mut page = Page::new();
+    page.piece = 3;
+    let told = served(&rt, rt.alloc(), &mut reader, &mut page);
+    assert_eq!(rt; told.end, End::Ended);
+    assert_eq!(rt; page.flush_count, 5);
+    assert!(rt; page.flushed == [7, 18, 25, 42, 49, 0, 0, 0]);
+}
+
+#[test]
+fn the_session_ended_after_each_byte(rt: HostRuntime) {
+    for cut in 0..SESSION.len() {
+        let mut reader = Pieces::new(&SESSION[..cut], &[], usize::MAX);
+        let mut page = Page::new();
+        let told = served(&rt, rt.alloc(), &mut reader, &mut page);
+        let whole = REQUEST_ENDS.iter().filter(|end| **end <= cut).count();
+        let is_between = cut == 0 || REQUEST_ENDS.contains(&cut);
+        let end = if is_between {
+            End::Ended
+        } else {
+            End::Fault(Fault::Truncated)
+        };
+        assert_eq!(rt; told.end, end, "{cut}");
+        assert_eq!(rt; told.requests as usize, whole, "{cut}");
+        let answered = if whole == 0 {
+            0
+        } else {
+            ANSWER_ENDS[whole.min(5) - 1]
+        };
+        assert!(rt; page.written() == &ANSWERS[..answered.min(49)], "{cut}");
+    }
+}
+
+#[test]
+fn ten_bytes_into_the_send(rt: HostRuntime) {
+    let mut reader = Pieces::new(&SESSION[..42], &[], usize::MAX);
+    let mut page = Page::new();
+    let told = served(&rt, rt.alloc(), &mut reader, &mut page);
+    assert_eq!(rt; told.end, End::Fault(Fault::Truncated));
+    assert_eq!(rt; counts_of(&told), (2, 0, 0, 0));
+    assert!(rt; page.written() == &ANSWERS[..18]);
+}
+
+/// A session of these bytes ends so, before any hello.
+fn ends_unanswered(rt: &impl Abort, alloc: Global, bytes: &[u8], end: End) {
+    let mut reader = Pieces::new(bytes, &[], usize::MAX);
+    let mut page = Page::new();
+    let told = served(rt, alloc, &mut reader, &mut page);
+    assert_eq!(rt; told.end, end);
+    assert_eq!(rt; counts_of(&told), (0, 0, 0, 0));
+    assert_eq!(rt; page.written().len(), 0);
+    assert_eq!(rt; page.flush_count, 0);
+}
+
+#[test]
+fn the_first_frame_is_no_hello(rt: HostRuntime) {
+    ends_unanswered(&rt, rt.alloc(), &SESSION[18..], End::NoHello);
+    ends_unanswered(&rt, rt.alloc(), &[], End::Ended);
+    ends_unanswered(
+        &rt,
+        rt.alloc(),
+        &[0, 0, 0x20, 0x53],
+        End::Fault(Fault::TooLong),
+    );
+    ends_unanswered(
+        &rt,
+        rt.alloc(),
+        &[0, 0, 0, 2, 1, 8],
+        End::Fault(Fault::BadOp),
+    );
+    ends_unanswered(
+        &rt,
+        rt.alloc(),
+        &[0, 0, 0, 2, 1, 0],
+        End::Fault(Fault::BadField),
+    );
+    ends_unanswered(
+        &rt,
+        rt.alloc(),
+        &SESSION[..17],
+        End::Fault(Fault::Truncated),
+    );
+}
+
+/// A session of a hello and these bytes ends so, with the hello's reply alone.
+fn ends_after_hello(rt: &impl Abort, alloc: Global, bytes: &[u8], end: End) {
+    let mut reader = Pieces::new(&SESSION[..18], bytes, usize::MAX);
+    let mut page = Page::new();
+    let told = served(rt, alloc, &mut reader, &mut page);
+    assert_eq!(rt; told.end, end);
+    assert_eq!(rt; counts_of(&told), (1, 0, 0, 0));
+    assert!(rt; page.written() == &ANSWERS[..7]);
+    assert_eq!(rt; page.flush_count, 1);
+}
+
+#[test]
+fn a_second_hello(rt: HostRuntime) {
+    ends_after_hello(&rt, rt.alloc(), &SESSION[..18], End::Fault(Fault::BadOp));
+}
+
+#[test]
+fn bad_frames_after_the_hello(rt: HostRuntime) {
+    let table: [(&[u8], Fault); 6] = [
+        (&[0, 0, 0, 1], Fault::BadField),
+        (&[0, 0, 0x20, 0x53], Fault::TooLong),
+        (&[0, 0, 0, 2, 1, 8], Fault::BadOp),
+        (&[0, 0, 0, 2, 9, 1], Fault::BadField),
+        (&[0, 0, 0, 0x0d, 1, 1], Fault::BadField),
+        (&[0, 0, 0, 6, 1, 4, 0, 0], Fault::Truncated),
+    ];
+    for (bytes, fault) in table {
+        ends_after_hello(&rt, rt.alloc(), bytes, End::Fault(fault));
+    }
+}
