@@ -73,10 +73,9 @@ impl<T: Drop> ManyBuffer<T> {
         ensures joined { Joins seat.old other seat.new }
     {
         let token = other.into_token();
-        self.table
-            .shared
-            .join_seat::<Gathering>(&mut seat.token, token);
-        self.table.shared.load::<CountingPut>(&mut seat.token, IN);
+        let shared = &self.table.shared;
+        shared.join_seat::<Gathering>(&mut seat.token, token);
+        shared.load::<CountingPut>(&mut seat.token, IN);
     }
 
     /// How many items were put by now. The seat has then seen them all.
