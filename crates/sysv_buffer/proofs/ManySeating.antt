@@ -14,7 +14,7 @@ use Rattle.sysv_buffer.specs.declared.view.View.{View}
 use Rattle.sysv_buffer.specs.declared.view.Role.TheVariants.{Producer, Consumer}
 use Rattle.sysv_buffer.specs.declared.many_view.Sight.{Sight}
 use Rattle.sysv_buffer.specs.ManyRing.{times, put_at, taken_at, filling, emptying, Knows, Seated, Crowded, first_sight}
-use Rattle.sysv_buffer.specs.ManySteps.{beside, longer_of, both_of}
+use Rattle.sysv_buffer.specs.ManySteps.{beside, both_of}
 use Rattle.sysv_buffer.proofs.Opening.{all_cells, empty_cell}
 use Rattle.sysv_buffer.proofs.ManySums.{each_set, sum_by-set_at, times-append, none_of}
 
@@ -23,6 +23,7 @@ module _ {T : Type 0} where
   nothing_known : (put : List T) (taken : ℕ) (p c : View T) → Knows put taken p c first_sight
   nothing_known put taken p c = record {
     seen = (put, refl);
+    told = (put, refl);
     gone = omega arith;
     own_put = λ k h. absurd (omega arith);
     own_taken = λ k h. absurd (omega arith);
@@ -91,6 +92,7 @@ module _ {T : Type 0} where
       let seats : Seated g.put g.taken g.p g.c np nt pushed = record {
         each = λ i u there. ⊎_elim (λ t. old.each i u t) (λ t. subst (Knows g.put g.taken g.p g.c) t (record {
           seen = know.seen;
+          told = know.told;
           gone = know.gone;
           own_put = λ k h. absurd (omega arith);
           own_taken = λ k h. absurd (omega arith);
@@ -121,16 +123,6 @@ module _ {T : Type 0} where
         seats = subst (λ vs. Seated g.put g.taken g.p g.c np nt (vs ++ beside v ∷ [])) (sym (set_again s.views id v at)) seats;
       }
 
-  rest_of : List T → List T
-  rest_of [] = []
-  rest_of (x ∷ xs) = xs
-
-  longer_begins : (xs ys r q : List T) → xs ++ r ≡ ys ++ q → (m : List T) × (xs ++ r ≡ longer_of xs ys ++ m)
-  unfolding rest_of
-  longer_begins [] ys r q e = (q, e)
-  longer_begins (x ∷ xs) [] r q e = (r, refl)
-  longer_begins (x ∷ xs) (y ∷ ys) r q e = let t = longer_begins xs ys r q (ap rest_of e) in (t.0, ap (λ l. x ∷ l) t.1)
-
   -- two seats in one
   pub many_joins : (id other : ℕ) (v w : Sight T) → v.fills ≡ false → v.empties ≡ false → w.fills ≡ false → w.empties ≡ false → w.put_ticket ≡ [] → w.take_ticket ≡ [] → Joins Crowded id v other w (both_of v w) first_sight
   many_joins id other v w idle idle' quiet quiet' bare bare' s g at apart still =
@@ -143,7 +135,6 @@ module _ {T : Type 0} where
       let know = old.each id v at in
       let know' = old.each other w there in
       let K : Sight T → Type 0 = Knows g.put g.taken g.p g.c in
-      let longer = longer_begins v.seen w.seen know.seen.0 know'.seen.0 (sym know.seen.1 ∙ know'.seen.1) in
       let same_put : (k : ℕ) → sum_by (put_at k) (set middle other first_sight) ≡ sum_by (put_at k) s.views = λ k.
       let one = sum_by-set_at (put_at k) s.views id v b at in
       let two = sum_by-set_at (put_at k) middle other w first_sight still in
@@ -153,7 +144,8 @@ module _ {T : Type 0} where
       let two = sum_by-set_at (taken_at k) middle other w first_sight still in
       omega (arith, times-append k v.takes w.takes, none_of k w.take_ticket bare') in
       let both : K b = record {
-        seen = (longer.0, know.seen.1 ∙ longer.1);
+        seen = know.seen;
+        told = know'.seen;
         gone = know.gone;
         own_put = λ k h. dite (dec_le 1 (times k v.puts)) (λ d. know.own_put k d) (λ nd. know'.own_put k (omega (arith, nd, times-append k v.puts w.puts)));
         own_taken = λ k h. dite (dec_le 1 (times k v.takes)) (λ d. know.own_taken k d) (λ nd. know'.own_taken k (omega (arith, nd, times-append k v.takes w.takes)));

@@ -14,11 +14,11 @@ use Rattle.sysv_buffer.specs.declared.view.View.{View}
 use Rattle.sysv_buffer.specs.declared.many_view.Sight.{Sight}
 use Rattle.sysv_buffer.specs.Ring.{Homes, Runs}
 use Rattle.sysv_buffer.specs.Steps.{holding}
-use Rattle.sysv_buffer.specs.ManyRing.{times, filling, emptying, Seated, Crowded}
+use Rattle.sysv_buffer.specs.ManyRing.{times, put_at, taken_at, filling, emptying, Seated, Crowded}
 use Rattle.sysv_buffer.specs.ManySteps.{Own, Weighs, DrawsPut, DrawsTake, CountsPut, CountsTaken, ReachesRoom, ReachesItem, Places, Removes}
 use Rattle.sysv_buffer.proofs.Places.{at_most}
 use Rattle.sysv_buffer.proofs.Running.{reached, put_in, grabbed, emptied}
-use Rattle.sysv_buffer.proofs.ManySums.{one_there, some_part, times-append, times-one-le, the-one, has, only, none_of}
+use Rattle.sysv_buffer.proofs.ManySums.{at-le-sum_by, one_there, some_part, times-append, times-one-le, the-one, has, only, none_of}
 use Rattle.sysv_buffer.proofs.ManySeats.{News, no_news, stays, other_put, other_taken, drawn_put, drawn_taken}
 
 -- one new number
@@ -122,6 +122,7 @@ module _ {T : Type 0} where
               others = λ k u _ _ fit. fit;
               here = record {
                 seen = know.seen;
+                told = know.told;
                 gone = know.gone;
                 own_put = know.own_put;
                 own_taken = know.own_taken;
@@ -169,6 +170,7 @@ module _ {T : Type 0} where
               others = λ k u _ _ fit. fit;
               here = record {
                 seen = know.seen;
+                told = know.told;
                 gone = know.gone;
                 own_put = know.own_put;
                 own_taken = know.own_taken;
@@ -197,15 +199,16 @@ module _ {T : Type 0} where
 
   -- a seat that has no cell out sees more
   looked : (put : List T) (taken : ℕ) (p c : View T) (np nt id : ℕ) (views : List (Sight T)) (v w : Sight T) → Seated put taken p c np nt views → get_elem? views id ≡ some v
-      → ((more : List T) × (put ≡ w.seen ++ more)) → w.gone ≤ taken → w.puts ≡ v.puts → w.takes ≡ v.takes → w.put_ticket ≡ v.put_ticket → w.take_ticket ≡ v.take_ticket
+      → ((more : List T) × (put ≡ w.seen ++ more)) → ((more : List T) × (put ≡ w.told ++ more)) → w.gone ≤ taken → w.puts ≡ v.puts → w.takes ≡ v.takes → w.put_ticket ≡ v.put_ticket → w.take_ticket ≡ v.take_ticket
       → v.fills ≡ false → v.empties ≡ false → w.fills ≡ false → w.empties ≡ false → Seated put taken p c np nt (set views id w)
-  looked put taken p c np nt id views v w s at seen gone same_puts same_takes same_put same_take idle idle' still still' =
+  looked put taken p c np nt id views v w s at seen told gone same_puts same_takes same_put same_take idle idle' still still' =
       let know = s.each id v at in
       stays put taken p c put taken p c np nt np nt id views v w s (record {
         at = at;
         others = λ k u _ _ fit. fit;
         here = record {
           seen = seen;
+          told = told;
           gone = gone;
           own_put = λ k h. know.own_put k (let e = ap (times k) same_puts in omega arith);
           own_taken = λ k h. know.own_taken k (let e = ap (times k) same_takes in omega arith);
@@ -238,8 +241,20 @@ module _ {T : Type 0} where
         keeps,
         tt,
         on_in s g (get_or s.words 0 0) g.put s.homes g.p g.c (set s.views id w) g.in_word g.runs
-            (looked g.put g.taken g.p g.c (get_or s.words 32 0) (get_or s.words 48 0) id s.views v w g.seats at ([], sym (append-nil g.put)) know.gone refl refl refl refl idle idle' idle idle'),
-        record { put = g.put; more = know.seen.0; longer = know.seen.1; count = g.in_word; is = refl },
+            (looked g.put g.taken g.p g.c (get_or s.words 32 0) (get_or s.words 48 0) id s.views v w g.seats at ([], sym (append-nil g.put)) know.told know.gone refl refl refl refl idle idle' idle idle'),
+        record {
+          put = g.put;
+          more = know.seen.0;
+          longer = know.seen.1;
+          told = know.told;
+          puts = record { once = λ k. let part = at-le-sum_by (put_at k) s.views id v at in let most = g.seats.put_once k in omega arith; within = know.own_put };
+          takes = record {
+            once = λ k. let part = at-le-sum_by (taken_at k) s.views id v at in let most = g.seats.taken_once k in omega arith;
+            within = λ k h. let below = know.own_taken k h in let order = g.runs.order in omega arith;
+          };
+          count = g.in_word;
+          is = refl;
+        },
       )
 
   pub counts_taken : (slots id : ℕ) (me : Own T) → me.0.fills ≡ false → me.0.empties ≡ false → Allows Crowded slots id me 16 (λ n. n) (CountsTaken (step slots 16 0 0 none) me)
@@ -252,7 +267,7 @@ module _ {T : Type 0} where
         keeps,
         tt,
         on_out s g n g.taken s.homes g.p g.c (set s.views id w) g.out_word g.runs
-            (looked g.put g.taken g.p g.c (get_or s.words 32 0) (get_or s.words 48 0) id s.views v w g.seats at know.seen (omega (arith, g.out_word)) refl refl refl refl idle idle' idle idle'),
+            (looked g.put g.taken g.p g.c (get_or s.words 32 0) (get_or s.words 48 0) id s.views v w g.seats at know.seen know.told (omega (arith, g.out_word)) refl refl refl refl idle idle' idle idle'),
         (refl, omega (arith, g.out_word, g.runs.order, g.runs.limit)),
       )
 
@@ -311,6 +326,7 @@ module _ {T : Type 0} where
               at = at;
               others = λ i u _ _ fit. record {
                 seen = fit.seen;
+                told = fit.told;
                 gone = fit.gone;
                 own_put = fit.own_put;
                 own_taken = fit.own_taken;
@@ -321,6 +337,7 @@ module _ {T : Type 0} where
               };
               here = record {
                 seen = know.seen;
+                told = know.told;
                 gone = know.gone;
                 own_put = know.own_put;
                 own_taken = know.own_taken;
@@ -379,6 +396,7 @@ module _ {T : Type 0} where
               at = at;
               others = λ i u _ _ fit. record {
                 seen = fit.seen;
+                told = fit.told;
                 gone = fit.gone;
                 own_put = fit.own_put;
                 own_taken = fit.own_taken;
@@ -389,6 +407,7 @@ module _ {T : Type 0} where
               };
               here = record {
                 seen = ([], sym (append-nil g.put));
+                told = know.told;
                 gone = know.gone;
                 own_put = know.own_put;
                 own_taken = know.own_taken;
@@ -418,6 +437,9 @@ module _ {T : Type 0} where
         ),
       ))
       (at_most n v.gone)
+
+  longer_by : {put : List T} (x : T) (seen : List T) → (more : List T) × (put ≡ seen ++ more) → (more : List T) × (put ++ x ∷ [] ≡ seen ++ more)
+  longer_by x seen is = (is.0 ++ x ∷ [], ap (λ m. m ++ x ∷ []) is.1 ∙ append_assoc seen is.0 (x ∷ []))
 
   places_at : (slots id : ℕ) (v : Sight T) (k : ℕ) (x : T) → v.fills ≡ true → k ≡ length v.seen % slots
       → Allows Crowded slots id (v, (k, Some x) ∷ []) 0 (λ n. (n + 1) % 18446744073709551616) (Places (step slots 0 1 0 none) (v, (k, Some x) ∷ []))
@@ -450,7 +472,8 @@ module _ {T : Type 0} where
               others = λ i u apart there fit.
                   let alone : 1 ≤ times l u.put_ticket → ⊥ = λ h. other_put g.put g.taken g.p g.c np nt s.views g.seats id i l v u at apart there holds h in
                   record {
-                    seen = (fit.seen.0 ++ x ∷ [], ap (λ m. m ++ x ∷ []) fit.seen.1 ∙ append_assoc u.seen fit.seen.0 (x ∷ []));
+                    seen = longer_by x u.seen fit.seen;
+                    told = longer_by x u.told fit.told;
                     gone = fit.gone;
                     own_put = λ j h. let below = fit.own_put j h in omega arith;
                     own_taken = fit.own_taken;
@@ -461,6 +484,7 @@ module _ {T : Type 0} where
                   };
               here = record {
                 seen = ([], ap (λ m. m ++ x ∷ []) (sym out.1) ∙ sym (append-nil (v.seen ++ x ∷ [])));
+                told = longer_by x v.told know.told;
                 gone = know.gone;
                 own_put = λ j h. let is = own j in dite (dec_le 1 (times j v.puts)) (λ d. let below = know.own_put j d in omega arith) (λ nd. let e = the-one j l (omega (arith, nd)) in omega arith);
                 own_taken = know.own_taken;
@@ -519,6 +543,7 @@ module _ {T : Type 0} where
                   let alone : 1 ≤ times l u.take_ticket → ⊥ = λ h. other_taken g.put g.taken g.p g.c np nt s.views g.seats id i l v u at apart there holds h in
                   record {
                     seen = fit.seen;
+                    told = fit.told;
                     gone = let e = fit.gone in omega arith;
                     own_put = fit.own_put;
                     own_taken = λ j h. let below = fit.own_taken j h in omega arith;
@@ -529,6 +554,7 @@ module _ {T : Type 0} where
                   };
               here = record {
                 seen = know.seen;
+                told = know.told;
                 gone = let e = know.gone in omega arith;
                 own_put = know.own_put;
                 own_taken = λ j h. let is = own j in dite (dec_le 1 (times j v.takes)) (λ d. let below = know.own_taken j d in omega arith) (λ nd. let e = only j l v.take_ticket out.0 (omega (arith, nd)) in omega arith);
@@ -565,7 +591,7 @@ module _ {T : Type 0} where
       let v : Sight T = me.0 in
       let w : Sight T = record v { weighed = n } in
       let know = g.seats.each id v at in
-      (w, keeps, tt, on_put s g n (set s.views id w) (looked g.put g.taken g.p g.c n (get_or s.words 48 0) id s.views v w g.seats at know.seen know.gone refl refl refl refl idle idle' idle idle'), refl)
+      (w, keeps, tt, on_put s g n (set s.views id w) (looked g.put g.taken g.p g.c n (get_or s.words 48 0) id s.views v w g.seats at know.seen know.told know.gone refl refl refl refl idle idle' idle idle'), refl)
 
   pub weighs_take : (slots id : ℕ) (me : Own T) → me.0.fills ≡ false → me.0.empties ≡ false → Allows Crowded slots id me 48 (λ n. n) (Weighs (step slots 48 0 0 none) me)
   weighs_take slots id me idle idle' s g size at small =
@@ -573,4 +599,4 @@ module _ {T : Type 0} where
       let v : Sight T = me.0 in
       let w : Sight T = record v { weighed = n } in
       let know = g.seats.each id v at in
-      (w, keeps, tt, on_take s g n (set s.views id w) (looked g.put g.taken g.p g.c (get_or s.words 32 0) n id s.views v w g.seats at know.seen know.gone refl refl refl refl idle idle' idle idle'), refl)
+      (w, keeps, tt, on_take s g n (set s.views id w) (looked g.put g.taken g.p g.c (get_or s.words 32 0) n id s.views v w g.seats at know.seen know.told know.gone refl refl refl refl idle idle' idle idle'), refl)

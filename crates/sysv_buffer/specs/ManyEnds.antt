@@ -3,7 +3,7 @@ use Rattle.std.specs.Prelude.{◌≡◌, ℕ, ◌+◌, ◌≤◌, ◌^◌, List,
 use mathlib.Core.Option.{some}
 use lib.ListN.{get_elem?}
 use Rattle.sysv_buffer.specs.Ends.{Buffered}
-use Rattle.sysv_buffer.specs.ManySteps.{longer_of}
+use Rattle.sysv_buffer.specs.ManySteps.{AreOnce}
 use Rattle.sysv_buffer.specs.declared.refusals.ManyPutRefused.{ManyPutRefused}
 use Rattle.sysv_buffer.specs.declared.refusals.ManyPutRefused.TheVariants as refused
 use Rattle.sysv_buffer.specs.declared.refusals.ManyTakeRefused.{ManyTakeRefused}
@@ -28,9 +28,18 @@ module _ {T : Type 0} where
   abbrev pub split_off : Holding T → Holding T
   split_off h = record h { puts = []; takes = [] }
 
-  -- one seat has taken in another: the longer of the two prefixes that they have seen, and the places of both
-  abbrev pub joined : Holding T → Holding T → Holding T
-  joined one two = record one { seen = longer_of one.seen two.seen; puts = one.puts ++ two.puts; takes = one.takes ++ two.takes }
+  -- No place is twice among those of the seat's own items, nor among those that it took from, and it has seen each
+  abbrev pub HasItsOwn : Holding T → Type 0
+  HasItsOwn h = AreOnce h.seen h.puts × AreOnce h.seen h.takes
+
+  -- One seat has taken in another. It has seen what was put by now, which begins with what either had seen, and has the
+  -- places of both
+  pub record Joins (one two after : Holding T) : Type 0 where
+    pub begins_one : (more : List T) × (after.seen ≡ one.seen ++ more)
+    pub begins_two : (more : List T) × (after.seen ≡ two.seen ++ more)
+    pub puts : after.puts ≡ one.puts ++ two.puts
+    pub takes : after.takes ≡ one.takes ++ two.takes
+    pub own : HasItsOwn after
 
   -- the seat may have seen more, and has put and taken nothing
   pub record Looks (before after : Holding T) : Type 0 where

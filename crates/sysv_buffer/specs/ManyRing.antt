@@ -32,6 +32,7 @@ module _ {T : Type 0} where
   -- where it holds the very next ticket
   pub record Knows (put : List T) (taken : ℕ) (p c : View T) (v : Sight T) : Type 0 where
     pub seen : (more : List T) × (put ≡ v.seen ++ more)
+    pub told : (more : List T) × (put ≡ v.told ++ more)
     pub gone : v.gone ≤ taken
     pub own_put : (k : ℕ) → 1 ≤ times k v.puts → k < length put
     pub own_taken : (k : ℕ) → 1 ≤ times k v.takes → k < taken
@@ -67,4 +68,4 @@ module _ {T : Type 0} where
 
   -- the sight of the first seat
   abbrev pub first_sight : Sight T
-  first_sight = record { seen = []; gone = 0; weighed = 0; puts = []; takes = []; put_ticket = []; take_ticket = []; fills = false; empties = false }
+  first_sight = record { seen = []; told = []; gone = 0; weighed = 0; puts = []; takes = []; put_ticket = []; take_ticket = []; fills = false; empties = false }

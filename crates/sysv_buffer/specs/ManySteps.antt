@@ -4,6 +4,7 @@ use mathlib.Core.Option.{some}
 use lib.ListN.{get_elem?}
 use Rattle.atomic_table.specs.Table.{Me, Step, rest}
 use Rattle.sysv_buffer.specs.declared.many_view.Sight.{Sight}
+use Rattle.sysv_buffer.specs.ManyRing.{times}
 
 module _ (T : Type 0) where
   abbrev pub Own : Type 0
@@ -24,11 +25,19 @@ module _ {T : Type 0} where
   abbrev pub DrawsTake : At T → Own T → ℕ → Own T → Type 0
   DrawsTake st m n m' = (n ≡ st.first → m' ≡ (record m.0 { take_ticket = st.first ∷ [] }, m.1)) × (¬ (n ≡ st.first) → m' ≡ m)
 
-  -- a load of IN, which shows all that was put
+  -- no place is twice in the list, and each is one of what was put
+  pub record AreOnce (put : List T) (places : List ℕ) : Type 0 where
+    pub once : (k : ℕ) → times k places ≤ 1
+    pub within : (k : ℕ) → 1 ≤ times k places → k < length put
+
+  -- A load of IN, which shows all that was put. What the seat that was taken in last had seen is a prefix of it too
   pub record Counts (m : Own T) (n : ℕ) (m' : Own T) : Type 0 where
     pub put : List T
     pub more : List T
     pub longer : put ≡ m.0.seen ++ more
+    pub told : (rest : List T) × (put ≡ m.0.told ++ rest)
+    pub puts : AreOnce put m.0.puts
+    pub takes : AreOnce put m.0.takes
     pub count : n ≡ length put
     pub is : m' ≡ (record m.0 { seen = put }, m.1)
 
@@ -77,12 +86,6 @@ module _ {T : Type 0} where
   abbrev pub beside : Sight T → Sight T
   beside v = record v { puts = []; takes = []; put_ticket = []; take_ticket = []; fills = false; empties = false }
 
-  -- the longer of two prefixes of one list
-  abbrev pub longer_of : List T → List T → List T
-  longer_of [] ys = ys
-  longer_of (x ∷ xs) [] = x ∷ xs
-  longer_of (x ∷ xs) (y ∷ ys) = x ∷ longer_of xs ys
-
-  -- two sights in one
+  -- two sights in one, which is told what the other had seen
   abbrev pub both_of : Sight T → Sight T → Sight T
-  both_of v w = record v { seen = longer_of v.seen w.seen; puts = v.puts ++ w.puts; takes = v.takes ++ w.takes }
+  both_of v w = record v { told = w.seen; puts = v.puts ++ w.puts; takes = v.takes ++ w.takes }

@@ -1,11 +1,11 @@
 //! Buffers of many producers and consumers.
-ghost use Rattle.std.specs.Prelude.{◌≡◌, ◌<◌, ◌≤◌, ◌⊎◌, ◌↔◌, IfOk, IfErr, OnOk, IsErrOf};
-ghost use Rattle.sysv_buffer.specs.ManyEnds.{opened, split_off, joined, Looks, Puts, Takes, GivesBack, Misses};
+ghost use Rattle.std.specs.Prelude.{◌≡◌, ◌<◌, ◌≤◌, ◌⊎◌, ◌↔◌, length, IfOk, IfErr, OnOk, IsErrOf};
+ghost use Rattle.sysv_buffer.specs.ManyEnds.{opened, split_off, Joins, HasItsOwn, Looks, Puts, Takes, GivesBack, Misses};
 
 use crate::board::{IN, OUT};
 use crate::buffer::CELLS_MOST;
 use crate::many_board::{Board, lay};
-use crate::many_rule::{Gathering, Sharing};
+use crate::many_rule::{CountingPut, Gathering, Sharing};
 use crate::many_turns::{Next, Room};
 use crate::refusals::{ManyPutRefused, ManyTakeRefused, OpenRefused};
 use crate::seat::Seat;
@@ -69,12 +69,24 @@ impl<T: Drop> ManyBuffer<T> {
     pub fn join(&self, seat: &mut Seat<T>, other: Seat<T>)
         requires seat { seat.old.buffer ≡ self.now }
         requires other { other.buffer ≡ self.now }
-        ensures { seat.new ≡ joined seat.old other }
+        ensures buffer { seat.new.buffer ≡ self.now }
+        ensures joined { Joins seat.old other seat.new }
     {
         let token = other.into_token();
-        self.table
-            .shared
-            .join_seat::<Gathering>(&mut seat.token, token);
+        let shared = &self.table.shared;
+        shared.join_seat::<Gathering>(&mut seat.token, token);
+        shared.load::<CountingPut>(&mut seat.token, IN);
+    }
+
+    /// How many items were put by now. The seat has then seen them all.
+    pub fn put_count(&self, seat: &mut Seat<T>) -> u64
+        requires { seat.old.buffer ≡ self.now }
+        ensures buffer { seat.new.buffer ≡ self.now }
+        ensures count { result ≡ length seat.new.seen }
+        ensures seen { Looks seat.old seat.new }
+        ensures own { HasItsOwn seat.new }
+    {
+        self.table.shared.load::<CountingPut>(&mut seat.token, IN)
     }
 
     /// Puts the item into the next cell, where one is empty and no other seat has the turn. It never waits, and wakes

@@ -5,6 +5,8 @@ use std::collections::LinkedList;
 pub struct Sight<T> {
     /// What was put, as far as the seat has seen.
     pub seen: LinkedList<T>,
+    /// What the seat that it took in last had seen.
+    pub told: LinkedList<T>,
     /// So many items at least were taken.
     pub gone: u64,
     /// What it found when it loaded a sequencer last.

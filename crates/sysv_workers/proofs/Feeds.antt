@@ -1,0 +1,92 @@
+-- How what was put grows, and what is read of it.
+use Rattle.std.proofs.Common.{◌≡◌, ℕ, zero, suc, ◌+◌, List, [], ◌∷◌, ◌++◌, length, map, replicate, refl, sym, ap, ◌∙◌, arith, add-one, length-append, append_assoc}
+use Rattle.std.proofs.lemmas.List.{append-nil, map-append}
+use mathlib.Core.Option.{some, some-ne-none}
+use lib.ListN.{get_elem?}
+use Rattle.sysv_buffer.specs.ManyEnds.{Holding, Puts}
+use Rattle.sysv_workers.specs.declared.feed.Feed.{Feed}
+use Rattle.sysv_workers.specs.declared.feed.Feed.TheVariants.{Item, End}
+use Rattle.sysv_workers.specs.Feeding.{Reads, fed, HasFed}
+
+module _ {A : Type 0} where
+  pub nil_of : (xs : List A) → length xs ≡ 0 → xs ≡ []
+  nil_of [] e = refl
+  nil_of (x ∷ xs) e = absurd (omega arith)
+
+  at_longer : (list more : List A) (k : ℕ) (x : A) → get_elem? list k ≡ some x → get_elem? (list ++ more) k ≡ some x
+  at_longer [] more k x at = absurd (some-ne-none x (sym at))
+  at_longer (y ∷ list) more zero x at = at
+  at_longer (y ∷ list) more (suc k) x at = at_longer list more k x at
+
+  -- what is read stays the same where the list grows
+  pub reads_longer : (list more : List A) (ks : List ℕ) (xs : List A) → Reads list ks xs → Reads (list ++ more) ks xs
+  reads_longer list more [] [] r = tt
+  reads_longer list more [] (x ∷ xs) r = r
+  reads_longer list more (k ∷ ks) [] r = r
+  reads_longer list more (k ∷ ks) (x ∷ xs) r = (at_longer list more k x r.0, reads_longer list more ks xs r.1)
+
+  pub reads_both : (list : List A) (ks js : List ℕ) (xs ys : List A) → Reads list ks xs → Reads list js ys → Reads list (ks ++ js) (xs ++ ys)
+  reads_both list [] js [] ys r t = t
+  reads_both list [] js (x ∷ xs) ys r t = absurd r
+  reads_both list (k ∷ ks) js [] ys r t = absurd r
+  reads_both list (k ∷ ks) js (x ∷ xs) ys r t = (r.0, reads_both list ks js xs ys r.1 t)
+
+  pub reads_length : (list : List A) (ks : List ℕ) (xs : List A) → Reads list ks xs → length ks ≡ length xs
+  reads_length list [] [] r = refl
+  reads_length list [] (x ∷ xs) r = absurd r
+  reads_length list (k ∷ ks) [] r = absurd r
+  reads_length list (k ∷ ks) (x ∷ xs) r = ap suc (reads_length list ks xs r.1)
+
+  pub replicate_push : (n : ℕ) (x : A) → replicate n x ++ x ∷ [] ≡ x ∷ replicate n x
+  replicate_push zero x = refl
+  replicate_push (suc n) x = ap (λ l. x ∷ l) (replicate_push n x)
+
+module _ {T : Type 0} where
+  item_at_end : (xs : List T) (x : T) → (fed xs 0 ++ []) ++ Item x ∷ [] ≡ fed (xs ++ x ∷ []) 0
+  item_at_end xs x = simp (append-nil, map-append)
+
+  mark_at_end : (xs : List T) (n : ℕ) → (fed xs n ++ []) ++ End ∷ [] ≡ fed xs (n + 1)
+  mark_at_end xs n =
+      ap (λ l. l ++ End ∷ []) (append-nil (fed xs n))
+      ∙ (append_assoc (map Item xs) (replicate n End) (End ∷ []) ∙ ap (λ l. map Item xs ++ l) (replicate_push n End ∙ ap (λ k. replicate k End) (sym (add-one n))))
+
+  -- one more item was put
+  pub fed_item : (xs : List T) (x : T) (h h' : Holding (Feed T)) → HasFed xs 0 h → Puts (Item x) h h' → HasFed (xs ++ x ∷ []) 0 h'
+  fed_item xs x h h' f p =
+      let long = ap length p.seen ∙ length-append (h.seen ++ p.others) (Item x ∷ []) in
+      let before = length-append h.seen p.others in
+      let most = f.most in
+      let one = length-append xs (x ∷ []) in
+      record {
+        most = omega arith;
+        all = λ e.
+            let none : p.others ≡ [] = nil_of p.others (omega arith) in
+            let whole : h.seen ≡ fed xs 0 = f.all (omega arith) in
+            p.seen ∙ (ap (λ l. (h.seen ++ l) ++ Item x ∷ []) none ∙ (ap (λ l. (l ++ []) ++ Item x ∷ []) whole ∙ item_at_end xs x));
+      }
+
+  -- one more end mark was put
+  pub fed_mark : (xs : List T) (n : ℕ) (h h' : Holding (Feed T)) → HasFed xs n h → Puts End h h' → HasFed xs (n + 1) h'
+  fed_mark xs n h h' f p =
+      let long = ap length p.seen ∙ length-append (h.seen ++ p.others) (End ∷ []) in
+      let before = length-append h.seen p.others in
+      let most = f.most in
+      record {
+        most = omega arith;
+        all = λ e.
+            let none : p.others ≡ [] = nil_of p.others (omega arith) in
+            let whole : h.seen ≡ fed xs n = f.all (omega arith) in
+            p.seen ∙ (ap (λ l. (h.seen ++ l) ++ End ∷ []) none ∙ (ap (λ l. (l ++ []) ++ End ∷ []) whole ∙ mark_at_end xs n));
+      }
+
+  -- the seat has seen more
+  pub fed_longer : (xs : List T) (n : ℕ) (h h' : Holding (Feed T)) (more : List (Feed T)) → h'.seen ≡ h.seen ++ more → HasFed xs n h → HasFed xs n h'
+  fed_longer xs n h h' more is f =
+      let long = ap length is ∙ length-append h.seen more in
+      let most = f.most in
+      record {
+        most = omega arith;
+        all = λ e.
+            let none : more ≡ [] = nil_of more (omega arith) in
+            is ∙ (ap (λ l. h.seen ++ l) none ∙ (append-nil h.seen ∙ f.all (omega arith)));
+      }

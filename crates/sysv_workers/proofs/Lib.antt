@@ -1,0 +1,5 @@
+mod Feeds
+mod Works
+mod Crewing
+mod Dealing
+mod Ending

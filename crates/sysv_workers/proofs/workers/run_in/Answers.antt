@@ -1,0 +1,57 @@
+use Rattle.std.proofs.Common.{◌≡◌, ℕ, List, [], ◌∙◌, sym, ap, subst, length, vec_capacity, arith}
+use Rattle.sysv_workers.specs.Running.{GivesBack}
+use Rattle.sysv_workers.specs.Feeding.{counted, HasFed}
+use Rattle.sysv_workers.specs.Sources.{GivesAll}
+use Rattle.sysv_workers.proofs.Crewing.{on_length}
+use Rattle.sysv_workers.proofs.Ending.{at_some, none_gathered, gathered_looks, ends, leads, fails_early, fails_late}
+use Rattle.sysv_workers.proofs.Feeds.{fed_longer}
+use Rattle.sysv_workers.proofs.workers.run_in.Goals as goal
+
+pub returns-in-Some-clause-err : goal.returns-in-Some-clause-err
+returns-in-Some-clause-err g c =
+    let runs = g.J.Job.runs c.args.job.now in
+    let fits = g.J.Job.fits c.args.job.now in
+    let s = c.in-Some.ensures.started in
+    let back = c.give_up.ensures.back c.args.job.now s.0 s.1 s.3 c.start_all.ensures.fits s.4 in
+    let P : List _ → Type 0 = λ l. GivesBack {T = g.row.T.Denot} runs l c.give_up.result.why c.give_up.result.states.items in
+    fails_early runs fits _ _ _ _ c.give_up.ensures.why (subst P (sym s.2) back.0) back.1
+
+pub join_all-requires-clause-room : goal.join_all-requires-clause-room
+join_all-requires-clause-room g c =
+    let s = c.in_default.ensures.started in
+    let long : length c.start_all.new.handles.items ≡ length c.args.states.items = on_length c.args.job.now c.args.buffer.now c.args.states.items c.start_all.new.handles.items s.1 in
+    let none : length c.start_all.new.states.items ≡ 0 = ap length s.0 in
+    let same : vec_capacity c.start_all.new.states ≡ vec_capacity c.args.states = c.start_all.ensures.capacity in
+    let a = c.start_all.new.states.ok.0 in
+    let b = c.args.states.ok in omega arith
+
+pub returns-in-None-clause-ok : goal.returns-in-None-clause-ok
+returns-in-None-clause-ok g c =
+    let runs = g.J.Job.runs c.args.job.now in
+    let fits = g.J.Job.fits c.args.job.now in
+    let s = c.in_default.ensures.started in
+    let takes : c.put_marks-marked.new.seat.takes ≡ [] = c.put_marks-marked.ensures.takes ∙ (c.put_all-items.ensures.takes ∙ (c.start_all.ensures.takes ∙ c.requires.seat.1)) in
+    let start = none_gathered runs fits [] c.put_marks-marked.new.seat c.start_all.new.states.items c.new-tally.result.ran c.new-tally.result.ended takes s.0 (λ k d low. absurd (omega arith)) c.new-tally.ensures.0 in
+    let all = c.join_all.ensures.gathered c.args.job.now [] [] c.args.states.items s.1 start in
+    let seen = gathered_looks runs fits [] all.0 c.join_all.new.seat c.put_count-put.new.seat c.join_all.new.states.items c.join_all.new.tally.ran c.join_all.new.tally.ended all.2 c.put_count-put.ensures.seen in
+    let fine = c.in-None.ensures.none in
+    let P : ℕ → Type 0 = λ n. (given : List _) × GivesAll g.S.Source.gives c.args.source.now given c.put_all-items.new.source × HasFed given 0 c.put_all-items.new.seat × (n ≡ counted (length given)) in
+    let gave : P c.join_all.new.tally.ran = at_some P c.put_all-items.result c.join_all.new.tally.ran fine.2 c.put_all-items.ensures.gave in
+    let marks = c.put_marks-marked.ensures.marks fine.0 gave.0 gave.2 in
+    let count = c.len-count.result in
+    let later : HasFed gave.0 count c.join_all.new.seat = fed_longer gave.0 count c.put_marks-marked.new.seat c.join_all.new.seat c.join_all.ensures.grown.0 c.join_all.ensures.grown.1 marks in
+    let last : HasFed gave.0 count c.put_count-put.new.seat = fed_longer gave.0 count c.join_all.new.seat c.put_count-put.new.seat c.put_count-put.ensures.seen.more c.put_count-put.ensures.seen.seen later in
+    let long : length c.args.states.items ≡ count = sym c.args.states.ok.0 ∙ sym c.len-count.ensures in
+    ends runs fits g.S.Source.gives c.args.states.items c.join_all.new.states.items c.args.source.now c.put_all-items.new.source all.0 gave.0 c.put_count-put.new.seat c.join_all.new.tally.ran c.join_all.new.tally.ended count c.put_count-put.result
+    seen all.1 long (let a = c.requires.room.0 in omega arith) gave.1 last c.put_count-put.ensures.own fine.1 gave.3 c.put_count-put.ensures.count fine.3
+
+pub returns-clause-err : goal.returns-clause-err
+returns-clause-err g c =
+    let runs = g.J.Job.runs c.args.job.now in
+    let fits = g.J.Job.fits c.args.job.now in
+    let s = c.in_default.ensures.started in
+    let takes : c.put_marks-marked.new.seat.takes ≡ [] = c.put_marks-marked.ensures.takes ∙ (c.put_all-items.ensures.takes ∙ (c.start_all.ensures.takes ∙ c.requires.seat.1)) in
+    let start = none_gathered runs fits [] c.put_marks-marked.new.seat c.start_all.new.states.items c.new-tally.result.ran c.new-tally.result.ended takes s.0 (λ k d low. absurd (omega arith)) c.new-tally.ensures.0 in
+    let all = c.join_all.ensures.gathered c.args.job.now [] [] c.args.states.items s.1 start in
+    let led = leads runs fits [] all.0 c.join_all.new.seat c.join_all.new.states.items c.join_all.new.tally.ran c.join_all.new.tally.ended c.args.states.items all.2 all.1 in
+    fails_late runs fits c.args.states.items c.join_all.new.states.items c.args.source.now c.put_all-items.new.source _ c.in-Some-fault.ensures.some led all.2.still

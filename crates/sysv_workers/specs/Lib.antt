@@ -1,0 +1,6 @@
+pub mod Parts
+pub mod Sources
+pub mod Running
+pub mod Feeding
+pub mod Doing
+pub mod Crews

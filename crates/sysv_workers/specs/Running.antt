@@ -1,0 +1,46 @@
+-- What a run of workers does, and what comes back where it is refused.
+use Rattle.std.specs.Prelude.{◌≡◌, ◌≢◌, List, Option}
+use Rattle.std.specs.List.{All}
+use Rattle.sysv_workers.specs.Parts.{Part, Leads, AreDealt}
+use Rattle.sysv_workers.specs.Sources.{GivesAll}
+use Rattle.sysv_workers.specs.declared.refusals.WorkersFault.{WorkersFault}
+use Rattle.sysv_workers.specs.declared.refusals.WorkersFault.TheVariants.{BadCount, NoMemory, Thread, Worn, Missed}
+
+module _ {W T : Type 0} where
+  -- The workers have run over all items of the source: each has a list of items, and the state that it leaves is one that
+  -- the job's runs over that list lead to. Together the lists are the items that the source gave, each once
+  pub record RunsAll {S : Type 0} (runs : W → T → W → Type 0) (gives : S → Option T → S → Type 0) (before : List W) (source : S) (after : List W) (source' : S) : Type 0 where
+    pub parts : List (Part W T)
+    pub given : List T
+    pub leads : Leads runs before parts after
+    pub gave : GivesAll gives source given source'
+    pub dealt : AreDealt given parts
+
+  -- where no item was run the states come back as they were, and else each is one that runs over some items lead to
+  abbrev pub GivesBack : (W → T → W → Type 0) → List W → WorkersFault → List W → Type 0
+  GivesBack runs before BadCount after = after ≡ before
+  GivesBack runs before NoMemory after = after ≡ before
+  GivesBack runs before Thread after = after ≡ before
+  GivesBack runs before Worn after = (parts : List (Part W T)) × Leads runs before parts after
+  GivesBack runs before Missed after = (parts : List (Part W T)) × Leads runs before parts after
+
+-- where no item could be run, nothing was taken of the source
+abbrev pub LeavesSource : {S : Type 0} → S → WorkersFault → S → Type 0
+LeavesSource source BadCount source' = source' ≡ source
+LeavesSource source NoMemory source' = source' ≡ source
+LeavesSource source Thread source' = source' ≡ source
+LeavesSource source Worn source' = Unit {0}
+LeavesSource source Missed source' = Unit {0}
+
+module _ {W T S : Type 0} where
+  -- the answer of a run that had as many states as it may
+  pub record Ends (runs : W → T → W → Type 0) (fits : W → Type 0) (gives : S → Option T → S → Type 0) (before : List W) (source : S) (after : List W) (source' : S) : Type 0 where
+    pub all : RunsAll runs gives before source after source'
+    pub still : All fits after
+
+  -- and where it is refused
+  pub record Fails (runs : W → T → W → Type 0) (fits : W → Type 0) (before : List W) (source : S) (why : WorkersFault) (after : List W) (source' : S) : Type 0 where
+    pub back : GivesBack runs before why after
+    pub still : All fits after
+    pub asked : LeavesSource source why source'
+    pub count : why ≢ BadCount

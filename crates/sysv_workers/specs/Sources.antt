@@ -1,0 +1,9 @@
+-- What a source of items gives.
+use Rattle.std.specs.Prelude.{List, Option, Some, None}
+use Rattle.std.specs.List.{FoldsTo}
+
+-- the source gave these items, one after the other, and then said that it has no more
+pub record GivesAll {S T : Type 0} (gives : S → Option T → S → Type 0) (before : S) (items : List T) (after : S) : Type 0 where
+  pub last : S
+  pub gave : FoldsTo (λ s x s'. gives s (Some x) s') before items last
+  pub ended : gives last None after

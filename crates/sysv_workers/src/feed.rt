@@ -1,0 +1,61 @@
+//! The buffer's side of the source.
+ghost use Rattle.std.specs.Prelude.{◌≡◌, ℕ, ◌+◌, true, List, length, IfSome};
+ghost use Rattle.sysv_workers.specs.Feeding.{counted, HasFed};
+ghost use Rattle.sysv_workers.specs.Sources.{GivesAll};
+
+use crate::source::Source;
+use std::sync::Wait;
+use sysv_buffer::{ManyBuffer, Seat};
+
+/// What lies in the buffer between the source and the workers.
+#[derive(Drop)]
+pub(crate) enum Feed<T> {
+    Item(T),
+    /// The worker that takes it ends.
+    End,
+}
+
+// Puts the items of the source until it has no more, and answers how many. `None` where the buffer is worn out.
+pub(crate) fn put_all<T: Drop, S: Source<T>, R: Wait>(
+    rt: &R,
+    buffer: &ManyBuffer<Feed<T>>,
+    seat: &mut Seat<Feed<T>>,
+    source: &mut S,
+) -> Option<u64>
+    requires { seat.old.buffer ≡ buffer.now }
+    ensures buffer { seat.new.buffer ≡ buffer.now }
+    ensures takes { seat.new.takes ≡ seat.old.takes }
+    ensures gave { IfSome result (λ n. (given : List T) × GivesAll S.gives source.old given source.new × HasFed given 0 seat.new × (n ≡ counted (length given))) }
+{
+    let mut items = 0_u64;
+    for _ in rt.forever() {
+        let Some(item) = source.next() else {
+            return Some(items);
+        };
+        match buffer.put(rt, seat, Feed::Item(item)) {
+            Ok(()) => items = items.saturating_add(1),
+            Err(_) => return None,
+        }
+    }
+    unreachable!()
+}
+
+// Puts so many end marks. False where the buffer is worn out.
+pub(crate) fn put_marks<T: Drop, R: Wait>(
+    rt: &R,
+    buffer: &ManyBuffer<Feed<T>>,
+    seat: &mut Seat<Feed<T>>,
+    count: usize,
+) -> bool
+    requires { seat.old.buffer ≡ buffer.now }
+    ensures buffer { seat.new.buffer ≡ buffer.now }
+    ensures takes { seat.new.takes ≡ seat.old.takes }
+    ensures marks { result ≡ true → (given : List T) → HasFed given 0 seat.old → HasFed given count seat.new }
+{
+    for _ in 0..count {
+        if buffer.put(rt, seat, Feed::End).is_err() {
+            return false;
+        }
+    }
+    true
+}

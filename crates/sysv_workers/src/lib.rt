@@ -1,0 +1,18 @@
+//! Worker threads: items go from one source to some threads, each of which runs a job over the items that it gets, with a
+//! state of its own.
+#![tactic(auto)]
+
+mod crew;
+mod feed;
+mod job;
+mod refusals;
+mod source;
+#[cfg(test)]
+mod tests;
+mod worker;
+mod workers;
+
+pub use job::Job;
+pub use refusals::{WorkersFault, WorkersRefused};
+pub use source::Source;
+pub use workers::run_workers;

@@ -1,0 +1,199 @@
+//! Runs of workers.
+ghost use Rattle.std.specs.Prelude.{◌≡◌, ◌+◌, ◌-◌, ◌^◌, ◌<◌, ◌≤◌, ◌⊎◌, ◌↔◌, ◌≢◌, true, min, List, [], ◌∷◌, ◌++◌, length, vec_len, vec_capacity, IfOk, IfErr, IfSome, IfNone, OnOk, Some};
+ghost use Rattle.std.specs.List.{All};
+ghost use Rattle.std.specs.Mem.{manually_drop_value};
+ghost use Rattle.std.specs.Thread.{IsSync};
+ghost use Rattle.sysv_workers.specs.Crews.{AreOn};
+ghost use Rattle.sysv_workers.specs.Doing.{Did};
+ghost use Rattle.sysv_workers.specs.Running.{RunsAll, GivesBack, LeavesSource, Ends, Fails};
+
+use crate::crew::{Handle, Tally, collect, join_all, start_all};
+use crate::feed::{Feed, put_all, put_marks};
+use crate::job::Job;
+use crate::refusals::{WorkersFault, WorkersRefused};
+use crate::source::Source;
+use crate::worker::Done;
+use std::alloc::Global;
+use std::mem::ManuallyDrop;
+use std::sync::Wait;
+use std::thread;
+use std::thread::{Scope, Threads};
+use sysv_buffer::{ManyBuffer, Seat};
+
+/// There are at most so many workers.
+const WORKERS_MOST: usize = 16;
+
+/// Runs the job over all items of the source, in a thread for each state, and answers the states that the runs leave, in
+/// their order. An item goes to a worker that waits for one, through a buffer with a cell for each worker. The source is
+/// asked by the calling thread alone, once all threads run.
+///
+/// In each refusal the states come back. `BadCount` comes where there are not 1 to 16 states, `NoMemory` where memory is
+/// refused, and `Thread` where a thread can't be started: then the states are as they were, and the source was not asked.
+/// `Worn` comes where 2^62 items had gone through the buffer, and `Missed` where the number of items that were run is not
+/// that of the items that were put. Then each state is one that runs over some items leave.
+pub fn run_workers<W: Send, T: Drop + Send, S: Source<T>, J: Job<W, T> + Sync, R>(
+    rt: &R,
+    alloc: Global,
+    states: Vec<W>,
+    source: &mut S,
+    job: &J,
+) -> Result<Vec<W>, WorkersRefused<W>>
+where
+    R: Threads + Wait + Sync,
+    requires { All (J.fits job.now) states.items }
+    ensures count { OnOk result ((1 ≤ vec_len states) × (vec_len states ≤ 16)) }
+    ensures bad_count { IfErr result (λ e. (e.why ≡ WorkersFault.BadCount) ↔ ((vec_len states < 1) ⊎ (16 < vec_len states))) }
+    ensures ok { IfOk result (λ after. RunsAll (J.runs job.now) S.gives states.items source.old after.items source.new) }
+    ensures fits { IfOk result (λ after. All (J.fits job.now) after.items) }
+    ensures err { IfErr result (λ e. GivesBack (J.runs job.now) states.items e.why e.states.items × All (J.fits job.now) e.states.items) }
+    ensures asked { IfErr result (λ e. LeavesSource source.old e.why source.new) }
+{
+    let count = states.len();
+    if count < 1 || count > WORKERS_MOST {
+        let why = WorkersFault::BadCount;
+        return Err(WorkersRefused { why, states });
+    }
+    let why = WorkersFault::NoMemory;
+    let Ok((buffer, seat)) = ManyBuffer::open(alloc, count) else {
+        return Err(WorkersRefused { why, states });
+    };
+    let Ok(handles) = Vec::with_capacity(alloc, count) else {
+        return Err(WorkersRefused { why, states });
+    };
+    run_scoped(rt, &buffer, job, source, seat, states, handles)
+}
+
+// Runs all in a scope of threads.
+fn run_scoped<W: Send, T: Drop + Send, S: Source<T>, J: Job<W, T> + Sync, R>(
+    rt: &R,
+    buffer: &ManyBuffer<Feed<T>>,
+    job: &J,
+    source: &mut S,
+    seat: Seat<Feed<T>>,
+    states: Vec<W>,
+    handles: Vec<Handle<W, T, J>>,
+) -> Result<Vec<W>, WorkersRefused<W>>
+where
+    R: Threads + Wait + Sync,
+    requires seat { (seat.buffer ≡ buffer.now) × (seat.takes ≡ []) }
+    requires fits { All (J.fits job.now) states.items }
+    requires handles { handles.items ≡ [] }
+    requires room { (1 ≤ vec_len states) × (vec_len states ≤ 16) × (vec_len states ≤ vec_capacity handles) }
+    ensures ok { IfOk result (λ v. Ends (J.runs job.now) (J.fits job.now) S.gives states.items source.old v.items source.new) }
+    ensures err { IfErr result (λ e. Fails (J.runs job.now) (J.fits job.now) states.items source.old e.why e.states.items source.new) }
+{
+    let kept = unsafe { ManuallyDrop::new_unchecked(states) };
+    let (outcome, asked) = thread::scope(
+        thread::scope_env(),
+        rt,
+        move |scope| -> (Result<Vec<W>, WorkersRefused<W>>, &mut S)
+            requires { IsSync R.row × (seat.buffer ≡ buffer.now) × (seat.takes ≡ []) × All (J.fits job.now) (manually_drop_value kept).items × (handles.items ≡ []) × (1 ≤ vec_len (manually_drop_value kept)) × (vec_len (manually_drop_value kept) ≤ 16) × (vec_len (manually_drop_value kept) ≤ vec_capacity handles) }
+            ensures source { result.1.ghost_name ≡ source.entry.ghost_name }
+            ensures ok { IfOk result.0 (λ v. Ends (J.runs job.entry.now) (J.fits job.entry.now) S.gives (manually_drop_value kept).items source.entry.now v.items result.1.now) }
+            ensures err { IfErr result.0 (λ e. Fails (J.runs job.entry.now) (J.fits job.entry.now) (manually_drop_value kept).items source.entry.now e.why e.states.items result.1.now) }
+        {
+            let states = ManuallyDrop::into_inner(kept);
+            let outcome = run_in(rt, scope, buffer, job, source, seat, states, handles);
+            (outcome, source)
+        },
+    );
+    given_back(asked);
+    outcome
+}
+
+// This use of the reference is what ties it to the parameter that lent it.
+fn given_back<S>(source: &mut S)
+    ensures { source.new ≡ source.old }
+{}
+
+// Starts the workers, feeds them, and waits for them.
+fn run_in<
+    's,
+    E,
+    W: Send + 's,
+    T: Drop + Send + 's,
+    S: Source<T>,
+    J: Job<W, T> + Sync + 's,
+    R: Threads + Wait + Sync,
+>(
+    rt: &'s R,
+    scope: &Scope<'s, E>,
+    buffer: &'s ManyBuffer<Feed<T>>,
+    job: &'s J,
+    source: &mut S,
+    mut seat: Seat<Feed<T>>,
+    mut states: Vec<W>,
+    mut handles: Vec<Handle<W, T, J>>,
+) -> Result<Vec<W>, WorkersRefused<W>>
+    requires seat { (seat.buffer ≡ buffer.now) × (seat.takes ≡ []) }
+    requires fits { All (J.fits job.now) states.items }
+    requires handles { handles.items ≡ [] }
+    requires room { (1 ≤ vec_len states) × (vec_len states ≤ 16) × (vec_len states ≤ vec_capacity handles) }
+    ensures ok { IfOk result (λ v. Ends (J.runs job.now) (J.fits job.now) S.gives states.items source.old v.items source.new) }
+    ensures err { IfErr result (λ e. Fails (J.runs job.now) (J.fits job.now) states.items source.old e.why e.states.items source.new) }
+{
+    let count = states.len();
+    if let Some(done) = start_all(rt, scope, buffer, job, &mut seat, &mut states, &mut handles) {
+        return Err(give_up(rt, buffer, seat, states, handles, done));
+    }
+    let items = put_all(rt, buffer, &mut seat, source);
+    let marked = put_marks(rt, buffer, &mut seat, count);
+    let mut tally = Tally::new();
+    join_all(rt, buffer, &mut seat, &mut states, &mut handles, &mut tally);
+    let put = buffer.put_count(&mut seat);
+    match fault(count as u64, items, marked, put, &tally) {
+        None => Ok(states),
+        Some(why) => Err(WorkersRefused { why, states }),
+    }
+}
+
+// Ends the workers that were started, after one was not. It has worked here, and what it left is handed in.
+fn give_up<W, T: Drop, J: Job<W, T>, R: Threads>(
+    rt: &R,
+    buffer: &ManyBuffer<Feed<T>>,
+    mut seat: Seat<Feed<T>>,
+    mut states: Vec<W>,
+    mut handles: Vec<Handle<W, T, J>>,
+    done: Done<W, T>,
+) -> WorkersRefused<W>
+    requires seat { (seat.buffer ≡ buffer.now) × (seat.takes ≡ []) }
+    requires theirs { done.seat.buffer ≡ buffer.now }
+    requires on { (job : J) × (rest : List W) × AreOn job buffer.now rest handles.items }
+    requires room { vec_len states + 1 + vec_len handles ≤ vec_capacity states }
+    ensures back { (job : J) (state : W) (rest : List W) → AreOn job buffer.now rest handles.items → All (J.fits job) states.items → Did (J.runs job) (J.fits job) buffer.now state done.ended (manually_drop_value done.state) done.seat done.ran
+        → GivesBack (J.runs job) (states.items ++ state ∷ rest) result.why result.states.items × All (J.fits job) result.states.items }
+    ensures why { (result.why ≡ WorkersFault.Thread) ⊎ (result.why ≡ WorkersFault.Missed) }
+{
+    let mut tally = Tally::new();
+    collect(buffer, &mut seat, &mut states, &mut tally, done);
+    join_all(rt, buffer, &mut seat, &mut states, &mut handles, &mut tally);
+    let why = if tally.ran == 0 {
+        WorkersFault::Thread
+    } else {
+        WorkersFault::Missed
+    };
+    WorkersRefused { why, states }
+}
+
+// What is wrong once all workers have ended. So many items and end marks were put, where all were.
+fn fault(
+    marks: u64,
+    items: Option<u64>,
+    marked: bool,
+    put: u64,
+    tally: &Tally,
+) -> Option<WorkersFault>
+    ensures none { IfNone result ((marked ≡ true) × (tally.now.ended ≡ true) × (items ≡ Some tally.now.ran) × (put ≡ min (tally.now.ran + marks) (2 ^ 64 - 1))) }
+    ensures some { IfSome result (λ why. (why ≡ WorkersFault.Worn) ⊎ (why ≡ WorkersFault.Missed)) }
+{
+    let Some(items) = items else {
+        return Some(WorkersFault::Worn);
+    };
+    if !marked || !tally.ended {
+        return Some(WorkersFault::Worn);
+    }
+    if tally.ran != items || put != items.saturating_add(marks) {
+        return Some(WorkersFault::Missed);
+    }
+    None
+}
