@@ -9,3 +9,4 @@ pub mod Seats
 pub mod Answered
 pub mod Reading
 pub mod Opened
+pub mod SeenHistories

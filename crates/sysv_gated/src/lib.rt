@@ -7,6 +7,7 @@ mod at_registry;
 mod at_slot;
 mod counts;
 pub mod gates;
+pub mod laws;
 pub mod letter;
 pub mod opening;
 pub mod pool;
