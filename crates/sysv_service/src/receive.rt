@@ -105,10 +105,7 @@ impl Service {
             ..
         } = receive;
         let now = clock.now();
-        match self
-            .gates
-            .take(rt, &mut pass.seats, id, cred, selector, size, noerror, now)
-        {
+        match self.gates.take(rt, &mut pass.seats, id, cred, selector, size, noerror, now) {
             Ok(Ok(taken)) => {
                 let (delivery, chain) = taken.finish(size, out);
                 receive.given(delivery, chain)

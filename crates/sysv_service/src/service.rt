@@ -6,13 +6,12 @@ ghost use Rattle.sysv_keys.specs.declared.identifier.TheConstants.{GENERATION_LA
 ghost use Rattle.sysv_gated.specs.Seats.{AreOf};
 ghost use Rattle.sysv_gated.specs.Opened.{AreOpen, all_opened};
 
+use crate::pass::Pass;
 use std::alloc::Global;
 use std::marker::Model;
 use sysv_gated::gates::Gates;
 use sysv_gated::opening::GatesRefused;
 use sysv_pool::chain::Chain;
-
-use crate::pass::Pass;
 
 /// The queues of a system: 64 slots, the registry of their keys and the pool of blocks, which threads share by reference.
 /// Each thread calls it with a pass of its own. It can't be dropped: it ends by `into_gates`.

@@ -3,20 +3,19 @@
 ghost use Rattle.std.specs.Prelude.{◌≡◌, IfSome, ⊤};
 ghost use Rattle.sysv_gated.specs.Seats.{AreOf};
 
+use crate::clock::Clock;
+use crate::pass::Pass;
+use crate::service::Service;
+use bitflags::Flags as _;
 use std::alloc::Global;
 use std::process::Abort;
-use bitflags::Flags as _;
-use sysv_gated::opening::GatesRefused;
+use sysv_gated::opening::{GatesClosed, GatesRefused};
 use sysv_model::attributes::SetTo;
 use sysv_model::body::Body;
 use sysv_model::cred::Cred;
 use sysv_model::errno::Errno;
 use sysv_model::flags::Flags;
 use sysv_queue::tally::Tally;
-
-use crate::clock::Clock;
-use crate::pass::Pass;
-use crate::service::Service;
 
 const USER: Cred = Cred {
     uid: 1000,
@@ -77,4 +76,58 @@ fn body_of(rt: &impl Abort, alloc: Global, text: &[u8]) -> Body {
     };
     assert!(rt; body.push_piece(text));
     body
+}
+
+/// Ends the service, and tells how many messages waited and how many blocks are free once all came back.
+fn ended(rt: &impl Abort, service: Service, pass: Pass) -> (usize, u32)
+    requires { AreOf service pass.seats }
+{
+    let (seats, held) = pass.into_seats();
+    let closed = service.into_gates().close(seats);
+    let GatesClosed {
+        mut slots,
+        registry: _registry,
+        pool,
+    } = closed;
+    let mut pool = match (pool.object, pool.rest) {
+        (Some(pool), None) => pool.into_pool(),
+        (_, rest) => {
+            spend_pool(rest);
+            panic!(rt; "the pool is in the middle of a turn")
+        }
+    };
+    let mut waiting = 0;
+    let mut free = pool.free();
+    while let Some(closing) = slots.pop() {
+        let slot = match (closing.object, closing.rest) {
+            (Some(slot), None) => slot.into_slot(),
+            _ => panic!(rt; "a slot is in the middle of a turn"),
+        };
+        waiting += slot.row().map_or(0, |row| row.qnum as usize);
+        free += slot.end().end();
+    }
+    slots.destroy_empty();
+    free += held.end();
+    pool.end();
+    (waiting, free)
+}
+
+#[test]
+fn a_pass_receives_its_own_message(rt: HostRuntime) {
+    let (service, mut pass) = opened(&rt, rt.alloc(), 0);
+    let id = service.msgget(&rt, &mut pass, &CLOCK, USER, 7, creating());
+    assert_eq!(rt; id, Ok(0));
+    let text = body_of(&rt, rt.alloc(), b"ping");
+    let sent = service.msgsnd(&rt, &mut pass, &CLOCK, USER, 0, 5, &text, nowait());
+    assert_eq!(rt; sent, Ok(()));
+    let mut out = body_of(&rt, rt.alloc(), b"");
+    match service.msgrcv(&rt, &mut pass, &CLOCK, USER, 0, &mut out, 100, -9, nowait()) {
+        Ok(delivery) => {
+            assert_eq!(rt; (delivery.mtype(), delivery.len()), (5, 4));
+            delivery.written(&mut Tally::open());
+        }
+        Err(why) => panic!(rt; "no message: {why}"),
+    }
+    assert_eq!(rt; out.block(0), b"ping");
+    assert_eq!(rt; ended(&rt, service, pass), (0, 128));
 }

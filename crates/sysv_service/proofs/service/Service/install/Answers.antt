@@ -31,4 +31,4 @@ returns-in-Ok-clause-steps g c =
     subst (λ n. after_install n (Installed c.in-Ok.made) ≡ Some (state_of c.installed.result [])) (to_z-of_z w32 c.args.id id) (c.installed.ensures []) in
     subst (λ b. StepsOn may (AtInstall (getting c.args.get) c.args.id) b (state_of c.installed.result []) after) c.pass.view_is
     (stepped may (AtInstall (getting c.args.get) c.args.id) before (state_of c.installed.result []) after
-      (AtSlot (slot_of_id c.args.id) (Install c.args.id c.args.get.key c.args.get.cred c.args.get.flags.0 c.now-now.result) (Installed c.in-Ok.made)) c.now-now.result (λ e. c.now-now.ensures) refl goes turn (omega arith))
+    (AtSlot (slot_of_id c.args.id) (Install c.args.id c.args.get.key c.args.get.cred c.args.get.flags.0 c.now-now.result) (Installed c.in-Ok.made)) c.now-now.result (λ e. c.now-now.ensures) refl goes turn (omega arith))

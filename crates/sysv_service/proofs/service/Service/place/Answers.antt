@@ -30,7 +30,7 @@ returns-in-Ok-Ok-clause-steps g c =
     let turn = simp (to_z-of_z, filled, number) at told in
     subst (λ b. StepsOn may phase b (state_of c.placed.result c.args.text.now) after) c.pass.view_is
     (stepped may phase before (state_of c.placed.result c.args.text.now) after (AtSlot (slot_of_id c.args.send.id) (Place c.args.send.id c.args.send.cred c.args.send.mtype c.args.text.now c.now-now.result) (Accepted c.in-Ok-Ok._number)) c.now-now.result
-      (λ e. c.now-now.ensures) refl (c.placed.ensures (sending c.args.send c.args.text.now) c.args.chain.blocks c.in-Ok-Ok._number c.args.text.now) turn (omega arith))
+    (λ e. c.now-now.ensures) refl (c.placed.ensures (sending c.args.send c.args.text.now) c.args.chain.blocks c.in-Ok-Ok._number c.args.text.now) turn (omega arith))
 
 pub returns-in-Ok-Err-clause-sends : goal.returns-in-Ok-Err-clause-sends
 returns-in-Ok-Err-clause-sends g c = place_sends (sending c.args.send c.args.text.now) c.in-Ok-Err.field-0-0.chain.blocks (unplaced_reply c.in-Ok-Err.field-0-0.why) _ c.requires.sends.0 (c.unplaced.ensures c.args.text.now)
@@ -47,9 +47,8 @@ returns-in-Ok-Err-clause-steps g c =
     let told = ok_of c.place.result _ c.in-Ok-Err.field-0 c.in-Ok-Err.is c.place.ensures.ok in
     let refused = c.in-Ok-Err.field-0-is in
     let turn = simp (to_z-of_z, filled, refused) at told in
-
     let blocks : c.in-Ok-Err.field-0-0.chain.blocks ≡ c.args.chain.blocks = ap (λ (x : Chained). x.blocks) (iferr_of c.in-Ok-Err.field-0 _ c.in-Ok-Err.field-0-0 c.in-Ok-Err.field-0-is c.in-Ok-Err.ensures.refused ∙ c.of-letter.ensures) in
     let goes = subst (λ n. after_place (sending c.args.send c.args.text.now) n (unplaced_reply c.in-Ok-Err.field-0-0.why) ≡ Some (state_of c.unplaced.result c.args.text.now)) blocks (c.unplaced.ensures c.args.text.now) in
     subst (λ b. StepsOn may phase b (state_of c.unplaced.result c.args.text.now) after) c.pass.view_is
     (stepped may phase before (state_of c.unplaced.result c.args.text.now) after (AtSlot (slot_of_id c.args.send.id) (Place c.args.send.id c.args.send.cred c.args.send.mtype c.args.text.now c.now-now.result) (unplaced_reply c.in-Ok-Err.field-0-0.why)) c.now-now.result
-      (λ e. c.now-now.ensures) refl goes turn (omega arith))
+    (λ e. c.now-now.ensures) refl goes turn (omega arith))

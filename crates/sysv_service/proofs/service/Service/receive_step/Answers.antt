@@ -18,7 +18,6 @@ use Rattle.sysv_service.proofs.Running.{ok_of, err_of, iferr_of, stepped, met, g
 use Rattle.sysv_service.proofs.Staying.{given_receives}
 use Rattle.sysv_service.proofs.service.Service.receive_step.Goals as goal
 
-
 pub returns-in-ReceiveGiveback-clause-receives : goal.returns-in-ReceiveGiveback-clause-receives
 returns-in-ReceiveGiveback-clause-receives g c = given_receives _ _ (Ok tt) _ (c.given_back.ensures c.args.out.now (Ok tt))
 

@@ -59,10 +59,10 @@ returns-in-Forget-clause-steps g c =
     subst (λ p. StepsOn no_moment (phase_of p []) c.args.pass.now (state_of c.forgotten.result []) after) (sym c.in-Forget.is)
     (subst (λ b. StepsOn no_moment phase b (state_of c.forgotten.result []) after) c.pass-in-Forget.view_is
     (by_result c.forget.result _ (
-      λ done is.
-          let told = ok_of c.forget.result _ done is c.forget.ensures.ok in
-          let turn = simp to_z-of_z at told in
-          stepped no_moment phase before (state_of c.forgotten.result []) after (AtRegistry (Forget c.in-Forget.id) (Changed done)) 0 (λ e. absurd cc) refl (c.forgotten.ensures [] done) turn (omega arith)
+    λ done is.
+    let told = ok_of c.forget.result _ done is c.forget.ensures.ok in
+    let turn = simp to_z-of_z at told in
+    stepped no_moment phase before (state_of c.forgotten.result []) after (AtRegistry (Forget c.in-Forget.id) (Changed done)) 0 (λ e. absurd cc) refl (c.forgotten.ensures [] done) turn (omega arith)
     ) (λ e is. met no_moment phase before (state_of c.forgotten.result []) after 0 c.forget.new.seats (err_of c.forget.result _ e is c.forget.ensures.worn))))
 
 pub returns-in-RemoveGiveback-clause-removes : goal.returns-in-RemoveGiveback-clause-removes

@@ -18,9 +18,8 @@ use Rattle.sysv_service.proofs.Running.{ok_of, err_of, iferr_of, stepped, met, g
 use Rattle.sysv_service.proofs.Staying.{given_sends}
 use Rattle.sysv_service.proofs.service.Service.send_step.Goals as goal
 
-
 pub returns-in-SendGiveback-clause-sends : goal.returns-in-SendGiveback-clause-sends
-returns-in-SendGiveback-clause-sends g c = 
+returns-in-SendGiveback-clause-sends g c =
     let sends = subst (λ p. Sends (Goes (phase_of p c.args.text.now))) c.in-SendGiveback.is c.requires.sends in
     given_sends (afterwards_of c.in-SendGiveback.afterwards c.args.text.now) (Ok tt) _ sends (c.given_back.ensures c.args.text.now (Ok tt))
 

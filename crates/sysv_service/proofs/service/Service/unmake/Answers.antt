@@ -28,8 +28,8 @@ returns-clause-steps g c =
     let id : FitsSigned w32 c.args.id = search rules in
     subst (λ b. StepsOn no_moment (AtUnmake c.args.id) b (state_of c.unmade.result []) after) c.pass.view_is
     (by_result c.forget.result _ (
-      λ done is.
-          let told = ok_of c.forget.result _ done is c.forget.ensures.ok in
-          let turn = simp to_z-of_z at told in
-          stepped no_moment (AtUnmake c.args.id) before (state_of c.unmade.result []) after (AtRegistry (Forget c.args.id) (Changed done)) 0 (λ e. absurd cc) refl (c.unmade.ensures [] done) turn (omega arith)
+    λ done is.
+    let told = ok_of c.forget.result _ done is c.forget.ensures.ok in
+    let turn = simp to_z-of_z at told in
+    stepped no_moment (AtUnmake c.args.id) before (state_of c.unmade.result []) after (AtRegistry (Forget c.args.id) (Changed done)) 0 (λ e. absurd cc) refl (c.unmade.ensures [] done) turn (omega arith)
     ) (λ e is. met no_moment (AtUnmake c.args.id) before (state_of c.unmade.result []) after 0 c.forget.new.seats (err_of c.forget.result _ e is c.forget.ensures.worn)))
