@@ -10,3 +10,4 @@ pub mod Answered
 pub mod Reading
 pub mod Opened
 pub mod SeenHistories
+pub mod Sharing

@@ -13,4 +13,5 @@ pub mod opening;
 pub mod pool;
 pub mod registry;
 pub mod seats;
+pub mod sharing;
 pub mod slot;
