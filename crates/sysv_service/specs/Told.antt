@@ -1,7 +1,14 @@
 -- What a call of the service answers, by how the call ended (this profile's).
-use Rattle.std.specs.Prelude.{◌≡◌, ℕ, ℤ, List, [], Result, Ok, Err, ⊤}
+use Rattle.std.specs.Prelude.{◌≡◌, ◌<◌, ◌≤◌, ◌⊎◌, Option, ℕ, ℤ, List, [], Result, Ok, Err, ⊤}
 use Rattle.sysv_model.specs.declared.errno.Errno.{Errno}
 use Rattle.sysv_model.specs.declared.attributes.Stat.{Stat}
+use Rattle.sysv_model.specs.declared.errno.Errno.TheVariants.{EINVAL, EOVERFLOW}
+use Rattle.sysv_model.specs.declared.attributes.Row.{Row}
+use Rattle.sysv_model.specs.History.{ReadRow, Shown}
+use Rattle.sysv_model.specs.Turn.{AtSlot, OfSlot}
+use Rattle.sysv_keys.specs.declared.identifier.TheConstants.{SLOTS}
+use Rattle.sysv_gated.specs.Seats.{FindsWorn}
+use Rattle.sysv_service.specs.Ran.{Pass, Makes}
 use Rattle.sysv_queue.specs.Delivery.{Given}
 use Rattle.sysv_steps.specs.State.{Ending, Id, Zero, Got, Told, Refused}
 
@@ -25,3 +32,10 @@ abbrev pub TellsGot : Ending → Result Given Errno → List ℕ → Type 0
 TellsGot (Got mtype text) (Ok told) out = (told.mtype ≡ mtype) × (out ≡ text)
 TellsGot (Refused why) (Err told) out = (told ≡ why) × (out ≡ [])
 TellsGot ending result out = ⊥
+
+-- the row of a slot is told in a turn at it; a slot that is not there is refused, and nothing was done; else its gate is
+-- worn out
+abbrev pub TellsRow : ℕ → Pass → Result (Option Row) Errno → Pass → Type 0
+TellsRow slot before (Ok row) after = (slot < SLOTS) × Makes before (AtSlot slot ReadRow (Shown row)) after
+TellsRow slot before (Err why) after =
+    ((SLOTS ≤ slot) × (why ≡ EINVAL) × (after ≡ before)) ⊎ ((slot < SLOTS) × (why ≡ EOVERFLOW) × FindsWorn before.seats (OfSlot slot ReadRow) after.seats)

@@ -8,7 +8,7 @@ ghost use Rattle.sysv_steps.specs.Seen.{phase_of, state_of, ending_of};
 ghost use Rattle.sysv_gated.specs.Seats.{AreOf};
 ghost use Rattle.sysv_service.specs.Ran.{StepsOn, no_moment, Comes};
 ghost use Rattle.sysv_service.specs.Kinds.{Stats, Sets, Removes};
-ghost use Rattle.sysv_service.specs.Told.{TellsZero, TellsStat};
+ghost use Rattle.sysv_service.specs.Told.{TellsZero, TellsStat, TellsRow};
 
 use crate::clock::Clock;
 use crate::pass::Pass;
@@ -16,7 +16,8 @@ use crate::service::Service;
 use crate::waiting::{overflow, zero_of};
 use std::sync::Wait as MayWait;
 use sysv_gated::gates::Worn;
-use sysv_model::attributes::{SetTo, Stat};
+use sysv_keys::identifier::SLOTS;
+use sysv_model::attributes::{Row, SetTo, Stat};
 use sysv_model::cred::Cred;
 use sysv_model::errno::Errno;
 use sysv_pool::chain::Chain;
@@ -167,6 +168,28 @@ impl Service {
                 given_back()
             }
             _other => unreachable!(),
+        }
+    }
+
+    /// The row of the live queue in this slot, if one is live (this profile's, for `ipcs`). No permission is asked. `EINVAL`
+    /// comes exactly where the slot is not 0 to 63, and then nothing was done.
+    pub fn list_row(
+        &self,
+        rt: &impl MayWait,
+        pass: &mut Pass,
+        slot: u32,
+    ) -> Result<Option<Row>, Errno>
+        requires { AreOf self.now pass.old.seats }
+        ensures pass { AreOf self.now pass.new.seats }
+        ensures told { TellsRow slot pass.old result pass.new }
+    {
+        let slot = slot as usize;
+        if slot >= SLOTS {
+            return Err(Errno::EINVAL);
+        }
+        match self.gates.row(rt, &mut pass.seats, slot) {
+            Ok(row) => Ok(row),
+            Err(Worn) => Err(Errno::EOVERFLOW),
         }
     }
 }

@@ -7,7 +7,7 @@ use sysv_gated::seats::Seats;
 use sysv_pool::chain::Chain;
 
 /// The right to call a service: a seat at each object. It is used only with the service that gave it, and may go to another
-/// thread. It can be neither dropped nor copied: it ends by `into_seats`.
+/// thread. It can be neither dropped nor copied: it ends by `Service::join_pass` or `into_seats`.
 pub struct Pass {
     pub(crate) seats: Seats,
     /// The chains that could not be given back.

@@ -1,16 +1,18 @@
 //! The service.
 
-ghost use Rattle.std.specs.Prelude.{◌≡◌, ◌<◌, ◌⊎◌, ◌↔◌, ◌^◌, IfOk, Err};
+ghost use Rattle.std.specs.Prelude.{◌≡◌, ◌<◌, ◌+◌, ◌⊎◌, ◌↔◌, ◌^◌, IfOk, OnErr, Err};
 ghost use Rattle.sysv_model.specs.declared.limits.TheConstants.{BLOCKS_LEAST as least_blocks, BLOCKS_MOST as most_blocks};
 ghost use Rattle.sysv_keys.specs.declared.identifier.TheConstants.{GENERATION_LAST};
 ghost use Rattle.sysv_gated.specs.Seats.{AreOf};
 ghost use Rattle.sysv_gated.specs.Opened.{AreOpen, all_opened};
+ghost use Rattle.sysv_gated.specs.Sharing.{AreSplit, AreJoined};
 
 use crate::pass::Pass;
 use std::alloc::Global;
 use std::marker::Model;
 use sysv_gated::gates::Gates;
 use sysv_gated::opening::GatesRefused;
+use sysv_gated::sharing::NoMemory;
 use sysv_pool::chain::Chain;
 
 /// The queues of a system: 64 slots, the registry of their keys and the pool of blocks, which threads share by reference.
@@ -56,6 +58,35 @@ impl Service {
             held: Chain::empty(),
         };
         Ok((Service { gates }, pass))
+    }
+
+    /// Gives a new pass, which has seen what this one has seen, has made no turn, and keeps no chain. `NoMemory` leaves all
+    /// as it is.
+    pub fn split_pass(&self, alloc: Global, pass: &mut Pass) -> Result<Pass, NoMemory>
+        requires { AreOf self.now pass.old.seats }
+        ensures pass { AreOf self.now pass.new.seats }
+        ensures ok { IfOk result (λ other. AreOf self.now other.seats × AreSplit pass.old.seats pass.new.seats other.seats × (other.held ≡ 0)) }
+        ensures err { OnErr result (pass.new.seats ≡ pass.old.seats) }
+        ensures held { pass.new.held ≡ pass.old.held }
+    {
+        let seats = self.gates.split(alloc, &mut pass.seats)?;
+        Ok(Pass {
+            seats,
+            held: Chain::empty(),
+        })
+    }
+
+    /// Takes in another pass of this service: what it has seen, its turns, and the chains that it keeps.
+    pub fn join_pass(&self, pass: &mut Pass, other: Pass)
+        requires pass { AreOf self.now pass.old.seats }
+        requires other { AreOf self.now other.seats }
+        ensures pass { AreOf self.now pass.new.seats }
+        ensures joined { AreJoined pass.old.seats other.seats pass.new.seats }
+        ensures held { pass.new.held ≡ pass.old.held + other.held }
+    {
+        let (seats, chain) = other.into_seats();
+        self.gates.join(&mut pass.seats, seats);
+        pass.hold(chain);
     }
 
     /// The gates of the objects.

@@ -35,7 +35,7 @@ pub(crate) fn overflow() -> State
 
 impl Pass {
     /// Keeps a chain that could not be given back.
-    fn hold(&mut self, chain: Chain)
+    pub(crate) fn hold(&mut self, chain: Chain)
         ensures { self.new ≡ record self.old { held = self.old.held + chain.blocks } }
     {
         let held = mem::replace(&mut self.held, Chain::empty());
