@@ -1,0 +1,82 @@
+-- What a gate answered is a turn of the object.
+use Rattle.std.proofs.Common.{◌≡◌, ℕ, List, [], ◌∷◌, ◌++◌, false, Result, Ok, Err, IfOk, refl, subst}
+use Rattle.sysv_gate.specs.declared.view.Turn.{Turn}
+use Rattle.sysv_gate.specs.History.{Moves, IsLegal, after_all, HasItsOwn, RiseByOneAtMost}
+use Rattle.sysv_gate.specs.Gates.{Gateway, Holding, Answers, made, saw}
+use Rattle.sysv_bank.specs.Banks.{ChangesAt}
+use Rattle.sysv_model.specs.History.{Seat}
+use Rattle.sysv_model.specs.Turn.{AtSlot, AtRegistry, AtPool}
+use Rattle.sysv_queue.specs.Slot.{Slot}
+use Rattle.sysv_gated.specs.declared.slot.SlotCall.{SlotCall}
+use Rattle.sysv_gated.specs.declared.slot.SlotReply.{SlotReply}
+use Rattle.sysv_gated.specs.declared.registry.RegistryCall.{RegistryCall}
+use Rattle.sysv_gated.specs.declared.registry.RegistryReply.{RegistryReply}
+use Rattle.sysv_gated.specs.declared.pool.PoolCall.{PoolCall}
+use Rattle.sysv_gated.specs.declared.pool.PoolReply.{PoolReply}
+use Rattle.sysv_gated.specs.SlotTurns.{slot_counts, slot_call, slot_reply, SlotMoves}
+use Rattle.sysv_gated.specs.RegistryTurns.{registry_counts, registry_call, registry_reply, RegistryMoves}
+use Rattle.sysv_gated.specs.PoolTurns.{pool_counts, pool_call, pool_reply, PoolMoves}
+use Rattle.sysv_gated.specs.Seats.{Seats, SlotSeat, slot_entry, TakesTurn, MakesTurnAt}
+use Rattle.sysv_gated.specs.Answered.{SlotAnswers, RegistryAnswers, PoolAnswers}
+
+-- the last turn of a legal history is what the object's meaning allows after the turns before it
+pub last_legal : {O C R : Type 0} (moves : O → C → R → O → Type 0) (opening : O) (ts : List (Turn O C R)) (t : Turn O C R) → IsLegal moves opening (ts ++ t ∷ []) → moves (after_all opening ts) t.call t.reply t.after
+last_legal moves opening [] t legal = legal.0
+last_legal moves opening (x ∷ ts) t legal = last_legal moves x.after ts t legal.1
+
+module _ {O C R : Type 0} (meaning : O → C → R → O → Type 0) (counted : O → ℕ × ℕ) (before : Holding O C R) (call : C) (reply : R) (after : Holding O C R) (a : Answers (Moves meaning counted) counted before call reply after) where
+  -- the object just before the turn
+  abbrev pub object_before : O
+  object_before = after_all before.gate.opening (before.seen ++ a.others)
+
+  pub turn_meant : meaning object_before call reply a.object
+  turn_meant =
+      let is : after ≡ made call reply a.object (saw a.others before) = a.made in
+      let legal : IsLegal (Moves meaning counted) (made call reply a.object (saw a.others before)).gate.opening (made call reply a.object (saw a.others before)).seen =
+      subst (λ (h : Holding O C R). IsLegal (Moves meaning counted) h.gate.opening h.seen) is a.legal in
+      (last_legal (Moves meaning counted) before.gate.opening (before.seen ++ a.others) (record { by = before.number; call = call; reply = reply; after = a.object }) legal).0
+
+pub ok_of : {T E : Type 0} (r : Result T E) (P : T → Type 0) (x : T) → r ≡ Ok x → IfOk r P → P x
+ok_of r P x is ok = subst (λ s. IfOk s P) is ok
+
+pub if_ok : {T E : Type 0} (r : Result T E) (P Q : T → Type 0) → IfOk r P → ((x : T) → P x → Q x) → IfOk r Q
+if_ok (Ok x) P Q is goes = goes x is
+if_ok (Err e) P Q is goes = tt
+
+pub slot_answers : (number : ℕ) (before : Seats) (call : SlotCall) (reply : SlotReply) (after : Seats) →
+    ChangesAt number before.slots after.slots (λ b a. Answers (Moves SlotMoves slot_counts) slot_counts b call reply a × (b.worn ≡ false)) → after.registry ≡ before.registry → after.pool ≡ before.pool →
+    SlotAnswers number before call reply after
+slot_answers number before call reply after c registry pool =
+    let b = c.was in
+    let meant = turn_meant SlotMoves slot_counts b call reply c.is c.change.0 in
+    record {
+      slot = object_before SlotMoves slot_counts b call reply c.is c.change.0;
+      turn = (
+        record {
+          was = c.was;
+          is = c.is;
+          at = c.at;
+          others = c.others;
+          change = record { call = call; reply = reply; answers = c.change.0; entered = refl };
+        },
+        registry,
+        pool,
+      );
+      fits = meant.fits;
+    }
+
+pub registry_answers : (before : Seats) (call : RegistryCall) (reply : RegistryReply) (after : Seats) →
+    Answers (Moves RegistryMoves registry_counts) registry_counts before.registry call reply after.registry → after.slots ≡ before.slots → after.pool ≡ before.pool →
+    RegistryAnswers before call reply after
+registry_answers before call reply after a slots pool = record {
+  turn = (record { call = call; reply = reply; answers = a; entered = refl }, slots, pool);
+  fits = (turn_meant RegistryMoves registry_counts before.registry call reply after.registry a).fits;
+}
+
+pub pool_answers : (before : Seats) (call : PoolCall) (reply : PoolReply) (after : Seats) →
+    Answers (Moves PoolMoves pool_counts) pool_counts before.pool call reply after.pool → after.slots ≡ before.slots → after.registry ≡ before.registry →
+    PoolAnswers before call reply after
+pool_answers before call reply after a slots registry = record {
+  turn = (record { call = call; reply = reply; answers = a; entered = refl }, slots, registry);
+  fits = (turn_meant PoolMoves pool_counts before.pool call reply after.pool a).fits;
+}

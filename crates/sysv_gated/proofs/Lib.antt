@@ -1,0 +1,4 @@
+pub mod Rising
+pub mod Answering
+pub mod Vacancy
+pub mod Histories

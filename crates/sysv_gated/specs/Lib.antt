@@ -1,0 +1,13 @@
+pub use Rattle.sysv_model.specs.History
+pub use Rattle.sysv_model.specs.Registry
+pub use Rattle.sysv_model.specs.Pool
+pub use Rattle.sysv_model.specs.Turn
+pub mod SlotTurns
+pub mod RegistryTurns
+pub mod PoolTurns
+pub mod Seats
+pub mod Answered
+pub mod Reading
+pub mod Opened
+pub mod SeenHistories
+pub mod Sharing

@@ -1,0 +1,41 @@
+-- A turn at the pool behind a gate: what the code's call and reply are in the pool's history (this profile's).
+use Rattle.std.specs.Prelude.{ℕ, ◌≡◌, Option, Some, None, Result, Ok, Err, [], ⊤}
+use Rattle.sysv_model.specs.Pool.{PoolHistory, PoolCall, Reserve, Release, PoolReply, blocks_for}
+use Rattle.sysv_pool.specs.Chain.{Chained}
+use Rattle.sysv_pool.specs.Replies.{reserve_reply, release_reply}
+use Rattle.sysv_pool.specs.State.{State}
+use Rattle.sysv_pool.specs.StandsFor.{StandsFor, MakesTurn}
+use Rattle.sysv_gated.specs.declared.pool.PoolCall.{PoolCall as Asked}
+use Rattle.sysv_gated.specs.declared.pool.PoolCall.TheVariants as asked
+use Rattle.sysv_gated.specs.declared.pool.PoolReply.{PoolReply as Told}
+use Rattle.sysv_gated.specs.declared.pool.PoolReply.TheVariants as told
+
+-- the pool stands for some history
+abbrev pub PoolStands : State → Type 0
+PoolStands pool = (h : PoolHistory) × StandsFor h pool
+
+-- the count that rises; there is no other
+abbrev pub pool_counts : State → ℕ × ℕ
+pool_counts pool = (pool.released, 0)
+
+abbrev pub pool_call : Asked → PoolCall
+pool_call (asked.Reserve size) = Reserve size
+pool_call (asked.Release chain) = Release chain.blocks
+
+abbrev pub pool_reply : Told → PoolReply
+pool_reply (told.Reserved chain) = reserve_reply chain
+pool_reply (told.Released done) = release_reply done
+
+-- the reply is of the kind that the call has; a chain that is reserved has the blocks of its text and no text yet, and one
+-- of another pool comes back as it was
+abbrev pub FitsPoolCall : Asked → Told → Type 0
+FitsPoolCall (asked.Reserve size) (told.Reserved None) = ⊤
+FitsPoolCall (asked.Reserve size) (told.Reserved (Some chain)) = chain ≡ record { blocks = blocks_for size; bytes = [] }
+FitsPoolCall (asked.Release chain) (told.Released (Ok done)) = ⊤
+FitsPoolCall (asked.Release chain) (told.Released (Err back)) = back ≡ chain
+FitsPoolCall call reply = ⊥
+
+-- the pool makes the turn
+pub record PoolMoves (before : State) (call : Asked) (reply : Told) (after : State) : Type 0 where
+  pub turn : MakesTurn before (pool_call call) (pool_reply reply) after
+  pub fits : FitsPoolCall call reply

@@ -1,0 +1,48 @@
+-- What a seat reads of the counts of the objects (this profile's; Reed and Kanodia's read and await of an eventcount).
+use Rattle.std.specs.Prelude.{◌≡◌, ℕ, ◌<◌, ◌≤◌}
+use Rattle.sysv_steps.specs.Resume.{Count, ArrivedOf, FreedOf, Settled, Released}
+use Rattle.sysv_gate.specs.Gates.{Holding, marked, read_to, Learns}
+use Rattle.sysv_gate.specs.declared.count.Count.{Count as OfObject}
+use Rattle.sysv_gate.specs.declared.count.Count.TheVariants.{Arrived, Freed}
+use Rattle.sysv_gate.specs.declared.awaited.Awaited.{Awaited}
+use Rattle.sysv_gate.specs.declared.awaited.Awaited.TheVariants.{Reached, Worn}
+use Rattle.sysv_bank.specs.Banks.{ChangesAt}
+use Rattle.sysv_gated.specs.SlotTurns.{slot_counts}
+use Rattle.sysv_gated.specs.RegistryTurns.{registry_counts}
+use Rattle.sysv_gated.specs.PoolTurns.{pool_counts}
+use Rattle.sysv_gated.specs.Seats.{Seats}
+
+-- the value is no less than what the seat knew of the count, and it knows the value from then on
+abbrev pub Finds : {O C R : Type 0} → (O → ℕ × ℕ) → OfObject → ℕ → Holding O C R → Holding O C R → Type 0
+Finds counted count value before after = (after ≡ read_to count value before) × Learns counted count before value
+
+-- the seat at the object that has the count found this value, and nothing else was done at any object
+abbrev pub Reads : Count → ℕ → Seats → Seats → Type 0
+Reads (ArrivedOf slot) value before after =
+    ChangesAt slot before.slots after.slots (Finds slot_counts Arrived value) × (after.registry ≡ before.registry) × (after.pool ≡ before.pool)
+Reads (FreedOf slot) value before after =
+    ChangesAt slot before.slots after.slots (Finds slot_counts Freed value) × (after.registry ≡ before.registry) × (after.pool ≡ before.pool)
+Reads Settled value before after =
+    Finds registry_counts Arrived value before.registry after.registry × (after.slots ≡ before.slots) × (after.pool ≡ before.pool)
+Reads Released value before after =
+    Finds pool_counts Arrived value before.pool after.pool × (after.slots ≡ before.slots) × (after.registry ≡ before.registry)
+
+-- the seat found this value, and that the gate is worn out
+abbrev pub FindsAndGivesUp : {O C R : Type 0} → (O → ℕ × ℕ) → OfObject → ℕ → Holding O C R → Holding O C R → Type 0
+FindsAndGivesUp counted count value before after = Learns counted count before value × (after ≡ marked (read_to count value before))
+
+abbrev pub GivesUp : Count → ℕ → Seats → Seats → Type 0
+GivesUp (ArrivedOf slot) value before after =
+    ChangesAt slot before.slots after.slots (FindsAndGivesUp slot_counts Arrived value) × (after.registry ≡ before.registry) × (after.pool ≡ before.pool)
+GivesUp (FreedOf slot) value before after =
+    ChangesAt slot before.slots after.slots (FindsAndGivesUp slot_counts Freed value) × (after.registry ≡ before.registry) × (after.pool ≡ before.pool)
+GivesUp Settled value before after =
+    FindsAndGivesUp registry_counts Arrived value before.registry after.registry × (after.slots ≡ before.slots) × (after.pool ≡ before.pool)
+GivesUp Released value before after =
+    FindsAndGivesUp pool_counts Arrived value before.pool after.pool × (after.slots ≡ before.slots) × (after.registry ≡ before.registry)
+
+-- A wait for the count ends with a value that is at least the goal, or is given up at a worn gate, where the count was
+-- below the goal
+abbrev pub Awaits : Count → ℕ → Seats → Awaited → Seats → Type 0
+Awaits count goal before (Reached value) after = (goal ≤ value) × Reads count value before after
+Awaits count goal before Worn after = (value : ℕ) × (value < goal) × GivesUp count value before after

@@ -1,0 +1,27 @@
+-- What a seat has seen of an object is a history of it: the object stands for it, where it stood for no turn when its gate was
+-- opened. A turn of the seat's own is the last entry of what it then has seen, after all that it had seen and what others did
+-- (this profile's).
+use Rattle.std.specs.Prelude.{◌≡◌, ℕ, List, [], ◌∷◌, ◌++◌}
+use Rattle.sysv_model.specs.History.{Entry, History}
+use Rattle.sysv_model.specs.Registry.{RegistryEntry, RegistryHistory}
+use Rattle.sysv_model.specs.Pool.{PoolEntry, PoolHistory}
+use Rattle.sysv_keys.specs.StandsFor.{StandsFor as RegistryStandsFor}
+use Rattle.sysv_pool.specs.StandsFor.{StandsFor as PoolStandsFor}
+use Rattle.sysv_queue.specs.StandsFor.{StandsFor as SlotStandsFor}
+use Rattle.sysv_gate.specs.History.{Moves, IsLegal}
+use Rattle.sysv_gated.specs.SlotTurns.{slot_counts, SlotMoves}
+use Rattle.sysv_gated.specs.RegistryTurns.{registry_counts, RegistryMoves}
+use Rattle.sysv_gated.specs.PoolTurns.{pool_counts, PoolMoves}
+use Rattle.sysv_gated.specs.Seats.{SlotSeat, RegistrySeat, PoolSeat, slot_entry, registry_entry, pool_entry, slot_seen, registry_seen, pool_seen, object_of, TakesTurn}
+
+pub record SeenHistories : Type 0 where
+  pub slots : (seat : SlotSeat) → SlotStandsFor [] seat.gate.opening → IsLegal (Moves SlotMoves slot_counts) seat.gate.opening seat.seen → SlotStandsFor (slot_seen seat) (object_of seat)
+  pub registry : (generation : ℕ) (seat : RegistrySeat) → RegistryStandsFor generation [] seat.gate.opening → IsLegal (Moves RegistryMoves registry_counts) seat.gate.opening seat.seen →
+      RegistryStandsFor generation (registry_seen seat) (object_of seat)
+  pub pool : (seat : PoolSeat) → PoolStandsFor [] seat.gate.opening → IsLegal (Moves PoolMoves pool_counts) seat.gate.opening seat.seen → PoolStandsFor (pool_seen seat) (object_of seat)
+
+pub record OwnTurnsAreLast : Type 0 where
+  pub slots : (before after : SlotSeat) (e : Entry) → TakesTurn SlotMoves slot_counts slot_entry e before after → (others : History) × (slot_seen after ≡ (slot_seen before ++ others) ++ e ∷ [])
+  pub registry : (before after : RegistrySeat) (e : RegistryEntry) → TakesTurn RegistryMoves registry_counts registry_entry e before after →
+      (others : RegistryHistory) × (registry_seen after ≡ (registry_seen before ++ others) ++ e ∷ [])
+  pub pool : (before after : PoolSeat) (e : PoolEntry) → TakesTurn PoolMoves pool_counts pool_entry e before after → (others : PoolHistory) × (pool_seen after ≡ (pool_seen before ++ others) ++ e ∷ [])

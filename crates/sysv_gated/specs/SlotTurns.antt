@@ -1,0 +1,72 @@
+-- A turn at a slot behind a gate: what the code's call and reply are in the slot's history (this profile's).
+use Rattle.std.specs.Prelude.{◌≡◌, ℕ, Result, Ok, Err, ⊤}
+use Rattle.sysv_model.specs.History.{History, Call, Install, Probe, Look, Place, Take, ReadStat, Set, Remove, ReadRow, Reply, Installed, Shown}
+use Rattle.sysv_queue.specs.declared.slot.PlaceRefused.{PlaceRefused}
+use Rattle.sysv_queue.specs.Replies.{probe_reply, stat_reply, look_reply, place_reply, take_reply, set_reply, remove_reply}
+use Rattle.sysv_queue.specs.Blocks.{blocks_of}
+use Rattle.sysv_queue.specs.Slot.{Slot}
+use Rattle.sysv_queue.specs.StandsFor.{StandsFor, MakesTurn}
+use Rattle.sysv_gated.specs.declared.slot.SlotAsk.{SlotAsk}
+use Rattle.sysv_gated.specs.declared.slot.SlotAsk.TheVariants as asked
+use Rattle.sysv_gated.specs.declared.slot.SlotCall.{SlotCall}
+use Rattle.sysv_gated.specs.declared.slot.SlotCall.TheVariants as called
+use Rattle.sysv_gated.specs.declared.slot.SlotReply.{SlotReply}
+use Rattle.sysv_gated.specs.declared.slot.SlotReply.TheVariants as told
+
+-- the slot stands for some history
+abbrev pub SlotStands : Slot → Type 0
+SlotStands slot = (h : History) × StandsFor h slot
+
+-- the two counts of a slot
+abbrev pub slot_counts : Slot → ℕ × ℕ
+slot_counts slot = (slot.arrived, slot.freed)
+
+abbrev pub ask_of : SlotAsk → Call
+ask_of (asked.Install id key cred mode now) = Install id key cred mode now
+ask_of (asked.Probe id cred flags) = Probe id cred flags
+ask_of (asked.Look id cred size) = Look id cred size
+ask_of (asked.Take id cred selector size noerror now) = Take id cred selector size noerror now
+ask_of (asked.Stat id cred) = ReadStat id cred
+ask_of (asked.Set id cred to now) = Set id cred to now
+ask_of (asked.Remove id cred) = Remove id cred
+ask_of asked.Row = ReadRow
+
+abbrev pub slot_call : SlotCall → Call
+slot_call (called.Ask ask) = ask_of ask
+slot_call (called.Place id cred mtype letter now) = Place id cred mtype letter.bytes now
+
+-- a removal discards what waits in the slot before it
+abbrev pub slot_reply : Slot → SlotReply → Reply
+slot_reply slot (told.Installed made) = Installed made
+slot_reply slot (told.Probed found) = probe_reply found
+slot_reply slot (told.Looked found) = look_reply found
+slot_reply slot (told.Placed done) = place_reply done
+slot_reply slot (told.Taken done) = take_reply done
+slot_reply slot (told.Told done) = stat_reply done
+slot_reply slot (told.Set done) = set_reply done
+slot_reply slot (told.Removed done) = remove_reply slot.messages done
+slot_reply slot (told.Shown row) = Shown row
+
+-- the reply is of the kind that the call has; a refused place hands the chain back, and a removal the blocks of what waited
+abbrev pub FitsAsk : Slot → SlotAsk → SlotReply → Type 0
+FitsAsk slot (asked.Install id key cred mode now) (told.Installed made) = ⊤
+FitsAsk slot (asked.Probe id cred flags) (told.Probed found) = ⊤
+FitsAsk slot (asked.Look id cred size) (told.Looked found) = ⊤
+FitsAsk slot (asked.Take id cred selector size noerror now) (told.Taken done) = ⊤
+FitsAsk slot (asked.Stat id cred) (told.Told done) = ⊤
+FitsAsk slot (asked.Set id cred to now) (told.Set done) = ⊤
+FitsAsk slot (asked.Remove id cred) (told.Removed (Ok discarded)) = discarded ≡ blocks_of slot.messages
+FitsAsk slot (asked.Remove id cred) (told.Removed (Err why)) = ⊤
+FitsAsk slot asked.Row (told.Shown row) = ⊤
+FitsAsk slot ask reply = ⊥
+
+abbrev pub FitsSlotCall : Slot → SlotCall → SlotReply → Type 0
+FitsSlotCall slot (called.Ask ask) reply = FitsAsk slot ask reply
+FitsSlotCall slot (called.Place id cred mtype letter now) (told.Placed (Ok number)) = ⊤
+FitsSlotCall slot (called.Place id cred mtype letter now) (told.Placed (Err refused)) = refused.chain ≡ letter
+FitsSlotCall slot (called.Place id cred mtype letter now) reply = ⊥
+
+-- the slot makes the turn
+pub record SlotMoves (before : Slot) (call : SlotCall) (reply : SlotReply) (after : Slot) : Type 0 where
+  pub turn : MakesTurn before (slot_call call) (slot_reply before reply) after
+  pub fits : FitsSlotCall before call reply

@@ -1,0 +1,62 @@
+//! Reading the counts of the objects, and waiting for them.
+
+ghost use Rattle.std.specs.Prelude.{◌≡◌};
+ghost use Rattle.sysv_keys.specs.Identifier.{slot_of_id};
+ghost use Rattle.sysv_steps.specs.Resume.{ArrivedOf, FreedOf, Settled, Released};
+ghost use Rattle.sysv_gated.specs.Seats.{AreOf};
+ghost use Rattle.sysv_gated.specs.Reading.{Reads, Awaits};
+
+use crate::gates::Gates;
+use crate::seats::Seats;
+use std::sync::Wait;
+use sysv_gate::Awaited;
+use sysv_keys::identifier::slot_of_id;
+
+impl Gates {
+    /// The released count of the pool, as it is announced now. It takes no turn and never waits.
+    pub fn released(&self, seats: &mut Seats) -> u64
+        requires { AreOf self.now seats.old }
+        ensures seats { AreOf self.now seats.new }
+        ensures read { Reads Released result seats.old seats.new }
+    {
+        self.pool.arrived(&mut seats.pool)
+    }
+
+    /// Waits until the released count of the pool is at least `goal`.
+    pub fn await_released(&self, rt: &impl Wait, seats: &mut Seats, goal: u64) -> Awaited
+        requires { AreOf self.now seats.old }
+        ensures seats { AreOf self.now seats.new }
+        ensures waited { Awaits Released goal seats.old result seats.new }
+    {
+        self.pool.await_arrived(rt, &mut seats.pool, goal)
+    }
+
+    /// Waits until the settled count of the registry is at least `goal`.
+    pub fn await_settled(&self, rt: &impl Wait, seats: &mut Seats, goal: u64) -> Awaited
+        requires { AreOf self.now seats.old }
+        ensures seats { AreOf self.now seats.new }
+        ensures waited { Awaits Settled goal seats.old result seats.new }
+    {
+        self.registry.await_arrived(rt, &mut seats.registry, goal)
+    }
+
+    /// Waits until the arrived count of the identifier's slot is at least `goal`.
+    pub fn await_arrived(&self, rt: &impl Wait, seats: &mut Seats, id: i32, goal: u64) -> Awaited
+        requires { AreOf self.now seats.old }
+        ensures seats { AreOf self.now seats.new }
+        ensures waited { Awaits (ArrivedOf (slot_of_id id)) goal seats.old result seats.new }
+    {
+        self.slots
+            .await_arrived(rt, slot_of_id(id), &mut seats.slots, goal)
+    }
+
+    /// Waits until the freed count of the identifier's slot is at least `goal`.
+    pub fn await_freed(&self, rt: &impl Wait, seats: &mut Seats, id: i32, goal: u64) -> Awaited
+        requires { AreOf self.now seats.old }
+        ensures seats { AreOf self.now seats.new }
+        ensures waited { Awaits (FreedOf (slot_of_id id)) goal seats.old result seats.new }
+    {
+        self.slots
+            .await_freed(rt, slot_of_id(id), &mut seats.slots, goal)
+    }
+}

@@ -1,0 +1,61 @@
+//! A text on its way to a queue.
+
+ghost use Rattle.std.specs.Prelude.{◌≡◌, ◌≤◌, length};
+ghost use Rattle.sysv_model.specs.declared.limits.TheConstants.{MESSAGE_BYTES as most_bytes};
+ghost use Rattle.sysv_model.specs.Pool.{blocks_for};
+
+use std::marker::Model;
+use sysv_model::body::Body;
+use sysv_pool::chain::Chain;
+
+/// A chain that holds a text of at most 8,192 bytes in as many blocks as it takes. It can be neither dropped nor copied: it
+/// is spent by `into_chain`.
+pub struct Letter {
+    chain: Chain,
+    size: usize,
+}
+
+impl Model for Letter {
+    ghost use Rattle.std.specs.Prelude.{◌≡◌, ◌≤◌, length};
+    ghost use Rattle.sysv_model.specs.declared.limits.TheConstants.{MESSAGE_BYTES};
+    ghost use Rattle.sysv_model.specs.Pool.{blocks_for};
+    ghost use Rattle.sysv_pool.specs.Chain.{Chained};
+
+    ghost Value = { Chained };
+
+    ghost view = { λ l. l.chain };
+
+    ghost invariant = { λ l. (length l.chain.bytes ≡ l.size) × (l.chain.blocks ≡ blocks_for l.size) × (l.size ≤ MESSAGE_BYTES) };
+}
+
+impl Letter {
+    /// The text of the body, of at most 8,192 bytes, in a chain that was reserved for so many.
+    pub fn of(mut chain: Chain, body: &Body) -> Letter
+        requires blocks { chain.blocks ≡ blocks_for (length body.now) }
+        requires short { length body.now ≤ most_bytes }
+        ensures { result ≡ record { blocks = chain.blocks; bytes = body.now } }
+    {
+        chain.fill(body);
+        Letter {
+            chain,
+            size: body.len(),
+        }
+    }
+
+    /// The length of the text in bytes, 0 to 8,192.
+    pub fn size(&self) -> usize
+        ensures { result ≡ length self.now.bytes }
+    {
+        self.size
+    }
+
+    /// The chain alone.
+    pub fn into_chain(self) -> Chain
+        ensures chain { result ≡ self }
+        ensures blocks { result.blocks ≡ blocks_for (length result.bytes) }
+        ensures short { length result.bytes ≤ most_bytes }
+    {
+        let Letter { chain, size: _ } = self;
+        chain
+    }
+}

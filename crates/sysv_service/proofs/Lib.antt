@@ -1,0 +1,3 @@
+pub mod Running
+pub mod Staying
+pub mod Opening

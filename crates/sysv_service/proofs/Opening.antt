@@ -1,0 +1,16 @@
+-- The first pass is one of the service.
+use Rattle.std.proofs.Common.{◌≡◌, List, [], ◌∷◌, map, refl, ap}
+use Rattle.sysv_queue.specs.Slot.{Slot}
+use Rattle.sysv_gate.specs.Gates.{Gateway, opened}
+use Rattle.sysv_bank.specs.Banks.{gates_of}
+use Rattle.sysv_gated.specs.declared.slot.SlotCall.{SlotCall}
+use Rattle.sysv_gated.specs.declared.slot.SlotReply.{SlotReply}
+use Rattle.sysv_gated.specs.Seats.{Gates, SlotSeat, AreOf}
+use Rattle.sysv_gated.specs.Opened.{all_opened}
+
+of_slots : (gates : List (Gateway Slot)) → gates_of {O = Slot} {C = SlotCall} {R = SlotReply} (map opened gates) ≡ gates
+of_slots [] = refl
+of_slots (g ∷ gates) = ap (λ gs. g ∷ gs) (of_slots gates)
+
+pub first_fits : (gates : Gates) → AreOf gates (all_opened gates)
+first_fits gates = record { slots = of_slots gates.slots; registry = refl; pool = refl }

@@ -1,0 +1,17 @@
+use Rattle.std.proofs.Common.{[]}
+use Rattle.sysv_steps.specs.Call.{MsgctlRmid}
+use Rattle.sysv_steps.specs.Begin.{begin as begins}
+use Rattle.sysv_steps.specs.Seen.{state_of}
+use Rattle.sysv_gated.specs.Seats.{AreOf}
+use Rattle.sysv_service.specs.Ran.{Comes, no_moment}
+use Rattle.sysv_service.specs.Kinds.{Removes}
+use Rattle.sysv_service.proofs.service.Service.msgctl_rmid.Given as goal
+
+-- where the call has come to
+abbrev pub invariant-loop : goal.invariant-loop
+invariant-loop g l = record {
+  pass : AreOf l.fn.self l.pass.seats;
+  removes : Removes (state_of l.state []);
+  comes : Comes no_moment (begins l.fn.cred (MsgctlRmid l.fn.id) 0) l.fn.pass (state_of l.state []) l.pass;
+  goes_on : (goal.iterator-loop g).can_next l.iterator' × (goal.iterator-loop g).is_finite l.iterator';
+}

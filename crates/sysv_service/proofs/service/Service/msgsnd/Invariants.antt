@@ -1,0 +1,17 @@
+use Rattle.std.proofs.Common.{[]}
+use Rattle.sysv_steps.specs.Call.{Msgsnd}
+use Rattle.sysv_steps.specs.Begin.{begin as begins}
+use Rattle.sysv_steps.specs.Seen.{state_of}
+use Rattle.sysv_gated.specs.Seats.{AreOf}
+use Rattle.sysv_service.specs.Ran.{Comes, no_moment}
+use Rattle.sysv_service.specs.Kinds.{Sends}
+use Rattle.sysv_service.proofs.service.Service.msgsnd.Given as goal
+
+-- where the call has come to
+abbrev pub invariant-loop : goal.invariant-loop
+invariant-loop g l = record {
+  pass : AreOf l.fn.self l.pass.seats;
+  sends : Sends (state_of l.state l.fn.text);
+  comes : Comes (g.C.Clock.may l.fn.clock) (begins l.fn.cred (Msgsnd l.fn.id l.fn.mtype l.fn.flags l.fn.text) l.released) l.fn.pass (state_of l.state l.fn.text) l.pass;
+  goes_on : (goal.iterator-loop g).can_next l.iterator' × (goal.iterator-loop g).is_finite l.iterator';
+}

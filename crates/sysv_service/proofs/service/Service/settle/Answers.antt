@@ -1,0 +1,45 @@
+use Rattle.std.proofs.Common.{[], true, false, Some, Ok, Err, IfOk, refl, sym, ap, subst, ◌∙◌, rules, arith, FitsSigned, w32, w64, ◌≡◌}
+use Rattle.std.proofs.lemmas.Int.{to_z-of_z}
+use Rattle.sysv_keys.specs.Identifier.{slot_of_id}
+use Rattle.sysv_model.specs.Turn.{AtSlot, AtRegistry, AtPool}
+use Rattle.sysv_model.specs.History.{Install, Probe, Look, Place, Take, ReadStat, Set, Remove, Installed, Accepted, Taken}
+use Rattle.sysv_model.specs.Registry.{Begin, Settle, Forget, Changed}
+use Rattle.sysv_model.specs.Pool.{Reserve, Release}
+use Rattle.sysv_keys.specs.Replies.{begun_reply}
+use Rattle.sysv_pool.specs.Replies.{reserve_reply, release_reply}
+use Rattle.sysv_pool.specs.Chain.{Chained}
+use Rattle.sysv_queue.specs.Replies.{probe_reply, stat_reply, look_reply, place_reply, unplaced_reply, take_reply, untaken_reply, set_reply, remove_reply}
+use Rattle.sysv_steps.specs.State.{State, AtBegin, AtInstall, AtSettle, AtProbe, AtUnmake, AtLook, AtReserve, AtPlace, AtSendGiveback, AtTake, AtReceiveGiveback, AtStat, AtSet, AtSetGiveback, AtRemove, AtForget, AtRemoveGiveback, Goes, Waits, Over, Zero}
+use Rattle.sysv_steps.specs.Next.{after_install, after_place}
+use Rattle.sysv_steps.specs.Seen.{phase_of, state_of, wait_of, afterwards_of, getting, sending, receiving}
+use Rattle.sysv_service.specs.Ran.{Pass, StepsOn, no_moment}
+use Rattle.sysv_service.specs.Kinds.{Gets, Sends, Receives, Stats, Sets, Removes}
+use Rattle.sysv_service.proofs.Running.{ok_of, err_of, iferr_of, stepped, met, given, by_result}
+use Rattle.sysv_service.proofs.Staying.{settle_gets}
+use Rattle.sysv_service.proofs.service.Service.settle.Goals.{in-Ok, in-Err}
+use Rattle.sysv_service.proofs.service.Service.settle.Goals as goal
+
+pub returns-clause-gets : goal.returns-clause-gets
+returns-clause-gets g c = elim c.match-settle.branch [
+  | in-Ok w ↦ subst (λ s. Gets (state_of s [])) (sym w.result-is) (settle_gets _ true _ (w.settled.ensures [] true))
+  | in-Err w ↦ subst (λ s. Gets (state_of s [])) (sym w.result-is) (subst (λ s. Gets (state_of s [])) (sym w.overflow.ensures) tt)
+]
+
+pub returns-clause-steps : goal.returns-clause-steps
+returns-clause-steps g c =
+    let before : Pass = record { seats = c.pass.inside.seats; held = c.pass.inside.held.blocks } in
+    let after : Pass = record { seats = c.settle.new.seats; held = c.pass.inside.held.blocks } in
+    let phase = AtSettle c.args.id in
+    let id : FitsSigned w32 c.args.id = search rules in
+    subst (λ b. StepsOn no_moment phase b (state_of c.match-settle.result []) after) c.pass.view_is
+    (elim c.match-settle.branch [
+      | in-Ok w ↦
+          let told = ok_of c.settle.result _ w.in-Ok._done w.in-Ok.is c.settle.ensures.ok in
+          let turn = simp to_z-of_z at told in
+          subst (λ s. StepsOn no_moment phase before (state_of s []) after) (sym w.result-is)
+          (stepped no_moment phase before (state_of w.settled.result []) after (AtRegistry (Settle c.args.id) (Changed w.in-Ok._done)) 0 (λ e. absurd cc) refl (let on = w.settled.ensures [] w.in-Ok._done in simp to_z-of_z at on) turn (omega arith))
+      | in-Err w ↦
+          let worn_told = err_of c.settle.result _ _ w.in-Err.is c.settle.ensures.worn in
+          let worn = worn_told in
+          subst (λ s. StepsOn no_moment phase before (state_of s []) after) (sym w.result-is) (met no_moment phase before (state_of w.overflow.result []) after 0 c.settle.new.seats worn)
+    ])

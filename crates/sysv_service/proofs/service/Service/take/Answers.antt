@@ -1,0 +1,44 @@
+use Rattle.std.proofs.Common.{[], true, false, Some, Ok, Err, IfOk, refl, sym, ap, subst, ◌∙◌, rules, arith, FitsSigned, w32, w64, ◌≡◌}
+use Rattle.std.proofs.lemmas.Int.{to_z-of_z}
+use Rattle.sysv_keys.specs.Identifier.{slot_of_id}
+use Rattle.sysv_model.specs.Turn.{AtSlot}
+use Rattle.sysv_model.specs.History.{Place, Take, Accepted, Taken}
+use Rattle.sysv_pool.specs.Chain.{Chained}
+use Rattle.sysv_queue.specs.Replies.{unplaced_reply, untaken_reply}
+use Rattle.sysv_steps.specs.State.{AtPlace, AtTake}
+use Rattle.sysv_steps.specs.Next.{after_place}
+use Rattle.sysv_steps.specs.Seen.{state_of, sending, receiving}
+use Rattle.sysv_service.specs.Ran.{Pass, StepsOn}
+use Rattle.sysv_service.proofs.Running.{ok_of, err_of, stepped, met}
+use Rattle.sysv_service.proofs.service.Service.take.Goals.{in-Ok-Ok, in-Ok-Err, in-Err}
+use Rattle.sysv_service.proofs.service.Service.take.Goals as goal
+
+pub returns-clause-steps : goal.returns-clause-steps
+returns-clause-steps g c =
+    let before : Pass = record { seats = c.pass.inside.seats; held = c.pass.inside.held.blocks } in
+    let after : Pass = record { seats = c.take.new.seats; held = c.pass.inside.held.blocks } in
+    let may = g.C.Clock.may c.args.clock.now in
+    let phase = AtTake (receiving c.args.receive) in
+    let id : FitsSigned w32 c.args.receive.id = search rules in
+    subst (λ b. StepsOn may phase b (state_of c.match-take.result c.match-take.out) after) c.pass.view_is
+    (elim c.match-take.branch [
+      | in-Ok-Ok w ↦
+          let told = ok_of c.take.result _ w.in-Ok-Ok.field-0 w.in-Ok-Ok.is c.take.ensures.ok in
+          let taken : w.in-Ok-Ok.field-0 ≡ Ok w.in-Ok-Ok.taken = w.in-Ok-Ok.field-0-is in
+          let turn = simp (to_z-of_z, taken) at told in
+          let out = w.finish-delivery.new.out in
+          let goes = w.given.ensures w.in-Ok-Ok.taken out w.finish-delivery.ensures.given (ap (λ (x : Chained). x.blocks) w.finish-delivery.ensures.chain) in
+          subst (λ s. StepsOn may phase before (state_of s c.match-take.out) after) (sym w.result-is)
+          (subst (λ o. StepsOn may phase before (state_of w.given.result o) after) (sym w.out-is)
+          (stepped may phase before (state_of w.given.result out) after (AtSlot (slot_of_id c.args.receive.id) (Take c.args.receive.id c.args.receive.cred c.args.receive.selector c.args.receive.size c.args.receive.noerror c.now-now.result) (Taken w.in-Ok-Ok.taken)) c.now-now.result (λ e. c.now-now.ensures) refl goes turn (omega arith)))
+      | in-Ok-Err w ↦
+          let told = ok_of c.take.result _ w.in-Ok-Err.field-0 w.in-Ok-Err.is c.take.ensures.ok in
+          let why : w.in-Ok-Err.field-0 ≡ Err w.in-Ok-Err.why = w.in-Ok-Err.field-0-is in
+          let turn = simp (to_z-of_z, why) at told in
+          subst (λ s. StepsOn may phase before (state_of s c.match-take.out) after) (sym w.result-is)
+          (stepped may phase before (state_of w.untaken.result c.match-take.out) after (AtSlot (slot_of_id c.args.receive.id) (Take c.args.receive.id c.args.receive.cred c.args.receive.selector c.args.receive.size c.args.receive.noerror c.now-now.result) (untaken_reply w.in-Ok-Err.why)) c.now-now.result (λ e. c.now-now.ensures) refl (w.untaken.ensures c.match-take.out) turn (omega arith))
+      | in-Err w ↦
+          let worn_told = err_of c.take.result _ _ w.in-Err.is c.take.ensures.worn in
+          let worn = simp to_z-of_z at worn_told in
+          subst (λ s. StepsOn may phase before (state_of s c.match-take.out) after) (sym w.result-is) (met may phase before (state_of w.overflow.result c.match-take.out) after c.now-now.result c.take.new.seats worn)
+    ])

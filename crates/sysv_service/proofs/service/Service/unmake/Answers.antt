@@ -1,0 +1,35 @@
+use Rattle.std.proofs.Common.{[], true, false, Some, Ok, Err, IfOk, refl, sym, ap, subst, ◌∙◌, rules, arith, FitsSigned, w32, w64, ◌≡◌}
+use Rattle.std.proofs.lemmas.Int.{to_z-of_z}
+use Rattle.sysv_keys.specs.Identifier.{slot_of_id}
+use Rattle.sysv_model.specs.Turn.{AtSlot, AtRegistry, AtPool}
+use Rattle.sysv_model.specs.History.{Install, Probe, Look, Place, Take, ReadStat, Set, Remove, Installed, Accepted, Taken}
+use Rattle.sysv_model.specs.Registry.{Begin, Settle, Forget, Changed}
+use Rattle.sysv_model.specs.Pool.{Reserve, Release}
+use Rattle.sysv_keys.specs.Replies.{begun_reply}
+use Rattle.sysv_pool.specs.Replies.{reserve_reply, release_reply}
+use Rattle.sysv_pool.specs.Chain.{Chained}
+use Rattle.sysv_queue.specs.Replies.{probe_reply, stat_reply, look_reply, place_reply, unplaced_reply, take_reply, untaken_reply, set_reply, remove_reply}
+use Rattle.sysv_steps.specs.State.{State, AtBegin, AtInstall, AtSettle, AtProbe, AtUnmake, AtLook, AtReserve, AtPlace, AtSendGiveback, AtTake, AtReceiveGiveback, AtStat, AtSet, AtSetGiveback, AtRemove, AtForget, AtRemoveGiveback, Goes, Waits, Over, Zero}
+use Rattle.sysv_steps.specs.Next.{after_install, after_place}
+use Rattle.sysv_steps.specs.Seen.{phase_of, state_of, wait_of, afterwards_of, getting, sending, receiving}
+use Rattle.sysv_service.specs.Ran.{Pass, StepsOn, no_moment}
+use Rattle.sysv_service.specs.Kinds.{Gets, Sends, Receives, Stats, Sets, Removes}
+use Rattle.sysv_service.proofs.Running.{ok_of, err_of, iferr_of, stepped, met, given, by_result}
+use Rattle.sysv_service.proofs.Staying.{unmake_gets}
+use Rattle.sysv_service.proofs.service.Service.unmake.Goals as goal
+
+pub returns-clause-gets : goal.returns-clause-gets
+returns-clause-gets g c = unmake_gets true _ (c.unmade.ensures [] true)
+
+pub returns-clause-steps : goal.returns-clause-steps
+returns-clause-steps g c =
+    let before : Pass = record { seats = c.pass.inside.seats; held = c.pass.inside.held.blocks } in
+    let after : Pass = record { seats = c.forget.new.seats; held = c.pass.inside.held.blocks } in
+    let id : FitsSigned w32 c.args.id = search rules in
+    subst (λ b. StepsOn no_moment (AtUnmake c.args.id) b (state_of c.unmade.result []) after) c.pass.view_is
+    (by_result c.forget.result _ (
+    λ done is.
+    let told = ok_of c.forget.result _ done is c.forget.ensures.ok in
+    let turn = simp to_z-of_z at told in
+    stepped no_moment (AtUnmake c.args.id) before (state_of c.unmade.result []) after (AtRegistry (Forget c.args.id) (Changed done)) 0 (λ e. absurd cc) refl (c.unmade.ensures [] done) turn (omega arith)
+    ) (λ e is. met no_moment (AtUnmake c.args.id) before (state_of c.unmade.result []) after 0 c.forget.new.seats (err_of c.forget.result _ e is c.forget.ensures.worn)))

@@ -1,0 +1,75 @@
+-- Where a call of each kind can stand, with what it holds there (this profile's).
+use Rattle.std.specs.Prelude.{◌≡◌, ◌≤◌, ℕ, length, ⊤}
+use Rattle.sysv_model.specs.declared.limits.TheConstants.{MESSAGE_BYTES}
+use Rattle.sysv_model.specs.Pool.{blocks_for}
+use Rattle.sysv_steps.specs.State.{Sending, Wait, OnSettled, OnFreed, OnReleased, OnArrived, Afterwards, IsRefused, WaitsOn, AtBegin, AtInstall, AtSettle, AtProbe, AtUnmake, AtLook, AtReserve, AtPlace, AtSendGiveback, AtTake, AtReceiveGiveback, AtStat, AtSet, AtSetGiveback, AtRemove, AtForget, AtRemoveGiveback, Id, Zero, Got, Told, Refused, State, Goes, Waits, Over}
+
+-- a msgget
+abbrev pub Gets : State → Type 0
+Gets (Goes (AtBegin get)) = ⊤
+Gets (Goes (AtInstall get id)) = ⊤
+Gets (Goes (AtSettle id)) = ⊤
+Gets (Goes (AtProbe get id settled)) = ⊤
+Gets (Goes (AtUnmake id)) = ⊤
+Gets (Waits (OnSettled goal get)) = ⊤
+Gets (Over (Id id)) = ⊤
+Gets (Over (Refused why)) = ⊤
+Gets state = ⊥
+
+-- a msgsnd: its text is not refused for its length, and before its place it holds as many blocks as the text takes
+abbrev pub IsShort : Sending → Type 0
+IsShort send = length send.text ≤ MESSAGE_BYTES
+
+abbrev pub SendsAfterwards : Afterwards → Type 0
+SendsAfterwards (IsRefused why) = ⊤
+SendsAfterwards (WaitsOn (OnFreed goal send)) = IsShort send
+SendsAfterwards (WaitsOn (OnReleased goal send)) = IsShort send
+SendsAfterwards (WaitsOn wait) = ⊥
+
+abbrev pub Sends : State → Type 0
+Sends (Goes (AtLook send)) = IsShort send
+Sends (Goes (AtReserve send)) = IsShort send
+Sends (Goes (AtPlace send blocks)) = IsShort send × (blocks ≡ blocks_for (length send.text))
+Sends (Goes (AtSendGiveback blocks afterwards)) = SendsAfterwards afterwards
+Sends (Waits (OnFreed goal send)) = IsShort send
+Sends (Waits (OnReleased goal send)) = IsShort send
+Sends (Over Zero) = ⊤
+Sends (Over (Refused why)) = ⊤
+Sends state = ⊥
+
+-- a msgrcv
+abbrev pub Receives : State → Type 0
+Receives (Goes (AtTake receive)) = ⊤
+Receives (Goes (AtReceiveGiveback blocks mtype text)) = ⊤
+Receives (Waits (OnArrived goal receive)) = ⊤
+Receives (Over (Got mtype text)) = ⊤
+Receives (Over (Refused why)) = ⊤
+Receives state = ⊥
+
+-- the three commands of msgctl
+abbrev pub Stats : State → Type 0
+Stats (Goes (AtStat cred id)) = ⊤
+Stats (Over (Told stat)) = ⊤
+Stats (Over (Refused why)) = ⊤
+Stats state = ⊥
+
+abbrev pub Sets : State → Type 0
+Sets (Goes (AtSet cred id to)) = ⊤
+Sets (Goes AtSetGiveback) = ⊤
+Sets (Over Zero) = ⊤
+Sets (Over (Refused why)) = ⊤
+Sets state = ⊥
+
+abbrev pub Removes : State → Type 0
+Removes (Goes (AtRemove cred id)) = ⊤
+Removes (Goes (AtForget id blocks)) = ⊤
+Removes (Goes (AtRemoveGiveback blocks)) = ⊤
+Removes (Over Zero) = ⊤
+Removes (Over (Refused why)) = ⊤
+Removes state = ⊥
+
+-- a call that has nothing to tell where it succeeds is over
+abbrev pub EndsInZero : State → Type 0
+EndsInZero (Over Zero) = ⊤
+EndsInZero (Over (Refused why)) = ⊤
+EndsInZero state = ⊥

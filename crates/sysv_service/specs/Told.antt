@@ -1,0 +1,41 @@
+-- What a call of the service answers, by how the call ended (this profile's).
+use Rattle.std.specs.Prelude.{◌≡◌, ◌<◌, ◌≤◌, ◌⊎◌, Option, ℕ, ℤ, List, [], Result, Ok, Err, ⊤}
+use Rattle.sysv_model.specs.declared.errno.Errno.{Errno}
+use Rattle.sysv_model.specs.declared.attributes.Stat.{Stat}
+use Rattle.sysv_model.specs.declared.errno.Errno.TheVariants.{EINVAL, EOVERFLOW}
+use Rattle.sysv_model.specs.declared.attributes.Row.{Row}
+use Rattle.sysv_model.specs.History.{ReadRow, Shown}
+use Rattle.sysv_model.specs.Turn.{AtSlot, OfSlot}
+use Rattle.sysv_keys.specs.declared.identifier.TheConstants.{SLOTS}
+use Rattle.sysv_gated.specs.Seats.{FindsWorn}
+use Rattle.sysv_service.specs.Ran.{Pass, Makes}
+use Rattle.sysv_queue.specs.Delivery.{Given}
+use Rattle.sysv_steps.specs.State.{Ending, Id, Zero, Got, Told, Refused}
+
+abbrev pub TellsId : Ending → Result ℤ Errno → Type 0
+TellsId (Id id) (Ok told) = told ≡ id
+TellsId (Refused why) (Err told) = told ≡ why
+TellsId ending result = ⊥
+
+abbrev pub TellsZero : Ending → Result ⊤ Errno → Type 0
+TellsZero Zero (Ok told) = ⊤
+TellsZero (Refused why) (Err told) = told ≡ why
+TellsZero ending result = ⊥
+
+abbrev pub TellsStat : Ending → Result Stat Errno → Type 0
+TellsStat (Told stat) (Ok told) = told ≡ stat
+TellsStat (Refused why) (Err told) = told ≡ why
+TellsStat ending result = ⊥
+
+-- what is given: the message's type, and its text, which is in the body; after a refusal the body is empty
+abbrev pub TellsGot : Ending → Result Given Errno → List ℕ → Type 0
+TellsGot (Got mtype text) (Ok told) out = (told.mtype ≡ mtype) × (out ≡ text)
+TellsGot (Refused why) (Err told) out = (told ≡ why) × (out ≡ [])
+TellsGot ending result out = ⊥
+
+-- the row of a slot is told in a turn at it; a slot that is not there is refused, and nothing was done; else its gate is
+-- worn out
+abbrev pub TellsRow : ℕ → Pass → Result (Option Row) Errno → Pass → Type 0
+TellsRow slot before (Ok row) after = (slot < SLOTS) × Makes before (AtSlot slot ReadRow (Shown row)) after
+TellsRow slot before (Err why) after =
+    ((SLOTS ≤ slot) × (why ≡ EINVAL) × (after ≡ before)) ⊎ ((slot < SLOTS) × (why ≡ EOVERFLOW) × FindsWorn before.seats (OfSlot slot ReadRow) after.seats)

@@ -1,0 +1,18 @@
+-- How a wait of a call ends (this profile's).
+use Rattle.std.specs.Prelude.{◌≡◌, ℕ, ◌^◌, ◌-◌, ◌≤◌, ◌⊎◌, min}
+use Rattle.sysv_steps.specs.State.{Wait, State, Goes, Waits, Over, Refused}
+use Rattle.sysv_model.specs.declared.errno.Errno.TheVariants.{EOVERFLOW}
+use Rattle.sysv_steps.specs.Resume.{awaited, goal_of, resume}
+use Rattle.sysv_gated.specs.Reading.{Reads}
+use Rattle.sysv_service.specs.Ran.{Pass, FindsNoTurn}
+
+-- the goal, as a number of 64 bits
+abbrev pub goal_seen : ℕ → ℕ
+goal_seen goal = min goal (2 ^ 64 - 1)
+
+-- the call goes on with the value that it read, or waits on, or has met a worn gate and is over
+abbrev pub EndsWait : Wait → Pass → State → Pass → Type 0
+EndsWait wait before state after =
+    ((value : ℕ) × Reads (awaited wait) value before.seats after.seats × (after.held ≡ before.held)
+    × (((goal_of wait ≤ value) × (state ≡ Goes (resume wait value))) ⊎ (state ≡ Waits wait)))
+    ⊎ (FindsNoTurn (Waits wait) before.seats × (state ≡ Over (Refused EOVERFLOW)))

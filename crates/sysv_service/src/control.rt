@@ -1,0 +1,207 @@
+//! `msgctl`.
+
+ghost use Rattle.std.specs.Prelude.{◌≡◌, ℕ, []};
+ghost use Rattle.sysv_steps.specs.Call.{MsgctlStat, MsgctlSet, MsgctlRmid};
+ghost use Rattle.sysv_steps.specs.Begin.{begin as begins};
+ghost use Rattle.sysv_steps.specs.State.{Goes, Over, Ending as Ends};
+ghost use Rattle.sysv_steps.specs.Seen.{phase_of, state_of, ending_of};
+ghost use Rattle.sysv_gated.specs.Seats.{AreOf};
+ghost use Rattle.sysv_service.specs.Ran.{StepsOn, no_moment, Comes};
+ghost use Rattle.sysv_service.specs.Kinds.{Stats, Sets, Removes};
+ghost use Rattle.sysv_service.specs.Told.{TellsZero, TellsStat, TellsRow};
+
+use crate::clock::Clock;
+use crate::pass::Pass;
+use crate::service::Service;
+use crate::waiting::{overflow, zero_of};
+use std::sync::Wait as MayWait;
+use sysv_gated::gates::Worn;
+use sysv_keys::identifier::SLOTS;
+use sysv_model::attributes::{Row, SetTo, Stat};
+use sysv_model::cred::Cred;
+use sysv_model::errno::Errno;
+use sysv_pool::chain::Chain;
+use sysv_steps::control::{
+    begin_remove, begin_set, begin_stat, forgotten, given_back, removed, set_done, stat_told,
+};
+use sysv_steps::ending::Ending;
+use sysv_steps::state::{Phase, State};
+
+impl Service {
+    /// Tells the attributes of the queue of this identifier, and what waits on it (POSIX.1-2017, `msgctl`, IPC_STAT).
+    pub fn msgctl_stat(
+        &self,
+        rt: &impl MayWait,
+        pass: &mut Pass,
+        cred: Cred,
+        id: i32,
+    ) -> Result<Stat, Errno>
+        requires { AreOf self.now pass.old.seats }
+        ensures pass { AreOf self.now pass.new.seats }
+        ensures ran { (ending : Ends) × Comes no_moment (begins cred (MsgctlStat id) 0) pass.old (Over ending) pass.new × TellsStat ending result }
+    {
+        let mut state = begin_stat(cred, id);
+        for _ in rt.forever() {
+            state = match state {
+                State::Goes(phase) => self.stat_step(rt, pass, phase),
+                State::Waits(_wait) => unreachable!(),
+                State::Over(ending) => return stat_of(ending),
+            };
+        }
+        unreachable!()
+    }
+
+    fn stat_step(&self, rt: &impl MayWait, pass: &mut Pass, phase: Phase) -> State
+        requires pass { AreOf self.now pass.old.seats }
+        requires stats { Stats (Goes (phase_of phase [])) }
+        ensures pass { AreOf self.now pass.new.seats }
+        ensures stats { Stats (state_of result []) }
+        ensures steps { StepsOn no_moment (phase_of phase []) pass.old (state_of result []) pass.new }
+    {
+        let Phase::Stat { cred, id } = phase else {
+            unreachable!()
+        };
+        match self.gates.stat(rt, &mut pass.seats, id, cred) {
+            Ok(told) => stat_told(told),
+            Err(Worn) => overflow(),
+        }
+    }
+
+    /// Sets the owner, the mode and the limit of the queue of this identifier (POSIX.1-2017, `msgctl`, IPC_SET).
+    pub fn msgctl_set<C: Clock>(
+        &self,
+        rt: &impl MayWait,
+        pass: &mut Pass,
+        clock: &C,
+        cred: Cred,
+        id: i32,
+        to: SetTo,
+    ) -> Result<(), Errno>
+        requires { AreOf self.now pass.old.seats }
+        ensures pass { AreOf self.now pass.new.seats }
+        ensures ran { (ending : Ends) × Comes (C.may clock.now) (begins cred (MsgctlSet id to) 0) pass.old (Over ending) pass.new × TellsZero ending result }
+    {
+        let mut state = begin_set(cred, id, to);
+        for _ in rt.forever() {
+            state = match state {
+                State::Goes(phase) => self.set_step(rt, pass, clock, phase),
+                State::Waits(_wait) => unreachable!(),
+                State::Over(ending) => return zero_of(ending),
+            };
+        }
+        unreachable!()
+    }
+
+    fn set_step<C: Clock>(
+        &self,
+        rt: &impl MayWait,
+        pass: &mut Pass,
+        clock: &C,
+        phase: Phase,
+    ) -> State
+        requires pass { AreOf self.now pass.old.seats }
+        requires sets { Sets (Goes (phase_of phase [])) }
+        ensures pass { AreOf self.now pass.new.seats }
+        ensures sets { Sets (state_of result []) }
+        ensures steps { StepsOn (C.may clock.now) (phase_of phase []) pass.old (state_of result []) pass.new }
+    {
+        match phase {
+            Phase::Set { cred, id, to } => {
+                let now = clock.now();
+                match self.gates.set(rt, &mut pass.seats, id, cred, to, now) {
+                    Ok(done) => set_done(done),
+                    Err(Worn) => overflow(),
+                }
+            }
+            Phase::SetGiveback => {
+                self.give_back(rt, pass, Chain::empty());
+                given_back()
+            }
+            _other => unreachable!(),
+        }
+    }
+
+    /// Removes the queue of this identifier, and discards what waits on it (POSIX.1-2017, `msgctl`, IPC_RMID).
+    pub fn msgctl_rmid(
+        &self,
+        rt: &impl MayWait,
+        pass: &mut Pass,
+        cred: Cred,
+        id: i32,
+    ) -> Result<(), Errno>
+        requires { AreOf self.now pass.old.seats }
+        ensures pass { AreOf self.now pass.new.seats }
+        ensures ran { (ending : Ends) × Comes no_moment (begins cred (MsgctlRmid id) 0) pass.old (Over ending) pass.new × TellsZero ending result }
+    {
+        let mut state = begin_remove(cred, id);
+        for _ in rt.forever() {
+            state = match state {
+                State::Goes(phase) => self.remove_step(rt, pass, phase),
+                State::Waits(_wait) => unreachable!(),
+                State::Over(ending) => return zero_of(ending),
+            };
+        }
+        unreachable!()
+    }
+
+    /// Where the gate of the registry is worn out the answer stays.
+    fn remove_step(&self, rt: &impl MayWait, pass: &mut Pass, phase: Phase) -> State
+        requires pass { AreOf self.now pass.old.seats }
+        requires removes { Removes (Goes (phase_of phase [])) }
+        ensures pass { AreOf self.now pass.new.seats }
+        ensures removes { Removes (state_of result []) }
+        ensures steps { StepsOn no_moment (phase_of phase []) pass.old (state_of result []) pass.new }
+    {
+        match phase {
+            Phase::Remove { cred, id } => {
+                match self.gates.remove(rt, &mut pass.seats, id, cred) {
+                    Ok(done) => removed(id, done),
+                    Err(Worn) => overflow(),
+                }
+            }
+            Phase::Forget { id, chain } => {
+                let _ = self.gates.forget(rt, &mut pass.seats, id);
+                forgotten(chain)
+            }
+            Phase::RemoveGiveback { chain } => {
+                self.give_back(rt, pass, chain);
+                given_back()
+            }
+            _other => unreachable!(),
+        }
+    }
+
+    /// The row of the live queue in this slot, if one is live (this profile's, for `ipcs`). No permission is asked. `EINVAL`
+    /// comes exactly where the slot is not 0 to 63, and then nothing was done.
+    pub fn list_row(
+        &self,
+        rt: &impl MayWait,
+        pass: &mut Pass,
+        slot: u32,
+    ) -> Result<Option<Row>, Errno>
+        requires { AreOf self.now pass.old.seats }
+        ensures pass { AreOf self.now pass.new.seats }
+        ensures told { TellsRow slot pass.old result pass.new }
+    {
+        let slot = slot as usize;
+        if slot >= SLOTS {
+            return Err(Errno::EINVAL);
+        }
+        match self.gates.row(rt, &mut pass.seats, slot) {
+            Ok(row) => Ok(row),
+            Err(Worn) => Err(Errno::EOVERFLOW),
+        }
+    }
+}
+
+/// The answer of an IPC_STAT.
+fn stat_of(ending: Ending) -> Result<Stat, Errno>
+    requires { Stats (Over (ending_of ending [])) }
+    ensures { TellsStat (ending_of ending []) result }
+{
+    match ending {
+        Ending::Told(stat) => Ok(stat),
+        Ending::Refused(why) => Err(why),
+        _other => unreachable!(),
+    }
+}

@@ -1,0 +1,132 @@
+//! `msgrcv`.
+
+ghost use Rattle.std.specs.Prelude.{◌≡◌, ◌≤◌, ℕ, List, [], length};
+ghost use Rattle.sysv_model.specs.declared.limits.TheConstants.{MESSAGE_BYTES as most_bytes};
+ghost use Rattle.sysv_steps.specs.Call.{Msgrcv};
+ghost use Rattle.sysv_steps.specs.Begin.{begin as begins};
+ghost use Rattle.sysv_steps.specs.State.{AtTake, AtReceiveGiveback, Goes, Over, Ending as Ends};
+ghost use Rattle.sysv_steps.specs.Seen.{phase_of, state_of, ending_of, receiving};
+ghost use Rattle.sysv_gated.specs.Seats.{AreOf};
+ghost use Rattle.sysv_service.specs.Ran.{StepsOn, no_moment, Comes};
+ghost use Rattle.sysv_service.specs.Kinds.{Receives};
+ghost use Rattle.sysv_service.specs.Told.{TellsGot};
+
+use crate::clock::Clock;
+use crate::pass::Pass;
+use crate::service::Service;
+use crate::waiting::overflow;
+use std::sync::Wait as MayWait;
+use sysv_gated::gates::Worn;
+use sysv_model::body::Body;
+use sysv_model::cred::Cred;
+use sysv_model::errno::Errno;
+use sysv_model::flags::Flags;
+use sysv_queue::delivery::Delivery;
+use sysv_steps::ending::Ending;
+use sysv_steps::receive::Receiving;
+use sysv_steps::state::{Phase, State};
+
+impl Service {
+    /// Takes the message that the type and the flags name from the queue of this identifier (POSIX.1-2017, `msgrcv`), and
+    /// writes the first `size` bytes of its text to `out`, which is empty after a refusal.
+    #[allow(clippy::too_many_arguments)]
+    pub fn msgrcv<C: Clock>(
+        &self,
+        rt: &impl MayWait,
+        pass: &mut Pass,
+        clock: &C,
+        cred: Cred,
+        id: i32,
+        out: &mut Body,
+        size: u32,
+        mtype: i64,
+        flags: Flags,
+    ) -> Result<Delivery, Errno>
+        requires { AreOf self.now pass.old.seats }
+        ensures pass { AreOf self.now pass.new.seats }
+        ensures ran { (ending : Ends) × Comes (C.may clock.now) (begins cred (Msgrcv id size mtype flags) 0) pass.old (Over ending) pass.new × TellsGot ending result out.new }
+    {
+        let mut state = Receiving::begin(cred, id, size, mtype, flags);
+        for _ in rt.forever() {
+            state = match state {
+                State::Goes(phase) => self.receive_step(rt, pass, clock, out, phase),
+                State::Waits(wait) => self.wait_on(rt, pass, wait),
+                State::Over(ending) => return given_of(ending, out),
+            };
+        }
+        unreachable!()
+    }
+
+    /// One step of a receive that fills this body.
+    fn receive_step<C: Clock>(
+        &self,
+        rt: &impl MayWait,
+        pass: &mut Pass,
+        clock: &C,
+        out: &mut Body,
+        phase: Phase,
+    ) -> State
+        requires pass { AreOf self.now pass.old.seats }
+        requires receives { Receives (Goes (phase_of phase out.old)) }
+        ensures pass { AreOf self.now pass.new.seats }
+        ensures receives { Receives (state_of result out.new) }
+        ensures steps { StepsOn (C.may clock.now) (phase_of phase out.old) pass.old (state_of result out.new) pass.new }
+    {
+        match phase {
+            Phase::Take(receive) => self.take(rt, pass, clock, out, receive),
+            Phase::ReceiveGiveback { chain, delivery } => {
+                self.give_back(rt, pass, chain);
+                Receiving::given_back(delivery)
+            }
+            _other => unreachable!(),
+        }
+    }
+
+    /// The text that is given is copied out once the message is taken.
+    fn take<C: Clock>(
+        &self,
+        rt: &impl MayWait,
+        pass: &mut Pass,
+        clock: &C,
+        out: &mut Body,
+        receive: Receiving,
+    ) -> State
+        requires { AreOf self.now pass.old.seats }
+        ensures pass { AreOf self.now pass.new.seats }
+        ensures receives { Receives (state_of result out.new) }
+        ensures steps { StepsOn (C.may clock.now) (AtTake (receiving receive)) pass.old (state_of result out.new) pass.new }
+    {
+        let Receiving {
+            cred,
+            id,
+            selector,
+            size,
+            noerror,
+            ..
+        } = receive;
+        let now = clock.now();
+        match self.gates.take(rt, &mut pass.seats, id, cred, selector, size, noerror, now) {
+            Ok(Ok(taken)) => {
+                let (delivery, chain) = taken.finish(size, out);
+                receive.given(delivery, chain)
+            }
+            Ok(Err(why)) => receive.untaken(why),
+            Err(Worn) => overflow(),
+        }
+    }
+}
+
+/// The answer of a receive. After a refusal the body is emptied.
+fn given_of(ending: Ending, out: &mut Body) -> Result<Delivery, Errno>
+    requires { Receives (Over (ending_of ending out.old)) }
+    ensures { TellsGot (ending_of ending out.old) result out.new }
+{
+    match ending {
+        Ending::Got { delivery } => Ok(delivery),
+        Ending::Refused(why) => {
+            out.clear();
+            Err(why)
+        }
+        _other => unreachable!(),
+    }
+}

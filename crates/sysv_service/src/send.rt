@@ -1,0 +1,152 @@
+//! `msgsnd`.
+
+ghost use Rattle.std.specs.Prelude.{◌≡◌, ℕ, length};
+ghost use Rattle.sysv_model.specs.Pool.{blocks_for};
+ghost use Rattle.sysv_steps.specs.Call.{Msgsnd};
+ghost use Rattle.sysv_steps.specs.Begin.{begin as begins};
+ghost use Rattle.sysv_steps.specs.State.{AtLook, AtReserve, AtPlace, Goes, Over, Ending as Ends};
+ghost use Rattle.sysv_steps.specs.Seen.{phase_of, state_of, sending};
+ghost use Rattle.sysv_gated.specs.Seats.{AreOf};
+ghost use Rattle.sysv_service.specs.Ran.{StepsOn, no_moment, Comes};
+ghost use Rattle.sysv_service.specs.Kinds.{Sends, IsShort};
+ghost use Rattle.sysv_service.specs.Told.{TellsZero};
+
+use crate::clock::Clock;
+use crate::pass::Pass;
+use crate::service::Service;
+use crate::waiting::{overflow, zero_of};
+use std::sync::Wait as MayWait;
+use sysv_gated::gates::Worn;
+use sysv_gated::letter::Letter;
+use sysv_model::body::Body;
+use sysv_model::cred::Cred;
+use sysv_model::errno::Errno;
+use sysv_model::flags::Flags;
+use sysv_pool::chain::Chain;
+use sysv_queue::slot::PlaceRefused;
+use sysv_steps::afterwards::Afterwards;
+use sysv_steps::send::Sending;
+use sysv_steps::state::{Phase, State};
+
+impl Service {
+    /// Sends the text as a message of type `mtype`, from 1, to the queue of this identifier (POSIX.1-2017, `msgsnd`).
+    #[allow(clippy::too_many_arguments)]
+    pub fn msgsnd<C: Clock>(
+        &self,
+        rt: &impl MayWait,
+        pass: &mut Pass,
+        clock: &C,
+        cred: Cred,
+        id: i32,
+        mtype: i64,
+        text: &Body,
+        flags: Flags,
+    ) -> Result<(), Errno>
+        requires { AreOf self.now pass.old.seats }
+        ensures pass { AreOf self.now pass.new.seats }
+        ensures ran { (released : ℕ) × (ending : Ends) × Comes (C.may clock.now) (begins cred (Msgsnd id mtype flags text.now) released) pass.old (Over ending) pass.new × TellsZero ending result }
+    {
+        let released = self.gates.released(&mut pass.seats);
+        let mut state = Sending::begin(cred, id, mtype, flags, text.len(), released);
+        for _ in rt.forever() {
+            state = match state {
+                State::Goes(phase) => self.send_step(rt, pass, clock, text, phase),
+                State::Waits(wait) => self.wait_on(rt, pass, wait),
+                State::Over(ending) => return zero_of(ending),
+            };
+        }
+        unreachable!()
+    }
+
+    /// One step of a send that has this text.
+    fn send_step<C: Clock>(
+        &self,
+        rt: &impl MayWait,
+        pass: &mut Pass,
+        clock: &C,
+        text: &Body,
+        phase: Phase,
+    ) -> State
+        requires pass { AreOf self.now pass.old.seats }
+        requires sends { Sends (Goes (phase_of phase text.now)) }
+        ensures pass { AreOf self.now pass.new.seats }
+        ensures sends { Sends (state_of result text.now) }
+        ensures steps { StepsOn (C.may clock.now) (phase_of phase text.now) pass.old (state_of result text.now) pass.new }
+    {
+        match phase {
+            Phase::Look(send) => self.look(rt, pass, text, send),
+            Phase::Reserve(send) => self.reserve(rt, pass, text, send),
+            Phase::Place { send, chain } => self.place(rt, pass, clock, text, send, chain),
+            Phase::SendGiveback { chain, afterwards } => {
+                self.give_back(rt, pass, chain);
+                afterwards.given_back()
+            }
+            _other => unreachable!(),
+        }
+    }
+
+    fn look(&self, rt: &impl MayWait, pass: &mut Pass, text: &Body, send: Sending) -> State
+        requires pass { AreOf self.now pass.old.seats }
+        requires sends { IsShort (sending send text.now) }
+        ensures pass { AreOf self.now pass.new.seats }
+        ensures sends { Sends (state_of result text.now) }
+        ensures steps { StepsOn no_moment (AtLook (sending send text.now)) pass.old (state_of result text.now) pass.new }
+    {
+        match self
+            .gates
+            .look(rt, &mut pass.seats, send.id, send.cred, text.len())
+        {
+            Ok(found) => send.looked(found),
+            Err(Worn) => overflow(),
+        }
+    }
+
+    fn reserve(&self, rt: &impl MayWait, pass: &mut Pass, text: &Body, send: Sending) -> State
+        requires pass { AreOf self.now pass.old.seats }
+        requires sends { IsShort (sending send text.now) }
+        ensures pass { AreOf self.now pass.new.seats }
+        ensures sends { Sends (state_of result text.now) }
+        ensures steps { StepsOn no_moment (AtReserve (sending send text.now)) pass.old (state_of result text.now) pass.new }
+    {
+        match self.gates.reserve(rt, &mut pass.seats, text.len()) {
+            Ok(chain) => send.reserved(chain),
+            Err(Worn) => overflow(),
+        }
+    }
+
+    /// The text is copied into the chain just before its place. Where the gate is worn out the chain is given back.
+    fn place<C: Clock>(
+        &self,
+        rt: &impl MayWait,
+        pass: &mut Pass,
+        clock: &C,
+        text: &Body,
+        send: Sending,
+        chain: Chain,
+    ) -> State
+        requires pass { AreOf self.now pass.old.seats }
+        requires sends { IsShort (sending send text.now) × (chain.blocks ≡ blocks_for (length text.now)) }
+        ensures pass { AreOf self.now pass.new.seats }
+        ensures sends { Sends (state_of result text.now) }
+        ensures steps { StepsOn (C.may clock.now) (AtPlace (sending send text.now) chain.blocks) pass.old (state_of result text.now) pass.new }
+    {
+        let letter = Letter::of(chain, text);
+        let now = clock.now();
+        match self.gates.place(
+            rt,
+            &mut pass.seats,
+            send.id,
+            send.cred,
+            send.mtype,
+            letter,
+            now,
+        ) {
+            Ok(Ok(_number)) => Sending::placed(),
+            Ok(Err(PlaceRefused { why, chain })) => send.unplaced(why, chain),
+            Err(letter) => {
+                self.give_back(rt, pass, letter.into_chain());
+                overflow()
+            }
+        }
+    }
+}

@@ -1,0 +1,114 @@
+//! What all calls share: waits, chains that go back, and gates that are worn out.
+
+ghost use Rattle.std.specs.Prelude.{◌≡◌, ◌+◌, ◌⊎◌, ℕ, List, [], Result, ⊤};
+ghost use Rattle.sysv_model.specs.Pool.{Release};
+ghost use Rattle.sysv_model.specs.Turn.{AtPool, OfPool};
+ghost use Rattle.sysv_pool.specs.Chain.{Chained};
+ghost use Rattle.sysv_pool.specs.Replies.{release_reply};
+ghost use Rattle.sysv_steps.specs.Resume.{awaited, goal_of};
+ghost use Rattle.sysv_steps.specs.Seen.{wait_of, state_of, ending_of};
+ghost use Rattle.sysv_gated.specs.Seats.{AreOf, FindsWorn, Seats as SeatsSeen};
+ghost use Rattle.sysv_gated.specs.Reading.{Awaits};
+ghost use Rattle.sysv_service.specs.Ran.{Makes};
+ghost use Rattle.sysv_steps.specs.State.{Over};
+ghost use Rattle.sysv_service.specs.Kinds.{EndsInZero};
+ghost use Rattle.sysv_service.specs.Told.{TellsZero};
+ghost use Rattle.sysv_service.specs.Waited.{EndsWait, goal_seen};
+
+use crate::pass::Pass;
+use crate::service::Service;
+use std::mem;
+use std::sync::Wait as MayWait;
+use sysv_gate::Awaited;
+use sysv_model::errno::Errno;
+use sysv_pool::chain::Chain;
+use sysv_steps::ending::Ending;
+use sysv_steps::state::State;
+use sysv_steps::wait::Wait;
+
+/// The end of a call whose turn was due at a gate that is worn out.
+pub(crate) fn overflow() -> State
+    ensures { result ≡ State.Over (Ending.Refused Errno.EOVERFLOW) }
+{
+    State::Over(Ending::Refused(Errno::EOVERFLOW))
+}
+
+impl Pass {
+    /// Keeps a chain that could not be given back.
+    pub(crate) fn hold(&mut self, chain: Chain)
+        ensures { self.new ≡ record self.old { held = self.old.held + chain.blocks } }
+    {
+        let held = mem::replace(&mut self.held, Chain::empty());
+        let empty = mem::replace(&mut self.held, held.join(chain));
+        empty.end();
+    }
+}
+
+impl Service {
+    /// Gives the chain back to the pool. The pass keeps one that the pool refuses as that of another, or whose gate is worn
+    /// out.
+    pub(crate) fn give_back(&self, rt: &impl MayWait, pass: &mut Pass, chain: Chain)
+        requires { AreOf self.now pass.old.seats }
+        ensures pass { AreOf self.now pass.new.seats }
+        ensures released { ((done : Result ⊤ Chained) × Makes pass.old (AtPool (Release chain.blocks) (release_reply done)) pass.new)
+            ⊎ ((after : SeatsSeen) × FindsWorn pass.old.seats (OfPool (Release chain.blocks)) after) }
+    {
+        match self.gates.release(rt, &mut pass.seats, chain) {
+            Ok(Ok(())) => {}
+            Ok(Err(foreign)) => pass.hold(foreign),
+            Err(chain) => pass.hold(chain),
+        }
+    }
+
+    /// Waits until the call may go on.
+    pub(crate) fn wait_on(&self, rt: &impl MayWait, pass: &mut Pass, wait: Wait) -> State
+        requires { AreOf self.now pass.old.seats }
+        ensures pass { AreOf self.now pass.new.seats }
+        ensures ended { (text : List ℕ) → EndsWait (wait_of wait text) pass.old (state_of result text) pass.new }
+    {
+        match self.await_count(rt, pass, &wait) {
+            Awaited::Reached(value) if wait.is_over(value) => State::Goes(wait.resume(value)),
+            Awaited::Reached(_) => State::Waits(wait),
+            Awaited::Worn => overflow(),
+        }
+    }
+
+    /// Waits for the count of a wait to pass the value that it names.
+    fn await_count(&self, rt: &impl MayWait, pass: &mut Pass, wait: &Wait) -> Awaited
+        requires { AreOf self.now pass.old.seats }
+        ensures pass { AreOf self.now pass.new.seats }
+        ensures held { pass.new.held ≡ pass.old.held }
+        ensures waited { (text : List ℕ) → Awaits (awaited (wait_of wait.now text)) (goal_seen (goal_of (wait_of wait.now text))) pass.old.seats result pass.new.seats }
+    {
+        let seats = &mut pass.seats;
+        match *wait {
+            Wait::Settled { above, .. } => {
+                self.gates.await_settled(rt, seats, above.saturating_add(1))
+            }
+            Wait::Freed { above, send } => {
+                self.gates
+                    .await_freed(rt, seats, send.id, above.saturating_add(1))
+            }
+            Wait::Released { above, .. } => {
+                self.gates
+                    .await_released(rt, seats, above.saturating_add(1))
+            }
+            Wait::Arrived { above, receive } => {
+                self.gates
+                    .await_arrived(rt, seats, receive.id, above.saturating_add(1))
+            }
+        }
+    }
+}
+
+/// The answer of a call that has nothing to tell where it succeeds.
+pub(crate) fn zero_of(ending: Ending) -> Result<(), Errno>
+    requires { EndsInZero (Over (ending_of ending [])) }
+    ensures { (text : List ℕ) → TellsZero (ending_of ending text) result }
+{
+    match ending {
+        Ending::Zero => Ok(()),
+        Ending::Refused(why) => Err(why),
+        _other => unreachable!(),
+    }
+}
