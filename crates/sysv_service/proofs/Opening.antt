@@ -5,7 +5,7 @@ use Rattle.sysv_gate.specs.Gates.{Gateway, opened}
 use Rattle.sysv_bank.specs.Banks.{gates_of}
 use Rattle.sysv_gated.specs.declared.slot.SlotCall.{SlotCall}
 use Rattle.sysv_gated.specs.declared.slot.SlotReply.{SlotReply}
-use Rattle.sysv_gated.specs.Seats.{Gates, SlotSeat, AreOf}
+use Rattle.sysv_gated.specs.Seats.{Gates, AreOf}
 use Rattle.sysv_gated.specs.Opened.{all_opened}
 
 of_slots : (gates : List (Gateway Slot)) → gates_of {O = Slot} {C = SlotCall} {R = SlotReply} (map opened gates) ≡ gates

@@ -1,8 +1,8 @@
 -- Where a call of each kind can stand, with what it holds there (this profile's).
-use Rattle.std.specs.Prelude.{◌≡◌, ◌≤◌, ℕ, length, ⊤}
+use Rattle.std.specs.Prelude.{◌≡◌, ◌≤◌, length, ⊤}
 use Rattle.sysv_model.specs.declared.limits.TheConstants.{MESSAGE_BYTES}
 use Rattle.sysv_model.specs.Pool.{blocks_for}
-use Rattle.sysv_steps.specs.State.{Sending, Wait, OnSettled, OnFreed, OnReleased, OnArrived, Afterwards, IsRefused, WaitsOn, AtBegin, AtInstall, AtSettle, AtProbe, AtUnmake, AtLook, AtReserve, AtPlace, AtSendGiveback, AtTake, AtReceiveGiveback, AtStat, AtSet, AtSetGiveback, AtRemove, AtForget, AtRemoveGiveback, Id, Zero, Got, Told, Refused, State, Goes, Waits, Over}
+use Rattle.sysv_steps.specs.State.{Sending, OnSettled, OnFreed, OnReleased, OnArrived, Afterwards, IsRefused, WaitsOn, AtBegin, AtInstall, AtSettle, AtProbe, AtUnmake, AtLook, AtReserve, AtPlace, AtSendGiveback, AtTake, AtReceiveGiveback, AtStat, AtSet, AtSetGiveback, AtRemove, AtForget, AtRemoveGiveback, Id, Zero, Got, Told, Refused, State, Goes, Waits, Over}
 
 -- a msgget
 abbrev pub Gets : State → Type 0

@@ -1,10 +1,9 @@
-use Rattle.std.proofs.Common.{[], refl, sym, ap, subst, rules, w32, w64, to_z, of_z}
+use Rattle.std.proofs.Common.{ap, subst, rules, w32, w64, to_z, of_z}
 use Rattle.std.proofs.lemmas.Int.{to_z-of_z}
-use Rattle.sysv_steps.specs.State.{Goes, Waits}
+use Rattle.sysv_steps.specs.State.{Waits}
 use Rattle.sysv_steps.specs.Seen.{phase_of, wait_of, ending_of, state_of}
-use Rattle.sysv_service.specs.Ran.{no_moment}
 use Rattle.sysv_service.specs.Kinds.{Receives}
-use Rattle.sysv_service.proofs.Running.{lifts, first_at, first_read, moved, comes_step, comes_wait}
+use Rattle.sysv_service.proofs.Running.{first_at, moved, comes_step, comes_wait}
 use Rattle.sysv_service.proofs.Staying.{ends_wait, wait_receives, begin_receives}
 use Rattle.sysv_service.proofs.service.Service.msgrcv.Goals as goal
 

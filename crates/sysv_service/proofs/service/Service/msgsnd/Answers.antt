@@ -1,14 +1,13 @@
-use Rattle.std.proofs.Common.{[], refl, sym, ap, subst, rules, w32, w64, to_z, of_z}
+use Rattle.std.proofs.Common.{refl, sym, ap, subst, rules, w32, w64, to_z, of_z}
 use Rattle.sysv_steps.specs.Call.{Msgsnd}
 use Rattle.sysv_steps.specs.Begin.{begin as begins}
 use Rattle.sysv_steps.specs.Resume.{Released}
 use Rattle.sysv_gated.specs.Seats.{AreOf}
 use Rattle.sysv_service.specs.Ran.{Pass, Comes}
-use Rattle.sysv_steps.specs.State.{Goes, Waits}
-use Rattle.sysv_steps.specs.Seen.{phase_of, wait_of, ending_of, state_of}
-use Rattle.sysv_service.specs.Ran.{no_moment}
+use Rattle.sysv_steps.specs.State.{Waits}
+use Rattle.sysv_steps.specs.Seen.{phase_of, wait_of, state_of}
 use Rattle.sysv_service.specs.Kinds.{Sends}
-use Rattle.sysv_service.proofs.Running.{lifts, first_at, first_read, moved, comes_step, comes_wait}
+use Rattle.sysv_service.proofs.Running.{first_read, moved, comes_step, comes_wait}
 use Rattle.sysv_service.proofs.Staying.{ends_wait, wait_sends, begin_sends}
 use Rattle.sysv_service.proofs.service.Service.msgsnd.Goals as goal
 

@@ -1,9 +1,8 @@
-use Rattle.std.proofs.Common.{[]}
 use Rattle.sysv_steps.specs.Call.{Msgsnd}
 use Rattle.sysv_steps.specs.Begin.{begin as begins}
 use Rattle.sysv_steps.specs.Seen.{state_of}
 use Rattle.sysv_gated.specs.Seats.{AreOf}
-use Rattle.sysv_service.specs.Ran.{Comes, no_moment}
+use Rattle.sysv_service.specs.Ran.{Comes}
 use Rattle.sysv_service.specs.Kinds.{Sends}
 use Rattle.sysv_service.proofs.service.Service.msgsnd.Given as goal
 

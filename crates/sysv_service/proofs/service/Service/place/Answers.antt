@@ -1,13 +1,13 @@
-use Rattle.std.proofs.Common.{[], true, false, Some, Ok, Err, IfOk, refl, sym, ap, subst, ◌∙◌, rules, arith, FitsSigned, w32, w64, ◌≡◌}
+use Rattle.std.proofs.Common.{Some, Ok, refl, ap, subst, ◌∙◌, rules, arith, FitsSigned, w32, w64, ◌≡◌}
 use Rattle.std.proofs.lemmas.Int.{to_z-of_z}
 use Rattle.sysv_keys.specs.Identifier.{slot_of_id}
 use Rattle.sysv_model.specs.Turn.{AtSlot}
-use Rattle.sysv_model.specs.History.{Place, Take, Accepted, Taken}
+use Rattle.sysv_model.specs.History.{Place, Accepted}
 use Rattle.sysv_pool.specs.Chain.{Chained}
-use Rattle.sysv_queue.specs.Replies.{unplaced_reply, untaken_reply}
-use Rattle.sysv_steps.specs.State.{AtPlace, AtTake}
+use Rattle.sysv_queue.specs.Replies.{unplaced_reply}
+use Rattle.sysv_steps.specs.State.{AtPlace}
 use Rattle.sysv_steps.specs.Next.{after_place}
-use Rattle.sysv_steps.specs.Seen.{state_of, sending, receiving}
+use Rattle.sysv_steps.specs.Seen.{state_of, sending}
 use Rattle.sysv_service.specs.Ran.{Pass, StepsOn}
 use Rattle.sysv_service.proofs.Running.{ok_of, iferr_of, stepped}
 use Rattle.sysv_service.proofs.Staying.{place_sends}

@@ -1,13 +1,12 @@
-use Rattle.std.proofs.Common.{[], true, false, Some, Ok, Err, IfOk, refl, sym, ap, subst, ◌∙◌, rules, arith, FitsSigned, w32, w64, ◌≡◌}
+use Rattle.std.proofs.Common.{Ok, Err, refl, sym, ap, subst, rules, arith, FitsSigned, w32, ◌≡◌}
 use Rattle.std.proofs.lemmas.Int.{to_z-of_z}
 use Rattle.sysv_keys.specs.Identifier.{slot_of_id}
 use Rattle.sysv_model.specs.Turn.{AtSlot}
-use Rattle.sysv_model.specs.History.{Place, Take, Accepted, Taken}
+use Rattle.sysv_model.specs.History.{Take, Taken}
 use Rattle.sysv_pool.specs.Chain.{Chained}
-use Rattle.sysv_queue.specs.Replies.{unplaced_reply, untaken_reply}
-use Rattle.sysv_steps.specs.State.{AtPlace, AtTake}
-use Rattle.sysv_steps.specs.Next.{after_place}
-use Rattle.sysv_steps.specs.Seen.{state_of, sending, receiving}
+use Rattle.sysv_queue.specs.Replies.{untaken_reply}
+use Rattle.sysv_steps.specs.State.{AtTake}
+use Rattle.sysv_steps.specs.Seen.{state_of, receiving}
 use Rattle.sysv_service.specs.Ran.{Pass, StepsOn}
 use Rattle.sysv_service.proofs.Running.{ok_of, err_of, stepped, met}
 use Rattle.sysv_service.proofs.service.Service.take.Goals.{in-Ok-Ok, in-Ok-Err, in-Err}
