@@ -1,22 +1,19 @@
 -- What a gate answered is a turn of the object.
 use Rattle.std.proofs.Common.{◌≡◌, ℕ, List, [], ◌∷◌, ◌++◌, false, Result, Ok, Err, IfOk, refl, subst}
 use Rattle.sysv_gate.specs.declared.view.Turn.{Turn}
-use Rattle.sysv_gate.specs.History.{Moves, IsLegal, after_all, HasItsOwn, RiseByOneAtMost}
-use Rattle.sysv_gate.specs.Gates.{Gateway, Holding, Answers, made, saw}
+use Rattle.sysv_gate.specs.History.{Moves, IsLegal, after_all}
+use Rattle.sysv_gate.specs.Gates.{Holding, Answers, made, saw}
 use Rattle.sysv_bank.specs.Banks.{ChangesAt}
-use Rattle.sysv_model.specs.History.{Seat}
-use Rattle.sysv_model.specs.Turn.{AtSlot, AtRegistry, AtPool}
-use Rattle.sysv_queue.specs.Slot.{Slot}
 use Rattle.sysv_gated.specs.declared.slot.SlotCall.{SlotCall}
 use Rattle.sysv_gated.specs.declared.slot.SlotReply.{SlotReply}
 use Rattle.sysv_gated.specs.declared.registry.RegistryCall.{RegistryCall}
 use Rattle.sysv_gated.specs.declared.registry.RegistryReply.{RegistryReply}
 use Rattle.sysv_gated.specs.declared.pool.PoolCall.{PoolCall}
 use Rattle.sysv_gated.specs.declared.pool.PoolReply.{PoolReply}
-use Rattle.sysv_gated.specs.SlotTurns.{slot_counts, slot_call, slot_reply, SlotMoves}
-use Rattle.sysv_gated.specs.RegistryTurns.{registry_counts, registry_call, registry_reply, RegistryMoves}
-use Rattle.sysv_gated.specs.PoolTurns.{pool_counts, pool_call, pool_reply, PoolMoves}
-use Rattle.sysv_gated.specs.Seats.{Seats, SlotSeat, slot_entry, TakesTurn, MakesTurnAt}
+use Rattle.sysv_gated.specs.SlotTurns.{slot_counts, SlotMoves}
+use Rattle.sysv_gated.specs.RegistryTurns.{registry_counts, RegistryMoves}
+use Rattle.sysv_gated.specs.PoolTurns.{pool_counts, PoolMoves}
+use Rattle.sysv_gated.specs.Seats.{Seats}
 use Rattle.sysv_gated.specs.Answered.{SlotAnswers, RegistryAnswers, PoolAnswers}
 
 -- the last turn of a legal history is what the object's meaning allows after the turns before it

@@ -1,7 +1,7 @@
 -- What a seat has seen, as a history of the object.
 use Rattle.std.proofs.Common.{◌≡◌, ℕ, List, [], ◌∷◌, ◌++◌, refl, sym, ap, subst, ◌∙◌}
 use Rattle.std.proofs.lemmas.List.{append-nil, append_assoc}
-use Rattle.sysv_model.specs.History.{Seat, Entry, History}
+use Rattle.sysv_model.specs.History.{Seat, History}
 use Rattle.sysv_model.specs.Registry.{RegistryHistory}
 use Rattle.sysv_model.specs.Pool.{PoolHistory}
 use Rattle.sysv_queue.specs.Slot.{Slot}
@@ -11,7 +11,7 @@ use Rattle.sysv_pool.specs.StandsFor.{StandsFor as PoolStandsFor}
 use Rattle.sysv_queue.specs.StandsFor.{StandsFor as SlotStandsFor}
 use Rattle.sysv_gate.specs.declared.view.Turn.{Turn}
 use Rattle.sysv_gate.specs.History.{Moves, IsLegal, after_all}
-use Rattle.sysv_gate.specs.Gates.{Holding, made, saw}
+use Rattle.sysv_gate.specs.Gates.{Holding}
 use Rattle.sysv_gated.specs.declared.slot.SlotCall.{SlotCall}
 use Rattle.sysv_gated.specs.declared.slot.SlotReply.{SlotReply}
 use Rattle.sysv_gated.specs.declared.registry.RegistryCall.{RegistryCall}

@@ -1,9 +1,9 @@
 -- A turn raises the counts of its object by one at most, and the object then stands for some history.
-use Rattle.std.proofs.Common.{◌≡◌, ℕ, ◌+◌, ◌≤◌, Bool, true, false, cond, [], ◌∷◌, ◌++◌, ap, sym, subst, arith}
+use Rattle.std.proofs.Common.{◌≡◌, ◌+◌, ◌≤◌, Bool, true, false, cond, [], ◌∷◌, ◌++◌, ap, sym, subst, arith}
 use Rattle.std.proofs.lemmas.List.Sums.{sum_by-append}
-use Rattle.sysv_model.specs.History.{Actor, Call, Reply, Entry, History, announces_arrival, announces_room, arrived, freed, then_turn}
-use Rattle.sysv_model.specs.Registry.{RegistryCall, RegistryReply, RegistryEntry, RegistryHistory, changes_row, settled}
-use Rattle.sysv_model.specs.Pool.{PoolCall, PoolReply, PoolEntry, PoolHistory, frees, released}
+use Rattle.sysv_model.specs.History.{Actor, Call, Reply, Entry, announces_arrival, announces_room, arrived, freed, then_turn}
+use Rattle.sysv_model.specs.Registry.{RegistryCall, RegistryReply, RegistryEntry, changes_row, settled}
+use Rattle.sysv_model.specs.Pool.{PoolCall, PoolReply, PoolEntry, frees, released}
 use Rattle.sysv_queue.specs.Slot.{Slot}
 use Rattle.sysv_queue.specs.StandsFor.{MakesTurn as SlotMakesTurn}
 use Rattle.sysv_keys.specs.StandsFor.{Registry, MakesTurn as RegistryMakesTurn}

@@ -1,7 +1,6 @@
 -- A turn at the pool behind a gate: what the code's call and reply are in the pool's history (this profile's).
-use Rattle.std.specs.Prelude.{ℕ, ◌≡◌, Option, Some, None, Result, Ok, Err, [], ⊤}
+use Rattle.std.specs.Prelude.{ℕ, ◌≡◌, Some, None, Ok, Err, [], ⊤}
 use Rattle.sysv_model.specs.Pool.{PoolHistory, PoolCall, Reserve, Release, PoolReply, blocks_for}
-use Rattle.sysv_pool.specs.Chain.{Chained}
 use Rattle.sysv_pool.specs.Replies.{reserve_reply, release_reply}
 use Rattle.sysv_pool.specs.State.{State}
 use Rattle.sysv_pool.specs.StandsFor.{StandsFor, MakesTurn}

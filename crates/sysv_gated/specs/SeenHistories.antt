@@ -1,7 +1,7 @@
 -- What a seat has seen of an object is a history of it: the object stands for it, where it stood for no turn when its gate was
 -- opened. A turn of the seat's own is the last entry of what it then has seen, after all that it had seen and what others did
 -- (this profile's).
-use Rattle.std.specs.Prelude.{◌≡◌, ℕ, List, [], ◌∷◌, ◌++◌}
+use Rattle.std.specs.Prelude.{◌≡◌, ℕ, [], ◌∷◌, ◌++◌}
 use Rattle.sysv_model.specs.History.{Entry, History}
 use Rattle.sysv_model.specs.Registry.{RegistryEntry, RegistryHistory}
 use Rattle.sysv_model.specs.Pool.{PoolEntry, PoolHistory}

@@ -1,7 +1,6 @@
 -- A turn at a slot behind a gate: what the code's call and reply are in the slot's history (this profile's).
-use Rattle.std.specs.Prelude.{◌≡◌, ℕ, Result, Ok, Err, ⊤}
+use Rattle.std.specs.Prelude.{◌≡◌, ℕ, Ok, Err, ⊤}
 use Rattle.sysv_model.specs.History.{History, Call, Install, Probe, Look, Place, Take, ReadStat, Set, Remove, ReadRow, Reply, Installed, Shown}
-use Rattle.sysv_queue.specs.declared.slot.PlaceRefused.{PlaceRefused}
 use Rattle.sysv_queue.specs.Replies.{probe_reply, stat_reply, look_reply, place_reply, take_reply, set_reply, remove_reply}
 use Rattle.sysv_queue.specs.Blocks.{blocks_of}
 use Rattle.sysv_queue.specs.Slot.{Slot}

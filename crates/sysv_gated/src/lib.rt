@@ -15,3 +15,5 @@ pub mod registry;
 pub mod seats;
 pub mod sharing;
 pub mod slot;
+#[cfg(test)]
+mod tests;

@@ -10,6 +10,7 @@ ghost use Rattle.sysv_queue.specs.StandsFor.{StandsFor as SlotStandsFor};
 ghost use Rattle.sysv_gate.specs.Gates.{opened};
 ghost use Rattle.sysv_bank.specs.Banks.{gates_of};
 ghost use Rattle.sysv_gated.specs.Opened.{AreOpen, AreVacant, all_opened};
+ghost use Rattle.sysv_gated.specs.Seats.{AreOf};
 
 use crate::gates::Gates;
 use crate::pool::GatedPool;
@@ -55,6 +56,7 @@ impl Gates {
         generation: u32,
     ) -> Result<(Gates, Seats), GatesRefused>
         ensures open { IfOk result (λ o. AreOpen generation blocks first o.0 × (o.1 ≡ all_opened o.0)) }
+        ensures seats { IfOk result (λ o. AreOf o.0 o.1) }
         ensures bad_size { (result ≡ Err GatesRefused.BadSize) ↔ ((blocks < least_blocks) ⊎ (most_blocks < blocks) ⊎ (2 ^ 62 < first) ⊎ (GENERATION_LAST < generation)) }
     {
         if blocks < BLOCKS_LEAST
@@ -170,7 +172,7 @@ fn open_registry(
 }
 
 // Frees what is left of the gates of slots.
-fn end_slots(mut closings: Vec<Closing<GatedSlot>>) {
+pub(crate) fn end_slots(mut closings: Vec<Closing<GatedSlot>>) {
     while let Some(closing) = closings.pop() {
         let Closing {
             object,
@@ -188,7 +190,7 @@ fn end_slots(mut closings: Vec<Closing<GatedSlot>>) {
 }
 
 // Frees what is left of the gate of the pool.
-fn end_pool(closing: Closing<GatedPool>) {
+pub(crate) fn end_pool(closing: Closing<GatedPool>) {
     let Closing {
         object,
         rest,

@@ -1,0 +1,340 @@
+//! All objects behind their gates, called from one thread.
+
+ghost use Rattle.std.specs.Prelude.{◌≡◌, ◌≤◌, [], length};
+ghost use Rattle.sysv_model.specs.declared.limits.TheConstants.{MESSAGE_BYTES as most_bytes};
+ghost use Rattle.sysv_gated.specs.Seats.{AreOf};
+
+use crate::gates::{Gates, Worn};
+use crate::letter::Letter;
+use crate::opening::{GatesClosed, GatesRefused, end_pool, end_slots};
+use crate::seats::Seats;
+use crate::sharing::NoMemory;
+use bitflags::Flags as _;
+use std::alloc::Global;
+use std::process::Abort;
+use std::sync::Wait;
+use sysv_gate::Awaited;
+use sysv_keys::registry::Begun;
+use sysv_model::attributes::SetTo;
+use sysv_model::body::Body;
+use sysv_model::cred::Cred;
+use sysv_model::errno::Errno;
+use sysv_model::flags::Flags;
+use sysv_model::limits::{IPC_PRIVATE, MESSAGE_BYTES};
+use sysv_model::selector::Selector;
+use sysv_pool::chain::Chain;
+use sysv_queue::slot::{Look, Probe};
+use sysv_queue::tally::Tally;
+
+const LIMIT: u64 = 1 << 62;
+
+const USER: Cred = Cred {
+    uid: 1000,
+    gid: 1000,
+    pid: 101,
+};
+
+const TO: SetTo = SetTo {
+    uid: 1000,
+    gid: 1000,
+    mode: 0o600,
+    qbytes: 9,
+};
+
+/// IPC_CREAT and mode 0600.
+fn creating() -> Flags {
+    Flags::from_bits_retain(512 + 0o600)
+}
+
+/// Gates at 128 blocks and identifiers from the first generation on, whose tickets begin at `first`. Memory is refused once
+/// at most.
+fn gates_at(rt: &impl Abort, alloc: Global, first: u64) -> (Gates, Seats)
+    ensures { AreOf result.0 result.1 }
+{
+    match Gates::open_at(alloc, 128, first, 0) {
+        Ok(opened) => opened,
+        Err(why) => {
+            assert_eq!(rt; why, GatesRefused::NoMemory);
+            match Gates::open_at(alloc, 128, first, 0) {
+                Ok(opened) => opened,
+                Err(_) => panic!(rt; "a second try"),
+            }
+        }
+    }
+}
+
+/// A body without a text. Memory is refused once at most.
+fn empty_body(rt: &impl Abort, alloc: Global) -> Body
+    ensures { result ≡ [] }
+{
+    match Body::open(alloc) {
+        Ok(body) => body,
+        Err(_) => match Body::open(alloc) {
+            Ok(body) => body,
+            Err(_) => panic!(rt; "a second try"),
+        },
+    }
+}
+
+/// A letter with this text, in blocks of the pool.
+fn letter_of<R: Wait + Abort>(
+    rt: &R,
+    alloc: Global,
+    gates: &Gates,
+    seats: &mut Seats,
+    text: &[u8],
+) -> Letter
+    requires { AreOf gates.now seats.old }
+    ensures { AreOf gates.now seats.new }
+{
+    let mut body = empty_body(rt, alloc);
+    assert!(rt; body.push_piece(text));
+    assert!(rt; body.len() <= MESSAGE_BYTES);
+    match gates.reserve(rt, seats, body.len()) {
+        Ok(Some(chain)) => {
+            let letter = Letter::of(chain, &body);
+            assert_eq!(rt; letter.size(), text.len());
+            letter
+        }
+        Ok(None) => panic!(rt; "no blocks"),
+        Err(_) => panic!(rt; "worn"),
+    }
+}
+
+/// Places a letter of type 9 in the queue 1, and answers its number.
+fn placed<R: Wait + Abort>(rt: &R, gates: &Gates, seats: &mut Seats, letter: Letter) -> u64
+    requires { AreOf gates.now seats.old }
+    ensures { AreOf gates.now seats.new }
+{
+    match gates.place(rt, seats, 1, USER, 9, letter, 60) {
+        Ok(Ok(number)) => number,
+        Ok(Err(refused)) => {
+            refused.chain.end();
+            panic!(rt; "no room")
+        }
+        Err(letter) => {
+            letter.into_chain().end();
+            panic!(rt; "worn")
+        }
+    }
+}
+
+/// Releases a chain of the pool.
+fn give_back<R: Wait + Abort>(rt: &R, gates: &Gates, seats: &mut Seats, chain: Chain)
+    requires { AreOf gates.now seats.old }
+    ensures { AreOf gates.now seats.new }
+{
+    match gates.release(rt, seats, chain) {
+        Ok(Ok(())) => {}
+        Ok(Err(foreign)) => {
+            foreign.end();
+            panic!(rt; "a foreign chain");
+        }
+        Err(chain) => {
+            chain.end();
+            panic!(rt; "worn");
+        }
+    }
+}
+
+/// The turns at all slots, at the registry and at the pool. Each object has come back, and is freed.
+fn ended(rt: &impl Abort, closed: GatesClosed) -> (u64, u64, u64) {
+    let GatesClosed {
+        slots,
+        registry,
+        pool,
+    } = closed;
+    assert_eq!(rt; slots.len(), 64);
+    assert!(rt; slots.iter().all(|closing| closing.object.is_some()));
+    assert!(rt; registry.object.is_some());
+    assert!(rt; pool.object.is_some());
+    let at_slots = slots
+        .iter()
+        .fold(0, |turns: u64, closing| turns.wrapping_add(closing.turns));
+    let turns = (at_slots, registry.turns, pool.turns);
+    end_slots(slots);
+    end_pool(pool);
+    turns
+}
+
+#[test]
+fn a_key_is_made_settled_and_forgotten(rt: HostRuntime) {
+    let (gates, mut seats) = gates_at(&rt, rt.alloc(), 0);
+    let private = gates.begin(&rt, &mut seats, IPC_PRIVATE, creating());
+    assert_eq!(rt; private, Ok(Begun::Made { id: 0 }));
+    let made = gates.begin(&rt, &mut seats, 7, creating());
+    assert_eq!(rt; made, Ok(Begun::Made { id: 1 }));
+    assert_eq!(rt; gates.settle(&rt, &mut seats, 1), Ok(true));
+    assert_eq!(rt;
+        gates.await_settled(&rt, &mut seats, 1),
+        Awaited::Reached(1)
+    );
+    let found = gates.begin(&rt, &mut seats, 7, creating());
+    assert_eq!(rt; found, Ok(Begun::Found { id: 1, settled: 1 }));
+    assert_eq!(rt; gates.forget(&rt, &mut seats, 1), Ok(true));
+    assert_eq!(rt; gates.forget(&rt, &mut seats, 1), Ok(false));
+    assert_eq!(rt;
+        gates.await_settled(&rt, &mut seats, 2),
+        Awaited::Reached(2)
+    );
+    assert_eq!(rt; ended(&rt, gates.close(seats)), (0, 6, 0));
+}
+
+#[test]
+fn a_message_goes_through_its_slot(rt: HostRuntime) {
+    let (gates, mut seats) = gates_at(&rt, rt.alloc(), 5);
+    let made = gates.install(&rt, &mut seats, 1, 7, USER, 0o600, 50);
+    assert_eq!(rt; made, Ok(true));
+    let letter = letter_of(&rt, rt.alloc(), &gates, &mut seats, b"hello");
+    assert_eq!(rt; gates.look(&rt, &mut seats, 1, USER, 5), Ok(Look::Fits));
+    assert_eq!(rt; placed(&rt, &gates, &mut seats, letter), 0);
+    let arrived = gates.await_arrived(&rt, &mut seats, 1, 1);
+    assert_eq!(rt; arrived, Awaited::Reached(1));
+    let mut out = empty_body(&rt, rt.alloc());
+    match gates.take(&rt, &mut seats, 1, USER, Selector::Any, 9, false, 70) {
+        Ok(Ok(taken)) => {
+            let (delivery, chain) = taken.finish(9, &mut out);
+            assert_eq!(rt; (delivery.mtype(), delivery.sender()), (9, 101));
+            delivery.written(&mut Tally::open());
+            assert_eq!(rt; gates.released(&mut seats), 0);
+            give_back(&rt, &gates, &mut seats, chain);
+        }
+        Ok(Err(_)) => panic!(rt; "no message"),
+        Err(_) => panic!(rt; "worn"),
+    }
+    assert!(rt; out.block(0) == b"hello".as_slice());
+    let freed = gates.await_freed(&rt, &mut seats, 1, 1);
+    assert_eq!(rt; freed, Awaited::Reached(1));
+    assert_eq!(rt; gates.released(&mut seats), 1);
+    assert_eq!(rt;
+        gates.await_released(&rt, &mut seats, 1),
+        Awaited::Reached(1)
+    );
+    assert_eq!(rt; ended(&rt, gates.close(seats)), (4, 0, 2));
+}
+
+#[test]
+fn a_queue_is_told_changed_and_removed(rt: HostRuntime) {
+    let (gates, mut seats) = gates_at(&rt, rt.alloc(), 0);
+    let made = gates.install(&rt, &mut seats, 1, 7, USER, 0o600, 50);
+    assert_eq!(rt; made, Ok(true));
+    let letter = letter_of(&rt, rt.alloc(), &gates, &mut seats, b"hello");
+    assert_eq!(rt; placed(&rt, &gates, &mut seats, letter), 0);
+    let stat = gates.stat(&rt, &mut seats, 1, USER);
+    assert_eq!(rt; stat.map(|stat| stat.map(|stat| stat.cbytes)), Ok(Ok(5)));
+    assert_eq!(rt; gates.set(&rt, &mut seats, 1, USER, TO, 80), Ok(Ok(())));
+    let row = gates.row(&rt, &mut seats, 1);
+    assert_eq!(rt;
+        row.map(|row| row.map(|row| (row.key, row.qnum))),
+        Ok(Some((7, 1)))
+    );
+    assert_eq!(rt; gates.row(&rt, &mut seats, 0), Ok(None));
+    let granted = gates.probe(&rt, &mut seats, 1, USER, creating());
+    assert_eq!(rt; granted, Ok(Probe::Granted));
+    match gates.remove(&rt, &mut seats, 1, USER) {
+        Ok(Ok(discarded)) => {
+            let chain = discarded.into_chain();
+            assert_eq!(rt; chain.blocks(), 1);
+            give_back(&rt, &gates, &mut seats, chain);
+        }
+        Ok(Err(_)) => panic!(rt; "no removal"),
+        Err(_) => panic!(rt; "worn"),
+    }
+    let gone = gates.probe(&rt, &mut seats, 1, USER, creating());
+    assert_eq!(rt; gone, Ok(Probe::Gone));
+    let gone = gates.stat(&rt, &mut seats, 1, USER);
+    assert_eq!(rt; gone, Ok(Err(Errno::EINVAL)));
+    assert_eq!(rt; ended(&rt, gates.close(seats)), (10, 0, 2));
+}
+
+#[test]
+fn seats_are_split_and_joined(rt: HostRuntime) {
+    let (gates, mut seats) = gates_at(&rt, rt.alloc(), 100);
+    match gates.split(rt.alloc(), &mut seats) {
+        Ok(mut other) => {
+            let made = gates.install(&rt, &mut other, 0, 7, USER, 0o600, 50);
+            assert_eq!(rt; made, Ok(true));
+            let again = gates.install(&rt, &mut seats, 0, 7, USER, 0o600, 50);
+            assert_eq!(rt; again, Ok(false));
+            let made = gates.begin(&rt, &mut other, 7, creating());
+            assert_eq!(rt; made, Ok(Begun::Made { id: 0 }));
+            let busy = gates.begin(&rt, &mut seats, 7, creating());
+            assert_eq!(rt; busy, Ok(Begun::Busy { settled: 0 }));
+            match gates.reserve(&rt, &mut other, 65) {
+                Ok(Some(chain)) => assert_eq!(rt; chain.end(), 2),
+                Ok(None) => panic!(rt; "no blocks"),
+                Err(_) => panic!(rt; "worn"),
+            }
+            gates.join(&mut seats, other);
+            assert_eq!(rt; ended(&rt, gates.close(seats)), (2, 2, 1));
+        }
+        Err(NoMemory) => assert_eq!(rt; ended(&rt, gates.close(seats)), (0, 0, 0)),
+    }
+}
+
+#[test]
+fn what_is_out_of_range_is_refused(rt: HostRuntime) {
+    let refused = [
+        (127, 0, 0),
+        (65_537, 0, 0),
+        (128, LIMIT + 1, 0),
+        (128, 0, 33_554_432),
+        (127, LIMIT + 1, 33_554_432),
+    ];
+    for (blocks, first, generation) in refused {
+        match Gates::open_at(rt.alloc(), blocks, first, generation) {
+            Ok(_) => panic!(rt; "gates"),
+            Err(why) => assert_eq!(rt; why, GatesRefused::BadSize),
+        }
+    }
+}
+
+#[test]
+fn worn_gates_of_slots_serve_nothing(rt: HostRuntime) {
+    let (gates, mut seats) = gates_at(&rt, rt.alloc(), LIMIT);
+    let made = gates.install(&rt, &mut seats, 1, 7, USER, 0o600, 50);
+    assert_eq!(rt; made, Err(Worn));
+    let granted = gates.probe(&rt, &mut seats, 1, USER, creating());
+    assert_eq!(rt; granted, Err(Worn));
+    assert_eq!(rt; gates.look(&rt, &mut seats, 1, USER, 5), Err(Worn));
+    assert_eq!(rt; gates.stat(&rt, &mut seats, 1, USER), Err(Worn));
+    assert_eq!(rt; gates.set(&rt, &mut seats, 1, USER, TO, 80), Err(Worn));
+    assert_eq!(rt; gates.row(&rt, &mut seats, 1), Err(Worn));
+    match gates.take(&rt, &mut seats, 1, USER, Selector::Any, 9, false, 70) {
+        Err(Worn) => {}
+        Ok(_) => panic!(rt; "a turn"),
+    }
+    match gates.remove(&rt, &mut seats, 1, USER) {
+        Err(Worn) => {}
+        Ok(_) => panic!(rt; "a turn"),
+    }
+    let letter = Letter::of(Chain::empty(), &empty_body(&rt, rt.alloc()));
+    match gates.place(&rt, &mut seats, 1, USER, 9, letter, 60) {
+        Err(letter) => assert_eq!(rt; letter.into_chain().end(), 0),
+        Ok(_) => panic!(rt; "a turn"),
+    }
+    assert_eq!(rt; gates.await_arrived(&rt, &mut seats, 1, 1), Awaited::Worn);
+    assert_eq!(rt; gates.await_freed(&rt, &mut seats, 1, 1), Awaited::Worn);
+    assert_eq!(rt; ended(&rt, gates.close(seats)), (0, 0, 0));
+}
+
+#[test]
+fn worn_gates_of_registry_and_pool_serve_nothing(rt: HostRuntime) {
+    let (gates, mut seats) = gates_at(&rt, rt.alloc(), LIMIT);
+    let made = gates.begin(&rt, &mut seats, IPC_PRIVATE, creating());
+    assert_eq!(rt; made, Err(Worn));
+    assert_eq!(rt; gates.settle(&rt, &mut seats, 0), Err(Worn));
+    assert_eq!(rt; gates.forget(&rt, &mut seats, 0), Err(Worn));
+    assert_eq!(rt; gates.await_settled(&rt, &mut seats, 1), Awaited::Worn);
+    match gates.reserve(&rt, &mut seats, 65) {
+        Err(Worn) => {}
+        Ok(_) => panic!(rt; "a turn"),
+    }
+    match gates.release(&rt, &mut seats, Chain::empty()) {
+        Err(chain) => assert_eq!(rt; chain.end(), 0),
+        Ok(_) => panic!(rt; "a turn"),
+    }
+    assert_eq!(rt; gates.released(&mut seats), 0);
+    assert_eq!(rt; gates.await_released(&rt, &mut seats, 1), Awaited::Worn);
+    assert_eq!(rt; ended(&rt, gates.close(seats)), (0, 0, 0));
+}
