@@ -17,10 +17,18 @@ use Rattle.sysv_model.specs.Message.{Message}
 use Rattle.sysv_queue.specs.Replies.{remove_reply}
 use Rattle.sysv_pool.specs.Chain.{Chained}
 use Rattle.sysv_pool.specs.Replies.{reserve_reply, release_reply}
-use Rattle.sysv_steps.specs.State.{Getting, Sending, Receiving, Wait, OnSettled, OnFreed, OnReleased, OnArrived, Afterwards, IsRefused, WaitsOn, Phase, AtLook, AtTake, State, Goes, Waits, Over, Zero, Got, Id, Refused}
+use Rattle.sysv_steps.specs.State.{Getting, Sending, Receiving, Wait, OnSettled, OnFreed, OnReleased, OnArrived, Afterwards, IsRefused, WaitsOn, Phase, AtLook, AtTake, AtReceiveGiveback, State, Goes, Waits, Over, Zero, Got, Id, Refused}
 use Rattle.sysv_steps.specs.Next.{after_begin, after_install, after_settle, after_unmake, after_probe, waits_or, goes_on, is_full, after_look, after_reserve, after_place, after_take, after_remove, after_forget, after_giveback, wants_new}
 use Rattle.sysv_steps.specs.Resume.{resume}
-use Rattle.sysv_service.specs.Kinds.{Gets, IsShort, SendsAfterwards, Sends, Receives, Stats, Sets, Removes}
+use Rattle.sysv_queue.specs.declared.slot.TakeRefused.{TakeRefused}
+use Rattle.sysv_queue.specs.declared.slot.TakeRefused.TheVariants as refused
+use Rattle.sysv_queue.specs.Replies.{untaken_reply}
+use Rattle.sysv_steps.specs.declared.ending.Ending.TheVariants as ending
+use Rattle.sysv_steps.specs.declared.state.Phase.TheVariants as phase
+use Rattle.sysv_steps.specs.declared.state.State.{State as StateKept}
+use Rattle.sysv_steps.specs.declared.state.State.TheVariants as state
+use Rattle.sysv_steps.specs.Seen.{state_of}
+use Rattle.sysv_service.specs.Kinds.{IsSized, Gets, IsShort, SendsAfterwards, Sends, Receives, Stats, Sets, Removes}
 use Rattle.sysv_service.specs.Ran.{Pass}
 use Rattle.sysv_service.specs.Waited.{EndsWait}
 
@@ -36,7 +44,7 @@ ends_wait P wait before state after on still over (inl e) = elim e.3 [
   | inl is ↦ subst P (sym is.1) (on e.0)
   | inr is ↦ subst P (sym is) still
 ]
-ends_wait P wait before state after on still over (inr e) = subst P (sym e.1) (over _)
+ends_wait P wait before state after on still over (inr e) = subst P (sym e.4) (over _)
 
 -- ---- msgget
 
@@ -137,6 +145,45 @@ wait_receives (OnReleased goal send) value k = absurd k
 pub given_receives : (mtype : ℤ) (text : List ℕ) (done : Result ⊤ Chained) (s : State) → after_giveback (Over (Got mtype text)) (release_reply done) ≡ Some s → Receives s
 given_receives mtype text (Ok done) s e = lands Receives _ s e tt
 given_receives mtype text (Err chain) s e = lands Receives _ s e tt
+
+-- a receive that gives nothing
+abbrev pub GivesNothing : State → Type 0
+GivesNothing (Goes (AtReceiveGiveback blocks mtype text)) = ⊥
+GivesNothing (Over (Got mtype text)) = ⊥
+GivesNothing s = ⊤
+
+pub nothing_is_sized : (s : StateKept) (text : List ℕ) → GivesNothing (state_of s text) → IsSized s text
+nothing_is_sized (state.Goes (phase.ReceiveGiveback chain delivery)) text none = absurd none
+nothing_is_sized (state.Over (ending.Got delivery)) text none = absurd none
+nothing_is_sized (state.Goes p) text none = tt
+nothing_is_sized (state.Over e) text none = tt
+nothing_is_sized (state.Waits w) text none = tt
+
+waits_give_nothing : (nowait : Bool) (wait : Wait) (why : Errno) → GivesNothing (goes_on (waits_or nowait wait why))
+waits_give_nothing true wait why = tt
+waits_give_nothing false wait why = tt
+
+pub untaken_gives_nothing : (receive : Receiving) (why : TakeRefused) (s : State) → after_take receive (untaken_reply why) ≡ Some s → GivesNothing s
+untaken_gives_nothing receive refused.Gone s e = lands GivesNothing _ s e tt
+untaken_gives_nothing receive refused.Denied s e = lands GivesNothing _ s e tt
+untaken_gives_nothing receive (refused.NoMatch arrived) s e = lands GivesNothing _ s e (waits_give_nothing receive.nowait _ _)
+untaken_gives_nothing receive refused.TooLong s e = lands GivesNothing _ s e tt
+
+resumed_gives_nothing : (wait : Wait) (value : ℕ) → GivesNothing (Goes (resume wait value))
+resumed_gives_nothing (OnSettled goal get) value = tt
+resumed_gives_nothing (OnFreed goal send) value = tt
+resumed_gives_nothing (OnReleased goal send) value = tt
+resumed_gives_nothing (OnArrived goal receive) value = tt
+
+pub wait_gives_nothing : (wait : Wait) (before : Pass) (s : State) (after : Pass) → EndsWait wait before s after → GivesNothing s
+wait_gives_nothing wait before s after = ends_wait GivesNothing wait before s after (resumed_gives_nothing wait) tt (λ why. tt)
+
+begun_gives_nothing : (b : Bool) (receive : Receiving) → GivesNothing (if b then Over (Refused EINVAL) else Goes (AtTake receive))
+begun_gives_nothing true receive = tt
+begun_gives_nothing false receive = tt
+
+pub begin_gives_nothing : (cred : Cred) (id : ℤ) (size : ℕ) (mtype : ℤ) (flags : Flags) → GivesNothing (begin cred (Msgrcv id size mtype flags) 0)
+begin_gives_nothing cred id size mtype flags = begun_gives_nothing _ _
 
 -- ---- what goes back
 

@@ -1,7 +1,11 @@
 -- Where a call of each kind can stand, with what it holds there (this profile's).
-use Rattle.std.specs.Prelude.{◌≡◌, ◌≤◌, length, ⊤}
+use Rattle.std.specs.Prelude.{◌≡◌, ◌≤◌, ℕ, List, length, ⊤}
 use Rattle.sysv_model.specs.declared.limits.TheConstants.{MESSAGE_BYTES}
 use Rattle.sysv_model.specs.Pool.{blocks_for}
+use Rattle.sysv_steps.specs.declared.ending.Ending.TheVariants as ending
+use Rattle.sysv_steps.specs.declared.state.Phase.TheVariants as phase
+use Rattle.sysv_steps.specs.declared.state.State.{State as StateKept}
+use Rattle.sysv_steps.specs.declared.state.State.TheVariants as state
 use Rattle.sysv_steps.specs.State.{Sending, OnSettled, OnFreed, OnReleased, OnArrived, Afterwards, IsRefused, WaitsOn, AtBegin, AtInstall, AtSettle, AtProbe, AtUnmake, AtLook, AtReserve, AtPlace, AtSendGiveback, AtTake, AtReceiveGiveback, AtStat, AtSet, AtSetGiveback, AtRemove, AtForget, AtRemoveGiveback, Id, Zero, Got, Told, Refused, State, Goes, Waits, Over}
 
 -- a msgget
@@ -45,6 +49,12 @@ Receives (Waits (OnArrived goal receive)) = ⊤
 Receives (Over (Got mtype text)) = ⊤
 Receives (Over (Refused why)) = ⊤
 Receives state = ⊥
+
+-- what a receive gives is as long as its delivery says, and no longer than a message
+abbrev pub IsSized : StateKept → List ℕ → Type 0
+IsSized (state.Goes (phase.ReceiveGiveback chain delivery)) out = (delivery.len ≡ length out) × (length out ≤ MESSAGE_BYTES)
+IsSized (state.Over (ending.Got delivery)) out = (delivery.len ≡ length out) × (length out ≤ MESSAGE_BYTES)
+IsSized s out = ⊤
 
 -- the three commands of msgctl
 abbrev pub Stats : State → Type 0

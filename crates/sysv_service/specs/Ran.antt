@@ -1,12 +1,14 @@
 -- What a call of a pass did: the step table taken along the turns that the call made at the gates, each a turn of the pass's
 -- own, with the counts that it read between them (POSIX.1-2017, msgget, msgsnd, msgrcv and msgctl; the steps are this
 -- profile's).
-use Rattle.std.specs.Prelude.{◌≡◌, ℕ, ◌+◌, ◌<◌, ◌≤◌, ◌⊎◌, Bool, true, false, List, [], ◌∷◌, ◌++◌, Some}
+use Rattle.std.specs.Prelude.{◌≡◌, ℕ, ℤ, ◌+◌, ◌<◌, ◌≤◌, ◌⊎◌, Bool, true, false, List, [], ◌∷◌, ◌++◌, Some}
+use Rattle.sysv_model.specs.declared.errno.Errno.TheVariants.{EOVERFLOW, ENOSPC}
 use Rattle.sysv_model.specs.Pool.{Release, Foreign}
-use Rattle.sysv_model.specs.Turn.{Deed, AtPool, asked_by}
-use Rattle.sysv_steps.specs.State.{Phase, AtInstall, AtPlace, AtTake, AtSet, State, Wait, Goes, Waits, Over}
+use Rattle.sysv_model.specs.Registry.{Forget, Changed}
+use Rattle.sysv_model.specs.Turn.{Deed, AtRegistry, AtPool, OfRegistry, asked_by}
+use Rattle.sysv_steps.specs.State.{IsRefused, Phase, AtInstall, AtUnmake, AtPlace, AtSendGiveback, AtTake, AtReceiveGiveback, AtSet, AtSetGiveback, AtForget, AtRemoveGiveback, Zero, Got, Refused, State, Wait, Goes, Waits, Over}
 use Rattle.sysv_steps.specs.Asks.{asks}
-use Rattle.sysv_steps.specs.Next.{next}
+use Rattle.sysv_steps.specs.Next.{goes_on, gives_back, next}
 use Rattle.sysv_steps.specs.Resume.{Count, awaited, goal_of, resume}
 use Rattle.sysv_gated.specs.Seats.{Seats, MakesTurnAt, FindsWorn}
 use Rattle.sysv_gated.specs.Reading.{Reads, GivesUp}
@@ -43,6 +45,50 @@ pub record Steps (may : ℕ → Type 0) (phase : Phase) (before : Pass) (state :
   pub goes : next phase deed ≡ Some state
   pub makes : Makes before deed after
 
+-- ---- gates that are worn out
+
+-- Where a call stands after a step whose gate was found worn out. Most are refused. A send gives back its chain before; a call
+-- that only had a chain to give back, or an identifier to forget, goes on as if it had.
+abbrev pub when_worn : Phase → State
+when_worn (AtUnmake id) = Over (Refused ENOSPC)
+when_worn (AtPlace send blocks) = gives_back blocks (IsRefused EOVERFLOW)
+when_worn (AtSendGiveback blocks afterwards) = goes_on afterwards
+when_worn (AtReceiveGiveback blocks mtype text) = Over (Got mtype text)
+when_worn AtSetGiveback = Over Zero
+when_worn (AtForget id blocks) = Goes (AtRemoveGiveback blocks)
+when_worn (AtRemoveGiveback blocks) = Over Zero
+when_worn phase = Over (Refused EOVERFLOW)
+
+-- the blocks that the pass keeps then, since the pool's gate does not take them
+abbrev pub kept_when_worn : Phase → ℕ
+kept_when_worn (AtSendGiveback blocks afterwards) = blocks
+kept_when_worn (AtReceiveGiveback blocks mtype text) = blocks
+kept_when_worn (AtRemoveGiveback blocks) = blocks
+kept_when_worn phase = 0
+
+-- the identifier is forgotten, where the registry's gate is not worn out too
+abbrev pub Forgets : ℤ → Pass → List Deed → Pass → Type 0
+Forgets id before deeds after =
+    ((done : Bool) × (deeds ≡ AtRegistry (Forget id) (Changed done) ∷ []) × Makes before (AtRegistry (Forget id) (Changed done)) after)
+    ⊎ ((deeds ≡ []) × FindsWorn before.seats (OfRegistry (Forget id)) after.seats × (after.held ≡ before.held))
+
+-- what a call does where it found the gate of a step worn out: a queue that could not be installed has its identifier forgotten
+abbrev pub TurnsBack : Phase → Pass → List Deed → State → Pass → Type 0
+TurnsBack (AtInstall get id) before deeds state after = (state ≡ Over (Refused EOVERFLOW)) × Forgets id before deeds after
+TurnsBack phase before deeds state after =
+    (state ≡ when_worn phase) × (deeds ≡ []) × (after.seats ≡ before.seats) × (after.held ≡ before.held + kept_when_worn phase)
+
+-- a step of a call whose gate is worn out, with the turns that it made
+pub record FindsNoTurn (may : ℕ → Type 0) (phase : Phase) (before : Pass) (state : State) (after : Pass) : Type 0 where
+  pub deeds : List Deed
+  pub now : ℕ
+  pub moment : is_stamped phase ≡ true → may now
+  pub there : Seats
+  pub worn : FindsWorn before.seats (asks phase now) there
+  pub back : TurnsBack phase (record before { seats = there }) deeds state after
+
+-- ---- calls
+
 -- The call that stood at `from` with this pass has made these turns, and stands there with that pass now
 pub data Ran (may : ℕ → Type 0) (from : State) (old : Pass) : List Deed → State → Pass → Type 0 where
   -- it has made no step
@@ -51,6 +97,10 @@ pub data Ran (may : ℕ → Type 0) (from : State) (old : Pass) : List Deed → 
   steps : {deeds : List Deed} {phase : Phase} {mid : Pass} (state : State) (new : Pass) →
       Ran may from old deeds (Goes phase) mid → (step : Steps may phase mid state new) →
       Ran may from old (deeds ++ step.deed ∷ []) state new
+  -- it found the gate of a step worn out
+  turns_back : {deeds : List Deed} {phase : Phase} {mid : Pass} (state : State) (new : Pass) →
+      Ran may from old deeds (Goes phase) mid → (step : FindsNoTurn may phase mid state new) →
+      Ran may from old (deeds ++ step.deeds) state new
   -- it read a count
   reads : {deeds : List Deed} {state : State} {mid : Pass} (count : Count) (value : ℕ) (new : Pass) →
       Ran may from old deeds state mid → Reads count value mid.seats new.seats → new.held ≡ mid.held →
@@ -59,25 +109,19 @@ pub data Ran (may : ℕ → Type 0) (from : State) (old : Pass) : List Deed → 
   resumes : {deeds : List Deed} {wait : Wait} {mid : Pass} (value : ℕ) (new : Pass) →
       Ran may from old deeds (Waits wait) mid → goal_of wait ≤ value → Reads (awaited wait) value mid.seats new.seats → new.held ≡ mid.held →
       Ran may from old deeds (Goes (resume wait value)) new
+  -- it read the count for which it waited, found it below its goal, and the gate of its object worn out
+  gives_up : {deeds : List Deed} {wait : Wait} {mid : Pass} (value : ℕ) (new : Pass) →
+      Ran may from old deeds (Waits wait) mid → value < goal_of wait → GivesUp (awaited wait) value mid.seats new.seats → new.held ≡ mid.held →
+      Ran may from old deeds (Over (Refused EOVERFLOW)) new
 
--- the gate of the object at which a call is to make its next step, or which has the count for which it waits, is worn out
-abbrev pub FindsNoTurn : State → Seats → Type 0
-FindsNoTurn (Goes phase) seats = (now : ℕ) × (after : Seats) × FindsWorn seats (asks phase now) after
-FindsNoTurn (Waits wait) seats = (value : ℕ) × (after : Seats) × (value < goal_of wait) × GivesUp (awaited wait) value seats after
-FindsNoTurn (Over ending) seats = ⊥
-
--- the call came to a gate that is worn out
-abbrev pub MetWorn : (ℕ → Type 0) → State → Pass → Type 0
-MetWorn may from old = (deeds : List Deed) × (state : State) × (mid : Pass) × Ran may from old deeds state mid × FindsNoTurn state mid.seats
-
--- the call stands there now, or it has met a worn gate
+-- the call stands there now
 abbrev pub Comes : (ℕ → Type 0) → State → Pass → State → Pass → Type 0
-Comes may from old state new = ((deeds : List Deed) × Ran may from old deeds state new) ⊎ MetWorn may from old
+Comes may from old state new = (deeds : List Deed) × Ran may from old deeds state new
 
 -- what a clock may answer to a step that asks it for no moment
 abbrev pub no_moment : ℕ → Type 0
 no_moment now = ⊥
 
--- one step, or a worn gate in its place
+-- one step of a call
 abbrev pub StepsOn : (ℕ → Type 0) → Phase → Pass → State → Pass → Type 0
-StepsOn may phase before state after = Steps may phase before state after ⊎ FindsNoTurn (Goes phase) before.seats
+StepsOn may phase before state after = Steps may phase before state after ⊎ FindsNoTurn may phase before state after

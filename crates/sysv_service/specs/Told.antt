@@ -1,6 +1,7 @@
 -- What a call of the service answers, by how the call ended (this profile's).
-use Rattle.std.specs.Prelude.{◌≡◌, ◌<◌, ◌≤◌, ◌⊎◌, Option, ℕ, ℤ, List, [], Result, Ok, Err, ⊤}
+use Rattle.std.specs.Prelude.{◌≡◌, ◌<◌, ◌≤◌, ◌⊎◌, Option, ℕ, ℤ, List, [], length, Result, Ok, Err, ⊤}
 use Rattle.sysv_model.specs.declared.errno.Errno.{Errno}
+use Rattle.sysv_model.specs.declared.limits.TheConstants.{MESSAGE_BYTES}
 use Rattle.sysv_model.specs.declared.attributes.Stat.{Stat}
 use Rattle.sysv_model.specs.declared.errno.Errno.TheVariants.{EINVAL, EOVERFLOW}
 use Rattle.sysv_model.specs.declared.attributes.Row.{Row}
@@ -27,9 +28,9 @@ TellsStat (Told stat) (Ok told) = told ≡ stat
 TellsStat (Refused why) (Err told) = told ≡ why
 TellsStat ending result = ⊥
 
--- what is given: the message's type, and its text, which is in the body; after a refusal the body is empty
+-- what is given: the message's type, and its text, which is in the body, with its length; after a refusal the body is empty
 abbrev pub TellsGot : Ending → Result Given Errno → List ℕ → Type 0
-TellsGot (Got mtype text) (Ok told) out = (told.mtype ≡ mtype) × (out ≡ text)
+TellsGot (Got mtype text) (Ok told) out = (told.mtype ≡ mtype) × (told.len ≡ length out) × (length out ≤ MESSAGE_BYTES) × (out ≡ text)
 TellsGot (Refused why) (Err told) out = (told ≡ why) × (out ≡ [])
 TellsGot ending result out = ⊥
 

@@ -8,7 +8,7 @@ ghost use Rattle.sysv_steps.specs.State.{AtTake, AtReceiveGiveback, Goes, Over, 
 ghost use Rattle.sysv_steps.specs.Seen.{phase_of, state_of, ending_of, receiving};
 ghost use Rattle.sysv_gated.specs.Seats.{AreOf};
 ghost use Rattle.sysv_service.specs.Ran.{StepsOn, no_moment, Comes};
-ghost use Rattle.sysv_service.specs.Kinds.{Receives};
+ghost use Rattle.sysv_service.specs.Kinds.{Receives, IsSized};
 ghost use Rattle.sysv_service.specs.Told.{TellsGot};
 
 use crate::clock::Clock;
@@ -68,8 +68,10 @@ impl Service {
     ) -> State
         requires pass { AreOf self.now pass.old.seats }
         requires receives { Receives (Goes (phase_of phase out.old)) }
+        requires sized { IsSized (State.Goes phase) out.old }
         ensures pass { AreOf self.now pass.new.seats }
         ensures receives { Receives (state_of result out.new) }
+        ensures sized { IsSized result out.new }
         ensures steps { StepsOn (C.may clock.now) (phase_of phase out.old) pass.old (state_of result out.new) pass.new }
     {
         match phase {
@@ -94,6 +96,7 @@ impl Service {
         requires { AreOf self.now pass.old.seats }
         ensures pass { AreOf self.now pass.new.seats }
         ensures receives { Receives (state_of result out.new) }
+        ensures sized { IsSized result out.new }
         ensures steps { StepsOn (C.may clock.now) (AtTake (receiving receive)) pass.old (state_of result out.new) pass.new }
     {
         let Receiving {
@@ -118,7 +121,8 @@ impl Service {
 
 /// The answer of a receive. After a refusal the body is emptied.
 fn given_of(ending: Ending, out: &mut Body) -> Result<Delivery, Errno>
-    requires { Receives (Over (ending_of ending out.old)) }
+    requires receives { Receives (Over (ending_of ending out.old)) }
+    requires sized { IsSized (State.Over ending) out.old }
     ensures { TellsGot (ending_of ending out.old) result out.new }
 {
     match ending {

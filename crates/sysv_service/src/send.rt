@@ -6,8 +6,10 @@ ghost use Rattle.sysv_steps.specs.Call.{Msgsnd};
 ghost use Rattle.sysv_steps.specs.Begin.{begin as begins};
 ghost use Rattle.sysv_steps.specs.State.{AtLook, AtReserve, AtPlace, Goes, Over, Ending as Ends};
 ghost use Rattle.sysv_steps.specs.Seen.{phase_of, state_of, sending};
+ghost use Rattle.sysv_steps.specs.Resume.{Released};
 ghost use Rattle.sysv_gated.specs.Seats.{AreOf};
-ghost use Rattle.sysv_service.specs.Ran.{StepsOn, no_moment, Comes};
+ghost use Rattle.sysv_gated.specs.Reading.{Reads};
+ghost use Rattle.sysv_service.specs.Ran.{Pass as Seen, StepsOn, no_moment, Comes};
 ghost use Rattle.sysv_service.specs.Kinds.{Sends, IsShort};
 ghost use Rattle.sysv_service.specs.Told.{TellsZero};
 
@@ -44,10 +46,30 @@ impl Service {
     ) -> Result<(), Errno>
         requires { AreOf self.now pass.old.seats }
         ensures pass { AreOf self.now pass.new.seats }
-        ensures ran { (released : ℕ) × (ending : Ends) × Comes (C.may clock.now) (begins cred (Msgsnd id mtype flags text.now) released) pass.old (Over ending) pass.new × TellsZero ending result }
+        // Its start is the reading of the released count.
+        ensures ran { (released : ℕ) × (mid : Seen) × Reads Released released pass.old.seats mid.seats × (mid.held ≡ pass.old.held)
+            × (ending : Ends) × Comes (C.may clock.now) (begins cred (Msgsnd id mtype flags text.now) released) mid (Over ending) pass.new × TellsZero ending result }
     {
         let released = self.gates.released(&mut pass.seats);
-        let mut state = Sending::begin(cred, id, mtype, flags, text.len(), released);
+        let begun = Sending::begin(cred, id, mtype, flags, text.len(), released);
+        self.send(rt, pass, clock, text, begun)
+    }
+
+    /// A send that has begun, to its end.
+    fn send<C: Clock>(
+        &self,
+        rt: &impl MayWait,
+        pass: &mut Pass,
+        clock: &C,
+        text: &Body,
+        begun: State,
+    ) -> Result<(), Errno>
+        requires pass { AreOf self.now pass.old.seats }
+        requires sends { Sends (state_of begun text.now) }
+        ensures pass { AreOf self.now pass.new.seats }
+        ensures ran { (ending : Ends) × Comes (C.may clock.now) (state_of begun text.now) pass.old (Over ending) pass.new × TellsZero ending result }
+    {
+        let mut state = begun;
         for _ in rt.forever() {
             state = match state {
                 State::Goes(phase) => self.send_step(rt, pass, clock, text, phase),
@@ -114,7 +136,7 @@ impl Service {
         }
     }
 
-    /// The text is copied into the chain just before its place. Where the gate is worn out the chain is given back.
+    /// The text is copied into the chain just before its place. Where the gate is worn out the chain is to be given back.
     fn place<C: Clock>(
         &self,
         rt: &impl MayWait,
@@ -143,10 +165,10 @@ impl Service {
         ) {
             Ok(Ok(_number)) => Sending::placed(),
             Ok(Err(PlaceRefused { why, chain })) => send.unplaced(why, chain),
-            Err(letter) => {
-                self.give_back(rt, pass, letter.into_chain());
-                overflow()
-            }
+            Err(letter) => State::Goes(Phase::SendGiveback {
+                chain: letter.into_chain(),
+                afterwards: Afterwards::Refused(Errno::EOVERFLOW),
+            }),
         }
     }
 }

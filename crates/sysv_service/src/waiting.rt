@@ -1,19 +1,14 @@
 //! What all calls share: waits, chains that go back, and gates that are worn out.
 
-ghost use Rattle.std.specs.Prelude.{◌≡◌, ◌+◌, ◌⊎◌, ℕ, List, [], Result, ⊤};
-ghost use Rattle.sysv_model.specs.Pool.{Release};
-ghost use Rattle.sysv_model.specs.Turn.{AtPool, OfPool};
-ghost use Rattle.sysv_pool.specs.Chain.{Chained};
-ghost use Rattle.sysv_pool.specs.Replies.{release_reply};
+ghost use Rattle.std.specs.Prelude.{◌≡◌, ◌+◌, ℕ, List, []};
 ghost use Rattle.sysv_steps.specs.Resume.{awaited, goal_of};
 ghost use Rattle.sysv_steps.specs.Seen.{wait_of, state_of, ending_of};
-ghost use Rattle.sysv_gated.specs.Seats.{AreOf, FindsWorn, Seats as SeatsSeen};
+ghost use Rattle.sysv_gated.specs.Seats.{AreOf};
 ghost use Rattle.sysv_gated.specs.Reading.{Awaits};
-ghost use Rattle.sysv_service.specs.Ran.{Makes};
 ghost use Rattle.sysv_steps.specs.State.{Over};
 ghost use Rattle.sysv_service.specs.Kinds.{EndsInZero};
 ghost use Rattle.sysv_service.specs.Told.{TellsZero};
-ghost use Rattle.sysv_service.specs.Waited.{EndsWait, goal_seen};
+ghost use Rattle.sysv_service.specs.Waited.{EndsWait, GivesBack, goal_seen};
 
 use crate::pass::Pass;
 use crate::service::Service;
@@ -50,8 +45,7 @@ impl Service {
     pub(crate) fn give_back(&self, rt: &impl MayWait, pass: &mut Pass, chain: Chain)
         requires { AreOf self.now pass.old.seats }
         ensures pass { AreOf self.now pass.new.seats }
-        ensures released { ((done : Result ⊤ Chained) × Makes pass.old (AtPool (Release chain.blocks) (release_reply done)) pass.new)
-            ⊎ ((after : SeatsSeen) × FindsWorn pass.old.seats (OfPool (Release chain.blocks)) after) }
+        ensures released { GivesBack chain.blocks pass.old pass.new }
     {
         match self.gates.release(rt, &mut pass.seats, chain) {
             Ok(Ok(())) => {}

@@ -66,7 +66,8 @@ impl Receiving {
     /// Where the receive stands after it took a message, and its driver copied as much of the text as is
     /// wanted: it gives the message's chain back.
     pub fn given(self, delivery: Delivery, chain: Chain) -> State
-        ensures { (m : Message) (text : List ℕ) → Gives delivery m self.size text → chain.blocks ≡ blocks_for (length m.bytes) → follows_take (receiving self) (Taken m) ≡ Some (state_of result text) }
+        ensures next { (m : Message) (text : List ℕ) → Gives delivery m self.size text → chain.blocks ≡ blocks_for (length m.bytes) → follows_take (receiving self) (Taken m) ≡ Some (state_of result text) }
+        ensures kept { result ≡ State.Goes (Phase.ReceiveGiveback chain delivery) }
     {
         State::Goes(Phase::ReceiveGiveback { chain, delivery })
     }
@@ -74,7 +75,8 @@ impl Receiving {
     /// Where a receive stands after the chain of its message was released, or was refused by the pool as
     /// that of another: at its end with the message.
     pub fn given_back(delivery: Delivery) -> State
-        ensures { (text : List ℕ) (done : Result ⊤ Chained) → follows_giveback (Over (Got delivery.mtype text)) (release_reply done) ≡ Some (state_of result text) }
+        ensures next { (text : List ℕ) (done : Result ⊤ Chained) → follows_giveback (Over (Got delivery.mtype text)) (release_reply done) ≡ Some (state_of result text) }
+        ensures kept { result ≡ State.Over (Ending.Got delivery) }
     {
         State::Over(Ending::Got { delivery })
     }

@@ -12,7 +12,7 @@ pub lead-requires-clause-held : goal.lead-requires-clause-held
 lead-requires-clause-held c =
     let done = c.release.ensures.0 in
     held_next Receives (AtReceiveGiveback c.args.chain.blocks c.args.delivery.mtype c.args.body) (AtPool (Release c.args.chain.blocks) (release_reply done)) _ (Some c.args.body) (received c.args.body) tt refl
-    (c.given_back.ensures c.args.body done)
+    (c.given_back.ensures.next c.args.body done)
 
 pub returns : goal.returns
 returns c =
@@ -22,6 +22,6 @@ returns c =
       state = state_of c.given_back.result c.args.body;
       asked = refl;
       turn = c.release.ensures.1;
-      goes = c.given_back.ensures c.args.body done;
+      goes = c.given_back.ensures.next c.args.body done;
       leads = c.lead.ensures;
     }

@@ -1,4 +1,4 @@
-use Rattle.std.proofs.Common.{length, refl, sym, subst, rules, arith, FitsSigned, w32, ◌≡◌}
+use Rattle.std.proofs.Common.{ap, length, refl, sym, subst, rules, arith, FitsSigned, w32, ◌≡◌}
 use Rattle.std.proofs.lemmas.Int.{to_z-of_z}
 use Rattle.sysv_keys.specs.Identifier.{slot_of_id}
 use Rattle.sysv_model.specs.Turn.{AtSlot}
@@ -35,5 +35,5 @@ returns-clause-steps g c =
       | in-Err w ↦
           let worn_told = err_of c.look.result _ _ w.in-Err.is c.look.ensures.worn in
           let worn = simp to_z-of_z at worn_told in
-          subst (λ s. StepsOn no_moment phase before (state_of s c.args.text.now) after) (sym w.result-is) (met no_moment phase before (state_of w.overflow.result c.args.text.now) after 0 c.look.new.seats worn)
+          subst (λ s. StepsOn no_moment phase before (state_of s c.args.text.now) after) (sym w.result-is) (met no_moment phase before (state_of w.overflow.result c.args.text.now) after 0 (λ e. absurd cc) worn (ap (λ s. state_of s c.args.text.now) w.overflow.ensures, refl, refl, omega arith))
     ])

@@ -1,11 +1,11 @@
-use Rattle.std.proofs.Common.{[], true, Ok, refl, sym, subst, rules, arith, FitsSigned, w32}
+use Rattle.std.proofs.Common.{◌≡◌, ap, [], true, Ok, refl, sym, subst, rules, arith, FitsSigned, w32}
 use Rattle.std.proofs.lemmas.Int.{to_z-of_z}
 use Rattle.sysv_keys.specs.Identifier.{slot_of_id}
 use Rattle.sysv_model.specs.Turn.{AtSlot, AtRegistry}
 use Rattle.sysv_model.specs.History.{Remove}
 use Rattle.sysv_model.specs.Registry.{Forget, Changed}
 use Rattle.sysv_queue.specs.Replies.{remove_reply}
-use Rattle.sysv_steps.specs.State.{AtRemove, AtForget, AtRemoveGiveback}
+use Rattle.sysv_steps.specs.State.{Goes, AtRemove, AtForget, AtRemoveGiveback}
 use Rattle.sysv_steps.specs.Seen.{phase_of, state_of}
 use Rattle.sysv_service.specs.Ran.{Pass, StepsOn, no_moment}
 use Rattle.sysv_service.specs.Kinds.{Removes}
@@ -39,7 +39,7 @@ returns-after-remove-clause-steps g c =
       | in-Err w ↦
           let worn_told = err_of c.remove.result _ _ w.in-Err.is c.remove.ensures.worn in
           let worn = simp to_z-of_z at worn_told in
-          subst (λ s. StepsOn no_moment phase before (state_of s []) after) (sym w.result-is) (met no_moment phase before (state_of w.overflow.result []) after 0 c.remove.new.seats worn)
+          subst (λ s. StepsOn no_moment phase before (state_of s []) after) (sym w.result-is) (met no_moment phase before (state_of w.overflow.result []) after 0 (λ e. absurd cc) worn (ap (λ s. state_of s []) w.overflow.ensures, refl, refl, omega arith))
     ]))
 
 pub returns-in-Forget-clause-removes : goal.returns-in-Forget-clause-removes
@@ -51,6 +51,7 @@ returns-in-Forget-clause-steps g c =
     let after : Pass = record { seats = c.forget.new.seats; held = c.pass-in-Forget.inside.held.blocks } in
     let phase = AtForget c.in-Forget.id c.in-Forget.chain.blocks in
     let id : FitsSigned w32 c.in-Forget.id = search rules in
+    let goes_on : state_of c.forgotten.result [] ≡ Goes (AtRemoveGiveback c.in-Forget.chain.blocks) = let on = c.forgotten.ensures [] true in cc in
     subst (λ p. StepsOn no_moment (phase_of p []) c.args.pass.now (state_of c.forgotten.result []) after) (sym c.in-Forget.is)
     (subst (λ b. StepsOn no_moment phase b (state_of c.forgotten.result []) after) c.pass-in-Forget.view_is
     (by_result c.forget.result _ (
@@ -58,7 +59,7 @@ returns-in-Forget-clause-steps g c =
     let told = ok_of c.forget.result _ done is c.forget.ensures.ok in
     let turn = simp to_z-of_z at told in
     stepped no_moment phase before (state_of c.forgotten.result []) after (AtRegistry (Forget c.in-Forget.id) (Changed done)) 0 (λ e. absurd cc) refl (c.forgotten.ensures [] done) turn (omega arith)
-    ) (λ e is. met no_moment phase before (state_of c.forgotten.result []) after 0 c.forget.new.seats (err_of c.forget.result _ e is c.forget.ensures.worn))))
+    ) (λ e is. met no_moment phase before (state_of c.forgotten.result []) after 0 (λ e. absurd cc) (err_of c.forget.result _ e is c.forget.ensures.worn) (goes_on, refl, refl, omega arith))))
 
 pub returns-in-RemoveGiveback-clause-removes : goal.returns-in-RemoveGiveback-clause-removes
 returns-in-RemoveGiveback-clause-removes g c = given_zero Removes (Ok tt) _ tt (c.given_back.ensures [] (Ok tt))
@@ -66,4 +67,4 @@ returns-in-RemoveGiveback-clause-removes g c = given_zero Removes (Ok tt) _ tt (
 pub returns-in-RemoveGiveback-clause-steps : goal.returns-in-RemoveGiveback-clause-steps
 returns-in-RemoveGiveback-clause-steps g c =
     subst (λ p. StepsOn no_moment (phase_of p []) c.args.pass.now (state_of c.given_back.result []) c.give_back.new.pass) (sym c.in-RemoveGiveback.is)
-    (given no_moment (AtRemoveGiveback c.in-RemoveGiveback.chain.blocks) c.args.pass.now (state_of c.given_back.result []) c.give_back.new.pass c.in-RemoveGiveback.chain.blocks refl refl (λ done. c.given_back.ensures [] done) c.give_back.ensures.released)
+    (given no_moment (AtRemoveGiveback c.in-RemoveGiveback.chain.blocks) c.args.pass.now (state_of c.given_back.result []) c.give_back.new.pass c.in-RemoveGiveback.chain.blocks refl refl (λ done. c.given_back.ensures [] done) (λ held. (let on = c.given_back.ensures [] (Ok tt) in cc, refl, refl, held)) c.give_back.ensures.released)

@@ -1,4 +1,4 @@
-use Rattle.std.proofs.Common.{length, refl, sym, subst, arith, ◌≡◌}
+use Rattle.std.proofs.Common.{ap, length, refl, sym, subst, arith, ◌≡◌}
 use Rattle.sysv_model.specs.Turn.{AtPool}
 use Rattle.sysv_model.specs.Pool.{Reserve}
 use Rattle.sysv_pool.specs.Replies.{reserve_reply}
@@ -24,5 +24,5 @@ returns-clause-steps g c =
       | in-Err w ↦
           let worn_told = err_of c.reserve.result _ _ w.in-Err.is c.reserve.ensures.worn in
           let worn = worn_told in
-          subst (λ s. StepsOn no_moment phase before (state_of s c.args.text.now) after) (sym w.result-is) (met no_moment phase before (state_of w.overflow.result c.args.text.now) after 0 c.reserve.new.seats worn)
+          subst (λ s. StepsOn no_moment phase before (state_of s c.args.text.now) after) (sym w.result-is) (met no_moment phase before (state_of w.overflow.result c.args.text.now) after 0 (λ e. absurd cc) worn (ap (λ s. state_of s c.args.text.now) w.overflow.ensures, refl, refl, omega arith))
     ])

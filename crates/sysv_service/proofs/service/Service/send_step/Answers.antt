@@ -15,4 +15,4 @@ returns-in-SendGiveback-clause-sends g c =
 pub returns-in-SendGiveback-clause-steps : goal.returns-in-SendGiveback-clause-steps
 returns-in-SendGiveback-clause-steps g c =
     subst (λ p. StepsOn (g.C.Clock.may c.args.clock.now) (phase_of p c.args.text.now) c.args.pass.now (state_of c.given_back.result c.args.text.now) c.give_back.new.pass) (sym c.in-SendGiveback.is)
-    (given (g.C.Clock.may c.args.clock.now) (AtSendGiveback c.in-SendGiveback.chain.blocks (afterwards_of c.in-SendGiveback.afterwards c.args.text.now)) c.args.pass.now (state_of c.given_back.result c.args.text.now) c.give_back.new.pass c.in-SendGiveback.chain.blocks refl refl (λ done. c.given_back.ensures c.args.text.now done) c.give_back.ensures.released)
+    (given (g.C.Clock.may c.args.clock.now) (AtSendGiveback c.in-SendGiveback.chain.blocks (afterwards_of c.in-SendGiveback.afterwards c.args.text.now)) c.args.pass.now (state_of c.given_back.result c.args.text.now) c.give_back.new.pass c.in-SendGiveback.chain.blocks refl refl (λ done. c.given_back.ensures c.args.text.now done) (λ held. (let on = c.given_back.ensures c.args.text.now (Ok tt) in cc, refl, refl, held)) c.give_back.ensures.released)

@@ -31,7 +31,7 @@ returns-after-set-clause-steps g c =
       | in-Err w ↦
           let worn_told = err_of c.set.result _ _ w.in-Err.is c.set.ensures.worn in
           let worn = simp to_z-of_z at worn_told in
-          subst (λ s. StepsOn (g.C.Clock.may c.args.clock.now) phase before (state_of s []) after) (sym w.result-is) (met (g.C.Clock.may c.args.clock.now) phase before (state_of w.overflow.result []) after c.now-now.result c.set.new.seats worn)
+          subst (λ s. StepsOn (g.C.Clock.may c.args.clock.now) phase before (state_of s []) after) (sym w.result-is) (met (g.C.Clock.may c.args.clock.now) phase before (state_of w.overflow.result []) after c.now-now.result (λ e. c.now-now.ensures) worn (ap (λ s. state_of s []) w.overflow.ensures, refl, refl, omega arith))
     ]))
 
 pub returns-in-SetGiveback-clause-sets : goal.returns-in-SetGiveback-clause-sets
@@ -40,4 +40,4 @@ returns-in-SetGiveback-clause-sets g c = given_zero Sets (Ok tt) _ tt (c.given_b
 pub returns-in-SetGiveback-clause-steps : goal.returns-in-SetGiveback-clause-steps
 returns-in-SetGiveback-clause-steps g c =
     subst (λ p. StepsOn (g.C.Clock.may c.args.clock.now) (phase_of p []) c.args.pass.now (state_of c.given_back.result []) c.give_back.new.pass) (sym c.in-SetGiveback.is)
-    (given (g.C.Clock.may c.args.clock.now) (AtSetGiveback) c.args.pass.now (state_of c.given_back.result []) c.give_back.new.pass 0 refl refl (λ done. c.given_back.ensures [] done) (let none : c.empty.result.blocks ≡ 0 = ap (λ (x : Chained). x.blocks) c.empty.ensures in simp none at c.give_back.ensures.released))
+    (given (g.C.Clock.may c.args.clock.now) (AtSetGiveback) c.args.pass.now (state_of c.given_back.result []) c.give_back.new.pass 0 refl refl (λ done. c.given_back.ensures [] done) (λ held. (let on = c.given_back.ensures [] (Ok tt) in cc, refl, refl, held)) (let none : c.empty.result.blocks ≡ 0 = ap (λ (x : Chained). x.blocks) c.empty.ensures in simp none at c.give_back.ensures.released))

@@ -1,4 +1,4 @@
-use Rattle.std.proofs.Common.{[], true, refl, sym, subst, rules, arith, FitsSigned, w32}
+use Rattle.std.proofs.Common.{ap, [], true, refl, sym, subst, rules, arith, FitsSigned, w32}
 use Rattle.std.proofs.lemmas.Int.{to_z-of_z}
 use Rattle.sysv_model.specs.Turn.{AtRegistry}
 use Rattle.sysv_model.specs.Registry.{Settle, Changed}
@@ -33,5 +33,5 @@ returns-clause-steps g c =
       | in-Err w ↦
           let worn_told = err_of c.settle.result _ _ w.in-Err.is c.settle.ensures.worn in
           let worn = worn_told in
-          subst (λ s. StepsOn no_moment phase before (state_of s []) after) (sym w.result-is) (met no_moment phase before (state_of w.overflow.result []) after 0 c.settle.new.seats worn)
+          subst (λ s. StepsOn no_moment phase before (state_of s []) after) (sym w.result-is) (met no_moment phase before (state_of w.overflow.result []) after 0 (λ e. absurd cc) worn (ap (λ s. state_of s []) w.overflow.ensures, refl, refl, omega arith))
     ])

@@ -1,4 +1,4 @@
-use Rattle.std.proofs.Common.{[], refl, sym, subst, rules, arith, FitsSigned, w32}
+use Rattle.std.proofs.Common.{ap, [], refl, sym, subst, rules, arith, FitsSigned, w32}
 use Rattle.std.proofs.lemmas.Int.{to_z-of_z}
 use Rattle.sysv_keys.specs.Identifier.{slot_of_id}
 use Rattle.sysv_model.specs.Turn.{AtSlot}
@@ -28,5 +28,5 @@ returns-clause-steps g c =
       | in-Err w ↦
           let worn_told = err_of c.stat.result _ _ w.in-Err.is c.stat.ensures.worn in
           let worn = simp to_z-of_z at worn_told in
-          subst (λ s. StepsOn no_moment phase before (state_of s []) after) (sym w.result-is) (met no_moment phase before (state_of w.overflow.result []) after 0 c.stat.new.seats worn)
+          subst (λ s. StepsOn no_moment phase before (state_of s []) after) (sym w.result-is) (met no_moment phase before (state_of w.overflow.result []) after 0 (λ e. absurd cc) worn (ap (λ s. state_of s []) w.overflow.ensures, refl, refl, omega arith))
     ]))

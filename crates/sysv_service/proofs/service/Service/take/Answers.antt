@@ -7,8 +7,10 @@ use Rattle.sysv_pool.specs.Chain.{Chained}
 use Rattle.sysv_queue.specs.Replies.{untaken_reply}
 use Rattle.sysv_steps.specs.State.{AtTake}
 use Rattle.sysv_steps.specs.Seen.{state_of, receiving}
+use Rattle.sysv_service.specs.Kinds.{IsSized}
 use Rattle.sysv_service.specs.Ran.{Pass, StepsOn}
 use Rattle.sysv_service.proofs.Running.{ok_of, err_of, stepped, met}
+use Rattle.sysv_service.proofs.Staying.{nothing_is_sized, untaken_gives_nothing}
 use Rattle.sysv_service.proofs.service.Service.take.Goals.{in-Ok-Ok, in-Ok-Err, in-Err}
 use Rattle.sysv_service.proofs.service.Service.take.Goals as goal
 
@@ -26,7 +28,7 @@ returns-clause-steps g c =
           let taken : w.in-Ok-Ok.field-0 ≡ Ok w.in-Ok-Ok.taken = w.in-Ok-Ok.field-0-is in
           let turn = simp (to_z-of_z, taken) at told in
           let out = w.finish-delivery.new.out in
-          let goes = w.given.ensures w.in-Ok-Ok.taken out w.finish-delivery.ensures.given (ap (λ (x : Chained). x.blocks) w.finish-delivery.ensures.chain) in
+          let goes = w.given.ensures.next w.in-Ok-Ok.taken out w.finish-delivery.ensures.given (ap (λ (x : Chained). x.blocks) w.finish-delivery.ensures.chain) in
           subst (λ s. StepsOn may phase before (state_of s c.match-take.out) after) (sym w.result-is)
           (subst (λ o. StepsOn may phase before (state_of w.given.result o) after) (sym w.out-is)
           (stepped may phase before (state_of w.given.result out) after (AtSlot (slot_of_id c.args.receive.id) (Take c.args.receive.id c.args.receive.cred c.args.receive.selector c.args.receive.size c.args.receive.noerror c.now-now.result) (Taken w.in-Ok-Ok.taken)) c.now-now.result (λ e. c.now-now.ensures) refl goes turn (omega arith)))
@@ -39,5 +41,14 @@ returns-clause-steps g c =
       | in-Err w ↦
           let worn_told = err_of c.take.result _ _ w.in-Err.is c.take.ensures.worn in
           let worn = simp to_z-of_z at worn_told in
-          subst (λ s. StepsOn may phase before (state_of s c.match-take.out) after) (sym w.result-is) (met may phase before (state_of w.overflow.result c.match-take.out) after c.now-now.result c.take.new.seats worn)
+          subst (λ s. StepsOn may phase before (state_of s c.match-take.out) after) (sym w.result-is) (met may phase before (state_of w.overflow.result c.match-take.out) after c.now-now.result (λ e. c.now-now.ensures) worn (ap (λ s. state_of s c.match-take.out) w.overflow.ensures, refl, refl, omega arith))
     ])
+
+pub returns-clause-sized : goal.returns-clause-sized
+returns-clause-sized g c = elim c.match-take.branch [
+  | in-Ok-Ok w ↦
+      let sized : IsSized w.given.result w.finish-delivery.new.out = subst (λ s. IsSized s w.finish-delivery.new.out) (sym w.given.ensures.kept) (w.finish-delivery.ensures.given.len, w.finish-delivery.ensures.short) in
+      subst (λ s. IsSized s c.match-take.out) (sym w.result-is) (subst (λ o. IsSized w.given.result o) (sym w.out-is) sized)
+  | in-Ok-Err w ↦ subst (λ s. IsSized s c.match-take.out) (sym w.result-is) (nothing_is_sized w.untaken.result c.match-take.out (untaken_gives_nothing (receiving c.args.receive) w.in-Ok-Err.why _ (w.untaken.ensures c.match-take.out)))
+  | in-Err w ↦ subst (λ s. IsSized s c.match-take.out) (sym w.result-is) (subst (λ s. IsSized s c.match-take.out) (sym w.overflow.ensures) tt)
+]

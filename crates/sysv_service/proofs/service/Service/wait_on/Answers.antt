@@ -12,4 +12,4 @@ returns-in-Worn-clause-ended g c = λ text.
     let told = subst (λ r. Awaits (awaited wait) (goal_seen (goal_of wait)) c.args.pass.now.seats r c.await_count.new.pass.seats) c.in-Worn.is (c.await_count.ensures.waited text) in
     let least = min-le_left (goal_of wait) (2 ^ 64 - 1) in
     let below : told.0 < goal_of wait = omega (arith, least, told.1) in
-    inr ((told.0, c.await_count.new.pass.seats, below, told.2), ap (λ s. state_of s text) c.overflow.ensures)
+    inr (told.0, below, told.2, c.await_count.ensures.held, ap (λ s. state_of s text) c.overflow.ensures)

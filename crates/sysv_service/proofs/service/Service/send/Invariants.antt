@@ -1,16 +1,14 @@
-use Rattle.sysv_steps.specs.Call.{Msgsnd}
-use Rattle.sysv_steps.specs.Begin.{begin as begins}
 use Rattle.sysv_steps.specs.Seen.{state_of}
 use Rattle.sysv_gated.specs.Seats.{AreOf}
 use Rattle.sysv_service.specs.Ran.{Comes}
 use Rattle.sysv_service.specs.Kinds.{Sends}
-use Rattle.sysv_service.proofs.service.Service.msgsnd.Given as goal
+use Rattle.sysv_service.proofs.service.Service.send.Given as goal
 
 -- where the call has come to
 abbrev pub invariant-loop : goal.invariant-loop
 invariant-loop g l = record {
   pass : AreOf l.fn.self l.pass.seats;
   sends : Sends (state_of l.state l.fn.text);
-  comes : Comes (g.C.Clock.may l.fn.clock) (begins l.fn.cred (Msgsnd l.fn.id l.fn.mtype l.fn.flags l.fn.text) l.released) l.fn.pass (state_of l.state l.fn.text) l.pass;
+  comes : Comes (g.C.Clock.may l.fn.clock) (state_of l.fn.begun l.fn.text) l.fn.pass (state_of l.state l.fn.text) l.pass;
   goes_on : (goal.iterator-loop g).can_next l.iterator' × (goal.iterator-loop g).is_finite l.iterator';
 }
