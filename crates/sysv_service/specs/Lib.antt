@@ -6,3 +6,5 @@ pub mod Ran
 pub mod Kinds
 pub mod Waited
 pub mod Told
+pub mod Stopped
+pub mod Closing

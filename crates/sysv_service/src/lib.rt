@@ -3,12 +3,14 @@
 #![tactic(auto)]
 
 pub mod clock;
+pub mod closing;
 mod control;
 mod get;
 pub mod pass;
 mod receive;
 mod send;
 pub mod service;
+mod stopping;
 #[cfg(test)]
 mod tests;
 mod waiting;

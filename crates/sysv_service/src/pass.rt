@@ -7,7 +7,8 @@ use sysv_gated::seats::Seats;
 use sysv_pool::chain::Chain;
 
 /// The right to call a service: a seat at each object. It is used only with the service that gave it, and may go to another
-/// thread. It can be neither dropped nor copied: it ends by `Service::join_pass` or `into_seats`.
+/// thread. It can be neither dropped nor copied: it ends by `Service::join_pass` or
+/// `Service::close`.
 pub struct Pass {
     pub(crate) seats: Seats,
     /// The chains that could not be given back.
@@ -24,7 +25,7 @@ impl Model for Pass {
 
 impl Pass {
     /// Its seat at each object, and the chains that it could not give back, as one.
-    pub fn into_seats(self) -> (Seats, Chain)
+    pub(crate) fn into_seats(self) -> (Seats, Chain)
         ensures { (result.0 ≡ self.seats) × (result.1.blocks ≡ self.held) }
     {
         let Pass { seats, held } = self;

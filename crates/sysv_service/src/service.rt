@@ -16,7 +16,7 @@ use sysv_gated::sharing::NoMemory;
 use sysv_pool::chain::Chain;
 
 /// The queues of a system: 64 slots, the registry of their keys and the pool of blocks, which threads share by reference.
-/// Each thread calls it with a pass of its own. It can't be dropped: it ends by `into_gates`.
+/// Each thread calls it with a pass of its own. It can't be dropped: it ends by `close`.
 pub struct Service {
     pub(crate) gates: Gates,
 }
@@ -31,7 +31,7 @@ impl Model for Service {
 
 impl Service {
     /// A service without queues, with a pool of this many blocks, 128 to 65,536, and its first pass. `BadSize` comes exactly
-    /// where the number of blocks is out of that range. No later call of the system takes memory.
+    /// where the number of blocks is out of that range. No later call but `split_pass` takes memory.
     pub fn open(alloc: Global, blocks: u32) -> Result<(Service, Pass), GatesRefused>
         ensures open { IfOk result (λ o. AreOpen 0 blocks 0 o.0 × (o.1 ≡ record { seats = all_opened o.0; held = 0 })) }
         ensures fits { IfOk result (λ o. AreOf o.0 o.1.seats) }
@@ -90,7 +90,7 @@ impl Service {
     }
 
     /// The gates of the objects.
-    pub fn into_gates(self) -> Gates
+    pub(crate) fn into_gates(self) -> Gates
         ensures { result ≡ self }
     {
         let Service { gates } = self;

@@ -4,23 +4,19 @@ ghost use Rattle.std.specs.Prelude.{◌≡◌};
 ghost use Rattle.sysv_gated.specs.Seats.{AreOf};
 
 use crate::clock::Clock;
+use crate::closing::Closed;
 use crate::pass::Pass;
 use crate::service::Service;
 use bitflags::Flags as _;
 use std::alloc::Global;
 use std::process::Abort;
 use std::sync::Wait;
-use sysv_gate::Closing;
-use sysv_gated::opening::{GatesClosed, GatesRefused};
-use sysv_gated::pool::GatedPool;
-use sysv_gated::slot::GatedSlot;
+use sysv_gated::opening::GatesRefused;
 use sysv_model::attributes::SetTo;
 use sysv_model::body::Body;
 use sysv_model::cred::Cred;
 use sysv_model::errno::Errno;
 use sysv_model::flags::Flags;
-use sysv_pool::pool::Pool;
-use sysv_queue::slot::QueueSlot;
 use sysv_queue::tally::Tally;
 
 const USER: Cred = Cred {
@@ -79,64 +75,13 @@ fn body_of(rt: &impl Abort, alloc: Global, text: &[u8]) -> Body {
     body
 }
 
-/// The slot behind a gate in which no turn is due.
-fn slot_of(rt: &impl Abort, closing: Closing<GatedSlot>) -> QueueSlot {
-    let Closing {
-        object,
-        rest,
-        turns: _,
-    } = closing;
-    if let Some(slot) = rest {
-        slot.into_slot().end().end();
+/// What a closed service of 128 blocks gives back, all of which are free.
+const fn closed(waiting: u64) -> Closed {
+    Closed {
+        waiting,
+        free: 128,
+        held: 0,
     }
-    match object {
-        Some(slot) => slot.into_slot(),
-        None => panic!(rt; "a turn at a slot is due"),
-    }
-}
-
-/// The pool behind a gate in which no turn is due.
-fn pool_of(rt: &impl Abort, closing: Closing<GatedPool>) -> Pool {
-    let Closing {
-        object,
-        rest,
-        turns: _,
-    } = closing;
-    if let Some(pool) = rest {
-        pool.into_pool().end();
-    }
-    match object {
-        Some(pool) => pool.into_pool(),
-        None => panic!(rt; "a turn at the pool is due"),
-    }
-}
-
-/// Ends the service, and tells how many messages waited and how many blocks are free once all came back.
-fn ended(rt: &impl Abort, service: Service, pass: Pass) -> (u64, u64)
-    requires { AreOf service pass.seats }
-{
-    let (seats, held) = pass.into_seats();
-    let GatesClosed {
-        mut slots,
-        registry: _registry,
-        pool,
-    } = service.into_gates().close(seats);
-    let pool = pool_of(rt, pool);
-    let mut free = u64::from(pool.free()) + u64::from(held.end());
-    pool.end();
-    let mut waiting = 0;
-    for _ in 0..64 {
-        let Some(closing) = slots.pop() else { break };
-        let slot = slot_of(rt, closing);
-        waiting = slot
-            .row()
-            .map_or(0, |row| u64::from(row.qnum))
-            .saturating_add(waiting);
-        free = u64::from(slot.end().end()).saturating_add(free);
-    }
-    assert!(rt; slots.is_empty());
-    slots.destroy_empty();
-    (waiting, free)
 }
 
 /// Sends this text to the queue of the identifier, without waiting.
@@ -223,7 +168,7 @@ fn a_pass_receives_its_own_message(rt: HostRuntime) {
         send(&rt, rt.alloc(), &service, &mut pass, 0, 6, b"left"),
         Ok(())
     );
-    assert_eq!(rt; ended(&rt, service, pass), (1, 128));
+    assert_eq!(rt; service.close(pass), closed(1));
 }
 
 #[test]
@@ -268,23 +213,132 @@ fn a_queue_is_told_set_and_removed(rt: HostRuntime) {
     );
     let id = service.msgget(&rt, &mut pass, &CLOCK, USER, 7, creating());
     assert_eq!(rt; id, Ok(64));
-    assert_eq!(rt; ended(&rt, service, pass), (0, 128));
+    assert_eq!(rt; service.close(pass), closed(0));
+}
+
+/// A msgget of no key.
+fn get(rt: &impl Wait, service: &Service, pass: &mut Pass) -> Result<i32, Errno>
+    requires { AreOf service.now pass.old.seats }
+    ensures { AreOf service.now pass.new.seats }
+{
+    service.msgget(rt, pass, &CLOCK, USER, 0, creating())
 }
 
 #[test]
-fn the_last_tickets_of_a_service(rt: HostRuntime) {
+fn one_ticket_is_left(rt: HostRuntime) {
+    let (service, mut pass) = opened(&rt, rt.alloc(), (1 << 62) - 1);
+    assert_eq!(rt; get(&rt, &service, &mut pass), Err(Errno::EOVERFLOW));
+    let sent = send(&rt, rt.alloc(), &service, &mut pass, 0, 5, b"x");
+    assert_eq!(rt; sent, Err(Errno::EOVERFLOW));
+    assert_eq!(rt; service.close(pass), closed(0));
+}
+
+#[test]
+fn two_tickets_are_left(rt: HostRuntime) {
     let (service, mut pass) = opened(&rt, rt.alloc(), (1 << 62) - 2);
-    let id = service.msgget(&rt, &mut pass, &CLOCK, USER, 0, creating());
-    assert_eq!(rt; id, Ok(0));
-    assert_eq!(rt;
-        send(&rt, rt.alloc(), &service, &mut pass, 0, 5, b"x"),
-        Err(Errno::EOVERFLOW)
-    );
-    assert_eq!(rt;
-        receive(&rt, rt.alloc(), &service, &mut pass, 0, 0),
-        Err(Errno::EOVERFLOW)
-    );
-    assert_eq!(rt; ended(&rt, service, pass), (0, 128));
+    assert_eq!(rt; get(&rt, &service, &mut pass), Ok(0));
+    let sent = send(&rt, rt.alloc(), &service, &mut pass, 0, 5, b"x");
+    assert_eq!(rt; sent, Err(Errno::EOVERFLOW));
+    let received = receive(&rt, rt.alloc(), &service, &mut pass, 0, 0);
+    assert_eq!(rt; received, Err(Errno::EOVERFLOW));
+    assert_eq!(rt; service.close(pass), closed(0));
+}
+
+#[test]
+fn a_removal_goes_on_at_a_worn_registry(rt: HostRuntime) {
+    let (service, mut pass) = opened(&rt, rt.alloc(), (1 << 62) - 2);
+    assert_eq!(rt; get(&rt, &service, &mut pass), Ok(0));
+    assert_eq!(rt; service.msgctl_rmid(&rt, &mut pass, USER, 0), Ok(()));
+    assert_eq!(rt; service.list_row(&rt, &mut pass, 0), Err(Errno::EOVERFLOW));
+    assert_eq!(rt; get(&rt, &service, &mut pass), Err(Errno::EOVERFLOW));
+    assert_eq!(rt; service.close(pass), closed(0));
+}
+
+#[test]
+fn three_tickets_are_left(rt: HostRuntime) {
+    let (service, mut pass) = opened(&rt, rt.alloc(), (1 << 62) - 3);
+    assert_eq!(rt; get(&rt, &service, &mut pass), Ok(0));
+    let sent = send(&rt, rt.alloc(), &service, &mut pass, 0, 5, b"x");
+    assert_eq!(rt; sent, Ok(()));
+    let received = receive(&rt, rt.alloc(), &service, &mut pass, 0, 0);
+    assert_eq!(rt; received, Err(Errno::EOVERFLOW));
+    assert_eq!(rt; service.close(pass), closed(1));
+}
+
+#[test]
+fn an_install_is_undone_at_a_worn_gate(rt: HostRuntime) {
+    let (service, mut pass) = opened(&rt, rt.alloc(), (1 << 62) - 5);
+    assert_eq!(rt; get(&rt, &service, &mut pass), Ok(0));
+    let sent = send(&rt, rt.alloc(), &service, &mut pass, 0, 5, b"x");
+    assert_eq!(rt; sent, Ok(()));
+    match service.list_row(&rt, &mut pass, 0) {
+        Ok(Some(row)) => assert_eq!(rt; row.qnum, 1),
+        _ => panic!(rt; "no row"),
+    }
+    assert_eq!(rt; service.msgctl_rmid(&rt, &mut pass, USER, 0), Ok(()));
+    assert_eq!(rt; get(&rt, &service, &mut pass), Err(Errno::EOVERFLOW));
+    assert_eq!(rt; service.close(pass), closed(0));
+}
+
+#[test]
+fn a_pass_keeps_a_chain_that_cannot_go_back(rt: HostRuntime) {
+    let (service, mut pass) = opened(&rt, rt.alloc(), (1 << 62) - 6);
+    for id in 0..3 {
+        assert_eq!(rt; get(&rt, &service, &mut pass), Ok(id));
+    }
+    for id in 0..3 {
+        let sent = send(&rt, rt.alloc(), &service, &mut pass, id, 5, b"x");
+        assert_eq!(rt; sent, Ok(()));
+    }
+    for id in 0..2 {
+        let received = receive(&rt, rt.alloc(), &service, &mut pass, id, 0);
+        assert_eq!(rt; received, Ok((5, 1)));
+    }
+    let sent = send(&rt, rt.alloc(), &service, &mut pass, 0, 5, b"x");
+    assert_eq!(rt; sent, Ok(()));
+    let received = receive(&rt, rt.alloc(), &service, &mut pass, 2, 0);
+    assert_eq!(rt; received, Ok((5, 1)));
+    assert_eq!(rt; service.close(pass), closed(1));
+}
+
+#[test]
+fn a_wait_ends_at_a_worn_gate(rt: HostRuntime) {
+    let (service, mut pass) = opened(&rt, rt.alloc(), (1 << 62) - 2);
+    assert_eq!(rt; get(&rt, &service, &mut pass), Ok(0));
+    let mut out = body_of(&rt, rt.alloc(), b"");
+    match service.msgrcv(
+        &rt,
+        &mut pass,
+        &CLOCK,
+        USER,
+        0,
+        &mut out,
+        9,
+        0,
+        Flags::empty(),
+    ) {
+        Ok(delivery) => {
+            delivery.lost(&mut Tally::open());
+            panic!(rt; "there was no message")
+        }
+        Err(why) => assert_eq!(rt; why, Errno::EOVERFLOW),
+    }
+    assert_eq!(rt; service.close(pass), closed(0));
+}
+
+#[test]
+fn a_stop_removes_every_queue(rt: HostRuntime) {
+    let (service, mut pass) = opened(&rt, rt.alloc(), 0);
+    for id in 0..3 {
+        assert_eq!(rt; get(&rt, &service, &mut pass), Ok(id));
+        let sent = send(&rt, rt.alloc(), &service, &mut pass, id, 5, b"x");
+        assert_eq!(rt; sent, Ok(()));
+    }
+    assert_eq!(rt; service.msgctl_rmid(&rt, &mut pass, USER, 1), Ok(()));
+    assert_eq!(rt; service.stop(&rt, &mut pass), Ok(2));
+    assert_eq!(rt; service.list_row(&rt, &mut pass, 0), Ok(None));
+    assert_eq!(rt; service.stop(&rt, &mut pass), Ok(0));
+    assert_eq!(rt; service.close(pass), closed(0));
 }
 
 #[test]
@@ -303,7 +357,7 @@ fn passes_are_split_and_joined(rt: HostRuntime) {
             Ok((5, 4))
         );
     }
-    assert_eq!(rt; ended(&rt, service, pass), (0, 128));
+    assert_eq!(rt; service.close(pass), closed(0));
 }
 
 #[test]
@@ -317,13 +371,13 @@ fn sizes_out_of_range_open_no_service(rt: HostRuntime) {
         match Service::open_at(rt.alloc(), blocks, first, generation) {
             Err(why) => assert_eq!(rt; why, GatesRefused::BadSize),
             Ok((service, pass)) => {
-                ended(&rt, service, pass);
+                service.close(pass);
                 panic!(rt; "{blocks} blocks, {first}, {generation}")
             }
         }
     }
     match Service::open(rt.alloc(), 128) {
         Err(why) => assert_eq!(rt; why, GatesRefused::NoMemory),
-        Ok((service, pass)) => assert_eq!(rt; ended(&rt, service, pass), (0, 128)),
+        Ok((service, pass)) => assert_eq!(rt; service.close(pass), closed(0)),
     }
 }

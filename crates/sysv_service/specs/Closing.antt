@@ -1,0 +1,62 @@
+-- What a closed service gives back (this profile's). A gate is held where a turn at it was not given back: then its object is
+-- not there.
+use Rattle.std.specs.Prelude.{◌≡◌, ℕ, ◌+◌, ◌<◌, ◌≤◌, ◌^◌, ◌&&◌, nat_lt, nat_le, List, [], ◌∷◌, length, Option, Some, None, if◌then◌else◌}
+use Rattle.sysv_gate.specs.declared.closing.Closing.{Closing}
+use Rattle.sysv_gated.specs.declared.opening.GatesClosed.{GatesClosed}
+use Rattle.sysv_gated.specs.Seats.{Seats}
+use Rattle.sysv_gated.specs.Sharing.{AllClose}
+use Rattle.sysv_pool.specs.State.{State}
+use Rattle.sysv_queue.specs.Blocks.{blocks_of}
+use Rattle.sysv_queue.specs.Slot.{Slot}
+use Rattle.sysv_service.specs.declared.closing.Closed.{Closed}
+
+-- the messages that wait in the slot, none where its gate is held
+abbrev pub waiting_in : Option Slot → ℕ
+waiting_in None = 0
+waiting_in (Some slot) = length slot.messages
+
+-- 1 where a gate is held, else 0
+abbrev pub is_held : {O : Type 0} → Option O → ℕ
+is_held None = 1
+is_held (Some object) = 0
+
+abbrev pub all_waiting : List (Closing Slot) → ℕ
+all_waiting [] = 0
+all_waiting (c ∷ cs) = waiting_in c.object + all_waiting cs
+
+abbrev pub all_held : List (Closing Slot) → ℕ
+all_held [] = 0
+all_held (c ∷ cs) = is_held c.object + all_held cs
+
+-- the pool takes a chain back where not more blocks are free then than it has, and its released count can rise
+abbrev pub takes_back : State → ℕ → State
+takes_back pool blocks =
+    if nat_le (pool.free + blocks) pool.size && nat_lt pool.released (2 ^ 63) then record pool { free = pool.free + blocks; released = pool.released + 1 } else pool
+
+-- the pool where it is there, after the chain went back
+abbrev pub with_chain : Option State → ℕ → Option State
+with_chain None blocks = None
+with_chain (Some pool) blocks = Some (takes_back pool blocks)
+
+-- after the chain of the slot went back, if that is there
+abbrev pub with_slot : Option State → Option Slot → Option State
+with_slot pool None = pool
+with_slot pool (Some slot) = with_chain pool (blocks_of slot.messages)
+
+-- after the chains of the slots went back, slot by slot
+abbrev pub with_slots : Option State → List (Closing Slot) → Option State
+with_slots pool [] = pool
+with_slots pool (c ∷ cs) = with_slots (with_slot pool c.object) cs
+
+abbrev pub free_in : Option State → ℕ
+free_in None = 0
+free_in (Some pool) = pool.free
+
+-- The gates gave this back, and it was counted: the messages that wait, the gates that are held, and the free blocks once the
+-- chains of the slots, and then those that the pass kept, went back
+pub record IsCounted (seats : Seats) (kept : ℕ) (closed : Closed) : Type 0 where
+  pub parts : GatesClosed
+  pub all : AllClose seats parts
+  pub waiting : closed.waiting ≡ all_waiting parts.slots.items
+  pub held : closed.held ≡ all_held parts.slots.items + (is_held parts.registry.object + is_held parts.pool.object)
+  pub free : closed.free ≡ free_in (with_chain (with_slots parts.pool.object parts.slots.items) kept)

@@ -1,0 +1,155 @@
+//! Closing a service.
+
+ghost use Rattle.std.specs.Prelude.{◌≡◌, ◌≤◌, length, IfSome};
+ghost use Rattle.sysv_keys.specs.declared.identifier.TheConstants.{SLOTS as slot_count};
+ghost use Rattle.sysv_gated.specs.Seats.{AreOf};
+ghost use Rattle.sysv_service.specs.Closing.{IsCounted, waiting_in, is_held, all_waiting, all_held, with_chain, with_slot, with_slots, free_in};
+
+use crate::pass::Pass;
+use crate::service::Service;
+use sysv_gate::Closing;
+use sysv_gated::opening::GatesClosed;
+use sysv_gated::pool::GatedPool;
+use sysv_gated::registry::GatedRegistry;
+use sysv_gated::slot::GatedSlot;
+use sysv_pool::chain::Chain;
+use sysv_pool::pool::Pool;
+
+/// A pool takes a chain back below this released count, which no run of a service reaches.
+const RELEASES: u64 = 1 << 63;
+
+/// What a closed service gives back.
+#[derive(Clone, Copy, PartialEq, Eq, Debug)]
+pub struct Closed {
+    /// The messages that waited on queues.
+    pub waiting: u64,
+    /// The blocks of the pool that are free once those of the messages that waited, and those that the pass kept, were put
+    /// back. It is 0 where the gate of the pool is held.
+    pub free: u32,
+    /// The gates that are held: a turn at each was not given back, and nothing is told of its object. It is 0 once every call
+    /// has returned.
+    pub held: u32,
+}
+
+impl Service {
+    /// Ends the service and the pass, and counts what is left. It takes no memory.
+    pub fn close(self, pass: Pass) -> Closed
+        requires { AreOf self pass.seats }
+        ensures { IsCounted pass.seats pass.held result }
+    {
+        let (seats, kept) = pass.into_seats();
+        let GatesClosed {
+            slots,
+            registry,
+            pool,
+        } = self.into_gates().close(seats);
+        let (mut pool, pool_held) = end_pool(pool);
+        let registry_held = end_registry(registry);
+        let (waiting, slots_held) = end_slots(slots, &mut pool);
+        put_back(&mut pool, kept);
+        Closed {
+            waiting,
+            free: end_blocks(pool),
+            held: slots_held + (registry_held + pool_held),
+        }
+    }
+}
+
+/// What the slots held, the first one first. Their chains go back to the pool, if it is there.
+fn end_slots(mut slots: Vec<Closing<GatedSlot>>, pool: &mut Option<Pool>) -> (u64, u32)
+    requires { length slots.items ≤ slot_count }
+    ensures waiting { result.0 ≡ all_waiting slots.items }
+    ensures held { result.1 ≡ all_held slots.items }
+    ensures few { all_held slots.items ≤ slot_count }
+    ensures pool { pool.new ≡ with_slots pool.old slots.items }
+{
+    let mut waiting = 0;
+    let mut held = 0;
+    slots.reverse();
+    while let Some(slot) = slots.pop() {
+        match end_slot(slot, pool) {
+            Some(messages) => waiting += u64::from(messages),
+            None => held += 1,
+        }
+    }
+    slots.destroy_empty();
+    (waiting, held)
+}
+
+/// The messages that waited in the slot. `None` where its gate is held.
+fn end_slot(slot: Closing<GatedSlot>, pool: &mut Option<Pool>) -> Option<u32>
+    ensures waiting { IfSome result (λ messages. messages ≡ waiting_in slot.object) }
+    ensures held { is_held result ≡ is_held slot.object }
+    ensures pool { pool.new ≡ with_slot pool.old slot.object }
+{
+    let Closing {
+        object,
+        rest,
+        turns: _,
+    } = slot;
+    if let Some(rest) = rest {
+        rest.into_slot().end().end();
+    }
+    let slot = object?.into_slot();
+    let messages = match slot.row() {
+        Some(row) => row.qnum,
+        None => 0,
+    };
+    put_back(pool, slot.end());
+    Some(messages)
+}
+
+/// 1 where the gate of the registry is held, else 0.
+fn end_registry(registry: Closing<GatedRegistry>) -> u32
+    ensures { result ≡ is_held registry.object }
+{
+    u32::from(registry.object.is_none())
+}
+
+/// The pool, and 1 where its gate is held, else 0.
+fn end_pool(pool: Closing<GatedPool>) -> (Option<Pool>, u32)
+    ensures pool { result.0 ≡ pool.object }
+    ensures held { result.1 ≡ is_held pool.object }
+{
+    let Closing {
+        object,
+        rest,
+        turns: _,
+    } = pool;
+    if let Some(rest) = rest {
+        rest.into_pool().end();
+    }
+    match object {
+        Some(pool) => (Some(pool.into_pool()), 0),
+        None => (None, 1),
+    }
+}
+
+/// Puts the chain back, as far as the pool takes it.
+fn put_back(pool: &mut Option<Pool>, chain: Chain)
+    ensures { pool.new ≡ with_chain pool.old chain.blocks }
+{
+    let Some(pool) = pool else {
+        chain.end();
+        return;
+    };
+    if pool.released() >= RELEASES {
+        chain.end();
+        return;
+    }
+    if let Err(foreign) = pool.release(chain) {
+        foreign.end();
+    }
+}
+
+/// The free blocks, 0 where there is no pool.
+fn end_blocks(pool: Option<Pool>) -> u32
+    ensures { result ≡ free_in pool }
+{
+    let Some(pool) = pool else {
+        return 0;
+    };
+    let free = pool.free();
+    pool.end();
+    free
+}

@@ -1,0 +1,62 @@
+//! Stopping a service.
+
+ghost use Rattle.std.specs.Prelude.{◌≡◌, ◌<◌, ◌×◌, ℕ, Bool};
+ghost use Rattle.sysv_keys.specs.declared.identifier.TheConstants.{SLOTS as slot_count};
+ghost use Rattle.sysv_gated.specs.Seats.{AreOf};
+ghost use Rattle.sysv_service.specs.Stopped.{Stops, StopsAt, TellsStop, count_of, is_refused};
+
+use crate::pass::Pass;
+use crate::service::Service;
+use std::sync::Wait as MayWait;
+use sysv_keys::identifier::SLOTS;
+use sysv_model::cred::Cred;
+use sysv_model::errno::Errno;
+
+/// Who may remove every queue.
+const SUPERUSER: Cred = Cred {
+    uid: 0,
+    gid: 0,
+    pid: 0,
+};
+
+impl Service {
+    /// Removes every queue: at each slot in order it reads the row, and removes the queue that is shown, as user 0, so that all
+    /// who wait on it are woken (this profile's). It answers how many it removed. What is made meanwhile may stay. `EOVERFLOW`
+    /// comes exactly where a gate was found worn out, after all slots were tried.
+    pub fn stop(&self, rt: &impl MayWait, pass: &mut Pass) -> Result<u32, Errno>
+        requires { AreOf self.now pass.old.seats }
+        ensures pass { AreOf self.now pass.new.seats }
+        ensures stopped { (removed : ℕ) × (worn : Bool) × Stops pass.old slot_count removed worn pass.new × TellsStop removed worn result }
+    {
+        let mut removed = 0;
+        let mut worn = false;
+        for slot in 0..SLOTS {
+            match self.stop_slot(rt, pass, slot as u32) {
+                Ok(true) => removed += 1,
+                Ok(false) => {}
+                Err(_) => worn = true,
+            }
+        }
+        if worn {
+            return Err(Errno::EOVERFLOW);
+        }
+        Ok(removed)
+    }
+
+    /// Whether a queue was removed at this slot. `EOVERFLOW` where a gate was found worn out.
+    fn stop_slot(&self, rt: &impl MayWait, pass: &mut Pass, slot: u32) -> Result<bool, Errno>
+        requires pass { AreOf self.now pass.old.seats }
+        requires slot { slot < slot_count }
+        ensures pass { AreOf self.now pass.new.seats }
+        ensures stopped { StopsAt slot pass.old (count_of result) (is_refused result) pass.new }
+    {
+        let Some(row) = self.list_row(rt, pass, slot)? else {
+            return Ok(false);
+        };
+        match self.msgctl_rmid(rt, pass, SUPERUSER, row.id) {
+            Ok(()) => Ok(true),
+            Err(Errno::EOVERFLOW) => Err(Errno::EOVERFLOW),
+            Err(_) => Ok(false),
+        }
+    }
+}
