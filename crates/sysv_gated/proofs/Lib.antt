@@ -2,3 +2,4 @@ pub mod Rising
 pub mod Answering
 pub mod Vacancy
 pub mod Histories
+pub mod Closing

@@ -1,6 +1,7 @@
 //! Sharing the gates among threads: seats are split and joined, and the gates are closed.
 
-ghost use Rattle.std.specs.Prelude.{◌≡◌, IfOk, OnErr};
+ghost use Rattle.std.specs.Prelude.{◌≡◌, length, IfOk, OnErr};
+ghost use Rattle.sysv_keys.specs.declared.identifier.TheConstants.{SLOTS};
 ghost use Rattle.sysv_gated.specs.Seats.{AreOf};
 ghost use Rattle.sysv_gated.specs.Sharing.{AreSplit, AreJoined, AllClose};
 
@@ -55,7 +56,8 @@ impl Gates {
     /// no memory.
     pub fn close(self, seats: Seats) -> GatesClosed
         requires { AreOf self seats }
-        ensures { AllClose seats result }
+        ensures closed { AllClose seats result }
+        ensures count { length result.slots.items ≡ SLOTS }
     {
         let Gates {
             slots,

@@ -1,3 +1,4 @@
 pub mod Running
 pub mod Staying
 pub mod Opening
+pub mod SlotBySlot

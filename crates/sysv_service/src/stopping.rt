@@ -1,6 +1,6 @@
 //! Stopping a service.
 
-ghost use Rattle.std.specs.Prelude.{◌≡◌, ◌<◌, ◌×◌, ℕ, Bool};
+ghost use Rattle.std.specs.Prelude.{◌≡◌, ◌<◌, ℕ, Bool};
 ghost use Rattle.sysv_keys.specs.declared.identifier.TheConstants.{SLOTS as slot_count};
 ghost use Rattle.sysv_gated.specs.Seats.{AreOf};
 ghost use Rattle.sysv_service.specs.Stopped.{Stops, StopsAt, TellsStop, count_of, is_refused};
@@ -55,7 +55,7 @@ impl Service {
         };
         match self.msgctl_rmid(rt, pass, SUPERUSER, row.id) {
             Ok(()) => Ok(true),
-            Err(Errno::EOVERFLOW) => Err(Errno::EOVERFLOW),
+            Err(why) if why == Errno::EOVERFLOW => Err(why),
             Err(_) => Ok(false),
         }
     }

@@ -224,6 +224,21 @@ fn get(rt: &impl Wait, service: &Service, pass: &mut Pass) -> Result<i32, Errno>
     service.msgget(rt, pass, &CLOCK, USER, 0, creating())
 }
 
+/// Makes a queue of no key, whose identifier is to be this one, and sends one byte to it.
+fn make_with_message(
+    rt: &(impl Abort + Wait),
+    alloc: Global,
+    service: &Service,
+    pass: &mut Pass,
+    id: i32,
+)
+    requires { AreOf service.now pass.old.seats }
+    ensures { AreOf service.now pass.new.seats }
+{
+    assert_eq!(rt; get(rt, service, pass), Ok(id));
+    assert_eq!(rt; send(rt, alloc, service, pass, id, 5, b"x"), Ok(()));
+}
+
 #[test]
 fn one_ticket_is_left(rt: HostRuntime) {
     let (service, mut pass) = opened(&rt, rt.alloc(), (1 << 62) - 1);
@@ -283,17 +298,13 @@ fn an_install_is_undone_at_a_worn_gate(rt: HostRuntime) {
 #[test]
 fn a_pass_keeps_a_chain_that_cannot_go_back(rt: HostRuntime) {
     let (service, mut pass) = opened(&rt, rt.alloc(), (1 << 62) - 6);
-    for id in 0..3 {
-        assert_eq!(rt; get(&rt, &service, &mut pass), Ok(id));
-    }
-    for id in 0..3 {
-        let sent = send(&rt, rt.alloc(), &service, &mut pass, id, 5, b"x");
-        assert_eq!(rt; sent, Ok(()));
-    }
-    for id in 0..2 {
-        let received = receive(&rt, rt.alloc(), &service, &mut pass, id, 0);
-        assert_eq!(rt; received, Ok((5, 1)));
-    }
+    make_with_message(&rt, rt.alloc(), &service, &mut pass, 0);
+    make_with_message(&rt, rt.alloc(), &service, &mut pass, 1);
+    make_with_message(&rt, rt.alloc(), &service, &mut pass, 2);
+    let received = receive(&rt, rt.alloc(), &service, &mut pass, 0, 0);
+    assert_eq!(rt; received, Ok((5, 1)));
+    let received = receive(&rt, rt.alloc(), &service, &mut pass, 1, 0);
+    assert_eq!(rt; received, Ok((5, 1)));
     let sent = send(&rt, rt.alloc(), &service, &mut pass, 0, 5, b"x");
     assert_eq!(rt; sent, Ok(()));
     let received = receive(&rt, rt.alloc(), &service, &mut pass, 2, 0);
@@ -329,11 +340,9 @@ fn a_wait_ends_at_a_worn_gate(rt: HostRuntime) {
 #[test]
 fn a_stop_removes_every_queue(rt: HostRuntime) {
     let (service, mut pass) = opened(&rt, rt.alloc(), 0);
-    for id in 0..3 {
-        assert_eq!(rt; get(&rt, &service, &mut pass), Ok(id));
-        let sent = send(&rt, rt.alloc(), &service, &mut pass, id, 5, b"x");
-        assert_eq!(rt; sent, Ok(()));
-    }
+    make_with_message(&rt, rt.alloc(), &service, &mut pass, 0);
+    make_with_message(&rt, rt.alloc(), &service, &mut pass, 1);
+    make_with_message(&rt, rt.alloc(), &service, &mut pass, 2);
     assert_eq!(rt; service.msgctl_rmid(&rt, &mut pass, USER, 1), Ok(()));
     assert_eq!(rt; service.stop(&rt, &mut pass), Ok(2));
     assert_eq!(rt; service.list_row(&rt, &mut pass, 0), Ok(None));
