@@ -1,14 +1,16 @@
 //! Servers on a socket, whose clients write their frames by hand.
+ghost use Rattle.std.specs.Prelude.{◌≤◌};
+
 use super::*;
 use std::alloc::Global;
-use std::fs;
 use std::io::{Read, Write};
 use std::net::Net;
 use std::os::unix::net::{UnixListener, UnixStream};
 use std::process::Abort;
+use std::rt::Files;
 use std::sync::Wait;
-use std::thread;
 use std::thread::Threads;
+use std::{fs, thread};
 
 /// A hello of user and group 1000, pid 101.
 const HELLO: &[u8] = &[
@@ -58,6 +60,12 @@ const RECEIVE: &[u8] = &[
     0x00, 0x00, 0x00, 0x00, 0x00, 0x00, 0x00, 0x00, 0x00, 0x00,
 ];
 
+/// The same without waiting.
+const RECEIVE_NOW: &[u8] = &[
+    0x00, 0x00, 0x00, 0x16, 0x01, 0x03, 0x00, 0x00, 0x00, 0x00, 0x00, 0x00, 0x00, 0x64, 0x00, 0x00,
+    0x00, 0x00, 0x00, 0x00, 0x00, 0x00, 0x00, 0x00, 0x08, 0x00,
+];
+
 /// The reply to a receive: `abc`, of type 5.
 const RECEIVED: &[u8] = &[
     0x00, 0x00, 0x00, 0x0e, 0x01, 0x03, 0x00, 0x00, 0x00, 0x00, 0x00, 0x00, 0x00, 0x00, 0x05, 0x61,
@@ -69,6 +77,7 @@ const REMOVE: &[u8] = &[0x00, 0x00, 0x00, 0x06, 0x01, 0x06, 0x00, 0x00, 0x00, 0x
 
 /// The replies to IPC_RMID: done, and EPERM.
 const REMOVED: &[u8] = &[0x00, 0x00, 0x00, 0x03, 0x01, 0x06, 0x00];
+
 const NOT_REMOVED: &[u8] = &[0x00, 0x00, 0x00, 0x03, 0x01, 0x06, 0x01];
 
 /// The row of queue 0: key 7, user 1000, mode 0640, three bytes in one message.
@@ -105,19 +114,21 @@ fn talks(rt: &impl Net, path: &str, requests: &[&[u8]], replies: &[&[u8]]) -> bo
     }
 }
 
+// Each client below makes all its connections, answered or not, since the server waits for so many.
+
 /// A message goes from one session to another.
 fn passing(rt: &impl Net, path: &str) -> bool {
     talks(rt, path, &[HELLO, CREATE, SEND], &[KNOWN, FOUND, SENT])
-        && talks(rt, path, &[HELLO, RECEIVE], &[KNOWN, RECEIVED])
+        & talks(rt, path, &[HELLO, RECEIVE_NOW], &[KNOWN, RECEIVED])
 }
 
 /// A queue is made, shown, kept from another user, and removed.
 fn commanding(rt: &impl Net, path: &str) -> bool {
     talks(rt, path, &[HELLO, CREATE, SEND], &[KNOWN, FOUND, SENT])
-        && listing(rt, path)
-        && talks(rt, path, &[OTHER, REMOVE], &[KNOWN, NOT_REMOVED])
-        && talks(rt, path, &[HELLO, REMOVE], &[KNOWN, REMOVED])
-        && talks(rt, path, &[HELLO, FIND], &[KNOWN, NOT_FOUND])
+        & listing(rt, path)
+        & talks(rt, path, &[OTHER, REMOVE], &[KNOWN, NOT_REMOVED])
+        & talks(rt, path, &[HELLO, REMOVE], &[KNOWN, REMOVED])
+        & talks(rt, path, &[HELLO, FIND], &[KNOWN, NOT_FOUND])
 }
 
 /// The rows of all slots, of which the first has a queue.
@@ -138,38 +149,63 @@ fn listing(rt: &impl Net, path: &str) -> bool {
     true
 }
 
-/// One session waits for what another sends, and is given it.
+/// One session waits for what two others send, and is given the first.
 fn waiting(rt: &impl Net, path: &str) -> bool {
     let Ok(mut first) = UnixStream::connect(rt, path) else {
         return false;
     };
     asks(&mut first, &[HELLO, CREATE, RECEIVE], &[KNOWN, FOUND])
-        && talks(rt, path, &[HELLO, SEND], &[KNOWN, SENT])
-        && gives(&mut first, RECEIVED)
+        & talks(rt, path, &[HELLO, SEND], &[KNOWN, SENT])
+        & talks(rt, path, &[HELLO, SEND], &[KNOWN, SENT])
+        & gives(&mut first, RECEIVED)
 }
 
-/// One session waits for what another sends, and its client is gone by then.
+/// One session waits for what two others send, and its client is gone by then.
 fn vanishing(rt: &impl Net, path: &str) -> bool {
     talks(rt, path, &[HELLO, CREATE, RECEIVE], &[KNOWN, FOUND])
-        && talks(rt, path, &[HELLO, SEND], &[KNOWN, SENT])
+        & talks(rt, path, &[HELLO, SEND], &[KNOWN, SENT])
+        & talks(rt, path, &[HELLO, SEND], &[KNOWN, SENT])
 }
 
 /// A client goes away within a frame, and another before it says anything.
 fn breaking(rt: &impl Net, path: &str) -> bool {
-    talks(rt, path, &[HELLO, &CREATE[..5]], &[KNOWN]) && talks(rt, path, &[], &[])
+    talks(rt, path, &[HELLO, &CREATE[..5]], &[KNOWN]) & talks(rt, path, &[], &[])
+}
+
+/// The clients of a test.
+#[derive(Clone, Copy)]
+enum Clients {
+    Passing,
+    Commanding,
+    Waiting,
+    Vanishing,
+    Breaking,
+}
+
+impl Clients {
+    /// They were answered as they should be. A session whose memory was refused is not answered.
+    fn run(self, rt: &impl Net, path: &str) -> bool {
+        match self {
+            Clients::Passing => passing(rt, path),
+            Clients::Commanding => commanding(rt, path),
+            Clients::Waiting => waiting(rt, path),
+            Clients::Vanishing => vanishing(rt, path),
+            Clients::Breaking => breaking(rt, path),
+        }
+    }
 }
 
 /// What a server with so many workers and sessions answers, and whether its clients were answered as they should be.
 fn served<R: Threads + Wait + Net + Files + Abort + Sync>(
     rt: &R,
     alloc: Global,
-    path: &str,
     workers: u32,
     sessions: u64,
-    clients: fn(&R, &str) -> bool,
+    clients: Clients,
 ) -> (Result<Sums, ServeFault>, bool)
     requires { (1 ≤ workers) × (workers ≤ 16) }
 {
+    let path = "server.socket";
     let _old = fs::remove_file(rt, path);
     let listener = UnixListener::bind(rt, path).expect(rt, "a socket");
     thread::join(
@@ -179,6 +215,67 @@ fn served<R: Threads + Wait + Net + Files + Abort + Sync>(
             drop(listener);
             sums
         },
-        || clients(rt, path),
+        move || clients.run(rt, path),
     )
+}
+
+/// The server answers these sums. Where memory or a thread is refused, it is tried again.
+fn adds_up<R: Threads + Wait + Net + Files + Abort + Sync>(
+    rt: &R,
+    alloc: Global,
+    workers: u32,
+    clients: Clients,
+    all: Sums,
+)
+    requires { (1 ≤ workers) × (workers ≤ 16) }
+{
+    let (sums, answered) = served(rt, alloc, workers, all.sessions, clients);
+    if answered && sums == Ok(all) {
+        return;
+    }
+    match sums {
+        Ok(sums) => assert_eq!(rt; sums.taken, sums.written.saturating_add(sums.lost)),
+        Err(why) => assert!(rt;
+            matches!(&why, ServeFault::NoMemory | ServeFault::Thread),
+            "{why}"
+        ),
+    }
+    let again = served(rt, alloc, workers, all.sessions, clients);
+    assert_eq!(rt; again, (Ok(all), true));
+}
+
+/// So many sessions, whose messages were written and lost.
+fn sums(sessions: u64, written: u64, lost: u64) -> Sums {
+    Sums {
+        sessions,
+        taken: written.saturating_add(lost),
+        written,
+        lost,
+    }
+}
+
+#[test]
+fn a_message_goes_from_one_session_to_another(rt: HostRuntime) {
+    adds_up(&rt, rt.alloc(), 1, Clients::Passing, sums(2, 1, 0));
+    adds_up(&rt, rt.alloc(), 4, Clients::Passing, sums(2, 1, 0));
+}
+
+#[test]
+fn a_queue_is_made_and_removed(rt: HostRuntime) {
+    adds_up(&rt, rt.alloc(), 1, Clients::Commanding, sums(5, 0, 0));
+}
+
+#[test]
+fn a_session_waits_for_another(rt: HostRuntime) {
+    adds_up(&rt, rt.alloc(), 2, Clients::Waiting, sums(3, 1, 0));
+}
+
+#[test]
+fn a_client_is_gone_when_its_message_comes(rt: HostRuntime) {
+    adds_up(&rt, rt.alloc(), 2, Clients::Vanishing, sums(3, 0, 1));
+}
+
+#[test]
+fn clients_go_away_early(rt: HostRuntime) {
+    adds_up(&rt, rt.alloc(), 1, Clients::Breaking, sums(2, 0, 0));
 }
