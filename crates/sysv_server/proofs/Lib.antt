@@ -1,3 +1,4 @@
-pub mod Adding
-pub mod Shifts
 pub mod Accepted
+pub mod Adding
+pub mod Crossing
+pub mod Shifts

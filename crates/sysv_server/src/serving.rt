@@ -77,10 +77,10 @@ fn serve_with<S: Source<UnixStream>, R: Threads + Wait + Sync>(
     let Ok(mut workers) = Vec::with_capacity(alloc, count) else {
         return Err(ServeFault::NoMemory);
     };
-    if hire(rt, alloc, service, pass, count, &mut workers).is_err() {
+    let Ok(()) = hire(rt, alloc, service, pass, count, &mut workers) else {
         dismiss(service, pass, workers);
         return Err(ServeFault::NoMemory);
-    }
+    };
     let job = Sessions { alloc, service };
     match run_workers(rt, alloc, workers, source, &job) {
         Ok(workers) => Ok(dismiss(service, pass, workers)),

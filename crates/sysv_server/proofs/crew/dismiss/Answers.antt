@@ -1,11 +1,11 @@
 -- The last worker's sums are added.
-use Rattle.std.proofs.Common.{◌≡◌, ◌∙◌, ◌∷◌, [], map, ap, sym}
+use Rattle.std.proofs.Common.{◌≡◌, ◌∙◌, ◌∷◌, [], map, ap}
 use Rattle.std.proofs.lemmas.List.{map-append}
 use Rattle.sysv_server.specs.declared.session.Worker.{Worker}
 use Rattle.sysv_server.specs.declared.sums.Sums.{Sums}
 use Rattle.sysv_server.specs.Added.{added}
-use Rattle.sysv_server.proofs.Adding.{Adding, adding_begins, adding_one, adding_ends}
-use Rattle.sysv_server.proofs.Shifts.{but_last, the_last}
+use Rattle.sysv_server.proofs.Adding.{adding_one}
+use Rattle.sysv_server.proofs.Shifts.{but_last}
 use Rattle.sysv_server.proofs.crew.dismiss.Goals as goal
 
 pub loop-worker-preserved : goal.loop-worker-preserved
