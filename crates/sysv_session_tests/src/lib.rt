@@ -6,6 +6,8 @@ mod ends;
 #[cfg(test)]
 mod failing;
 #[cfg(test)]
+mod serving;
+#[cfg(test)]
 mod shelf;
 #[cfg(test)]
 mod waiting;

@@ -1,0 +1,248 @@
+//! The kernel of a session over a service.
+
+ghost use Rattle.std.specs.Prelude.{◌≡◌, ◌≤◌, ℕ, List, [], Some};
+ghost use Rattle.sysv_gated.specs.Seats.{AreOf};
+ghost use Rattle.sysv_session.specs.Answers.{MayAnswer};
+ghost use Rattle.sysv_session.specs.Course.{Course, Follows, Takes};
+ghost use Rattle.sysv_session.specs.Session.{Serves};
+ghost use Rattle.sysv_kernel.specs.Asked.{Gets, Sends, Receives, Stats, Sets, Removes, Shows, asks_with};
+ghost use Rattle.sysv_kernel.specs.Replies.{reply as the_reply, shown_stat as stat_shown, shown_row as row_shown};
+
+use std::alloc::Global;
+use std::io::{Read, Write};
+use std::sync::Wait;
+use sysv_model::attributes::{Row, SetTo, Stat};
+use sysv_model::body::Body;
+use sysv_model::cred::Cred;
+use sysv_model::flags::Flags;
+use sysv_service::clock::Clock;
+use sysv_service::pass::Pass;
+use sysv_service::service::Service;
+use sysv_session::kernel::{Kernel, Outcome};
+use sysv_session::served::Served;
+use sysv_session::session::serve;
+use sysv_wire::frame::{MODE_MOST, Op};
+use sysv_wire::reply::{Outcome as Told, Reply};
+use sysv_wire::request::{Ask, Request};
+
+/// A service as one session asks it: with a pass of its own, the moments of a clock, and the handle to wait. Each request is
+/// one call of the service. It can be neither dropped nor copied: it ends by `into_pass`.
+pub struct ServiceKernel<'a, C: Clock, R: Wait> {
+    rt: &'a R,
+    service: &'a Service,
+    clock: &'a C,
+    pass: Pass,
+    ghost fits: { AreOf service.now pass.seats },
+}
+
+impl<'a, C: Clock, R: Wait> ServiceKernel<'a, C, R> {
+    /// A kernel that calls this service with this pass of it.
+    pub fn new(rt: &'a R, service: &'a Service, clock: &'a C, pass: Pass) -> ServiceKernel<'a, C, R>
+        requires { AreOf service.now pass.seats }
+        ensures service { result.service.now ≡ service.now }
+        ensures clock { result.clock.now ≡ clock.now }
+        ensures pass { result.pass ≡ pass }
+    {
+        ServiceKernel {
+            rt,
+            service,
+            clock,
+            pass,
+        }
+    }
+
+    /// Runs one session, as `sysv_session::session::serve` does, with this kernel.
+    pub fn serve<I: Read, O: Write>(
+        &mut self,
+        alloc: Global,
+        reader: &mut I,
+        writer: &mut O,
+    ) -> Served
+        ensures serves { Serves (asks_with (C.may self.old.clock.now)) result self.old.pass self.new.pass (I.remaining reader.old) (I.remaining reader.new)
+            (O.contents writer.old) (O.contents writer.new) }
+        // It ends as its input tells, unless it is cut short.
+        ensures only { (input : List ℕ) (course : Course) → I.remaining reader.old ≡ Some input → Takes input course → Follows course result }
+        ensures service { self.new.service ≡ self.old.service }
+        ensures clock { self.new.clock ≡ self.old.clock }
+    {
+        serve(alloc, reader, writer, self)
+    }
+
+    /// Its pass.
+    pub fn into_pass(self) -> Pass
+        ensures pass { result ≡ self.entry.pass }
+        ensures fits { AreOf self.entry.service.now result.seats }
+    {
+        let ServiceKernel {
+            rt: _,
+            service: _,
+            clock: _,
+            pass,
+        } = self;
+        pass
+    }
+
+    fn get(&mut self, cred: Cred, key: i32, flags: Flags) -> Outcome
+        ensures gets { Gets (C.may self.old.clock.now) cred key flags self.old.pass result self.new.pass }
+        ensures answer { MayAnswer (Ask.Get key flags) result [] }
+        ensures service { self.new.service ≡ self.old.service }
+        ensures clock { self.new.clock ≡ self.old.clock }
+    {
+        let told = self
+            .service
+            .msgget(self.rt, &mut self.pass, self.clock, cred, key, flags);
+        match told {
+            Ok(id) => reply(Op::Get, Told::Get { id }),
+            Err(why) => reply(Op::Get, Told::Refused(why)),
+        }
+    }
+
+    fn send(&mut self, cred: Cred, id: i32, mtype: i64, flags: Flags, text: &Body) -> Outcome
+        ensures sends { Sends (C.may self.old.clock.now) cred id mtype flags text.now self.old.pass result self.new.pass }
+        ensures answer { MayAnswer (Ask.Snd id mtype flags) result [] }
+        ensures service { self.new.service ≡ self.old.service }
+        ensures clock { self.new.clock ≡ self.old.clock }
+    {
+        let pass = &mut self.pass;
+        let told = self
+            .service
+            .msgsnd(self.rt, pass, self.clock, cred, id, mtype, text, flags);
+        match told {
+            Ok(()) => reply(Op::Snd, Told::Snd),
+            Err(why) => reply(Op::Snd, Told::Refused(why)),
+        }
+    }
+
+    fn receive(
+        &mut self,
+        cred: Cred,
+        id: i32,
+        size: u32,
+        mtype: i64,
+        flags: Flags,
+        given: &mut Body,
+    ) -> Outcome
+        ensures receives { Receives (C.may self.old.clock.now) cred id size mtype flags self.old.pass result given.new self.new.pass }
+        ensures answer { MayAnswer (Ask.Rcv id size mtype flags) result given.new }
+        ensures service { self.new.service ≡ self.old.service }
+        ensures clock { self.new.clock ≡ self.old.clock }
+    {
+        let pass = &mut self.pass;
+        let told = self.service.msgrcv(
+            self.rt, pass, self.clock, cred, id, given, size, mtype, flags,
+        );
+        match told {
+            Ok(delivery) => Outcome::Got(delivery),
+            Err(why) => reply(Op::Rcv, Told::Refused(why)),
+        }
+    }
+
+    fn stat(&mut self, cred: Cred, id: i32) -> Outcome
+        ensures stats { Stats cred id self.old.pass result self.new.pass }
+        ensures answer { MayAnswer (Ask.Stat id) result [] }
+        ensures service { self.new.service ≡ self.old.service }
+        ensures clock { self.new.clock ≡ self.old.clock }
+    {
+        let told = self.service.msgctl_stat(self.rt, &mut self.pass, cred, id);
+        match told {
+            Ok(stat) => reply(Op::Stat, Told::Stat(shown_stat(stat))),
+            Err(why) => reply(Op::Stat, Told::Refused(why)),
+        }
+    }
+
+    fn set(&mut self, cred: Cred, id: i32, to: SetTo) -> Outcome
+        ensures sets { Sets (C.may self.old.clock.now) cred id to self.old.pass result self.new.pass }
+        ensures answer { MayAnswer (Ask.Set id to) result [] }
+        ensures service { self.new.service ≡ self.old.service }
+        ensures clock { self.new.clock ≡ self.old.clock }
+    {
+        let told = self
+            .service
+            .msgctl_set(self.rt, &mut self.pass, self.clock, cred, id, to);
+        match told {
+            Ok(()) => reply(Op::Set, Told::Set),
+            Err(why) => reply(Op::Set, Told::Refused(why)),
+        }
+    }
+
+    fn remove(&mut self, cred: Cred, id: i32) -> Outcome
+        ensures removes { Removes cred id self.old.pass result self.new.pass }
+        ensures answer { MayAnswer (Ask.Rm id) result [] }
+        ensures service { self.new.service ≡ self.old.service }
+        ensures clock { self.new.clock ≡ self.old.clock }
+    {
+        let told = self.service.msgctl_rmid(self.rt, &mut self.pass, cred, id);
+        match told {
+            Ok(()) => reply(Op::Rm, Told::Rm),
+            Err(why) => reply(Op::Rm, Told::Refused(why)),
+        }
+    }
+
+    fn row(&mut self, slot: u32) -> Outcome
+        ensures shows { Shows slot self.old.pass result self.new.pass }
+        ensures answer { MayAnswer (Ask.Row slot) result [] }
+        ensures service { self.new.service ≡ self.old.service }
+        ensures clock { self.new.clock ≡ self.old.clock }
+    {
+        let told = self.service.list_row(self.rt, &mut self.pass, slot);
+        match told {
+            Ok(Some(row)) => reply(Op::Row, Told::Row(Some(shown_row(row)))),
+            Ok(None) => reply(Op::Row, Told::Row(None)),
+            Err(why) => reply(Op::Row, Told::Refused(why)),
+        }
+    }
+}
+
+impl<C: Clock, R: Wait> Kernel for ServiceKernel<'_, C, R> {
+    ghost use Rattle.std.specs.Prelude.{◌≡◌};
+    ghost use Rattle.sysv_kernel.specs.Asked.{Asks};
+
+    ghost meaning = { λ old cred request text outcome given new. (new.service ≡ old.service) × (new.clock ≡ old.clock)
+        × Asks (C.may old.clock.now) cred request.ask text old.pass outcome given new.pass };
+
+    fn call(&mut self, cred: Cred, request: &Request, text: &Body, given: &mut Body) -> Outcome {
+        match request.ask {
+            Ask::Hello(_) => unreachable!(),
+            Ask::Get { key, flags } => self.get(cred, key, flags),
+            Ask::Snd { id, mtype, flags } => self.send(cred, id, mtype, flags, text),
+            Ask::Rcv {
+                id,
+                size,
+                mtype,
+                flags,
+            } => self.receive(cred, id, size, mtype, flags, given),
+            Ask::Stat { id } => self.stat(cred, id),
+            Ask::Set { id, to } => self.set(cred, id, to),
+            Ask::Rm { id } => self.remove(cred, id),
+            Ask::Row { slot } => self.row(slot),
+        }
+    }
+}
+
+/// The reply of an operation.
+fn reply(op: Op, told: Told) -> Outcome
+    ensures { result ≡ the_reply op told }
+{
+    Outcome::Reply(Reply {
+        op: op.number(),
+        result: told,
+    })
+}
+
+/// The attributes as a reply has them: the mode has nine bits.
+fn shown_stat(mut stat: Stat) -> Stat
+    ensures shown { result ≡ stat_shown stat }
+    ensures mode { result.perm.mode ≤ MODE_MOST }
+{
+    stat.perm.mode &= MODE_MOST;
+    stat
+}
+
+/// The row as a reply has it: the mode has nine bits.
+fn shown_row(mut row: Row) -> Row
+    ensures shown { result ≡ row_shown row }
+    ensures mode { result.mode ≤ MODE_MOST }
+{
+    row.mode &= MODE_MOST;
+    row
+}

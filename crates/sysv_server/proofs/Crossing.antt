@@ -1,0 +1,27 @@
+-- Workers may go to other threads.
+use denote.Hole.{as_row}
+use denote.RattleType.{RattleType}
+use denote.Ref.{NamedLft, ShrRef}
+use denote.Struct.Field.{row_field, shr_ref_field}
+use denote.Param.Send.{IsSend, IsSync, shr_send}
+use denote.Param.SendFields.{declared_send, as_row_send}
+use Rattle.sysv_kernel.proofs.Crossing.{crossing, pass_send, service_sync}
+use Rattle.sysv_kernel.specs.contracts.kernel.ServiceKernel as kernel
+use Rattle.sysv_server.proofs.session.Zero.TheSendSync.{the_sync as zero_sync}
+use Rattle.sysv_server.proofs.sums.Sums.TheSendSync as sum
+use Rattle.sysv_server.specs.contracts.session.Worker as worker
+use Rattle.sysv_server.specs.contracts.session.Zero as zero
+use Rattle.sysv_server.specs.contracts.session.ZeroClock.TheImpl as clock
+use Rattle.sysv_service.specs.contracts.service.Service as service
+use Rattle.sysv_service.specs.declared.clock.Clock.{Ghosts}
+
+kernel_send : (l : NamedLft) (C R : RattleType) (clock : Ghosts C.Denot) → IsSync C → IsSync R → IsSend (kernel.the_row l C R clock)
+kernel_send l C R clock sc sr =
+    let served : IsSend (as_row (shr_ref_field l service.the_row tt)) = search (crossing, service_sync, shr_send) depth 20 in
+    declared_send (kernel.the_type l C R clock) (
+      as_row_send (row_field (ShrRef l.mir l.lft R)) (shr_send l.mir l.lft R sr),
+      (served, (as_row_send (row_field (ShrRef l.mir l.lft C)) (shr_send l.mir l.lft C sc), (pass_send, tt))),
+    )
+
+pub worker_send : (l : NamedLft) (R : RattleType) → IsSync R → IsSend (worker.the_row l R)
+worker_send l R y = declared_send (worker.the_type l R) (kernel_send l zero.the_row R clock.ghosts zero_sync y, (sum.the_send, tt))

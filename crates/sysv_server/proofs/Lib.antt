@@ -1,0 +1,4 @@
+pub mod Accepted
+pub mod Adding
+pub mod Crossing
+pub mod Shifts

@@ -1,0 +1,21 @@
+-- The last worker's sums are added.
+use Rattle.std.proofs.Common.{◌≡◌, ◌∙◌, ◌∷◌, [], map, ap}
+use Rattle.std.proofs.lemmas.List.{map-append}
+use Rattle.sysv_server.specs.declared.session.Worker.{Worker}
+use Rattle.sysv_server.specs.declared.sums.Sums.{Sums}
+use Rattle.sysv_server.specs.Added.{added}
+use Rattle.sysv_server.proofs.Adding.{adding_one}
+use Rattle.sysv_server.proofs.Shifts.{but_last}
+use Rattle.sysv_server.proofs.crew.dismiss.Goals as goal
+
+pub loop-worker-preserved : goal.loop-worker-preserved
+loop-worker-preserved g c =
+    let is = c.in-Some.ensures.items in
+    let P : Worker g.row.R.Denot → Type 0 = λ w. w.kernel.service.now ≡ c.args.service.now in
+    let sums : Worker g.row.R.Denot → Sums = λ w. w.sums in
+    let fewer = ap (map sums) is ∙ map-append sums c.pop.new.self.items (c.in-Some.worker ∷ []) in
+    record {
+      pass = c.join_pass.ensures.pass;
+      workers = but_last P c.pop.new.self.items c.loop-worker.workers.items c.in-Some.worker is c.loop-worker.invariant.workers;
+      sums = adding_one _ _ _ _ _ _ c.loop-worker.invariant.sums fewer (c.add.ensures ∙ ap (added c.loop-worker.sums) c.into_parts-theirs.ensures.sums);
+    }

@@ -1,0 +1,23 @@
+-- One worker more, with the pass that was split off.
+use Rattle.std.proofs.Common.{◌≡◌, ◌∙◌, ◌+◌, ap, arith, subst, sym}
+use Rattle.std.proofs.lemmas.List.Elements.{All-push}
+use Rattle.std.specs.List.{All}
+use Rattle.sysv_gated.specs.Seats.{AreOf}
+use Rattle.sysv_service.specs.Ran.{Pass}
+use Rattle.sysv_server.specs.declared.session.Worker.{Worker}
+use Rattle.sysv_server.specs.Serving.{IsNew}
+use Rattle.sysv_server.proofs.crew.hire.Goals as goal
+
+pub loop-preserved : goal.loop-preserved
+loop-preserved g c =
+    let ok = c.in_ok-theirs.ensures.ok in
+    let made = c.new.ensures in
+    let fits : AreOf c.args.service.now c.new.result.kernel.pass.seats = subst (λ (p : Pass). AreOf c.args.service.now p.seats) (sym made.pass) ok.0 in
+    let P : Worker g.row.R.Denot → Type 0 = λ w. (w.kernel.service.now ≡ c.args.service.now) × IsNew c.args.service.now w.kernel.pass w.sums in
+    let all = All-push P c.loop.workers.items c.new.result c.loop.invariant.workers (made.service, (fits, ap (λ (p : Pass). p.held) made.pass ∙ ok.2, made.sums)) in
+    record {
+      pass = c.in_ok-theirs.ensures.pass;
+      workers = subst (All P) (sym c.push_reserved.ensures.items) all;
+      count = c.push_reserved.ensures.len ∙ ap (λ n. n + 1) c.loop.invariant.count;
+      room = let room = c.loop.invariant.room in let same = c.push_reserved.ensures.capacity in omega arith;
+    }

@@ -1,0 +1,14 @@
+use Rattle.std.proofs.Common.{◌≡◌, ◌≤◌, vec_len, vec_capacity}
+use Rattle.std.specs.List.{All}
+use Rattle.sysv_gated.specs.Seats.{AreOf}
+use Rattle.sysv_server.specs.Serving.{IsNew}
+use Rattle.sysv_server.proofs.crew.hire.Given as goal
+
+-- one worker for each pass that was split off
+abbrev pub invariant-loop : goal.invariant-loop
+invariant-loop g l = record {
+  pass : AreOf l.service l.pass.seats;
+  workers : All (λ w. (w.kernel.service.now ≡ l.service) × IsNew l.service w.kernel.pass w.sums) l.workers.items;
+  count : vec_len l.workers ≡ l.counter;
+  room : l.count ≤ vec_capacity l.workers;
+}

@@ -1,0 +1,46 @@
+-- What a worker of a server does with its connections (this profile's).
+use Rattle.std.specs.Prelude.{◌≡◌, ℕ, List, Option, None, Some, map, flat_map}
+use Rattle.std.specs.List.{FoldsTo}
+use Rattle.sysv_queue.specs.Tally.{Tallied}
+use Rattle.sysv_session.specs.declared.served.Served.{Served}
+use Rattle.sysv_session.specs.Session.{Serves}
+use Rattle.sysv_service.specs.Ran.{Pass}
+use Rattle.sysv_kernel.specs.Asked.{asks_with}
+use Rattle.sysv_server.specs.declared.sums.Sums.{Sums}
+use Rattle.sysv_server.specs.Added.{added, all_added, one_session}
+
+-- every moment of a server is 0
+abbrev pub zero_moment : ℕ → Type 0
+zero_moment now = now ≡ 0
+
+-- A session with this pass told this; or its memory was refused, and nothing was done. Of what a socket gives and takes nothing
+-- is known.
+abbrev pub Talks : Pass → Option Served → Pass → Type 0
+Talks before None after = after ≡ before
+Talks before (Some served) after =
+    (left rest taken more : Option (List ℕ)) × Serves (asks_with zero_moment) served before after left rest taken more
+
+-- what became of the messages of a session
+abbrev pub tally_of : Option Served → Tallied
+tally_of None = record { written = 0; lost = 0 }
+tally_of (Some served) = served.tally
+
+-- one more session, and what it told is added to the sums
+abbrev pub Handles : Pass → Sums → Pass → Sums → Type 0
+Handles before sums after more = (told : Option Served) × Talks before told after × (more ≡ added sums (one_session (tally_of told)))
+
+-- what sessions add up to that told this
+abbrev pub sums_of : List (Option Served) → Sums
+sums_of told = all_added (map (λ t. one_session (tally_of t)) told)
+
+-- One worker: the pass with which it began, what its sessions told, in their order, and the pass with which it ended. Each
+-- session begins with the pass with which the one before it ended.
+pub record Shift : Type 0 where
+  pub before : Pass
+  pub told : List (Option Served)
+  pub after : Pass
+  pub worked : FoldsTo Talks before told after
+
+-- what the sessions of all workers told
+abbrev pub told_in : List Shift → List (Option Served)
+told_in shifts = flat_map (λ (shift : Shift). shift.told) shifts

@@ -1,0 +1,4 @@
+pub mod Added
+pub mod Handled
+pub mod Accepts
+pub mod Serving

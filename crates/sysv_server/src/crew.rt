@@ -1,0 +1,59 @@
+//! The workers of a server: a pass is split for each, and taken back at the end.
+ghost use Rattle.std.specs.Prelude.{◌≡◌, ◌≤◌, map, vec_len, vec_capacity, OnOk, []};
+ghost use Rattle.std.specs.List.{All};
+ghost use Rattle.sysv_gated.specs.Seats.{AreOf};
+ghost use Rattle.sysv_server.specs.Added.{all_added};
+ghost use Rattle.sysv_server.specs.Serving.{IsNew};
+
+use crate::session::Worker;
+use crate::sums::Sums;
+use std::alloc::Global;
+use std::sync::Wait;
+use sysv_gated::sharing::NoMemory;
+use sysv_service::pass::Pass;
+use sysv_service::service::Service;
+
+/// Adds so many workers, each with a pass that is split off from this one.
+pub(crate) fn hire<'a, R: Wait>(
+    rt: &'a R,
+    alloc: Global,
+    service: &'a Service,
+    pass: &mut Pass,
+    count: usize,
+    workers: &mut Vec<Worker<'a, R>>,
+) -> Result<(), NoMemory>
+    requires pass { AreOf service.now pass.old.seats }
+    requires none { workers.old.items ≡ [] }
+    requires room { count ≤ vec_capacity workers.old }
+    ensures pass { AreOf service.now pass.new.seats }
+    ensures workers { All (λ w. (w.kernel.service.now ≡ service.now) × IsNew service.now w.kernel.pass w.sums) workers.new.items }
+    ensures count { OnOk result (vec_len workers.new ≡ count) }
+{
+    for _ in 0..count {
+        let theirs = service.split_pass(alloc, pass)?;
+        workers.push_reserved(Worker::new(rt, service, theirs));
+    }
+    Ok(())
+}
+
+/// Takes back the passes of all workers, and adds up their sums.
+pub(crate) fn dismiss<R: Wait>(
+    service: &Service,
+    pass: &mut Pass,
+    workers: Vec<Worker<'_, R>>,
+) -> Sums
+    requires pass { AreOf service.now pass.old.seats }
+    requires workers { All (λ w. w.kernel.service.now ≡ service.now) workers.items }
+    ensures pass { AreOf service.now pass.new.seats }
+    ensures sums { result ≡ all_added (map (λ w. w.sums) workers.entry.items) }
+{
+    let mut workers = workers;
+    let mut sums = Sums::open();
+    while let Some(worker) = workers.pop() {
+        let (theirs, more) = worker.into_parts();
+        service.join_pass(pass, theirs);
+        sums.add(more);
+    }
+    workers.destroy_empty();
+    sums
+}

@@ -1,0 +1,15 @@
+//! A server of message queues on a Unix socket: each connection is a session on one service, which worker threads share.
+#![tactic(auto)]
+
+mod accepting;
+mod crew;
+mod fault;
+mod serving;
+mod session;
+mod sums;
+#[cfg(test)]
+mod tests;
+
+pub use fault::ServeFault;
+pub use serving::{serve_connections, serve_on};
+pub use sums::Sums;

@@ -1,0 +1,102 @@
+//! One session on a connection, and the workers that run them.
+ghost use Rattle.std.specs.Prelude.{◌≡◌, ℕ, List, Option, IfSome, IfNone};
+ghost use Rattle.sysv_gated.specs.Seats.{AreOf};
+ghost use Rattle.sysv_session.specs.Session.{Serves};
+ghost use Rattle.sysv_kernel.specs.Asked.{asks_with};
+ghost use Rattle.sysv_server.specs.Added.{nothing};
+
+use crate::sums::Sums;
+use std::alloc::Global;
+use std::io::{BufReader, BufWriter};
+use std::os::unix::net::UnixStream;
+use std::sync::Wait;
+use sysv_kernel::kernel::ServiceKernel;
+use sysv_queue::tally::Tally;
+use sysv_service::clock::Clock;
+use sysv_service::pass::Pass;
+use sysv_service::service::Service;
+use sysv_session::served::Served;
+use sysv_workers::Job;
+
+/// A clock that stands at 0.
+pub(crate) struct Zero;
+
+impl Clock for Zero {
+    ghost may = { λ _ now. now ≡ 0 };
+
+    fn now(&self) -> u64 {
+        0
+    }
+}
+
+const ZERO: Zero = Zero;
+
+/// A worker: a kernel with a pass of its own, and what its sessions add up to.
+pub(crate) struct Worker<'a, R: Wait> {
+    kernel: ServiceKernel<'a, Zero, R>,
+    sums: Sums,
+}
+
+impl<'a, R: Wait> Worker<'a, R> {
+    /// A worker that served no session.
+    pub(crate) fn new(rt: &'a R, service: &'a Service, pass: Pass) -> Worker<'a, R>
+        requires { AreOf service.now pass.seats }
+        ensures service { result.kernel.service.now ≡ service.now }
+        ensures pass { result.kernel.pass ≡ pass }
+        ensures sums { result.sums ≡ nothing }
+    {
+        Worker {
+            kernel: ServiceKernel::new(rt, service, &ZERO, pass),
+            sums: Sums::open(),
+        }
+    }
+
+    /// Its pass and its sums.
+    pub(crate) fn into_parts(self) -> (Pass, Sums)
+        ensures pass { result.0 ≡ self.entry.kernel.pass }
+        ensures fits { AreOf self.entry.kernel.service.now result.0.seats }
+        ensures sums { result.1 ≡ self.entry.sums }
+    {
+        let Worker { kernel, sums } = self;
+        (kernel.into_pass(), sums)
+    }
+}
+
+/// Runs a session on each connection.
+#[derive(Drop)]
+pub(crate) struct Sessions<'a> {
+    pub(crate) alloc: Global,
+    pub(crate) service: &'a Service,
+}
+
+impl<'a, R: Wait> Job<Worker<'a, R>, UnixStream> for Sessions<'a> {
+    ghost use Rattle.sysv_server.specs.Handled.{Handles};
+
+    ghost fits = { λ job worker. worker.kernel.service.now ≡ job.service.now };
+
+    ghost runs = { λ _ old _ new. Handles old.kernel.pass old.sums new.kernel.pass new.sums };
+
+    fn run(&self, worker: &mut Worker<'a, R>, stream: UnixStream) {
+        let tally = match converse(self.alloc, &mut worker.kernel, &stream) {
+            Some(served) => served.tally,
+            None => Tally::open(),
+        };
+        worker.sums.add(Sums::of(&tally));
+    }
+}
+
+/// Runs one session on the connection. `None` where memory for its buffers was refused, and then nothing was read or written.
+fn converse<C: Clock, R: Wait>(
+    alloc: Global,
+    kernel: &mut ServiceKernel<'_, C, R>,
+    stream: &UnixStream,
+) -> Option<Served>
+    ensures some { IfSome result (λ told. (left rest taken more : Option (List ℕ)) × Serves (asks_with (C.may kernel.old.clock.now)) told kernel.old.pass kernel.new.pass left rest taken more) }
+    ensures none { IfNone result (kernel.new.pass ≡ kernel.old.pass) }
+    ensures service { kernel.new.service ≡ kernel.old.service }
+    ensures clock { kernel.new.clock ≡ kernel.old.clock }
+{
+    let mut reader = BufReader::new(alloc, stream).ok()?;
+    let mut writer = BufWriter::new(alloc, stream).ok()?;
+    Some(kernel.serve(alloc, &mut reader, &mut writer))
+}
