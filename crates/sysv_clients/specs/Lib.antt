@@ -1,0 +1,6 @@
+pub mod Asks
+pub mod Talk
+pub mod Faults
+pub mod Table
+pub mod Page
+pub mod Run
