@@ -16,8 +16,7 @@ use Rattle.sysv_clients.specs.Faults.{fault_line}
 use Rattle.sysv_clients.specs.Page.{answer_most, answer_text, page_text, task_head}
 use Rattle.sysv_clients.specs.Run.{Runs, Shows, TalksThrough}
 use Rattle.sysv_clients.specs.Table.{table_head}
-use Rattle.sysv_clients.specs.Talk.{EndsTalk, Exchange, Exchanges, IsDone, Talked, answered_spelling, ask_spelling, asked_spelling, found_in, id_after, next_ask, reply_to}
-use Rattle.sysv_clients.specs.Talk.Talked.{Begun, More}
+use Rattle.sysv_clients.specs.Talk.{EndsTalk, Exchange, Exchanges, Follows, IsDone, Talked, answered_spelling, ask_spelling, asked_spelling, found_in, id_after, next_ask, reply_to}
 use Rattle.sysv_wire.specs.declared.reply.Outcome.{Outcome}
 use Rattle.sysv_wire.specs.declared.reply.Outcome.TheVariants as Told
 use Rattle.sysv_wire.specs.declared.request.Ask.{Ask}
@@ -43,7 +42,7 @@ pub record Talking (command : Command) (left rest taken more : Option (List ℕ)
 pub begins : (command : Command) (left taken : Option (List ℕ)) (page : List ℕ) → page ≡ task_head command.task → Talking command left left taken taken page 0 (pos 0)
 begins command left taken page head = record {
   exchanges = [];
-  talked = Begun;
+  talked = tt;
   reads = Consumes-nil left;
   writes = Appends-nil taken;
   collects = head ∙ sym (append-nil (task_head command.task));
@@ -73,6 +72,13 @@ found_more exchanges one = fold-append (λ (found : ℤ) (e : Exchange). id_afte
 length_more : (exchanges : List Exchange) (one : Exchange) → length (exchanges ++ one ∷ []) ≡ length exchanges + 1
 length_more exchanges one = length-append exchanges (one ∷ [])
 
+-- an exchange more at the end
+follows_more : (command : Command) (before exchanges : List Exchange) (one : Exchange) → Follows command before exchanges → next_ask command (before ++ exchanges) ≡ Some one.ask
+    → IsDone one.ask one.answer one.given → Follows command before (exchanges ++ one ∷ [])
+follows_more command before [] one follows next done = (ap (next_ask command) (sym (append-nil before)) ∙ next, done, tt)
+follows_more command before (first ∷ others) one follows next done =
+    (follows.0, follows.1, follows_more command (before ++ first ∷ []) others one follows.2 (ap (next_ask command) (append_assoc before (first ∷ []) others) ∙ next) done)
+
 -- what is asked at this place is what the command asks for next
 is_next : (command : Command) (left rest taken more : Option (List ℕ)) (page : List ℕ) (place : ℕ) (id : ℤ) (found : Option Ask)
     → (so_far : Talking command left rest taken more page place id) → found ≡ slice_get (asks_of command id) place → next_ask command so_far.exchanges ≡ found
@@ -91,7 +97,7 @@ goes_on command ask answer given left mid rest taken more most page text place i
     let frame : Appends more most (ask_spelling command ask) = subst (λ (l : List ℕ). Appends more most (request_spelling (record { ask = ask }) l)) sent exchange.0 in
     record {
       exchanges = before ++ one ∷ [];
-      talked = More before one so_far.talked (is_next command left mid taken more page place id (Some ask) so_far asked) exchange.1.1;
+      talked = follows_more command [] before one so_far.talked (is_next command left mid taken more page place id (Some ask) so_far asked) exchange.1.1;
       reads = subst (Consumes left rest) (sym (answered_more before one)) (Consumes-trans left mid rest _ _ so_far.reads exchange.1.0);
       writes = subst (Appends taken most) (sym (asked_more command before one)) (Appends-trans taken more most _ _ so_far.writes frame);
       collects = ap (λ l. l ++ answer_text answer given) so_far.collects ∙ sym (page_more command before one);
@@ -148,7 +154,7 @@ refused command status left taken shown after shows = record {
   exchanges = [];
   ended = Err NoMemory;
   talks = record {
-    talked = Begun;
+    talked = tt;
     unread = left;
     written = taken;
     reads = Consumes-nil left;

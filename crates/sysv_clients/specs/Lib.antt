@@ -4,3 +4,5 @@ pub mod Faults
 pub mod Table
 pub mod Page
 pub mod Run
+pub mod Words
+pub mod Course

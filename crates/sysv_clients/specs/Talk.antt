@@ -64,11 +64,15 @@ found_in exchanges = fold (λ found exchange. id_after found exchange.answer) (p
 abbrev pub next_ask : Command → List Exchange → Option Ask
 next_ask command exchanges = slice_get (asks_of command (found_in exchanges)) (length exchanges)
 
--- Each request was what the command asks for next, and was done.
-pub data Talked (command : Command) : List Exchange → Type 0 where
-  Begun : Talked command []
-  More : (exchanges : List Exchange) (exchange : Exchange) → Talked command exchanges → next_ask command exchanges ≡ Some exchange.ask
-      → IsDone exchange.ask exchange.answer exchange.given → Talked command (exchanges ++ exchange ∷ [])
+-- After some exchanges come these: each request is what the command asks for next, and is done.
+abbrev pub Follows : Command → List Exchange → List Exchange → Type 0
+Follows command before [] = ⊤
+Follows command before (exchange ∷ more) =
+    (next_ask command before ≡ Some exchange.ask) × IsDone exchange.ask exchange.answer exchange.given × Follows command (before ++ exchange ∷ []) more
+
+-- a command's exchanges, as far as they go
+abbrev pub Talked : Command → List Exchange → Type 0
+Talked command exchanges = Follows command [] exchanges
 
 -- What comes is no reply to a request: the input is at its end, or it is no reply at all, or one to another operation.
 abbrev pub HasNoReply : Ask → (left rest : Option (List ℕ)) → Type 0

@@ -1,10 +1,11 @@
 //! A client, from its first request to what it shows.
-ghost use Rattle.std.specs.Prelude.{◌≡◌, pos, IfOk};
+ghost use Rattle.std.specs.Prelude.{◌≡◌, ⊤, ℕ, pos, List, Result, Some, IfOk};
 ghost use Rattle.sysv_clients.specs.Asks.{text_of};
+ghost use Rattle.sysv_clients.specs.Course.{Makes, ShowsCourse};
 ghost use Rattle.sysv_clients.specs.Faults.{fault_line};
 ghost use Rattle.sysv_clients.specs.Page.{task_head};
 ghost use Rattle.sysv_clients.specs.Run.{HasShortText, Runs, Shows, TalksThrough};
-ghost use Rattle.sysv_clients.specs.Talk.{id_after};
+ghost use Rattle.sysv_clients.specs.Talk.{Exchange, id_after};
 
 use crate::command::{Command, Task};
 use crate::exchange::exchange;
@@ -15,10 +16,31 @@ use std::alloc::Global;
 use std::io::{Read, Write};
 use sysv_model::body::Body;
 use sysv_model::no_memory::NoMemory;
+use sysv_wire::laws::{one_answer_to_replies, one_reply};
 use sysv_wire::reply::Outcome;
 
 /// Asks a server for what a command says, and shows what came of it; the status, 0 or 1.
 pub fn run_client<R: Read, W: Write, S: Write>(
+    alloc: Global,
+    command: &Command<'_>,
+    reader: &mut R,
+    writer: &mut W,
+    screen: &mut S,
+) -> i32
+    requires { HasShortText command.now.task }
+    ensures runs { Runs command.now result (R.remaining reader.old) (R.remaining reader.new) (W.contents writer.old) (W.contents writer.new)
+        (S.contents screen.old) (S.contents screen.new) }
+    // It shows what its input makes of the command, unless a stream fails or memory is refused.
+    ensures only { (input : List ℕ) (exchanges : List Exchange) (ended : Result ⊤ ClientFault) → R.remaining reader.old ≡ Some input
+        → Makes command.now input exchanges ended → ShowsCourse command.now exchanges ended result (S.contents screen.old) (S.contents screen.new) }
+{
+    one_answer_to_replies();
+    one_reply();
+    talk_and_show(alloc, command, reader, writer, screen)
+}
+
+/// The same, by what was read and written.
+fn talk_and_show<R: Read, W: Write, S: Write>(
     alloc: Global,
     command: &Command<'_>,
     reader: &mut R,

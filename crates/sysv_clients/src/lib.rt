@@ -8,3 +8,6 @@ mod exchange;
 pub mod fault;
 mod page;
 mod screen;
+#[cfg(test)]
+mod tests;
+pub mod words;
