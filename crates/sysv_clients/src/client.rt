@@ -19,7 +19,16 @@ use sysv_model::no_memory::NoMemory;
 use sysv_wire::laws::{one_answer_to_replies, one_reply};
 use sysv_wire::reply::Outcome;
 
-/// Asks a server for what a command says, and shows what came of it; the status, 0 or 1.
+/// Asks a server for what a command says, and shows what came of it; the status, 0 where all was done and
+/// shown, else 1. The text of a `snd` has at most 8,256 bytes.
+///
+/// Memory is taken first, for two texts and for what is collected; where it is refused, nothing is written
+/// to the server or read. Then a hello and the requests of the task are written, each flushed before its
+/// reply is read. The first that is refused, cannot be written or has no reply ends the talk: a reply to
+/// another operation is none. What earlier requests did stays done.
+///
+/// Then the screen is written, and flushed: the table of an `ipcs`, the text and an LF of a `rcv`, nothing of
+/// the others, and of a fault its line alone. Where the screen fails it has taken a prefix of that.
 pub fn run_client<R: Read, W: Write, S: Write>(
     alloc: Global,
     command: &Command<'_>,

@@ -14,7 +14,7 @@ pub const SLOTS: u32 = 64;
 pub const REQUESTS_MOST: u32 = 65;
 
 /// A client's task, and who asks for it.
-#[derive(Clone, Copy)]
+#[derive(Clone, Copy, PartialEq, Eq, Debug)]
 pub struct Command<'a> {
     /// Who the client says it is.
     pub cred: Cred,
@@ -23,7 +23,7 @@ pub struct Command<'a> {
 }
 
 /// What a client asks for.
-#[derive(Clone, Copy)]
+#[derive(Clone, Copy, PartialEq, Eq, Debug)]
 pub enum Task<'a> {
     /// `ipcs`: the list of queues.
     List,
