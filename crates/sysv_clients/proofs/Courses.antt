@@ -1,7 +1,7 @@
 -- A client shows what its input makes of its command.
-use Rattle.std.proofs.Common.{◌≡◌, ◌≢◌, ◌≤◌, ℕ, ℤ, pos, List, [], ◌∷◌, ◌++◌, length, Option, None, Some, Result, Ok, Err, refl, sym, ap, subst, ◌∙◌, ◌⊎◌, inl, inr, arith, append_assoc, append-nil}
+use Rattle.std.proofs.Common.{◌≡◌, ◌≢◌, ◌≤◌, ℕ, ℤ, pos, List, [], ◌∷◌, ◌++◌, Option, None, Some, Result, Ok, Err, refl, sym, ap, subst, ◌∙◌, ◌⊎◌, inl, inr, arith, append_assoc, append-nil}
 use Rattle.std.specs.Prelude.{⊤}
-use Rattle.std.specs.Io.KnownBytes.{Appends, Consumes, IsAtEnd}
+use Rattle.std.specs.Io.KnownBytes.{Consumes, IsAtEnd}
 use Rattle.sysv_clients.specs.declared.command.Command.{Command}
 use Rattle.sysv_clients.specs.declared.fault.ClientFault.{ClientFault}
 use Rattle.sysv_clients.specs.declared.fault.ClientFault.TheVariants as fault
@@ -23,10 +23,9 @@ use Rattle.sysv_wire.specs.Faults.{Faults}
 use Rattle.sysv_wire.specs.Frames.{op_number}
 use Rattle.sysv_wire.specs.OneAnswer.{OneAnswerToReplies, ReplyAt}
 use Rattle.sysv_wire.specs.OneSpelling.{OneReply}
-use Rattle.sysv_wire.specs.Replies.{FitsReply, error_number, outcome_text, reply_spelling}
+use Rattle.sysv_wire.specs.Replies.{FitsReply, error_number, reply_spelling}
 use Rattle.sysv_wire.specs.ReplyFaults.{ReplyFault}
 use Rattle.sysv_wire.specs.Requests.{op_of}
-use Rattle.sysv_wire.specs.Streams.{AppendsPrefix}
 
 one_reply : (a b : Reply) → (let x : Result (Option Reply) Fault = Ok (Some a) in let y : Result (Option Reply) Fault = Ok (Some b) in x ≡ y) → a ≡ b
 one_reply a b same = cc

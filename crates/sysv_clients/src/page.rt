@@ -15,17 +15,17 @@ use sysv_wire::reply::Outcome;
 
 /// The bytes for which a page has room: a table of 66 lines of 62 bytes, and a message of the greatest
 /// size with its LF.
-pub const PAGE_ROOM: usize = 12_285;
+pub(crate) const PAGE_ROOM: usize = 12_285;
 
 /// The bytes of the longest line of the table.
-pub const LINE_MOST: usize = 62;
+pub(crate) const LINE_MOST: usize = 62;
 
 /// As many spaces as the widest column.
 const SPACES: [u8; 10] = [b' '; 10];
 
 /// What a client collects: at most 12,285 bytes, for all of which there is room from the start.
 #[derive(Drop)]
-pub struct Page {
+pub(crate) struct Page {
     bytes: Vec<u8>,
 }
 
@@ -52,7 +52,7 @@ impl Page {
     }
 
     /// All that was collected.
-    pub fn bytes(&self) -> &[u8]
+    pub(crate) fn bytes(&self) -> &[u8]
         ensures { result.now ≡ self.now }
     {
         &self.bytes
