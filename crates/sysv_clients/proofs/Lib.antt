@@ -1,0 +1,4 @@
+pub mod StreamLemmas
+pub mod Talking
+pub mod WordLemmas
+pub mod Courses

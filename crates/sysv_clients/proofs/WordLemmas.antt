@@ -1,0 +1,42 @@
+-- What words of a command line say, and what they do not.
+use Rattle.std.proofs.Common.{◌≢◌, ◌<◌, ◌≤◌, ◌^◌, ℕ, List, [], ◌∷◌, length, get_or, Result, Ok, Err, sym, ap, subst, ◌∙◌, arith}
+use Rattle.std.specs.Option.{SomeIff}
+use Rattle.std.specs.Result.{result_ok}
+use Rattle.std.specs.Char.{digit_value}
+use Rattle.std.specs.Str.{IsAscii, IsUtf8}
+use Rattle.std.specs.Str.Parse.{AllDigits, IsNumeral, ParsesUnsigned, digits_value, without_leading_plus}
+use Rattle.std.proofs.Math.Nat.{pow-le-pow_right}
+use Rattle.std.proofs.lemmas.Bool.Decides.{nat_tests}
+use Rattle.std.proofs.lemmas.Int.Digits.{digits_value-lt}
+use Rattle.std.proofs.lemmas.Result.{OkIff-at_ok, OkIff-at_err}
+use Rattle.std.proofs.lemmas.Str.{IsUtf8-from_ascii}
+use Rattle.std.proofs.lemmas.Str.Ascii.{IsAscii-nil, IsAscii-cons}
+use Rattle.std.proofs.lemmas.Str.Parse.{without_leading_plus_none}
+
+hex_glyph : (c : ℕ) → digit_value c < 16 → c < 128
+hex_glyph c small = grind (arith, nat_tests)
+
+IsAscii-hex : (ds : List ℕ) → AllDigits 16 ds → IsAscii ds
+IsAscii-hex [] h = IsAscii-nil
+IsAscii-hex (d ∷ ds) h = IsAscii-cons d ds (hex_glyph d h.0) (IsAscii-hex ds h.1)
+
+pub IsUtf8-hex : (ds : List ℕ) → AllDigits 16 ds → IsUtf8 ds
+IsUtf8-hex ds h = IsUtf8-from_ascii ds (IsAscii-hex ds h)
+
+-- eight hexadecimal digits stand for a number of 32 bits
+hex_small : (ds : List ℕ) → AllDigits 16 ds → length ds ≤ 8 → digits_value 16 ds < 2 ^ 32
+hex_small ds h few =
+    let below : digits_value 16 ds < 16 ^ length ds = digits_value-lt 16 ds h in
+    let most : 16 ^ length ds ≤ 16 ^ 8 = pow-le-pow_right (omega arith) few in
+    omega (arith, below, most)
+
+-- what is read of at most eight digits, before which no plus stands
+pub hex_read : {E : Type 0} (digits : List ℕ) (r : Result ℕ E) → get_or digits 0 0 ≢ 43 → length digits ≤ 8 → ParsesUnsigned 32 16 digits r →
+    SomeIff (result_ok r) (IsNumeral 16 digits × (length digits ≤ 8)) (digits_value 16 digits)
+hex_read {E} digits (Ok x) plain few h =
+    let own = without_leading_plus_none digits plain in
+    let read = OkIff-at_ok {T = ℕ} {E = E} (Ok x) _ _ x h (λ i. Ok x) in
+    ((subst (IsNumeral 16) own read.0.0, few), read.1 ∙ ap (digits_value 16) own)
+hex_read {E} digits (Err e) plain few h =
+    let own = without_leading_plus_none digits plain in
+    λ n. OkIff-at_err {T = ℕ} {E = E} (Err e) _ (digits_value 16 (without_leading_plus digits)) e h (λ i. Err e) (subst (IsNumeral 16) (sym own) n.0, subst (λ ds. digits_value 16 ds < 2 ^ 32) (sym own) (hex_small digits n.0.1 few))

@@ -1,0 +1,63 @@
+-- What a command asks a server for (this profile's programs): a hello first, and then the calls of its task, in order.
+-- The number that a call takes for its queue is the identifier that the msgget before it gave.
+use Rattle.std.specs.Prelude.{ℕ, ℤ, Bool, true, false, List, [], ◌∷◌, map, if◌then◌else◌}
+use Rattle.std.specs.List.{range_with_len}
+use Rattle.std.specs.Int.RustNames.{bit_or}
+use Rattle.sysv_clients.specs.declared.command.Command.{Command}
+use Rattle.sysv_clients.specs.declared.command.Target.{Target}
+use Rattle.sysv_clients.specs.declared.command.Target.TheVariants.{Id, Key}
+use Rattle.sysv_clients.specs.declared.command.Task.{Task}
+use Rattle.sysv_clients.specs.declared.command.Task.TheVariants.{List as Table, Remove, Send, Receive}
+use Rattle.sysv_clients.specs.declared.command.TheConstants.{SLOTS}
+use Rattle.sysv_model.specs.declared.flags.Flags.{Flags}
+use Rattle.sysv_model.specs.declared.flags.TheConstants.Flags.{IPC_CREAT, IPC_NOWAIT, MSG_NOERROR, USER_READ, USER_WRITE}
+use Rattle.sysv_wire.specs.declared.request.Ask.{Ask}
+use Rattle.sysv_wire.specs.declared.request.Ask.TheVariants.{Hello, Get, Snd, Rcv, Stat, Set, Rm, Row}
+
+abbrev pub no_flags : Flags
+no_flags = record { 0 = 0 }
+
+-- to make a queue with mode 0600 where there is none
+abbrev pub create_flags : Flags
+create_flags = record { 0 = bit_or (bit_or IPC_CREAT.0 USER_READ.0) USER_WRITE.0 }
+
+abbrev pub flags_to_wait : Bool → Flags
+flags_to_wait nowait = if nowait then IPC_NOWAIT else no_flags
+
+abbrev pub flags_to_receive : Bool → Bool → Flags
+flags_to_receive nowait noerror = if noerror then record { 0 = bit_or (flags_to_wait nowait).0 MSG_NOERROR.0 } else flags_to_wait nowait
+
+-- the rows of all slots
+unfoldable pub row_asks : List Ask
+row_asks = map (λ slot. Row slot) (range_with_len 0 SLOTS)
+
+abbrev pub remove_asks : Target → ℤ → List Ask
+remove_asks (Id id) found = Rm id ∷ []
+remove_asks (Key key) found = Get key no_flags ∷ Rm found ∷ []
+
+abbrev pub task_asks : Task → ℤ → List Ask
+task_asks Table found = row_asks
+task_asks (Remove target) found = remove_asks target found
+task_asks (Send key text mtype nowait) found = Get key create_flags ∷ Snd found mtype (flags_to_wait nowait) ∷ []
+task_asks (Receive key size mtype nowait noerror) found = Get key no_flags ∷ Rcv found size mtype (flags_to_receive nowait noerror) ∷ []
+
+-- all that a command asks for, where its msgget gives this identifier
+abbrev pub asks_of : Command → ℤ → List Ask
+asks_of command found = Hello command.cred ∷ task_asks command.task found
+
+abbrev pub is_receive : Ask → Bool
+is_receive (Rcv id size mtype flags) = true
+is_receive (Hello cred) = false
+is_receive (Get key flags) = false
+is_receive (Snd id mtype flags) = false
+is_receive (Stat id) = false
+is_receive (Set id to) = false
+is_receive (Rm id) = false
+is_receive (Row slot) = false
+
+-- the text that a command sends
+abbrev pub text_of : Task → List ℕ
+text_of Table = []
+text_of (Remove target) = []
+text_of (Send key text mtype nowait) = text.now
+text_of (Receive key size mtype nowait noerror) = []

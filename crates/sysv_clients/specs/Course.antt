@@ -1,0 +1,48 @@
+-- What an input makes of a command, taken for itself (this profile's programs): the replies that stand in it, and how the
+-- talk ends that reads them. That a stream fails may come with any input, and is not spoken of here.
+use Rattle.std.specs.Prelude.{◌≡◌, ◌≢◌, ◌⊎◌, ⊤, ℕ, ℤ, pos, List, ◌++◌, Option, None, Some, Result, Ok, Err}
+use Rattle.sysv_clients.specs.declared.command.Command.{Command}
+use Rattle.sysv_clients.specs.declared.fault.ClientFault.{ClientFault}
+use Rattle.sysv_clients.specs.declared.fault.ClientFault.TheVariants as fault
+use Rattle.sysv_clients.specs.Faults.{fault_line}
+use Rattle.sysv_clients.specs.Run.{Shows, shown_text, status_of}
+use Rattle.sysv_clients.specs.Talk.{Exchange, Talked, answered_spelling, next_ask, reply_to}
+use Rattle.sysv_wire.specs.declared.fault.Fault.{Fault}
+use Rattle.sysv_wire.specs.declared.reply.Outcome.TheVariants.{Refused}
+use Rattle.sysv_wire.specs.declared.reply.Reply.{Reply}
+use Rattle.sysv_wire.specs.declared.request.Ask.{Ask}
+use Rattle.sysv_wire.specs.Frames.{op_number}
+use Rattle.sysv_wire.specs.OneAnswer.{ReplyAt}
+use Rattle.sysv_wire.specs.Requests.{op_of}
+use Rattle.sysv_wire.specs.Streams.{AppendsPrefix}
+
+-- what a reader answers is no reply to the request: none, none that can be read, or one to another operation
+abbrev pub IsNoReplyTo : Ask → Result (Option Reply) Fault → Type 0
+IsNoReplyTo ask (Ok None) = ⊤
+IsNoReplyTo ask (Ok (Some reply)) = reply.op ≢ op_number (op_of ask)
+IsNoReplyTo ask (Err why) = ⊤
+
+-- how the talk ends where this comes next
+abbrev pub EndsOn : Command → List Exchange → Result ⊤ ClientFault → List ℕ → Type 0
+EndsOn command exchanges (Ok done) rest = next_ask command exchanges ≡ None
+EndsOn command exchanges (Err (fault.Refused error)) rest = (ask : Ask) × (next_ask command exchanges ≡ Some ask) × ReplyAt rest (Ok (Some (reply_to ask (Refused error))))
+EndsOn command exchanges (Err fault.NoReply) rest =
+    (ask : Ask) × (answer : Result (Option Reply) Fault) × (next_ask command exchanges ≡ Some ask) × IsNoReplyTo ask answer × ReplyAt rest answer
+EndsOn command exchanges (Err fault.NoMemory) rest = ⊥
+
+-- The input is the replies to these exchanges, and what then ends the talk.
+pub record Makes (command : Command) (input : List ℕ) (exchanges : List Exchange) (ended : Result ⊤ ClientFault) : Type 0 where
+  pub talked : Talked command exchanges
+  pub rest : List ℕ
+  pub replies : input ≡ answered_spelling exchanges ++ rest
+  pub ends : EndsOn command exchanges ended rest
+
+-- the line of this fault was shown, or a prefix of it
+abbrev pub ShowsFault : ClientFault → ℤ → (shown after : Option (List ℕ)) → Type 0
+ShowsFault why status shown after = (status ≡ pos 1) × AppendsPrefix shown after (fault_line why)
+
+-- What the input makes of the command is shown; or a stream failed, or memory was refused.
+abbrev pub ShowsCourse : Command → List Exchange → Result ⊤ ClientFault → ℤ → (shown after : Option (List ℕ)) → Type 0
+ShowsCourse command exchanges ended status shown after =
+    Shows status (status_of ended) (shown_text command.task exchanges ended) shown after
+    ⊎ (ShowsFault fault.NoReply status shown after ⊎ ShowsFault fault.NoMemory status shown after)

@@ -1,0 +1,8 @@
+pub mod Asks
+pub mod Talk
+pub mod Faults
+pub mod Table
+pub mod Page
+pub mod Run
+pub mod Words
+pub mod Course

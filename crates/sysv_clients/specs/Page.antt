@@ -1,0 +1,45 @@
+-- What a client shows (this profile's programs): the table of `ipcs`, or the message of `rcv`.
+use Rattle.std.specs.Prelude.{ℕ, List, [], ◌∷◌, ◌++◌, None, Some, flat_map}
+use Rattle.sysv_clients.specs.declared.command.Task.{Task}
+use Rattle.sysv_clients.specs.declared.command.Task.TheVariants.{List as Table, Remove, Send, Receive}
+use Rattle.sysv_clients.specs.declared.page.TheConstants.{LINE_MOST}
+use Rattle.sysv_clients.specs.Table.{row_line, table_head}
+use Rattle.sysv_clients.specs.Talk.{Exchange}
+use Rattle.sysv_wire.specs.declared.reply.Outcome.{Outcome}
+use Rattle.sysv_wire.specs.declared.reply.Outcome.TheVariants.{Refused, Hello, Get, Snd, Rcv, Stat, Set, Rm, Row}
+
+-- what an answer adds to what is shown: a row that is there its line, and a message its text and LF
+abbrev pub answer_text : Outcome → List ℕ → List ℕ
+answer_text (Row (Some row)) given = row_line row
+answer_text (Rcv mtype) given = given ++ 10 ∷ []
+answer_text (Row None) given = []
+answer_text (Refused error) given = []
+answer_text Hello given = []
+answer_text (Get id) given = []
+answer_text Snd given = []
+answer_text (Stat stat) given = []
+answer_text Set given = []
+answer_text Rm given = []
+
+-- what stands above it
+abbrev pub task_head : Task → List ℕ
+task_head Table = table_head
+task_head (Remove target) = []
+task_head (Send key text mtype nowait) = []
+task_head (Receive key size mtype nowait noerror) = []
+
+-- what these exchanges give to show
+abbrev pub page_text : Task → List Exchange → List ℕ
+page_text task exchanges = task_head task ++ flat_map (λ exchange. answer_text exchange.answer exchange.given) exchanges
+
+-- the most bytes that an answer adds
+abbrev pub answer_most : Outcome → ℕ
+answer_most (Rcv mtype) = 8193
+answer_most (Row row) = LINE_MOST
+answer_most (Refused error) = LINE_MOST
+answer_most Hello = LINE_MOST
+answer_most (Get id) = LINE_MOST
+answer_most Snd = LINE_MOST
+answer_most (Stat stat) = LINE_MOST
+answer_most Set = LINE_MOST
+answer_most Rm = LINE_MOST

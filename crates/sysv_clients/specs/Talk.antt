@@ -1,0 +1,123 @@
+-- A client's talk with a server (this profile's): it writes a request and reads the reply, and what it asks next depends
+-- on the replies before.
+use Rattle.std.specs.Prelude.{◌≡◌, ◌≢◌, ◌⊎◌, ⊤, ℕ, ℤ, pos, List, [], ◌∷◌, ◌++◌, length, Option, None, Some, Result, Ok, Err, flat_map, fold, slice_get}
+use Rattle.std.specs.Io.KnownBytes.{Appends, Consumes, IsAtEnd}
+use Rattle.sysv_clients.specs.declared.command.Command.{Command}
+use Rattle.sysv_clients.specs.declared.fault.ClientFault.{ClientFault}
+use Rattle.sysv_clients.specs.declared.fault.ClientFault.TheVariants as fault
+use Rattle.sysv_clients.specs.Asks.{asks_of, text_of}
+use Rattle.sysv_wire.specs.declared.fault.Fault.{Fault}
+use Rattle.sysv_wire.specs.declared.reply.Outcome.{Outcome}
+use Rattle.sysv_wire.specs.declared.reply.Outcome.TheVariants.{Refused, Hello, Get, Snd, Rcv, Stat, Set, Rm, Row}
+use Rattle.sysv_wire.specs.declared.reply.Reply.{Reply}
+use Rattle.sysv_wire.specs.declared.request.Ask.{Ask}
+use Rattle.sysv_wire.specs.Faults.{Faults}
+use Rattle.sysv_wire.specs.Frames.{op_number}
+use Rattle.sysv_wire.specs.Replies.{FitsReply, error_number, outcome_text, reply_spelling}
+use Rattle.sysv_wire.specs.ReplyFaults.{ReplyFault}
+use Rattle.sysv_wire.specs.Requests.{op_of, request_spelling}
+use Rattle.sysv_wire.specs.Streams.{AppendsPrefix}
+
+-- a request and what its reply answers, with its text
+pub record Exchange : Type 0 where
+  pub ask : Ask
+  pub answer : Outcome
+  pub given : List ℕ
+
+-- the reply to a request that answers so
+abbrev pub reply_to : Ask → Outcome → Reply
+reply_to ask answer = record { op = op_number (op_of ask); result = answer }
+
+-- what was asked is done: the answer is one that the operation may give, and no refusal
+pub record IsDone (ask : Ask) (answer : Outcome) (given : List ℕ) : Type 0 where
+  pub fits : FitsReply (reply_to ask answer) given
+  pub text : given ≡ outcome_text answer given
+  pub done : error_number answer ≡ 0
+
+-- the frame of a request, in which that of a send has the command's text
+abbrev pub ask_spelling : Command → Ask → List ℕ
+ask_spelling command ask = request_spelling (record { ask = ask }) (text_of command.task)
+
+-- the frames of the requests, in order, and of the replies
+abbrev pub asked_spelling : Command → List Exchange → List ℕ
+asked_spelling command exchanges = flat_map (λ exchange. ask_spelling command exchange.ask) exchanges
+
+abbrev pub answered_spelling : List Exchange → List ℕ
+answered_spelling exchanges = flat_map (λ exchange. reply_spelling (reply_to exchange.ask exchange.answer) exchange.given) exchanges
+
+-- the identifier that the last msgget gave; 0 before one
+abbrev pub id_after : ℤ → Outcome → ℤ
+id_after found (Get id) = id
+id_after found (Refused error) = found
+id_after found Hello = found
+id_after found Snd = found
+id_after found (Rcv mtype) = found
+id_after found (Stat stat) = found
+id_after found Set = found
+id_after found Rm = found
+id_after found (Row row) = found
+
+abbrev pub found_in : List Exchange → ℤ
+found_in exchanges = fold (λ found exchange. id_after found exchange.answer) (pos 0) exchanges
+
+-- what a command asks for next; nothing where all is asked
+abbrev pub next_ask : Command → List Exchange → Option Ask
+next_ask command exchanges = slice_get (asks_of command (found_in exchanges)) (length exchanges)
+
+-- After some exchanges come these: each request is what the command asks for next, and is done.
+abbrev pub Follows : Command → List Exchange → List Exchange → Type 0
+Follows command before [] = ⊤
+Follows command before (exchange ∷ more) =
+    (next_ask command before ≡ Some exchange.ask) × IsDone exchange.ask exchange.answer exchange.given × Follows command (before ++ exchange ∷ []) more
+
+-- a command's exchanges, as far as they go
+abbrev pub Talked : Command → List Exchange → Type 0
+Talked command exchanges = Follows command [] exchanges
+
+-- What comes is no reply to a request: the input is at its end, or it is no reply at all, or one to another operation.
+abbrev pub HasNoReply : Ask → (left rest : Option (List ℕ)) → Type 0
+HasNoReply ask left rest =
+    (Consumes left rest [] × IsAtEnd rest)
+    ⊎ ((fault : Fault) × Faults ReplyFault fault left rest)
+    ⊎ ((reply : Reply) × (text : List ℕ) × FitsReply reply text × (reply.op ≢ op_number (op_of ask)) × Consumes left rest (reply_spelling reply text))
+
+-- What was read as the reply to a request.
+abbrev pub Hears : Ask → Result Outcome ClientFault → (left rest : Option (List ℕ)) → List ℕ → Type 0
+Hears ask (Ok answer) left rest given = Consumes left rest (reply_spelling (reply_to ask answer) given) × IsDone ask answer given
+Hears ask (Err (fault.Refused error)) left rest given = Consumes left rest (reply_spelling (reply_to ask (Refused error)) [])
+Hears ask (Err fault.NoReply) left rest given = HasNoReply ask left rest
+Hears ask (Err fault.NoMemory) left rest given = ⊥
+
+-- A request was not written, but for a prefix, perhaps all of it, and nothing was read.
+abbrev pub IsUnwritten : List ℕ → (left rest taken more : Option (List ℕ)) → Type 0
+IsUnwritten frame left rest taken more = AppendsPrefix taken more frame × (rest ≡ left)
+
+-- A request was written, and its reply read; or there is no reply to it.
+abbrev pub Exchanges : List ℕ → Ask → Result Outcome ClientFault → (left rest taken more : Option (List ℕ)) → List ℕ → Type 0
+Exchanges frame ask (Ok answer) left rest taken more given = Appends taken more frame × Hears ask (Ok answer) left rest given
+Exchanges frame ask (Err (fault.Refused error)) left rest taken more given = Appends taken more frame × Hears ask (Err (fault.Refused error)) left rest given
+Exchanges frame ask (Err fault.NoReply) left rest taken more given =
+    IsUnwritten frame left rest taken more ⊎ (Appends taken more frame × Hears ask (Err fault.NoReply) left rest given)
+Exchanges frame ask (Err fault.NoMemory) left rest taken more given = ⊥
+
+-- The next request ends the talk by a fault.
+abbrev pub BreaksOff : Command → List Exchange → ClientFault → (left rest taken more : Option (List ℕ)) → Type 0
+BreaksOff command exchanges why left rest taken more =
+    (ask : Ask) × (next_ask command exchanges ≡ Some ask) × Exchanges (ask_spelling command ask) ask (Err why) left rest taken more []
+
+-- How a talk ends after these exchanges: all is asked, or the next request ends it, or it did not begin.
+abbrev pub EndsTalk : Command → List Exchange → Result ⊤ ClientFault → (left rest taken more : Option (List ℕ)) → Type 0
+EndsTalk command exchanges (Ok done) left rest taken more = (next_ask command exchanges ≡ None) × (rest ≡ left) × (more ≡ taken)
+EndsTalk command exchanges (Err (fault.Refused error)) left rest taken more = BreaksOff command exchanges (fault.Refused error) left rest taken more
+EndsTalk command exchanges (Err fault.NoReply) left rest taken more = BreaksOff command exchanges fault.NoReply left rest taken more
+EndsTalk command exchanges (Err fault.NoMemory) left rest taken more = (exchanges ≡ []) × (rest ≡ left) × (more ≡ taken)
+
+-- A talk that ended so: what was read is the replies to its requests, and what was written is those requests, each but
+-- perhaps the last whole.
+pub record Talks (command : Command) (exchanges : List Exchange) (ended : Result ⊤ ClientFault) (left rest taken more : Option (List ℕ)) : Type 0 where
+  pub talked : Talked command exchanges
+  pub unread : Option (List ℕ)  -- what the reader had left after these exchanges
+  pub written : Option (List ℕ)  -- what the writer had taken
+  pub reads : Consumes left unread (answered_spelling exchanges)
+  pub writes : Appends taken written (asked_spelling command exchanges)
+  pub ends : EndsTalk command exchanges ended unread rest written more

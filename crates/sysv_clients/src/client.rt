@@ -1,0 +1,141 @@
+//! A client, from its first request to what it shows.
+ghost use Rattle.std.specs.Prelude.{◌≡◌, ⊤, ℕ, pos, List, Result, Some, IfOk};
+ghost use Rattle.sysv_clients.specs.Asks.{text_of};
+ghost use Rattle.sysv_clients.specs.Course.{Makes, ShowsCourse};
+ghost use Rattle.sysv_clients.specs.Faults.{fault_line};
+ghost use Rattle.sysv_clients.specs.Page.{task_head};
+ghost use Rattle.sysv_clients.specs.Run.{HasShortText, Runs, Shows, TalksThrough};
+ghost use Rattle.sysv_clients.specs.Talk.{Exchange, id_after};
+
+use crate::command::{Command, Task};
+use crate::exchange::exchange;
+use crate::fault::ClientFault;
+use crate::page::Page;
+use crate::screen::show;
+use std::alloc::Global;
+use std::io::{Read, Write};
+use sysv_model::body::Body;
+use sysv_model::no_memory::NoMemory;
+use sysv_wire::laws::{one_answer_to_replies, one_reply};
+use sysv_wire::reply::Outcome;
+
+/// Asks a server for what a command says, and shows what came of it; the status, 0 where all was done and
+/// shown, else 1. The text of a `snd` has at most 8,256 bytes.
+///
+/// Memory is taken first, for two texts and for what is collected; where it is refused, nothing is written
+/// to the server or read. Then a hello and the requests of the task are written, each flushed before its
+/// reply is read. The first that is refused, cannot be written or has no reply ends the talk: a reply to
+/// another operation is none. What earlier requests did stays done.
+///
+/// Then the screen is written, and flushed: the table of an `ipcs`, the text and an LF of a `rcv`, nothing of
+/// the others, and of a fault its line alone. Where the screen fails it has taken a prefix of that.
+pub fn run_client<R: Read, W: Write, S: Write>(
+    alloc: Global,
+    command: &Command<'_>,
+    reader: &mut R,
+    writer: &mut W,
+    screen: &mut S,
+) -> i32
+    requires { HasShortText command.now.task }
+    ensures runs { Runs command.now result (R.remaining reader.old) (R.remaining reader.new) (W.contents writer.old) (W.contents writer.new)
+        (S.contents screen.old) (S.contents screen.new) }
+    // It shows what its input makes of the command, unless a stream fails or memory is refused.
+    ensures only { (input : List ℕ) (exchanges : List Exchange) (ended : Result ⊤ ClientFault) → R.remaining reader.old ≡ Some input
+        → Makes command.now input exchanges ended → ShowsCourse command.now exchanges ended result (S.contents screen.old) (S.contents screen.new) }
+{
+    one_answer_to_replies();
+    one_reply();
+    talk_and_show(alloc, command, reader, writer, screen)
+}
+
+/// The same, by what was read and written.
+fn talk_and_show<R: Read, W: Write, S: Write>(
+    alloc: Global,
+    command: &Command<'_>,
+    reader: &mut R,
+    writer: &mut W,
+    screen: &mut S,
+) -> i32
+    requires { HasShortText command.now.task }
+    ensures { Runs command.now result (R.remaining reader.old) (R.remaining reader.new) (W.contents writer.old) (W.contents writer.new)
+        (S.contents screen.old) (S.contents screen.new) }
+{
+    match Client::open(alloc, &command.task) {
+        Ok(mut client) => match client.talk(command, reader, writer) {
+            Ok(()) => show(screen, client.page.bytes(), 0),
+            Err(fault) => show_fault(screen, fault),
+        },
+        Err(NoMemory) => show_fault(screen, ClientFault::NoMemory),
+    }
+}
+
+/// Shows the line of a fault; 1.
+fn show_fault<S: Write>(screen: &mut S, fault: ClientFault) -> i32
+    ensures { Shows result (pos 1) (fault_line fault) (S.contents screen.old) (S.contents screen.new) }
+{
+    show(screen, fault.line().as_bytes(), 1)
+}
+
+/// The identifier that the last `msgget` gave, after one more answer.
+fn found(id: i32, answer: &Outcome) -> i32
+    ensures { result ≡ id_after id answer.now }
+{
+    match answer {
+        Outcome::Get { id: found } => *found,
+        _ => id,
+    }
+}
+
+/// A client under way.
+#[derive(Drop)]
+struct Client {
+    /// The text that it sends.
+    text: Body,
+    /// The text that it was given last.
+    given: Body,
+    /// What it will show.
+    page: Page,
+}
+
+impl Client {
+    /// Nothing was asked. `NoMemory` where memory is refused.
+    fn open(alloc: Global, task: &Task<'_>) -> Result<Client, NoMemory>
+        requires { HasShortText task.now }
+        ensures { IfOk result (λ client. (client.text ≡ text_of task.now) × (client.page ≡ task_head task.now)) }
+    {
+        let mut text = Body::open(alloc)?;
+        let given = Body::open(alloc)?;
+        let mut page = Page::open(alloc)?;
+        match *task {
+            Task::List => page.head(),
+            Task::Send { text: sent, .. } => {
+                text.push_piece(sent);
+            }
+            Task::Remove(_) | Task::Receive { .. } => {}
+        }
+        Ok(Client { text, given, page })
+    }
+
+    /// Asks for all that the command asks for, and collects what is to be shown.
+    fn talk<R: Read, W: Write>(
+        &mut self,
+        command: &Command<'_>,
+        reader: &mut R,
+        writer: &mut W,
+    ) -> Result<(), ClientFault>
+        requires text { self.old.text ≡ text_of command.now.task }
+        requires page { self.old.page ≡ task_head command.now.task }
+        ensures { TalksThrough command.now result self.new.page (R.remaining reader.old) (R.remaining reader.new)
+            (W.contents writer.old) (W.contents writer.new) }
+    {
+        let mut place = 0;
+        let mut id = 0;
+        while let Some(ask) = command.ask(place, id) {
+            let answer = exchange(reader, writer, ask, &self.text, &mut self.given)?;
+            self.page.tell(&answer, &self.given);
+            id = found(id, &answer);
+            place += 1;
+        }
+        Ok(())
+    }
+}

@@ -1,0 +1,58 @@
+//! One request and its reply.
+ghost use Rattle.std.specs.Prelude.{OnOk, OnErr};
+ghost use Rattle.std.specs.Io.KnownBytes.{Appends};
+ghost use Rattle.sysv_clients.specs.Talk.{Exchanges, Hears};
+ghost use Rattle.sysv_wire.specs.Requests.{request_spelling};
+ghost use Rattle.sysv_wire.specs.Streams.{AppendsPrefix};
+
+use crate::fault::ClientFault;
+use std::io::{Read, Write};
+use sysv_model::body::Body;
+use sysv_wire::fault::WriteFault;
+use sysv_wire::replies::read_reply;
+use sysv_wire::reply::Outcome;
+use sysv_wire::request::{Ask, Request};
+use sysv_wire::requests::write_request;
+
+/// Writes a request, flushes it, and reads its reply; what the operation gives. The text of a message
+/// is then in `given`.
+pub(crate) fn exchange<R: Read, W: Write>(
+    reader: &mut R,
+    writer: &mut W,
+    ask: Ask,
+    text: &Body,
+    given: &mut Body,
+) -> Result<Outcome, ClientFault>
+    ensures { Exchanges (request_spelling (record { ask = ask }) text.now) ask result (R.remaining reader.old) (R.remaining reader.new)
+        (W.contents writer.old) (W.contents writer.new) given.new }
+{
+    match send(writer, ask, text) {
+        Ok(()) => hear(reader, ask, given),
+        Err(WriteFault) => Err(ClientFault::NoReply),
+    }
+}
+
+/// Writes a request, and flushes it.
+fn send<W: Write>(writer: &mut W, ask: Ask, text: &Body) -> Result<(), WriteFault>
+    ensures ok { OnOk result (Appends (W.contents writer.old) (W.contents writer.new) (request_spelling (record { ask = ask }) text.now)) }
+    ensures err { OnErr result (AppendsPrefix (W.contents writer.old) (W.contents writer.new) (request_spelling (record { ask = ask }) text.now)) }
+{
+    write_request(writer, &Request { ask }, text)?;
+    match writer.flush() {
+        Ok(()) => Ok(()),
+        Err(_) => Err(WriteFault),
+    }
+}
+
+/// Reads the reply to a request.
+fn hear<R: Read>(reader: &mut R, ask: Ask, given: &mut Body) -> Result<Outcome, ClientFault>
+    ensures { Hears ask result (R.remaining reader.old) (R.remaining reader.new) given.new }
+{
+    match read_reply(reader, given) {
+        Ok(Some(reply)) if reply.op == ask.op().number() => match reply.result {
+            Outcome::Refused(error) => Err(ClientFault::Refused(error)),
+            answer => Ok(answer),
+        },
+        _ => Err(ClientFault::NoReply),
+    }
+}

@@ -1,0 +1,170 @@
+//! What a command line asks for.
+ghost use Rattle.std.specs.Prelude.{IfOk, OnOk};
+ghost use Rattle.sysvmsg.specs.Asked.{IsWithinLimits};
+ghost use Rattle.sysv_clients.specs.Run.{HasShortText};
+
+use crate::commands::command;
+use clap::error::ErrorKind;
+use clap::{ArgMatches, Command as CommandLine, Error};
+use std::alloc::{AllocError, Global};
+use std::convert::AsStr;
+use sysv_clients::command::{Command, Target, Task};
+use sysv_clients::words::{id_of, key_of, type_of};
+use sysv_model::cred::Cred;
+use sysv_model::limits::BODY_ROOM;
+use sysv_words::reads::Reads;
+
+/// What a command line asks for.
+#[derive(Clone, Copy, PartialEq, Eq, Debug)]
+pub(crate) enum Asked<'a> {
+    /// Run the script on the standard input.
+    Script,
+    /// Ask the server at a path.
+    Client { path: &'a str, command: Command<'a> },
+}
+
+/// Why a word says nothing.
+type Bad = &'static str;
+
+const BAD_KEY: Bad =
+    "a KEY is 1 to 2147483647, or 0x and one to eight hexadecimal digits that are not all 0";
+
+const BAD_ID: Bad = "an ID is 0 to 2147483647";
+
+const BAD_TYPE: Bad = "a type is 1 to 9223372036854775807";
+
+const BAD_NUMBER: Bad = "a size, a user, a group and a process are 0 to 4294967295";
+
+const LONG_TEXT: Bad = "a TEXT has at most 8256 bytes";
+
+const NO_COMMAND: Bad = "a command is missing";
+
+/// What the words ask for, the program's name first; or why they ask for nothing, or the help or the
+/// version that they ask for.
+pub(crate) fn read_words<'a, S: AsStr>(alloc: Global, words: &'a [S]) -> Result<Asked<'a>, Error>
+    ensures { IfOk result IsWithinLimits }
+{
+    let mut line: CommandLine<'a> = command(alloc)?;
+    let matches = line.try_get_matches_from_mut(words)?;
+    match task_of(&matches) {
+        Ok(task) => Ok(task),
+        Err(bad) => Err(line.error(ErrorKind::ValueValidation, bad)?),
+    }
+}
+
+/// That a word is no text.
+pub(crate) fn no_text(alloc: Global) -> Error {
+    match fault(alloc, "a word is no text") {
+        Ok(error) => error,
+        Err(error) => Error::from(error),
+    }
+}
+
+/// A fault of the whole command line.
+fn fault(alloc: Global, text: &str) -> Result<Error, AllocError> {
+    command(alloc)?.error(ErrorKind::InvalidValue, text)
+}
+
+/// What the words of a command ask for.
+fn task_of<'a>(matches: &ArgMatches<'a>) -> Result<Asked<'a>, Bad>
+    ensures { IfOk result IsWithinLimits }
+{
+    let Some((name, words)) = matches.subcommand() else {
+        return Err(NO_COMMAND);
+    };
+    let task = match name {
+        "script" => return Ok(Asked::Script),
+        "ipcs" => Task::List,
+        "ipcrm" => removal(words)?,
+        "snd" => sending(words)?,
+        "rcv" => receiving(words)?,
+        _ => return Err(NO_COMMAND),
+    };
+    let Some(path) = words.get_str("path") else {
+        return Err(NO_COMMAND);
+    };
+    let cred = cred_of(words)?;
+    Ok(Asked::Client {
+        path,
+        command: Command { cred, task },
+    })
+}
+
+/// What an `ipcrm` asks for.
+fn removal<'a>(words: &ArgMatches<'a>) -> Result<Task<'a>, Bad>
+    ensures { IfOk result HasShortText }
+{
+    let target = match words.get_str("id") {
+        Some(id) => Target::Id(id_of(id.as_bytes()).ok_or(BAD_ID)?),
+        None => Target::Key(key(words)?),
+    };
+    Ok(Task::Remove(target))
+}
+
+/// What a `snd` asks for.
+fn sending<'a>(words: &ArgMatches<'a>) -> Result<Task<'a>, Bad>
+    ensures { IfOk result HasShortText }
+{
+    let key = key(words)?;
+    let text = words.get_str("text").unwrap_or("").as_bytes();
+    if text.len() > BODY_ROOM {
+        return Err(LONG_TEXT);
+    }
+    let mtype = match words.get_str("type") {
+        Some(word) => type_of(word.as_bytes()).ok_or(BAD_TYPE)?,
+        None => 1,
+    };
+    Ok(Task::Send {
+        key,
+        text,
+        mtype,
+        nowait: words.get_flag("nowait"),
+    })
+}
+
+/// What a `rcv` asks for.
+fn receiving<'a>(words: &ArgMatches<'a>) -> Result<Task<'a>, Bad>
+    ensures { IfOk result HasShortText }
+{
+    Ok(Task::Receive {
+        key: key(words)?,
+        size: number(words, "size", 8192)?,
+        mtype: wanted_type(words)?,
+        nowait: words.get_flag("nowait"),
+        noerror: words.get_flag("noerror"),
+    })
+}
+
+/// The type that a `rcv` asks for: any, one, or the lowest up to one.
+fn wanted_type(words: &ArgMatches<'_>) -> Result<i64, Bad> {
+    match (words.get_str("type"), words.get_str("upto")) {
+        (Some(word), _) => type_of(word.as_bytes()).ok_or(BAD_TYPE),
+        (None, Some(word)) => Ok(-type_of(word.as_bytes()).ok_or(BAD_TYPE)?),
+        (None, None) => Ok(0),
+    }
+}
+
+/// Who a client says it is.
+fn cred_of(words: &ArgMatches<'_>) -> Result<Cred, Bad> {
+    Ok(Cred {
+        uid: number(words, "uid", 1000)?,
+        gid: number(words, "gid", 1000)?,
+        pid: number(words, "pid", 1)?,
+    })
+}
+
+/// The key that is given.
+fn key(words: &ArgMatches<'_>) -> Result<i32, Bad> {
+    words
+        .get_str("key")
+        .and_then(|word| key_of(word.as_bytes()))
+        .ok_or(BAD_KEY)
+}
+
+/// The number that is given to an option, or its default.
+fn number(words: &ArgMatches<'_>, id: &str, default: u32) -> Result<u32, Bad> {
+    match words.get_str(id) {
+        Some(word) => u32::read(word.as_bytes()).ok_or(BAD_NUMBER),
+        None => Ok(default),
+    }
+}

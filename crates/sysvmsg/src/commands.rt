@@ -1,0 +1,126 @@
+//! The command line that is understood.
+use clap::{Arg, ArgAction, ArgGroup, Command};
+use std::alloc::{AllocError, Global};
+
+/// The program's version.
+const VERSION: &str = "0.1.0";
+
+/// The whole command line.
+pub(crate) fn command<'a>(alloc: Global) -> Result<Command<'a>, AllocError> {
+    Command::new(alloc, "sysvmsg")
+        .about("System V message queues")
+        .version(VERSION)
+        .propagate_version(true)
+        .subcommand_required(true)
+        .disable_help_subcommand(true)
+        .subcommand(script(alloc))?
+        .subcommand(ipcs(alloc)?)?
+        .subcommand(ipcrm(alloc)?)?
+        .subcommand(snd(alloc)?)?
+        .subcommand(rcv(alloc)?)
+}
+
+fn script<'a>(alloc: Global) -> Command<'a> {
+    Command::new(alloc, "script").about("Runs the script on standard input and prints its answers")
+}
+
+fn ipcs<'a>(alloc: Global) -> Result<Command<'a>, AllocError> {
+    let command = client(alloc, "ipcs", "Prints a table of the queues")?;
+    credentials(alloc, command)
+}
+
+fn ipcrm<'a>(alloc: Global) -> Result<Command<'a>, AllocError> {
+    let command = client(alloc, "ipcrm", "Removes a queue")?
+        .arg(value(alloc, "id", "ID", ID_HELP).short('q'))?
+        .arg(value(alloc, "key", "KEY", KEY_HELP).short('Q'))?;
+    let command = credentials(alloc, command)?;
+    command.group(either(alloc, "id", "key")?.required(true))
+}
+
+fn snd<'a>(alloc: Global) -> Result<Command<'a>, AllocError> {
+    let about = "Sends a message, and makes the queue with mode 0600 if there is none";
+    let command = client(alloc, "snd", about)?
+        .arg(word(alloc, "key", "KEY", KEY_HELP))?
+        .arg(word(alloc, "text", "TEXT", TEXT_HELP))?
+        .arg(value(alloc, "type", "N", SEND_HELP).long("type"))?
+        .arg(flag(alloc, "nowait", NOWAIT_HELP))?;
+    credentials(alloc, command)
+}
+
+fn rcv<'a>(alloc: Global) -> Result<Command<'a>, AllocError> {
+    let about = "Receives a message and prints its text";
+    let command = client(alloc, "rcv", about)?
+        .arg(word(alloc, "key", "KEY", KEY_HELP))?
+        .arg(value(alloc, "size", "S", SIZE_HELP).long("size"))?
+        .arg(value(alloc, "type", "N", TYPE_HELP).long("type"))?
+        .arg(value(alloc, "upto", "N", UPTO_HELP).long("upto"))?
+        .arg(flag(alloc, "nowait", NOWAIT_HELP))?
+        .arg(flag(alloc, "noerror", NOERROR_HELP))?;
+    let command = credentials(alloc, command)?;
+    command.group(either(alloc, "type", "upto")?)
+}
+
+/// What is said of the words and the options.
+const KEY_HELP: &str =
+    "The queue's key, 1 to 2147483647, or 0x and one to eight hexadecimal digits, not all 0";
+
+const ID_HELP: &str = "The queue's identifier, 0 to 2147483647";
+
+const TEXT_HELP: &str = "The text, at most 8256 bytes";
+
+const SEND_HELP: &str = "The message's type, 1 to 9223372036854775807 [default: 1]";
+
+const SIZE_HELP: &str = "The most bytes of text that are wanted [default: 8192]";
+
+const TYPE_HELP: &str = "Only a message of this type, 1 to 9223372036854775807";
+
+const UPTO_HELP: &str = "Only a message of the lowest type, which is at most this";
+
+const NOWAIT_HELP: &str = "Does not wait (IPC_NOWAIT)";
+
+const NOERROR_HELP: &str = "Cuts a text that is longer than the size (MSG_NOERROR)";
+
+/// A client's command, with the path of its server.
+fn client<'a>(alloc: Global, name: &'a str, about: &'a str) -> Result<Command<'a>, AllocError> {
+    Command::new(alloc, name)
+        .about(about)
+        .arg(word(alloc, "path", "PATH", "The socket of the server"))
+}
+
+/// A command, and who it says it is.
+fn credentials<'a>(alloc: Global, command: Command<'a>) -> Result<Command<'a>, AllocError> {
+    command
+        .arg(value(alloc, "uid", "N", "The caller's user [default: 1000]").long("uid"))?
+        .arg(value(alloc, "gid", "N", "The caller's group [default: 1000]").long("gid"))?
+        .arg(value(alloc, "pid", "N", "The caller's process [default: 1]").long("pid"))
+}
+
+/// Two arguments, of which at most one is given.
+fn either<'a>(alloc: Global, one: &'a str, other: &'a str) -> Result<ArgGroup<'a>, AllocError> {
+    ArgGroup::new(alloc, "either").arg(one)?.arg(other)
+}
+
+/// A word that has to be there, by its place.
+fn word<'a>(alloc: Global, id: &'a str, name: &'a str, help: &'a str) -> Arg<'a> {
+    Arg::new(alloc, id)
+        .value_name(name)
+        .required(true)
+        .action(ArgAction::Set)
+        .help(help)
+}
+
+/// An option with a value.
+fn value<'a>(alloc: Global, id: &'a str, name: &'a str, help: &'a str) -> Arg<'a> {
+    Arg::new(alloc, id)
+        .value_name(name)
+        .action(ArgAction::Set)
+        .help(help)
+}
+
+/// An option without a value.
+fn flag<'a>(alloc: Global, id: &'a str, help: &'a str) -> Arg<'a> {
+    Arg::new(alloc, id)
+        .long(id)
+        .action(ArgAction::SetTrue)
+        .help(help)
+}

@@ -1,0 +1,49 @@
+//! Clients over a socket.
+ghost use Rattle.sysv_clients.specs.Run.{HasShortText};
+
+use crate::{FAULT, say};
+use std::alloc::Global;
+use std::io;
+use std::io::{BufReader, BufWriter, Write};
+use std::net::Net;
+use std::os::unix::net::UnixStream;
+use std::process::ExitCode;
+use sysv_clients::client::run_client;
+use sysv_clients::command::Command;
+use sysv_clients::fault::ClientFault;
+
+/// Connects to the server at a path, and does there what a command says.
+pub(crate) fn run_at(
+    rt: &(impl Net + Print + AllocGlobal),
+    path: &str,
+    command: &Command<'_>,
+) -> ExitCode
+    requires { HasShortText command.now.task }
+{
+    match UnixStream::connect(rt, path) {
+        Ok(stream) => run_over(rt.alloc(), &stream, command, &mut io::writer(rt)),
+        Err(_) => say(rt, "no server"),
+    }
+}
+
+/// Does over a connection what a command says, each request in one write.
+pub(crate) fn run_over<S: Write>(
+    alloc: Global,
+    stream: &UnixStream,
+    command: &Command<'_>,
+    screen: &mut S,
+) -> ExitCode
+    requires { HasShortText command.now.task }
+{
+    let (Ok(mut reader), Ok(mut writer)) = (
+        BufReader::new(alloc, stream),
+        BufWriter::new(alloc, stream),
+    ) else {
+        let _ = screen.write_all(ClientFault::NoMemory.line().as_bytes());
+        return ExitCode::from(FAULT);
+    };
+    match run_client(alloc, command, &mut reader, &mut writer, screen) {
+        0 => ExitCode::SUCCESS,
+        _ => ExitCode::from(FAULT),
+    }
+}
