@@ -27,9 +27,10 @@ pub(crate) enum Ask {
     /// Sets these attributes, as this user.
     Set(i32, Cred, SetTo),
     Remove(i32),
+    Stop,
 }
 
-/// What a call answers: an identifier, the length of the text that was received, or 0.
+/// What a call answers: an identifier, the length of the text that was received, how many queues were removed, or 0.
 pub(crate) type Told = Result<i64, Errno>;
 
 /// Makes the call.
@@ -63,6 +64,10 @@ pub(crate) fn make<R: Abort + Wait>(
         Ask::Remove(id) => {
             service.msgctl_rmid(rt, pass, USER, id)?;
             Ok(0)
+        }
+        Ask::Stop => {
+            let removed = service.stop(rt, pass)?;
+            Ok(i64::from(removed))
         }
     }
 }

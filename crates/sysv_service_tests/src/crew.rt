@@ -7,12 +7,13 @@ ghost use Rattle.sysv_gated.specs.Seats.{AreOf};
 use crate::ask::{Ask, make};
 use crate::board::Moment;
 use crate::part::Part;
-use crate::room::{ended, opened};
+use crate::room::opened;
 use std::alloc::Global;
 use std::process::Abort;
 use std::sync::Wait;
 use std::thread::{Threads, for_each_mut};
 use std::time::Clock;
+use sysv_service::closing::Closed;
 use sysv_service::pass::Pass;
 use sysv_service::service::Service;
 
@@ -21,14 +22,13 @@ use sysv_service::service::Service;
 pub(crate) struct Left<'a> {
     /// What the threads did, in the order in which they were given.
     pub(crate) parts: Vec<Part<'a>>,
-    /// The messages that waited.
-    pub(crate) waiting: u64,
-    /// The blocks that were free once all came back.
-    pub(crate) free: u64,
+    /// How many queues lived at the end.
+    pub(crate) live: u32,
+    pub(crate) closed: Closed,
 }
 
-/// Opens a service of so many blocks, makes the calls, each of which has to succeed, and has each part act in a thread of its
-/// own.
+/// Opens a service of so many blocks, makes the calls, each of which has to succeed, has each part act in a thread of its
+/// own, and closes the service.
 pub(crate) fn run<'a, R: Threads + Abort + Wait + Clock + Sync>(
     rt: &R,
     alloc: Global,
@@ -42,12 +42,27 @@ pub(crate) fn run<'a, R: Threads + Abort + Wait + Clock + Sync>(
         assert!(rt; told.is_ok());
     }
     let parts = together(rt, alloc, &service, &mut pass, parts);
-    let (waiting, free) = ended(rt, service, pass);
+    let live = count_live(rt, &service, &mut pass);
+    let closed = service.close(pass);
     Left {
         parts,
-        waiting,
-        free,
+        live,
+        closed,
     }
+}
+
+/// How many slots have a live queue.
+fn count_live(rt: &impl Wait, service: &Service, pass: &mut Pass) -> u32
+    requires { AreOf service.now pass.old.seats }
+    ensures { AreOf service.now pass.new.seats }
+{
+    let mut live: u32 = 0;
+    for slot in 0..64 {
+        if matches!(&service.list_row(rt, pass, slot), Ok(Some(_))) {
+            live = live.saturating_add(1);
+        }
+    }
+    live
 }
 
 /// A thread: its pass, and what it does.

@@ -5,7 +5,7 @@ use crate::ask::Ask;
 use crate::board::Moment;
 use crate::crew::run;
 use crate::part::Part;
-use crate::room::{USER, body_of, waiting};
+use crate::room::{USER, body_of, closed, waiting};
 use std::alloc::Global;
 use std::process::Abort;
 use std::sync::Wait;
@@ -164,7 +164,7 @@ fn each_message_is_received_once_and_in_order(rt: HostRuntime) {
     let alloc = rt.alloc();
     let before = [Ask::Get(7), Ask::Set(0, USER, ONE_BYTE)];
     let left = run(&rt, alloc, 1024, &before, crowd(&rt, alloc));
-    assert_eq!(rt; (left.waiting, left.free), (0, 1024));
+    assert_eq!(rt; left.closed, closed(0, 1024));
     for sender in 0..SENDERS {
         for number in 0..TIMES {
             let mtype = type_of(sender, number);

@@ -10,9 +10,13 @@ mod crew;
 #[cfg(test)]
 mod crowd;
 #[cfg(test)]
+mod example;
+#[cfg(test)]
 mod part;
 #[cfg(test)]
 mod room;
+#[cfg(test)]
+mod stops;
 #[cfg(test)]
 mod turns;
 #[cfg(test)]

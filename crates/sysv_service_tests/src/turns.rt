@@ -5,7 +5,7 @@ use crate::ask::Ask;
 use crate::board::{Board, LOOKS, Moment};
 use crate::crew::run;
 use crate::part::{Part, Turn, told_of};
-use crate::room::{USER, body_of};
+use crate::room::{USER, body_of, closed};
 use bitflags::Flags as _;
 use std::alloc::Global;
 use std::process::Abort;
@@ -84,7 +84,7 @@ fn a_receive_is_asked_again_at_each_message(rt: HostRuntime) {
         .push(Part::Teases(Tease { board: &board }))
         .expect(&rt, "memory");
     let left = run(&rt, alloc, 128, &[Ask::Get(7)], parts);
-    assert_eq!(rt; (left.waiting, left.free), (0, 128));
+    assert_eq!(rt; left.closed, closed(0, 128));
     let (told, asked) = told_of(&rt, &left.parts, 0);
     assert_eq!(rt; told, Ok(1));
     assert!(rt; asked >= 3);
@@ -109,7 +109,7 @@ fn a_send_goes_on_while_another_is_held(rt: HostRuntime) {
     parts.push(Part::Asks(held)).expect(&rt, "memory");
     parts.push(Part::Asks(free)).expect(&rt, "memory");
     let left = run(&rt, alloc, 128, &[Ask::Get(1), Ask::Get(2)], parts);
-    assert_eq!(rt; (left.waiting, left.free), (2, 128));
+    assert_eq!(rt; left.closed, closed(2, 128));
     assert_eq!(rt; told_of(&rt, &left.parts, 0), (Ok(0), 3));
     assert_eq!(rt; told_of(&rt, &left.parts, 1), (Ok(0), 2));
 }

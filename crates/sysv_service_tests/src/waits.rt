@@ -4,7 +4,7 @@ use crate::ask::{Ask, Told};
 use crate::board::{Board, Moment};
 use crate::crew::run;
 use crate::part::{Part, Turn, told_of};
-use crate::room::{ROOT, USER};
+use crate::room::{ROOT, USER, closed};
 use std::alloc::Global;
 use std::process::Abort;
 use std::sync::Wait;
@@ -54,7 +54,7 @@ fn waited<R: Threads + Abort + Wait + Clock + Sync>(
     parts.push(Part::Asks(waits)).expect(rt, "memory");
     parts.push(Part::Asks(ends)).expect(rt, "memory");
     let left = run(rt, alloc, 128, &case.before, parts);
-    assert_eq!(rt; left.free, 128);
+    assert_eq!(rt; (left.closed.free, left.closed.held), (128, 0));
     let (told, said) = told_of(rt, &left.parts, 0);
     (told, said, told_of(rt, &left.parts, 1).0)
 }
@@ -172,7 +172,7 @@ fn a_get_waits_for_a_key_that_is_made(rt: HostRuntime) {
         parts.push(Part::Asks(turn)).expect(&rt, "memory");
     }
     let left = run(&rt, alloc, 128, &[], parts);
-    assert_eq!(rt; (left.waiting, left.free), (0, 128));
+    assert_eq!(rt; left.closed, closed(0, 128));
     assert_eq!(rt; told_of(&rt, &left.parts, 0), (Ok(0), 3));
     assert_eq!(rt; told_of(&rt, &left.parts, 1), (Ok(0), 3));
     assert_eq!(rt; told_of(&rt, &left.parts, 2).0, Ok(1));
