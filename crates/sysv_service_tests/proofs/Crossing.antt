@@ -1,0 +1,87 @@
+-- Passes may go to other threads, which may share a service.
+use Rattle.std.proofs.Common.{List, [], ◌∷◌}
+use denote.RattleType.{RattleType}
+use denote.Param.Send.{IsSend, IsSync, AllSync, sendable}
+use denote.Struct.Field.{row_field}
+use denote.Struct.Tuple.{parts, type_at, TupleAt}
+use denote.Param.SendFields.{FieldsHave, declared_send, declared_sync, as_row_send, as_row_sync}
+use Rattle.std.proofs.Crossing.{Box-send, Box-sync, crosses}
+use Rattle.std.proofs.option.Option.TheSendSync as options
+use Rattle.sysv_gate.proofs.Crossing.{seat_send, gate_sync}
+use Rattle.sysv_model.proofs.attributes.Attributes.TheSendSync as attributes
+use Rattle.sysv_pool.proofs.blocks.Block.TheLaws.TheKnot as knot
+use Rattle.sysv_pool.specs.contracts.blocks.Block as block
+use Rattle.sysv_pool.specs.contracts.chain.Chain as chain
+use Rattle.sysv_queue.specs.contracts.waiting.Waiting as waiting
+use Rattle.sysv_queue.specs.contracts.slot.QueueSlot as slot
+use Rattle.sysv_gated.specs.contracts.slot.GatedSlot as gated_slot
+use Rattle.sysv_gated.specs.contracts.pool.GatedPool as gated_pool
+use Rattle.sysv_gated.proofs.registry.GatedRegistry.TheSendSync as registries
+use Rattle.sysv_gated.specs.contracts.seats.Seats as seats
+use Rattle.sysv_gated.specs.contracts.gates.Gates as gates
+use Rattle.sysv_service.specs.contracts.pass.Pass as pass
+use Rattle.sysv_service.specs.contracts.service.Service as service
+use Rattle.sysv_bank.specs.contracts.seat.BankSeat as bank_seat
+use Rattle.sysv_bank.specs.contracts.bank.Bank as bank
+use Rattle.sysv_gate.specs.declared.object.Object.{Ghosts}
+
+pub block_send : IsSend block.the_row
+block_send = knot.send-Block (search sendable) (λ h s. options.the_send _ (Box-send h s))
+
+pub block_sync : IsSync block.the_row
+block_sync = knot.sync-Block (search sendable) (λ h s. options.the_sync _ (Box-sync h s))
+
+pub ruleset crossing = (sendable, crosses, options.the_send, options.the_field_send, options.the_sync, options.the_field_sync, declared_send, declared_sync, as_row_send, as_row_sync)
+
+pub chain_send : IsSend chain.the_row
+chain_send = search (crossing, block_send) depth 20
+
+pub chain_sync : IsSync chain.the_row
+chain_sync = search (crossing, block_sync) depth 20
+
+pub pool_send : IsSend gated_pool.the_row
+pool_send = search (crossing, block_send) depth 30
+
+waiting_send : IsSend waiting.the_row
+waiting_send = search (crossing, chain_send) depth 30
+
+waiting_sync : IsSync waiting.the_row
+waiting_sync = search (crossing, chain_sync) depth 30
+
+queue_send : IsSend slot.the_row
+queue_send = search (crossing, waiting_send, attributes.the_send) depth 30
+
+queue_sync : IsSync slot.the_row
+queue_sync = search (crossing, waiting_sync, attributes.the_sync) depth 30
+
+pub slot_send : IsSend gated_slot.the_row
+slot_send = search (crossing, queue_send) depth 30
+
+pub slot_sync : IsSync gated_slot.the_row
+slot_sync = search (crossing, queue_sync) depth 30
+
+bank_seat_send : (O C R : RattleType) (g : Ghosts O.Denot C.Denot R.Denot) → IsSend O → IsSend (bank_seat.the_row O C R g)
+bank_seat_send O C R g s = search (crossing, seat_send) depth 30
+
+bank_sync : (O C R : RattleType) (g : Ghosts O.Denot C.Denot R.Denot) → IsSend O → IsSync O → IsSync (bank.the_row O C R g)
+bank_sync O C R g s y = search (crossing, gate_sync) depth 30
+
+seats_send : IsSend seats.the_row
+seats_send = search (crossing, bank_seat_send, seat_send, slot_send, registries.the_send, pool_send) depth 30
+
+pub pass_send : IsSend pass.the_row
+pass_send = search (crossing, seats_send, chain_send) depth 30
+
+gates_sync : IsSync gates.the_row
+gates_sync = search (crossing, bank_sync, gate_sync, slot_send, slot_sync, registries.the_send, pool_send) depth 30
+
+pub service_sync : IsSync service.the_row
+service_sync = search (crossing, gates_sync) depth 30
+
+-- threads may share what a closure captures where they may share each part
+parts_sync : (Ts : List RattleType) → AllSync Ts → FieldsHave IsSync (parts Ts)
+parts_sync [] s = tt
+parts_sync (T ∷ Ts) s = (as_row_sync (row_field T) s.0, parts_sync Ts s.1)
+
+pub captured_sync : (Ts : List RattleType) → AllSync Ts → IsSync (TupleAt [] Ts)
+captured_sync Ts s = declared_sync (type_at [] Ts) (parts_sync Ts s)

@@ -1,0 +1,23 @@
+//! Tests of the service with several threads, each of which has a pass of its own.
+#![tactic(auto)]
+
+#[cfg(test)]
+mod ask;
+#[cfg(test)]
+mod board;
+#[cfg(test)]
+mod crew;
+#[cfg(test)]
+mod crowd;
+#[cfg(test)]
+mod example;
+#[cfg(test)]
+mod part;
+#[cfg(test)]
+mod room;
+#[cfg(test)]
+mod stops;
+#[cfg(test)]
+mod turns;
+#[cfg(test)]
+mod waits;
