@@ -1,10 +1,17 @@
 -- What a command line may ask for.
-use Rattle.std.specs.Prelude.{⊤}
+use Rattle.std.specs.Prelude.{◌≤◌, ⊤}
 use Rattle.sysvmsg.specs.declared.asked.Asked.{Asked}
-use Rattle.sysvmsg.specs.declared.asked.Asked.TheVariants.{Script, Client}
+use Rattle.sysvmsg.specs.declared.asked.Asked.TheVariants.{Script, Serve, Client}
+use Rattle.sysvmsg.specs.declared.asked.Serving.{Serving}
 use Rattle.sysv_clients.specs.Run.{HasShortText}
+use Rattle.sysv_model.specs.declared.limits.TheConstants.{BLOCKS_LEAST, BLOCKS_MOST}
 
--- a text that is sent is one that a request can carry
+-- a server has as many blocks and workers as one can have
+abbrev pub HasLimits : Serving → Type 0
+HasLimits serving = (BLOCKS_LEAST ≤ serving.blocks) × (serving.blocks ≤ BLOCKS_MOST) × (1 ≤ serving.workers) × (serving.workers ≤ 16)
+
+-- and a text that is sent is one that a request can carry
 abbrev pub IsWithinLimits : Asked → Type 0
 IsWithinLimits Script = ⊤
+IsWithinLimits (Serve serving) = HasLimits serving
 IsWithinLimits (Client path command) = HasShortText command.task

@@ -1,6 +1,6 @@
 //! What a command line asks for.
 ghost use Rattle.std.specs.Prelude.{IfOk, OnOk};
-ghost use Rattle.sysvmsg.specs.Asked.{IsWithinLimits};
+ghost use Rattle.sysvmsg.specs.Asked.{HasLimits, IsWithinLimits};
 ghost use Rattle.sysv_clients.specs.Run.{HasShortText};
 
 use crate::commands::command;
@@ -11,7 +11,7 @@ use std::convert::AsStr;
 use sysv_clients::command::{Command, Target, Task};
 use sysv_clients::words::{id_of, key_of, type_of};
 use sysv_model::cred::Cred;
-use sysv_model::limits::BODY_ROOM;
+use sysv_model::limits::{BLOCKS_LEAST, BLOCKS_MOST, BODY_ROOM};
 use sysv_words::reads::Reads;
 
 /// What a command line asks for.
@@ -19,9 +19,27 @@ use sysv_words::reads::Reads;
 pub(crate) enum Asked<'a> {
     /// Run the script on the standard input.
     Script,
+    /// Serve at a path.
+    Serve(Serving<'a>),
     /// Ask the server at a path.
     Client { path: &'a str, command: Command<'a> },
 }
+
+/// How a server serves.
+#[derive(Clone, Copy, PartialEq, Eq, Debug)]
+pub(crate) struct Serving<'a> {
+    /// Where its socket is to be.
+    pub(crate) path: &'a str,
+    /// The blocks of its pool, 128 to 65,536.
+    pub(crate) blocks: u32,
+    /// Its workers, 1 to 16.
+    pub(crate) workers: u32,
+    /// After how many sessions it ends, 0 for never.
+    pub(crate) sessions: u64,
+}
+
+/// The most workers of a server.
+const WORKERS_MOST: u32 = 16;
 
 /// Why a word says nothing.
 type Bad = &'static str;
@@ -32,6 +50,12 @@ const BAD_KEY: Bad =
 const BAD_ID: Bad = "an ID is 0 to 2147483647";
 
 const BAD_TYPE: Bad = "a type is 1 to 9223372036854775807";
+
+const BAD_BLOCKS: Bad = "the blocks are 128 to 65536";
+
+const BAD_WORKERS: Bad = "the workers are 1 to 16";
+
+const BAD_SESSIONS: Bad = "the sessions are 0 to 18446744073709551615";
 
 const BAD_NUMBER: Bad = "a size, a user, a group and a process are 0 to 4294967295";
 
@@ -74,6 +98,7 @@ fn task_of<'a>(matches: &ArgMatches<'a>) -> Result<Asked<'a>, Bad>
     };
     let task = match name {
         "script" => return Ok(Asked::Script),
+        "serve" => return Ok(Asked::Serve(serving(words)?)),
         "ipcs" => Task::List,
         "ipcrm" => removal(words)?,
         "snd" => sending(words)?,
@@ -87,6 +112,33 @@ fn task_of<'a>(matches: &ArgMatches<'a>) -> Result<Asked<'a>, Bad>
     Ok(Asked::Client {
         path,
         command: Command { cred, task },
+    })
+}
+
+/// What a `serve` asks for.
+fn serving<'a>(words: &ArgMatches<'a>) -> Result<Serving<'a>, Bad>
+    ensures { IfOk result HasLimits }
+{
+    let Some(path) = words.get_str("path") else {
+        return Err(NO_COMMAND);
+    };
+    let blocks = number(words, "blocks", 1024)?;
+    if !(BLOCKS_LEAST..=BLOCKS_MOST).contains(&blocks) {
+        return Err(BAD_BLOCKS);
+    }
+    let workers = number(words, "workers", 4)?;
+    if !(1..=WORKERS_MOST).contains(&workers) {
+        return Err(BAD_WORKERS);
+    }
+    let sessions = match words.get_str("sessions") {
+        Some(word) => u64::read(word.as_bytes()).ok_or(BAD_SESSIONS)?,
+        None => 0,
+    };
+    Ok(Serving {
+        path,
+        blocks,
+        workers,
+        sessions,
     })
 }
 

@@ -14,6 +14,7 @@ pub(crate) fn command<'a>(alloc: Global) -> Result<Command<'a>, AllocError> {
         .subcommand_required(true)
         .disable_help_subcommand(true)
         .subcommand(script(alloc))?
+        .subcommand(serve(alloc)?)?
         .subcommand(ipcs(alloc)?)?
         .subcommand(ipcrm(alloc)?)?
         .subcommand(snd(alloc)?)?
@@ -22,6 +23,20 @@ pub(crate) fn command<'a>(alloc: Global) -> Result<Command<'a>, AllocError> {
 
 fn script<'a>(alloc: Global) -> Command<'a> {
     Command::new(alloc, "script").about("Runs the script on standard input and prints its answers")
+}
+
+fn serve<'a>(alloc: Global) -> Result<Command<'a>, AllocError> {
+    Command::new(alloc, "serve")
+        .about("Serves queues on a socket, and prints what became of the messages")
+        .arg(word(
+            alloc,
+            "path",
+            "PATH",
+            "The socket, which must not be there yet",
+        ))?
+        .arg(value(alloc, "blocks", "B", BLOCKS_HELP).long("blocks"))?
+        .arg(value(alloc, "workers", "W", WORKERS_HELP).long("workers"))?
+        .arg(value(alloc, "sessions", "N", SESSIONS_HELP).long("sessions"))
 }
 
 fn ipcs<'a>(alloc: Global) -> Result<Command<'a>, AllocError> {
@@ -61,6 +76,12 @@ fn rcv<'a>(alloc: Global) -> Result<Command<'a>, AllocError> {
 }
 
 /// What is said of the words and the options.
+const BLOCKS_HELP: &str = "The blocks of 64 bytes for all texts, 128 to 65536 [default: 1024]";
+
+const WORKERS_HELP: &str = "How many sessions go on at a time, 1 to 16 [default: 4]";
+
+const SESSIONS_HELP: &str = "Ends after so many sessions, 0 for never [default: 0]";
+
 const KEY_HELP: &str =
     "The queue's key, 1 to 2147483647, or 0x and one to eight hexadecimal digits, not all 0";
 

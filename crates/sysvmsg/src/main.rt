@@ -4,6 +4,7 @@
 mod asked;
 mod commands;
 mod connection;
+mod serving;
 #[cfg(test)]
 mod tests;
 
@@ -11,6 +12,7 @@ use asked::{Asked, no_text, read_words};
 use clap::Error;
 use clap::error::ErrorKind;
 use connection::run_at;
+use serving::serve_at;
 use std::env;
 use std::process::ExitCode;
 use sysv_script::script::run_script;
@@ -33,6 +35,7 @@ fn main(rt: HostRuntime) -> ExitCode {
             Ok(()) => ExitCode::SUCCESS,
             Err(_) => ExitCode::from(FAULT),
         },
+        Ok(Asked::Serve(serving)) => serve_at(&rt, &serving),
         Ok(Asked::Client { path, command }) => run_at(&rt, path, &command),
         Err(error) => tell(&rt, &error),
     }

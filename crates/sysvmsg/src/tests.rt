@@ -1,5 +1,7 @@
 //! Command lines, and clients over a pair of sockets.
-use crate::asked::{Asked, read_words};
+mod server;
+
+use crate::asked::{Asked, Serving, read_words};
 use crate::connection::run_over;
 use clap::Error;
 use clap::error::ErrorKind;
@@ -49,6 +51,42 @@ fn scripts(rt: HostRuntime) -> Result<(), Fail> {
         asked_of(rt.alloc(), &["sysvmsg", "script"])?,
         Asked::Script
     );
+    Ok(())
+}
+
+#[test]
+fn servers(rt: HostRuntime) -> Result<(), Fail> {
+    let most = [
+        "sysvmsg",
+        "serve",
+        "s",
+        "--blocks=65536",
+        "--workers=16",
+        "--sessions=18446744073709551615",
+    ];
+    let table: [(&[&str], u32, u32, u64); 3] = [
+        (&["sysvmsg", "serve", "s"], 1024, 4, 0),
+        (
+            &["sysvmsg", "serve", "--blocks", "128", "s", "--workers", "1"],
+            128,
+            1,
+            0,
+        ),
+        (&most, 65536, 16, 18446744073709551615),
+    ];
+    for (words, blocks, workers, sessions) in table {
+        let serving = Serving {
+            path: "s",
+            blocks,
+            workers,
+            sessions,
+        };
+        assert_eq!(rt;
+            asked_of(rt.alloc(), words)?,
+            Asked::Serve(serving),
+            "{words:?}"
+        );
+    }
     Ok(())
 }
 
@@ -209,12 +247,25 @@ fn receives(rt: HostRuntime) -> Result<(), Fail> {
 
 #[test]
 fn lines_that_are_not_understood(rt: HostRuntime) {
-    let table: [&[&str]; 41] = [
+    let table: [&[&str]; 48] = [
         &["sysvmsg"],
         &["sysvmsg", ""],
         &["sysvmsg", "scripts"],
         &["sysvmsg", "Script"],
         &["sysvmsg", "serve"],
+        &["sysvmsg", "serve", "s", "t"],
+        &["sysvmsg", "serve", "s", "--blocks", "127"],
+        &["sysvmsg", "serve", "s", "--blocks", "65537"],
+        &["sysvmsg", "serve", "s", "--workers", "0"],
+        &["sysvmsg", "serve", "s", "--workers", "17"],
+        &[
+            "sysvmsg",
+            "serve",
+            "s",
+            "--sessions",
+            "18446744073709551616",
+        ],
+        &["sysvmsg", "serve", "s", "--uid", "0"],
         &["sysvmsg", "help"],
         &["sysvmsg", "script", "x"],
         &["sysvmsg", "ipcs"],
@@ -294,7 +345,7 @@ fn help_and_version(rt: HostRuntime) {
         let kind = kind_of(rt.alloc(), &["sysvmsg", word]);
         assert_eq!(rt; kind, Some(ErrorKind::DisplayVersion));
     }
-    for name in ["script", "ipcs", "ipcrm", "snd", "rcv"] {
+    for name in ["script", "serve", "ipcs", "ipcrm", "snd", "rcv"] {
         let kind = kind_of(rt.alloc(), &["sysvmsg", name, "--help"]);
         assert_eq!(rt; kind, Some(ErrorKind::DisplayHelp), "{name}");
         let kind = kind_of(rt.alloc(), &["sysvmsg", name, "--version"]);
