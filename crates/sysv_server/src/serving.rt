@@ -18,7 +18,17 @@ use sysv_service::pass::Pass;
 use sysv_service::service::Service;
 use sysv_workers::{Source, WorkersFault, WorkersRefused, run_workers};
 
-/// Serves the connections of the listener on a new service.
+/// Serves the connections of the listener on a new service, each as one session, and answers what the sessions add up to.
+/// `blocks` is the size of the pool, 128 to 65,536, `workers` the number of threads, 1 to 16, and `sessions` the number of
+/// connections that are accepted, 0 for any number. A server ends once that many sessions are over or, where an accept fails,
+/// those are that were accepted; then it removes the queues that are left. Every moment of its queues is 0.
+///
+/// The clients' hellos are believed. A call that waits holds its worker. A session whose memory is refused is counted, and
+/// answers nothing.
+///
+/// `NoMemory` comes where memory for the service, the passes or the workers is refused, and `Thread` where a thread can't be
+/// started: then nothing was accepted. `Worn` comes where 2^62 connections had gone to the workers, and `Missed` where the
+/// number of sessions that were run is not that of the connections that were accepted.
 pub fn serve_on<R: Threads + Wait + Sync>(
     rt: &R,
     alloc: Global,
@@ -36,7 +46,7 @@ pub fn serve_on<R: Threads + Wait + Sync>(
     serve_connections(rt, alloc, &mut source, blocks, workers)
 }
 
-/// Serves the connections that the source gives on a new service.
+/// As `serve_on`, with the connections that a source gives. After `NoMemory` and `Thread` the source was not asked.
 pub fn serve_connections<S: Source<UnixStream>, R: Threads + Wait + Sync>(
     rt: &R,
     alloc: Global,

@@ -210,7 +210,9 @@ fn served<R: Threads + Wait + Net + Files + Abort + Sync>(
     let listener = UnixListener::bind(rt, path).expect(rt, "a socket");
     thread::join(
         rt,
-        move || {
+        move || -> Result<Sums, ServeFault>
+            requires { (1 ≤ workers) × (workers ≤ 16) }
+        {
             let sums = serve_on(rt, alloc, &listener, 128, workers, sessions);
             drop(listener);
             sums
