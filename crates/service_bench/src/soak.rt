@@ -102,7 +102,7 @@ impl<'a> Soaker<'a> {
         let Some(id) = id_of(rt, service, pass, key) else {
             return;
         };
-        let nowait = self.below(4) > 0;
+        let nowait = self.below(16) > 0;
         match self.below(32) {
             0..=14 => self.send(rt, service, pass, key, id, nowait),
             15..=29 => self.receive(rt, service, pass, key, id, nowait),
