@@ -105,6 +105,11 @@ impl<'a> Turn<'a> {
     }
 }
 
+/// Adds a part after the others.
+pub(crate) fn add<'a>(rt: &impl Abort, parts: &mut Vec<Part<'a>>, part: Part<'a>) {
+    parts.push(part).expect(rt, "memory");
+}
+
 /// What the call of this part was answered, and how many things were said by then.
 pub(crate) fn told_of(rt: &impl Abort, parts: &[Part], place: usize) -> (Told, u64) {
     let Some(Part::Asks(turn)) = parts.get(place) else {

@@ -3,7 +3,7 @@
 use crate::ask::Ask;
 use crate::board::Board;
 use crate::crew::run;
-use crate::part::{Part, Turn, told_of};
+use crate::part::{Part, Turn, add, told_of};
 use crate::room::closed;
 use sysv_model::errno::Errno;
 
@@ -14,7 +14,7 @@ fn a_stop_wakes_all_who_wait(rt: HostRuntime) {
     let mut parts = Vec::new(alloc);
     for waiter in 0..6 {
         let turn = Turn::at_once(&board, Ask::Receive(waiter / 2));
-        parts.push(Part::Asks(turn)).expect(&rt, "memory");
+        add(&rt, &mut parts, Part::Asks(turn));
     }
     let stops = Turn {
         runs: false,
@@ -22,7 +22,7 @@ fn a_stop_wakes_all_who_wait(rt: HostRuntime) {
         begins: true,
         ..Turn::at_once(&board, Ask::Stop)
     };
-    parts.push(Part::Asks(stops)).expect(&rt, "memory");
+    add(&rt, &mut parts, Part::Asks(stops));
     let before = [Ask::Get(1), Ask::Get(2), Ask::Get(3)];
     let left = run(&rt, alloc, 128, &before, parts);
     assert_eq!(rt; left.live, 0);

@@ -4,7 +4,7 @@ ghost use Rattle.sysv_gated.specs.Seats.{AreOf};
 use crate::ask::Ask;
 use crate::board::{Board, LOOKS, Moment};
 use crate::crew::run;
-use crate::part::{Part, Turn, told_of};
+use crate::part::{Part, Turn, add, told_of};
 use crate::room::{USER, body_of, closed};
 use bitflags::Flags as _;
 use std::alloc::Global;
@@ -79,10 +79,8 @@ fn a_receive_is_asked_again_at_each_message(rt: HostRuntime) {
         ..Turn::at_once(&board, Ask::ReceiveSecond(0))
     };
     let mut parts = Vec::new(alloc);
-    parts.push(Part::Asks(turn)).expect(&rt, "memory");
-    parts
-        .push(Part::Teases(Tease { board: &board }))
-        .expect(&rt, "memory");
+    add(&rt, &mut parts, Part::Asks(turn));
+    add(&rt, &mut parts, Part::Teases(Tease { board: &board }));
     let left = run(&rt, alloc, 128, &[Ask::Get(7)], parts);
     assert_eq!(rt; left.closed, closed(0, 128));
     let (told, asked) = told_of(&rt, &left.parts, 0);
@@ -106,8 +104,8 @@ fn a_send_goes_on_while_another_is_held(rt: HostRuntime) {
         ..Turn::at_once(&board, Ask::Send(1, 1))
     };
     let mut parts = Vec::new(alloc);
-    parts.push(Part::Asks(held)).expect(&rt, "memory");
-    parts.push(Part::Asks(free)).expect(&rt, "memory");
+    add(&rt, &mut parts, Part::Asks(held));
+    add(&rt, &mut parts, Part::Asks(free));
     let left = run(&rt, alloc, 128, &[Ask::Get(1), Ask::Get(2)], parts);
     assert_eq!(rt; left.closed, closed(2, 128));
     assert_eq!(rt; told_of(&rt, &left.parts, 0), (Ok(0), 3));

@@ -3,7 +3,7 @@
 use crate::ask::{Ask, Told};
 use crate::board::{Board, Moment};
 use crate::crew::run;
-use crate::part::{Part, Turn, told_of};
+use crate::part::{Part, Turn, add, told_of};
 use crate::room::{ROOT, USER, closed};
 use std::alloc::Global;
 use std::process::Abort;
@@ -51,8 +51,8 @@ fn waited<R: Threads + Abort + Wait + Clock + Sync>(
         ..Turn::at_once(&board, case.ends)
     };
     let mut parts = Vec::new(alloc);
-    parts.push(Part::Asks(waits)).expect(rt, "memory");
-    parts.push(Part::Asks(ends)).expect(rt, "memory");
+    add(rt, &mut parts, Part::Asks(waits));
+    add(rt, &mut parts, Part::Asks(ends));
     let left = run(rt, alloc, 128, &case.before, parts);
     assert_eq!(rt; (left.closed.free, left.closed.held), (128, 0));
     let (told, said) = told_of(rt, &left.parts, 0);
@@ -169,7 +169,7 @@ fn a_get_waits_for_a_key_that_is_made(rt: HostRuntime) {
     };
     let mut parts = Vec::new(alloc);
     for turn in [makes, waits, releases] {
-        parts.push(Part::Asks(turn)).expect(&rt, "memory");
+        add(&rt, &mut parts, Part::Asks(turn));
     }
     let left = run(&rt, alloc, 128, &[], parts);
     assert_eq!(rt; left.closed, closed(0, 128));
