@@ -98,7 +98,7 @@ fn task_of<'a>(matches: &ArgMatches<'a>) -> Result<Asked<'a>, Bad>
     };
     let task = match name {
         "script" => return Ok(Asked::Script),
-        "serve" => return Ok(Asked::Serve(serving(words)?)),
+        "serve" => return Ok(Asked::Serve(server(words)?)),
         "ipcs" => Task::List,
         "ipcrm" => removal(words)?,
         "snd" => sending(words)?,
@@ -116,7 +116,7 @@ fn task_of<'a>(matches: &ArgMatches<'a>) -> Result<Asked<'a>, Bad>
 }
 
 /// What a `serve` asks for.
-fn serving<'a>(words: &ArgMatches<'a>) -> Result<Serving<'a>, Bad>
+fn server<'a>(words: &ArgMatches<'a>) -> Result<Serving<'a>, Bad>
     ensures { IfOk result HasLimits }
 {
     let Some(path) = words.get_str("path") else {
