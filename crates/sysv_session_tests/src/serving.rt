@@ -12,7 +12,6 @@ use sysv_service::clock::Clock;
 use sysv_service::pass::Pass;
 use sysv_service::service::Service;
 use sysv_session::served::{End, Served};
-use sysv_session::session::serve;
 
 /// A clock that stands still.
 struct Still(u64);
@@ -54,8 +53,25 @@ fn ended(rt: &impl Abort, service: Service, pass: Pass, waiting: u64)
     );
 }
 
-/// Serves one session on a new service at the moment 7, on which so many messages are left to wait. Memory is refused once at
-/// most, and then nothing was read or written.
+/// Serves one session. Memory is refused once at most, and then nothing was read or written.
+fn talked<R: Abort + Wait>(
+    rt: &R,
+    alloc: Global,
+    reader: &mut Pieces<'_>,
+    page: &mut Page,
+    kernel: &mut ServiceKernel<'_, Still, R>,
+) -> Served
+    ensures { kernel.new.service ≡ kernel.old.service }
+{
+    let served = kernel.serve(alloc, reader, page);
+    if served.end != End::NoMemory {
+        return served;
+    }
+    assert_eq!(rt; (page.written().len(), page.flush_count), (0, 0));
+    kernel.serve(alloc, reader, page)
+}
+
+/// Serves one session on a new service at the moment 7, on which so many messages are left to wait.
 fn served<R: Abort + Wait>(
     rt: &R,
     alloc: Global,
@@ -65,14 +81,10 @@ fn served<R: Abort + Wait>(
 ) -> Served {
     let (service, pass) = opened(rt, alloc);
     let mut kernel = ServiceKernel::new(rt, &service, &CLOCK, pass);
-    let mut served = serve(alloc, reader, page, &mut kernel);
-    if served.end == End::NoMemory {
-        assert_eq!(rt; (page.written().len(), page.flush_count), (0, 0));
-        served = serve(alloc, reader, page, &mut kernel);
-    }
+    let told = talked(rt, alloc, reader, page, &mut kernel);
     let pass = kernel.into_pass();
     ended(rt, service, pass, waiting);
-    served
+    told
 }
 
 #[test]
