@@ -38,7 +38,11 @@ int main(int argc, char **argv) {
         }
         return 0;
     }
-    if (argc != 4 || connect(fd, (struct sockaddr *)&name, sizeof name) != 0) return 1;
+    if (argc != 4) return 2;
+    for (int tries = 0; connect(fd, (struct sockaddr *)&name, sizeof name) != 0; tries++) {
+        if (tries == 500) return 1;
+        usleep(10000);
+    }
     int rounds = atoi(argv[3]);
     struct timespec first, last;
     clock_gettime(CLOCK_MONOTONIC, &first);

@@ -65,7 +65,10 @@ int main(int argc, char **argv) {
     struct sockaddr_un name = {.sun_family = AF_UNIX};
     strncpy(name.sun_path, argv[1], sizeof name.sun_path - 1);
     int fd = socket(AF_UNIX, SOCK_STREAM, 0);
-    if (fd < 0 || connect(fd, (struct sockaddr *)&name, sizeof name) != 0) fail("connect");
+    for (int tries = 0; connect(fd, (struct sockaddr *)&name, sizeof name) != 0; tries++) {
+        if (tries == 500) fail("connect");
+        usleep(10000);
+    }
 
     at = begin(frame, 0, 12);
     at = number(at, 1000, 4);
