@@ -69,6 +69,13 @@ pub(crate) fn read_words<'a, S: AsStr>(alloc: Global, words: &'a [S]) -> Result<
     ensures { IfOk result IsWithinLimits }
 {
     let mut line: CommandLine<'a> = command(alloc)?;
+    read_line(&mut line, words)
+}
+
+/// The same, by a command line.
+fn read_line<'a, S: AsStr>(line: &mut CommandLine<'a>, words: &'a [S]) -> Result<Asked<'a>, Error>
+    ensures { IfOk result IsWithinLimits }
+{
     let matches = line.try_get_matches_from_mut(words)?;
     match task_of(&matches) {
         Ok(task) => Ok(task),

@@ -7,18 +7,30 @@ const VERSION: &str = "0.1.0";
 
 /// The whole command line.
 pub(crate) fn command<'a>(alloc: Global) -> Result<Command<'a>, AllocError> {
-    Command::new(alloc, "sysvmsg")
+    let command = Command::new(alloc, "sysvmsg")
         .about("System V message queues")
         .version(VERSION)
         .propagate_version(true)
         .subcommand_required(true)
-        .disable_help_subcommand(true)
-        .subcommand(script(alloc))?
-        .subcommand(serve(alloc)?)?
-        .subcommand(ipcs(alloc)?)?
-        .subcommand(ipcrm(alloc)?)?
-        .subcommand(snd(alloc)?)?
-        .subcommand(rcv(alloc)?)
+        .disable_help_subcommand(true);
+    let command = with_queues(alloc, command)?;
+    let command = with_lists(alloc, command)?;
+    with_messages(alloc, command)
+}
+
+/// The commands that have queues of their own.
+fn with_queues<'a>(alloc: Global, command: Command<'a>) -> Result<Command<'a>, AllocError> {
+    command.subcommand(script(alloc))?.subcommand(serve(alloc)?)
+}
+
+/// The clients for queues.
+fn with_lists<'a>(alloc: Global, command: Command<'a>) -> Result<Command<'a>, AllocError> {
+    command.subcommand(ipcs(alloc)?)?.subcommand(ipcrm(alloc)?)
+}
+
+/// The clients for messages.
+fn with_messages<'a>(alloc: Global, command: Command<'a>) -> Result<Command<'a>, AllocError> {
+    command.subcommand(snd(alloc)?)?.subcommand(rcv(alloc)?)
 }
 
 fn script<'a>(alloc: Global) -> Command<'a> {
@@ -45,11 +57,17 @@ fn ipcs<'a>(alloc: Global) -> Result<Command<'a>, AllocError> {
 }
 
 fn ipcrm<'a>(alloc: Global) -> Result<Command<'a>, AllocError> {
-    let command = client(alloc, "ipcrm", "Removes a queue")?
+    let command = client(alloc, "ipcrm", "Removes a queue")?;
+    let command = target(alloc, command)?;
+    credentials(alloc, command)
+}
+
+/// Which queue is removed.
+fn target<'a>(alloc: Global, command: Command<'a>) -> Result<Command<'a>, AllocError> {
+    command
         .arg(value(alloc, "id", "ID", ID_HELP).short('q'))?
-        .arg(value(alloc, "key", "KEY", KEY_HELP).short('Q'))?;
-    let command = credentials(alloc, command)?;
-    command.group(either(alloc, "id", "key")?.required(true))
+        .arg(value(alloc, "key", "KEY", KEY_HELP).short('Q'))?
+        .group(either(alloc, "id", "key")?.required(true))
 }
 
 fn snd<'a>(alloc: Global) -> Result<Command<'a>, AllocError> {
@@ -63,16 +81,28 @@ fn snd<'a>(alloc: Global) -> Result<Command<'a>, AllocError> {
 }
 
 fn rcv<'a>(alloc: Global) -> Result<Command<'a>, AllocError> {
-    let about = "Receives a message and prints its text";
-    let command = client(alloc, "rcv", about)?
-        .arg(word(alloc, "key", "KEY", KEY_HELP))?
-        .arg(value(alloc, "size", "S", SIZE_HELP).long("size"))?
+    let command = client(alloc, "rcv", "Receives a message and prints its text")?.arg(word(
+        alloc, "key", "KEY", KEY_HELP,
+    ))?;
+    let command = wanted(alloc, command)?;
+    let command = manner(alloc, command)?;
+    credentials(alloc, command)
+}
+
+/// Which message is wanted.
+fn wanted<'a>(alloc: Global, command: Command<'a>) -> Result<Command<'a>, AllocError> {
+    command
         .arg(value(alloc, "type", "N", TYPE_HELP).long("type"))?
         .arg(value(alloc, "upto", "N", UPTO_HELP).long("upto"))?
+        .group(either(alloc, "type", "upto")?)
+}
+
+/// How it is received.
+fn manner<'a>(alloc: Global, command: Command<'a>) -> Result<Command<'a>, AllocError> {
+    command
+        .arg(value(alloc, "size", "S", SIZE_HELP).long("size"))?
         .arg(flag(alloc, "nowait", NOWAIT_HELP))?
-        .arg(flag(alloc, "noerror", NOERROR_HELP))?;
-    let command = credentials(alloc, command)?;
-    command.group(either(alloc, "type", "upto")?)
+        .arg(flag(alloc, "noerror", NOERROR_HELP))
 }
 
 /// What is said of the words and the options.
