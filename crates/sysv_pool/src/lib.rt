@@ -1,4 +1,4 @@
-//! The pool of blocks in which message texts lie, and the chains of blocks that it hands out. `specs/` has
+//! The pool of blocks in which message texts lie, and the chains of blocks that it gives. `specs/` has
 //! the legal reply to each call of the pool and the law that every history of legal replies obeys.
 #![tactic(auto)]
 

@@ -252,7 +252,7 @@ impl QueueSlot {
         Ok(())
     }
 
-    /// Removes the queue and hands out the blocks of all that waits on it (POSIX.1-2017, `msgctl`,
+    /// Removes the queue and gives the blocks of all that waits on it (POSIX.1-2017, `msgctl`,
     /// IPC_RMID); the slot is vacant from then on. Both counts rise. `EINVAL` where the identifier is not
     /// live, then `EPERM` for another user than 0, the owner and the creator; a refusal leaves the slot as
     /// it was. It takes no memory. Both counts have to be below 2^63.

@@ -22,7 +22,7 @@ pub IfErr-stream : {T : Type 0} (r : Result T ScriptFault) (fault : ScriptFault)
 IfErr-stream (Ok x) fault composed e h = tt
 IfErr-stream (Err y) fault composed e h = LeavesBadLine-stream y composed (subst IsStreamFault (sym e) h)
 
--- what was composed is handed out last
+-- what was composed is written last
 TellsBadLine-handed : (fault : ScriptFault) (a b c : Option (List ℕ)) (composed : List ℕ) → Grows a b → Appends b c composed → LeavesBadLine fault composed → TellsBadLine fault a c
 TellsBadLine-handed (Line n) a b c composed grown all left =
     let last = left.2 in

@@ -19,12 +19,12 @@ abbrev pub removed_by : Ending → ℕ
 removed_by Zero = 1
 removed_by ending = 0
 
--- it found a worn gate instead
+-- it found the slot's gate worn out instead
 abbrev pub is_overflow : Ending → Bool
 is_overflow (Refused EOVERFLOW) = true
 is_overflow ending = false
 
--- one slot: how many queues were removed, and whether a gate was found worn out
+-- one slot: how many queues were removed, and whether its gate was found worn out
 pub data StopsAt (slot : ℕ) (before : Pass) : ℕ → Bool → Pass → Type 0 where
   -- it showed no queue
   is_vacant : (after : Pass) → TellsRow slot before (Ok None) after → StopsAt slot before 0 false after
@@ -50,7 +50,7 @@ abbrev pub is_refused : Result Bool Errno → Bool
 is_refused (Ok done) = false
 is_refused (Err why) = true
 
--- how many were removed, unless a gate was found worn out
+-- how many were removed, unless the gate of a slot was found worn out
 abbrev pub TellsStop : ℕ → Bool → Result ℕ Errno → Type 0
 TellsStop removed false (Ok told) = told ≡ removed
 TellsStop removed true (Err why) = why ≡ EOVERFLOW

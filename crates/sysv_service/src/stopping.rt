@@ -20,9 +20,9 @@ const SUPERUSER: Cred = Cred {
 };
 
 impl Service {
-    /// Removes every queue: at each slot in order it reads the row, and removes the queue that is shown, as user 0, so that all
-    /// who wait on it are woken (this profile's). It answers how many it removed. What is made meanwhile may stay. `EOVERFLOW`
-    /// comes exactly where a gate was found worn out, after all slots were tried.
+    /// Removes every queue: at each slot in order it reads the row, and removes the queue that is shown, as user 0 (this
+    /// profile's). It answers how many it removed. What is made meanwhile may stay. `EOVERFLOW` comes exactly where the gate of
+    /// a slot was found worn out, after all slots were tried.
     pub fn stop(&self, rt: &impl MayWait, pass: &mut Pass) -> Result<u32, Errno>
         requires { AreOf self.now pass.old.seats }
         ensures pass { AreOf self.now pass.new.seats }
@@ -43,7 +43,7 @@ impl Service {
         Ok(removed)
     }
 
-    /// Whether a queue was removed at this slot. `EOVERFLOW` where a gate was found worn out.
+    /// Whether a queue was removed at this slot. `EOVERFLOW` where its gate was found worn out.
     fn stop_slot(&self, rt: &impl MayWait, pass: &mut Pass, slot: u32) -> Result<bool, Errno>
         requires pass { AreOf self.now pass.old.seats }
         requires slot { slot < slot_count }
