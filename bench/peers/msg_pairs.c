@@ -1,5 +1,5 @@
 /* The kernel's own msgsnd and msgrcv, as the service is measured beside them.
- *   msg_pairs pairs SIZE COUNT      COUNT pairs of SIZE bytes by one process
+ *   msg_pairs pairs SIZE COUNT [N]  COUNT pairs of SIZE bytes by each of N processes on a queue of its own, 1 by default
  *   msg_pairs rounds COUNT          COUNT rounds of two processes over two queues, of 64 bytes
  * It prints the nanoseconds of all of them. It ends with status 1 where a call is refused.
  */
@@ -27,15 +27,31 @@ static long long now(void)
     return at.tv_sec * 1000000000LL + at.tv_nsec;
 }
 
-static int pairs(size_t size, long count)
+static int own_pairs(size_t size, long count)
 {
     int id = msgget(IPC_PRIVATE, IPC_CREAT | 0600);
     int refused = id < 0;
-    long long start = now();
     for (long i = 0; i < count && !refused; i++)
         refused = msgsnd(id, &text, size, 0) < 0 || msgrcv(id, &out, sizeof out.mtext, 0, 0) < 0;
-    printf("%lld\n", now() - start);
     msgctl(id, IPC_RMID, NULL);
+    return refused;
+}
+
+static int pairs(size_t size, long count, long processes)
+{
+    int refused = 0;
+    int status;
+    long long start = now();
+    for (long i = 1; i < processes; i++) {
+        pid_t child = fork();
+        if (child == 0)
+            _exit(own_pairs(size, count));
+        refused = refused || child < 0;
+    }
+    refused = own_pairs(size, count) || refused;
+    while (wait(&status) > 0)
+        refused = refused || status != 0;
+    printf("%lld\n", now() - start);
     return refused;
 }
 
@@ -72,10 +88,10 @@ static int rounds(long count)
 
 int main(int count, char **words)
 {
-    if (count == 4 && strcmp(words[1], "pairs") == 0)
-        return pairs(strtoul(words[2], NULL, 10), strtol(words[3], NULL, 10));
+    if ((count == 4 || count == 5) && strcmp(words[1], "pairs") == 0)
+        return pairs(strtoul(words[2], NULL, 10), strtol(words[3], NULL, 10), count == 5 ? strtol(words[4], NULL, 10) : 1);
     if (count == 3 && strcmp(words[1], "rounds") == 0)
         return rounds(strtol(words[2], NULL, 10));
-    fputs("msg_pairs pairs SIZE COUNT, or rounds COUNT\n", stderr);
+    fputs("msg_pairs pairs SIZE COUNT [N], or rounds COUNT\n", stderr);
     return 2;
 }

@@ -63,3 +63,30 @@ pub fn time_of_buffer<R: Threads + Wait + Clock + CpuClock + Sync>(
     }
     watch.nanos(rt)
 }
+
+fn put_and_take(
+    rt: &impl Wait,
+    buffer: &OneBuffer<u64>,
+    mut puts: Producer<u64>,
+    mut takes: Consumer<u64>,
+) -> bool
+    requires puts { puts.buffer ≡ buffer.now }
+    requires takes { takes.buffer ≡ buffer.now }
+{
+    for number in 0..ITEMS {
+        if buffer.put(rt, &mut puts, number).is_err() || buffer.take(rt, &mut takes).is_err() {
+            return false;
+        }
+    }
+    true
+}
+
+/// The nanoseconds of all items, put and taken in turn by one thread, so that nobody sleeps.
+pub fn time_alone<R: Wait + Clock + CpuClock>(rt: &R, alloc: Global, cells: usize) -> Option<u64> {
+    let (buffer, puts, takes) = OneBuffer::open(alloc, cells).ok()?;
+    let watch = Watch::start(rt, Time::Passed)?;
+    if !put_and_take(rt, &buffer, puts, takes) {
+        return None;
+    }
+    watch.nanos(rt)
+}

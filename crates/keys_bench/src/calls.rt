@@ -3,8 +3,8 @@ use bench_figures::{Time, Watch, show};
 use std::alloc::Global;
 use std::io;
 use std::time::{Clock, CpuClock};
-use sysv_keys::registry::{Begun, Registry};
-use sysv_model::flags::Flags;
+use sysv_keys::{Begun, Registry};
+use sysv_model::Flags;
 
 /// How often a queue comes and goes, the first time; then ten times as often.
 const TIMES: u64 = 1_000_000;

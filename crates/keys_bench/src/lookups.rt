@@ -4,7 +4,7 @@ use bench_figures::{Time, Watch, show};
 use std::alloc::Global;
 use std::io;
 use std::time::{Clock, CpuClock};
-use sysv_keys::registry::{Begun, Registry};
+use sysv_keys::{Begun, Registry};
 
 /// How often a key is looked up.
 const TIMES: u64 = 10_000_000;

@@ -2,8 +2,8 @@
 use bench_figures::{Time, Watch};
 use std::alloc::Global;
 use std::time::{Clock, CpuClock};
-use sysv_model::body::Body;
-use sysv_pool::pool::Pool;
+use sysv_model::Body;
+use sysv_pool::Pool;
 
 /// The rounds of one measurement.
 pub const ROUNDS: u64 = 100_000;

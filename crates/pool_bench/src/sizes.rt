@@ -4,8 +4,8 @@ use bench_figures::show;
 use std::alloc::Global;
 use std::io;
 use std::time::{Clock, CpuClock};
-use sysv_model::body::Body;
-use sysv_pool::pool::Pool;
+use sysv_model::Body;
+use sysv_pool::Pool;
 
 /// The bytes that are copied.
 const TEXT: [u8; 8192] = [b'x'; 8192];

@@ -11,10 +11,8 @@ use std::alloc::Global;
 use std::sync::Wait;
 use std::thread::{Threads, for_each_mut};
 use std::time::{Clock, CpuClock};
-use sysv_model::flags::Flags;
-use sysv_service::closing::Closed;
-use sysv_service::pass::Pass;
-use sysv_service::service::Service;
+use sysv_model::Flags;
+use sysv_service::{Closed, Pass, Service};
 
 /// What is left of a service.
 #[derive(Drop)]

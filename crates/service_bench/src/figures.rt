@@ -9,7 +9,7 @@ use std::io;
 use std::sync::Wait;
 use std::thread::Threads;
 use std::time::{Clock, CpuClock};
-use sysv_model::body::Body;
+use sysv_model::Body;
 
 /// So many pairs each thread makes.
 const PAIRS: u64 = 300_000;

@@ -4,11 +4,9 @@ ghost use Rattle.sysv_gated.specs.Seats.{AreOf};
 use crate::part::{Still, USER};
 use bitflags::Flags as _;
 use std::sync::Wait;
-use sysv_model::body::Body;
-use sysv_model::flags::Flags;
-use sysv_queue::tally::Tally;
-use sysv_service::pass::Pass;
-use sysv_service::service::Service;
+use sysv_model::{Body, Flags};
+use sysv_queue::Tally;
+use sysv_service::{Pass, Service};
 
 /// Sends a text to a queue and takes it back, over and over.
 #[derive(Drop)]

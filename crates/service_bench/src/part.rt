@@ -6,10 +6,8 @@ use crate::rounds::Player;
 use crate::soak::{Keeper, Soaker};
 use std::sync::Wait;
 use std::time::Clock as Time;
-use sysv_model::cred::Cred;
-use sysv_service::clock::Clock;
-use sysv_service::pass::Pass;
-use sysv_service::service::Service;
+use sysv_model::Cred;
+use sysv_service::{Clock, Pass, Service};
 
 pub(crate) const USER: Cred = Cred {
     uid: 1000,

@@ -3,9 +3,8 @@ ghost use Rattle.sysv_gated.specs.Seats.{AreOf};
 
 use crate::pairs::{receive, send};
 use std::sync::Wait;
-use sysv_model::body::Body;
-use sysv_service::pass::Pass;
-use sysv_service::service::Service;
+use sysv_model::Body;
+use sysv_service::{Pass, Service};
 
 /// One side of a ping-pong over two queues.
 #[derive(Drop)]

@@ -11,13 +11,9 @@ use std::io;
 use std::sync::Wait;
 use std::thread::{Threads, sleep};
 use std::time::{Clock, CpuClock, Duration};
-use sysv_model::attributes::SetTo;
-use sysv_model::body::Body;
-use sysv_model::cred::Cred;
-use sysv_model::flags::Flags;
-use sysv_queue::tally::Tally;
-use sysv_service::pass::Pass;
-use sysv_service::service::Service;
+use sysv_model::{Body, Cred, Flags, SetTo};
+use sysv_queue::Tally;
+use sysv_service::{Pass, Service};
 
 /// Keys from 1 on; those up to `KEPT` are never removed before the end.
 const KEYS: i32 = 20;
@@ -28,7 +24,7 @@ const SOAKERS: u64 = 8;
 
 const BLOCKS: u32 = 1024;
 
-/// All queues are emptied at most so often, so that a message that was lost does not keep the soak from its end.
+/// All queues are emptied at most so many times, so that a message that was lost does not keep the soak from its end.
 const DRAINS: u32 = 1_000_000;
 
 /// What follows the number in a text.

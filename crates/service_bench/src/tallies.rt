@@ -3,7 +3,7 @@
 use std::alloc::Global;
 use std::sync::atomic::Ordering::SeqCst;
 use std::sync::atomic::{AtomicBool, AtomicU64};
-use sysv_model::body::Body;
+use sysv_model::Body;
 
 /// So many messages of each sender are told apart.
 const NUMBERS: u64 = 1 << 24;

@@ -6,13 +6,9 @@ use bitflags::Flags as _;
 use std::alloc::Global;
 use std::sync::Wait;
 use std::time::{Clock as Times, CpuClock};
-use sysv_model::body::Body;
-use sysv_model::cred::Cred;
-use sysv_model::flags::Flags;
-use sysv_queue::tally::Tally;
-use sysv_service::clock::Clock;
-use sysv_service::pass::Pass;
-use sysv_service::service::Service;
+use sysv_model::{Body, Cred, Flags};
+use sysv_queue::Tally;
+use sysv_service::{Clock, Pass, Service};
 
 const USER: Cred = Cred {
     uid: 1000,

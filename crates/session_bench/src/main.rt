@@ -12,9 +12,9 @@ use std::alloc::Global;
 use std::io;
 use std::sync::Wait;
 use std::time::{Clock, CpuClock};
-use sysv_kernel::kernel::ServiceKernel;
-use sysv_service::service::Service;
-use sysv_session::served::End;
+use sysv_kernel::ServiceKernel;
+use sysv_service::Service;
+use sysv_session::End;
 
 /// How many pairs are measured.
 const PAIRS: u32 = 1_000_000;

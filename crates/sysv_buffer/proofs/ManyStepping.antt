@@ -15,7 +15,7 @@ use Rattle.sysv_buffer.specs.declared.many_view.Sight.{Sight}
 use Rattle.sysv_buffer.specs.Ring.{Homes, Runs}
 use Rattle.sysv_buffer.specs.Steps.{holding}
 use Rattle.sysv_buffer.specs.ManyRing.{times, put_at, taken_at, filling, emptying, Seated, Crowded}
-use Rattle.sysv_buffer.specs.ManySteps.{Own, Weighs, DrawsPut, DrawsTake, CountsPut, CountsTaken, ReachesRoom, ReachesItem, Places, Removes}
+use Rattle.sysv_buffer.specs.ManySteps.{Own, DrawsPut, DrawsTake, CountsPut, CountsTaken, ReachesRoom, ReachesItem, Places, Removes}
 use Rattle.sysv_buffer.proofs.Places.{at_most}
 use Rattle.sysv_buffer.proofs.Running.{reached, put_in, grabbed, emptied}
 use Rattle.sysv_buffer.proofs.ManySums.{at-le-sum_by, one_there, some_part, times-append, times-one-le, the-one, has, only, none_of}
@@ -584,19 +584,3 @@ module _ {T : Type 0} where
       → Allows Crowded slots id m 16 (λ n. (n + 1) % 18446744073709551616) (Removes (step slots 16 1 0 none) m)
   removes slots id m v k t is busy ticket cell =
       subst (λ (y : Own T). Allows Crowded slots id y 16 (λ n. (n + 1) % 18446744073709551616) (Removes (step slots 16 1 0 none) y)) (sym is) (removes_at slots id v k t busy ticket cell)
-
-  pub weighs_put : (slots id : ℕ) (me : Own T) → me.0.fills ≡ false → me.0.empties ≡ false → Allows Crowded slots id me 32 (λ n. n) (Weighs (step slots 32 0 0 none) me)
-  weighs_put slots id me idle idle' s g size at small =
-      let n : ℕ = get_or s.words 32 0 in
-      let v : Sight T = me.0 in
-      let w : Sight T = record v { weighed = n } in
-      let know = g.seats.each id v at in
-      (w, keeps, tt, on_put s g n (set s.views id w) (looked g.put g.taken g.p g.c n (get_or s.words 48 0) id s.views v w g.seats at know.seen know.told know.gone refl refl refl refl idle idle' idle idle'), refl)
-
-  pub weighs_take : (slots id : ℕ) (me : Own T) → me.0.fills ≡ false → me.0.empties ≡ false → Allows Crowded slots id me 48 (λ n. n) (Weighs (step slots 48 0 0 none) me)
-  weighs_take slots id me idle idle' s g size at small =
-      let n : ℕ = get_or s.words 48 0 in
-      let v : Sight T = me.0 in
-      let w : Sight T = record v { weighed = n } in
-      let know = g.seats.each id v at in
-      (w, keeps, tt, on_take s g n (set s.views id w) (looked g.put g.taken g.p g.c (get_or s.words 32 0) n id s.views v w g.seats at know.seen know.told know.gone refl refl refl refl idle idle' idle idle'), refl)

@@ -9,20 +9,19 @@ use Rattle.sysv_buffer.specs.declared.refusals.ManyPutRefused.TheVariants as ref
 use Rattle.sysv_buffer.specs.declared.refusals.ManyTakeRefused.{ManyTakeRefused}
 use Rattle.sysv_buffer.specs.declared.refusals.ManyTakeRefused.TheVariants as missed
 
--- A seat: whose seat it is, what was put, as far as it has seen, how many items it has seen taken, what it found when it
--- loaded a sequencer last, and the places of its own items, and of those that it took, in the list of what was put
+-- A seat: whose seat it is, what was put, as far as it has seen, how many items it has seen taken, and the places of its
+-- own items, and of those that it took, in the list of what was put
 pub record Holding (T : Type 0) : Type 0 where
   pub buffer : Buffered
   pub seen : List T
   pub gone : ℕ
-  pub weighed : ℕ
   pub puts : List ℕ
   pub takes : List ℕ
 
 module _ {T : Type 0} where
   -- the first seat has seen nothing yet
   abbrev pub opened : Buffered → Holding T
-  opened b = record { buffer = b; seen = []; gone = 0; weighed = 0; puts = []; takes = [] }
+  opened b = record { buffer = b; seen = []; gone = 0; puts = []; takes = [] }
 
   -- the seat that was split off has seen as much, and has put and taken nothing
   abbrev pub split_off : Holding T → Holding T

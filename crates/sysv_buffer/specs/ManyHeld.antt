@@ -12,7 +12,6 @@ module _ {T : Type 0} where
     buffer = record { table = s.token.table_id; room = s.token.table_id.slots };
     seen = s.token.me.0.seen;
     gone = s.token.me.0.gone;
-    weighed = s.token.me.0.weighed;
     puts = s.token.me.0.puts;
     takes = s.token.me.0.takes;
   }

@@ -68,4 +68,4 @@ module _ {T : Type 0} where
 
   -- the sight of the first seat
   abbrev pub first_sight : Sight T
-  first_sight = record { seen = []; told = []; gone = 0; weighed = 0; puts = []; takes = []; put_ticket = []; take_ticket = []; fills = false; empties = false }
+  first_sight = record { seen = []; told = []; gone = 0; puts = []; takes = []; put_ticket = []; take_ticket = []; fills = false; empties = false }

@@ -14,10 +14,6 @@ module _ (T : Type 0) where
   At = Step (Option T)
 
 module _ {T : Type 0} where
-  -- a load of a sequencer
-  abbrev pub Weighs : At T → Own T → ℕ → Own T → Type 0
-  Weighs st m n m' = m' ≡ (record m.0 { weighed = n }, m.1)
-
   -- the compare-exchange that draws a ticket for a put, and the one that draws a ticket for a take
   abbrev pub DrawsPut : At T → Own T → ℕ → Own T → Type 0
   DrawsPut st m n m' = (n ≡ st.first → m' ≡ (record m.0 { put_ticket = st.first ∷ [] }, m.1)) × (¬ (n ≡ st.first) → m' ≡ m)

@@ -13,7 +13,7 @@ use std::sync::Wait;
 use std::sync::atomic::AtomicU64;
 
 /// The most cells of a buffer; it has at least one.
-pub(crate) const CELLS_MOST: usize = 1024;
+pub(crate) const MAX_CELLS: usize = 1024;
 
 /// A row of cells through which one thread hands items to another, in order. The ends share it by reference.
 #[derive(Drop)]
@@ -43,7 +43,7 @@ impl<T: Drop> OneBuffer<T> {
         ensures ok { IfOk result (λ o. (o.0.room ≡ cells) × (o.1 ≡ record { buffer = o.0; put = [] }) × (o.2 ≡ record { buffer = o.0; taken = [] })) }
         ensures bad_size { IsErrOf result OpenRefused.BadSize ↔ ((cells < 1) ⊎ (1024 < cells)) }
     {
-        if cells < 1 || cells > CELLS_MOST {
+        if cells < 1 || cells > MAX_CELLS {
             return Err(OpenRefused::BadSize);
         }
         let Some((table, mut token)) = lay(alloc, cells) else {

@@ -3,7 +3,7 @@ ghost use Rattle.std.specs.Prelude.{◌≡◌, ◌<◌, ◌≤◌, ◌⊎◌, �
 ghost use Rattle.sysv_buffer.specs.ManyEnds.{opened, split_off, Joins, HasItsOwn, Looks, Puts, Takes, GivesBack, Misses};
 
 use crate::board::{IN, OUT};
-use crate::buffer::CELLS_MOST;
+use crate::buffer::MAX_CELLS;
 use crate::many_board::{Board, lay};
 use crate::many_rule::{CountingPut, Gathering, Sharing};
 use crate::many_turns::{Next, Room};
@@ -20,7 +20,8 @@ use std::sync::atomic::Ordering::SeqCst;
 pub struct ManyBuffer<T> {
     pub(crate) table: Board<T>,
     pub(crate) room: usize,
-    pub(crate) sleepers: AtomicU64,
+    pub(crate) in_sleepers: AtomicU64,
+    pub(crate) out_sleepers: AtomicU64,
 }
 
 impl<T> Model for ManyBuffer<T> {
@@ -41,7 +42,7 @@ impl<T: Drop> ManyBuffer<T> {
         ensures ok { IfOk result (λ o. (o.0.room ≡ cells) × (o.1 ≡ opened o.0)) }
         ensures bad_size { IsErrOf result OpenRefused.BadSize ↔ ((cells < 1) ⊎ (1024 < cells)) }
     {
-        if cells < 1 || cells > CELLS_MOST {
+        if cells < 1 || cells > MAX_CELLS {
             return Err(OpenRefused::BadSize);
         }
         let Some((table, token)) = lay(alloc, cells) else {
@@ -50,7 +51,8 @@ impl<T: Drop> ManyBuffer<T> {
         let buffer = ManyBuffer {
             table,
             room: cells,
-            sleepers: AtomicU64::new(0),
+            in_sleepers: AtomicU64::new(0),
+            out_sleepers: AtomicU64::new(0),
         };
         Ok((buffer, Seat { token }))
     }
@@ -104,8 +106,8 @@ impl<T: Drop> ManyBuffer<T> {
                 self.wake(IN);
                 Ok(())
             }
-            Room::Full => Err(ManyPutRefused::Full(item)),
-            Room::Busy => Err(ManyPutRefused::Busy(item)),
+            Room::Full(_) => Err(ManyPutRefused::Full(item)),
+            Room::Busy(_) => Err(ManyPutRefused::Busy(item)),
             Room::Worn => Err(ManyPutRefused::Worn(item)),
         }
     }
@@ -125,8 +127,8 @@ impl<T: Drop> ManyBuffer<T> {
                 self.wake(OUT);
                 Ok(item)
             }
-            Next::Empty => Err(ManyTakeRefused::Empty),
-            Next::Busy => Err(ManyTakeRefused::Busy),
+            Next::Empty(_) => Err(ManyTakeRefused::Empty),
+            Next::Busy(_) => Err(ManyTakeRefused::Busy),
             Next::Worn => Err(ManyTakeRefused::Worn),
         }
     }
@@ -135,7 +137,7 @@ impl<T: Drop> ManyBuffer<T> {
     pub(crate) fn wake(&self, word: usize)
         requires { word ≤ 16 }
     {
-        if self.sleepers.load(SeqCst) > 0 {
+        if self.sleepers(word).load(SeqCst) > 0 {
             self.table.shared.wake_all(word);
         }
     }

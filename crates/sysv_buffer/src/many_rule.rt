@@ -15,15 +15,6 @@ impl<T> TableRule<Option<T>, Sight<T>, ()> for Crowding<T> {
     ghost first = { λ _. first_sight };
 }
 
-/// A load of a sequencer.
-pub(crate) struct Weighing;
-
-impl<T> Play<Option<T>, Sight<T>> for Weighing {
-    ghost use Rattle.sysv_buffer.specs.ManySteps.{Weighs};
-
-    ghost then = { Weighs };
-}
-
 /// The compare-exchange that draws a ticket for a put.
 pub(crate) struct DrawingPut;
 

@@ -15,10 +15,10 @@ use crate::many_rule::{
 pub(crate) enum Room {
     /// This cell is out with the seat.
     Cell(usize),
-    /// Every cell has an item.
-    Full,
-    /// Another seat drew the ticket.
-    Busy,
+    /// Every cell has an item, and so many were taken.
+    Full(u64),
+    /// Another seat has the ticket of the next item, and so many were put.
+    Busy(u64),
     /// 2^62 items were put.
     Worn,
 }
@@ -28,10 +28,10 @@ pub(crate) enum Room {
 pub(crate) enum Next {
     /// This cell, which has the next item, is out with the seat.
     Cell(usize),
-    /// No item waits.
-    Empty,
-    /// Another seat drew the ticket.
-    Busy,
+    /// No item waits, and so many were put.
+    Empty(u64),
+    /// Another seat has the ticket of the next take, and so many were taken.
+    Busy(u64),
     /// 2^62 items were taken.
     Worn,
 }
@@ -52,10 +52,10 @@ impl<T> ManyBuffer<T> {
         }
         let out = shared.load::<CountingTaken>(token, OUT);
         if out + room <= count {
-            return Room::Full;
+            return Room::Full(out);
         }
         if shared.compare_exchange::<DrawingPut>(token, PUT_TICKET, count, count + 1) != count {
-            return Room::Busy;
+            return Room::Busy(count);
         }
         shared.load::<ReachingRoom>(token, OUT);
         Room::Cell((count % room) as usize)
@@ -75,10 +75,10 @@ impl<T> ManyBuffer<T> {
         }
         let put = shared.load::<CountingPut>(token, IN);
         if put <= count {
-            return Next::Empty;
+            return Next::Empty(put);
         }
         if shared.compare_exchange::<DrawingTake>(token, TAKE_TICKET, count, count + 1) != count {
-            return Next::Busy;
+            return Next::Busy(count);
         }
         shared.load::<ReachingItem>(token, IN);
         Next::Cell((count % self.room as u64) as usize)

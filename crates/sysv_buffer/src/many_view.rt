@@ -9,8 +9,6 @@ pub struct Sight<T> {
     pub told: LinkedList<T>,
     /// So many items at least were taken.
     pub gone: u64,
-    /// What it found when it loaded a sequencer last.
-    pub weighed: u64,
     /// The places of its own items in the list of what was put.
     pub puts: LinkedList<u64>,
     /// The places of the items that it took.

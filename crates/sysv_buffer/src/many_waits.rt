@@ -1,55 +1,55 @@
 //! Puts and takes that wait for their turn.
-ghost use Rattle.std.specs.Prelude.{◌≡◌, ◌≤◌, ◌^◌, IfOk, IfErr, OnOk, OnErr, IfSome, IfNone, [], ◌∷◌, length, None};
+ghost use Rattle.std.specs.Prelude.{◌≡◌, ◌≤◌, ◌^◌, IfOk, IfErr, OnOk, OnErr, IfSome, IfNone, [], length};
 ghost use Rattle.sysv_buffer.specs.ManyEnds.{Looks, Puts, Takes};
 ghost use Rattle.sysv_buffer.specs.ManyTurns.{IsOf, IsSame, Waits, Keeps, HasRoom, HasItem};
 
-use crate::board::{IN, LIMIT, OUT};
+use crate::board::{IN, OUT};
 use crate::many::ManyBuffer;
-use crate::many_board::{PUT_TICKET, TAKE_TICKET, Token};
-use crate::many_rule::{
-    CountingPut, CountingTaken, DrawingPut, DrawingTake, ReachingItem, ReachingRoom, Weighing,
-};
+use crate::many_board::Token;
+use crate::many_turns::{Next, Room};
 use crate::refusals::{PutWorn, TakeWorn};
 use crate::seat::Seat;
-use crate::turns::{LOW_BITS, SPINS};
-use std::hint;
+use crate::turns::LOW_BITS;
 use std::sync::Wait;
+use std::sync::atomic::AtomicU64;
 use std::sync::atomic::Ordering::SeqCst;
+use std::{hint, thread};
+
+/// How many times a seat looks before it lets other threads run, and how many times it does that before it sleeps.
+const LOOKS: u32 = 128;
+
+const YIELDS: u32 = 16;
 
 impl<T: Drop> ManyBuffer<T> {
     /// Waits for its turn and for an empty cell, and puts the item into it. The item comes back, and nothing was put,
-    /// where 2^62 tickets for puts were drawn.
+    /// where 2^62 items were put.
     pub fn put(&self, rt: &impl Wait, seat: &mut Seat<T>, item: T) -> Result<(), PutWorn<T>>
         requires { seat.old.buffer ≡ self.now }
         ensures buffer { seat.new.buffer ≡ self.now }
         ensures ok { OnOk result (Puts item seat.old seat.new) }
-        ensures worn { IfErr result (λ e. (e.item ≡ item) × (2 ^ 62 ≤ seat.new.weighed) × Looks seat.old seat.new) }
+        ensures worn { IfErr result (λ e. (e.item ≡ item) × (2 ^ 62 ≤ length seat.new.seen) × Looks seat.old seat.new) }
     {
         let token = &mut seat.token;
-        let Some(ticket) = self.draw_put(rt, token) else {
+        let Some(cell) = self.await_room(rt, token) else {
             return Err(PutWorn { item });
         };
-        self.await_put_turn(rt, token, ticket);
-        let cell = self.await_room(rt, token, ticket);
         self.place(token, cell, item);
         self.wake(IN);
         Ok(())
     }
 
-    /// Waits for its turn and for an item, and takes it. It is refused, and nothing was taken, where 2^62 tickets for
-    /// takes were drawn.
+    /// Waits for its turn and for an item, and takes it. It is refused, and nothing was taken, where 2^62 items were
+    /// taken.
     pub fn take(&self, rt: &impl Wait, seat: &mut Seat<T>) -> Result<T, TakeWorn>
         requires { seat.old.buffer ≡ self.now }
         ensures buffer { seat.new.buffer ≡ self.now }
         ensures ok { IfOk result (λ item. Takes item seat.old seat.new) }
-        ensures worn { OnErr result ((2 ^ 62 ≤ seat.new.weighed) × Looks seat.old seat.new) }
+        ensures worn { OnErr result ((2 ^ 62 ≤ seat.new.gone) × Looks seat.old seat.new) }
     {
         let token = &mut seat.token;
-        let Some(ticket) = self.draw_take(rt, token) else {
+        let Some(cell) = self.await_item(rt, token) else {
             return Err(TakeWorn);
         };
-        self.await_take_turn(rt, token, ticket);
-        let cell = self.await_item(rt, token, ticket);
         let item = self.remove(token, cell);
         self.wake(OUT);
         Ok(item)
@@ -57,125 +57,55 @@ impl<T: Drop> ManyBuffer<T> {
 }
 
 impl<T> ManyBuffer<T> {
-    // Draws a ticket for a put. `None` comes where 2^62 were drawn.
-    fn draw_put(&self, rt: &impl Wait, token: &mut Token<T>) -> Option<u64>
+    // Waits until the next ticket for a put is free and there is room, and takes the next cell out. `None` comes where
+    // 2^62 items were put. No ticket is held meanwhile, so that nobody waits for a thread that sleeps.
+    fn await_room(&self, rt: &impl Wait, token: &mut Token<T>) -> Option<usize>
         requires table { IsOf self.now token.old }
         requires idle { Waits [] [] token.old.me }
         ensures same { IsSame token.old token.new }
         ensures keeps { Keeps token.old.me.0 token.new.me.0 }
-        ensures drawn { IfSome result (λ t. Waits (t ∷ []) [] token.new.me) }
-        ensures worn { IfNone result (Waits [] [] token.new.me × (2 ^ 62 ≤ token.new.me.0.weighed)) }
+        ensures room { IfSome result (λ cell. HasRoom self.now.room cell token.new.me) }
+        ensures worn { IfNone result (Waits [] [] token.new.me × (2 ^ 62 ≤ length token.new.me.0.seen)) }
     {
-        let shared = &self.table.shared;
         for _ in rt.forever() {
-            let next = shared.load::<Weighing>(token, PUT_TICKET);
-            if next >= LIMIT {
-                return None;
-            }
-            if shared.compare_exchange::<DrawingPut>(token, PUT_TICKET, next, next + 1) == next {
-                return Some(next);
+            match self.find_room(token) {
+                Room::Cell(cell) => return Some(cell),
+                Room::Worn => return None,
+                Room::Full(out) => self.pause(rt, OUT, out),
+                Room::Busy(count) => self.pause(rt, IN, count),
             }
         }
         unreachable!()
     }
 
-    // Draws a ticket for a take. `None` comes where 2^62 were drawn.
-    fn draw_take(&self, rt: &impl Wait, token: &mut Token<T>) -> Option<u64>
+    // Waits until the next ticket for a take is free and an item is there, and takes its cell out. `None` comes where 2^62
+    // items were taken.
+    fn await_item(&self, rt: &impl Wait, token: &mut Token<T>) -> Option<usize>
         requires table { IsOf self.now token.old }
         requires idle { Waits [] [] token.old.me }
         ensures same { IsSame token.old token.new }
         ensures keeps { Keeps token.old.me.0 token.new.me.0 }
-        ensures drawn { IfSome result (λ t. Waits [] (t ∷ []) token.new.me) }
-        ensures worn { IfNone result (Waits [] [] token.new.me × (2 ^ 62 ≤ token.new.me.0.weighed)) }
+        ensures item { IfSome result (λ cell. HasItem self.now.room cell token.new.me) }
+        ensures worn { IfNone result (Waits [] [] token.new.me × (2 ^ 62 ≤ token.new.me.0.gone)) }
     {
-        let shared = &self.table.shared;
         for _ in rt.forever() {
-            let next = shared.load::<Weighing>(token, TAKE_TICKET);
-            if next >= LIMIT {
-                return None;
-            }
-            if shared.compare_exchange::<DrawingTake>(token, TAKE_TICKET, next, next + 1) == next {
-                return Some(next);
+            match self.find_item(token) {
+                Next::Cell(cell) => return Some(cell),
+                Next::Worn => return None,
+                Next::Empty(put) => self.pause(rt, IN, put),
+                Next::Busy(count) => self.pause(rt, OUT, count),
             }
         }
         unreachable!()
     }
 
-    // Waits until all before the ticket is put.
-    fn await_put_turn(&self, rt: &impl Wait, token: &mut Token<T>, ticket: u64)
-        requires table { IsOf self.now token.old }
-        requires waits { Waits (ticket ∷ []) [] token.old.me }
-        ensures same { IsSame token.old token.new }
-        ensures keeps { Keeps token.old.me.0 token.new.me.0 }
-        ensures turn { Waits (ticket ∷ []) [] token.new.me }
-        ensures count { length token.new.me.0.seen ≡ ticket }
-    {
-        for _ in rt.forever() {
-            let count = self.table.shared.load::<CountingPut>(token, IN);
-            if count == ticket {
-                return;
-            }
-            self.pause(rt, IN, count);
+    // How many sleep on this word, IN or OUT.
+    pub(crate) fn sleepers(&self, word: usize) -> &AtomicU64 {
+        if word == IN {
+            &self.in_sleepers
+        } else {
+            &self.out_sleepers
         }
-        unreachable!()
-    }
-
-    // Waits until all before the ticket is taken.
-    fn await_take_turn(&self, rt: &impl Wait, token: &mut Token<T>, ticket: u64)
-        requires table { IsOf self.now token.old }
-        requires waits { Waits [] (ticket ∷ []) token.old.me }
-        ensures same { IsSame token.old token.new }
-        ensures keeps { Keeps token.old.me.0 token.new.me.0 }
-        ensures turn { Waits [] (ticket ∷ []) token.new.me }
-        ensures count { token.new.me.0.gone ≡ ticket }
-    {
-        for _ in rt.forever() {
-            let count = self.table.shared.load::<CountingTaken>(token, OUT);
-            if count == ticket {
-                return;
-            }
-            self.pause(rt, OUT, count);
-        }
-        unreachable!()
-    }
-
-    // Waits in its turn for room, and takes the next cell out.
-    fn await_room(&self, rt: &impl Wait, token: &mut Token<T>, ticket: u64) -> usize
-        requires table { IsOf self.now token.old }
-        requires waits { Waits (ticket ∷ []) [] token.old.me }
-        requires count { length token.old.me.0.seen ≡ ticket }
-        ensures same { IsSame token.old token.new }
-        ensures keeps { Keeps token.old.me.0 token.new.me.0 }
-        ensures room { HasRoom self.now.room result token.new.me }
-    {
-        let room = self.room as u64;
-        for _ in rt.forever() {
-            let out = self.table.shared.load::<ReachingRoom>(token, OUT);
-            if ticket - out < room {
-                return (ticket % room) as usize;
-            }
-            self.pause(rt, OUT, out);
-        }
-        unreachable!()
-    }
-
-    // Waits in its turn for an item, and takes its cell out.
-    fn await_item(&self, rt: &impl Wait, token: &mut Token<T>, ticket: u64) -> usize
-        requires table { IsOf self.now token.old }
-        requires waits { Waits [] (ticket ∷ []) token.old.me }
-        requires count { token.old.me.0.gone ≡ ticket }
-        ensures same { IsSame token.old token.new }
-        ensures keeps { Keeps token.old.me.0 token.new.me.0 }
-        ensures item { HasItem self.now.room result token.new.me }
-    {
-        for _ in rt.forever() {
-            let put = self.table.shared.load::<ReachingItem>(token, IN);
-            if put > ticket {
-                return (ticket % self.room as u64) as usize;
-            }
-            self.pause(rt, IN, put);
-        }
-        unreachable!()
     }
 
     // Looks some times whether the word is another than what was found, and then sleeps until a wake. It says so before,
@@ -183,14 +113,20 @@ impl<T> ManyBuffer<T> {
     fn pause(&self, rt: &impl Wait, word: usize, found: u64)
         requires { word ≤ 16 }
     {
-        for _ in 1..SPINS {
+        for _ in 0..LOOKS {
             if self.table.shared.peek(word) != found {
                 return;
             }
             hint::spin_loop();
         }
-        self.sleepers.fetch_add(1, SeqCst);
+        for _ in 0..YIELDS {
+            if self.table.shared.peek(word) != found {
+                return;
+            }
+            thread::yield_now();
+        }
+        self.sleepers(word).fetch_add(1, SeqCst);
         self.table.shared.park(rt, word, (found & LOW_BITS) as u32);
-        self.sleepers.fetch_sub(1, SeqCst);
+        self.sleepers(word).fetch_sub(1, SeqCst);
     }
 }

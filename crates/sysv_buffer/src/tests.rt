@@ -6,6 +6,7 @@ use std::alloc::Global;
 use std::process::Abort;
 use std::sync::Wait;
 
+mod drops;
 mod many;
 mod many_threads;
 mod threads;
@@ -17,11 +18,11 @@ struct Ware {
 }
 
 /// A buffer and its ends. Memory is refused once at most.
-fn opened(
+fn opened<T: Drop>(
     rt: &impl Abort,
     alloc: Global,
     cells: usize,
-) -> (OneBuffer<Ware>, Producer<Ware>, Consumer<Ware>)
+) -> (OneBuffer<T>, Producer<T>, Consumer<T>)
     ensures { (result.1.buffer ≡ result.0) × (result.2.buffer ≡ result.0) }
 {
     match OneBuffer::open(alloc, cells) {

@@ -40,7 +40,7 @@ same_refusal : (a b : Errno) → (let x : Outcome = Told.Refused a in let y : Ou
     → (let x : Result ⊤ ClientFault = Err (fault.Refused a) in let y : Result ⊤ ClientFault = Err (fault.Refused b) in x ≡ y)
 same_refusal a b same = let e : a ≡ b = cc in ap (λ (x : Errno). let r : Result ⊤ ClientFault = Err (fault.Refused x) in r) e
 
--- the reply of an exchange stands at the front
+-- the reply of an exchange stands at the start
 stands : (e : Exchange) (behind input : List ℕ) → IsDone e.ask e.answer e.given → input ≡ reply_spelling (reply_to e.ask e.answer) e.given ++ behind
     → ReplyAt input (Ok (Some (reply_to e.ask e.answer)))
 stands e behind input done front = (e.given, behind, done.fits, front)

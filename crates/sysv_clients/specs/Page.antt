@@ -2,7 +2,7 @@
 use Rattle.std.specs.Prelude.{ℕ, List, [], ◌∷◌, ◌++◌, None, Some, flat_map}
 use Rattle.sysv_clients.specs.declared.command.Task.{Task}
 use Rattle.sysv_clients.specs.declared.command.Task.TheVariants.{List as Table, Remove, Send, Receive}
-use Rattle.sysv_clients.specs.declared.page.TheConstants.{LINE_MOST}
+use Rattle.sysv_clients.specs.declared.page.TheConstants.{MAX_LINE}
 use Rattle.sysv_clients.specs.Table.{row_line, table_head}
 use Rattle.sysv_clients.specs.Talk.{Exchange}
 use Rattle.sysv_wire.specs.declared.reply.Outcome.{Outcome}
@@ -35,11 +35,11 @@ page_text task exchanges = task_head task ++ flat_map (λ exchange. answer_text 
 -- the most bytes that an answer adds
 abbrev pub answer_most : Outcome → ℕ
 answer_most (Rcv mtype) = 8193
-answer_most (Row row) = LINE_MOST
-answer_most (Refused error) = LINE_MOST
-answer_most Hello = LINE_MOST
-answer_most (Get id) = LINE_MOST
-answer_most Snd = LINE_MOST
-answer_most (Stat stat) = LINE_MOST
-answer_most Set = LINE_MOST
-answer_most Rm = LINE_MOST
+answer_most (Row row) = MAX_LINE
+answer_most (Refused error) = MAX_LINE
+answer_most Hello = MAX_LINE
+answer_most (Get id) = MAX_LINE
+answer_most Snd = MAX_LINE
+answer_most (Stat stat) = MAX_LINE
+answer_most Set = MAX_LINE
+answer_most Rm = MAX_LINE

@@ -14,10 +14,8 @@ use crate::page::Page;
 use crate::screen::show;
 use std::alloc::Global;
 use std::io::{Read, Write};
-use sysv_model::body::Body;
-use sysv_model::no_memory::NoMemory;
-use sysv_wire::laws::{one_answer_to_replies, one_reply};
-use sysv_wire::reply::Outcome;
+use sysv_model::{Body, NoMemory};
+use sysv_wire::{Outcome, one_answer_to_replies, one_reply};
 
 /// Asks a server for what a command says, and shows what came of it; the status, 0 where all was done and
 /// shown, else 1. The text of a `snd` has at most 8,256 bytes.

@@ -3,15 +3,14 @@ ghost use Rattle.std.specs.Prelude.{◌≡◌, ◌<◌, false, true, IfSome, sli
 ghost use Rattle.sysv_clients.specs.Asks.{asks_of, create_flags, flags_to_receive, flags_to_wait, is_receive, remove_asks, row_asks, task_asks};
 
 use bitflags::Flags as _;
-use sysv_model::cred::Cred;
-use sysv_model::flags::Flags;
-use sysv_wire::request::Ask;
+use sysv_model::{Cred, Flags};
+use sysv_wire::Ask;
 
 /// The slots of a server, for whose rows `ipcs` asks.
 pub const SLOTS: u32 = 64;
 
 /// The most requests of a command: those of `ipcs`, a hello and one for each slot.
-pub const REQUESTS_MOST: u32 = 65;
+pub const MAX_REQUESTS: u32 = 65;
 
 /// A client's task, and who asks for it.
 #[derive(Clone, Copy, PartialEq, Eq, Debug)]
@@ -66,11 +65,11 @@ pub enum Target {
 }
 
 impl Command<'_> {
-    /// The request with this number, counted from 0; `None` behind the last. `id` is the identifier
+    /// The request with this number, counted from 0; `None` after the last. `id` is the identifier
     /// that the last `msgget` gave.
     pub(crate) fn ask(&self, place: u32, id: i32) -> Option<Ask>
         ensures ask { result ≡ slice_get (asks_of self.now id) place }
-        ensures few { IfSome result (λ _. place < REQUESTS_MOST) }
+        ensures few { IfSome result (λ _. place < MAX_REQUESTS) }
         ensures receive { IfSome result (λ ask. is_receive ask ≡ true → place ≡ 2) }
     {
         match place {
@@ -81,7 +80,7 @@ impl Command<'_> {
 }
 
 impl Task<'_> {
-    /// The request with this number behind the hello, counted from 0; `None` behind the last.
+    /// The request with this number after the hello, counted from 0; `None` after the last.
     fn ask(&self, place: u32, id: i32) -> Option<Ask>
         ensures ask { result ≡ slice_get (task_asks self.now id) place }
         ensures few { IfSome result (λ _. place < SLOTS) }
@@ -144,7 +143,7 @@ fn row(slot: u32) -> Option<Ask>
 }
 
 impl Target {
-    /// The request with this number of an `ipcrm`, counted from 0; `None` behind the last.
+    /// The request with this number of an `ipcrm`, counted from 0; `None` after the last.
     fn remove(self, place: u32, id: i32) -> Option<Ask>
         ensures ask { result ≡ slice_get (remove_asks self id) place }
         ensures few { IfSome result (λ _. place < 2) }

@@ -7,12 +7,8 @@ ghost use Rattle.sysv_wire.specs.Streams.{AppendsPrefix};
 
 use crate::fault::ClientFault;
 use std::io::{Read, Write};
-use sysv_model::body::Body;
-use sysv_wire::fault::WriteFault;
-use sysv_wire::replies::read_reply;
-use sysv_wire::reply::Outcome;
-use sysv_wire::request::{Ask, Request};
-use sysv_wire::requests::write_request;
+use sysv_model::Body;
+use sysv_wire::{Ask, Outcome, Request, WriteFault, read_reply, write_request};
 
 /// Writes a request, flushes it, and reads its reply; what the operation gives. The text of a message
 /// is then in `given`.

@@ -2,8 +2,7 @@
 ghost use Rattle.std.specs.Prelude.{◌≡◌};
 ghost use Rattle.sysv_clients.specs.Faults.{fault_line};
 
-use sysv_model::errno::Errno;
-use sysv_model::no_memory::NoMemory;
+use sysv_model::{Errno, NoMemory};
 
 /// Why a client does not come to the end of its task.
 #[derive(Clone, Copy, PartialEq, Eq, Debug)]

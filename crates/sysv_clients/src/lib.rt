@@ -2,12 +2,17 @@
 //! each asks for, what ends it early and what it then shows.
 #![tactic(auto)]
 
-pub mod client;
-pub mod command;
+mod client;
+mod command;
 mod exchange;
-pub mod fault;
+mod fault;
 mod page;
 mod screen;
 #[cfg(test)]
 mod tests;
-pub mod words;
+mod words;
+
+pub use client::run_client;
+pub use command::{Command, MAX_REQUESTS, SLOTS, Target, Task};
+pub use fault::ClientFault;
+pub use words::{id_of, key_of, type_of};

@@ -7,18 +7,15 @@ ghost use Rattle.sysv_model.specs.declared.limits.TheConstants.{MESSAGE_BYTES};
 use itoa::{Buffer, Integer};
 use std::alloc::Global;
 use std::marker::Model;
-use sysv_model::attributes::Row;
-use sysv_model::body::Body;
-use sysv_model::limits::BLOCK_BYTES;
-use sysv_model::no_memory::NoMemory;
-use sysv_wire::reply::Outcome;
+use sysv_model::{BLOCK_BYTES, Body, NoMemory, Row};
+use sysv_wire::Outcome;
 
 /// The bytes for which a page has room: a table of 66 lines of 62 bytes, and a message of the greatest
 /// size with its LF.
 pub(crate) const PAGE_ROOM: usize = 12_285;
 
 /// The bytes of the longest line of the table.
-pub(crate) const LINE_MOST: usize = 62;
+pub(crate) const MAX_LINE: usize = 62;
 
 /// As many spaces as the widest column.
 const SPACES: [u8; 10] = [b' '; 10];
@@ -111,9 +108,9 @@ impl Page {
     /// Puts the line of a row.
     #[tactic(auto, using(std::proofs::Common::append_assoc), unfolding(crate::specs::Table::row_line))]
     fn row(&mut self, row: &Row)
-        requires { length self.old + LINE_MOST ≤ PAGE_ROOM }
+        requires { length self.old + MAX_LINE ≤ PAGE_ROOM }
         ensures after { self.new ≡ self.old ++ row_line row.now }
-        ensures len { length self.new ≤ length self.old + LINE_MOST }
+        ensures len { length self.new ≤ length self.old + MAX_LINE }
     {
         self.key(row.key);
         self.number(10, row.id);

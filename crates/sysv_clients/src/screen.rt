@@ -5,7 +5,7 @@ ghost use Rattle.sysv_clients.specs.Run.{Shows};
 ghost use Rattle.sysv_wire.specs.Streams.{AppendsPrefix};
 
 use std::io::Write;
-use sysv_wire::fault::WriteFault;
+use sysv_wire::WriteFault;
 
 /// Shows a text, flushed; the status that is due, or 1 where the screen fails.
 pub(crate) fn show<S: Write>(screen: &mut S, text: &[u8], due: i32) -> i32

@@ -6,8 +6,7 @@ use std::alloc::Global;
 use std::io;
 use std::io::{ErrorKind, Read, Write};
 use std::process::Abort;
-use sysv_model::cred::Cred;
-use sysv_model::limits::BODY_ROOM;
+use sysv_model::{BODY_ROOM, Cred};
 
 /// The bytes for which a tape has room.
 const TAPE_ROOM: usize = 9000;
@@ -197,7 +196,7 @@ const RECEIVE_ANY: Task<'static> = Task::Receive {
     noerror: false,
 };
 
-/// These bytes, one behind the other.
+/// These bytes, one after the other.
 fn joined(rt: &impl Abort, alloc: Global, parts: &[&[u8]]) -> Tape {
     let mut tape = Tape::new(rt, alloc);
     for part in parts {

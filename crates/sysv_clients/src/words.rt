@@ -6,7 +6,7 @@ ghost use Rattle.std.specs.Str.Parse.{IsNumeral, digits_value};
 ghost use Rattle.sysv_clients.specs.Words.{IsId, IsKey, IsType};
 
 use std::str;
-use sysv_words::reads::Reads;
+use sysv_words::Reads;
 
 /// The key that a word says: decimal, 0 to 2147483647, or `0x` and one to eight hexadecimal digits that
 /// give the key's 32 bits. `None` for any other word, and for key 0.

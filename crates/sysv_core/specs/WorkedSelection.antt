@@ -1,5 +1,5 @@
 -- Replies at one point of the worked run, worked by hand from POSIX.1-2017 (msgrcv, msgsnd, and 2.7.1
--- IPC General Description): after both sends a message of type 5 waits, hello, and behind it one of
+-- IPC General Description): after both sends a message of type 5 waits, hello, and after it one of
 -- type 2 with no text. The queue is of user and group 1000 and has mode 0600.
 use Rattle.std.specs.Prelude.{ℕ, pos, ◌^◌, true, false}
 use Rattle.sysv_model.specs.declared.cred.Cred.{Cred}

@@ -3,7 +3,7 @@
 ghost use Rattle.sysv_core.specs.Held.{IsHeld};
 
 use crate::event::{Outcome, Standing};
-use sysv_model::body::Body;
+use sysv_model::Body;
 
 /// A call under way: where it stands, and the body of a send or a receive. It can't be dropped, since it
 /// may hold blocks of the pool: it ends by `chain_in`.

@@ -24,24 +24,14 @@ ghost use Rattle.sysv_core.specs.Led.{LeadsTo, TurnLeads, LookLeads, StepLeads};
 use crate::doing::{Doing, Led};
 use crate::event::{Call, Outcome, Standing};
 use bitflags::Flags as _;
-use sysv_model::attributes::SetTo;
-use sysv_model::body::Body;
-use sysv_model::cred::Cred;
-use sysv_objects::objects::Objects;
-use sysv_pool::chain::Chain;
-use sysv_queue::delivery::Delivery;
-use sysv_queue::slot::PlaceRefused;
-use sysv_queue::tally::Tally;
-use sysv_steps::afterwards::Afterwards;
-use sysv_steps::control::{
-    begin_remove, begin_set, begin_stat, forgotten, given_back, removed, set_done, stat_told,
+use sysv_model::{Body, Cred, SetTo};
+use sysv_objects::Objects;
+use sysv_pool::Chain;
+use sysv_queue::{Delivery, PlaceRefused, Tally};
+use sysv_steps::{
+    Afterwards, Ending, Getting, Phase, Receiving, Sending, State, Wait, begin_remove, begin_set,
+    begin_stat, forgotten, given_back, removed, set_done, stat_told,
 };
-use sysv_steps::ending::Ending;
-use sysv_steps::get::Getting;
-use sysv_steps::receive::Receiving;
-use sysv_steps::send::Sending;
-use sysv_steps::state::{Phase, State};
-use sysv_steps::wait::Wait;
 
 /// The start of a call, where the released count is `released`.
 pub fn begin(cred: Cred, call: Call, released: u64) -> Led

@@ -1,10 +1,5 @@
-use sysv_model::attributes::{SetTo, Stat};
-use sysv_model::body::Body;
-use sysv_model::cred::Cred;
-use sysv_model::errno::Errno;
-use sysv_model::flags::Flags;
-use sysv_steps::state::Phase;
-use sysv_steps::wait::Wait;
+use sysv_model::{Body, Cred, Errno, Flags, SetTo, Stat};
+use sysv_steps::{Phase, Wait};
 
 /// A call that an actor can start. Where one of its own arguments is refused it answers EINVAL at its
 /// start, and nothing else has changed. Flags that a call does not use are ignored.

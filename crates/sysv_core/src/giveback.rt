@@ -10,9 +10,9 @@ ghost use Rattle.sysv_core.specs.Standing.{stands_at};
 
 use crate::doing::Doing;
 use crate::event::Standing;
-use sysv_pool::chain::Chain;
-use sysv_queue::tally::Tally;
-use sysv_steps::state::Phase;
+use sysv_pool::Chain;
+use sysv_queue::Tally;
+use sysv_steps::Phase;
 
 /// Ends the call where it stands, and gives the blocks that it holds. A message that it was given is lost.
 pub fn chain_in(doing: Doing) -> Chain

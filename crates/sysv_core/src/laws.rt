@@ -9,11 +9,11 @@ ghost use Rattle.sysv_core.specs.WorkedSelection.{WorkedSelection};
 ghost use Rattle.sysv_core.specs.WorkedAnswers.{WorkedAnswers};
 ghost use Rattle.sysv_core.specs.WorkedWaits.{WorkedWaits};
 
-use sysv_keys::laws::{registry_law, unused_slots};
-use sysv_objects::laws::{legal_turns, one_legal_deed};
-use sysv_pool::laws::pool_law;
-use sysv_queue::laws::{blocks_kept, queue_law, removed_for_good, stays_right};
-use sysv_steps::laws::{
+use sysv_keys::{registry_law, unused_slots};
+use sysv_objects::{legal_turns, one_legal_deed};
+use sysv_pool::pool_law;
+use sysv_queue::{blocks_kept, queue_law, removed_for_good, stays_right};
+use sysv_steps::{
     after_removal, each_answer_is_right, each_deed_is_asked_for, each_holds_its_blocks,
     each_holds_what_it_was_asked, waits_for_its_refusal,
 };

@@ -4,8 +4,15 @@
 
 mod doing;
 mod driver;
-pub mod event;
+mod event;
 mod giveback;
-pub mod laws;
+mod laws;
 mod preset;
-pub mod world;
+mod world;
+
+pub use event::{Answer, Call, Event, Outcome, Standing, Stepped};
+pub use laws::{
+    each_world_is_sound, every_run_obeys, exact_fit, no_wrong_reply, one_run, one_step, some_run,
+    some_step, worked_answers, worked_run, worked_selection, worked_waits,
+};
+pub use world::{OpenRefused, World};

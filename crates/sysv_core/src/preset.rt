@@ -3,12 +3,9 @@
 ghost use Rattle.sysv_core.specs.Preset.{MakesPreset};
 
 use bitflags::Flags as _;
-use sysv_keys::laws::{one_legal_reply, unused_slots};
-use sysv_keys::registry::Begun;
-use sysv_model::cred::Cred;
-use sysv_model::flags::Flags;
-use sysv_model::limits::IPC_PRIVATE;
-use sysv_objects::objects::Objects;
+use sysv_keys::{Begun, one_legal_reply, unused_slots};
+use sysv_model::{Cred, Flags, IPC_PRIVATE};
+use sysv_objects::Objects;
 
 /// The credentials with which the preset queue is made.
 const PRESET: Cred = Cred {

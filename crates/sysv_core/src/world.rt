@@ -1,5 +1,5 @@
 ghost use Rattle.std.specs.Prelude.{ℕ, List, false, IsTrue, ◌≡◌, ◌≢◌, ◌+◌, ◌^◌, ◌<◌, ◌≤◌, ◌⊎◌, ◌↔◌, ◌++◌, ◌∷◌, [], length, IfOk, IfErr, MatchResult, Err, MatchOption, Some, None, slice_set, slice_get, replicate};
-ghost use Rattle.sysv_model.specs.declared.limits.TheConstants.{ACTORS_MOST as most_actors, BLOCKS_LEAST as least_blocks, BLOCKS_MOST as most_blocks, WORN as worn};
+ghost use Rattle.sysv_model.specs.declared.limits.TheConstants.{MAX_ACTORS as most_actors, MIN_BLOCKS as least_blocks, MAX_BLOCKS as most_blocks, WORN as worn};
 ghost use Rattle.sysv_keys.specs.declared.identifier.TheConstants.{GENERATION_LAST as last_generation};
 ghost use Rattle.sysv_core.specs.Headline.{StandsWithPreset, StandsWithEvent, StandsWithEvents, LawsHold};
 ghost use Rattle.sysv_core.specs.Seen.{StandsFor, PresetsSeen, StepsSeen, AreAllFree};
@@ -15,12 +15,9 @@ use crate::laws::{each_world_is_sound, every_run_obeys};
 use crate::preset::preset_queue;
 use std::alloc::Global;
 use std::marker::Model;
-use sysv_keys::identifier::GENERATION_LAST;
-use sysv_keys::laws::unused_slots;
-use sysv_model::cred::Cred;
-use sysv_model::limits::{ACTORS_MOST, BLOCKS_LEAST, BLOCKS_MOST, WORN};
-use sysv_objects::laws::legal_turns;
-use sysv_objects::objects::Objects;
+use sysv_keys::{GENERATION_LAST, unused_slots};
+use sysv_model::{Cred, MAX_ACTORS, MAX_BLOCKS, MIN_BLOCKS, WORN};
+use sysv_objects::{Objects, legal_turns};
 use thiserror::Error;
 
 /// Why a world is not opened.
@@ -85,7 +82,7 @@ impl World {
             ⊎ (worn < first_step) ⊎ (last_generation < generation)) }
     {
         legal_turns();
-        if actors < 1 || actors > ACTORS_MOST || blocks < BLOCKS_LEAST || blocks > BLOCKS_MOST {
+        if actors < 1 || actors > MAX_ACTORS || blocks < MIN_BLOCKS || blocks > MAX_BLOCKS {
             return Err(OpenRefused::BadSize);
         }
         if first_step > WORN || generation > GENERATION_LAST {

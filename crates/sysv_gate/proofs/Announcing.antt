@@ -36,13 +36,13 @@ pub none_yet : (count : Count) → of_count count (0, 0) ≡ 0
 none_yet Arrived = refl
 none_yet Freed = refl
 
-pub from_32 : (count : Count) → 32 ≤ word_of count
-from_32 Arrived = omega arith
-from_32 Freed = omega arith
+pub from_48 : (count : Count) → 48 ≤ word_of count
+from_48 Arrived = omega arith
+from_48 Freed = omega arith
 
-pub below_64 : (count : Count) → word_of count < 64
-below_64 Arrived = omega arith
-below_64 Freed = omega arith
+pub below_80 : (count : Count) → word_of count < 80
+below_80 Arrived = omega arith
+below_80 Freed = omega arith
 
 -- the word tells which count it is
 pub same_count : (count other : Count) → word_of count ≡ word_of other → count ≡ other
@@ -110,9 +110,9 @@ module _ {O C R : Type 0} where
       }
 
   -- another word changes
-  pub set_aside : (counted : O → ℕ × ℕ) (object : O) (words : List ℕ) (i n : ℕ) (views : List (View O C R)) → i < 32 → AreAnnounced counted object words views → AreAnnounced counted object (set words i n) views
+  pub set_aside : (counted : O → ℕ × ℕ) (object : O) (words : List ℕ) (i n : ℕ) (views : List (View O C R)) → i < 48 → AreAnnounced counted object words views → AreAnnounced counted object (set words i n) views
   set_aside counted object words i n views low told count =
-      let far = from_32 count in
+      let far = from_48 count in
       subst (λ (m : ℕ). IsAnnounced count (of_count count (counted object)) m views) (sym (get_or-set_other words i (word_of count) n 0 (λ e. omega arith))) (told count)
 
   -- where nobody has added anything, the word has the count

@@ -61,7 +61,7 @@ module _ {O C R : Type 0} (moves : O → C → R → O → Type 0) (counted : O 
       absurd (omega arith))
 
   pub ended : (h : Holding O C R) (token : Seat (Spot O C R) (View O C R)) (ws : List ℕ) (xs : List (Spot O C R)) (served next : ℕ) (spot : Spot O C R) → Rests h token
-      → Final (Seen (Gated moves counted h.gate.opening h.gate.first) token.id token.me.0) ws xs → get_elem? ws 0 ≡ some served → get_elem? ws 16 ≡ some next → get_elem? xs 0 ≡ some spot → Ended h served next spot
+      → Final (Seen (Gated moves counted h.gate.opening h.gate.first) token.id token.me.0) ws xs → get_elem? ws 16 ≡ some served → get_elem? ws 32 ≡ some next → get_elem? xs 0 ≡ some spot → Ended h served next spot
   ended h token ws xs served next spot rests final at_serving at_next at_spot =
       let s = final.0 in
       let held = final.1.0 in
@@ -70,9 +70,9 @@ module _ {O C R : Type 0} (moves : O → C → R → O → Type 0) (counted : O 
       let kept = held.2.2 in
       let opening : O = h.gate.opening in
       let first : ℕ = h.gate.first in
-      let drawn : ℕ = get_or s.words 16 0 in
-      let same_served : get_or s.words 0 0 ≡ served = ap (λ (l : List ℕ). get_or l 0 0) final.2 ∙ read_at ws 0 served at_serving in
-      let same_next : drawn ≡ next = ap (λ (l : List ℕ). get_or l 16 0) final.2 ∙ read_at ws 16 next at_next in
+      let drawn : ℕ = get_or s.words 32 0 in
+      let same_served : get_or s.words 16 0 ≡ served = ap (λ (l : List ℕ). get_or l 16 0) final.2 ∙ read_at ws 16 served at_serving in
+      let same_next : drawn ≡ next = ap (λ (l : List ℕ). get_or l 32 0) final.2 ∙ read_at ws 32 next at_next in
       let count : served ≡ first + length log = sym same_served ∙ held.2.1 in
       let order = kept.order in
       let own = own_turns moves opening first log drawn token.id s.homes s.views token.me.0 kept at in

@@ -60,12 +60,12 @@ module _ {O C R : Type 0} (moves : O → C → R → O → Type 0) (counted : O 
         read = λ i v at. ⊎_elim (λ t. absurd (some-ne-none v (sym t))) (λ t. subst (λ (u : View O C R). of_count count u.read ≤ value) t (omega arith)) (at_snoc [] (start o first) v i at);
       }
 
-  told_at_start : (o : O) (first : ℕ) (ws : List ℕ) → get_or ws 32 0 ≡ (counted o).0 → get_or ws 48 0 ≡ (counted o).1 → AreAnnounced {C = C} {R = R} counted o ws (start o first ∷ [])
-  told_at_start o first ws arrived freed Arrived = told_one Arrived o first (get_or ws 32 0) arrived
-  told_at_start o first ws arrived freed Freed = told_one Freed o first (get_or ws 48 0) freed
+  told_at_start : (o : O) (first : ℕ) (ws : List ℕ) → get_or ws 48 0 ≡ (counted o).0 → get_or ws 64 0 ≡ (counted o).1 → AreAnnounced {C = C} {R = R} counted o ws (start o first ∷ [])
+  told_at_start o first ws arrived freed Arrived = told_one Arrived o first (get_or ws 48 0) arrived
+  told_at_start o first ws arrived freed Freed = told_one Freed o first (get_or ws 64 0) freed
 
   -- the table of a new gate
-  pub starts : (o : O) (first : ℕ) (ws : List ℕ) (xs : List (Spot O C R)) → length ws ≡ 64 → get_or ws 0 0 ≡ first → get_or ws 16 0 ≡ first → get_or ws 32 0 ≡ (counted o).0 → get_or ws 48 0 ≡ (counted o).1 → xs ≡ put o None ∷ [] → first ≤ 2 ^ 62
+  pub starts : (o : O) (first : ℕ) (ws : List ℕ) (xs : List (Spot O C R)) → length ws ≡ 80 → get_or ws 16 0 ≡ first → get_or ws 32 0 ≡ first → get_or ws 48 0 ≡ (counted o).0 → get_or ws 64 0 ≡ (counted o).1 → xs ≡ put o None ∷ [] → first ≤ 2 ^ 62
       → Gated moves counted o first (opening ws xs (start o first))
   starts o first ws xs wide serves draws arrived freed is le = (
     wide,
@@ -73,7 +73,7 @@ module _ {O C R : Type 0} (moves : O → C → R → O → Type 0) (counted : O 
     (
       [],
       serves ∙ (omega arith),
-      subst (λ (ys : List (Spot O C R)). IsKept moves o first [] (get_or ws 16 0) (map some ys) (start o first ∷ [])) (sym is)
+      subst (λ (ys : List (Spot O C R)). IsKept moves o first [] (get_or ws 32 0) (map some ys) (start o first ∷ [])) (sym is)
           (subst (λ (n : ℕ). IsKept moves o first [] n (some (put o None) ∷ []) (start o first ∷ [])) (sym draws) (kept_at_start o first le)),
       told_at_start o first ws arrived freed,
     ),

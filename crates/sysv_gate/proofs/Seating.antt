@@ -97,15 +97,15 @@ module _ {O C R : Type 0} (moves : O → C → R → O → Type 0) (counted : O 
         alone = still_alone moves opening first log views id w kept.alone (kept.alone id v at);
       }
 
-  pub names : (slots id : ℕ) (me : M) (o : O) → me.0.opening ≡ Some o → me.0.numbers ≡ [] → me.0.in_turn ≡ false → Allows Holds slots id me 0 (λ n. n) (Names (step slots 0 0 0 none) me)
+  pub names : (slots id : ℕ) (me : M) (o : O) → me.0.opening ≡ Some o → me.0.numbers ≡ [] → me.0.in_turn ≡ false → Allows Holds slots id me 16 (λ n. n) (Names (step slots 16 0 0 none) me)
   names slots id me o knows empty idle s held _ at _ =
       let w : V = named id me.0 in
       let log : Log = held.2.0 in (
         w,
         keeps,
         tt,
-        on_serving moves counted opening first s log (get_or s.words 0 0) s.homes (set s.views id w) held.0 held.1 held.2.1
-            (naming_keeps log (get_or s.words 16 0) id s.homes s.views me.0 o held.2.2 at knows empty idle) (told_on moves counted opening first s log id me.0 w held.2.3 at refl (λ _. idle) refl),
+        on_serving moves counted opening first s log (get_or s.words 16 0) s.homes (set s.views id w) held.0 held.1 held.2.1
+            (naming_keeps log (get_or s.words 32 0) id s.homes s.views me.0 o held.2.2 at knows empty idle) (told_on moves counted opening first s log id me.0 w held.2.3 at refl (λ _. idle) refl),
         (id, refl),
       )
 
@@ -156,7 +156,7 @@ module _ {O C R : Type 0} (moves : O → C → R → O → Type 0) (counted : O 
   pub splits : (id : ℕ) (v : V) → Splits Holds id v (parted v) (newcomer v)
   splits id v s held at =
       let log : Log = held.2.0 in
-      let drawn : ℕ = get_or s.words 16 0 in
+      let drawn : ℕ = get_or s.words 32 0 in
       let p : V = parted v in
       let here = set_at s.views id v p at in
       let kept = parting_keeps log drawn id s.homes s.views v held.2.2 at in
@@ -249,19 +249,19 @@ module _ {O C R : Type 0} (moves : O → C → R → O → Type 0) (counted : O 
       let none = none_yet count in
       counts_on count known known value value other (set s.views id b) w spent
       (counts_on count known known value value id s.views v b before at (omega arith) (omega arith) (λ _. quiet) (larger_up_to count v.read w.read value read read')) still (omega arith) (omega arith) (λ _. none) (omega arith) in
-      (held.0, held.1, (log, held.2.1, joining_keeps log (get_or s.words 16 0) id other s.homes s.views v w held.2.2 at apart still named idle empty idle', told))
+      (held.0, held.1, (log, held.2.1, joining_keeps log (get_or s.words 32 0) id other s.homes s.views v w held.2.2 at apart still named idle empty idle', told))
 
-  pub merges : (slots id : ℕ) (me : M) → me.0.in_turn ≡ false → Allows Holds slots id me 0 (λ n. n) (Merges moves (step slots 0 0 0 none) me)
+  pub merges : (slots id : ℕ) (me : M) → me.0.in_turn ≡ false → Allows Holds slots id me 16 (λ n. n) (Merges moves (step slots 16 0 0 none) me)
   merges slots id me idle s held _ at _ =
       let log : Log = held.2.0 in
       let kept = held.2.2 in
       let fits = kept.each id me.0 at in
-      let drawn : ℕ = get_or s.words 16 0 in
+      let drawn : ℕ = get_or s.words 32 0 in
       let w : V = merged log me.0 in (
         w,
         keeps,
         tt,
-        on_serving moves counted opening first s log (get_or s.words 0 0) s.homes (set s.views id w) held.0 held.1 held.2.1
+        on_serving moves counted opening first s log (get_or s.words 16 0) s.homes (set s.views id w) held.0 held.1 held.2.1
             (stays moves opening first log drawn drawn id s.homes s.homes s.views me.0 w kept at (omega arith) kept.limit refl refl (λ x. refl) (λ _. (idle, refl))
             (record { start = fits.start; seen = begins_self log; also = (log, refl); turn = λ turn. absurd (true≢false (sym turn ∙ idle)); own = fits.own; worn = fits.worn }) (λ mark. ((kept.alone id me.0 at mark).0, refl)))
             (told_on moves counted opening first s log id me.0 w held.2.3 at refl (λ _. idle) refl),

@@ -22,7 +22,7 @@ use Rattle.sysv_gate.specs.Steps.{weighed, drew, looked, entered, turn_of, annou
 use Rattle.sysv_gate.proofs.Sums.{set_at, one_there}
 use Rattle.sysv_gate.proofs.Counting.{times-one, times-same, once_between-next, holds_some, marked_by, not_true}
 use Rattle.sysv_gate.proofs.Histories.{begins_self, begins_whole, after_all-snoc, grows_on}
-use Rattle.sysv_gate.proofs.Announcing.{put_in, of_other, none_yet, from_32, below_64, same_count, counts_on, counts_stay, set_aside, exactly}
+use Rattle.sysv_gate.proofs.Announcing.{put_in, of_other, none_yet, from_48, below_80, same_count, counts_on, counts_stay, set_aside, exactly}
 use Rattle.sysv_gate.proofs.Keeping.{served_alone, nobody_in_turn, no_ticket_no_turn, own_turns, stays, grows}
 
 module _ {O C R : Type 0} (moves : O → C → R → O → Type 0) (counted : O → ℕ × ℕ) (opening : O) (first : ℕ) where
@@ -49,30 +49,30 @@ module _ {O C R : Type 0} (moves : O → C → R → O → Type 0) (counted : O 
   Goes s i id me then m = (w : V) × (a : Act (Spot O C R)) × Valid s.homes me.1 a × Holds (stepped s i m id me.1 w a) × then (get_or s.words i 0) (w, carried_after me.1 a)
 
   -- a step on the word with the ticket that is drawn next
-  on_ticket : (s : St) (log : Log) (drawn : ℕ) (homes : Homes O C R) (views : List V) → length s.words ≡ 64 → length homes ≡ 1 → get_or s.words 0 0 ≡ first + length log
-      → IsKept moves opening first log drawn homes views → Told log s.words views → Holds record { words = set s.words 16 drawn; homes = homes; views = views }
+  on_ticket : (s : St) (log : Log) (drawn : ℕ) (homes : Homes O C R) (views : List V) → length s.words ≡ 80 → length homes ≡ 1 → get_or s.words 16 0 ≡ first + length log
+      → IsKept moves opening first log drawn homes views → Told log s.words views → Holds record { words = set s.words 32 drawn; homes = homes; views = views }
   on_ticket s log drawn homes views wide one serves kept told = (
-    length-set s.words 16 drawn ∙ wide,
+    length-set s.words 32 drawn ∙ wide,
     one,
     (
       log,
-      get_or-set_other s.words 16 0 drawn 0 (λ e. omega arith) ∙ serves,
-      subst (λ (n : ℕ). IsKept moves opening first log n homes views) (sym (get_or-set_same s.words 16 drawn 0 (omega arith))) kept,
-      set_aside counted (after_all opening log) s.words 16 drawn views (omega arith) told,
+      get_or-set_other s.words 32 16 drawn 0 (λ e. omega arith) ∙ serves,
+      subst (λ (n : ℕ). IsKept moves opening first log n homes views) (sym (get_or-set_same s.words 32 drawn 0 (omega arith))) kept,
+      set_aside counted (after_all opening log) s.words 32 drawn views (omega arith) told,
     ),
   )
 
   -- a step on the word with the ticket that is served
-  pub on_serving : (s : St) (log : Log) (served : ℕ) (homes : Homes O C R) (views : List V) → length s.words ≡ 64 → length homes ≡ 1 → served ≡ first + length log
-      → IsKept moves opening first log (get_or s.words 16 0) homes views → Told log s.words views → Holds record { words = set s.words 0 served; homes = homes; views = views }
+  pub on_serving : (s : St) (log : Log) (served : ℕ) (homes : Homes O C R) (views : List V) → length s.words ≡ 80 → length homes ≡ 1 → served ≡ first + length log
+      → IsKept moves opening first log (get_or s.words 32 0) homes views → Told log s.words views → Holds record { words = set s.words 16 served; homes = homes; views = views }
   on_serving s log served homes views wide one serves kept told = (
-    length-set s.words 0 served ∙ wide,
+    length-set s.words 16 served ∙ wide,
     one,
     (
       log,
-      get_or-set_same s.words 0 served 0 (omega arith) ∙ serves,
-      subst (λ (n : ℕ). IsKept moves opening first log n homes views) (sym (get_or-set_other s.words 0 16 served 0 (λ e. omega arith))) kept,
-      set_aside counted (after_all opening log) s.words 0 served views (omega arith) told,
+      get_or-set_same s.words 16 served 0 (omega arith) ∙ serves,
+      subst (λ (n : ℕ). IsKept moves opening first log n homes views) (sym (get_or-set_other s.words 16 32 served 0 (λ e. omega arith))) kept,
+      set_aside counted (after_all opening log) s.words 16 served views (omega arith) told,
     ),
   )
 
@@ -80,9 +80,9 @@ module _ {O C R : Type 0} (moves : O → C → R → O → Type 0) (counted : O 
   pub told_on : (s : St) (log : Log) (id : ℕ) (v w : V) → Told log s.words s.views → get_elem? s.views id ≡ some v → w.announced ≡ v.announced → (w.in_turn ≡ false → v.in_turn ≡ false) → w.read ≡ v.read → Told log s.words (set s.views id w)
   told_on s log id v w told at = counts_stay counted (after_all opening log) s.words id s.views v w told at
 
-  pub weighs : (slots id : ℕ) (me : M) → Allows Holds slots id me 16 (λ n. n) (Weighs (step slots 16 0 0 none) me)
+  pub weighs : (slots id : ℕ) (me : M) → Allows Holds slots id me 32 (λ n. n) (Weighs (step slots 32 0 0 none) me)
   weighs slots id me s held _ at _ =
-      let n : ℕ = get_or s.words 16 0 in
+      let n : ℕ = get_or s.words 32 0 in
       let log : Log = held.2.0 in
       let kept = held.2.2 in
       let fits = kept.each id me.0 at in
@@ -106,22 +106,22 @@ module _ {O C R : Type 0} (moves : O → C → R → O → Type 0) (counted : O 
   one_more s n x tickets le empty = let gone : times x tickets ≡ 0 = ap (times x) empty in omega (arith, times-one x n, once_between-next s n x le)
 
   pub draws : (slots id : ℕ) (me : M) (ticket next : ℕ) → next ≡ ticket + 1 → ticket < 2 ^ 62 → me.0.tickets ≡ [] → me.0.in_turn ≡ false
-      → Allows Holds slots id me 16 (λ n. either (eqb n ticket) next n) (Draws (step slots 16 ticket next none) me)
+      → Allows Holds slots id me 32 (λ n. either (eqb n ticket) next n) (Draws (step slots 32 ticket next none) me)
   draws slots id me ticket next up low empty idle s held _ at _ =
-      let n : ℕ = get_or s.words 16 0 in
+      let n : ℕ = get_or s.words 32 0 in
       let log : Log = held.2.0 in
       let kept = held.2.2 in
       let fits = kept.each id me.0 at in
       let order = kept.order in
-      let then = Draws (step slots 16 ticket next none) me in
-      exchanged n ticket next (Goes s 16 id me then)
+      let then = Draws (step slots 32 ticket next none) me in
+      exchanged n ticket next (Goes s 32 id me then)
       (λ hit.
       let w : V = drew n me.0 in
       let more : n + 1 ≡ next = omega arith in (
         w,
         keeps,
         tt,
-        subst (λ (m : ℕ). Holds (stepped s 16 m id me.1 w keeps)) more
+        subst (λ (m : ℕ). Holds (stepped s 32 m id me.1 w keeps)) more
             (on_ticket s log (n + 1) s.homes (set s.views id w) held.0 held.1 held.2.1
             (stays moves opening first log n (n + 1) id s.homes s.homes s.views me.0 w kept at (omega arith) (omega arith) refl refl (λ x. one_more (first + length log) n x me.0.tickets order empty) (λ _. (idle, refl))
             (record { start = fits.start; seen = fits.seen; also = fits.also; turn = λ turn. absurd (true≢false (sym turn ∙ idle)); own = fits.own; worn = λ mark. let limit = fits.worn mark in omega arith }) (kept.alone id me.0 at))
@@ -159,17 +159,17 @@ module _ {O C R : Type 0} (moves : O → C → R → O → Type 0) (counted : O 
 
   -- a look, where b says whether the seat holds the ticket that is served
   looks_as : (b : Bool) (id : ℕ) (me : M) (s : St) → Holds s → get_elem? s.views id ≡ some me.0 → me.0.in_turn ≡ false → me.1 ≡ []
-      → nat_lt 0 (times (get_or s.words 0 0) me.0.tickets) ≡ b
-      → (a : Act (Spot O C R)) × (log : Log) × Valid s.homes me.1 a × Holds (stepped s 0 (get_or s.words 0 0) id me.1 (record me.0 { seen = log; in_turn = b }) a) × BeginsWith log me.0.seen
-      × (get_or s.words 0 0 ≡ first + length log) × IsLegal moves opening log
+      → nat_lt 0 (times (get_or s.words 16 0) me.0.tickets) ≡ b
+      → (a : Act (Spot O C R)) × (log : Log) × Valid s.homes me.1 a × Holds (stepped s 16 (get_or s.words 16 0) id me.1 (record me.0 { seen = log; in_turn = b }) a) × BeginsWith log me.0.seen
+      × (get_or s.words 16 0 ≡ first + length log) × IsLegal moves opening log
       × (b ≡ true → (last : Option (Done C R)) × (carried_after me.1 a ≡ (0, put (after_all opening log) last) ∷ [])) × (b ≡ false → carried_after me.1 a ≡ me.1)
       × (b ≡ true → BeginsTurn log me.0)
   looks_as true id me s held at idle bare holds =
-      let n : ℕ = get_or s.words 0 0 in
+      let n : ℕ = get_or s.words 16 0 in
       let log : Log = held.2.0 in
       let kept = held.2.2 in
       let fits = kept.each id me.0 at in
-      let drawn : ℕ = get_or s.words 16 0 in
+      let drawn : ℕ = get_or s.words 32 0 in
       let serves : n ≡ first + length log = held.2.1 in
       let has : 1 ≤ times (first + length log) me.0.tickets = subst (λ (m : ℕ). 1 ≤ times m me.0.tickets) serves (holds_some _ holds) in
       let home = kept.home (nobody_in_turn moves opening first log drawn id s.homes s.views me.0 kept at has idle) in
@@ -189,11 +189,11 @@ module _ {O C R : Type 0} (moves : O → C → R → O → Type 0) (counted : O 
         λ _. at_first s log id me.0 held.2.3 at (nobody_in_turn moves opening first log drawn id s.homes s.views me.0 kept at has idle),
       )
   looks_as false id me s held at idle bare holds =
-      let n : ℕ = get_or s.words 0 0 in
+      let n : ℕ = get_or s.words 16 0 in
       let log : Log = held.2.0 in
       let kept = held.2.2 in
       let fits = kept.each id me.0 at in
-      let drawn : ℕ = get_or s.words 16 0 in
+      let drawn : ℕ = get_or s.words 32 0 in
       let serves : n ≡ first + length log = held.2.1 in
       let w : V = record me.0 { seen = log; in_turn = false } in (
         keeps,
@@ -211,9 +211,9 @@ module _ {O C R : Type 0} (moves : O → C → R → O → Type 0) (counted : O 
         λ turn. absurd (true≢false (sym turn)),
       )
 
-  pub looks : (slots id : ℕ) (me : M) → me.0.in_turn ≡ false → me.1 ≡ [] → Allows Holds slots id me 0 (λ n. n) (Turns moves counted (step slots 0 0 0 none) me)
+  pub looks : (slots id : ℕ) (me : M) → me.0.in_turn ≡ false → me.1 ≡ [] → Allows Holds slots id me 16 (λ n. n) (Turns moves counted (step slots 16 0 0 none) me)
   looks slots id me idle bare s held _ at _ =
-      let n : ℕ = get_or s.words 0 0 in
+      let n : ℕ = get_or s.words 16 0 in
       let kept = held.2.2 in
       let fits = kept.each id me.0 at in
       let b : Bool = nat_lt 0 (times n me.0.tickets) in
@@ -244,17 +244,17 @@ module _ {O C R : Type 0} (moves : O → C → R → O → Type 0) (counted : O 
       )
 
   pub enters : (slots id : ℕ) (me : M) (ticket next : ℕ) (o : O) → next ≡ ticket + 1 → ticket < 2 ^ 62 → me.0.opening ≡ Some o → ticket ≡ me.0.first + length me.0.seen → me.0.tickets ≡ [] → me.0.in_turn ≡ false
-      → me.1 ≡ [] → Allows Holds slots id me 16 (λ n. either (eqb n ticket) next n) (Enters moves counted (step slots 16 ticket next none) me)
+      → me.1 ≡ [] → Allows Holds slots id me 32 (λ n. either (eqb n ticket) next n) (Enters moves counted (step slots 32 ticket next none) me)
   enters slots id me ticket next o up low knows count empty idle bare s held _ at _ =
-      let n : ℕ = get_or s.words 16 0 in
+      let n : ℕ = get_or s.words 32 0 in
       let log : Log = held.2.0 in
       let kept = held.2.2 in
       let fits = kept.each id me.0 at in
       let order = kept.order in
       let start = fits.start o knows in
       let same_first : me.0.first ≡ first = start.1 in
-      let then = Enters moves counted (step slots 16 ticket next none) me in
-      exchanged n ticket next (Goes s 16 id me then)
+      let then = Enters moves counted (step slots 32 ticket next none) me in
+      exchanged n ticket next (Goes s 32 id me then)
       (λ hit.
       let w : V = entered n me.0 in
       let more : n + 1 ≡ next = omega arith in
@@ -269,7 +269,7 @@ module _ {O C R : Type 0} (moves : O → C → R → O → Type 0) (counted : O 
         w,
         takes 0 (put (after_all opening log) home.0),
         home.1,
-        subst (λ (m : ℕ). Holds (stepped s 16 m id me.1 w (takes 0 (put (after_all opening log) home.0)))) more
+        subst (λ (m : ℕ). Holds (stepped s 32 m id me.1 w (takes 0 (put (after_all opening log) home.0)))) more
             (on_ticket s log (n + 1) out (set s.views id w) held.0 (length-set s.homes 0 maybe.none ∙ held.1) held.2.1
             (stays moves opening first log n (n + 1) id s.homes out s.views me.0 w kept at (omega arith) (omega arith) refl refl (λ x. one_more (first + length log) n x me.0.tickets order empty) (λ turn. absurd (true≢false turn))
             (record { start = fits.start; seen = fits.seen; also = fits.also; turn = λ _. (has, whole); own = fits.own; worn = λ mark. let limit = fits.worn mark in omega arith }) (kept.alone id me.0 at))
@@ -304,7 +304,7 @@ module _ {O C R : Type 0} (moves : O → C → R → O → Type 0) (counted : O 
       ))
 
   abbrev Ending : ℕ → ℕ → M → Type 0
-  Ending slots id me = Allows Holds slots id me 0 (λ n. (n + 1) % 2 ^ 64) (Ends (step slots 0 1 0 none) me)
+  Ending slots id me = Allows Holds slots id me 16 (λ n. (n + 1) % 2 ^ 64) (Ends (step slots 16 1 0 none) me)
 
   -- the counts have risen by what the seat has announced
   abbrev Announced : O → V → O → Type 0
@@ -327,8 +327,8 @@ module _ {O C R : Type 0} (moves : O → C → R → O → Type 0) (counted : O 
   ends_at : (slots id : ℕ) (v : V) (o : O) (ticket : ℕ) (after : O) (done : Done C R) → v.opening ≡ Some o → v.tickets ≡ ticket ∷ [] → v.in_turn ≡ true → 1 ≤ times v.number v.numbers
       → moves (after_all o v.seen) done.call.value done.reply.value after → Announced o v after → Ending slots id (v, (0, put after (Some done)) ∷ [])
   ends_at slots id v o ticket after done knows one turn named move announced s held _ at _ =
-      let n : ℕ = get_or s.words 0 0 in
-      let drawn : ℕ = get_or s.words 16 0 in
+      let n : ℕ = get_or s.words 16 0 in
+      let drawn : ℕ = get_or s.words 32 0 in
       let log : Log = held.2.0 in
       let kept = held.2.2 in
       let fits = kept.each id v at in
@@ -351,7 +351,7 @@ module _ {O C R : Type 0} (moves : O → C → R → O → Type 0) (counted : O 
         w,
         gives,
         tt,
-        subst (λ (m : ℕ). Holds record { words = set s.words 0 m; homes = homes; views = set s.views id w }) small
+        subst (λ (m : ℕ). Holds record { words = set s.words 16 m; homes = homes; views = set s.views id w }) small
             (on_serving s (log ++ t ∷ []) (n + 1) homes (set s.views id w) held.0 (length-set s.homes 0 (some (put after (Some done))) ∙ held.1) next grown.1
             (told_after s.words log id s.views v done.call.value done.reply.value after held.2.3 at whole (subst (λ (p : O). Announced p v after) same announced))),
         (refl, subst (λ (l : Log). HasItsOwn v.numbers (v.own ++ length v.seen ∷ []) (l ++ t ∷ [])) (sym whole) own),
@@ -362,20 +362,20 @@ module _ {O C R : Type 0} (moves : O → C → R → O → Type 0) (counted : O 
   ends slots id me v o ticket after done has knows one turn named move announced = subst (Ending slots id) (sym has) (ends_at slots id v o ticket after done knows one turn named move announced)
 
   -- a step on the word of a count
-  on_count : (s : St) (log : Log) (count : Count) (n : ℕ) (views : List V) → Holds s → get_or s.words 0 0 ≡ first + length log → IsKept moves opening first log (get_or s.words 16 0) s.homes views
+  on_count : (s : St) (log : Log) (count : Count) (n : ℕ) (views : List V) → Holds s → get_or s.words 16 0 ≡ first + length log → IsKept moves opening first log (get_or s.words 32 0) s.homes views
       → IsAnnounced count (of_count count (counted (after_all opening log))) n views
       → ((other : Count) → ¬ (count ≡ other) → IsAnnounced other (of_count other (counted (after_all opening log))) (get_or s.words (word_of other) 0) views)
       → Holds record { words = set s.words (word_of count) n; homes = s.homes; views = views }
   on_count s log count n views held serves kept here others =
-      let far = from_32 count in
-      let near = below_64 count in
-      let wide : length s.words ≡ 64 = held.0 in (
+      let far = from_48 count in
+      let near = below_80 count in
+      let wide : length s.words ≡ 80 = held.0 in (
         length-set s.words (word_of count) n ∙ wide,
         held.1,
         (
           log,
-          get_or-set_other s.words (word_of count) 0 n 0 (λ e. omega arith) ∙ serves,
-          subst (λ (m : ℕ). IsKept moves opening first log m s.homes views) (sym (get_or-set_other s.words (word_of count) 16 n 0 (λ e. omega arith))) kept,
+          get_or-set_other s.words (word_of count) 16 n 0 (λ e. omega arith) ∙ serves,
+          subst (λ (m : ℕ). IsKept moves opening first log m s.homes views) (sym (get_or-set_other s.words (word_of count) 32 n 0 (λ e. omega arith))) kept,
           λ other.
               dite (ℕ_discrete (word_of other) (word_of count))
               (λ e.
@@ -409,7 +409,7 @@ module _ {O C R : Type 0} (moves : O → C → R → O → Type 0) (counted : O 
       let kept = held.2.2 in
       let told = held.2.3 in
       let fits = kept.each id v at in
-      let drawn : ℕ = get_or s.words 16 0 in
+      let drawn : ℕ = get_or s.words 32 0 in
       let n : ℕ = get_or s.words (word_of count) 0 in
       let now = fits.turn turn in
       let whole : v.seen ≡ log = now.1 in
@@ -443,7 +443,7 @@ module _ {O C R : Type 0} (moves : O → C → R → O → Type 0) (counted : O 
       let kept = held.2.2 in
       let told = held.2.3 in
       let fits = kept.each id v at in
-      let drawn : ℕ = get_or s.words 16 0 in
+      let drawn : ℕ = get_or s.words 32 0 in
       let n : ℕ = get_or s.words (word_of count) 0 in
       let w : V = read_to count n v in
       let known : ℕ = of_count count (counted (after_all opening log)) in

@@ -5,8 +5,8 @@ use Rattle.sysv_gate.specs.declared.count.Count.TheVariants.{Arrived, Freed}
 
 -- the word where the count is announced
 abbrev pub word_of : Count → ℕ
-word_of Arrived = 32
-word_of Freed = 48
+word_of Arrived = 48
+word_of Freed = 64
 
 -- the number for the count, of two
 abbrev pub of_count : Count → ℕ × ℕ → ℕ

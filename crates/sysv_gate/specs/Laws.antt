@@ -35,4 +35,4 @@ module _ {O C R : Type 0} (moves : O → C → R → O → Type 0) where
   CountsOutsideATurn counted =
       (opening : O) (first : ℕ) (s : State (Spot O C R) (View O C R)) → Gated moves counted opening first s
       → ((i : ℕ) (v : View O C R) → get_elem? s.views i ≡ some v → v.in_turn ≡ false)
-      → (log : List (Turn O C R)) × IsLegal moves opening log × (slice_index s.words 0 ≡ first + length log) × ((count : Count) → slice_index s.words (word_of count) ≡ of_count count (counted (after_all opening log)))
+      → (log : List (Turn O C R)) × IsLegal moves opening log × (slice_index s.words 16 ≡ first + length log) × ((count : Count) → slice_index s.words (word_of count) ≡ of_count count (counted (after_all opening log)))

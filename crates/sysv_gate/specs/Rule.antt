@@ -1,4 +1,4 @@
--- The rule of a gate's table. Word 0 says which ticket is served, word 16 which ticket is drawn next, words 32 and 48
+-- The rule of a gate's table. Word 16 says which ticket is served, word 32 which ticket is drawn next, words 48 and 64
 -- announce the object's two counts, and the one slot has the object. The words lie 128 bytes apart, so that no two share
 -- a cache line. The log is the history of all turns.
 use Rattle.std.specs.Prelude.{◌≡◌, ℕ, ◌+◌, ◌^◌, ◌≤◌, true, false, List, [], ◌∷◌, length, slice_index, sum_by, Option, Some}
@@ -79,9 +79,9 @@ module _ {O C R : Type 0} where
   -- number of turns
   abbrev pub Gated : (O → C → R → O → Type 0) → (O → ℕ × ℕ) → O → ℕ → State (Spot O C R) (View O C R) → Type 0
   Gated moves counted opening first s =
-      (length s.words ≡ 64) × (length s.homes ≡ 1)
+      (length s.words ≡ 80) × (length s.homes ≡ 1)
       × ((log : List (Turn O C R))
-      × (slice_index s.words 0 ≡ first + length log) × IsKept moves opening first log (slice_index s.words 16) s.homes s.views × AreAnnounced counted (after_all opening log) s.words s.views)
+      × (slice_index s.words 16 ≡ first + length log) × IsKept moves opening first log (slice_index s.words 32) s.homes s.views × AreAnnounced counted (after_all opening log) s.words s.views)
 
   -- the view of the first seat
   abbrev pub start : O → ℕ → View O C R

@@ -13,19 +13,20 @@ use std::alloc::Global;
 /// From here on no ticket is drawn.
 pub(crate) const LIMIT: u64 = 1 << 62;
 
-/// The word with the ticket that is served.
-pub(crate) const SERVING: usize = 0;
+/// The word with the ticket that is served. Each word lies 128 bytes from the next, and the first as far from what lies
+/// before them all, which may be the object of another gate.
+pub(crate) const SERVING: usize = 16;
 
-/// The word with the ticket that is drawn next. Each word lies 128 bytes from the next.
-pub(crate) const TICKET: usize = 16;
+/// The word with the ticket that is drawn next.
+pub(crate) const TICKET: usize = 32;
 
 /// The words where the two counts are announced.
-pub(crate) const ARRIVED: usize = 32;
+pub(crate) const ARRIVED: usize = 48;
 
-pub(crate) const FREED: usize = 48;
+pub(crate) const FREED: usize = 64;
 
-/// The words of the table, so many that no other memory lies near the last.
-const WORDS: usize = 64;
+/// The words of the table, so many that no other memory lies near the last of these.
+const WORDS: usize = 80;
 
 /// The slot.
 pub(crate) const OBJECT: usize = 0;
@@ -52,8 +53,8 @@ fn the_one<O, C, R>(mut slots: Vec<Option<Place<O, C, R>>, Global>) -> O
 
 // The words of a new gate.
 fn words_at(first: u64, counts: (u64, u64)) -> [u64; WORDS]
-    ensures tickets { (length result ≡ 64) × (slice_index result 0 ≡ first) × (slice_index result 16 ≡ first) }
-    ensures counts { (slice_index result 32 ≡ counts.0) × (slice_index result 48 ≡ counts.1) }
+    ensures tickets { (length result ≡ 80) × (slice_index result 16 ≡ first) × (slice_index result 32 ≡ first) }
+    ensures counts { (slice_index result 48 ≡ counts.0) × (slice_index result 64 ≡ counts.1) }
 {
     let mut words = [0; WORDS];
     words[SERVING] = first;
@@ -71,7 +72,7 @@ pub(crate) fn lay<O: Object>(
     key: &Key<O>,
 ) -> Result<(Board<O>, Token<O>), O>
     requires { (key.now.opening.value ≡ object) × (key.now.first ≡ first) × (first ≤ 2 ^ 62) }
-    ensures ok { IfOk result (λ t. (t.0.shared.key ≡ key.now) × (t.1.me ≡ (start object first, [])) × (t.1.table_id ≡ t.0.shared.table_id) × (t.0.shared.table_id.words ≡ 64) × (t.0.shared.table_id.slots ≡ 1)) }
+    ensures ok { IfOk result (λ t. (t.0.shared.key ≡ key.now) × (t.1.me ≡ (start object first, [])) × (t.1.table_id ≡ t.0.shared.table_id) × (t.0.shared.table_id.words ≡ 80) × (t.0.shared.table_id.slots ≡ 1)) }
     ensures err { IfErr result (λ o. o ≡ object) }
 {
     let Ok(mut slots) = Vec::with_capacity(alloc, 1) else {

@@ -37,7 +37,7 @@ impl<O: Object> Model for Gate<O> {
 
     ghost view = { λ g. record { table = g.table.shared.table_id; opening = g.key.opening.value; first = g.key.first } };
 
-    ghost invariant = { λ g. (g.table.shared.key ≡ g.key) × (g.table.shared.table_id.words ≡ 64) × (g.table.shared.table_id.slots ≡ 1) × AreUpTo (2 ^ 61) (O.counted g.key.opening.value) };
+    ghost invariant = { λ g. (g.table.shared.key ≡ g.key) × (g.table.shared.table_id.words ≡ 80) × (g.table.shared.table_id.slots ≡ 1) × AreUpTo (2 ^ 61) (O.counted g.key.opening.value) };
 }
 
 impl<O: Object> Gate<O> {

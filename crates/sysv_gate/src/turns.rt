@@ -17,8 +17,8 @@ use std::hint;
 use std::snapshot::Snapshot;
 use std::sync::Wait;
 
-/// How many times a waiter looks before it sleeps.
-pub(crate) const SPINS: u64 = 1024;
+/// How many times a waiter looks whether its ticket is served before it sleeps.
+const LOOKS: u64 = 1024;
 
 // What came of a try to enter.
 pub(crate) enum Entry {
@@ -136,7 +136,7 @@ impl<O: Object> Gate<O> {
         ensures waits { result ≢ ticket → SawMore token.old.me.0 token.new.me }
     {
         let mut served = self.look(token);
-        for _ in 1..SPINS {
+        for _ in 1..LOOKS {
             if served == ticket {
                 break;
             }

@@ -14,9 +14,11 @@ use crate::gate::Gate;
 use crate::object::Object;
 use crate::rule::{Reading, Weighing};
 use crate::seat::Seat;
-use crate::turns::SPINS;
 use std::hint;
 use std::sync::Wait;
+
+/// How many times a waiter looks at a count before it sleeps.
+const LOOKS: u64 = 256;
 
 impl<O: Object> Gate<O> {
     /// The first count of the object, as it is announced now. It is no less than what the seat has read before, nor than
@@ -78,7 +80,7 @@ impl<O: Object> Gate<O> {
         ensures read { HasRead O.counted self.now.opening count token.old.me result token.new.me }
     {
         let mut value = self.count(token, count);
-        for _ in 1..SPINS {
+        for _ in 1..LOOKS {
             if value >= goal {
                 break;
             }

@@ -5,7 +5,10 @@ use Rattle.std.specs.Prelude.{◌≡◌, ℕ, [], ◌∷◌, ◌++◌}
 use Rattle.sysv_model.specs.History.{Entry, History}
 use Rattle.sysv_model.specs.Registry.{RegistryEntry, RegistryHistory}
 use Rattle.sysv_model.specs.Pool.{PoolEntry, PoolHistory}
+use Rattle.sysv_keys.specs.RegistryLaw.{RegistryLaw}
 use Rattle.sysv_keys.specs.StandsFor.{StandsFor as RegistryStandsFor}
+use Rattle.sysv_pool.specs.PoolLaw.{PoolLaw}
+use Rattle.sysv_queue.specs.QueueLaw.{QueueLaw}
 use Rattle.sysv_pool.specs.StandsFor.{StandsFor as PoolStandsFor}
 use Rattle.sysv_queue.specs.StandsFor.{StandsFor as SlotStandsFor}
 use Rattle.sysv_gate.specs.History.{Moves, IsLegal}
@@ -19,6 +22,13 @@ pub record SeenHistories : Type 0 where
   pub registry : (generation : ℕ) (seat : RegistrySeat) → RegistryStandsFor generation [] seat.gate.opening → IsLegal (Moves RegistryMoves registry_counts) seat.gate.opening seat.seen →
       RegistryStandsFor generation (registry_seen seat) (object_of seat)
   pub pool : (seat : PoolSeat) → PoolStandsFor [] seat.gate.opening → IsLegal (Moves PoolMoves pool_counts) seat.gate.opening seat.seen → PoolStandsFor (pool_seen seat) (object_of seat)
+
+-- each seen history obeys the law of its object, whatever its gate was opened with
+pub record SeenHistoriesObey : Type 0 where
+  pub slots : (seat : SlotSeat) → SlotStandsFor [] seat.gate.opening → IsLegal (Moves SlotMoves slot_counts) seat.gate.opening seat.seen → QueueLaw (slot_seen seat)
+  pub registry : (generation : ℕ) (seat : RegistrySeat) → RegistryStandsFor generation [] seat.gate.opening → IsLegal (Moves RegistryMoves registry_counts) seat.gate.opening seat.seen →
+      RegistryLaw generation (registry_seen seat)
+  pub pool : (seat : PoolSeat) → PoolStandsFor [] seat.gate.opening → IsLegal (Moves PoolMoves pool_counts) seat.gate.opening seat.seen → PoolLaw (object_of seat).size (pool_seen seat)
 
 pub record OwnTurnsAreLast : Type 0 where
   pub slots : (before after : SlotSeat) (e : Entry) → TakesTurn SlotMoves slot_counts slot_entry e before after → (others : History) × (slot_seen after ≡ (slot_seen before ++ others) ++ e ∷ [])

@@ -14,7 +14,7 @@ use crate::pool::{PoolCall, PoolReply, TextSize};
 use crate::seats::Seats;
 use std::sync::Wait;
 use sysv_gate::Worn as GateWorn;
-use sysv_pool::chain::Chain;
+use sysv_pool::Chain;
 
 impl Gates {
     // A turn at the pool.

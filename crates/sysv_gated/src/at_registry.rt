@@ -12,8 +12,8 @@ use crate::gates::{Gates, Worn};
 use crate::registry::{RegistryCall, RegistryReply};
 use crate::seats::Seats;
 use std::sync::Wait;
-use sysv_keys::registry::Begun;
-use sysv_model::flags::Flags;
+use sysv_keys::Begun;
+use sysv_model::Flags;
 
 impl Gates {
     // A turn at the registry.

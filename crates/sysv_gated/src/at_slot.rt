@@ -20,15 +20,9 @@ use crate::seats::Seats;
 use crate::slot::{SlotAsk, SlotCall, SlotReply};
 use std::sync::Wait;
 use sysv_gate::Worn as GateWorn;
-use sysv_keys::identifier::slot_of_id;
-use sysv_model::attributes::{Row, SetTo, Stat};
-use sysv_model::cred::Cred;
-use sysv_model::errno::Errno;
-use sysv_model::flags::Flags;
-use sysv_model::selector::Selector;
-use sysv_queue::discarded::Discarded;
-use sysv_queue::slot::{Look, PlaceRefused, Probe, TakeRefused};
-use sysv_queue::taken::Taken;
+use sysv_keys::slot_of_id;
+use sysv_model::{Cred, Errno, Flags, Row, Selector, SetTo, Stat};
+use sysv_queue::{Discarded, Look, PlaceRefused, Probe, TakeRefused, Taken};
 
 impl Gates {
     // A turn at the slot.

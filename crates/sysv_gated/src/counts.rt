@@ -10,7 +10,7 @@ use crate::gates::Gates;
 use crate::seats::Seats;
 use std::sync::Wait;
 use sysv_gate::Awaited;
-use sysv_keys::identifier::slot_of_id;
+use sysv_keys::slot_of_id;
 
 impl Gates {
     /// The released count of the pool, as it is announced now. It takes no turn and never waits.

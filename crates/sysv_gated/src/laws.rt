@@ -1,11 +1,25 @@
 //! Laws over the definitions alone.
 
-ghost use Rattle.sysv_gated.specs.SeenHistories.{SeenHistories, OwnTurnsAreLast};
+ghost use Rattle.sysv_gated.specs.SeenHistories.{SeenHistories, SeenHistoriesObey, OwnTurnsAreLast};
+
+use sysv_keys::registry_law;
+use sysv_pool::pool_law;
+use sysv_queue::queue_law;
 
 /// What a seat has seen of an object is a history for which the object stands, so each reply in it is the legal one.
 pub fn seen_histories()
     ensures { SeenHistories }
 {}
+
+/// What a seat has seen of a slot obeys the queue law, of the registry its law, and of the pool its law.
+pub fn seen_histories_obey()
+    ensures { SeenHistoriesObey }
+{
+    seen_histories();
+    queue_law();
+    registry_law();
+    pool_law();
+}
 
 /// A turn of the seat's own is the last entry of what it has seen then, after all that it had seen before.
 pub fn own_turns_are_last()

@@ -5,8 +5,8 @@ ghost use Rattle.sysv_model.specs.declared.limits.TheConstants.{MESSAGE_BYTES as
 ghost use Rattle.sysv_model.specs.Pool.{blocks_for};
 
 use std::marker::Model;
-use sysv_model::body::Body;
-use sysv_pool::chain::Chain;
+use sysv_model::Body;
+use sysv_pool::Chain;
 
 /// A chain that holds a text of at most 8,192 bytes in as many blocks as it takes. It can be neither dropped nor copied: it
 /// is spent by `into_chain`.

@@ -2,7 +2,7 @@
 
 ghost use Rattle.std.specs.Prelude.{◌≡◌, ◌<◌, ◌≤◌, ◌⊎◌, ◌↔◌, ◌^◌, [], length, map, IfOk, IfSome, Err};
 ghost use Rattle.std.specs.List.{All};
-ghost use Rattle.sysv_model.specs.declared.limits.TheConstants.{BLOCKS_LEAST as least_blocks, BLOCKS_MOST as most_blocks};
+ghost use Rattle.sysv_model.specs.declared.limits.TheConstants.{MIN_BLOCKS as least_blocks, MAX_BLOCKS as most_blocks};
 ghost use Rattle.sysv_keys.specs.declared.identifier.TheConstants.{SLOTS, GENERATION_LAST};
 ghost use Rattle.sysv_keys.specs.StandsFor.{StandsFor as RegistryStandsFor};
 ghost use Rattle.sysv_pool.specs.StandsFor.{StandsFor as PoolStandsFor};
@@ -20,14 +20,13 @@ use crate::slot::GatedSlot;
 use std::alloc::Global;
 use sysv_bank::{Bank, BankSeat};
 use sysv_gate::{Closing, Gate, OpenRefused, Seat};
-use sysv_keys::identifier::{GENERATION_LAST, SLOTS};
-use sysv_keys::registry::Registry;
-use sysv_model::limits::{BLOCKS_LEAST, BLOCKS_MOST};
-use sysv_pool::pool::Pool;
-use sysv_queue::slot::QueueSlot;
+use sysv_keys::{GENERATION_LAST, Registry, SLOTS};
+use sysv_model::{MAX_BLOCKS, MIN_BLOCKS};
+use sysv_pool::Pool;
+use sysv_queue::QueueSlot;
 
 /// The first tickets of gates are at most this.
-const FIRST_MOST: u64 = 1 << 62;
+const MAX_FIRST: u64 = 1 << 62;
 
 /// Why gates are not opened.
 #[derive(Clone, Copy, PartialEq, Eq, Debug)]
@@ -59,9 +58,9 @@ impl Gates {
         ensures seats { IfOk result (λ o. AreOf o.0 o.1) }
         ensures bad_size { (result ≡ Err GatesRefused.BadSize) ↔ ((blocks < least_blocks) ⊎ (most_blocks < blocks) ⊎ (2 ^ 62 < first) ⊎ (GENERATION_LAST < generation)) }
     {
-        if blocks < BLOCKS_LEAST
-            || blocks > BLOCKS_MOST
-            || first > FIRST_MOST
+        if blocks < MIN_BLOCKS
+            || blocks > MAX_BLOCKS
+            || first > MAX_FIRST
             || generation > GENERATION_LAST
         {
             return Err(GatesRefused::BadSize);

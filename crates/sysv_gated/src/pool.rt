@@ -7,8 +7,7 @@ ghost use Rattle.sysv_gated.specs.PoolTurns.{PoolMoves, pool_counts};
 
 use std::marker::Model;
 use sysv_gate::Object;
-use sysv_pool::chain::Chain;
-use sysv_pool::pool::Pool;
+use sysv_pool::{Chain, Pool};
 
 /// The pool behind a gate. It can't be dropped: it ends by `into_pool`.
 pub struct GatedPool {

@@ -6,8 +6,8 @@ ghost use Rattle.sysv_gated.specs.RegistryTurns.{RegistryMoves, registry_counts}
 
 use std::marker::Model;
 use sysv_gate::Object;
-use sysv_keys::registry::{Begun, Registry};
-use sysv_model::flags::Flags;
+use sysv_keys::{Begun, Registry};
+use sysv_model::Flags;
 
 /// The registry behind a gate.
 #[derive(Drop)]

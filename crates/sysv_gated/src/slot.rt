@@ -8,14 +8,8 @@ ghost use Rattle.sysv_gated.specs.SlotTurns.{SlotMoves, slot_counts};
 use crate::letter::Letter;
 use std::marker::Model;
 use sysv_gate::Object;
-use sysv_model::attributes::{Row, SetTo, Stat};
-use sysv_model::cred::Cred;
-use sysv_model::errno::Errno;
-use sysv_model::flags::Flags;
-use sysv_model::selector::Selector;
-use sysv_queue::discarded::Discarded;
-use sysv_queue::slot::{Look, PlaceRefused, Probe, QueueSlot, TakeRefused};
-use sysv_queue::taken::Taken;
+use sysv_model::{Cred, Errno, Flags, Row, Selector, SetTo, Stat};
+use sysv_queue::{Discarded, Look, PlaceRefused, Probe, QueueSlot, TakeRefused, Taken};
 
 /// A slot behind a gate. It can't be dropped: it ends by `into_slot`.
 pub struct GatedSlot {

@@ -14,17 +14,10 @@ use std::alloc::Global;
 use std::process::Abort;
 use std::sync::Wait;
 use sysv_gate::Awaited;
-use sysv_keys::registry::Begun;
-use sysv_model::attributes::SetTo;
-use sysv_model::body::Body;
-use sysv_model::cred::Cred;
-use sysv_model::errno::Errno;
-use sysv_model::flags::Flags;
-use sysv_model::limits::{IPC_PRIVATE, MESSAGE_BYTES};
-use sysv_model::selector::Selector;
-use sysv_pool::chain::Chain;
-use sysv_queue::slot::{Look, Probe};
-use sysv_queue::tally::Tally;
+use sysv_keys::Begun;
+use sysv_model::{Body, Cred, Errno, Flags, IPC_PRIVATE, MESSAGE_BYTES, Selector, SetTo};
+use sysv_pool::Chain;
+use sysv_queue::{Look, Probe, Tally};
 
 const LIMIT: u64 = 1 << 62;
 

@@ -1,2 +1,1 @@
-pub mod Crossing
 pub mod Sessions

@@ -11,19 +11,10 @@ ghost use Rattle.sysv_kernel.specs.Replies.{reply as the_reply, shown_stat as st
 use std::alloc::Global;
 use std::io::{Read, Write};
 use std::sync::Wait;
-use sysv_model::attributes::{Row, SetTo, Stat};
-use sysv_model::body::Body;
-use sysv_model::cred::Cred;
-use sysv_model::flags::Flags;
-use sysv_service::clock::Clock;
-use sysv_service::pass::Pass;
-use sysv_service::service::Service;
-use sysv_session::kernel::{Kernel, Outcome};
-use sysv_session::served::Served;
-use sysv_session::session::serve;
-use sysv_wire::frame::{MODE_MOST, Op};
-use sysv_wire::reply::{Outcome as Told, Reply};
-use sysv_wire::request::{Ask, Request};
+use sysv_model::{Body, Cred, Flags, Row, SetTo, Stat};
+use sysv_service::{Clock, Pass, Service};
+use sysv_session::{Kernel, Outcome, Served, serve};
+use sysv_wire::{Ask, MAX_MODE, Op, Outcome as Told, Reply, Request};
 
 /// A service as one session asks it: with a pass of its own, the moments of a clock, and the handle to wait. Each request is
 /// one call of the service. It can be neither dropped nor copied: it ends by `into_pass`.
@@ -51,7 +42,7 @@ impl<'a, C: Clock, R: Wait> ServiceKernel<'a, C, R> {
         }
     }
 
-    /// Runs one session, as `sysv_session::session::serve` does, with this kernel.
+    /// Runs one session, as `sysv_session::serve` does, with this kernel.
     pub fn serve<I: Read, O: Write>(
         &mut self,
         alloc: Global,
@@ -232,17 +223,17 @@ fn reply(op: Op, told: Told) -> Outcome
 /// The attributes as a reply has them: the mode has nine bits.
 fn shown_stat(mut stat: Stat) -> Stat
     ensures shown { result ≡ stat_shown stat }
-    ensures mode { result.perm.mode ≤ MODE_MOST }
+    ensures mode { result.perm.mode ≤ MAX_MODE }
 {
-    stat.perm.mode &= MODE_MOST;
+    stat.perm.mode &= MAX_MODE;
     stat
 }
 
 /// The row as a reply has it: the mode has nine bits.
 fn shown_row(mut row: Row) -> Row
     ensures shown { result ≡ row_shown row }
-    ensures mode { result.mode ≤ MODE_MOST }
+    ensures mode { result.mode ≤ MAX_MODE }
 {
-    row.mode &= MODE_MOST;
+    row.mode &= MAX_MODE;
     row
 }

@@ -2,4 +2,6 @@
 //! that call ended.
 #![tactic(auto)]
 
-pub mod kernel;
+mod kernel;
+
+pub use kernel::ServiceKernel;

@@ -7,7 +7,7 @@ use Rattle.sysv_model.specs.Registry.{RegistryCall, RegistryReply, RegistryEntry
 use Rattle.sysv_keys.specs.Identifier.{id_of}
 use Rattle.sysv_keys.specs.Rows.{IsRow, IsLeastVacant, generation}
 use Rattle.sysv_keys.specs.LegalReply.{IsLegalReply, IsLegalHistory, Creates}
-use Rattle.sysv_keys.proofs.Snoc.{from_end}
+use Rattle.sysv_model.proofs.Snoc.{from_end}
 use Rattle.sysv_keys.proofs.Legality.{legal_front, legal_last}
 use Rattle.sysv_keys.proofs.More.{IsQuiet, made_turn, settled_turn, forgotten_turn}
 use Rattle.sysv_keys.proofs.Facts.{Facts, facts_empty, facts_quiet}

@@ -1,5 +1,4 @@
 pub mod Logic
-pub mod Snoc
 pub mod More
 pub mod Facts
 pub mod Changes

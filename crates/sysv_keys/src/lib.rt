@@ -4,6 +4,10 @@
 //! obeys.
 #![tactic(auto)]
 
-pub mod identifier;
-pub mod laws;
-pub mod registry;
+mod identifier;
+mod laws;
+mod registry;
+
+pub use identifier::{GENERATION_LAST, SLOTS, slot_of_id};
+pub use laws::{legal_history, one_legal_reply, registry_law, unused_slots};
+pub use registry::{Begun, Registry, RegistryRefused};

@@ -16,9 +16,7 @@ use bitflags::Flags as Set;
 use indexmap::IndexMap;
 use std::alloc::{AllocError, Global};
 use std::marker::Model;
-use sysv_model::errno::Errno;
-use sysv_model::flags::Flags;
-use sysv_model::limits::IPC_PRIVATE;
+use sysv_model::{Errno, Flags, IPC_PRIVATE};
 use thiserror::Error;
 
 /// What `begin` finds or makes.

@@ -187,7 +187,7 @@ nothing_in_words line name rest split orders starts (Continues who) h = orders _
 pub tail_same : (x : ℕ) (line a b : List ℕ) → line ≡ x ∷ a → line ≡ x ∷ b → a ≡ b
 tail_same x line a b h k = cc
 
--- a line behind whose `+` no call is started says nothing
+-- a line after whose `+` no call is started says nothing
 pub nothing_behind_plus : (line words : List ℕ) → line ≡ 43 ∷ words → ((who : ℕ) (asked : SystemCall) → ¬ SaysStart words who asked) → (said : Said) → ¬ Says line said
 nothing_behind_plus line words e none (Starts who asked false) h =
     none who asked (subst (λ (l : List ℕ). SaysStart l who asked) (tail_same 43 line h.1.0 words h.1.1 e) h.1.2)

@@ -1,4 +1,4 @@
--- A call and an order are known by their names, and the words behind a name are its arguments.
+-- A call and an order are known by their names, and the words after a name are its arguments.
 use Rattle.std.proofs.Common.{◌≡◌, ◌≤◌, ◌+◌, ◌-◌, ◌*◌, ℕ, ℤ, pos, List, [], ◌∷◌, take, drop, take_all, Option, Some, None, MatchOption, length, get_or, codes, inl, inr, sym, ap, subst, ◌∙◌, arith}
 use Rattle.std.specs.Prelude.{Contains}
 use Rattle.sysv_model.specs.declared.flags.Flags.{Flags}

@@ -1,7 +1,7 @@
 -- What a line of a script says (this project's script language): its words stand one space apart,
 -- and the text of a message is the rest of the line.
 use Rattle.std.specs.Prelude.{◌≡◌, ◌≤◌, ◌⊎◌, ℕ, pos, true, false, List, [], ◌∷◌, length, codes, replicate}
-use Rattle.sysv_model.specs.declared.limits.TheConstants.{BODY_ROOM, BLOCKS_LEAST, BLOCKS_MOST}
+use Rattle.sysv_model.specs.declared.limits.TheConstants.{BODY_ROOM, MIN_BLOCKS, MAX_BLOCKS}
 use Rattle.sysv_words.specs.Words.{Pair, After, IsNumeralOf, IsInt32, IsInt64, IsNat32, IsNat64}
 use Rattle.sysv_words.specs.FlagNames.{IsFlagList}
 use Rattle.sysv_words.specs.declared.octal.Octal.{Octal}
@@ -25,8 +25,8 @@ actor number = record { 0 = number }
 -- a number of blocks that a pool can have
 pub record IsBlocks (word : List ℕ) (blocks : Blocks) : Type 0 where
   pub number : IsNumeralOf word (pos blocks.0)
-  pub least : BLOCKS_LEAST ≤ blocks.0
-  pub most : blocks.0 ≤ BLOCKS_MOST
+  pub least : MIN_BLOCKS ≤ blocks.0
+  pub most : blocks.0 ≤ MAX_BLOCKS
 
 abbrev pub of_blocks : ℕ → Blocks
 of_blocks number = record { 0 = number }
@@ -56,7 +56,7 @@ call_name (MsgctlRmid id) = codes "rm"
 abbrev pub octal : ℕ → Octal
 octal mode = record { 0 = mode }
 
--- the words behind the name: `KEY FLAGS`, `ID MTYPE FLAGS BODY`, `ID SIZE MTYPE FLAGS`, `ID`,
+-- the words after the name: `KEY FLAGS`, `ID MTYPE FLAGS BODY`, `ID SIZE MTYPE FLAGS`, `ID`,
 -- `ID UID GID MODE QBYTES`, `ID`
 abbrev pub SaysArguments : List ℕ → SystemCall → Type 0
 SaysArguments words (Msgget key flags) = Pair IsInt32 IsFlagList words (key, flags)
@@ -96,7 +96,7 @@ order_name MakesPreset = []
 order_name (Starts who asked goes) = []
 order_name AllContinue = []
 
--- the words behind it: `N`, `ACTOR UID GID PID`, `T`, `ACTOR`, `ACTOR`
+-- the words after it: `N`, `ACTOR UID GID PID`, `T`, `ACTOR`, `ACTOR`
 abbrev pub SaysOrderArguments : List ℕ → Said → Type 0
 SaysOrderArguments words (GivesBlocks blocks) = IsBlocks words (of_blocks blocks)
 SaysOrderArguments words (GivesCred who cred) = Pair IsActor (Pair IsNat32 (Pair IsNat32 IsNat32)) words (actor who, (cred.uid, (cred.gid, cred.pid)))

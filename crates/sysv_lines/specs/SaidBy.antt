@@ -1,6 +1,6 @@
 -- What the code's lines, requests and texts stand for (this project's script language).
 use Rattle.std.specs.Prelude.{◌≤◌, ⊤, ℕ, List, length, replicate}
-use Rattle.sysv_model.specs.declared.limits.TheConstants.{BODY_ROOM, BLOCKS_LEAST, BLOCKS_MOST}
+use Rattle.sysv_model.specs.declared.limits.TheConstants.{BODY_ROOM, MIN_BLOCKS, MAX_BLOCKS}
 use Rattle.sysv_steps.specs.Call.{SystemCall, Msgget, Msgsnd, Msgrcv, MsgctlStat, MsgctlSet, MsgctlRmid}
 use Rattle.sysv_lines.specs.declared.actor.TheConstants.{SCRIPT_ACTORS}
 use Rattle.sysv_lines.specs.Said.{Said, Nothing, MakesPreset, GivesCred, GivesMoment, Starts, StepsOnce, Continues, AllContinue, GivesBlocks}
@@ -39,8 +39,8 @@ pub record IsOfActors (actor : ℕ) : Type 0 where
   pub most : actor ≤ SCRIPT_ACTORS
 
 pub record IsPoolSize (blocks : ℕ) : Type 0 where
-  pub least : BLOCKS_LEAST ≤ blocks
-  pub most : blocks ≤ BLOCKS_MOST
+  pub least : MIN_BLOCKS ≤ blocks
+  pub most : blocks ≤ MAX_BLOCKS
 
 -- A text fits a message's body.
 abbrev pub FitsBody : Text → Type 0

@@ -1,7 +1,7 @@
 //! The actors of a script.
 ghost use Rattle.sysv_lines.specs.Lines.{IsActor};
 
-use sysv_words::reads::Reads;
+use sysv_words::Reads;
 
 /// The actors of a script count from 1 to this.
 pub const SCRIPT_ACTORS: u32 = 16;

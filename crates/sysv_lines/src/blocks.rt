@@ -1,8 +1,8 @@
 //! The size of a script's pool.
 ghost use Rattle.sysv_lines.specs.Lines.{IsBlocks};
 
-use sysv_model::limits::{BLOCKS_LEAST, BLOCKS_MOST};
-use sysv_words::reads::Reads;
+use sysv_model::{MAX_BLOCKS, MIN_BLOCKS};
+use sysv_words::Reads;
 
 /// A number of blocks that a pool can have, 128 to 65,536.
 #[derive(Clone, Copy)]
@@ -13,7 +13,7 @@ impl Reads for Blocks {
 
     fn read(word: &[u8]) -> Option<Blocks> {
         match u32::read(word) {
-            Some(number) if number >= BLOCKS_LEAST && number <= BLOCKS_MOST => Some(Blocks(number)),
+            Some(number) if number >= MIN_BLOCKS && number <= MAX_BLOCKS => Some(Blocks(number)),
             _ => None,
         }
     }

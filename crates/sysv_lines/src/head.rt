@@ -8,8 +8,7 @@ ghost use Rattle.sysv_lines.specs.Heads.{head_text};
 use crate::names::{Operation, Step};
 use crate::told::Told;
 use std::fmt;
-use sysv_steps::state::Phase;
-use sysv_steps::wait::Wait;
+use sysv_steps::{Phase, Wait};
 
 /// What a line of the output says, up to the bytes of a message.
 #[derive(Clone, Copy)]

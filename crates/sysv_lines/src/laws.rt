@@ -2,7 +2,7 @@
 
 ghost use Rattle.sysv_lines.specs.OneLine.{OneSaying, EachLineIsDecided};
 
-use sysv_words::laws::words_are_read;
+use sysv_words::words_are_read;
 
 /// A line says one thing only.
 pub fn one_saying()

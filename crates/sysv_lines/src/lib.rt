@@ -1,13 +1,22 @@
 //! The lines of a script: what one says, and the lines that a script prints. `specs/` has the language.
 #![tactic(auto)]
 
-pub mod actor;
-pub mod blocks;
-pub mod head;
-pub mod laws;
-pub mod line;
-pub mod names;
-pub mod request;
+mod actor;
+mod blocks;
+mod head;
+mod laws;
+mod line;
+mod names;
+mod request;
 #[cfg(test)]
 mod tests;
-pub mod told;
+mod told;
+
+pub use actor::{Actor, SCRIPT_ACTORS};
+pub use blocks::Blocks;
+pub use head::Head;
+pub use laws::{each_line_is_decided, one_saying};
+pub use line::{LINE_BYTES, Line, line_of};
+pub use names::{Operation, Step};
+pub use request::{Request, Text};
+pub use told::Told;

@@ -8,9 +8,8 @@ ghost use Rattle.sysv_lines.specs.SaidBy.{IsOfActors, RequestFits, LineFits, cal
 use crate::actor::Actor;
 use crate::blocks::Blocks;
 use crate::request::{Request, request_of};
-use sysv_model::cred::Cred;
-use sysv_words::reads::{Reads, first};
-use sysv_words::word::split_at_mark;
+use sysv_model::Cred;
+use sysv_words::{Reads, first, split_at_mark};
 
 /// The most bytes that a line may have, its LF not counted.
 pub const LINE_BYTES: usize = 9000;
@@ -33,7 +32,7 @@ pub enum Line<'a> {
     },
     /// `now`: the moment of later steps, in seconds.
     Moment(u64),
-    /// An actor starts a call, which goes on at once or, behind a `+`, stays before its first step.
+    /// An actor starts a call, which goes on at once or, after a `+`, stays before its first step.
     Start {
         actor: u32,
         request: Request<'a>,

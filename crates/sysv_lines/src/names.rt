@@ -5,8 +5,7 @@ ghost use Rattle.sysv_lines.specs.Names.{operation_at, operation_of_wait, step_i
 ghost use Rattle.sysv_lines.specs.Heads.{operation_name, step_name};
 
 use std::fmt;
-use sysv_steps::state::Phase;
-use sysv_steps::wait::Wait;
+use sysv_steps::{Phase, Wait};
 
 /// The kind of a call.
 #[derive(Clone, Copy)]

@@ -5,12 +5,8 @@ ghost use Rattle.sysv_steps.specs.Call.{SystemCall};
 ghost use Rattle.sysv_lines.specs.Lines.{SaysText, SaysNamed, SaysCall};
 ghost use Rattle.sysv_lines.specs.SaidBy.{FitsBody, RequestFits, call_asked, text_bytes};
 
-use sysv_model::attributes::SetTo;
-use sysv_model::flags::Flags;
-use sysv_model::limits::BODY_ROOM;
-use sysv_words::octal::Octal;
-use sysv_words::reads::{Reads, first};
-use sysv_words::word::split_at_mark;
+use sysv_model::{BODY_ROOM, Flags, SetTo};
+use sysv_words::{Octal, Reads, first, split_at_mark};
 
 /// The call that a line starts.
 #[derive(Clone, Copy)]
@@ -58,7 +54,7 @@ pub enum Text<'a> {
     Letters(usize),
 }
 
-/// The call that a name and the words behind it ask for; `None` where they ask for none.
+/// The call that a name and the words after it ask for; `None` where they ask for none.
 pub(crate) fn request_of(words: &[u8]) -> Option<Request<'_>>
     ensures says { MatchOption result ((asked : SystemCall) → ¬ SaysCall words.now asked) (λ request. SaysCall words.now (call_asked request)) }
     ensures fits { IfSome result RequestFits }

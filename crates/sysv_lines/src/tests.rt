@@ -5,8 +5,7 @@ use crate::request::{Request, Text};
 use crate::told::Told;
 use bitflags::Flags as _;
 use std::io::Write;
-use sysv_model::errno::Errno;
-use sysv_model::flags::Flags;
+use sysv_model::{Errno, Flags};
 
 #[test]
 fn a_line_says_what_an_actor_starts(rt: HostRuntime) {

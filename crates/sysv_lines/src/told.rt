@@ -3,8 +3,7 @@ ghost use Rattle.std.specs.Prelude.{Some};
 ghost use Rattle.sysv_lines.specs.Heads.{told_text, stat_text, perm_text, mode_text, counts_text, times_text};
 
 use std::fmt;
-use sysv_model::attributes::{Perm, Stat};
-use sysv_model::errno::Errno;
+use sysv_model::{Errno, Perm, Stat};
 
 /// How a call was answered.
 #[derive(Clone, Copy)]

@@ -78,7 +78,7 @@ impl Body {
         self.bytes[i]
     }
 
-    /// The bytes from `64 * k` on, at most 64 of them: the blocks 0, 1, 2 and so on, one behind the
+    /// The bytes from `64 * k` on, at most 64 of them: the blocks 0, 1, 2 and so on, one after the
     /// other, are the text. Beyond the end a block is empty.
     pub fn block(&self, k: u32) -> &[u8]
         ensures { result.now ≡ block_of k self.now }

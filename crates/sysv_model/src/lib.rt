@@ -3,11 +3,23 @@
 //! the history of a slot and what a history has accepted, delivered, discarded and still holds.
 #![tactic(auto)]
 
-pub mod attributes;
-pub mod body;
-pub mod cred;
-pub mod errno;
-pub mod flags;
-pub mod limits;
-pub mod no_memory;
-pub mod selector;
+mod attributes;
+mod body;
+mod cred;
+mod errno;
+mod flags;
+mod limits;
+mod no_memory;
+mod selector;
+
+pub use attributes::{Attributes, Perm, Row, SetTo, Stat};
+pub use body::Body;
+pub use cred::Cred;
+pub use errno::Errno;
+pub use flags::Flags;
+pub use limits::{
+    BLOCK_BYTES, BODY_ROOM, IPC_PRIVATE, MAX_ACTORS, MAX_BLOCKS, MAX_QBYTES, MESSAGE_BYTES,
+    MIN_BLOCKS, QBYTES_AT_CREATION, QUEUE_MESSAGES, WORN,
+};
+pub use no_memory::NoMemory;
+pub use selector::Selector;

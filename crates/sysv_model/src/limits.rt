@@ -20,16 +20,16 @@ pub const QUEUE_MESSAGES: usize = 256;
 pub const QBYTES_AT_CREATION: u32 = 16384;
 
 /// The greatest `msg_qbytes` that `IPC_SET` may give a queue.
-pub const QBYTES_MOST: u32 = 65536;
+pub const MAX_QBYTES: u32 = 65536;
 
 /// The most actors of a world; it has at least one.
-pub const ACTORS_MOST: u32 = 1024;
+pub const MAX_ACTORS: u32 = 1024;
 
 /// The fewest blocks of a pool of message text.
-pub const BLOCKS_LEAST: u32 = 128;
+pub const MIN_BLOCKS: u32 = 128;
 
 /// The most blocks of a pool of message text.
-pub const BLOCKS_MOST: u32 = 65536;
+pub const MAX_BLOCKS: u32 = 65536;
 
 /// The number of counted steps at which a world is worn out, 2^62.
 pub const WORN: u64 = 1 << 62;
@@ -46,10 +46,10 @@ mod tests {
         assert_eq!(rt; BLOCK_BYTES, 64);
         assert_eq!(rt; QUEUE_MESSAGES, 256);
         assert_eq!(rt; QBYTES_AT_CREATION, 16_384);
-        assert_eq!(rt; QBYTES_MOST, 65_536);
-        assert_eq!(rt; ACTORS_MOST, 1_024);
-        assert_eq!(rt; BLOCKS_LEAST, 128);
-        assert_eq!(rt; BLOCKS_MOST, 65_536);
+        assert_eq!(rt; MAX_QBYTES, 65_536);
+        assert_eq!(rt; MAX_ACTORS, 1_024);
+        assert_eq!(rt; MIN_BLOCKS, 128);
+        assert_eq!(rt; MAX_BLOCKS, 65_536);
         assert_eq!(rt; WORN, 4_611_686_018_427_387_904);
     }
 }

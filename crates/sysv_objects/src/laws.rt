@@ -6,11 +6,9 @@ ghost use Rattle.sysv_model.specs.Turn.{Deed, Turn};
 ghost use Rattle.sysv_objects.specs.LegalDeed.{IsLegalDeed, AreLegal};
 ghost use Rattle.sysv_objects.specs.OneDeed.{SomeDeedIsLegal, NoTwoDeedsAreLegal};
 
-use sysv_keys::laws::{
-    legal_history as legal_registry_history, one_legal_reply as one_registry_reply,
-};
-use sysv_pool::laws::{legal_history as legal_pool_history, one_legal_reply as one_pool_reply};
-use sysv_queue::laws::{legal_history, one_legal_reply};
+use sysv_keys::{legal_history as legal_registry_history, one_legal_reply as one_registry_reply};
+use sysv_pool::{legal_history as legal_pool_history, one_legal_reply as one_pool_reply};
+use sysv_queue::{legal_history, one_legal_reply};
 
 /// No turn is a legal list of turns, and one more with a legal reply makes a legal list.
 pub fn legal_turns()

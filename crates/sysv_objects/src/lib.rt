@@ -3,5 +3,8 @@
 //! and for which lists of turns the objects stand.
 #![tactic(auto)]
 
-pub mod laws;
-pub mod objects;
+mod laws;
+mod objects;
+
+pub use laws::{legal_turns, one_legal_deed};
+pub use objects::{Objects, ObjectsRefused};

@@ -15,25 +15,16 @@ ghost use Rattle.sysv_keys.specs.declared.identifier.TheConstants.{SLOTS, GENERA
 ghost use Rattle.sysv_keys.specs.Identifier.{slot_of_id};
 ghost use Rattle.sysv_keys.specs.Rows.{IsUnused};
 ghost use Rattle.sysv_keys.specs.Replies.{begun_reply, ChangesOnlyIfMade};
-ghost use Rattle.sysv_model.specs.declared.limits.TheConstants.{MESSAGE_BYTES as most_bytes, BLOCKS_LEAST as least_blocks, BLOCKS_MOST as most_blocks};
+ghost use Rattle.sysv_model.specs.declared.limits.TheConstants.{MESSAGE_BYTES as most_bytes, MIN_BLOCKS as least_blocks, MAX_BLOCKS as most_blocks};
 ghost use Rattle.sysv_objects.specs.Objects.{CountsUpTo, blocks_in};
 ghost use Rattle.sysv_objects.specs.StandsFor.{StandsFor, MakesTurn, AreVacant};
 
 use std::alloc::Global;
 use std::marker::Model;
-use sysv_keys::identifier::{GENERATION_LAST, SLOTS, slot_of_id};
-use sysv_keys::registry::{Begun, Registry};
-use sysv_model::attributes::{SetTo, Stat};
-use sysv_model::cred::Cred;
-use sysv_model::errno::Errno;
-use sysv_model::flags::Flags;
-use sysv_model::limits::{BLOCKS_LEAST, BLOCKS_MOST};
-use sysv_model::selector::Selector;
-use sysv_pool::chain::Chain;
-use sysv_pool::pool::Pool;
-use sysv_queue::discarded::Discarded;
-use sysv_queue::slot::{Look, PlaceRefused, Probe, QueueSlot, TakeRefused};
-use sysv_queue::taken::Taken;
+use sysv_keys::{Begun, GENERATION_LAST, Registry, SLOTS, slot_of_id};
+use sysv_model::{Cred, Errno, Flags, MAX_BLOCKS, MIN_BLOCKS, Selector, SetTo, Stat};
+use sysv_pool::{Chain, Pool};
+use sysv_queue::{Discarded, Look, PlaceRefused, Probe, QueueSlot, TakeRefused, Taken};
 
 /// Why objects are not opened.
 #[derive(Clone, Copy, PartialEq, Eq, Debug)]
@@ -81,7 +72,7 @@ impl Objects {
         if generation > GENERATION_LAST {
             return Err(ObjectsRefused::BadStart);
         }
-        if blocks < BLOCKS_LEAST || blocks > BLOCKS_MOST {
+        if blocks < MIN_BLOCKS || blocks > MAX_BLOCKS {
             return Err(ObjectsRefused::BadSize);
         }
         let Ok(registry) = Registry::open_at(alloc, generation) else {

@@ -2,7 +2,7 @@
 use Rattle.std.proofs.Common.{◌≡◌, ℕ, [], ◌∷◌, ◌++◌, inl, inr, refl, sym, subst, ap, ◌∙◌, append_assoc}
 use Rattle.sysv_model.specs.Pool.{PoolEntry, PoolHistory}
 use Rattle.sysv_pool.specs.LegalReply.{IsLegalReply, IsLegalHistory}
-use Rattle.sysv_pool.proofs.Snoc.{at_end}
+use Rattle.sysv_model.proofs.Snoc.{at_end}
 
 no_entry : (before after : PoolHistory) (e : PoolEntry) → [] ≡ before ++ e ∷ after → ⊥
 no_entry [] after e h = cc

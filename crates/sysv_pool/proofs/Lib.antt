@@ -1,4 +1,3 @@
-pub mod Snoc
 pub mod Legality
 pub mod Sums
 pub mod Turns

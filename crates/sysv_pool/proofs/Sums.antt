@@ -4,7 +4,7 @@ use Rattle.std.proofs.lemmas.List.Sums.{sum_by_push}
 use Rattle.sysv_model.specs.Pool.{PoolCall, Reserve, Release, PoolReply, Reserved, TooFew, Released, Foreign, PoolEntry, PoolHistory, released, frees}
 use Rattle.sysv_pool.specs.State.{reserved, returned, reserved_by, returned_by}
 use Rattle.sysv_pool.specs.LegalReply.{Legal, IsLegalHistory}
-use Rattle.sysv_pool.proofs.Snoc.{from_end}
+use Rattle.sysv_model.proofs.Snoc.{from_end}
 use Rattle.sysv_pool.proofs.Legality.{legal_front, legal_last}
 
 pub reserved-more : (h : PoolHistory) (e : PoolEntry) → reserved (h ++ e ∷ []) ≡ reserved h + reserved_by e.reply

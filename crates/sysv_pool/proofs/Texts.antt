@@ -1,7 +1,7 @@
 -- Texts that lie in blocks of 64 bytes.
 use Rattle.std.proofs.Common.{◌≡◌, ℕ, zero, suc, ◌+◌, ◌-◌, ◌*◌, ◌/◌, ◌%◌, ◌≤◌, ◌<◌, ◌⊎◌, inl, inr, min, List, ◌++◌, length, take, drop, sym, ap, ◌∙◌, arith, length-take, length-drop}
 use Rattle.std.proofs.Math.Seq.{take-append-add}
-use Rattle.std.proofs.lemmas.List.{take_all, take-append-le, take-append-drop, drop-drop, append-nil}
+use Rattle.std.proofs.lemmas.List.{take_all, take-append-le, take-append-drop, drop-drop}
 use Rattle.sysv_model.specs.Blocks.{block_of}
 
 at_most : (a b : ℕ) → (a ≤ b) ⊎ (b < a)
@@ -30,18 +30,4 @@ one_more text body rest k full written behind = elim (at_most ((k + 1) * 64) (le
       let rest_of_it : block_of k body ≡ drop (k * 64) body = take_all 64 (drop (k * 64) body) (omega (arith, length-drop (k * 64) body)) in
       let all : length (block_of k body) ≡ length body - k * 64 = omega (arith, length-block_of k body) in
       take-append-le (length body - k * 64) text rest (omega arith) ∙ (ap (λ n. take n text) (sym all) ∙ (written ∙ rest_of_it))
-]
-
--- the first bytes of blocks are those of the first block and then those of the rest
-pub first_and_rest : (text rest : List ℕ) (n : ℕ) → length text ≡ 64 → take n (text ++ rest) ≡ take (min n 64) text ++ take (n - min n 64) rest
-first_and_rest text rest n full = elim (at_most n 64) [
-  | inl few ↦
-      let m : min n 64 ≡ n = omega arith in
-      let none : n - min n 64 ≡ 0 = omega arith in
-      take-append-le n text rest (omega arith) ∙ (ap (λ k. take k text) (sym m) ∙ (sym (append-nil (take (min n 64) text)) ∙ ap (λ k. take (min n 64) text ++ take k rest) (sym none)))
-  | inr many ↦
-      let m : min n 64 ≡ 64 = omega arith in
-      let more : n ≡ length text + (n - min n 64) = omega arith in
-      let all : take (min n 64) text ≡ text = take_all (min n 64) text (omega arith) in
-      ap (λ k. take k (text ++ rest)) more ∙ (take-append-add text rest _ ∙ ap (λ t. t ++ take (n - min n 64) rest) (sym all))
 ]

@@ -1,4 +1,4 @@
-ghost use Rattle.std.specs.Prelude.{◌≡◌, ◌≢◌, ℕ, List, [], ◌∷◌, ◌++◌, ◌+◌, ◌≤◌, IsTrue, ◌↔◌, length, take, drop, IfOk};
+ghost use Rattle.std.specs.Prelude.{◌≡◌, ◌≢◌, ℕ, List, [], ◌∷◌, ◌++◌, ◌+◌, ◌-◌, ◌*◌, ◌≤◌, IsTrue, ◌↔◌, length, take, drop, IfOk};
 ghost use Rattle.std.specs.List.{concat};
 ghost use Rattle.sysv_model.specs.declared.limits.TheConstants.{BLOCK_BYTES as block_bytes, BODY_ROOM as body_room};
 ghost use Rattle.sysv_model.specs.Pool.{blocks_for};
@@ -7,11 +7,9 @@ ghost use Rattle.sysv_pool.specs.Blocks.{contents_of};
 use std::alloc::Global;
 use std::marker::Model;
 use std::mem;
-use sysv_model::body::Body;
-use sysv_model::limits::BLOCK_BYTES;
-use sysv_model::no_memory::NoMemory;
+use sysv_model::{BLOCK_BYTES, Body, NoMemory};
 
-/// A block of 64 bytes, and those linked behind it. Its drop goes down from block to block, so no
+/// A block of 64 bytes, and those linked after it. Its drop goes down from block to block, so no
 /// more than one is ever dropped at a time: see `free_all`.
 #[derive(Drop)]
 pub(crate) struct Block {
@@ -73,23 +71,17 @@ pub(crate) fn free_all(mut link: Link) {
     }
 }
 
-/// Moves that many blocks, one by one, in front of another list.
-pub(crate) fn shift(from: &mut Link, onto: &mut Link, blocks: u32)
-    requires { blocks ≤ length (contents_of from.old) }
-    ensures from { length (contents_of from.new) + blocks ≡ length (contents_of from.old) }
-    ensures onto { length (contents_of onto.new) ≡ blocks + length (contents_of onto.old) }
+/// Keeps the first so many blocks, at most 128, and gives those after them.
+pub(crate) fn cut(link: &mut Link, blocks: u32) -> Link
+    requires { blocks ≤ length (contents_of link.old) }
+    ensures kept { length (contents_of link.new) ≡ blocks }
+    ensures rest { blocks + length (contents_of result) ≡ length (contents_of link.old) }
 {
-    let mut rest = from.take();
-    let mut front = onto.take();
-    for _ in 0..blocks {
-        let Some(mut block) = rest else {
-            unreachable!()
-        };
-        rest = mem::replace(&mut block.next, front);
-        front = Some(block);
+    if blocks == 0 {
+        return link.take();
     }
-    *from = rest;
-    *onto = front;
+    let Some(block) = link else { unreachable!() };
+    cut(&mut block.next, blocks - 1)
 }
 
 /// Moves all blocks, one by one, in front of another list.
@@ -105,34 +97,29 @@ pub(crate) fn shift_all(from: Link, onto: Link) -> Link
     front
 }
 
-/// Writes a piece at the front of the first block.
+/// Writes a piece at the start of the first block: a whole block in one assignment, whose length is known.
 fn write(block: &mut Block, piece: &[u8])
     requires { length piece.now ≤ block_bytes }
-    ensures { (text : List ℕ) × (block.new ≡ text ∷ drop 1 block.old) × (length text ≡ block_bytes) × (take (length piece.now) text ≡ piece.now) }
+    ensures blocks { length block.new ≡ length block.old }
+    ensures text { (text : List ℕ) × (block.new ≡ text ∷ drop 1 block.old) × (length text ≡ block_bytes) × (take (length piece.now) text ≡ piece.now) }
 {
-    block.bytes[..piece.len()].copy_from_slice(piece);
+    match piece.as_array::<BLOCK_BYTES>() {
+        Some(whole) => block.bytes = *whole,
+        None => block.bytes[..piece.len()].copy_from_slice(piece),
+    }
 }
 
-/// The blocks with the text in them, the last block first filled.
-pub(crate) fn filled(link: Link, blocks: u32, body: &Body) -> Link
-    requires all { length (contents_of link) ≡ blocks }
-    requires room { blocks ≡ blocks_for (length body.now) }
-    ensures blocks { length (contents_of result) ≡ blocks }
-    ensures text { take (length body.now) (concat (contents_of result)) ≡ body.now }
+/// Puts the text, from its block `k` on, into the blocks, and goes down them: at most 129.
+pub(crate) fn fill_from(link: &mut Link, k: u32, body: &Body)
+    requires all { k + length (contents_of link.old) ≡ blocks_for (length body.now) }
+    requires room { length body.now ≤ body_room }
+    ensures blocks { length (contents_of link.new) ≡ length (contents_of link.old) }
+    ensures text { take (length body.now - k * block_bytes) (concat (contents_of link.new)) ≡ drop (k * block_bytes) body.now }
 {
-    let mut rest = link;
-    let mut front = None;
-    let mut left = blocks;
-    while left > 0 {
-        left -= 1;
-        let Some(mut block) = rest else {
-            unreachable!()
-        };
-        write(&mut block, body.block(left));
-        rest = mem::replace(&mut block.next, front);
-        front = Some(block);
+    if let Some(block) = link {
+        write(block, body.block(k));
+        fill_from(&mut block.next, k + 1, body);
     }
-    front
 }
 
 /// Adds the first `n` bytes of the blocks to the text.
@@ -145,12 +132,12 @@ pub(crate) fn copy_front(link: &Link, n: usize, out: &mut Body)
     let mut link = link;
     while let Some(block) = link {
         let block: &Block = block;
-        if left == 0 {
+        if left < BLOCK_BYTES {
+            out.push_piece(&block.bytes[..left]);
             return;
         }
-        let piece = left.min(BLOCK_BYTES);
-        out.push_piece(&block.bytes[..piece]);
-        left -= piece;
+        out.push_piece(&block.bytes);
+        left -= BLOCK_BYTES;
         link = &block.next;
     }
 }

@@ -3,9 +3,9 @@ ghost use Rattle.sysv_model.specs.declared.limits.TheConstants.{BODY_ROOM as bod
 ghost use Rattle.sysv_model.specs.Pool.{blocks_for};
 ghost use Rattle.sysv_pool.specs.Chain.{counted};
 
-use crate::blocks::{Link, copy_front, filled, free_all, shift_all};
+use crate::blocks::{Link, copy_front, fill_from, free_all, shift_all};
 use std::marker::Model;
-use sysv_model::body::Body;
+use sysv_model::Body;
 
 /// Blocks of a pool, linked one to the next, and the text that lies in them. A chain can be neither dropped
 /// nor copied: it is given back by `Pool::release`, joined to another, or ended.
@@ -55,8 +55,7 @@ impl Chain {
         ensures { self.new ≡ record { blocks = self.old.blocks; bytes = body.now } }
     {
         let len = body.len();
-        let link = self.link.take();
-        self.link = filled(link, self.count, body);
+        fill_from(&mut self.link, 0, body);
         self.len = len;
     }
 

@@ -3,6 +3,10 @@
 #![tactic(auto)]
 
 mod blocks;
-pub mod chain;
-pub mod laws;
-pub mod pool;
+mod chain;
+mod laws;
+mod pool;
+
+pub use chain::Chain;
+pub use laws::{legal_history, one_legal_reply, pool_law};
+pub use pool::{Pool, PoolRefused};

@@ -1,14 +1,15 @@
 ghost use Rattle.std.specs.Prelude.{◌≡◌, ◌+◌, ◌-◌, ◌^◌, ◌<◌, ◌≤◌, ◌⊎◌, ◌↔◌, [], IfOk, IfSome, Err, MatchOption, MatchResult};
-ghost use Rattle.sysv_model.specs.declared.limits.TheConstants.{MESSAGE_BYTES as most_bytes, BLOCKS_LEAST as least_blocks, BLOCKS_MOST as most_blocks};
+ghost use Rattle.sysv_model.specs.declared.limits.TheConstants.{MESSAGE_BYTES as most_bytes, MIN_BLOCKS as least_blocks, MAX_BLOCKS as most_blocks};
 ghost use Rattle.sysv_model.specs.Pool.{blocks_for, Reserve, Release};
 ghost use Rattle.sysv_pool.specs.StandsFor.{StandsFor, MakesTurn};
 ghost use Rattle.sysv_pool.specs.Replies.{reserve_reply, release_reply};
 
-use crate::blocks::{Link, free_all, linked, shift, shift_all};
+use crate::blocks::{Link, cut, free_all, linked, shift_all};
 use crate::chain::Chain;
 use std::alloc::Global;
 use std::marker::Model;
-use sysv_model::limits::{BLOCK_BYTES, BLOCKS_LEAST, BLOCKS_MOST};
+use std::mem;
+use sysv_model::{BLOCK_BYTES, MAX_BLOCKS, MIN_BLOCKS};
 use thiserror::Error;
 
 /// Why a pool is not opened.
@@ -33,7 +34,7 @@ pub struct Pool {
 
 impl Model for Pool {
     ghost use Rattle.std.specs.Prelude.{◌≡◌, ◌≤◌, length};
-    ghost use Rattle.sysv_model.specs.declared.limits.TheConstants.{BLOCKS_MOST as most_blocks};
+    ghost use Rattle.sysv_model.specs.declared.limits.TheConstants.{MAX_BLOCKS as most_blocks};
     ghost use Rattle.sysv_pool.specs.State.{State};
     ghost use Rattle.sysv_pool.specs.Blocks.{contents_of};
 
@@ -51,7 +52,7 @@ impl Pool {
         ensures opened { IfOk result (λ pool. (pool.size ≡ blocks) × StandsFor [] pool) }
         ensures bad_size { (result ≡ Err PoolRefused.BadSize) ↔ ((blocks < least_blocks) ⊎ (most_blocks < blocks)) }
     {
-        if blocks < BLOCKS_LEAST || blocks > BLOCKS_MOST {
+        if blocks < MIN_BLOCKS || blocks > MAX_BLOCKS {
             return Err(PoolRefused::BadSize);
         }
         let link = linked(alloc, blocks).map_err(|_| PoolRefused::NoMemory)?;
@@ -75,8 +76,8 @@ impl Pool {
         if count > self.count {
             return None;
         }
-        let mut link = None;
-        shift(&mut self.link, &mut link, count);
+        let rest = cut(&mut self.link, count);
+        let link = mem::replace(&mut self.link, rest);
         self.count -= count;
         Some(Chain {
             link,

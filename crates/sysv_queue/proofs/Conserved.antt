@@ -13,7 +13,7 @@ use Rattle.sysv_model.specs.Live.{live, HasId}
 use Rattle.sysv_model.specs.Waiting.{accepted, delivered, discarded, waiting, held}
 use Rattle.sysv_queue.specs.Slot.{slot_of}
 use Rattle.sysv_queue.specs.LegalReply.{IsLegalReply, IsLegalHistory}
-use Rattle.sysv_queue.proofs.Snoc.{from_end}
+use Rattle.sysv_model.proofs.Snoc.{from_end}
 use Rattle.sysv_queue.proofs.Legality.{legal_front, legal_last}
 use Rattle.sysv_queue.proofs.Turns.{Kind, Quiet, Makes, Accepts, Takes, Changes, Discards, IsStill, accepted-still, delivered-still, discarded-still, waiting-still, still_install, still_set, kind_of}
 use Rattle.sysv_queue.proofs.Ids.{decided}

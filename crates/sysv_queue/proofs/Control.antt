@@ -5,7 +5,7 @@ use Rattle.sysv_model.specs.declared.errno.Errno.{Errno}
 use Rattle.sysv_model.specs.declared.errno.Errno.TheVariants.{EPERM, EINVAL}
 use Rattle.sysv_model.specs.declared.attributes.Attributes.{Attributes}
 use Rattle.sysv_model.specs.declared.attributes.SetTo.{SetTo}
-use Rattle.sysv_model.specs.declared.limits.TheConstants.{QBYTES_MOST}
+use Rattle.sysv_model.specs.declared.limits.TheConstants.{MAX_QBYTES}
 use Rattle.sysv_model.specs.History.{Set, Remove, Done, Discarded, Refused}
 use Rattle.sysv_model.specs.Live.{HasId, changed_to}
 use Rattle.sysv_queue.specs.Slot.{Slot}
@@ -36,19 +36,19 @@ module _ (s : Slot) (id : ℤ) (cred : Cred) (to : SetTo) (now : ℕ) where
   pub set_barred : (why : Errno) → BarsControl id cred s.live why → MakesTurn s (Set id cred to now) (Refused why) s
   set_barred why bars = turn_quiet s _ _ (quiet_set_refused id cred to now why) (legal_set_barred s id cred to why bars)
 
-  pub set_above_most : HasId s.live id → MayControl cred s.live → QBYTES_MOST < to.qbytes → MakesTurn s (Set id cred to now) (Refused EINVAL) s
+  pub set_above_most : HasId s.live id → MayControl cred s.live → MAX_QBYTES < to.qbytes → MakesTurn s (Set id cred to now) (Refused EINVAL) s
   set_above_most lives may above = turn_quiet s _ _ (quiet_set_refused id cred to now EINVAL) (inr (lives, may, λ within. omega arith))
 
   -- a raise by another than user 0
   never_limits : (queue : Attributes) (live : Option Attributes) → live ≡ Some queue → queue.qbytes < to.qbytes → ¬ (cred.uid ≡ 0) → ¬ MayLimit cred to live
   never_limits queue live is raise other = subst (λ l. ¬ MayLimit cred to l) (sym is) (λ limit. elim limit [ inl no_raise ↦ omega arith | inr zero_user ↦ other zero_user ])
 
-  pub set_raise : (queue : Attributes) → s.live ≡ Some queue → HasId s.live id → MayControl cred s.live → to.qbytes ≤ QBYTES_MOST → queue.qbytes < to.qbytes → ¬ (cred.uid ≡ 0) →
+  pub set_raise : (queue : Attributes) → s.live ≡ Some queue → HasId s.live id → MayControl cred s.live → to.qbytes ≤ MAX_QBYTES → queue.qbytes < to.qbytes → ¬ (cred.uid ≡ 0) →
       MakesTurn s (Set id cred to now) (Refused EPERM) s
   set_raise queue is lives may within raise other =
       turn_quiet s _ _ (quiet_set_refused id cred to now EPERM) (inr (lives, may, within, never_limits queue s.live is raise other))
 
-  pub set_changes : (queue : Attributes) → s.live ≡ Some queue → HasId s.live id → MayControl cred s.live → to.qbytes ≤ QBYTES_MOST → (to.qbytes ≤ queue.qbytes) ⊎ (cred.uid ≡ 0) →
+  pub set_changes : (queue : Attributes) → s.live ≡ Some queue → HasId s.live id → MayControl cred s.live → to.qbytes ≤ MAX_QBYTES → (to.qbytes ≤ queue.qbytes) ⊎ (cred.uid ≡ 0) →
       MakesTurn s (Set id cred to now) Done (slot (Some (changed_to to now queue)) s.messages (s.arrived + 1) (s.freed + 1))
   set_changes queue is lives may within limit =
       subst (λ l. MakesTurn s (Set id cred to now) Done (slot l s.messages (s.arrived + 1) (s.freed + 1))) (ap (option_map (changed_to to now)) is)

@@ -12,7 +12,7 @@ use Rattle.sysv_model.specs.Live.{live, HasId, IsLive, sent_to, received_from, c
 use Rattle.sysv_model.specs.Waiting.{accepted, delivered, discarded, waiting, held, has_number}
 use Rattle.sysv_queue.specs.Slot.{slot_of}
 use Rattle.sysv_queue.specs.LegalReply.{IsLegalReply, IsLegalHistory}
-use Rattle.sysv_queue.proofs.Snoc.{from_end}
+use Rattle.sysv_model.proofs.Snoc.{from_end}
 use Rattle.sysv_queue.proofs.Legality.{legal_front, legal_last}
 use Rattle.sysv_queue.proofs.Filters.{Rises, AreBelow, weaker, pushed, filtered, rises_push, rises_filter, below_append, waiting_from, is_new, waiting-accepted, waiting_less, waiting_swapped, none_left, filter-remove}
 use Rattle.sysv_queue.proofs.Turns.{Kind, Quiet, Makes, Accepts, Takes, Changes, Discards, IsStill, accepted-more, delivered-more, discarded-more, live-more, arrived-more, arrived_grows, accepted-still, delivered-still, discarded-still, waiting-still, still_install, still_set, kind_of}

@@ -16,7 +16,7 @@ use Rattle.sysv_queue.specs.LegalReply.{Legal, IsLegalHistory}
 use Rattle.sysv_queue.specs.OneReply.{NoTwoRepliesAreLegal}
 use Rattle.sysv_queue.specs.QueueLaw.{removes, installs}
 use Rattle.sysv_queue.specs.ForGood.{NamesId, not_live_reply, IsWithinMost, ToldNotLive, FoundLive, FoundNotLive, LivesTillRemoved, IsInstalledOnce, IsGoneSince, RemovedForGood}
-use Rattle.sysv_queue.proofs.Snoc.{from_end}
+use Rattle.sysv_model.proofs.Snoc.{from_end}
 use Rattle.sysv_queue.proofs.Legality.{legal_last, legal_start}
 use Rattle.sysv_queue.proofs.Turns.{live-more}
 use Rattle.sysv_queue.proofs.Ids.{same_id, one_id, keeps_id, is_live}

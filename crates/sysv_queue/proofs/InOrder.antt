@@ -16,7 +16,7 @@ use Rattle.sysv_queue.specs.Slot.{slot_of}
 use Rattle.sysv_queue.specs.Named.{IsNamed, types_of}
 use Rattle.sysv_queue.specs.LegalReply.{IsLegalReply, IsLegalHistory}
 use Rattle.sysv_queue.specs.QueueLaw.{StandsBefore, LeavesInOrder, removes}
-use Rattle.sysv_queue.proofs.Snoc.{from_front}
+use Rattle.sysv_model.proofs.Snoc.{from_front}
 use Rattle.sysv_queue.proofs.Legality.{legal_front, legal_last, legal_start}
 use Rattle.sysv_queue.proofs.Filters.{Rises, below_of}
 use Rattle.sysv_queue.proofs.Turns.{Kind, Quiet, Makes, Accepts, Takes, Changes, Discards, IsStill, delivered-more, discarded-more, accepted-still, delivered-still, discarded-still, waiting-still, still_install, still_set, kind_of}

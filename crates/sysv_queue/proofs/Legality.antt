@@ -2,7 +2,7 @@
 use Rattle.std.proofs.Common.{◌≡◌, [], ◌∷◌, ◌++◌, inl, inr, refl, sym, subst, ap, ◌∙◌, append_assoc}
 use Rattle.sysv_model.specs.History.{Entry, History}
 use Rattle.sysv_queue.specs.LegalReply.{IsLegalReply, IsLegalHistory}
-use Rattle.sysv_queue.proofs.Snoc.{at_end}
+use Rattle.sysv_model.proofs.Snoc.{at_end}
 
 no_entry : (before after : History) (e : Entry) → [] ≡ before ++ e ∷ after → ⊥
 no_entry [] after e h = cc

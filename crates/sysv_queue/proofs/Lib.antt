@@ -1,4 +1,3 @@
-pub mod Snoc
 pub mod Filters
 pub mod Legality
 pub mod Turns

@@ -7,7 +7,7 @@ use Rattle.sysv_model.specs.declared.errno.Errno.TheVariants.{EPERM, EACCES, EIN
 use Rattle.sysv_model.specs.declared.flags.Flags.{Flags}
 use Rattle.sysv_model.specs.declared.attributes.Attributes.{Attributes}
 use Rattle.sysv_model.specs.declared.attributes.SetTo.{SetTo}
-use Rattle.sysv_model.specs.declared.limits.TheConstants.{QBYTES_MOST}
+use Rattle.sysv_model.specs.declared.limits.TheConstants.{MAX_QBYTES}
 use Rattle.sysv_model.specs.Message.{Message}
 use Rattle.sysv_model.specs.declared.selector.Selector.{Selector}
 use Rattle.sysv_model.specs.History.{Call, Install, Probe, Look, Place, Take, ReadStat, Set, Remove, ReadRow, Reply, Installed, Gone, Denied, Granted, Full, Fits, Accepted, NoMatch, TooLong, Taken, Told, Done, Discarded, Refused, Shown}
@@ -80,7 +80,7 @@ limits cred to (Some a) = elim (at_most to.qbytes a.qbytes) [
 some_set : (s : Slot) (id : ℤ) (cred : Cred) (to : SetTo) → (reply : Reply) × LegalSet s id cred to reply
 some_set s id cred to = elim (is_live s.live id) [
   | inl lives ↦ elim (controls cred s.live) [
-    | inl may ↦ elim (at_most to.qbytes QBYTES_MOST) [
+    | inl may ↦ elim (at_most to.qbytes MAX_QBYTES) [
       | inl within ↦ elim (limits cred to s.live) [
         | inl limit ↦ (Done, (lives, may, within, limit))
         | inr raise ↦ (Refused EPERM, inr (lives, may, within, raise))

@@ -9,7 +9,7 @@ use Rattle.sysv_model.specs.History.{Who, Call, Install, Place, Set, Reply, Inst
 use Rattle.sysv_model.specs.Waiting.{accepted}
 use Rattle.sysv_queue.specs.Slot.{slot_of}
 use Rattle.sysv_queue.specs.LegalReply.{IsLegalReply, IsLegalHistory}
-use Rattle.sysv_queue.proofs.Snoc.{from_end}
+use Rattle.sysv_model.proofs.Snoc.{from_end}
 use Rattle.sysv_queue.proofs.Legality.{legal_front, legal_last}
 use Rattle.sysv_queue.proofs.Filters.{below_of}
 use Rattle.sysv_queue.proofs.Turns.{Kind, Quiet, Makes, Accepts, Takes, Changes, Discards, accepted-more, accepted-still, still_install, still_set, kind_of}

@@ -19,7 +19,7 @@ use Rattle.sysv_queue.specs.Granted.{IsGranted}
 use Rattle.sysv_queue.specs.Named.{IsNamed, types_of}
 use Rattle.sysv_queue.specs.LegalReply.{LegalLook, LegalTake, IsLegalReply, IsLegalHistory}
 use Rattle.sysv_queue.specs.StaysRight.{NoMatchStays, FullStays, FullStaysForLook, CountsNeverFall}
-use Rattle.sysv_queue.proofs.Snoc.{from_front}
+use Rattle.sysv_model.proofs.Snoc.{from_front}
 use Rattle.sysv_queue.proofs.Legality.{legal_front, legal_last}
 use Rattle.sysv_queue.proofs.Turns.{Kind, Quiet, Makes, Accepts, Takes, Changes, Discards, arrived-more, freed-more, arrived_grows, freed_grows, kind_of}
 use Rattle.sysv_queue.proofs.Ids.{keeps_id}

@@ -5,7 +5,7 @@
 -- nothing more, and each call that names it is told so.
 use Rattle.std.specs.Prelude.{◌≡◌, ◌≤◌, ℤ, true, false, [], ◌∷◌, ◌++◌, All, ⊤}
 use Rattle.sysv_model.specs.declared.errno.Errno.TheVariants.{EINVAL}
-use Rattle.sysv_model.specs.declared.limits.TheConstants.{QBYTES_MOST}
+use Rattle.sysv_model.specs.declared.limits.TheConstants.{MAX_QBYTES}
 use Rattle.sysv_model.specs.History.{Call, Probe, Look, Place, Take, ReadStat, Set, Remove, Reply, Gone, Refused, Entry, History}
 use Rattle.sysv_model.specs.Live.{IsLive}
 use Rattle.sysv_model.specs.Waiting.{accepted, delivered, waiting}
@@ -32,7 +32,7 @@ not_live_reply call = Gone
 
 -- a set of a limit above the greatest is refused by the same name
 abbrev pub IsWithinMost : Call → Type 0
-IsWithinMost (Set id cred to now) = to.qbytes ≤ QBYTES_MOST
+IsWithinMost (Set id cred to now) = to.qbytes ≤ MAX_QBYTES
 IsWithinMost call = ⊤
 
 -- a call whose identifier is not live is told so

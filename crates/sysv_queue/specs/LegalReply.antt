@@ -7,7 +7,7 @@ use Rattle.sysv_model.specs.declared.cred.Cred.{Cred}
 use Rattle.sysv_model.specs.declared.errno.Errno.TheVariants.{EPERM, EACCES, EINVAL}
 use Rattle.sysv_model.specs.declared.flags.Flags.{Flags}
 use Rattle.sysv_model.specs.declared.attributes.SetTo.{SetTo}
-use Rattle.sysv_model.specs.declared.limits.TheConstants.{QBYTES_MOST}
+use Rattle.sysv_model.specs.declared.limits.TheConstants.{MAX_QBYTES}
 use Rattle.sysv_model.specs.Message.{Message}
 use Rattle.sysv_model.specs.declared.selector.Selector.{Selector}
 use Rattle.sysv_model.specs.History.{Call, Install, Probe, Look, Place, Take, ReadStat, Set, Remove, ReadRow, Reply, Installed, Gone, Denied, Granted, Full, Fits, Accepted, NoMatch, TooLong, Taken, Told, Done, Discarded, Refused, Shown, Entry, History}
@@ -82,10 +82,10 @@ LegalStat s id cred reply = ⊥
 -- for a limit above the greatest, EPERM for one above the present limit from another than user 0, else
 -- done
 abbrev pub LegalSet : Slot → ℤ → Cred → SetTo → Reply → Type 0
-LegalSet s id cred to (Refused EINVAL) = ¬ HasId s.live id ⊎ (HasId s.live id × MayControl cred s.live × ¬ (to.qbytes ≤ QBYTES_MOST))
+LegalSet s id cred to (Refused EINVAL) = ¬ HasId s.live id ⊎ (HasId s.live id × MayControl cred s.live × ¬ (to.qbytes ≤ MAX_QBYTES))
 LegalSet s id cred to (Refused EPERM) =
-    (HasId s.live id × ¬ MayControl cred s.live) ⊎ (HasId s.live id × MayControl cred s.live × (to.qbytes ≤ QBYTES_MOST) × ¬ MayLimit cred to s.live)
-LegalSet s id cred to Done = HasId s.live id × MayControl cred s.live × (to.qbytes ≤ QBYTES_MOST) × MayLimit cred to s.live
+    (HasId s.live id × ¬ MayControl cred s.live) ⊎ (HasId s.live id × MayControl cred s.live × (to.qbytes ≤ MAX_QBYTES) × ¬ MayLimit cred to s.live)
+LegalSet s id cred to Done = HasId s.live id × MayControl cred s.live × (to.qbytes ≤ MAX_QBYTES) × MayLimit cred to s.live
 LegalSet s id cred to reply = ⊥
 
 -- remove: EINVAL where the identifier is not live, EPERM for a caller who may not remove the queue, else

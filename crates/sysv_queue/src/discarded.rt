@@ -1,7 +1,7 @@
 ghost use Rattle.std.specs.Prelude.{◌≡◌, []};
 
 use std::marker::Model;
-use sysv_pool::chain::Chain;
+use sysv_pool::Chain;
 
 /// The blocks of what a removal discarded (POSIX.1-2017, `msgctl`, IPC_RMID). It is seen as their number,
 /// and can be neither dropped nor copied: it is spent by `into_chain`.

@@ -10,7 +10,7 @@ ghost use Rattle.sysv_queue.specs.ForGood.{ToldNotLive, FoundLive, FoundNotLive,
 ghost use Rattle.sysv_queue.specs.StaysRight.{NoMatchStays, FullStays, FullStaysForLook, CountsNeverFall};
 ghost use Rattle.sysv_queue.specs.WorkedRemoval.{WorkedRemoval, OtherReplies, NoWrongReply};
 
-use sysv_rules::laws::{granted_or_not, named_or_none, one_named};
+use sysv_rules::{granted_or_not, named_or_none, one_named};
 
 /// After each history each call has one legal reply, and no two.
 pub fn one_legal_reply()

@@ -4,10 +4,20 @@
 //! `specs/` has the legal reply to each call and the law that every history of legal replies obeys.
 #![tactic(auto)]
 
-pub mod delivery;
-pub mod discarded;
-pub mod laws;
-pub mod slot;
-pub mod taken;
-pub mod tally;
+mod delivery;
+mod discarded;
+mod laws;
+mod slot;
+mod taken;
+mod tally;
 mod waiting;
+
+pub use delivery::Delivery;
+pub use discarded::Discarded;
+pub use laws::{
+    blocks_kept, legal_history, one_legal_reply, queue_law, removed_for_good, stays_right,
+    worked_removal,
+};
+pub use slot::{Look, PlaceRefused, Probe, QueueSlot, TakeRefused, Unplaced};
+pub use taken::Taken;
+pub use tally::Tally;

@@ -20,15 +20,12 @@ use crate::waiting::Waiting;
 use bitflags::Flags as _;
 use std::alloc::Global;
 use std::marker::Model;
-use sysv_model::attributes::{Attributes, Perm, Row, SetTo, Stat};
-use sysv_model::cred::Cred;
-use sysv_model::errno::Errno;
-use sysv_model::flags::Flags;
-use sysv_model::limits::{QBYTES_AT_CREATION, QBYTES_MOST, QUEUE_MESSAGES};
-use sysv_model::no_memory::NoMemory;
-use sysv_pool::chain::Chain;
-use sysv_rules::permission::{Want, may, may_control};
-use sysv_rules::selector::{Selector, select_plain};
+use sysv_model::{
+    Attributes, Cred, Errno, Flags, MAX_QBYTES, NoMemory, Perm, QBYTES_AT_CREATION, QUEUE_MESSAGES,
+    Row, SetTo, Stat,
+};
+use sysv_pool::Chain;
+use sysv_rules::{Selector, Want, may, may_control, select_plain};
 use thiserror::Error;
 
 /// What `probe` finds.
@@ -232,7 +229,7 @@ impl QueueSlot {
         ensures refused { OnErr result (self.new ≡ self.old) }
     {
         let queue = self.control(id, cred)?;
-        if to.qbytes > QBYTES_MOST {
+        if to.qbytes > MAX_QBYTES {
             return Err(Errno::EINVAL);
         }
         if to.qbytes > queue.qbytes && cred.uid != 0 {

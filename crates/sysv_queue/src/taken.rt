@@ -6,8 +6,8 @@ ghost use Rattle.sysv_queue.specs.Delivery.{Gives};
 use crate::delivery::Delivery;
 use crate::waiting::Waiting;
 use std::marker::Model;
-use sysv_model::body::Body;
-use sysv_pool::chain::Chain;
+use sysv_model::Body;
+use sysv_pool::Chain;
 
 /// A message that was taken from its queue, with the chain that holds its text (POSIX.1-2017, `msgrcv`).
 /// It is seen as the message, and can be neither dropped nor copied: it is spent by `finish`.

@@ -3,7 +3,7 @@ ghost use Rattle.sysv_model.specs.declared.limits.TheConstants.{MESSAGE_BYTES as
 ghost use Rattle.sysv_queue.specs.Blocks.{chain_of};
 
 use std::marker::Model;
-use sysv_pool::chain::Chain;
+use sysv_pool::Chain;
 
 /// A message that waits, with the chain that holds its text.
 pub(crate) struct Waiting {

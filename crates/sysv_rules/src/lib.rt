@@ -3,8 +3,13 @@
 //! definitions.
 #![tactic(auto)]
 
-pub mod laws;
-pub mod permission;
-pub mod selector;
+mod laws;
+mod permission;
+mod selector;
 #[cfg(test)]
 mod tests;
+
+pub use laws::{granted_or_not, named_or_none, one_named};
+pub use permission::{Want, may, may_control};
+pub use selector::{qualifies, select_plain};
+pub use sysv_model::Selector;

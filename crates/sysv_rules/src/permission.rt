@@ -1,8 +1,7 @@
 ghost use Rattle.std.specs.Prelude.{◌↔◌, IsTrue};
 ghost use Rattle.sysv_rules.specs.Permission.{IsPermitted, MayControl};
 
-use sysv_model::attributes::Perm;
-use sysv_model::cred::Cred;
+use sysv_model::{Cred, Perm};
 
 /// What a call wants to do with a queue.
 #[derive(Clone, Copy, PartialEq, Eq, Debug)]

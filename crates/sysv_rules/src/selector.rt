@@ -2,7 +2,7 @@ ghost use Rattle.std.specs.Prelude.{◌≡◌, ◌↔◌, ℕ, [], IsTrue, IsNon
 ghost use Rattle.sysv_rules.specs.Qualifies.{Qualifies, NoneQualifies};
 ghost use Rattle.sysv_rules.specs.Named.{IsNamed, IsFirst, IsLeast};
 
-pub use sysv_model::selector::Selector;
+use sysv_model::Selector;
 
 /// Whether a message of type `mtype`, which may be any, is one that `sel` asks for (POSIX.1-2017,
 /// `msgrcv`, DESCRIPTION). Types and bounds are compared as whole numbers, so a bound admits every

@@ -34,7 +34,7 @@ at_most (suc a) (suc b) = elim (at_most a b) [ inl h ↦ inl (omega arith) | inr
 
 -- ---- the first line of a text
 
--- the text begins with a line, and less is left behind it
+-- the text begins with a line, and less is left after it
 record FirstLine (text : List ℕ) : Type 0 where
   line : List ℕ
   rest : List ℕ
@@ -77,7 +77,7 @@ goes_first s n text first few does more =
     (does.out ++ more.0, more.1, Goes s n text first.line first.rest does.out does.after more.0 more.1 few first.begins does.does more.2)
 
 module _ (split : OneSplit) (decided : EachLineIsDecided) (some : SomeStep) (preset : SomePreset) (opens : OpensSound) where
-  -- what is left behind has the credentials as they were, and a sound world
+  -- what is left after has the credentials as they were, and a sound world
   abbrev IsKept : Scene → Scene → Type 0
   IsKept s after = (after.creds ≡ s.creds) × IsSound after.world
 

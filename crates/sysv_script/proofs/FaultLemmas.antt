@@ -50,7 +50,7 @@ grows_end (Err y) a b c composed grown all part = Grows-trans a b c grown (Grows
 Ok-once : {T D : Type 0} (y x : T) → ◌≡◌ {A = Result T D} (Ok y) (Ok x) → y ≡ x
 Ok-once y x e = cc
 
--- what a call promised of its `Ok` holds of it behind `map_err` too
+-- what a call promised of its `Ok` holds of it after `map_err` too
 pub IfOk-mapped : {T E D : Type 0} (P : T → Type 0) (Q : E → Type 0) (r : Result T E) (mapped : Result T D) (x : T) →
     IfOk r P → MatchResult r (λ y. mapped ≡ Ok y) Q → is_ok mapped ≡ is_ok r → mapped ≡ Ok x → P x
 IfOk-mapped {D = D} P Q (Ok y) mapped x p same variant is = let inner : y ≡ x = Ok-once {D = D} y x (sym same ∙ is) in subst P inner p

@@ -122,7 +122,7 @@ module _ (split : OneSplit) (saying : OneSaying) where
   end_agrees s n text other end e (inr (inr (inl k))) = absurd (omega (arith, bad_filled s text k.1, ap length e))
   end_agrees s n text other end e (inr (inr (inr k))) = absurd (omega (arith, begins_filled text k.line k.rest k.begins, ap length e))
 
-  -- behind the millionth line
+  -- after the millionth line
   over_agrees : (s : Scene) (n : ℕ) (text other : List ℕ) (end : Ending) → 1000000 < n → 0 < length text → Opens s n text other end → ([] ≡ other) × (TooMany ≡ end)
   over_agrees s n text other end many some (inl k) = absurd (omega (arith, some, ap length k.0))
   over_agrees s n text other end many some (inr (inl k)) = (sym k.2, sym k.3)

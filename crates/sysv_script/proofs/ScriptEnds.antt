@@ -16,7 +16,7 @@ use Rattle.sysv_words.specs.OneSplit.{OneSplit}
 use Rattle.sysv_script.specs.OneText.{OneText}
 use Rattle.sysv_script.specs.EachText.{EachTextPrints}
 use Rattle.sysv_script.specs.ScriptSofar.{Halt, AtEnd, Before, Runs, IsText, RunsOn, RunsNext, LeavesAll, LeavesFront, LeavesAtFault, Leaves}
-use Rattle.sysv_streams.specs.declared.next_line.Found.{Found}
+use Rattle.sysv_streams.specs.declared.lines.Found.{Found}
 use Rattle.sysv_streams.specs.declared.fault.ScriptFault.{ScriptFault}
 use Rattle.sysv_streams.specs.declared.fault.ScriptFault.TheVariants.{Line, Read, Write, NoMemory, Bound}
 use Rattle.sysv_script.proofs.Scripting.{fails_at, stops_front}
@@ -76,7 +76,7 @@ RunsNext-end more s text old n now waiting left new composed e next = subst (λ 
 abbrev WritesSome : List ℕ → Option (List ℕ) → Option (List ℕ) → Type 0
 WritesSome text old new = (halt : Halt) × (out : List ℕ) × Runs opening_scene 1 text out halt × AppendsPart old new out
 
--- ---- what is composed at the end is handed out
+-- ---- what is composed at the end is written
 
 -- the whole run of a script, from the stage and the input that were opened
 pub script_runs : (r : Result ⊤ ScriptFault) (stage : Stage) (input text : List ℕ) (left old new : Option (List ℕ)) (composed : List ℕ) → IsSceneOf opening_scene stage → input ≡ [] → left ≡ Some text →
@@ -93,7 +93,7 @@ front_out text old mid new composed left all =
     let handed = left.2 in
     (Before, left.0, left.1, (handed.2.0, subst (Appends old new) handed.2.1 (Appends-trans old mid new handed.0 composed handed.1 all)))
 
--- ---- what is composed at the end is handed out in part
+-- ---- what is composed at the end is written in part
 
 take_of_take : (m n : ℕ) (text : List ℕ) → IsFrontOf (take m (take n text)) text
 take_of_take zero n text = (0, refl)
@@ -156,7 +156,7 @@ module _ (one : OneText) (each : EachTextPrints) where
   writes_out (Ok done) text old mid new composed left all = all_out Whole text old mid new composed left all
   writes_out (Err fault) text old mid new composed left all = fault_out fault text old mid new composed left all
 
-  -- what is composed at the end is handed out, or a front of it
+  -- what is composed at the end is written, or a prefix of it
   pub writes_end : (handed ended : Result ⊤ ScriptFault) (text : List ℕ) (old mid new : Option (List ℕ)) (composed : List ℕ) →
       OnOk handed (Appends mid new composed) → OnErr handed (AppendsPart mid new composed) → IfErr handed (λ y. y ≡ Write) →
       Leaves ended opening_scene text old mid composed → WritesScript (result_and handed ended) text old new

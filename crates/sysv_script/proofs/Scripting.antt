@@ -18,7 +18,7 @@ use Rattle.sysv_streams.specs.Found.{HasNoEnd, IsFirstLine, IsLastLine, IsNextLi
 use Rattle.sysv_streams.specs.Faults.{IsFrontOf, bad_line_text}
 use Rattle.sysv_script.specs.ScriptText.{BeginsWith, LineDoes, IsBad, Whole, BadLine, TooMany, Prints, Ends, Exceeds, Fails, Goes}
 use Rattle.sysv_script.specs.ScriptSofar.{PrintsSofar, Here, Past, Halt, AtEnd, Before, Runs, IsText, RunsOn, LeavesAll, LeavesFront}
-use Rattle.sysv_streams.specs.declared.next_line.Found.{Found}
+use Rattle.sysv_streams.specs.declared.lines.Found.{Found}
 
 pub begins_text : (s : Scene) (now : Stage) (text waiting : List ℕ) (left old : Option (List ℕ)) (composed : List ℕ) → composed ≡ [] → IsSceneOf s now → IsText waiting left text →
     RunsOn s text old 1 now waiting left old composed

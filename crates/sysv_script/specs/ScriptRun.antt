@@ -27,7 +27,7 @@ use Rattle.sysv_lines.specs.declared.head.Head.TheVariants as head
 use Rattle.sysv_lines.specs.Heads.{head_text}
 use Rattle.sysv_lines.specs.Names.{operation_at, operation_of_wait, standing_text}
 use Rattle.sysv_lines.specs.declared.actor.TheConstants.{SCRIPT_ACTORS}
-use Rattle.sysv_script.specs.declared.stage.TheConstants.{SCRIPT_BLOCKS, STEPS_MOST}
+use Rattle.sysv_script.specs.declared.stage.TheConstants.{SCRIPT_BLOCKS, MAX_STEPS}
 
 -- what a script runs on: the world, the credentials of each actor, that of actor A at place A - 1, the
 -- moment of each step, and whether every line so far was one that is skipped
@@ -107,7 +107,7 @@ StartsAs s actor call given after = (cred : Cred) × (cred_at s.creds actor ≡ 
 
 -- a call that goes on after its start makes its steps, and one that is only started makes none
 abbrev pub most_steps : Bool → ℕ
-most_steps true = STEPS_MOST
+most_steps true = MAX_STEPS
 most_steps false = 0
 
 -- the call from its start to what it gave in the end
@@ -149,7 +149,7 @@ StepsRun n s actor (Some operation) out after = (given : Stepped) × GoesOn n s 
 -- of these actors each whose call is under way goes on, in their order
 abbrev pub OneRuns : Scene → ℕ → Option Operation → List ℕ → Scene → Type 0
 OneRuns s actor None out after = (out ≡ []) × (after ≡ s)
-OneRuns s actor (Some operation) out after = StepsRun STEPS_MOST s actor (Some operation) out after
+OneRuns s actor (Some operation) out after = StepsRun MAX_STEPS s actor (Some operation) out after
 
 abbrev pub AllRun : List ℕ → Scene → List ℕ → Scene → Type 0
 AllRun [] s out after = (out ≡ []) × (after ≡ s)
@@ -174,7 +174,7 @@ LineActs s (GivesCred actor cred) understood out after = (understood ≡ true) �
 LineActs s (GivesMoment moment) understood out after = (understood ≡ true) × (out ≡ []) × (after ≡ record s { moment = moment })
 LineActs s (Starts actor asked goes) understood out after = (understood ≡ true) × StartRuns s actor asked goes (under_way (actor_at s.world.actors actor)) out after
 LineActs s (StepsOnce actor) understood out after = (understood ≡ true) × StepsRun 1 s actor (under_way (actor_at s.world.actors actor)) out after
-LineActs s (Continues actor) understood out after = (understood ≡ true) × StepsRun STEPS_MOST s actor (under_way (actor_at s.world.actors actor)) out after
+LineActs s (Continues actor) understood out after = (understood ≡ true) × StepsRun MAX_STEPS s actor (under_way (actor_at s.world.actors actor)) out after
 LineActs s AllContinue understood out after = (understood ≡ true) × AllRun (range_with_len 1 SCRIPT_ACTORS) s out after
 
 -- what a line does and prints

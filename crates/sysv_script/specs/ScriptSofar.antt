@@ -66,7 +66,7 @@ abbrev pub Leaves : Result ⊤ ScriptFault → Scene → List ℕ → Option (Li
 Leaves (Ok done) s text old new composed = LeavesAll s text Whole old new composed
 Leaves (Err fault) s text old new composed = LeavesAtFault fault s text old new composed
 
--- One more line leaves the run before the line behind it, or at its end.
+-- One more line leaves the run before the line after it, or at its end.
 abbrev pub RunsNext : Result Bool ScriptFault → Scene → List ℕ → Option (List ℕ) → ℕ → Stage → List ℕ → Option (List ℕ) → Option (List ℕ) → List ℕ → Type 0
 RunsNext (Ok true) s text old n now waiting left new composed = RunsOn s text old (n + 1) now waiting left new composed
 RunsNext (Ok false) s text old n now waiting left new composed = LeavesAll s text Whole old new composed

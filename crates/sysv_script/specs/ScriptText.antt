@@ -19,7 +19,7 @@ pub data Ending : Type 0 where
   BadLine : (number : ℕ) → Ending
   TooMany : Ending
 
--- the first line of a text, which ends with LF or is all of the text, and what stands behind it
+-- the first line of a text, which ends with LF or is all of the text, and what stands after it
 abbrev pub BeginsWith : List ℕ → List ℕ → List ℕ → Type 0
 BeginsWith text line rest = SplitsAt 10 text line rest ⊎ (HasNoEnd text × (0 < length text) × (line ≡ text) × (rest ≡ []))
 

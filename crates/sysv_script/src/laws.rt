@@ -3,9 +3,9 @@
 ghost use Rattle.sysv_script.specs.EachText.{EachTextPrints};
 ghost use Rattle.sysv_script.specs.OneText.{OneText};
 
-use sysv_core::laws::{each_world_is_sound, one_step, some_step};
-use sysv_lines::laws::{each_line_is_decided, one_saying};
-use sysv_words::laws::one_split;
+use sysv_core::{each_world_is_sound, one_step, some_step};
+use sysv_lines::{each_line_is_decided, one_saying};
+use sysv_words::one_split;
 
 /// From a scene, which is a world and its actors' credentials, a text prints one thing only and ends in
 /// one way, and what it has printed before a line is a prefix of that.

@@ -2,6 +2,10 @@
 //! line. `specs/` has the meaning of a text.
 #![tactic(auto)]
 
-pub mod laws;
-pub mod script;
+mod laws;
+mod script;
 mod stage;
+
+pub use laws::{each_text_prints, one_text};
+pub use script::run_script;
+pub use sysv_streams::{SCRIPT_LINES, ScriptFault};

@@ -14,14 +14,10 @@ use crate::laws::{each_text_prints, one_text};
 use crate::stage::Stage;
 use std::alloc::Global;
 use std::io::{Read, Write};
-use sysv_lines::head::Head;
-use sysv_lines::line::{LINE_BYTES, line_of};
-use sysv_model::no_memory::NoMemory;
-pub use sysv_streams::fault::{SCRIPT_LINES, ScriptFault};
-use sysv_streams::input::Input;
-use sysv_streams::next_line::{Found, next_line, read_on};
-use sysv_streams::output::Output;
-use sysv_words::laws::one_split;
+use sysv_lines::{Head, LINE_BYTES, line_of};
+use sysv_model::NoMemory;
+use sysv_streams::{Found, Input, Output, SCRIPT_LINES, ScriptFault, next_line, read_on};
+use sysv_words::one_split;
 
 /// Runs the script that `reader` gives on a world of 16 actors, and writes to `writer` a line for
 /// each call that it starts. The answers to what was read are written before more is read.

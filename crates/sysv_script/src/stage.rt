@@ -11,24 +11,16 @@ ghost use Rattle.sysv_script.specs.Staged.{IsSceneOf};
 
 use std::alloc::Global;
 use std::mem;
-use sysv_core::event::{Answer, Call, Event, Outcome, Standing, Stepped};
-use sysv_core::world::World;
-use sysv_lines::actor::SCRIPT_ACTORS;
-use sysv_lines::head::Head;
-use sysv_lines::line::Line;
-use sysv_lines::names::Operation;
-use sysv_lines::request::{Request, Text};
-use sysv_lines::told::Told;
-use sysv_model::body::Body;
-use sysv_model::cred::Cred;
-use sysv_model::no_memory::NoMemory;
-use sysv_streams::output::Output;
+use sysv_core::{Answer, Call, Event, Outcome, Standing, Stepped, World};
+use sysv_lines::{Head, Line, Operation, Request, SCRIPT_ACTORS, Text, Told};
+use sysv_model::{Body, Cred, NoMemory};
+use sysv_streams::Output;
 
 /// The blocks of a script's world.
 const SCRIPT_BLOCKS: u32 = 1024;
 
 /// The most steps that a call of a script makes before the next line.
-const STEPS_MOST: u32 = 16;
+const MAX_STEPS: u32 = 16;
 
 /// The world of a script, its actors' credentials, the moment of each step, and a body for the next
 /// receive.
@@ -132,7 +124,7 @@ impl Stage {
                 goes,
             } => self.start(alloc, actor, request, goes, output)?,
             Line::Step { actor } => self.take_on(actor, 1, output)?,
-            Line::Go { actor } => self.take_on(actor, STEPS_MOST, output)?,
+            Line::Go { actor } => self.take_on(actor, MAX_STEPS, output)?,
             Line::All => self.take_all_on(output)?,
         }
         Ok(true)
@@ -199,7 +191,7 @@ impl Stage {
         ensures err { OnErr result (output.new ≡ []) }
     {
         match self.under_way(actor) {
-            Some(operation) => self.go_on(actor, operation, STEPS_MOST, output),
+            Some(operation) => self.go_on(actor, operation, MAX_STEPS, output),
             None => Ok(()),
         }
     }
@@ -427,7 +419,7 @@ fn first_cred(actor: u32) -> Cred
 fn most_steps(goes: bool) -> u32
     ensures { result ≡ steps_at_start goes }
 {
-    if goes { STEPS_MOST } else { 0 }
+    if goes { MAX_STEPS } else { 0 }
 }
 
 fn operation_of(request: Request<'_>) -> Operation

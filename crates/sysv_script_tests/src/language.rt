@@ -1,7 +1,7 @@
 //! What each line of a script does, and which lines are bad.
 use std::alloc::Global;
 use std::test::Fail;
-use sysv_script::script::{ScriptFault, run_script};
+use sysv_script::{ScriptFault, run_script};
 
 /// What a script writes, and how it ends.
 #[derive(Drop)]

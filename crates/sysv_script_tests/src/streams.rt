@@ -2,7 +2,7 @@
 use crate::ends::{Asker, Counter, Endless, Page, Pieces};
 use std::cell::Cell;
 use std::test::Fail;
-use sysv_script::script::{ScriptFault, run_script};
+use sysv_script::{ScriptFault, run_script};
 
 const SCRIPT: &[u8] = b"preset
 1 rcv 0 100 0 NOWAIT

@@ -5,7 +5,7 @@ use denote.Ref.{NamedLft, ShrRef}
 use denote.Struct.Field.{row_field, shr_ref_field}
 use denote.Param.Send.{IsSend, IsSync, shr_send}
 use denote.Param.SendFields.{declared_send, as_row_send}
-use Rattle.sysv_kernel.proofs.Crossing.{crossing, pass_send, service_sync}
+use Rattle.sysv_service.proofs.Crossing.{crossing, pass_send, service_sync}
 use Rattle.sysv_kernel.specs.contracts.kernel.ServiceKernel as kernel
 use Rattle.sysv_server.proofs.session.Zero.TheSendSync.{the_sync as zero_sync}
 use Rattle.sysv_server.proofs.sums.Sums.TheSendSync as sum

@@ -9,9 +9,8 @@ use crate::session::Worker;
 use crate::sums::Sums;
 use std::alloc::Global;
 use std::sync::Wait;
-use sysv_gated::sharing::NoMemory;
-use sysv_service::pass::Pass;
-use sysv_service::service::Service;
+use sysv_gated::NoMemory;
+use sysv_service::{Pass, Service};
 
 /// Adds so many workers, each with a pass that is split off from this one.
 pub(crate) fn hire<'a, R: Wait>(

@@ -1,6 +1,6 @@
 //! The server.
 ghost use Rattle.std.specs.Prelude.{◌≡◌, ◌≢◌, ◌≤◌, IfOk, IfErr};
-ghost use Rattle.sysv_model.specs.declared.limits.TheConstants.{BLOCKS_LEAST, BLOCKS_MOST};
+ghost use Rattle.sysv_model.specs.declared.limits.TheConstants.{MIN_BLOCKS, MAX_BLOCKS};
 ghost use Rattle.sysv_gated.specs.Seats.{AreOf};
 ghost use Rattle.sysv_server.specs.Added.{IsBalanced};
 ghost use Rattle.sysv_server.specs.Serving.{FaultOf, LeavesConnections, ServesAll, ServesOn, WorkedAll};
@@ -14,8 +14,7 @@ use std::alloc::Global;
 use std::os::unix::net::{UnixListener, UnixStream};
 use std::sync::Wait;
 use std::thread::Threads;
-use sysv_service::pass::Pass;
-use sysv_service::service::Service;
+use sysv_service::{Pass, Service};
 use sysv_workers::{Source, WorkersFault, WorkersRefused, run_workers};
 
 /// Serves the connections of the listener on a new service, each as one session, and answers what the sessions add up to.
@@ -37,7 +36,7 @@ pub fn serve_on<R: Threads + Wait + Sync>(
     workers: u32,
     sessions: u64,
 ) -> Result<Sums, ServeFault>
-    requires blocks { (BLOCKS_LEAST ≤ blocks) × (blocks ≤ BLOCKS_MOST) }
+    requires blocks { (MIN_BLOCKS ≤ blocks) × (blocks ≤ MAX_BLOCKS) }
     requires workers { (1 ≤ workers) × (workers ≤ 16) }
     ensures ok { IfOk result (λ sums. ServesOn blocks workers sessions sums) }
     ensures balance { IfOk result IsBalanced }
@@ -54,7 +53,7 @@ pub fn serve_connections<S: Source<UnixStream>, R: Threads + Wait + Sync>(
     blocks: u32,
     workers: u32,
 ) -> Result<Sums, ServeFault>
-    requires blocks { (BLOCKS_LEAST ≤ blocks) × (blocks ≤ BLOCKS_MOST) }
+    requires blocks { (MIN_BLOCKS ≤ blocks) × (blocks ≤ MAX_BLOCKS) }
     requires workers { (1 ≤ workers) × (workers ≤ 16) }
     ensures ok { IfOk result (λ sums. ServesAll S.gives blocks workers source.old sums source.new) }
     ensures balance { IfOk result IsBalanced }

@@ -10,12 +10,10 @@ use std::alloc::Global;
 use std::io::{BufReader, BufWriter};
 use std::os::unix::net::UnixStream;
 use std::sync::Wait;
-use sysv_kernel::kernel::ServiceKernel;
-use sysv_queue::tally::Tally;
-use sysv_service::clock::Clock;
-use sysv_service::pass::Pass;
-use sysv_service::service::Service;
-use sysv_session::served::Served;
+use sysv_kernel::ServiceKernel;
+use sysv_queue::Tally;
+use sysv_service::{Clock, Pass, Service};
+use sysv_session::Served;
 use sysv_workers::Job;
 
 /// A clock that stands at 0.

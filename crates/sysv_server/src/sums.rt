@@ -2,7 +2,7 @@
 ghost use Rattle.std.specs.Prelude.{◌≡◌};
 ghost use Rattle.sysv_server.specs.Added.{added, one_session, nothing};
 
-use sysv_queue::tally::Tally;
+use sysv_queue::Tally;
 
 /// What sessions add up to. Each number stays at 2^64 - 1 once it has reached it.
 #[derive(Clone, Copy, PartialEq, Eq, Debug)]

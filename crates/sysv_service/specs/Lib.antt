@@ -8,3 +8,5 @@ pub mod Waited
 pub mod Told
 pub mod Stopped
 pub mod Closing
+pub mod OwnTurns
+pub mod Retried

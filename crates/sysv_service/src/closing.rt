@@ -8,12 +8,8 @@ ghost use Rattle.sysv_service.specs.Closing.{IsCounted, waiting_in, is_held, all
 use crate::pass::Pass;
 use crate::service::Service;
 use sysv_gate::Closing;
-use sysv_gated::opening::GatesClosed;
-use sysv_gated::pool::GatedPool;
-use sysv_gated::registry::GatedRegistry;
-use sysv_gated::slot::GatedSlot;
-use sysv_pool::chain::Chain;
-use sysv_pool::pool::Pool;
+use sysv_gated::{GatedPool, GatedRegistry, GatedSlot, GatesClosed};
+use sysv_pool::{Chain, Pool};
 
 /// A pool takes a chain back below this released count, which no run of a service reaches.
 const RELEASES: u64 = 1 << 63;

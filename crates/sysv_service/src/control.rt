@@ -15,17 +15,14 @@ use crate::pass::Pass;
 use crate::service::Service;
 use crate::waiting::{overflow, zero_of};
 use std::sync::Wait as MayWait;
-use sysv_gated::gates::Worn;
-use sysv_keys::identifier::SLOTS;
-use sysv_model::attributes::{Row, SetTo, Stat};
-use sysv_model::cred::Cred;
-use sysv_model::errno::Errno;
-use sysv_pool::chain::Chain;
-use sysv_steps::control::{
-    begin_remove, begin_set, begin_stat, forgotten, given_back, removed, set_done, stat_told,
+use sysv_gated::Worn;
+use sysv_keys::SLOTS;
+use sysv_model::{Cred, Errno, Row, SetTo, Stat};
+use sysv_pool::Chain;
+use sysv_steps::{
+    Ending, Phase, State, begin_remove, begin_set, begin_stat, forgotten, given_back, removed,
+    set_done, stat_told,
 };
-use sysv_steps::ending::Ending;
-use sysv_steps::state::{Phase, State};
 
 impl Service {
     /// Tells the attributes of the queue of this identifier, and what waits on it (POSIX.1-2017, `msgctl`, IPC_STAT).

@@ -16,13 +16,9 @@ use crate::service::Service;
 use crate::waiting::overflow;
 use bitflags::Flags as _;
 use std::sync::Wait as MayWait;
-use sysv_gated::gates::Worn;
-use sysv_model::cred::Cred;
-use sysv_model::errno::Errno;
-use sysv_model::flags::Flags;
-use sysv_steps::ending::Ending;
-use sysv_steps::get::Getting;
-use sysv_steps::state::{Phase, State};
+use sysv_gated::Worn;
+use sysv_model::{Cred, Errno, Flags};
+use sysv_steps::{Ending, Getting, Phase, State};
 
 impl Service {
     /// Answers the identifier of the queue of this key, or makes one (POSIX.1-2017, `msgget`).

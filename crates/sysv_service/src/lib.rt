@@ -2,15 +2,22 @@
 //! plays the steps of the table on the gates of the objects, and waits for its turns and for the counts.
 #![tactic(auto)]
 
-pub mod clock;
-pub mod closing;
+mod clock;
+mod closing;
 mod control;
 mod get;
-pub mod pass;
+mod laws;
+mod pass;
 mod receive;
 mod send;
-pub mod service;
+mod service;
 mod stopping;
 #[cfg(test)]
 mod tests;
 mod waiting;
+
+pub use clock::Clock;
+pub use closing::Closed;
+pub use laws::{each_plays_its_own, each_retry_is_at_its_goal};
+pub use pass::Pass;
+pub use service::Service;

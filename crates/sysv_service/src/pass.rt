@@ -3,8 +3,8 @@
 ghost use Rattle.std.specs.Prelude.{◌≡◌};
 
 use std::marker::Model;
-use sysv_gated::seats::Seats;
-use sysv_pool::chain::Chain;
+use sysv_gated::Seats;
+use sysv_pool::Chain;
 
 /// The right to call a service: a seat at each object. It is used only with the service that gave it, and may go to another
 /// thread. It can be neither dropped nor copied: it ends by `Service::join_pass` or

@@ -16,15 +16,10 @@ use crate::pass::Pass;
 use crate::service::Service;
 use crate::waiting::overflow;
 use std::sync::Wait as MayWait;
-use sysv_gated::gates::Worn;
-use sysv_model::body::Body;
-use sysv_model::cred::Cred;
-use sysv_model::errno::Errno;
-use sysv_model::flags::Flags;
-use sysv_queue::delivery::Delivery;
-use sysv_steps::ending::Ending;
-use sysv_steps::receive::Receiving;
-use sysv_steps::state::{Phase, State};
+use sysv_gated::Worn;
+use sysv_model::{Body, Cred, Errno, Flags};
+use sysv_queue::Delivery;
+use sysv_steps::{Ending, Phase, Receiving, State};
 
 impl Service {
     /// Takes the message that the type and the flags name from the queue of this identifier (POSIX.1-2017, `msgrcv`), and

@@ -18,17 +18,11 @@ use crate::pass::Pass;
 use crate::service::Service;
 use crate::waiting::{overflow, zero_of};
 use std::sync::Wait as MayWait;
-use sysv_gated::gates::Worn;
-use sysv_gated::letter::Letter;
-use sysv_model::body::Body;
-use sysv_model::cred::Cred;
-use sysv_model::errno::Errno;
-use sysv_model::flags::Flags;
-use sysv_pool::chain::Chain;
-use sysv_queue::slot::PlaceRefused;
-use sysv_steps::afterwards::Afterwards;
-use sysv_steps::send::Sending;
-use sysv_steps::state::{Phase, State};
+use sysv_gated::{Letter, Worn};
+use sysv_model::{Body, Cred, Errno, Flags};
+use sysv_pool::Chain;
+use sysv_queue::PlaceRefused;
+use sysv_steps::{Afterwards, Phase, Sending, State};
 
 impl Service {
     /// Sends the text as a message of type `mtype`, from 1, to the queue of this identifier (POSIX.1-2017, `msgsnd`).

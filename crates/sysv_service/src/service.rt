@@ -1,7 +1,7 @@
 //! The service.
 
 ghost use Rattle.std.specs.Prelude.{◌≡◌, ◌<◌, ◌+◌, ◌⊎◌, ◌↔◌, ◌^◌, IfOk, OnErr, Err};
-ghost use Rattle.sysv_model.specs.declared.limits.TheConstants.{BLOCKS_LEAST as least_blocks, BLOCKS_MOST as most_blocks};
+ghost use Rattle.sysv_model.specs.declared.limits.TheConstants.{MIN_BLOCKS as least_blocks, MAX_BLOCKS as most_blocks};
 ghost use Rattle.sysv_keys.specs.declared.identifier.TheConstants.{GENERATION_LAST};
 ghost use Rattle.sysv_gated.specs.Seats.{AreOf};
 ghost use Rattle.sysv_gated.specs.Opened.{AreOpen, all_opened};
@@ -10,10 +10,8 @@ ghost use Rattle.sysv_gated.specs.Sharing.{AreSplit, AreJoined};
 use crate::pass::Pass;
 use std::alloc::Global;
 use std::marker::Model;
-use sysv_gated::gates::Gates;
-use sysv_gated::opening::GatesRefused;
-use sysv_gated::sharing::NoMemory;
-use sysv_pool::chain::Chain;
+use sysv_gated::{Gates, GatesRefused, NoMemory};
+use sysv_pool::Chain;
 
 /// The queues of a system: 64 slots, the registry of their keys and the pool of blocks, which threads share by reference.
 /// Each thread calls it with a pass of its own. It can't be dropped: it ends by `close`.

@@ -8,9 +8,8 @@ ghost use Rattle.sysv_service.specs.Stopped.{Stops, StopsAt, TellsStop, count_of
 use crate::pass::Pass;
 use crate::service::Service;
 use std::sync::Wait as MayWait;
-use sysv_keys::identifier::SLOTS;
-use sysv_model::cred::Cred;
-use sysv_model::errno::Errno;
+use sysv_keys::SLOTS;
+use sysv_model::{Cred, Errno};
 
 /// Who may remove every queue.
 const SUPERUSER: Cred = Cred {

@@ -11,13 +11,9 @@ use bitflags::Flags as _;
 use std::alloc::Global;
 use std::process::Abort;
 use std::sync::Wait;
-use sysv_gated::opening::GatesRefused;
-use sysv_model::attributes::SetTo;
-use sysv_model::body::Body;
-use sysv_model::cred::Cred;
-use sysv_model::errno::Errno;
-use sysv_model::flags::Flags;
-use sysv_queue::tally::Tally;
+use sysv_gated::GatesRefused;
+use sysv_model::{Body, Cred, Errno, Flags, SetTo};
+use sysv_queue::Tally;
 
 const USER: Cred = Cred {
     uid: 1000,

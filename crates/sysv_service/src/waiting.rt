@@ -15,11 +15,9 @@ use crate::service::Service;
 use std::mem;
 use std::sync::Wait as MayWait;
 use sysv_gate::Awaited;
-use sysv_model::errno::Errno;
-use sysv_pool::chain::Chain;
-use sysv_steps::ending::Ending;
-use sysv_steps::state::State;
-use sysv_steps::wait::Wait;
+use sysv_model::Errno;
+use sysv_pool::Chain;
+use sysv_steps::{Ending, State, Wait};
 
 /// The end of a call whose turn was due at a gate that is worn out.
 pub(crate) fn overflow() -> State

@@ -6,12 +6,9 @@ use crate::room::{USER, body_of, creating, waiting};
 use std::alloc::Global;
 use std::process::Abort;
 use std::sync::Wait;
-use sysv_model::attributes::SetTo;
-use sysv_model::cred::Cred;
-use sysv_model::errno::Errno;
-use sysv_queue::tally::Tally;
-use sysv_service::pass::Pass;
-use sysv_service::service::Service;
+use sysv_model::{Cred, Errno, SetTo};
+use sysv_queue::Tally;
+use sysv_service::{Pass, Service};
 
 /// A call of the service by `USER`. A send or a receive waits.
 #[derive(Clone, Copy)]

@@ -3,7 +3,7 @@ use std::sync::Wait;
 use std::sync::atomic::AtomicU64;
 use std::sync::atomic::Ordering::SeqCst;
 use std::thread;
-use sysv_service::clock::Clock;
+use sysv_service::Clock;
 
 /// A thread is held for at most so many looks.
 pub(crate) const LOOKS: u32 = 10_000_000;

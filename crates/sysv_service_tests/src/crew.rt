@@ -13,9 +13,7 @@ use std::process::Abort;
 use std::sync::Wait;
 use std::thread::{Threads, for_each_mut};
 use std::time::Clock;
-use sysv_service::closing::Closed;
-use sysv_service::pass::Pass;
-use sysv_service::service::Service;
+use sysv_service::{Closed, Pass, Service};
 
 /// What is left of a service.
 #[derive(Drop)]

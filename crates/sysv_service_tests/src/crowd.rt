@@ -9,10 +9,9 @@ use crate::room::{USER, body_of, closed, waiting};
 use std::alloc::Global;
 use std::process::Abort;
 use std::sync::Wait;
-use sysv_model::attributes::SetTo;
-use sysv_queue::tally::Tally;
-use sysv_service::pass::Pass;
-use sysv_service::service::Service;
+use sysv_model::SetTo;
+use sysv_queue::Tally;
+use sysv_service::{Pass, Service};
 
 /// Each sender sends, and each receiver receives, so many messages.
 const TIMES: u8 = 200;

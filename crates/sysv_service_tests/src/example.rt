@@ -2,8 +2,8 @@
 
 use crate::board::Moment;
 use crate::room::{USER, body_of, closed, creating, opened};
-use sysv_model::flags::Flags;
-use sysv_queue::tally::Tally;
+use sysv_model::Flags;
+use sysv_queue::Tally;
 
 #[test]
 fn a_message_goes_through_a_service(rt: HostRuntime) {

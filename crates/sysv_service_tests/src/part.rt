@@ -10,8 +10,7 @@ use std::process::Abort;
 use std::sync::Wait;
 use std::thread;
 use std::time::{Clock, Duration};
-use sysv_service::pass::Pass;
-use sysv_service::service::Service;
+use sysv_service::{Pass, Service};
 
 /// What one thread does with its pass.
 #[derive(Drop)]

@@ -4,12 +4,8 @@ ghost use Rattle.sysv_gated.specs.Seats.{AreOf};
 use bitflags::Flags as _;
 use std::alloc::Global;
 use std::process::Abort;
-use sysv_model::body::Body;
-use sysv_model::cred::Cred;
-use sysv_model::flags::Flags;
-use sysv_service::closing::Closed;
-use sysv_service::pass::Pass;
-use sysv_service::service::Service;
+use sysv_model::{Body, Cred, Flags};
+use sysv_service::{Closed, Pass, Service};
 
 pub(crate) const USER: Cred = Cred {
     uid: 1000,
@@ -53,7 +49,7 @@ pub(crate) fn closed(waiting: u64, free: u32) -> Closed {
     }
 }
 
-/// A body of this one byte, so often.
+/// A body of this one byte, so many times.
 pub(crate) fn body_of(rt: &impl Abort, alloc: Global, byte: u8, times: usize) -> Body {
     let mut body = Body::open(alloc).expect(rt, "memory");
     for _ in 0..times {

@@ -5,7 +5,7 @@ use crate::board::Board;
 use crate::crew::run;
 use crate::part::{Part, Turn, add, told_of};
 use crate::room::closed;
-use sysv_model::errno::Errno;
+use sysv_model::Errno;
 
 #[test]
 fn a_stop_wakes_all_who_wait(rt: HostRuntime) {

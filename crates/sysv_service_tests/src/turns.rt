@@ -10,11 +10,9 @@ use bitflags::Flags as _;
 use std::alloc::Global;
 use std::process::Abort;
 use std::sync::Wait;
-use sysv_model::body::Body;
-use sysv_model::flags::Flags;
-use sysv_queue::tally::Tally;
-use sysv_service::pass::Pass;
-use sysv_service::service::Service;
+use sysv_model::{Body, Flags};
+use sysv_queue::Tally;
+use sysv_service::{Pass, Service};
 
 /// Sends messages of type 1 and takes them back, until a receive of type 2 has looked twice; then it sends one of that type.
 #[derive(Drop)]

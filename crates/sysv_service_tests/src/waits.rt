@@ -10,11 +10,9 @@ use std::process::Abort;
 use std::sync::Wait;
 use std::thread::Threads;
 use std::time::Clock;
-use sysv_model::attributes::SetTo;
-use sysv_model::cred::Cred;
-use sysv_model::errno::Errno;
+use sysv_model::{Cred, Errno, SetTo};
 
-/// A wait is tried so often where the other call may come first.
+/// A wait is tried so many times where the other call may come first.
 const TRIES: u32 = 50;
 
 /// The queue of user 1000 with this mode and limit.

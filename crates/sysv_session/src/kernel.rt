@@ -4,12 +4,9 @@ ghost use Rattle.sysv_session.specs.Answers.{MayAnswer};
 ghost use Rattle.sysv_session.specs.Calls.{Meaning};
 ghost use Rattle.sysv_wire.specs.Requests.{op_of};
 
-use sysv_model::body::Body;
-use sysv_model::cred::Cred;
-use sysv_queue::delivery::Delivery;
-use sysv_wire::frame::Op;
-use sysv_wire::reply::Reply;
-use sysv_wire::request::Request;
+use sysv_model::{Body, Cred};
+use sysv_queue::Delivery;
+use sysv_wire::{Op, Reply, Request};
 
 /// What a kernel answers. A message that was received can be neither dropped nor copied.
 pub enum Outcome {

@@ -2,7 +2,11 @@
 //! and writer, answered by any kernel. `specs/` says what a session reads, asks and writes, and why it ends.
 #![tactic(auto)]
 
-pub mod kernel;
-pub mod served;
-pub mod session;
+mod kernel;
+mod served;
+mod session;
 mod turn;
+
+pub use kernel::{Kernel, Outcome};
+pub use served::{End, SESSION_REQUESTS, Served};
+pub use session::serve;

@@ -2,8 +2,8 @@
 ghost use Rattle.std.specs.Prelude.{◌≡◌};
 ghost use Rattle.sysv_session.specs.declared.served.End.TheVariants as ends;
 
-use sysv_queue::tally::Tally;
-use sysv_wire::fault::{Fault, WriteFault};
+use sysv_queue::Tally;
+use sysv_wire::{Fault, WriteFault};
 
 /// The most requests of a session, its hello among them.
 pub const SESSION_REQUESTS: u32 = 4_294_967_295;

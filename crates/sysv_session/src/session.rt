@@ -11,14 +11,9 @@ use crate::served::{End, SESSION_REQUESTS, Served};
 use crate::turn::{answer, read_asked, read_hello, send};
 use std::alloc::Global;
 use std::io::{Read, Write};
-use sysv_model::body::Body;
-use sysv_model::cred::Cred;
-use sysv_model::no_memory::NoMemory;
-use sysv_queue::tally::Tally;
-use sysv_wire::frame::Op;
-use sysv_wire::laws::{one_answer_to_requests, one_request};
-use sysv_wire::reply::{Outcome as Told, Reply};
-use sysv_wire::request::Request;
+use sysv_model::{Body, Cred, NoMemory};
+use sysv_queue::Tally;
+use sysv_wire::{Op, Outcome as Told, Reply, Request, one_answer_to_requests, one_request};
 
 /// Runs one session to its end: reads a hello and answers it, and then reads requests, asks the kernel
 /// each of them with the credentials of the hello, and writes its replies in order, each flushed before the

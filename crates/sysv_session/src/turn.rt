@@ -12,16 +12,11 @@ ghost use Rattle.sysv_wire.specs.Streams.{AppendsPrefix};
 use crate::kernel::Outcome;
 use crate::served::End;
 use std::io::{Read, Write};
-use sysv_model::body::Body;
-use sysv_model::cred::Cred;
-use sysv_queue::delivery::Delivery;
-use sysv_queue::tally::Tally;
-use sysv_wire::fault::{Fault, WriteFault};
-use sysv_wire::frame::Op;
-use sysv_wire::replies::write_reply;
-use sysv_wire::reply::{Outcome as Told, Reply};
-use sysv_wire::request::{Ask, Request};
-use sysv_wire::requests::read_request;
+use sysv_model::{Body, Cred};
+use sysv_queue::{Delivery, Tally};
+use sysv_wire::{
+    Ask, Fault, Op, Outcome as Told, Reply, Request, WriteFault, read_request, write_reply,
+};
 
 /// Reads the first request, and says who calls.
 pub(crate) fn read_hello<R: Read>(reader: &mut R, text: &mut Body) -> Result<Cred, End>

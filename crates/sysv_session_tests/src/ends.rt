@@ -5,8 +5,7 @@ use std::alloc::Global;
 use std::io;
 use std::io::{ErrorKind, Read, Write};
 use std::process::Abort;
-use sysv_session::served::{End, Served};
-use sysv_session::session::serve;
+use sysv_session::{End, Served, serve};
 
 /// A hello, a get, a send of `hi` and two receives.
 pub(crate) const SESSION: &[u8] = &[
@@ -33,7 +32,7 @@ pub(crate) const ANSWERS: &[u8] = &[
 /// Where its replies end.
 pub(crate) const ANSWER_ENDS: [usize; 5] = [7, 18, 25, 42, 49];
 
-/// Gives two texts, one behind the other, at most `piece` bytes at a time, and fails once `good` bytes were given.
+/// Gives two texts, one after the other, at most `piece` bytes at a time, and fails once `good` bytes were given.
 #[derive(Drop)]
 pub(crate) struct Pieces<'a> {
     pub(crate) front: &'a [u8],

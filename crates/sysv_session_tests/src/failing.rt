@@ -1,7 +1,7 @@
 //! Readers and writers that fail after each byte, and writers that cannot be flushed.
 use crate::ends::{ANSWER_ENDS, ANSWERS, Page, Pieces, REQUEST_ENDS, SESSION, counts_of, served};
-use sysv_session::served::End;
-use sysv_wire::fault::Fault;
+use sysv_session::End;
+use sysv_wire::Fault;
 
 #[test]
 fn the_reader_fails(rt: HostRuntime) {

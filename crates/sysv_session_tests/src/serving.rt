@@ -6,12 +6,10 @@ use crate::ends::{ANSWERS, Page, Pieces, SESSION, counts_of};
 use std::alloc::Global;
 use std::process::Abort;
 use std::sync::Wait;
-use sysv_gated::opening::GatesRefused;
-use sysv_kernel::kernel::ServiceKernel;
-use sysv_service::clock::Clock;
-use sysv_service::pass::Pass;
-use sysv_service::service::Service;
-use sysv_session::served::{End, Served};
+use sysv_gated::GatesRefused;
+use sysv_kernel::ServiceKernel;
+use sysv_service::{Clock, Pass, Service};
+use sysv_session::{End, Served};
 
 /// A clock that stands still.
 struct Still(u64);

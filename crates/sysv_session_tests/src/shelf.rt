@@ -8,23 +8,15 @@ ghost use Rattle.sysv_wire.specs.Requests.{op_of};
 use bitflags::Flags as Set;
 use std::alloc::Global;
 use std::process::Abort;
-use sysv_keys::registry::{Begun, Registry};
-use sysv_model::body::Body;
-use sysv_model::cred::Cred;
-use sysv_model::errno::Errno;
-use sysv_model::flags::Flags;
-use sysv_model::limits::MESSAGE_BYTES;
-use sysv_model::selector::Selector;
-use sysv_pool::chain::Chain;
-use sysv_pool::pool::Pool;
-use sysv_queue::slot::{PlaceRefused, QueueSlot, TakeRefused, Unplaced};
-use sysv_session::kernel::{Kernel, Outcome};
-use sysv_wire::frame::Op;
-use sysv_wire::reply::{Outcome as Told, Reply};
-use sysv_wire::request::{Ask, Request};
+use sysv_keys::{Begun, Registry};
+use sysv_model::{Body, Cred, Errno, Flags, MESSAGE_BYTES, Selector};
+use sysv_pool::{Chain, Pool};
+use sysv_queue::{PlaceRefused, QueueSlot, TakeRefused, Unplaced};
+use sysv_session::{Kernel, Outcome};
+use sysv_wire::{Ask, Op, Outcome as Told, Reply, Request};
 
 /// The most that a count reaches here.
-const COUNT_MOST: u64 = 1 << 32;
+const MAX_COUNT: u64 = 1 << 32;
 
 /// One slot for a queue, and what it stands on. It answers msgget, msgsnd and msgrcv, which never wait,
 /// and refuses all else with EINVAL.
@@ -95,7 +87,7 @@ impl Shelf {
         ensures answer { IsAnswer (op_number Op.Snd) result }
         ensures text { gives_text result ≡ false }
     {
-        if text.len() > MESSAGE_BYTES || self.slot.counts().0 > COUNT_MOST {
+        if text.len() > MESSAGE_BYTES || self.slot.counts().0 > MAX_COUNT {
             return Told::Refused(Errno::EINVAL);
         }
         let Some(mut chain) = self.pool.reserve(text.len()) else {
@@ -129,7 +121,7 @@ impl Shelf {
             unreachable!()
         };
         given.clear();
-        if self.slot.counts().1 > COUNT_MOST {
+        if self.slot.counts().1 > MAX_COUNT {
             return refusal(Op::Rcv, Errno::EOVERFLOW);
         }
         let noerror = flags.contains(Flags::MSG_NOERROR);
@@ -190,7 +182,7 @@ fn refusal(op: Op, why: Errno) -> Outcome
 
 /// Puts a chain back into the pool that it came from.
 fn give_back(pool: &mut Pool, chain: Chain) {
-    if pool.released() > COUNT_MOST {
+    if pool.released() > MAX_COUNT {
         let _blocks = chain.end();
         return;
     }

@@ -1,14 +1,9 @@
 //! A kernel that waits for a lock in each of its calls.
 use crate::ends::{Page, Pieces, SESSION, counts_of};
 use std::sync::{Mutex, Wait};
-use sysv_model::body::Body;
-use sysv_model::cred::Cred;
-use sysv_model::errno::Errno;
-use sysv_session::kernel::{Kernel, Outcome};
-use sysv_session::served::End;
-use sysv_session::session::serve;
-use sysv_wire::reply::{Outcome as Told, Reply};
-use sysv_wire::request::Request;
+use sysv_model::{Body, Cred, Errno};
+use sysv_session::{End, Kernel, Outcome, serve};
+use sysv_wire::{Outcome as Told, Reply, Request};
 
 /// Counts what it is asked under a lock, and refuses all.
 #[derive(Drop)]

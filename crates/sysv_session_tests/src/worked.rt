@@ -2,8 +2,8 @@
 use crate::ends::{ANSWER_ENDS, ANSWERS, Page, Pieces, REQUEST_ENDS, SESSION, counts_of, served};
 use std::alloc::Global;
 use std::process::Abort;
-use sysv_session::served::End;
-use sysv_wire::fault::Fault;
+use sysv_session::End;
+use sysv_wire::Fault;
 
 #[test]
 fn the_session_cut_after_each_byte(rt: HostRuntime) {

@@ -5,10 +5,7 @@ use Rattle.sysv_model.specs.declared.cred.Cred.{Cred}
 use Rattle.sysv_model.specs.declared.errno.Errno.{Errno}
 use Rattle.sysv_model.specs.declared.errno.Errno.TheVariants.{EINVAL, EAGAIN, ENOMSG}
 use Rattle.sysv_model.specs.declared.flags.Flags.{Flags}
-use Rattle.sysv_model.specs.declared.flags.TheConstants.Flags.{MSG_NOERROR}
 use Rattle.sysv_model.specs.declared.attributes.SetTo.{SetTo}
-use Rattle.sysv_model.specs.HasFlag.{has_flag}
-use Rattle.sysv_model.specs.Selector.{selector_for}
 use Rattle.sysv_model.specs.History.{Reply, Gone, Full, Fits, NoMatch, Installed, Discarded, Install, Probe}
 use Rattle.sysv_model.specs.Registry.{Begin, Forget, RegistryReply, Found, Made, Busy, Changed}
 use Rattle.sysv_model.specs.Pool.{Reserve, PoolReply, Reserved, TooFew, Released, Foreign}

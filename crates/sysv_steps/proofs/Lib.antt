@@ -12,3 +12,4 @@ pub mod Patience
 pub mod WorkedPlays
 pub mod Holding
 pub mod Reading
+pub mod Parting

@@ -15,6 +15,7 @@ pub mod Asks
 pub mod Next
 pub mod Resume
 pub mod Played
+pub mod PlayedApart
 pub mod AsksFor
 pub mod HoldsAsked
 pub mod OneAnswer

@@ -6,7 +6,7 @@ ghost use Rattle.sysv_steps.specs.Seen.{afterwards_of, state_of};
 
 use crate::state::State;
 use crate::wait::Wait;
-use sysv_model::errno::Errno;
+use sysv_model::Errno;
 
 /// What a send does that could not go on, once it has given back what it holds.
 #[derive(Clone, Copy, PartialEq, Eq)]

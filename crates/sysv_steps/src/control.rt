@@ -15,11 +15,9 @@ ghost use Rattle.sysv_steps.specs.State.{Zero, Over};
 
 use crate::ending::Ending;
 use crate::state::{Phase, State};
-use sysv_model::attributes::{SetTo, Stat};
-use sysv_model::cred::Cred;
-use sysv_model::errno::Errno;
-use sysv_pool::chain::Chain;
-use sysv_queue::discarded::Discarded;
+use sysv_model::{Cred, Errno, SetTo, Stat};
+use sysv_pool::Chain;
+use sysv_queue::Discarded;
 
 /// The start of IPC_STAT. It is refused with EINVAL where the identifier is negative (POSIX.1-2017,
 /// `msgctl`, ERRORS), and else goes to its step.

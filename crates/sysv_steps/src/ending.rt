@@ -1,6 +1,5 @@
-use sysv_model::attributes::Stat;
-use sysv_model::errno::Errno;
-use sysv_queue::delivery::Delivery;
+use sysv_model::{Errno, Stat};
+use sysv_queue::Delivery;
 
 /// How a call ended. The text that a receive was given is with its driver, who spends the delivery once it
 /// has answered.

@@ -12,11 +12,9 @@ use crate::ending::Ending;
 use crate::state::{Phase, State};
 use crate::wait::Wait;
 use bitflags::Flags as _;
-use sysv_keys::registry::Begun;
-use sysv_model::cred::Cred;
-use sysv_model::errno::Errno;
-use sysv_model::flags::Flags;
-use sysv_queue::slot::Probe;
+use sysv_keys::Begun;
+use sysv_model::{Cred, Errno, Flags};
+use sysv_queue::Probe;
 
 /// A call that looks for the queue of a key, or makes one (POSIX.1-2017, `msgget`).
 #[derive(Clone, Copy, PartialEq, Eq, Debug)]

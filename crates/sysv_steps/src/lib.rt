@@ -2,14 +2,30 @@
 //! object itself. Who drives it makes the turns and keeps the texts. `specs/` has the table of steps.
 #![tactic(auto)]
 
-pub mod afterwards;
-pub mod control;
-pub mod ending;
-pub mod get;
-pub mod laws;
-pub mod receive;
-pub mod send;
-pub mod state;
+mod afterwards;
+mod control;
+mod ending;
+mod get;
+mod laws;
+mod receive;
+mod send;
+mod state;
 #[cfg(test)]
 mod tests;
-pub mod wait;
+mod wait;
+
+pub use afterwards::Afterwards;
+pub use control::{
+    begin_remove, begin_set, begin_stat, forgotten, given_back, removed, set_done, stat_told,
+};
+pub use ending::Ending;
+pub use get::Getting;
+pub use laws::{
+    after_removal, each_answer_is_right, each_deed_is_asked_for, each_holds_its_blocks,
+    each_holds_what_it_was_asked, each_is_tended, each_plays_apart, one_answer,
+    waits_above_what_it_read, waits_for_its_refusal, waits_where_it_may, worked_plays,
+};
+pub use receive::Receiving;
+pub use send::Sending;
+pub use state::{Phase, State};
+pub use wait::Wait;

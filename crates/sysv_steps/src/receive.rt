@@ -16,13 +16,9 @@ use crate::ending::Ending;
 use crate::state::{Phase, State};
 use crate::wait::Wait;
 use bitflags::Flags as _;
-use sysv_model::cred::Cred;
-use sysv_model::errno::Errno;
-use sysv_model::flags::Flags;
-use sysv_model::selector::Selector;
-use sysv_pool::chain::Chain;
-use sysv_queue::delivery::Delivery;
-use sysv_queue::slot::TakeRefused;
+use sysv_model::{Cred, Errno, Flags, Selector};
+use sysv_pool::Chain;
+use sysv_queue::{Delivery, TakeRefused};
 
 /// A receive under way (POSIX.1-2017, `msgrcv`). The body that it fills is with its driver.
 #[derive(Clone, Copy, PartialEq, Eq, Debug)]

@@ -13,12 +13,9 @@ use crate::ending::Ending;
 use crate::state::{Phase, State, gone};
 use crate::wait::Wait;
 use bitflags::Flags as _;
-use sysv_model::cred::Cred;
-use sysv_model::errno::Errno;
-use sysv_model::flags::Flags;
-use sysv_model::limits::MESSAGE_BYTES;
-use sysv_pool::chain::Chain;
-use sysv_queue::slot::{Look, Unplaced};
+use sysv_model::{Cred, Errno, Flags, MESSAGE_BYTES};
+use sysv_pool::Chain;
+use sysv_queue::{Look, Unplaced};
 
 /// A send under way (POSIX.1-2017, `msgsnd`). Its text is with its driver.
 #[derive(Clone, Copy, PartialEq, Eq, Debug)]

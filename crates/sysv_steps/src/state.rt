@@ -7,11 +7,9 @@ use crate::get::Getting;
 use crate::receive::Receiving;
 use crate::send::Sending;
 use crate::wait::Wait;
-use sysv_model::attributes::SetTo;
-use sysv_model::cred::Cred;
-use sysv_model::errno::Errno;
-use sysv_pool::chain::Chain;
-use sysv_queue::delivery::Delivery;
+use sysv_model::{Cred, Errno, SetTo};
+use sysv_pool::Chain;
+use sysv_queue::Delivery;
 
 /// The step before which a call stands: one turn at the registry, at the slot of its queue or at the pool.
 /// What the call holds there can be neither dropped nor copied.

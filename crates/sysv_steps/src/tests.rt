@@ -16,19 +16,10 @@ use crate::wait::Wait;
 use bitflags::Flags as _;
 use std::alloc::Global;
 use std::process::Abort;
-use sysv_keys::registry::Begun;
-use sysv_model::attributes::{Perm, SetTo, Stat};
-use sysv_model::body::Body;
-use sysv_model::cred::Cred;
-use sysv_model::errno::Errno;
-use sysv_model::flags::Flags;
-use sysv_model::no_memory::NoMemory;
-use sysv_model::selector::Selector;
-use sysv_pool::chain::Chain;
-use sysv_pool::pool::Pool;
-use sysv_queue::delivery::Delivery;
-use sysv_queue::slot::{Look, PlaceRefused, Probe, QueueSlot, TakeRefused, Unplaced};
-use sysv_queue::tally::Tally;
+use sysv_keys::Begun;
+use sysv_model::{Body, Cred, Errno, Flags, NoMemory, Perm, Selector, SetTo, Stat};
+use sysv_pool::{Chain, Pool};
+use sysv_queue::{Delivery, Look, PlaceRefused, Probe, QueueSlot, TakeRefused, Tally, Unplaced};
 
 const CALLER: Cred = Cred {
     uid: 1000,

@@ -19,7 +19,7 @@ moved_to_front xs start end ordered within =
     ap (λ k. take k (paste xs 0 (drop start xs) (end - start))) same
     ∙ take-paste xs 0 (drop start xs) (end - start) (omega arith) (omega (arith, length-drop start xs))
 
--- the first bytes stayed, and more came behind them
+-- the first bytes stayed, and more came after them
 pub came_behind : (held xs ys : List ℕ) (len count k : ℕ) → len ≤ length xs → count ≤ length ys → take len xs ≡ held → slice_range (put_mid len k xs ys) 0 (len + count) ≡ held ++ take count ys
 came_behind held xs ys len count k within fits kept =
     let whole : len + count - 0 ≡ len + count = omega arith in

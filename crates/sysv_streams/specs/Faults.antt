@@ -28,7 +28,7 @@ IsStreamFault (Line n) = ⊥
 IsStreamFault NoMemory = ⊥
 IsStreamFault Bound = ⊥
 
--- Where this line ends the script it is bad, which is composed behind what was; or memory was refused.
+-- Where this line ends the script it is bad, which is composed after what was; or memory was refused.
 abbrev pub EndsAtLine : ScriptFault → ℕ → (old new : List ℕ) → Type 0
 EndsAtLine (Line n) number old new = (n ≡ number) × (new ≡ old ++ bad_line_text number)
 EndsAtLine NoMemory number old new = IsFrontOf new old

@@ -3,7 +3,7 @@
 use Rattle.std.specs.Prelude.{◌≡◌, ◌<◌, ◌⊎◌, ℕ, List, [], Option, Some, None, length, take, slice_get, true, false, Contains}
 use Rattle.std.specs.Io.KnownBytes.{IsAtEnd}
 use Rattle.sysv_lines.specs.declared.line.TheConstants.{LINE_BYTES}
-use Rattle.sysv_streams.specs.declared.next_line.Found.{Found}
+use Rattle.sysv_streams.specs.declared.lines.Found.{Found}
 
 abbrev pub HasNoEnd : List ℕ → Type 0
 HasNoEnd text = Contains text 10 → ⊥
@@ -14,7 +14,7 @@ pub record IsFirstLine (len : ℕ) (text : List ℕ) : Type 0 where
   pub one_line : HasNoEnd (take len text)
 
 -- The line is all of the text, which is not empty: no LF stands in it, and it is too long, or nothing
--- comes behind it.
+-- comes after it.
 pub record IsLastLine (len : ℕ) (text : List ℕ) (left : Option (List ℕ)) : Type 0 where
   pub whole : len ≡ length text
   pub filled : 0 < len

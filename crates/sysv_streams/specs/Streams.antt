@@ -11,6 +11,6 @@ AppendsPart old new bytes = (count : ℕ) × Appends old new (take count bytes)
 abbrev pub HandsOn : Option (List ℕ) → List ℕ → Option (List ℕ) → List ℕ → Type 0
 HandsOn old waiting new rest = (handed : List ℕ) × (waiting ≡ handed ++ rest) × Appends old new handed
 
--- The reader gives some bytes, which then stand behind what waits.
+-- The reader gives some bytes, which then stand after what waits.
 abbrev pub TakesIn : Option (List ℕ) → List ℕ → Option (List ℕ) → List ℕ → Type 0
 TakesIn left waiting rest more = (read : List ℕ) × (more ≡ waiting ++ read) × Consumes left rest read

@@ -8,21 +8,21 @@ use crate::fault::ScriptFault;
 use std::alloc::Global;
 use std::io::Read;
 use std::marker::Model;
-use sysv_lines::line::LINE_BYTES;
-use sysv_model::no_memory::NoMemory;
+use sysv_lines::LINE_BYTES;
+use sysv_model::NoMemory;
 
 /// The bytes for which the input has room: one line of the greatest length and its LF. So of a line
 /// that has no end no more than these are read.
 pub const INPUT_ROOM: usize = LINE_BYTES + 1;
 
 /// The bytes that wait: they were read, and belong to lines that have not been run. They stand in one
-/// buffer of fixed length, and reads go into the room behind them.
+/// buffer of fixed length, and reads go into the room after them.
 #[derive(Drop)]
 pub struct Input {
     buffer: Vec<u8>,
     /// The place of the first byte that waits.
     start: usize,
-    /// The place behind the last.
+    /// The place after the last.
     end: usize,
 }
 
@@ -61,7 +61,7 @@ impl Input {
         &self.buffer[self.start..self.end]
     }
 
-    /// Passes over a line of `len` bytes and the LF behind it.
+    /// Passes over a line of `len` bytes and the LF after it.
     pub fn pass_line(&mut self, len: usize)
         requires { len < length self.old }
         ensures { self.new ≡ drop (len + 1) self.old }
@@ -70,7 +70,7 @@ impl Input {
         self.start = passed + 1;
     }
 
-    /// Reads once, behind what waits; the number of bytes that came, 0 at the end.
+    /// Reads once, after what waits; the number of bytes that came, 0 at the end.
     pub fn read_from<R: Read>(&mut self, reader: &mut R) -> Result<usize, ScriptFault>
         requires { length self.old < INPUT_ROOM }
         ensures text { OnOk result (TakesIn (R.remaining reader.old) self.old (R.remaining reader.new) self.new) }

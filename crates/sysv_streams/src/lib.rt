@@ -1,9 +1,14 @@
 //! The streams of a script: the lines that are read, and the answers that are written.
 #![tactic(auto)]
 
-pub mod fault;
-pub mod input;
-pub mod next_line;
-pub mod output;
+mod fault;
+mod input;
+mod lines;
+mod output;
 #[cfg(test)]
 mod tests;
+
+pub use fault::{SCRIPT_LINES, ScriptFault};
+pub use input::{INPUT_ROOM, Input};
+pub use lines::{Found, next_line, read_on};
+pub use output::Output;

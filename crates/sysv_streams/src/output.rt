@@ -8,10 +8,8 @@ use crate::fault::ScriptFault;
 use std::alloc::Global;
 use std::io::Write;
 use std::marker::Model;
-use sysv_lines::head::Head;
-use sysv_model::body::Body;
-use sysv_model::limits::BLOCK_BYTES;
-use sysv_model::no_memory::NoMemory;
+use sysv_lines::Head;
+use sysv_model::{BLOCK_BYTES, Body, NoMemory};
 
 /// The bytes for which the output has room.
 const OUTPUT_ROOM: usize = 65536;

@@ -1,8 +1,8 @@
 use crate::input::Input;
-use crate::next_line::{next_line, read_on};
+use crate::lines::{next_line, read_on};
 use crate::output::Output;
-use sysv_lines::head::Head;
-use sysv_model::body::Body;
+use sysv_lines::Head;
+use sysv_model::Body;
 
 #[test]
 fn lines_are_found_one_by_one(rt: HostRuntime) {

@@ -1,4 +1,4 @@
--- A number that is taken from the front of some bytes is spelled by them.
+-- A number that is taken from the start of some bytes is spelled by them.
 use Rattle.std.proofs.Common.{◌≡◌, ℕ, ℤ, ◌+◌, ◌^◌, ◌<◌, ◌≤◌, List, [], ◌++◌, length, get_or, take, drop, sym, ap, ◌∙◌, arith, length-take, inl, inr}
 use Rattle.std.specs.Int.{w16, w32, w64, to_be_bytes, from_be_bytes, cast_signed, cast_unsigned}
 use Rattle.std.proofs.lemmas.Bool.{cases_lt}
@@ -17,7 +17,7 @@ IsBytes-take n bytes h i =
       | inr le ↦ rw (get_or_past (take n bytes) i 0 (omega (arith, length-take n bytes))) (omega arith)
     ]
 
--- the first bytes, spelled anew, and what is behind them
+-- the first bytes, spelled anew, and what is after them
 spelled_anew : (len : ℕ) (bytes front rest spelling : List ℕ) → front ≡ take len bytes → rest ≡ drop len bytes → spelling ≡ front → bytes ≡ spelling ++ rest
 spelled_anew len bytes front rest spelling f r s = rw (s, f, r) (sym (take-append-drop len bytes))
 
@@ -42,7 +42,7 @@ unfolding u64_bytes
 u64_front bytes front rest n within fits f r e =
     spelled_anew 8 bytes front rest (u64_bytes n) f r (be_bytes_8 front n (length_front 8 bytes front f within) (IsBytes-front 8 bytes front f fits) e)
 
--- four bytes and nothing behind them
+-- four bytes and nothing after them
 pub u32_only : (bytes rest : List ℕ) (n : ℕ) → bytes ≡ u32_bytes n ++ rest → length bytes ≡ 4 + length rest → length bytes ≡ 4 → take 4 bytes ≡ u32_bytes n
 u32_only bytes rest n e len four =
     let none : rest ≡ [] = nil_from_length rest (omega arith) in

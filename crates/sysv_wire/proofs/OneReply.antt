@@ -144,7 +144,7 @@ pub row_number : (n : ℕ) (r : Option Line) → IsAnswer n (Row r) → n ≡ 7
 row_number n None h = h
 row_number n (Some r) h = h.0
 
--- A reply's operation, its error and what is behind it tell what is answered, and the text.
+-- A reply's operation, its error and what is after it tell what is answered, and the text.
 outcome_same : (n : ℕ) (a b : Outcome) (text other : List ℕ) → IsAnswer n a → IsAnswer n b → FitsOutcome a → FitsOutcome b → error_number a ≡ error_number b
     → outcome_fields a ++ outcome_text a text ≡ outcome_fields b ++ outcome_text b other → (a ≡ b) × (outcome_text a text ≡ outcome_text b other)
 outcome_same n (Refused e) (Refused f) text other h k p q err same = (ap Refused (errno_same e f err), refl)

@@ -1,5 +1,5 @@
 -- An input tells by five numbers which kind of answer fits it: its length, the length that stands at its
--- front, and the three bytes behind that. Where they tell of a whole reply, its fields decide.
+-- front, and the three bytes after that. Where they tell of a whole reply, its fields decide.
 use Rattle.std.proofs.Common.{◌≡◌, ◌≢◌, ◌⊎◌, ℕ, ◌+◌, ◌-◌, ◌^◌, ◌<◌, ◌≤◌, Bool, true, false, cond, eqb, ltb, leb, MatchBool, List, [], ◌∷◌, ◌++◌, length, get_or, take, Option, None, Some, Result, Ok, Err, refl, sym, ap, subst, ◌∙◌, append_assoc, append-nil, arith, length-append, inl, inr}
 use Rattle.std.specs.Int.{w32, from_be_bytes}
 use Rattle.std.proofs.lemmas.Bool.Decides.{nat_tests}
@@ -276,7 +276,7 @@ long_verdict input taken rest h e =
     let n = h.0 in
     ap verdict (e ∙ ap (λ l. l ++ rest) h.3) ∙ verdict_head n rest h.1 ∙ v_long (4 + length rest) n (get_or rest 0 0) (get_or rest 1 0) (get_or rest 2 0) (omega arith) h.2
 
--- behind a length, a version, an operation and an error
+-- after a length, a version, an operation and an error
 behind_head : (n v o x : ℕ) (taken rest : List ℕ) → taken ≡ u32_bytes n ++ (v ∷ o ∷ x ∷ []) → taken ++ rest ≡ u32_bytes n ++ (v ∷ o ∷ x ∷ rest)
 behind_head n v o x taken rest e = ap (λ l. l ++ rest) e ∙ append_assoc (u32_bytes n) (v ∷ o ∷ x ∷ []) rest
 

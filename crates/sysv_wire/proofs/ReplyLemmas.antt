@@ -12,7 +12,7 @@ use Rattle.sysv_wire.specs.Frames.{op_number, frame}
 use Rattle.sysv_wire.specs.Reading.{ReadsReply}
 use Rattle.sysv_model.specs.declared.attributes.Row.{Row as Line}
 use Rattle.sysv_model.specs.declared.attributes.Stat.{Stat as Told}
-use Rattle.sysv_wire.specs.declared.frame.TheConstants.{VERSION, REPLY_MOST, MODE_MOST}
+use Rattle.sysv_wire.specs.declared.frame.TheConstants.{VERSION, MAX_REPLY, MAX_MODE}
 use Rattle.sysv_wire.specs.Numbers.{u16_bytes, u32_bytes, i32_bytes, i64_bytes}
 use Rattle.sysv_wire.specs.Replies.{FitsOutcome, IsAnswer, IsRestLength, perm_fields, count_fields, time_fields, stat_fields, row_fields, outcome_fields, outcome_text, gives_text, error_number, reply_spelling}
 use Rattle.sysv_wire.specs.ReplyFaults.{IsWideAt, RestFault, ReplyFault}
@@ -27,7 +27,7 @@ pub length-i32_bytes : (z : ℤ) → length (i32_bytes z) ≡ 4
 unfolding i32_bytes
 length-i32_bytes z = refl
 
--- behind so many bytes stands this mode
+-- after so many bytes stands this mode
 abbrev pub HasModeAt : ℕ → List ℕ → ℕ → Type 0
 HasModeAt place fields mode = (before : List ℕ) × (after : List ℕ) × (fields ≡ before ++ (u16_bytes mode ++ after)) × (length before ≡ place)
 
@@ -50,13 +50,13 @@ stat_mode stat fields e =
     let len : length front ≡ 20 = omega (arith, length-append (i32_bytes stat.key) (u32_bytes perm.uid ++ (u32_bytes perm.gid ++ (u32_bytes perm.cuid ++ u32_bytes perm.cgid))), length-append (u32_bytes perm.uid) (u32_bytes perm.gid ++ (u32_bytes perm.cuid ++ u32_bytes perm.cgid)), length-append (u32_bytes perm.gid) (u32_bytes perm.cuid ++ u32_bytes perm.cgid), length-append (u32_bytes perm.cuid) (u32_bytes perm.cgid), length-i32_bytes stat.key, length-u32_bytes perm.uid, length-u32_bytes perm.gid, length-u32_bytes perm.cuid, length-u32_bytes perm.cgid) in
     (front, after, parts, len)
 
-wide_at : (place : ℕ) (fields : List ℕ) (mode : ℕ) → HasModeAt place fields mode → MODE_MOST < mode → mode < 2 ^ 16 → IsWideAt place fields
+wide_at : (place : ℕ) (fields : List ℕ) (mode : ℕ) → HasModeAt place fields mode → MAX_MODE < mode → mode < 2 ^ 16 → IsWideAt place fields
 wide_at place fields mode h wide fits = (h.0, mode, h.1, h.2, h.3, wide, fits)
 
-pub wide_row : (row : Line) (mark : ℕ) (rest : List ℕ) → rest ≡ row_fields row → MODE_MOST < row.mode → row.mode < 2 ^ 16 → IsWideAt 13 (mark ∷ rest)
+pub wide_row : (row : Line) (mark : ℕ) (rest : List ℕ) → rest ≡ row_fields row → MAX_MODE < row.mode → row.mode < 2 ^ 16 → IsWideAt 13 (mark ∷ rest)
 wide_row row mark rest e wide fits = wide_at 13 (mark ∷ rest) row.mode (row_mode row mark rest e) wide fits
 
-pub wide_stat : (stat : Told) (fields : List ℕ) → fields ≡ stat_fields stat → MODE_MOST < stat.perm.mode → stat.perm.mode < 2 ^ 16 → IsWideAt 20 fields
+pub wide_stat : (stat : Told) (fields : List ℕ) → fields ≡ stat_fields stat → MAX_MODE < stat.perm.mode → stat.perm.mode < 2 ^ 16 → IsWideAt 20 fields
 wide_stat stat fields e wide fits = wide_at 20 fields stat.perm.mode (stat_mode stat fields e) wide fits
 
 -- fewer bytes than are left
@@ -71,13 +71,13 @@ pub rest_broken : (op : Op) (error n m : ℕ) (done : List ℕ) (fault : Fault) 
 rest_broken op error n m done fault a b c fits first second =
     Faults-after (Breaks (IsShorter n)) (RestFault op error m) fault a b c done first second (breaks_rest op error n m done fault fits)
 
--- a head of three bytes, and what is behind it
+-- a head of three bytes, and what is after it
 head_then : (n : ℕ) (op : Op) (version number error : ℕ) (head taken : List ℕ) → head ≡ version ∷ number ∷ error ∷ [] → version ≡ VERSION → op_number op ≡ number
     → (u32_bytes n ++ head) ++ taken ≡ u32_bytes n ++ (VERSION ∷ op_number op ∷ error ∷ taken)
 head_then n op version number error head taken h v o =
     append_assoc (u32_bytes n) head taken ∙ ap (λ l. u32_bytes n ++ (l ++ taken)) (h ∙ ap (λ x. x ∷ number ∷ error ∷ []) v ∙ ap (λ x. VERSION ∷ x ∷ error ∷ []) (sym o))
 
-faults_reply : (n : ℕ) (op : Op) (error : ℕ) (fault : Fault) → 3 ≤ n → n ≤ REPLY_MOST → IsRestLength op error (n - 3) → (taken : List ℕ) → RestFault op error (n - 3) fault taken
+faults_reply : (n : ℕ) (op : Op) (error : ℕ) (fault : Fault) → 3 ≤ n → n ≤ MAX_REPLY → IsRestLength op error (n - 3) → (taken : List ℕ) → RestFault op error (n - 3) fault taken
     → ReplyFault fault (u32_bytes n ++ (VERSION ∷ op_number op ∷ error ∷ taken))
 faults_reply n op error Truncated low high wanted taken why = inr (n, op, error, taken, low, high, wanted, why, refl)
 faults_reply n op error BadField low high wanted taken why = inr (n, op, error, taken, low, high, wanted, why, refl)
@@ -86,7 +86,7 @@ faults_reply n op error TooLong low high wanted taken why = absurd why
 faults_reply n op error BadOp low high wanted taken why = absurd why
 
 pub reply_broken : (n rest : ℕ) (op : Op) (version number error : ℕ) (head : List ℕ) (fault : Fault) (a b c : Option (List ℕ)) → head ≡ version ∷ number ∷ error ∷ [] → version ≡ VERSION → op_number op ≡ number
-    → 3 ≤ n → n ≤ REPLY_MOST → rest ≡ n - 3 → IsRestLength op error rest → Consumes a b (u32_bytes n ++ head) → Faults (RestFault op error rest) fault b c → Faults ReplyFault fault a c
+    → 3 ≤ n → n ≤ MAX_REPLY → rest ≡ n - 3 → IsRestLength op error rest → Consumes a b (u32_bytes n ++ head) → Faults (RestFault op error rest) fault b c → Faults ReplyFault fault a c
 reply_broken n rest op version number error head fault a b c h v o low high e wanted first second =
     Faults-after (RestFault op error rest) ReplyFault fault a b c (u32_bytes n ++ head) first second
     (λ taken why. subst (ReplyFault fault) (sym (head_then n op version number error head taken h v o))
@@ -115,7 +115,7 @@ text_short (Row r) text n empty len most = let none = ap length empty in omega (
 
 -- a reply that was read is spelled by what was taken
 pub reply_read : (result : Outcome) (n rest : ℕ) (op : Op) (version number error told : ℕ) (head text : List ℕ) (a b c : Option (List ℕ)) → head ≡ version ∷ number ∷ error ∷ [] → version ≡ VERSION → op_number op ≡ number
-    → 3 ≤ n → n ≤ REPLY_MOST → rest ≡ n - 3 → told ≡ op_number op → rest ≡ length (outcome_fields result ++ outcome_text result text) → IsAnswer (op_number op) result → FitsOutcome result → error_number result ≡ error → text ≡ outcome_text result text
+    → 3 ≤ n → n ≤ MAX_REPLY → rest ≡ n - 3 → told ≡ op_number op → rest ≡ length (outcome_fields result ++ outcome_text result text) → IsAnswer (op_number op) result → FitsOutcome result → error_number result ≡ error → text ≡ outcome_text result text
     → Consumes a b (u32_bytes n ++ head) → Consumes b c (outcome_fields result ++ outcome_text result text) → ReadsReply a c (Ok (Some record { op = told; result = result })) text
 reply_read result n rest op version number error told head text a b c h v o low high e t len answer fits err empty first second =
     let behind = outcome_fields result ++ outcome_text result text in

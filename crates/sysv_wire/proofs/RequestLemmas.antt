@@ -5,7 +5,7 @@ use Rattle.std.proofs.KnownBytes.{Consumes-trans}
 use Rattle.sysv_wire.specs.declared.fault.Fault.{Fault}
 use Rattle.sysv_wire.specs.declared.fault.Fault.TheVariants.{Truncated, TooLong, BadOp, BadField, Read}
 use Rattle.sysv_wire.specs.declared.frame.Op.{Op}
-use Rattle.sysv_wire.specs.declared.frame.TheConstants.{VERSION, REQUEST_MOST}
+use Rattle.sysv_wire.specs.declared.frame.TheConstants.{VERSION, MAX_REQUEST}
 use Rattle.sysv_wire.specs.Faults.{Faults, Breaks, IsShorter, RequestFault}
 use Rattle.sysv_wire.specs.Frames.{op_number, frame}
 use Rattle.sysv_wire.specs.Numbers.{u32_bytes, i32_bytes, i64_bytes}
@@ -27,7 +27,7 @@ pub broken_later : (n m : ℕ) (done : List ℕ) (fault : Fault) (a b c : Option
 broken_later n m done fault a b c fits first second =
     Faults-after (Breaks (IsShorter n)) (Breaks (IsShorter m)) fault a b c done first second (breaks_later n m done fault fits)
 
-breaks_request : (n : ℕ) (op : Op) (fault : Fault) → n ≤ REQUEST_MOST → IsRequestLength op n → (taken : List ℕ) → Breaks (IsShorter (n - 2)) fault taken
+breaks_request : (n : ℕ) (op : Op) (fault : Fault) → n ≤ MAX_REQUEST → IsRequestLength op n → (taken : List ℕ) → Breaks (IsShorter (n - 2)) fault taken
     → RequestFault fault (u32_bytes n ++ (VERSION ∷ op_number op ∷ taken))
 breaks_request n op Truncated most wanted taken why = inr (n, op, taken, most, wanted, omega arith, refl)
 breaks_request n op Read most wanted taken why = tt
@@ -35,14 +35,14 @@ breaks_request n op TooLong most wanted taken why = absurd why
 breaks_request n op BadOp most wanted taken why = absurd why
 breaks_request n op BadField most wanted taken why = absurd why
 
--- a head of two bytes, and what is behind it
+-- a head of two bytes, and what is after it
 head_then : (n : ℕ) (op : Op) (version number : ℕ) (head taken : List ℕ) → head ≡ version ∷ number ∷ [] → version ≡ VERSION → op_number op ≡ number
     → (u32_bytes n ++ head) ++ taken ≡ u32_bytes n ++ (VERSION ∷ op_number op ∷ taken)
 head_then n op version number head taken h v o =
     append_assoc (u32_bytes n) head taken ∙ ap (λ l. u32_bytes n ++ (l ++ taken)) (h ∙ ap (λ x. x ∷ number ∷ []) v ∙ ap (λ x. VERSION ∷ x ∷ []) (sym o))
 
 pub request_broken : (n : ℕ) (op : Op) (version number : ℕ) (head : List ℕ) (fault : Fault) (a b c : Option (List ℕ)) → head ≡ version ∷ number ∷ [] → version ≡ VERSION → op_number op ≡ number
-    → n ≤ REQUEST_MOST → IsRequestLength op n → Consumes a b (u32_bytes n ++ head) → Faults (Breaks (IsShorter (n - 2))) fault b c → Faults RequestFault fault a c
+    → n ≤ MAX_REQUEST → IsRequestLength op n → Consumes a b (u32_bytes n ++ head) → Faults (Breaks (IsShorter (n - 2))) fault b c → Faults RequestFault fault a c
 request_broken n op version number head fault a b c h v o most wanted first second =
     Faults-after (Breaks (IsShorter (n - 2))) RequestFault fault a b c (u32_bytes n ++ head) first second
     (λ taken why. subst (RequestFault fault) (sym (head_then n op version number head taken h v o)) (breaks_request n op fault most wanted taken why))

@@ -21,7 +21,7 @@ AppendsPrefix-after a b c done bytes more first second =
     ap (λ l. done ++ (l ++ more)) second.1.1 ∙ ap (λ l. done ++ l) (append_assoc second.0 second.1.0 more) ∙ sym (append_assoc done second.0 (second.1.0 ++ more)) in
     (done ++ second.0, (second.1.0 ++ more, whole), Appends-trans a b c done second.0 first second.2)
 
--- what stands at the front after more bytes came behind the first a
+-- what stands at the start after more bytes came after the first a
 pub came : (a n k : ℕ) (xs ys : List ℕ) → a ≤ length xs → n ≤ length ys → take (a + n) (put_mid a k xs ys) ≡ take a xs ++ take n ys
 came a n k xs ys within fits =
     let len : length (take a xs) ≡ a = length-take-le a xs within in
@@ -56,7 +56,7 @@ block_more k text = let more : k * 64 + 64 ≡ (k + 1) * 64 = omega arith in sym
 pub block_parts : (k : ℕ) (text : List ℕ) → text ≡ take (k * 64) text ++ (take 64 (drop (k * 64) text) ++ drop 64 (drop (k * 64) text))
 block_parts k text = sym (ap (λ l. take (k * 64) text ++ l) (take-append-drop 64 (drop (k * 64) text)) ∙ take-append-drop (k * 64) text)
 
--- a prefix of some bytes is one of those with more behind them
+-- a prefix of some bytes is one of those with more after them
 pub AppendsPrefix-longer : (a b : Option (List ℕ)) (bytes more : List ℕ) → AppendsPrefix a b bytes → AppendsPrefix a b (bytes ++ more)
 AppendsPrefix-longer a b bytes more first =
     (first.0, (first.1.0 ++ more, ap (λ l. l ++ more) first.1.1 ∙ append_assoc first.0 first.1.0 more), first.2)

@@ -6,7 +6,7 @@ use Rattle.std.specs.Io.KnownBytes.{Consumes, IsAtEnd}
 use Rattle.sysv_wire.specs.declared.fault.Fault.{Fault}
 use Rattle.sysv_wire.specs.declared.fault.Fault.TheVariants.{Truncated, TooLong, BadOp, BadField, Read}
 use Rattle.sysv_wire.specs.declared.frame.Op.{Op}
-use Rattle.sysv_wire.specs.declared.frame.TheConstants.{VERSION, REQUEST_LEAST, REQUEST_MOST}
+use Rattle.sysv_wire.specs.declared.frame.TheConstants.{VERSION, MIN_REQUEST, MAX_REQUEST}
 use Rattle.sysv_wire.specs.Frames.{op_number}
 use Rattle.sysv_wire.specs.Numbers.{u32_bytes}
 use Rattle.sysv_wire.specs.Requests.{IsRequestLength}
@@ -39,7 +39,7 @@ IsShorter n taken = length taken < n
 abbrev pub IsPartLength : List ℕ → Type 0
 IsPartLength taken = (0 < length taken) × (length taken < 4)
 
--- A head is a length within the limits and the bytes behind it that are judged with it, as many as the
+-- A head is a length within the limits and the bytes after it that are judged with it, as many as the
 -- least length.
 abbrev pub IsPartHead : ℕ → ℕ → List ℕ → Type 0
 IsPartHead least most taken = (n : ℕ) × (part : List ℕ) × (least ≤ n) × (n ≤ most) × (length part < least) × (taken ≡ u32_bytes n ++ part)
@@ -75,18 +75,18 @@ OpFault n version number Read = ⊥
 -- a request's length within the limits, its version and its operation
 abbrev pub IsRequestHead : ℕ → ℕ → ℕ → List ℕ → Type 0
 IsRequestHead n version number taken =
-    (REQUEST_LEAST ≤ n) × (n ≤ REQUEST_MOST) × (taken ≡ u32_bytes n ++ version ∷ number ∷ [])
+    (MIN_REQUEST ≤ n) × (n ≤ MAX_REQUEST) × (taken ≡ u32_bytes n ++ version ∷ number ∷ [])
 
 -- a request's head, and not all of the rest
 abbrev pub IsPartRequest : List ℕ → Type 0
-IsPartRequest taken = (n : ℕ) × (op : Op) × (part : List ℕ) × (n ≤ REQUEST_MOST) × IsRequestLength op n
+IsPartRequest taken = (n : ℕ) × (op : Op) × (part : List ℕ) × (n ≤ MAX_REQUEST) × IsRequestLength op n
     × (2 + length part < n) × (taken ≡ u32_bytes n ++ (VERSION ∷ op_number op ∷ part))
 
 -- why a request is refused: for its length, for what is judged with it, or as the input ends within it
 abbrev pub RequestFault : Fault → List ℕ → Type 0
-RequestFault Truncated taken = HeadFault REQUEST_LEAST REQUEST_MOST Truncated taken ⊎ IsPartRequest taken
-RequestFault TooLong taken = HeadFault REQUEST_LEAST REQUEST_MOST TooLong taken
+RequestFault Truncated taken = HeadFault MIN_REQUEST MAX_REQUEST Truncated taken ⊎ IsPartRequest taken
+RequestFault TooLong taken = HeadFault MIN_REQUEST MAX_REQUEST TooLong taken
 RequestFault BadOp taken = (n : ℕ) × (version : ℕ) × (number : ℕ) × IsRequestHead n version number taken × OpFault n version number BadOp
-RequestFault BadField taken = HeadFault REQUEST_LEAST REQUEST_MOST BadField taken
+RequestFault BadField taken = HeadFault MIN_REQUEST MAX_REQUEST BadField taken
     ⊎ ((n : ℕ) × (version : ℕ) × (number : ℕ) × IsRequestHead n version number taken × OpFault n version number BadField)
 RequestFault Read taken = ⊤

@@ -1,5 +1,5 @@
 -- Each spelling is that of one request, or of one reply, and none is a prefix of another's: what stands
--- at the front of some bytes is at most one of them, and so is what is behind it.
+-- at the start of some bytes is at most one of them, and so is what is after it.
 use Rattle.std.specs.Prelude.{◌≡◌, List, ℕ, ◌++◌}
 use Rattle.sysv_wire.specs.declared.reply.Reply.{Reply}
 use Rattle.sysv_wire.specs.declared.request.Request.{Request}

@@ -1,5 +1,5 @@
 -- The one spelling of each reply (this profile's): the operation, the number of the error or 0, and then
--- the fields of what is answered in order, and behind those of a receive's the message's text. A refusal
+-- the fields of what is answered in order, and after those of a receive's the message's text. A refusal
 -- has no fields.
 use Rattle.std.specs.Prelude.{◌≡◌, ◌≤◌, ◌<◌, ◌^◌, ◌==◌, length, ⊤, ◌⊎◌, ℕ, Bool, true, false, List, [], ◌∷◌, ◌++◌, None, Some, MatchBool, if◌then◌else◌}
 use Rattle.std.specs.Int.{w32, w64}
@@ -11,7 +11,7 @@ use Rattle.sysv_model.specs.declared.attributes.Stat.{Stat as Told}
 use Rattle.sysv_model.specs.declared.limits.TheConstants.{MESSAGE_BYTES}
 use Rattle.sysv_wire.specs.declared.frame.Op.{Op}
 use Rattle.sysv_wire.specs.declared.frame.Op.TheVariants as op
-use Rattle.sysv_wire.specs.declared.frame.TheConstants.{VERSION, MODE_MOST}
+use Rattle.sysv_wire.specs.declared.frame.TheConstants.{VERSION, MAX_MODE}
 use Rattle.sysv_wire.specs.declared.reply.Outcome.{Outcome}
 use Rattle.sysv_wire.specs.declared.reply.Outcome.TheVariants.{Refused, Hello, Get, Snd, Rcv, Stat, Set, Rm, Row}
 use Rattle.sysv_wire.specs.declared.reply.Reply.{Reply}
@@ -91,7 +91,7 @@ outcome_fields Rm = []
 outcome_fields (Row None) = 0 ∷ []
 outcome_fields (Row (Some row)) = 1 ∷ row_fields row
 
--- a text stands behind the fields: with a receive's alone
+-- a text stands after the fields: with a receive's alone
 abbrev pub gives_text : Outcome → Bool
 gives_text (Rcv mtype) = true
 gives_text (Refused error) = false
@@ -119,13 +119,13 @@ IsAnswer number Hello = number ≡ op_number op.Hello
 IsAnswer number (Get id) = number ≡ op_number op.Get
 IsAnswer number Snd = number ≡ op_number op.Snd
 IsAnswer number (Rcv mtype) = number ≡ op_number op.Rcv
-IsAnswer number (Stat stat) = (number ≡ op_number op.Stat) × (stat.perm.mode ≤ MODE_MOST)
+IsAnswer number (Stat stat) = (number ≡ op_number op.Stat) × (stat.perm.mode ≤ MAX_MODE)
 IsAnswer number Set = number ≡ op_number op.Set
 IsAnswer number Rm = number ≡ op_number op.Rm
 IsAnswer number (Row None) = number ≡ op_number op.Row
-IsAnswer number (Row (Some row)) = (number ≡ op_number op.Row) × (row.mode ≤ MODE_MOST)
+IsAnswer number (Row (Some row)) = (number ≡ op_number op.Row) × (row.mode ≤ MAX_MODE)
 
--- what an operation gives takes this many bytes behind the error: a receive's has its text behind its
+-- what an operation gives takes this many bytes after the error: a receive's has its text after its
 -- fields, and a row may be there or not
 abbrev pub IsAnswerLength : Op → ℕ → Type 0
 IsAnswerLength op.Hello n = n ≡ 0
@@ -137,7 +137,7 @@ IsAnswerLength op.Set n = n ≡ 0
 IsAnswerLength op.Rm n = n ≡ 0
 IsAnswerLength op.Row n = (n ≡ 1) ⊎ (n ≡ 23)
 
--- a reply of the operation with this error may have so many bytes behind the error
+-- a reply of the operation with this error may have so many bytes after the error
 abbrev pub IsRestLength : Op → ℕ → ℕ → Type 0
 IsRestLength o error n = MatchBool (error == 0) (IsAnswerLength o n) (n ≡ 0)
 

@@ -9,7 +9,7 @@ use Rattle.sysv_wire.specs.declared.fault.Fault.{Fault}
 use Rattle.sysv_wire.specs.declared.fault.Fault.TheVariants.{Truncated, TooLong, BadOp, BadField, Read}
 use Rattle.sysv_wire.specs.declared.frame.Op.{Op}
 use Rattle.sysv_wire.specs.declared.frame.Op.TheVariants as op
-use Rattle.sysv_wire.specs.declared.frame.TheConstants.{VERSION, REPLY_LEAST, REPLY_MOST, MODE_MOST}
+use Rattle.sysv_wire.specs.declared.frame.TheConstants.{VERSION, MIN_REPLY, MAX_REPLY, MAX_MODE}
 use Rattle.sysv_wire.specs.Faults.{HeadFault}
 use Rattle.sysv_wire.specs.Frames.{op_number}
 use Rattle.sysv_wire.specs.Numbers.{u16_bytes, u32_bytes}
@@ -18,7 +18,7 @@ use Rattle.sysv_wire.specs.Replies.{IsRestLength}
 -- another version, or a length that is not the operation's with this error
 abbrev pub IsBadReply : ℕ → ℕ → ℕ → ℕ → Type 0
 IsBadReply n version number error =
-    (version ≢ VERSION) ⊎ ((version ≡ VERSION) × ((op : Op) × (op_number op ≡ number) × ¬ IsRestLength op error (n - REPLY_LEAST)))
+    (version ≢ VERSION) ⊎ ((version ≡ VERSION) × ((op : Op) × (op_number op ≡ number) × ¬ IsRestLength op error (n - MIN_REPLY)))
 
 -- why a reply with this length, version, operation and error is refused before the rest is read
 abbrev pub AnswerFault : ℕ → ℕ → ℕ → ℕ → Fault → Type 0
@@ -32,10 +32,10 @@ AnswerFault n version number error Read = ⊥
 abbrev pub IsNoError : ℕ → Type 0
 IsNoError number = (number ≢ 0) × ((error : Errno) → number_of error ≢ number)
 
--- behind so many bytes stands a mode of more than nine bits
+-- after so many bytes stands a mode of more than nine bits
 abbrev pub IsWideAt : ℕ → List ℕ → Type 0
 IsWideAt place fields = (before : List ℕ) × (mode : ℕ) × (after : List ℕ)
-    × (fields ≡ before ++ (u16_bytes mode ++ after)) × (length before ≡ place) × (MODE_MOST < mode) × (mode < 2 ^ 16)
+    × (fields ≡ before ++ (u16_bytes mode ++ after)) × (length before ≡ place) × (MAX_MODE < mode) × (mode < 2 ^ 16)
 
 -- a row that is marked by another number than 0 where nothing follows, and than 1 where it does
 abbrev pub IsBadMark : List ℕ → Type 0
@@ -43,8 +43,8 @@ IsBadMark [] = ⊥
 IsBadMark (mark ∷ []) = mark ≢ 0
 IsBadMark (mark ∷ byte ∷ bytes) = mark ≢ 1
 
--- the fields of what the operation gives have no meaning: the mode of attributes stands behind 20 bytes,
--- that of a row behind its mark and 12 more
+-- the fields of what the operation gives have no meaning: the mode of attributes stands after 20 bytes,
+-- that of a row after its mark and 12 more
 abbrev pub IsBadAnswer : Op → List ℕ → Type 0
 IsBadAnswer op.Stat fields = IsWideAt 20 fields
 IsBadAnswer op.Row fields = IsBadMark fields ⊎ IsWideAt 13 fields
@@ -66,19 +66,19 @@ RestFault op error n BadOp taken = ⊥
 -- a reply's length within the limits, its version, its operation and its error
 abbrev pub IsReplyHead : ℕ → ℕ → ℕ → ℕ → List ℕ → Type 0
 IsReplyHead n version number error taken =
-    (REPLY_LEAST ≤ n) × (n ≤ REPLY_MOST) × (taken ≡ u32_bytes n ++ version ∷ number ∷ error ∷ [])
+    (MIN_REPLY ≤ n) × (n ≤ MAX_REPLY) × (taken ≡ u32_bytes n ++ version ∷ number ∷ error ∷ [])
 
 -- a reply's head, and what was taken of the rest
 abbrev pub IsReplyRest : Fault → List ℕ → Type 0
-IsReplyRest fault taken = (n : ℕ) × (op : Op) × (error : ℕ) × (rest : List ℕ) × (REPLY_LEAST ≤ n) × (n ≤ REPLY_MOST) × IsRestLength op error (n - REPLY_LEAST)
-    × RestFault op error (n - REPLY_LEAST) fault rest × (taken ≡ u32_bytes n ++ (VERSION ∷ op_number op ∷ error ∷ rest))
+IsReplyRest fault taken = (n : ℕ) × (op : Op) × (error : ℕ) × (rest : List ℕ) × (MIN_REPLY ≤ n) × (n ≤ MAX_REPLY) × IsRestLength op error (n - MIN_REPLY)
+    × RestFault op error (n - MIN_REPLY) fault rest × (taken ≡ u32_bytes n ++ (VERSION ∷ op_number op ∷ error ∷ rest))
 
 -- why a reply is refused: for its length, for what is judged with it, or for the rest
 abbrev pub ReplyFault : Fault → List ℕ → Type 0
-ReplyFault Truncated taken = HeadFault REPLY_LEAST REPLY_MOST Truncated taken ⊎ IsReplyRest Truncated taken
-ReplyFault TooLong taken = HeadFault REPLY_LEAST REPLY_MOST TooLong taken
+ReplyFault Truncated taken = HeadFault MIN_REPLY MAX_REPLY Truncated taken ⊎ IsReplyRest Truncated taken
+ReplyFault TooLong taken = HeadFault MIN_REPLY MAX_REPLY TooLong taken
 ReplyFault BadOp taken = (n : ℕ) × (version : ℕ) × (number : ℕ) × (error : ℕ) × IsReplyHead n version number error taken × AnswerFault n version number error BadOp
-ReplyFault BadField taken = (HeadFault REPLY_LEAST REPLY_MOST BadField taken
+ReplyFault BadField taken = (HeadFault MIN_REPLY MAX_REPLY BadField taken
     ⊎ ((n : ℕ) × (version : ℕ) × (number : ℕ) × (error : ℕ) × IsReplyHead n version number error taken × AnswerFault n version number error BadField))
     ⊎ IsReplyRest BadField taken
 ReplyFault Read taken = ⊤

@@ -1,4 +1,4 @@
--- The one spelling of each request (this profile's): its fields in order, and behind those of a send its
+-- The one spelling of each request (this profile's): its fields in order, and after those of a send its
 -- text.
 use Rattle.std.specs.Prelude.{◌≡◌, ◌≤◌, ◌<◌, ◌+◌, ◌^◌, ℕ, length, Bool, true, false, List, [], ◌∷◌, ◌++◌, MatchBool, if◌then◌else◌}
 use Rattle.std.specs.Int.{w32, w64}
@@ -35,7 +35,7 @@ ask_fields (Set id to) = i32_bytes id ++ (u32_bytes to.uid ++ (u32_bytes to.gid 
 ask_fields (Rm id) = i32_bytes id
 ask_fields (Row slot) = u32_bytes slot
 
--- a text stands behind the fields: with a send alone
+-- a text stands after the fields: with a send alone
 abbrev pub has_text : Op → Bool
 has_text op.Snd = true
 has_text op.Hello = false

@@ -2,23 +2,23 @@
 ghost use Rattle.std.specs.Prelude.{◌≡◌, ◌<◌, IfSome, IfNone};
 ghost use Rattle.sysv_wire.specs.Frames.{op_number};
 
-/// The version of the frames, their first byte behind the length.
+/// The version of the frames, their first byte after the length.
 pub const VERSION: u8 = 1;
 
 /// The least length of a request.
-pub const REQUEST_LEAST: u32 = 2;
+pub const MIN_REQUEST: u32 = 2;
 
 /// The greatest length of a request: that of a send with a text of 8,256 bytes.
-pub const REQUEST_MOST: u32 = 8274;
+pub const MAX_REQUEST: u32 = 8274;
 
 /// The least length of a reply.
-pub const REPLY_LEAST: u32 = 3;
+pub const MIN_REPLY: u32 = 3;
 
 /// The greatest length of a reply: that of a receive's with a text of 8,192 bytes.
-pub const REPLY_MOST: u32 = 8203;
+pub const MAX_REPLY: u32 = 8203;
 
 /// The greatest mode of a queue, nine bits.
-pub const MODE_MOST: u16 = 0o777;
+pub const MAX_MODE: u16 = 0o777;
 
 /// What a request asks for and a reply answers.
 #[derive(Clone, Copy, PartialEq, Eq, Debug)]

@@ -7,8 +7,7 @@ ghost use Rattle.sysv_wire.specs.Numbers.{u32_bytes};
 use crate::fault::Fault;
 use crate::number::take_u32;
 use std::io::Read;
-use sysv_model::body::Body;
-use sysv_model::limits::{BLOCK_BYTES, BODY_ROOM};
+use sysv_model::{BLOCK_BYTES, BODY_ROOM, Body};
 
 /// Reads until the bytes are full or the input ends; the number of bytes that came.
 pub(crate) fn fill<R: Read>(reader: &mut R, bytes: &mut [u8]) -> Result<usize, Fault>

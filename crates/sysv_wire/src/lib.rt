@@ -2,15 +2,23 @@
 //! writer. `specs/` has the spelling of each, and what a reader answers to bytes that spell none.
 #![tactic(auto)]
 
-pub mod fault;
+mod fault;
 mod fields;
-pub mod frame;
+mod frame;
 mod input;
-pub mod laws;
+mod laws;
 mod number;
 mod outcome;
 mod output;
-pub mod replies;
-pub mod reply;
-pub mod request;
-pub mod requests;
+mod replies;
+mod reply;
+mod request;
+mod requests;
+
+pub use fault::{Fault, WriteFault};
+pub use frame::{MAX_MODE, MAX_REPLY, MAX_REQUEST, MIN_REPLY, MIN_REQUEST, Op, VERSION};
+pub use laws::{one_answer_to_replies, one_answer_to_requests, one_reply, one_request};
+pub use replies::{read_reply, write_reply};
+pub use reply::{Outcome, Reply};
+pub use request::{Ask, Request};
+pub use requests::{read_request, write_request};

@@ -6,11 +6,10 @@ ghost use Rattle.sysv_wire.specs.Replies.{FitsOutcome, FitsPerm, FitsRow, FitsSt
 ghost use Rattle.sysv_wire.specs.ReplyFaults.{IsBadAnswer, IsBadMark, IsNoError, IsWideAt};
 
 use crate::fault::Fault;
-use crate::frame::{MODE_MOST, Op};
+use crate::frame::{MAX_MODE, Op};
 use crate::number::{only_i32, only_u32, only_u64, take_i32, take_u16, take_u32, take_u64};
 use crate::reply::Outcome;
-use sysv_model::attributes::{Perm, Row, Stat};
-use sysv_model::errno::Errno;
+use sysv_model::{Errno, Perm, Row, Stat};
 
 /// The error with this number, which is not 0.
 pub(crate) fn errno_of(number: u8) -> Result<Errno, Fault>
@@ -54,7 +53,7 @@ pub(crate) fn outcome_of(op: Op, fields: &[u8]) -> Result<Outcome, Fault>
         Op::Rcv => unreachable!(),
         Op::Stat => {
             let stat = stat_of(fields);
-            if stat.perm.mode > MODE_MOST {
+            if stat.perm.mode > MAX_MODE {
                 return Err(Fault::BadField);
             }
             Ok(Outcome::Stat(stat))
@@ -68,7 +67,7 @@ pub(crate) fn outcome_of(op: Op, fields: &[u8]) -> Result<Outcome, Fault>
     }
 }
 
-/// What a row's mark and the bytes behind it say.
+/// What a row's mark and the bytes after it say.
 fn marked_row(mark: u8, rest: &[u8]) -> Result<Outcome, Fault>
     requires { (length rest.now ≡ 0) ⊎ (length rest.now ≡ 22) }
     ensures answer { IfOk result (λ outcome. IsAnswer 7 outcome) }
@@ -89,7 +88,7 @@ fn marked_row(mark: u8, rest: &[u8]) -> Result<Outcome, Fault>
         return Err(Fault::BadField);
     }
     let row = row_of(rest);
-    if row.mode > MODE_MOST {
+    if row.mode > MAX_MODE {
         return Err(Fault::BadField);
     }
     Ok(Outcome::Row(Some(row)))
@@ -118,7 +117,7 @@ fn row_of(fields: &[u8]) -> Row
     }
 }
 
-/// Owner, creator and mode at the front, and what is behind them.
+/// Owner, creator and mode at the start, and what is after them.
 #[tactic(auto, using(std::proofs::Common::append_assoc), unfolding(crate::specs::Replies::perm_fields))]
 fn take_perm(fields: &[u8]) -> (Perm, &[u8])
     requires { 18 ≤ length fields.now }

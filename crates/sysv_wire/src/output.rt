@@ -5,8 +5,7 @@ ghost use Rattle.sysv_wire.specs.Streams.{AppendsPrefix};
 
 use crate::fault::WriteFault;
 use std::io::Write;
-use sysv_model::body::Body;
-use sysv_model::limits::BLOCK_BYTES;
+use sysv_model::{BLOCK_BYTES, Body};
 
 /// Writes the bytes, in as many writes as the writer wants.
 pub(crate) fn write_out<W: Write>(writer: &mut W, bytes: &[u8]) -> Result<(), WriteFault>

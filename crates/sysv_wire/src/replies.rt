@@ -12,25 +12,23 @@ ghost use Rattle.sysv_wire.specs.Streams.{AppendsPrefix};
 
 use crate::fault::{Fault, WriteFault};
 use crate::fields::Fields;
-use crate::frame::{Op, REPLY_MOST, VERSION};
+use crate::frame::{MAX_REPLY, Op, VERSION};
 use crate::input::{fill_all, read_head, read_text};
 use crate::number::only_i64;
 use crate::outcome::{errno_of, outcome_of};
 use crate::output::{write_both, write_out};
 use crate::reply::{Outcome, Reply};
 use std::io::{Read, Write};
-use sysv_model::attributes::{Perm, Row, Stat};
-use sysv_model::body::Body;
-use sysv_model::limits::MESSAGE_BYTES;
+use sysv_model::{Body, MESSAGE_BYTES, Perm, Row, Stat};
 
 /// The most bytes that the fields of a reply take, its text not counted.
-const FIELDS_MOST: usize = 66;
+const MAX_FIELDS: usize = 66;
 
-/// The most bytes behind the error of a reply.
-const REST_MOST: usize = 8200;
+/// The most bytes after the error of a reply.
+const MAX_REST: usize = 8200;
 
 /// Judges the version, the operation and then the length that the operation wants with this error; the
-/// operation, and the bytes behind the error.
+/// operation, and the bytes after the error.
 fn judge(length: u32, version: u8, number: u8, error: u8) -> Result<(Op, usize), Fault>
     requires { 3 ≤ length }
     ensures version { OnOk result (version ≡ VERSION) }
@@ -85,7 +83,7 @@ fn read_fields<R: Read>(reader: &mut R, op: Op, rest: usize) -> Result<Outcome, 
     ensures text { IfOk result (λ outcome. gives_text outcome ≡ false) }
     ensures fault { IfErr result (λ fault. Faults (RestFault op 0 rest) fault (R.remaining reader.old) (R.remaining reader.new)) }
 {
-    let mut fields = [0; FIELDS_MOST];
+    let mut fields = [0; MAX_FIELDS];
     let fields = &mut fields[..rest];
     fill_all(reader, fields)?;
     outcome_of(op, fields)
@@ -94,7 +92,7 @@ fn read_fields<R: Read>(reader: &mut R, op: Op, rest: usize) -> Result<Outcome, 
 /// Reads so many bytes, which are the type and the text of a message.
 fn read_message<R: Read>(reader: &mut R, rest: usize, text: &mut Body) -> Result<Outcome, Fault>
     requires least { 8 ≤ rest }
-    requires most { rest ≤ REST_MOST }
+    requires most { rest ≤ MAX_REST }
     requires empty { text.old ≡ [] }
     ensures taken { IfOk result (λ outcome. Consumes (R.remaining reader.old) (R.remaining reader.new) (outcome_fields outcome ++ text.new)) }
     ensures len { IfOk result (λ outcome. length (outcome_fields outcome ++ text.new) ≡ rest) }
@@ -111,7 +109,7 @@ fn read_message<R: Read>(reader: &mut R, rest: usize, text: &mut Body) -> Result
     Ok(Outcome::Rcv { mtype })
 }
 
-/// Reads what stands behind the error of a reply.
+/// Reads what stands after the error of a reply.
 fn read_rest<R: Read>(
     reader: &mut R,
     op: Op,
@@ -120,7 +118,7 @@ fn read_rest<R: Read>(
     text: &mut Body,
 ) -> Result<Outcome, Fault>
     requires len { IsRestLength op error rest }
-    requires most { rest ≤ REST_MOST }
+    requires most { rest ≤ MAX_REST }
     requires empty { text.old ≡ [] }
     ensures taken { IfOk result (λ outcome. Consumes (R.remaining reader.old) (R.remaining reader.new) (outcome_fields outcome ++ outcome_text outcome text.new)) }
     ensures len { IfOk result (λ outcome. rest ≡ length (outcome_fields outcome ++ outcome_text outcome text.new)) }
@@ -143,7 +141,7 @@ fn read_rest<R: Read>(
 /// Reads one reply; `None` where the input ends before its first byte. The text of a receive's is then
 /// in `text`, which is empty with any other reply and at the end; after a fault nothing is said of it.
 ///
-/// No byte behind the reply is read, and none at all behind what a fault is told of. The length is
+/// No byte after the reply is read, and none at all after what a fault is told of. The length is
 /// judged first, then the version, the operation and the length that it wants with this error, and once
 /// all is read the error, the mark of a row that is there and the mode. Where the input ends within the
 /// frame it is `Truncated`, and where the reader fails it is `Read`.
@@ -162,7 +160,7 @@ fn next_reply<R: Read>(reader: &mut R, text: &mut Body) -> Result<Option<Reply>,
 {
     text.clear();
     let mut head = [0; 3];
-    let Some(length) = read_head(reader, REPLY_MOST, &mut head)? else {
+    let Some(length) = read_head(reader, MAX_REPLY, &mut head)? else {
         return Ok(None);
     };
     let (op, rest) = judge(length, head[0], head[1], head[2])?;
@@ -192,7 +190,7 @@ pub fn write_reply<W: Write>(writer: &mut W, reply: &Reply, text: &Body) -> Resu
     }
 }
 
-/// Whether a reply has a text behind its fields.
+/// Whether a reply has a text after its fields.
 fn takes_text(outcome: &Outcome) -> bool
     ensures { result ≡ gives_text outcome.now }
 {
@@ -219,7 +217,7 @@ fn error_of(outcome: &Outcome) -> u8
 /// The length, the version, the operation, the error and the fields of a reply, whose text has this many
 /// bytes.
 fn head_of(reply: &Reply, fields: &Fields, text_len: usize) -> Fields
-    requires fields { length fields.now ≤ FIELDS_MOST }
+    requires fields { length fields.now ≤ MAX_FIELDS }
     requires text { text_len ≤ MESSAGE_BYTES }
     ensures { result ≡ u32_bytes (3 + length fields.now + text_len) ++ (VERSION ∷ reply.now.op ∷ error_number reply.now.result ∷ fields.now) }
 {
@@ -235,7 +233,7 @@ fn head_of(reply: &Reply, fields: &Fields, text_len: usize) -> Fields
 /// The fields of what is answered.
 fn fields_of(outcome: &Outcome) -> Fields
     ensures fields { result ≡ outcome_fields outcome.now }
-    ensures most { length result ≤ FIELDS_MOST }
+    ensures most { length result ≤ MAX_FIELDS }
 {
     let mut fields = Fields::new();
     match *outcome {

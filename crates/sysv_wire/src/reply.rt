@@ -1,6 +1,5 @@
 //! What a server answers.
-use sysv_model::attributes::{Row, Stat};
-use sysv_model::errno::Errno;
+use sysv_model::{Errno, Row, Stat};
 
 /// One reply. The text of a receive's stands beside it, in a `Body`.
 #[derive(Clone, Copy, PartialEq, Eq, Debug)]

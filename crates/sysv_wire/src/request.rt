@@ -3,9 +3,7 @@ ghost use Rattle.std.specs.Prelude.{◌≡◌};
 ghost use Rattle.sysv_wire.specs.Requests.{op_of};
 
 use crate::frame::Op;
-use sysv_model::attributes::SetTo;
-use sysv_model::cred::Cred;
-use sysv_model::flags::Flags;
+use sysv_model::{Cred, Flags, SetTo};
 
 /// One request. The text of a send stands beside it, in a `Body`.
 #[derive(Clone, Copy, PartialEq, Eq, Debug)]

@@ -11,21 +11,17 @@ ghost use Rattle.sysv_wire.specs.Streams.{AppendsPrefix};
 
 use crate::fault::{Fault, WriteFault};
 use crate::fields::Fields;
-use crate::frame::{Op, REQUEST_MOST, VERSION};
+use crate::frame::{MAX_REQUEST, Op, VERSION};
 use crate::input::{fill_all, read_head, read_text};
 use crate::number::{only_i32, only_u32, take_i32, take_i64, take_u32};
 use crate::output::{write_both, write_out};
 use crate::request::{Ask, Request};
 use bitflags::Flags as Set;
 use std::io::{Read, Write};
-use sysv_model::attributes::SetTo;
-use sysv_model::body::Body;
-use sysv_model::cred::Cred;
-use sysv_model::flags::Flags;
-use sysv_model::limits::BODY_ROOM;
+use sysv_model::{BODY_ROOM, Body, Cred, Flags, SetTo};
 
 /// The most bytes that the fields of a request take, its text not counted.
-const FIELDS_MOST: usize = 20;
+const MAX_FIELDS: usize = 20;
 
 /// The bytes that the fields of a request take, its text not counted.
 fn len_of(op: Op) -> usize
@@ -40,7 +36,7 @@ fn len_of(op: Op) -> usize
     }
 }
 
-/// Whether a request has a text behind its fields.
+/// Whether a request has a text after its fields.
 fn takes_text(op: Op) -> bool
     ensures { result ≡ has_text op }
 {
@@ -209,7 +205,7 @@ fn row_of(fields: &[u8]) -> Ask
 /// Reads the fields of a request with a whole length, and its text.
 fn read_ask<R: Read>(reader: &mut R, whole: u32, op: Op, text: &mut Body) -> Result<Ask, Fault>
     requires wanted { IsRequestLength op whole }
-    requires most { whole ≤ REQUEST_MOST }
+    requires most { whole ≤ MAX_REQUEST }
     requires empty { text.old ≡ [] }
     ensures taken { IfOk result (λ ask. Consumes (R.remaining reader.old) (R.remaining reader.new) (ask_fields ask ++ ask_text op text.new)) }
     ensures op { IfOk result (λ ask. op_of ask ≡ op) }
@@ -218,7 +214,7 @@ fn read_ask<R: Read>(reader: &mut R, whole: u32, op: Op, text: &mut Body) -> Res
     ensures text { OnOk result (text.new ≡ ask_text op text.new) }
     ensures fault { IfErr result (λ fault. Faults (Breaks (IsShorter (whole - 2))) fault (R.remaining reader.old) (R.remaining reader.new)) }
 {
-    let mut fields = [0; FIELDS_MOST];
+    let mut fields = [0; MAX_FIELDS];
     let len = len_of(op);
     let fields = &mut fields[..len];
     fill_all(reader, fields)?;
@@ -232,7 +228,7 @@ fn read_ask<R: Read>(reader: &mut R, whole: u32, op: Op, text: &mut Body) -> Res
 /// Reads one request; `None` where the input ends before its first byte. The text of a send is then in
 /// `text`, which is empty with any other request and at the end; after a fault nothing is said of it.
 ///
-/// No byte behind the request is read, and none at all behind what a fault is told of. The length is
+/// No byte after the request is read, and none at all after what a fault is told of. The length is
 /// judged first, then the version, the operation and the length that it wants; where the input ends
 /// within the frame it is `Truncated`, and where the reader fails it is `Read`.
 pub fn read_request<R: Read>(reader: &mut R, text: &mut Body) -> Result<Option<Request>, Fault>
@@ -250,7 +246,7 @@ fn next_request<R: Read>(reader: &mut R, text: &mut Body) -> Result<Option<Reque
 {
     text.clear();
     let mut head = [0; 2];
-    let Some(length) = read_head(reader, REQUEST_MOST, &mut head)? else {
+    let Some(length) = read_head(reader, MAX_REQUEST, &mut head)? else {
         return Ok(None);
     };
     let op = judge(length, head[0], head[1])?;
@@ -282,7 +278,7 @@ pub fn write_request<W: Write>(
 
 /// The length, the version, the operation and the fields of a request, whose text has this many bytes.
 fn head_of(op: Op, fields: &Fields, text_len: usize) -> Fields
-    requires fields { length fields.now ≤ FIELDS_MOST }
+    requires fields { length fields.now ≤ MAX_FIELDS }
     requires text { text_len ≤ BODY_ROOM }
     ensures { result ≡ u32_bytes (2 + length fields.now + text_len) ++ (VERSION ∷ op_number op ∷ fields.now) }
 {
@@ -298,7 +294,7 @@ fn head_of(op: Op, fields: &Fields, text_len: usize) -> Fields
 #[tactic(auto, using(std::proofs::Common::append_assoc), unfolding(crate::specs::Requests::ask_fields))]
 fn fields_of(ask: &Ask) -> Fields
     ensures fields { result ≡ ask_fields ask.now }
-    ensures most { length result ≤ FIELDS_MOST }
+    ensures most { length result ≤ MAX_FIELDS }
 {
     let mut fields = Fields::new();
     match *ask {

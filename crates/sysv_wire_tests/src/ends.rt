@@ -3,8 +3,7 @@ use std::alloc::Global;
 use std::io;
 use std::io::{ErrorKind, Read, Write};
 use std::process::Abort;
-use sysv_model::body::Body;
-use sysv_model::no_memory::NoMemory;
+use sysv_model::{Body, NoMemory};
 
 /// An open body. Memory is refused once at most.
 pub(crate) fn open_body(rt: &impl Abort, alloc: Global) -> Body {

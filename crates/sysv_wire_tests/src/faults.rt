@@ -1,11 +1,7 @@
 //! Bytes that spell no frame, and frames that break off, each with its fault worked by hand.
 use crate::ends::{Pieces, open_body};
 use crate::frames::{ANSWERS, OTHERS, SESSION, TOLD};
-use sysv_wire::fault::Fault;
-use sysv_wire::replies::read_reply;
-use sysv_wire::reply::Reply;
-use sysv_wire::request::Request;
-use sysv_wire::requests::read_request;
+use sysv_wire::{Fault, Reply, Request, read_reply, read_request};
 
 /// Bytes, and what a reader of requests answers to them.
 const REQUESTS: &[(&[u8], Result<Option<Request>, Fault>)] = &[
@@ -207,7 +203,7 @@ fn replies(rt: HostRuntime) {
     }
 }
 
-/// The ends of the frames that stand one behind the other, each below 256 bytes long.
+/// The ends of the frames that stand one after the other, each below 256 bytes long.
 fn next_end(bytes: &[u8], start: usize) -> usize {
     let len = bytes
         .get(start.saturating_add(3))

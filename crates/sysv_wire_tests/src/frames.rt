@@ -3,15 +3,10 @@ use crate::ends::{Page, Pieces, open_body};
 use bitflags::Flags as Set;
 use std::alloc::Global;
 use std::process::Abort;
-use sysv_model::attributes::{Perm, Row, SetTo, Stat};
-use sysv_model::cred::Cred;
-use sysv_model::errno::Errno;
-use sysv_model::flags::Flags;
-use sysv_model::limits::MESSAGE_BYTES;
-use sysv_wire::replies::{read_reply, write_reply};
-use sysv_wire::reply::{Outcome, Reply};
-use sysv_wire::request::{Ask, Request};
-use sysv_wire::requests::{read_request, write_request};
+use sysv_model::{Cred, Errno, Flags, MESSAGE_BYTES, Perm, Row, SetTo, Stat};
+use sysv_wire::{
+    Ask, Outcome, Reply, Request, read_reply, read_request, write_reply, write_request,
+};
 
 /// A hello, a get, a send of `hi` and two receives.
 pub(crate) const SESSION: &[u8] = &[

@@ -6,6 +6,8 @@ mod ends;
 #[cfg(test)]
 mod faults;
 #[cfg(test)]
+mod fields;
+#[cfg(test)]
 mod frames;
 #[cfg(test)]
 mod streams;

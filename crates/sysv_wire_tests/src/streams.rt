@@ -2,12 +2,11 @@
 use crate::ends::{Page, Pieces, open_body};
 use crate::frames::{ANSWERS, SESSION};
 use bitflags::Flags as Set;
-use sysv_model::flags::Flags;
-use sysv_wire::fault::{Fault, WriteFault};
-use sysv_wire::replies::{read_reply, write_reply};
-use sysv_wire::reply::{Outcome, Reply};
-use sysv_wire::request::{Ask, Request};
-use sysv_wire::requests::{read_request, write_request};
+use sysv_model::Flags;
+use sysv_wire::{
+    Ask, Fault, Outcome, Reply, Request, WriteFault, read_reply, read_request, write_reply,
+    write_request,
+};
 
 #[test]
 fn the_reader_fails(rt: HostRuntime) {

@@ -67,7 +67,7 @@ adds_one_or_not : (before : ℕ) (list : List ℕ) → ¬ Contains list 43 → D
 adds_one_or_not before list plain =
     decided_as (λ h. (bit_or before h.0, One before list h.0 h.1)) (λ h. AddsFlags-last before list h.0 plain h.1) (some_or_not list)
 
--- a list that splits stands for bits exactly where what is behind its first name does
+-- a list that splits stands for bits exactly where what is after its first name does
 adds_more : (before : ℕ) (list name rest : List ℕ) (bits : ℕ) → SplitsAt 43 list name rest → NamesFlag name bits → AddsSome (bit_or before bits) rest → AddsSome before list
 adds_more before list name rest bits s named more =
     (more.0, subst (λ (l : List ℕ). AddsFlags before l more.0) (sym s.whole) (More before name rest bits more.0 named more.1))

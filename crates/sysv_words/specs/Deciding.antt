@@ -77,12 +77,12 @@ begun_or_not (x ∷ front) (y ∷ text) = elim (cases_eq y x) [
   | inr other ↦ inr (λ h. other (begun_behind x y front text h).0)
 ]
 
--- what stands behind a front is one text
+-- what stands after a front is one text
 rest_same : (front a b : List ℕ) → front ++ a ≡ front ++ b → a ≡ b
 rest_same [] a b e = e
 rest_same (x ∷ front) a b e = let behind : front ++ a ≡ front ++ b = cc in rest_same front a b behind
 
--- a text begins with a front behind which P holds of the rest, or it does not
+-- a text begins with a front after which P holds of the rest, or it does not
 pub behind_or_not : (front : List ℕ) (P : List ℕ → Type 0) → ((rest : List ℕ) → Decided (P rest)) → (text : List ℕ) → Decided ((rest : List ℕ) × (text ≡ front ++ rest) × P rest)
 behind_or_not front P decided text = elim (begun_or_not front text) [
   | inl b ↦ decided_as (λ p. (b.0, b.1, p)) (λ h. subst P (rest_same front h.0 b.0 (sym h.1 ∙ b.1)) h.2) (decided b.0)
@@ -117,7 +117,7 @@ splits_or_not mark (x ∷ xs) = elim (cases_eq x mark) [
   ]
 ]
 
--- what stands behind the mark is shorter than the text
+-- what stands after the mark is shorter than the text
 pub splits_shorter : (mark : ℕ) (text part rest : List ℕ) → SplitsAt mark text part rest → length rest < length text
 splits_shorter mark text part rest s =
     let whole : length text ≡ length part + length (mark ∷ rest) = ap length s.whole ∙ length-append part (mark ∷ rest) in

@@ -5,7 +5,7 @@ use Rattle.std.specs.Str.Parse.{AllDigits, digits_value}
 use Rattle.sysv_model.specs.declared.flags.Flags.{Flags}
 use Rattle.sysv_model.specs.declared.flags.TheConstants.Flags.{IPC_CREAT, IPC_EXCL, IPC_NOWAIT, MSG_NOERROR, MSG_EXCEPT}
 
--- a 0, and up to three octal digits behind it, stand for a mode
+-- a 0, and up to three octal digits after it, stand for a mode
 abbrev pub IsMode : List ℕ → Type 0
 IsMode digits = (length digits ≤ 3) × AllDigits 8 digits
 

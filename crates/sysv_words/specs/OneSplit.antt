@@ -6,5 +6,5 @@ pub record OneSplit : Type 0 where
   pub once : (mark : ℕ) (text part rest front behind : List ℕ) → SplitsAt mark text part rest → SplitsAt mark text front behind → (part ≡ front) × (rest ≡ behind)
   pub either : (mark : ℕ) (text : List ℕ) → ((part : List ℕ) × (rest : List ℕ) × SplitsAt mark text part rest) ⊎ ¬ Contains text mark
   pub marked : (mark : ℕ) (text part rest : List ℕ) → SplitsAt mark text part rest → Contains text mark
-  -- what stands behind the mark is shorter than the text
+  -- what stands after the mark is shorter than the text
   pub shorter : (mark : ℕ) (text part rest : List ℕ) → SplitsAt mark text part rest → length rest < length text

@@ -26,7 +26,7 @@ splits_once m t p r q s a b = splits_apart m p r q s a.unmarked b.unmarked (sym 
 pub SplitsAt-marked : (m : ℕ) (t p r : List ℕ) → SplitsAt m t p r → Contains t m
 SplitsAt-marked m t p r a = subst (λ (l : List ℕ). Contains l m) (sym a.whole) (Contains-append_right p (m ∷ r) m (Contains-first m m r refl))
 
--- ---- a word, and words behind it
+-- ---- a word, and words after it
 
 -- a text without a space has no first word, nor has one whose first word says nothing
 pub first-unsplit : {A : Type 0} (Says : List ℕ → A → Type 0) (text : List ℕ) → ¬ Contains text 32 → SaysNoFirst Says text
@@ -37,7 +37,7 @@ first-no_one Says text word rest split none = λ other more value splits h.
     let same = splits_once 32 text other more word rest splits split in
     none value (subst (λ (w : List ℕ). Says w value) same.0 h)
 
--- no pair is said where the first word says nothing, or the words behind it do not
+-- no pair is said where the first word says nothing, or the words after it do not
 pub Pair-no_one : {A B : Type 0} (One : List ℕ → A → Type 0) (Other : List ℕ → B → Type 0) (text : List ℕ) → SaysNoFirst One text → (both : A × B) → ¬ Pair One Other text both
 Pair-no_one One Other text none both h = none h.word h.rest both.0 h.split h.one
 

@@ -19,7 +19,7 @@ pub record Pair {A B : Type 0} (SaysOne : List ℕ → A → Type 0) (SaysOther 
   pub one : SaysOne word both.0
   pub other : SaysOther rest both.1
 
--- the first word says this, with that rest behind its space; and there is no such word
+-- the first word says this, with that rest after its space; and there is no such word
 abbrev pub SaysFirst : {A : Type 0} → (List ℕ → A → Type 0) → List ℕ → A → List ℕ → Type 0
 SaysFirst Says text value rest = (word : List ℕ) × SplitsAt 32 text word rest × Says word value
 

@@ -6,7 +6,7 @@ use crate::octal::octal_number;
 use crate::reads::Reads;
 use crate::word::split_at_mark;
 use bitflags::Flags as _;
-use sysv_model::flags::Flags;
+use sysv_model::Flags;
 
 /// `-` for none, or names and octal modes with `+` between them.
 impl Reads for Flags {
@@ -44,7 +44,7 @@ fn flag_of(name: &[u8]) -> Option<Flags>
     }
 }
 
-/// The bits of an octal mode, which is a `0` and up to three octal digits behind it.
+/// The bits of an octal mode, which is a `0` and up to three octal digits after it.
 fn mode_bits(name: &[u8]) -> Option<Flags>
     ensures { MatchOption result ((bits : ℕ) → ¬ NamesMode name.now bits) (λ mode. NamesMode name.now mode.0) }
 {

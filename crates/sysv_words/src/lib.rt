@@ -2,9 +2,14 @@
 #![tactic(auto)]
 
 mod flags;
-pub mod laws;
-pub mod octal;
-pub mod reads;
+mod laws;
+mod octal;
+mod reads;
 #[cfg(test)]
 mod tests;
-pub mod word;
+mod word;
+
+pub use laws::{one_split, words_are_read};
+pub use octal::Octal;
+pub use reads::{Reads, first};
+pub use word::split_at_mark;

@@ -2,7 +2,7 @@ use crate::octal::Octal;
 use crate::reads::Reads;
 use crate::word::split_at_mark;
 use bitflags::Flags as _;
-use sysv_model::flags::Flags;
+use sysv_model::Flags;
 
 #[test]
 fn numerals_are_read(rt: HostRuntime) {

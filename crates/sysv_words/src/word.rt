@@ -8,7 +8,7 @@ ghost use Rattle.sysv_words.specs.Words.{SplitsAt, IsNumber, number_in};
 
 use std::str;
 
-/// What stands before the first such byte, and what stands behind it; `None` where there is none.
+/// What stands before the first such byte, and what stands after it; `None` where there is none.
 pub fn split_at_mark(text: &[u8], mark: u8) -> Option<(&[u8], &[u8])>
     ensures { MatchOption result (¬ (Contains text.now mark)) (λ split. SplitsAt mark text.now split.0.now split.1.now) }
 {

@@ -21,7 +21,7 @@ use std::thread::{Scope, Threads};
 use sysv_buffer::{ManyBuffer, Seat};
 
 /// There are at most so many workers.
-const WORKERS_MOST: usize = 16;
+const MAX_WORKERS: usize = 16;
 
 /// Runs the job over all items of the source, in a thread for each state, and answers the states that the runs leave, in
 /// their order. An item goes to a worker that waits for one, through a buffer with a cell for each worker. The source is
@@ -49,7 +49,7 @@ where
     ensures asked { IfErr result (λ e. LeavesSource source.old e.why source.new) }
 {
     let count = states.len();
-    if count < 1 || count > WORKERS_MOST {
+    if count < 1 || count > MAX_WORKERS {
         let why = WorkersFault::BadCount;
         return Err(WorkersRefused { why, states });
     }

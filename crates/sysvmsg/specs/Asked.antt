@@ -4,11 +4,11 @@ use Rattle.sysvmsg.specs.declared.asked.Asked.{Asked}
 use Rattle.sysvmsg.specs.declared.asked.Asked.TheVariants.{Script, Serve, Client}
 use Rattle.sysvmsg.specs.declared.asked.Serving.{Serving}
 use Rattle.sysv_clients.specs.Run.{HasShortText}
-use Rattle.sysv_model.specs.declared.limits.TheConstants.{BLOCKS_LEAST, BLOCKS_MOST}
+use Rattle.sysv_model.specs.declared.limits.TheConstants.{MIN_BLOCKS, MAX_BLOCKS}
 
 -- a server has as many blocks and workers as one can have
 abbrev pub HasLimits : Serving → Type 0
-HasLimits serving = (BLOCKS_LEAST ≤ serving.blocks) × (serving.blocks ≤ BLOCKS_MOST) × (1 ≤ serving.workers) × (serving.workers ≤ 16)
+HasLimits serving = (MIN_BLOCKS ≤ serving.blocks) × (serving.blocks ≤ MAX_BLOCKS) × (1 ≤ serving.workers) × (serving.workers ≤ 16)
 
 -- and a text that is sent is one that a request can carry
 abbrev pub IsWithinLimits : Asked → Type 0

@@ -8,11 +8,9 @@ use clap::error::ErrorKind;
 use clap::{ArgMatches, Command as CommandLine, Error};
 use std::alloc::{AllocError, Global};
 use std::convert::AsStr;
-use sysv_clients::command::{Command, Target, Task};
-use sysv_clients::words::{id_of, key_of, type_of};
-use sysv_model::cred::Cred;
-use sysv_model::limits::{BLOCKS_LEAST, BLOCKS_MOST, BODY_ROOM};
-use sysv_words::reads::Reads;
+use sysv_clients::{Command, Target, Task, id_of, key_of, type_of};
+use sysv_model::{BODY_ROOM, Cred, MAX_BLOCKS, MIN_BLOCKS};
+use sysv_words::Reads;
 
 /// What a command line asks for.
 #[derive(Clone, Copy, PartialEq, Eq, Debug)]
@@ -39,7 +37,7 @@ pub(crate) struct Serving<'a> {
 }
 
 /// The most workers of a server.
-const WORKERS_MOST: u32 = 16;
+const MAX_WORKERS: u32 = 16;
 
 /// Why a word says nothing.
 type Bad = &'static str;
@@ -130,11 +128,11 @@ fn server<'a>(words: &ArgMatches<'a>) -> Result<Serving<'a>, Bad>
         return Err(NO_COMMAND);
     };
     let blocks = number(words, "blocks", 1024)?;
-    if !(BLOCKS_LEAST..=BLOCKS_MOST).contains(&blocks) {
+    if !(MIN_BLOCKS..=MAX_BLOCKS).contains(&blocks) {
         return Err(BAD_BLOCKS);
     }
     let workers = number(words, "workers", 4)?;
-    if !(1..=WORKERS_MOST).contains(&workers) {
+    if !(1..=MAX_WORKERS).contains(&workers) {
         return Err(BAD_WORKERS);
     }
     let sessions = match words.get_str("sessions") {

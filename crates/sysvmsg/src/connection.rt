@@ -8,9 +8,7 @@ use std::io::{BufReader, BufWriter, Write};
 use std::net::Net;
 use std::os::unix::net::UnixStream;
 use std::process::ExitCode;
-use sysv_clients::client::run_client;
-use sysv_clients::command::Command;
-use sysv_clients::fault::ClientFault;
+use sysv_clients::{ClientFault, Command, run_client};
 
 /// Connects to the server at a path, and does there what a command says.
 pub(crate) fn run_at(

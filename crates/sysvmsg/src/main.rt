@@ -15,7 +15,7 @@ use connection::run_at;
 use serving::serve_at;
 use std::env;
 use std::process::ExitCode;
-use sysv_script::script::run_script;
+use sysv_script::run_script;
 
 /// The status where a task was refused or ended by a fault.
 const FAULT: u8 = 1;
@@ -33,7 +33,10 @@ fn main(rt: HostRuntime) -> ExitCode {
     match read_words(rt.alloc(), words.as_slice()) {
         Ok(Asked::Script) => match run_script(rt.alloc(), &mut rt.stdin(), &mut rt.stdout()) {
             Ok(()) => ExitCode::SUCCESS,
-            Err(_) => ExitCode::from(FAULT),
+            Err(fault) => {
+                let _ = eprintln!(rt; "sysvmsg: {fault}");
+                ExitCode::from(FAULT)
+            }
         },
         Ok(Asked::Serve(serving)) => serve_at(&rt, &serving),
         Ok(Asked::Client { path, command }) => run_at(&rt, path, &command),

@@ -11,8 +11,8 @@ use std::net::Net;
 use std::os::unix::net::UnixStream;
 use std::process::{Abort, ExitCode};
 use std::test::Fail;
-use sysv_clients::command::{Command, Target, Task};
-use sysv_model::cred::Cred;
+use sysv_clients::{Command, Target, Task};
+use sysv_model::Cred;
 
 /// What the words ask for. Memory is refused once at most.
 fn asked_of<'a>(alloc: Global, words: &'a [&'a str]) -> Result<Asked<'a>, Error> {
@@ -138,41 +138,43 @@ fn lists_and_removals(rt: HostRuntime) -> Result<(), Fail> {
     Ok(())
 }
 
+/// Command lines of sends: key, text, type, and whether it may not wait.
+const SENDS: [(&[&str], i32, &[u8], i64, bool); 4] = [
+    (&["sysvmsg", "snd", "s", "7", "hi"], 7, b"hi", 1, false),
+    (
+        &[
+            "sysvmsg",
+            "snd",
+            "s",
+            "0x7",
+            "",
+            "--type",
+            "9223372036854775807",
+        ],
+        7,
+        b"",
+        9223372036854775807,
+        false,
+    ),
+    (
+        &["sysvmsg", "snd", "s", "--nowait", "7", "--", "--type"],
+        7,
+        b"--type",
+        1,
+        true,
+    ),
+    (
+        &["sysvmsg", "snd", "s", "7", "\u{e9}\n"],
+        7,
+        b"\xc3\xa9\n",
+        1,
+        false,
+    ),
+];
+
 #[test]
 fn sends(rt: HostRuntime) -> Result<(), Fail> {
-    let table: [(&[&str], i32, &[u8], i64, bool); 4] = [
-        (&["sysvmsg", "snd", "s", "7", "hi"], 7, b"hi", 1, false),
-        (
-            &[
-                "sysvmsg",
-                "snd",
-                "s",
-                "0x7",
-                "",
-                "--type",
-                "9223372036854775807",
-            ],
-            7,
-            b"",
-            9223372036854775807,
-            false,
-        ),
-        (
-            &["sysvmsg", "snd", "s", "--nowait", "7", "--", "--type"],
-            7,
-            b"--type",
-            1,
-            true,
-        ),
-        (
-            &["sysvmsg", "snd", "s", "7", "\u{e9}\n"],
-            7,
-            b"\xc3\xa9\n",
-            1,
-            false,
-        ),
-    ];
-    for (words, key, text, mtype, nowait) in table {
+    for (words, key, text, mtype, nowait) in SENDS {
         let task = Task::Send {
             key,
             text,
@@ -188,47 +190,49 @@ fn sends(rt: HostRuntime) -> Result<(), Fail> {
     Ok(())
 }
 
+/// Command lines of receives: size, type, whether it may not wait, and whether a text may be cut.
+const RECEIVES: [(&[&str], u32, i64, bool, bool); 5] = [
+    (&["sysvmsg", "rcv", "s", "7"], 8192, 0, false, false),
+    (
+        &["sysvmsg", "rcv", "s", "7", "--size", "0", "--type", "5"],
+        0,
+        5,
+        false,
+        false,
+    ),
+    (
+        &["sysvmsg", "rcv", "s", "7", "--upto", "5", "--nowait"],
+        8192,
+        -5,
+        true,
+        false,
+    ),
+    (
+        &[
+            "sysvmsg",
+            "rcv",
+            "s",
+            "7",
+            "--upto=9223372036854775807",
+            "--size=4294967295",
+        ],
+        4294967295,
+        -9223372036854775807,
+        false,
+        false,
+    ),
+    (
+        &["sysvmsg", "rcv", "--noerror", "s", "7"],
+        8192,
+        0,
+        false,
+        true,
+    ),
+];
+
 #[test]
 fn receives(rt: HostRuntime) -> Result<(), Fail> {
-    let table: [(&[&str], u32, i64, bool, bool); 5] = [
-        (&["sysvmsg", "rcv", "s", "7"], 8192, 0, false, false),
-        (
-            &["sysvmsg", "rcv", "s", "7", "--size", "0", "--type", "5"],
-            0,
-            5,
-            false,
-            false,
-        ),
-        (
-            &["sysvmsg", "rcv", "s", "7", "--upto", "5", "--nowait"],
-            8192,
-            -5,
-            true,
-            false,
-        ),
-        (
-            &[
-                "sysvmsg",
-                "rcv",
-                "s",
-                "7",
-                "--upto=9223372036854775807",
-                "--size=4294967295",
-            ],
-            4294967295,
-            -9223372036854775807,
-            false,
-            false,
-        ),
-        (
-            &["sysvmsg", "rcv", "--noerror", "s", "7"],
-            8192,
-            0,
-            false,
-            true,
-        ),
-    ];
-    for (words, size, mtype, nowait, noerror) in table {
+    for (words, size, mtype, nowait, noerror) in RECEIVES {
         let task = Task::Receive {
             key: 7,
             size,
@@ -245,73 +249,75 @@ fn receives(rt: HostRuntime) -> Result<(), Fail> {
     Ok(())
 }
 
+/// Command lines that are not understood.
+const WRONG_LINES: [&[&str]; 48] = [
+    &["sysvmsg"],
+    &["sysvmsg", ""],
+    &["sysvmsg", "scripts"],
+    &["sysvmsg", "Script"],
+    &["sysvmsg", "serve"],
+    &["sysvmsg", "serve", "s", "t"],
+    &["sysvmsg", "serve", "s", "--blocks", "127"],
+    &["sysvmsg", "serve", "s", "--blocks", "65537"],
+    &["sysvmsg", "serve", "s", "--workers", "0"],
+    &["sysvmsg", "serve", "s", "--workers", "17"],
+    &[
+        "sysvmsg",
+        "serve",
+        "s",
+        "--sessions",
+        "18446744073709551616",
+    ],
+    &["sysvmsg", "serve", "s", "--uid", "0"],
+    &["sysvmsg", "help"],
+    &["sysvmsg", "script", "x"],
+    &["sysvmsg", "ipcs"],
+    &["sysvmsg", "ipcs", "s", "t"],
+    &["sysvmsg", "ipcs", "s", "--uid", "4294967296"],
+    &["sysvmsg", "ipcs", "s", "--uid", "x"],
+    &["sysvmsg", "ipcs", "s", "--gid=-1"],
+    &["sysvmsg", "ipcs", "s", "--pid="],
+    &["sysvmsg", "ipcs", "s", "--pid"],
+    &["sysvmsg", "ipcrm", "s"],
+    &["sysvmsg", "ipcrm", "s", "0"],
+    &["sysvmsg", "ipcrm", "s", "-q", "0", "-Q", "7"],
+    &["sysvmsg", "ipcrm", "s", "-q", "0", "-q", "0"],
+    &["sysvmsg", "ipcrm", "s", "-q", "2147483648"],
+    &["sysvmsg", "ipcrm", "s", "-q", "0x1"],
+    &["sysvmsg", "ipcrm", "s", "-q=-1"],
+    &["sysvmsg", "ipcrm", "s", "-Q", "0"],
+    &["sysvmsg", "ipcrm", "s", "-Q", "0x0"],
+    &["sysvmsg", "ipcrm", "s", "-Q", "0x123456789"],
+    &["sysvmsg", "snd", "s", "7"],
+    &["sysvmsg", "snd", "s", "0", "hi"],
+    &["sysvmsg", "snd", "s", "-1", "hi"],
+    &["sysvmsg", "snd", "s", "7", "hi", "there"],
+    &["sysvmsg", "snd", "s", "7", "hi", "--type", "0"],
+    &["sysvmsg", "snd", "s", "7", "hi", "--type=-1"],
+    &["sysvmsg", "snd", "s", "7", "hi", "--upto", "1"],
+    &[
+        "sysvmsg",
+        "snd",
+        "s",
+        "7",
+        "hi",
+        "--type",
+        "9223372036854775808",
+    ],
+    &["sysvmsg", "rcv", "s"],
+    &["sysvmsg", "rcv", "s", "key"],
+    &["sysvmsg", "rcv", "s", "7", "--type", "1", "--upto", "1"],
+    &["sysvmsg", "rcv", "s", "7", "--upto", "0"],
+    &["sysvmsg", "rcv", "s", "7", "--size", "4294967296"],
+    &["sysvmsg", "rcv", "s", "7", "--size", "1k"],
+    &["sysvmsg", "rcv", "s", "7", "--nowait=1"],
+    &["sysvmsg", "rcv", "s", "7", "--except"],
+    &["sysvmsg", "--uid", "0", "ipcs", "s"],
+];
+
 #[test]
 fn lines_that_are_not_understood(rt: HostRuntime) {
-    let table: [&[&str]; 48] = [
-        &["sysvmsg"],
-        &["sysvmsg", ""],
-        &["sysvmsg", "scripts"],
-        &["sysvmsg", "Script"],
-        &["sysvmsg", "serve"],
-        &["sysvmsg", "serve", "s", "t"],
-        &["sysvmsg", "serve", "s", "--blocks", "127"],
-        &["sysvmsg", "serve", "s", "--blocks", "65537"],
-        &["sysvmsg", "serve", "s", "--workers", "0"],
-        &["sysvmsg", "serve", "s", "--workers", "17"],
-        &[
-            "sysvmsg",
-            "serve",
-            "s",
-            "--sessions",
-            "18446744073709551616",
-        ],
-        &["sysvmsg", "serve", "s", "--uid", "0"],
-        &["sysvmsg", "help"],
-        &["sysvmsg", "script", "x"],
-        &["sysvmsg", "ipcs"],
-        &["sysvmsg", "ipcs", "s", "t"],
-        &["sysvmsg", "ipcs", "s", "--uid", "4294967296"],
-        &["sysvmsg", "ipcs", "s", "--uid", "x"],
-        &["sysvmsg", "ipcs", "s", "--gid=-1"],
-        &["sysvmsg", "ipcs", "s", "--pid="],
-        &["sysvmsg", "ipcs", "s", "--pid"],
-        &["sysvmsg", "ipcrm", "s"],
-        &["sysvmsg", "ipcrm", "s", "0"],
-        &["sysvmsg", "ipcrm", "s", "-q", "0", "-Q", "7"],
-        &["sysvmsg", "ipcrm", "s", "-q", "0", "-q", "0"],
-        &["sysvmsg", "ipcrm", "s", "-q", "2147483648"],
-        &["sysvmsg", "ipcrm", "s", "-q", "0x1"],
-        &["sysvmsg", "ipcrm", "s", "-q=-1"],
-        &["sysvmsg", "ipcrm", "s", "-Q", "0"],
-        &["sysvmsg", "ipcrm", "s", "-Q", "0x0"],
-        &["sysvmsg", "ipcrm", "s", "-Q", "0x123456789"],
-        &["sysvmsg", "snd", "s", "7"],
-        &["sysvmsg", "snd", "s", "0", "hi"],
-        &["sysvmsg", "snd", "s", "-1", "hi"],
-        &["sysvmsg", "snd", "s", "7", "hi", "there"],
-        &["sysvmsg", "snd", "s", "7", "hi", "--type", "0"],
-        &["sysvmsg", "snd", "s", "7", "hi", "--type=-1"],
-        &["sysvmsg", "snd", "s", "7", "hi", "--upto", "1"],
-        &[
-            "sysvmsg",
-            "snd",
-            "s",
-            "7",
-            "hi",
-            "--type",
-            "9223372036854775808",
-        ],
-        &["sysvmsg", "rcv", "s"],
-        &["sysvmsg", "rcv", "s", "key"],
-        &["sysvmsg", "rcv", "s", "7", "--type", "1", "--upto", "1"],
-        &["sysvmsg", "rcv", "s", "7", "--upto", "0"],
-        &["sysvmsg", "rcv", "s", "7", "--size", "4294967296"],
-        &["sysvmsg", "rcv", "s", "7", "--size", "1k"],
-        &["sysvmsg", "rcv", "s", "7", "--nowait=1"],
-        &["sysvmsg", "rcv", "s", "7", "--except"],
-        &["sysvmsg", "--uid", "0", "ipcs", "s"],
-    ];
-    for words in table {
+    for words in WRONG_LINES {
         match kind_of(rt.alloc(), words) {
             None | Some(ErrorKind::DisplayHelp | ErrorKind::DisplayVersion) => {
                 assert!(rt; false, "{words:?}")

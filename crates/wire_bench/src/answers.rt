@@ -1,14 +1,12 @@
 //! What the readers answer to bytes from the standard input.
-use anyhow::Result;
 use std::alloc::Global;
 use std::io;
-use std::io::{BufReader, BufWriter, Read, Write};
-use sysv_model::body::Body;
-use sysv_wire::replies::read_reply;
-use sysv_wire::requests::read_request;
+use std::io::{BufReader, BufWriter, ErrorKind, Read, Write};
+use sysv_model::Body;
+use sysv_wire::{read_reply, read_request};
 
 /// The most bytes of a case.
-const CASE_MOST: usize = 9000;
+const MAX_CASE: usize = 9000;
 
 /// The sum of the bytes of a text, each weighted by its place.
 fn weight_of(text: &Body) -> u64 {
@@ -22,17 +20,19 @@ fn weight_of(text: &Body) -> u64 {
 
 /// Reads cases, each a length of four bytes and that many bytes, and prints for each what a reader of
 /// requests and then what a reader of replies answers: the answer, the bytes that are left, and the text.
-pub(crate) fn tell<R: io::Input + io::Print>(rt: &R, alloc: Global) -> Result<()> {
+pub(crate) fn tell<R: io::Input + io::Print>(rt: &R, alloc: Global) -> io::Result<()> {
     let mut input = BufReader::new(alloc, rt.reader())?;
     let mut output = BufWriter::new(alloc, io::writer(rt))?;
-    let mut text = Body::open(alloc)?;
-    let mut case = [0; CASE_MOST];
+    let Ok(mut text) = Body::open(alloc) else {
+        return Err(io::Error::from(ErrorKind::OutOfMemory));
+    };
+    let mut case = [0; MAX_CASE];
     for _ in 0..u64::MAX {
         let mut size = [0; 4];
         if input.read_exact(&mut size).is_err() {
             break;
         }
-        let len = (u32::from_be_bytes(size) as usize).min(CASE_MOST);
+        let len = (u32::from_be_bytes(size) as usize).min(MAX_CASE);
         let bytes = &mut case[..len];
         input.read_exact(bytes)?;
         let mut rest = &bytes[..];

@@ -1,23 +1,36 @@
-//! Measures frames over memory, and says what the readers answer to bytes from the standard input. Without
-//! an argument it does neither.
+//! Measures frames over memory, and with the word answers says what the readers answer to bytes from the standard
+//! input. Without a word it does neither.
 #![tactic(auto)]
 
 mod answers;
 mod turns;
 
-use anyhow::Result;
-use std::env;
+use bench_figures::{is_asked, show};
+use std::env::Env;
+use std::{env, io};
 
-fn main(rt: HostRuntime) -> Result<()> {
-    let alloc = rt.alloc();
-    match env::args(&rt)?.nth(1) {
-        None => {
-            println!(rt;
-                "wire_bench: give the word turns, and it measures; answers, and it reads"
-            )?;
-            Ok(())
-        }
-        Some(word) if word.as_str() == "turns" => turns::measure(&rt, alloc),
-        Some(_) => answers::tell(&rt, alloc),
+fn main(rt: HostRuntime) -> io::Result<()> {
+    if !is_asked(&rt, "wire_bench")? {
+        return Ok(());
     }
+    if wants_answers(&rt)? {
+        return answers::tell(&rt, rt.alloc());
+    }
+    let nanos = turns::time_of_turns(&rt, rt.alloc());
+    show(
+        &rt,
+        "a send of 64 bytes read and its reply written",
+        "over memory",
+        nanos,
+        turns::TIMES,
+        "ns a turn",
+    )
+}
+
+fn wants_answers<R: Env + Alloc>(rt: &R) -> io::Result<bool> {
+    Ok(
+        env::args(rt)?
+            .nth(1)
+            .is_some_and(|word| word.as_str() == "answers"),
+    )
 }

@@ -1,16 +1,14 @@
 //! A send of 64 bytes is read and its reply written, over memory.
-use anyhow::Result;
+use bench_figures::{Time, Watch};
 use std::alloc::Global;
 use std::io;
 use std::io::Write;
-use std::time::{Clock, Instant};
-use sysv_model::body::Body;
-use sysv_wire::replies::write_reply;
-use sysv_wire::reply::{Outcome, Reply};
-use sysv_wire::requests::read_request;
+use std::time::{Clock, CpuClock};
+use sysv_model::Body;
+use sysv_wire::{Op, Outcome, Reply, read_request, write_reply};
 
 /// How often.
-const TIMES: u64 = 1_000_000;
+pub(crate) const TIMES: u64 = 1_000_000;
 
 /// The head and the fields of a send of 64 bytes.
 const HEAD: [u8; 22] = [
@@ -35,28 +33,30 @@ impl Write for Slate {
     }
 }
 
-/// Prints the nanoseconds of one turn.
-pub(crate) fn measure<R: Clock + io::Print>(rt: &R, alloc: Global) -> Result<()> {
+/// The nanoseconds of all turns.
+pub(crate) fn time_of_turns<R: Clock + CpuClock>(rt: &R, alloc: Global) -> Option<u64> {
     let mut frame = [b'x'; 86];
     frame[..22].copy_from_slice(&HEAD);
-    let mut text = Body::open(alloc)?;
+    let mut text = Body::open(alloc).ok()?;
     let mut slate = Slate { bytes: [0; 128] };
-    let mut turns = 0u64;
-    let start = Instant::now(rt)?;
+    let watch = Watch::start(rt, Time::Passed)?;
     for _ in 0..TIMES {
-        let mut input = frame.as_slice();
-        if let Ok(Some(_)) = read_request(&mut input, &mut text) {
-            let reply = Reply {
-                op: 2,
-                result: Outcome::Snd,
-            };
-            if text.len() == 64 && write_reply(&mut slate, &reply, &text).is_ok() {
-                turns = turns.wrapping_add(1);
-            }
+        if !turn(&frame, &mut text, &mut slate) {
+            return None;
         }
     }
-    let passed = start.elapsed(rt)?;
-    let nanos = passed.as_nanos() / 1_000_000;
-    println!(rt; "{turns} turns, {nanos} ns each")?;
-    Ok(())
+    watch.nanos(rt)
+}
+
+/// Reads the send and writes its reply. False where either is not done.
+fn turn(frame: &[u8], text: &mut Body, slate: &mut Slate) -> bool {
+    let mut input = frame;
+    let Ok(Some(_)) = read_request(&mut input, text) else {
+        return false;
+    };
+    let reply = Reply {
+        op: Op::Snd.number(),
+        result: Outcome::Snd,
+    };
+    text.len() == 64 && write_reply(slate, &reply, text).is_ok()
 }

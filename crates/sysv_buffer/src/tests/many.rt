@@ -7,7 +7,11 @@ use std::alloc::Global;
 use std::process::Abort;
 
 /// A buffer and its first seat. Memory is refused once at most.
-pub(super) fn opened(rt: &impl Abort, alloc: Global, cells: usize) -> (ManyBuffer<Ware>, Seat<Ware>)
+pub(super) fn opened<T: Drop>(
+    rt: &impl Abort,
+    alloc: Global,
+    cells: usize,
+) -> (ManyBuffer<T>, Seat<T>)
     ensures { result.1.buffer ≡ result.0 }
 {
     match ManyBuffer::open(alloc, cells) {

@@ -9,11 +9,8 @@ use super::*;
 use crate::event::Outcome;
 use bitflags::Flags as _;
 use std::process::Abort;
-use sysv_model::attributes::{Perm, SetTo, Stat};
-use sysv_model::body::Body;
-use sysv_model::errno::Errno;
-use sysv_model::flags::Flags;
-use sysv_steps::state::Phase;
+use sysv_model::{Body, Errno, Flags, Perm, SetTo, Stat};
+use sysv_steps::Phase;
 
 /// What an answer is to be: whose, how the call ended, and the text of the body that comes with it.
 type Want<'a> = (u32, Outcome, Option<&'a [u8]>);

@@ -14,7 +14,7 @@ use std::thread;
 use std::thread::{Threads, join};
 use std::time::{Clock, Duration};
 
-/// What each of the threads does so often.
+/// What each of the threads does so many times.
 const TIMES: u64 = 100;
 
 // Draws some tickets with a seat, and gives them beside it.

@@ -10,7 +10,7 @@ use std::thread::{Threads, join};
 use std::time::{Clock, CpuClock, Duration};
 use std::{hint, thread};
 
-/// What each of the threads does so often.
+/// What each of the threads does so many times.
 const TIMES: u64 = 10_000;
 
 // Calls over and over, and answers the greatest sum before.
@@ -153,7 +153,7 @@ fn a_waiter_sleeps(rt: HostRuntime) -> Result<(), Fail> {
 /// So many rounds the two counts go there and back.
 const ROUNDS: u64 = 500;
 
-/// A watcher looks so often, every 10 milliseconds, before it takes a standstill for a lost wake.
+/// A watcher looks so many times, every 10 milliseconds, before it takes a standstill for a lost wake.
 const PATIENCE: u64 = 300;
 
 // Passes some time, in each round another.

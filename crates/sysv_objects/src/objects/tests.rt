@@ -6,8 +6,8 @@ ghost use Rattle.sysv_objects.specs.Objects.{CountsUpTo};
 use super::*;
 use bitflags::Flags as _;
 use std::process::Abort;
-use sysv_model::body::Body;
-use sysv_queue::tally::Tally;
+use sysv_model::Body;
+use sysv_queue::Tally;
 
 const USER: Cred = Cred {
     uid: 1000,

@@ -6,8 +6,7 @@ ghost use Rattle.sysv_model.specs.Pool.{blocks_for};
 
 use super::*;
 use std::process::Abort;
-use sysv_model::body::Body;
-use sysv_model::no_memory::NoMemory;
+use sysv_model::{Body, NoMemory};
 
 /// A pool. Memory is refused once at most.
 fn open_pool(rt: &impl Abort, alloc: Global, blocks: u32) -> Pool {

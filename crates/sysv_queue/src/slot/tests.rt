@@ -7,8 +7,8 @@ use super::*;
 use crate::delivery::Delivery;
 use crate::tally::Tally;
 use std::process::Abort;
-use sysv_model::body::Body;
-use sysv_pool::pool::Pool;
+use sysv_model::Body;
+use sysv_pool::Pool;
 
 const SENDER: Cred = Cred {
     uid: 1000,

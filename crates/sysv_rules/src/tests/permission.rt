@@ -2,8 +2,7 @@
 //! communication.
 
 use crate::permission::{Want, may, may_control};
-use sysv_model::attributes::Perm;
-use sysv_model::cred::Cred;
+use sysv_model::{Cred, Perm};
 
 /// The nine mode bits.
 const BITS: [u16; 9] = [

@@ -2,7 +2,7 @@
 
 use crate::selector::{Selector, qualifies, select_plain};
 use std::process::Abort;
-use sysv_model::flags::Flags;
+use sysv_model::Flags;
 
 const MAX: i64 = i64::MAX;
 

@@ -10,8 +10,8 @@ use std::rt::Files;
 use std::sync::Wait;
 use std::thread::Threads;
 use std::{fs, thread};
-use sysv_clients::command::{Command, Target, Task};
-use sysv_model::cred::Cred;
+use sysv_clients::{Command, Target, Task};
+use sysv_model::Cred;
 use sysv_server::{ServeFault, Sums, serve_on};
 
 /// The bytes that a screen has room for.

@@ -5,7 +5,7 @@ use denote.Param.Send.{param_sync, shr_sync}
 use denote.Ref.{ShrRef}
 use Rattle.sysv_service.specs.contracts.service.Service as service
 use Rattle.service_bench.proofs.part.Part.TheSendSync.{the_send as part_send}
-use Rattle.service_bench.proofs.Crossing.{pass_send, service_sync, captured_sync, crossing}
+use Rattle.sysv_service.proofs.Crossing.{pass_send, service_sync, captured_sync, crossing}
 use Rattle.service_bench.proofs.crew.act_all.Lts as lts
 use Rattle.service_bench.proofs.crew.act_all.Goals as goal
 

@@ -2,7 +2,7 @@
 use denote.Param.Send.{arg_send, param_send, param_sync, shr_sync}
 use Rattle.std.proofs.Common.{◌≡◌, ℕ, ◌<◌, length, arith}
 use Rattle.std.proofs.alloc.Global.TheSendSync as heaps
-use Rattle.sysv_kernel.proofs.Crossing.{crossing, service_sync}
+use Rattle.sysv_service.proofs.Crossing.{crossing, service_sync}
 use Rattle.sysv_server.specs.declared.session.Worker.{Worker}
 use Rattle.sysv_server.proofs.Crossing.{worker_send}
 use Rattle.sysv_server.proofs.Shifts.{all_shifted}

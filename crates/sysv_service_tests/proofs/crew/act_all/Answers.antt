@@ -7,7 +7,7 @@ use Rattle.std.specs.contracts.alloc.Global as heap
 use Rattle.std.proofs.alloc.Global.TheSendSync as heaps
 use Rattle.sysv_service.specs.contracts.service.Service as service
 use Rattle.sysv_service_tests.proofs.part.Part.TheSendSync.{the_send as part_send}
-use Rattle.sysv_service_tests.proofs.Crossing.{pass_send, service_sync, captured_sync, crossing}
+use Rattle.sysv_service.proofs.Crossing.{pass_send, service_sync, captured_sync, crossing}
 use Rattle.sysv_service_tests.proofs.crew.act_all.Lts as lts
 use Rattle.sysv_service_tests.proofs.crew.act_all.Goals as goal
 

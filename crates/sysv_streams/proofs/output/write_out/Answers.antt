@@ -4,7 +4,7 @@ use Rattle.std.specs.Io.KnownBytes.{Appends}
 use Rattle.std.proofs.KnownBytes.{Appends-trans}
 use Rattle.sysv_streams.proofs.output.write_out.Goals as goal
 
--- the front that was written, and then a front of what is left
+-- the prefix that was written, and then one of what is left
 fronts : (bytes : List ℕ) (written count : ℕ) → count ≤ length bytes - written
     → take written bytes ++ take count (take (length bytes - written) (drop written bytes)) ≡ take (written + count) bytes
 fronts bytes written count fits =

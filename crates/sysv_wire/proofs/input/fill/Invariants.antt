@@ -1,4 +1,4 @@
--- What came so far is at the front, and less is left each time.
+-- What came so far is at the start, and less is left each time.
 use Rattle.std.proofs.Common.{◌-◌, ◌≤◌, length, take}
 use Rattle.std.specs.Io.KnownBytes.{Consumes}
 use Rattle.sysv_wire.proofs.input.fill.Given as goal

@@ -3,7 +3,7 @@ use Rattle.sysv_wire.specs.ReplyFaults.{IsBadAnswer}
 use Rattle.sysv_wire.proofs.ReplyLemmas.{wide_stat}
 use Rattle.sysv_wire.proofs.outcome.outcome_of.Goals as goal
 
-pub returns-then-stat-gt-MODE_MOST-clause-err : goal.returns-then-stat-gt-MODE_MOST-clause-err
-returns-then-stat-gt-MODE_MOST-clause-err c =
+pub returns-then-stat-gt-MAX_MODE-clause-err : goal.returns-then-stat-gt-MAX_MODE-clause-err
+returns-then-stat-gt-MAX_MODE-clause-err c =
     let fields = c.args.fields.now in
-    (refl, subst (λ op. IsBadAnswer op fields) (sym c.in-Stat.is) (wide_stat c.stat_of-stat.result fields c.stat_of-stat.ensures.spelled c.if-stat-gt-MODE_MOST.true (omega arith)))
+    (refl, subst (λ op. IsBadAnswer op fields) (sym c.in-Stat.is) (wide_stat c.stat_of-stat.result fields c.stat_of-stat.ensures.spelled c.if-stat-gt-MAX_MODE.true (omega arith)))

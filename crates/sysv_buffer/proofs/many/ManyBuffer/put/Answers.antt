@@ -1,12 +1,11 @@
 use Rattle.std.proofs.Common.{ap, ◌∙◌, ◌++◌, ◌∷◌, [], length}
-use Rattle.sysv_buffer.proofs.ManyTurning.{keeps_on}
 use Rattle.sysv_buffer.proofs.many.ManyBuffer.put.Goals as goal
 
 pub returns-clause-ok : goal.returns-clause-ok
 returns-clause-ok g c =
-    let k = keeps_on _ _ _ (keeps_on _ _ _ c.draw_put.ensures.keeps c.await_put_turn.ensures.keeps) c.await_room-cell.ensures.keeps in
+    let k = c.await_room.ensures.keeps in
     let p = c.place.ensures.put in
-    let r = c.await_room-cell.new.token.me.0 in
+    let r = c.await_room.new.token.me.0 in
     let before = c.args.seat.now in
     let seen = k.seen ∙ ap (λ h. h.seen ++ k.more) c.seat.view_is in
     record {

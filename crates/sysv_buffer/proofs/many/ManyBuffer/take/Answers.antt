@@ -2,15 +2,14 @@ use Rattle.std.proofs.Common.{ap, sym, ◌∙◌, ◌++◌, refl}
 use mathlib.Core.Option.{some}
 use lib.ListN.{get_elem?}
 use Rattle.sysv_buffer.proofs.Turning.{same_item}
-use Rattle.sysv_buffer.proofs.ManyTurning.{keeps_on}
 use Rattle.sysv_buffer.proofs.many.ManyBuffer.take.Goals as goal
 
 pub returns-clause-ok : goal.returns-clause-ok
 returns-clause-ok g c =
-    let k = keeps_on _ _ _ (keeps_on _ _ _ c.draw_take.ensures.keeps c.await_take_turn.ensures.keeps) c.await_item-cell.ensures.keeps in
+    let k = c.await_item.ensures.keeps in
     let t = c.remove-item.ensures.taken in
-    let has = c.await_item-cell.ensures.item in
-    let m = c.await_item-cell.new.token.me in
+    let has = c.in-Some.ensures.item in
+    let m = c.await_item.new.token.me in
     let before = c.args.seat.now in
     let same = same_item m.1 m.1 c.remove-item.result has.item _ _ refl c.remove-item.ensures.was has.out in
     record {

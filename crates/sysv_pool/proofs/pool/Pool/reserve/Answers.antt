@@ -1,4 +1,4 @@
-use Rattle.std.proofs.Common.{◌≡◌, length, arith, ◌∙◌, add-zero}
+use Rattle.std.proofs.Common.{◌≡◌, length, arith, ap, ◌∙◌}
 use Rattle.sysv_model.specs.Pool.{blocks_for}
 use Rattle.sysv_pool.specs.Blocks.{contents_of}
 use Rattle.sysv_pool.proofs.Texts.{rounded_up}
@@ -13,5 +13,5 @@ returns-then-count-self-clause-turn c =
 pub returns-clause-turn : goal.returns-clause-turn
 returns-clause-turn c =
     let count : c.div_ceil-count.result ≡ blocks_for c.args.size = c.div_ceil-count.ensures ∙ rounded_up c.args.size in
-    let made : length (contents_of c.shift.new.onto) ≡ c.div_ceil-count.result = c.shift.ensures.onto ∙ add-zero _ in
+    let made : length (contents_of c.replace-link.result) ≡ c.div_ceil-count.result = ap (λ x. length (contents_of x)) c.replace-link.ensures.value ∙ c.cut-rest.ensures.kept in
     rw (← c.self.view_is, made, count) (turn_reserved c.self.inside.size c.self.inside.count c.self.inside.released c.args.size (omega arith))

@@ -12,15 +12,15 @@ returns-in_err-queue-clause-turn c =
     let bars = rw (to_z-of_z w32 c.args.id c.ranges.id) at c.in_err-queue.ensures.barred in
     rw (p.1, p.2) (set_barred c.args.self.now c.args.id c.args.cred c.args.to c.args.now c.in_err-queue.field-0.0 bars)
 
-pub returns-then-to-gt-QBYTES_MOST-clause-turn : goal.returns-then-to-gt-QBYTES_MOST-clause-turn
-returns-then-to-gt-QBYTES_MOST-clause-turn c =
+pub returns-then-to-gt-MAX_QBYTES-clause-turn : goal.returns-then-to-gt-MAX_QBYTES-clause-turn
+returns-then-to-gt-MAX_QBYTES-clause-turn c =
     let found = rw (to_z-of_z w32 c.args.id c.ranges.id) at c.in_ok-queue.ensures.controls in
-    set_above_most c.args.self.now c.args.id c.args.cred c.args.to c.args.now found.1 found.2 c.if-to-gt-QBYTES_MOST.true
+    set_above_most c.args.self.now c.args.id c.args.cred c.args.to c.args.now found.1 found.2 c.if-to-gt-MAX_QBYTES.true
 
 pub returns-then-cred-ne0-clause-turn : goal.returns-then-cred-ne0-clause-turn
 returns-then-cred-ne0-clause-turn c =
     let found = rw (to_z-of_z w32 c.args.id c.ranges.id) at c.in_ok-queue.ensures.controls in
-    set_raise c.args.self.now c.args.id c.args.cred c.args.to c.args.now c.in_ok-queue.queue found.0 found.1 found.2 c.if-to-gt-QBYTES_MOST.false c.if-to-queue.true c.if-cred-ne0.true
+    set_raise c.args.self.now c.args.id c.args.cred c.args.to c.args.now c.in_ok-queue.queue found.0 found.1 found.2 c.if-to-gt-MAX_QBYTES.false c.if-to-queue.true c.if-cred-ne0.true
 
 pub returns-clause-turn : goal.returns-clause-turn
 returns-clause-turn c =
@@ -32,5 +32,5 @@ returns-clause-turn c =
       | else-to-queue-via-then-to-queue+else-cred-ne0 w ↦ inr w.if-cred-ne0.false
       | else-to-queue-via-else-to-queue w ↦ inl w.if-to-queue.false
     ] in
-    let turn = set_changes c.args.self.now c.args.id c.args.cred c.args.to c.args.now queue found.0 found.1 found.2 c.if-to-gt-QBYTES_MOST.false limit in
+    let turn = set_changes c.args.self.now c.args.id c.args.cred c.args.to c.args.now queue found.0 found.1 found.2 c.if-to-gt-MAX_QBYTES.false limit in
     rw (c.change_to.ensures, to_z-of_z w32 queue.id id_fits, to_z-of_z w32 queue.key key_fits) turn

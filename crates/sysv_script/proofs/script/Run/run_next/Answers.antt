@@ -1,5 +1,5 @@
 use Rattle.std.proofs.Common.{◌≡◌, ℕ, List, Option, Some, rules, subst, sym}
-use Rattle.sysv_streams.specs.declared.next_line.Found.{Found}
+use Rattle.sysv_streams.specs.declared.lines.Found.{Found}
 use Rattle.sysv_streams.specs.Found.{FindsLine, IsNextLine}
 use Rattle.sysv_script.proofs.LineLemmas.{IsNextLine-front, IsNextLine-behind}
 use Rattle.sysv_streams.specs.Faults.{IsStreamFault}

@@ -1,0 +1,9 @@
+//! Tests of banks with two threads, each of which has a seat of its own.
+#![tactic(auto)]
+
+#[cfg(test)]
+mod held;
+#[cfg(test)]
+mod keeper;
+#[cfg(test)]
+mod place;

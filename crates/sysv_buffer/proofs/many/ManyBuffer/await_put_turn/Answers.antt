@@ -1,8 +1,0 @@
-use Rattle.std.proofs.Common.{rules}
-use Rattle.sysv_buffer.proofs.ManyStepping.{counts_put}
-use Rattle.sysv_buffer.proofs.many.ManyBuffer.await_put_turn.Goals as goal
-
-pub load-count-requires : goal.load-count-requires
-load-count-requires g c =
-    let waits = c.loop.invariant.waits in
-    (search rules, search rules, counts_put _ _ _ waits.fills waits.empties)

@@ -1,0 +1,32 @@
+use Rattle.std.proofs.Common.{rules, ◌≡◌, length, take, sym, ap, subst, ◌∙◌, arith}
+use Rattle.std.proofs.Math.Seq.{take-append_seam}
+use Rattle.sysv_streams.specs.Found.{HasNoEnd}
+use Rattle.sysv_streams.proofs.StreamLemmas.{HandsOn-all, HandsOn-part, TakesIn-trans}
+use Rattle.sysv_streams.proofs.lines.next_line.Goals as goal
+
+pub returns-in-Err-clause-err : goal.returns-in-Err-clause-err
+returns-in-Err-clause-err g c =
+    HandsOn-part _ _ _ _ _ c.loop-found.invariant.answers c.in-Err.ensures.err
+
+pub returns-in-Ok-eq0-clause-text : goal.returns-in-Ok-eq0-clause-text
+returns-in-Ok-eq0-clause-text g c =
+    TakesIn-trans _ _ _ _ _ _ c.loop-found.invariant.text c.in-Ok-eq0.ensures.text
+
+pub returns-in-Ok-eq0-clause-answers : goal.returns-in-Ok-eq0-clause-answers
+returns-in-Ok-eq0-clause-answers g c =
+    HandsOn-all _ _ _ _ _ _ c.loop-found.invariant.answers c.in-Ok-eq0.ensures.answers c.in-Ok-eq0.ensures.none_left
+
+pub loop-found-preserved : goal.loop-found-preserved
+loop-found-preserved g c =
+    let old = c.loop-found.input in
+    let same : c.waiting-seen.result.now ≡ old = search rules in
+    let none : HasNoEnd old = search rules in
+    let taken = c.in-Ok.ensures.text in
+    let front : take (length c.waiting-seen.result.now) c.read_on.new.input ≡ old =
+    ap (λ n. take n c.read_on.new.input) (ap length same) ∙ ap (take (length old)) taken.1 ∙ take-append_seam old taken.0 in
+    record {
+      within = omega (arith, ap length same, c.in-Ok.ensures.count);
+      before = subst HasNoEnd (sym front) none;
+      text = TakesIn-trans _ _ _ _ _ _ c.loop-found.invariant.text taken;
+      answers = HandsOn-all _ _ _ _ _ _ c.loop-found.invariant.answers c.in-Ok.ensures.answers c.in-Ok.ensures.none_left;
+    }

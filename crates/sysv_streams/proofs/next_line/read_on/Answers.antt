@@ -1,7 +1,0 @@
-use Rattle.sysv_streams.proofs.StreamLemmas.{AppendsPart-all, OnErr-from}
-use Rattle.sysv_streams.proofs.next_line.read_on.Goals as goal
-
-pub returns-in-Ok-clause-err : goal.returns-in-Ok-clause-err
-returns-in-Ok-clause-err g c =
-    OnErr-from c.read_from.result
-    (AppendsPart-all (g.W.Write.contents c.args.writer.now) (g.W.Write.contents c.hand_out.new.writer) c.args.output.now c.in-Ok.ensures.ok)

@@ -1,0 +1,124 @@
+//! Where the next line of a script ends, among the bytes that wait and those that are read on.
+ghost use Rattle.std.specs.Prelude.{false, true, ◌≡◌, ◌+◌, ◌<◌, ◌≤◌, [], length, take, MatchOption, IfOk, IfErr, OnOk, OnErr, IfSome};
+ghost use Rattle.std.specs.Io.KnownBytes.{Appends, IsAtEnd};
+ghost use Rattle.sysv_streams.specs.Faults.{IsStreamFault};
+ghost use Rattle.sysv_streams.specs.Found.{HasNoEnd, IsFirstLine, IsNextLine, FindsLine};
+ghost use Rattle.sysv_streams.specs.Streams.{AppendsPart, HandsOn, TakesIn};
+ghost use Rattle.sysv_streams.specs.declared.input.TheConstants.{INPUT_ROOM};
+ghost use Rattle.sysv_lines.specs.declared.line.TheConstants.{LINE_BYTES};
+
+use crate::fault::ScriptFault;
+use crate::input::Input;
+use crate::output::Output;
+use std::io::{Read, Write};
+use sysv_lines::LINE_BYTES;
+
+/// The next line: the first bytes that wait.
+#[derive(Clone, Copy)]
+pub struct Found {
+    /// The number of its bytes, its LF not counted.
+    pub len: usize,
+    /// Whether no LF stands after it: it is the last, or longer than a line may be.
+    pub is_last: bool,
+}
+
+/// Finds the next line, and reads on for its end where that has to be; `None` where there is none.
+pub fn next_line<R: Read, W: Write>(
+    input: &mut Input,
+    output: &mut Output,
+    reader: &mut R,
+    writer: &mut W,
+) -> Result<Option<Found>, ScriptFault>
+    ensures text { OnOk result (TakesIn (R.remaining reader.old) input.old (R.remaining reader.new) input.new) }
+    ensures answers { OnOk result (HandsOn (W.contents writer.old) output.old (W.contents writer.new) output.new) }
+    ensures found { IfOk result (λ found. FindsLine found input.new (R.remaining reader.new)) }
+    ensures none_left { OnErr result (output.new ≡ []) }
+    ensures err { OnErr result (AppendsPart (W.contents writer.old) (W.contents writer.new) output.old) }
+    ensures fault { IfErr result IsStreamFault }
+{
+    let mut seen = 0;
+    loop {
+        if let Some(found) = line_within(input.waiting(), seen) {
+            return Ok(Some(found));
+        }
+        seen = input.waiting().len();
+        match read_on(input, output, reader, writer) {
+            Ok(0) => return Ok(line_at_end(seen)),
+            Ok(_) => {}
+            Err(fault) => return Err(fault),
+        }
+    }
+}
+
+/// The next line where what waits shows its end, or shows that it is too long. No LF stands in the
+/// first `seen` bytes.
+fn line_within(waiting: &[u8], seen: usize) -> Option<Found>
+    requires within { seen ≤ length waiting.now }
+    requires before { HasNoEnd (take seen waiting.now) }
+    ensures { MatchOption result (HasNoEnd waiting.now × (length waiting.now ≤ LINE_BYTES))
+        (λ found. (found.is_last ≡ false → IsFirstLine found.len waiting.now)
+        × (found.is_last ≡ true → HasNoEnd waiting.now × (found.len ≡ length waiting.now) × (LINE_BYTES < found.len))) }
+{
+    match line_end(waiting, seen) {
+        Some(len) => Some(Found {
+            len,
+            is_last: false,
+        }),
+        None if waiting.len() > LINE_BYTES => Some(Found {
+            len: waiting.len(),
+            is_last: true,
+        }),
+        None => None,
+    }
+}
+
+/// The last line, which is these bytes; `None` where there are none.
+fn line_at_end(len: usize) -> Option<Found>
+    ensures { MatchOption result (len ≡ 0) (λ found. (found.len ≡ len) × (found.is_last ≡ true) × (0 < len)) }
+{
+    match len {
+        0 => None,
+        _ => Some(Found { len, is_last: true }),
+    }
+}
+
+/// The place of the first LF, where none stands in the first `seen` bytes.
+fn line_end(waiting: &[u8], seen: usize) -> Option<usize>
+    requires within { seen ≤ length waiting.now }
+    requires before { HasNoEnd (take seen waiting.now) }
+    ensures { MatchOption result (HasNoEnd waiting.now) (λ len. IsFirstLine len waiting.now) }
+{
+    match first_end(&waiting[seen..]) {
+        Some(more) => Some(seen + more),
+        None => None,
+    }
+}
+
+/// The place of the first LF.
+fn first_end(text: &[u8]) -> Option<usize>
+    ensures { MatchOption result (HasNoEnd text.now) (λ len. IsFirstLine len text.now) }
+{
+    text.iter().position(|byte| *byte == b'\n')
+}
+
+/// Hands out the answers and reads once; the number of bytes that came, 0 at the end.
+pub fn read_on<R: Read, W: Write>(
+    input: &mut Input,
+    output: &mut Output,
+    reader: &mut R,
+    writer: &mut W,
+) -> Result<usize, ScriptFault>
+    requires { length input.old < INPUT_ROOM }
+    ensures text { OnOk result (TakesIn (R.remaining reader.old) input.old (R.remaining reader.new) input.new) }
+    ensures count { IfOk result (λ count. length input.new ≡ length input.old + count) }
+    ensures end { IfOk result (λ count. count ≡ 0 → IsAtEnd (R.remaining reader.new)) }
+    ensures answers { OnOk result (Appends (W.contents writer.old) (W.contents writer.new) output.old) }
+    ensures none_left { output.new ≡ [] }
+    ensures err { OnErr result (AppendsPart (W.contents writer.old) (W.contents writer.new) output.old) }
+    ensures fault { IfErr result IsStreamFault }
+{
+    match output.hand_out(writer) {
+        Ok(()) => input.read_from(reader),
+        Err(fault) => Err(fault),
+    }
+}
