@@ -1,8 +1,8 @@
 //! Which message a receive names, by hand from the description of `msgrcv`.
 
-use crate::selector::{Selector, qualifies, select_plain};
+use crate::selector::{qualifies, select_plain};
 use std::process::Abort;
-use sysv_model::Flags;
+use sysv_model::{Flags, Selector};
 
 const MAX: i64 = i64::MAX;
 
