@@ -14,6 +14,7 @@ use clap::error::ErrorKind;
 use connection::run_at;
 use serving::serve_at;
 use std::env;
+use std::io;
 use std::process::ExitCode;
 use sysv_script::run_script;
 
@@ -24,8 +25,10 @@ const FAULT: u8 = 1;
 const NOT_UNDERSTOOD: u8 = 2;
 
 fn main(rt: HostRuntime) -> ExitCode {
-    let Ok(words) = env::args(&rt) else {
-        return tell(&rt, &no_text(rt.alloc()));
+    let words = match env::args(&rt) {
+        Ok(words) => words,
+        Err(why) if why.kind() == io::ErrorKind::OutOfMemory => return say(&rt, "no memory"),
+        Err(_) => return tell(&rt, &no_text(rt.alloc())),
     };
     let Ok(words) = words.collect::<Vec<String>>(rt.alloc()) else {
         return say(&rt, "no memory");
