@@ -7,7 +7,7 @@ ghost use Rattle.sysv_wire.specs.Streams.{AppendsPrefix};
 
 use crate::fault::ClientFault;
 use std::io::{Read, Write};
-use sysv_model::Body;
+use sysv_model::{Body, Watched};
 use sysv_wire::{Ask, Outcome, Request, WriteFault, read_reply, write_request};
 
 /// Writes a request, flushes it, and reads its reply; what the operation gives. The text of a message
@@ -33,7 +33,8 @@ fn send<W: Write>(writer: &mut W, ask: Ask, text: &Body) -> Result<(), WriteFaul
     ensures ok { OnOk result (Appends (W.contents writer.old) (W.contents writer.new) (request_spelling (record { ask = ask }) text.now)) }
     ensures err { OnErr result (AppendsPrefix (W.contents writer.old) (W.contents writer.new) (request_spelling (record { ask = ask }) text.now)) }
 {
-    write_request(writer, &Request { ask }, text)?;
+    let mut writer = Watched::new(writer);
+    write_request(&mut writer, &Request { ask }, text)?;
     match writer.flush() {
         Ok(()) => Ok(()),
         Err(_) => Err(WriteFault),
@@ -44,7 +45,8 @@ fn send<W: Write>(writer: &mut W, ask: Ask, text: &Body) -> Result<(), WriteFaul
 fn hear<R: Read>(reader: &mut R, ask: Ask, given: &mut Body) -> Result<Outcome, ClientFault>
     ensures { Hears ask result (R.remaining reader.old) (R.remaining reader.new) given.new }
 {
-    match read_reply(reader, given) {
+    let mut reader = Watched::new(reader);
+    match read_reply(&mut reader, given) {
         Ok(Some(reply)) if reply.op == ask.op().number() => match reply.result {
             Outcome::Refused(error) => Err(ClientFault::Refused(error)),
             answer => Ok(answer),

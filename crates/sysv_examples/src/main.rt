@@ -5,6 +5,7 @@ use std::alloc::Global;
 use std::fs::Files;
 use std::process::ExitCode;
 use std::{fs, io};
+use sysv_model::Watched;
 use sysv_script::run_script;
 
 /// The scripts, each with the file of what it prints.
@@ -24,7 +25,9 @@ fn prints_so<R: Files + Alloc>(
     let script = fs::read(rt, script)?;
     let expected = fs::read(rt, expected)?;
     let mut printed = Vec::new(alloc);
-    let ended = run_script(alloc, &mut script.as_slice(), &mut printed);
+    let mut lines = script.as_slice();
+    let mut reader = Watched::new(&mut lines);
+    let ended = run_script(alloc, &mut reader, &mut Watched::new(&mut printed));
     Ok(ended.is_ok() && printed.as_slice() == expected.as_slice())
 }
 

@@ -9,3 +9,4 @@ pub mod Waiting
 pub mod Registry
 pub mod Pool
 pub mod Turn
+pub mod Watched

@@ -1,6 +1,7 @@
 //! The words of System V message queues: errors, credentials, flags, message bodies, the attributes
-//! of a queue, what IPC_SET gives and IPC_STAT shows, and the limits of this profile. `specs/` has
-//! the history of a slot and what a history has accepted, delivered, discarded and still holds.
+//! of a queue, what IPC_SET gives and IPC_STAT shows, the limits of this profile, and streams that
+//! remember whether they failed. `specs/` has the history of a slot and what a history has accepted,
+//! delivered, discarded and still holds.
 #![tactic(auto)]
 
 mod attributes;
@@ -11,6 +12,7 @@ mod flags;
 mod limits;
 mod no_memory;
 mod selector;
+mod watched;
 
 pub use attributes::{Attributes, Perm, Row, SetTo, Stat};
 pub use body::Body;
@@ -23,3 +25,4 @@ pub use limits::{
 };
 pub use no_memory::NoMemory;
 pub use selector::Selector;
+pub use watched::Watched;

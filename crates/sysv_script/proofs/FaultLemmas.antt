@@ -1,6 +1,6 @@
 -- What a fault that is passed on leaves.
-use Rattle.std.proofs.Common.{◌≡◌, ℕ, true, false, List, ◌++◌, Result, Ok, Err, Option, ap, sym, subst, ◌∙◌, append_assoc}
-use Rattle.std.specs.Prelude.{IfOk, IfErr, OnOk, OnErr, IsErrAnd, MatchResult, is_ok, ⊤}
+use Rattle.std.proofs.Common.{◌≡◌, ℕ, Bool, true, false, ◌||◌, List, [], ◌++◌, Result, Ok, Err, Option, ap, sym, subst, ◌∙◌, append_assoc}
+use Rattle.std.specs.Prelude.{IfOk, IfErr, IsOk, OnOk, OnErr, IsErrAnd, MatchResult, is_ok, ⊤}
 use Rattle.std.specs.Result.{result_and}
 use Rattle.std.specs.Io.KnownBytes.{Appends}
 use Rattle.std.proofs.KnownBytes.{Appends-trans}
@@ -8,7 +8,7 @@ use Rattle.sysv_streams.specs.declared.fault.ScriptFault.{ScriptFault}
 use Rattle.sysv_streams.specs.declared.fault.ScriptFault.TheVariants.{Line, Read, Write, NoMemory, Bound}
 use Rattle.sysv_streams.specs.Streams.{AppendsPart}
 use Rattle.sysv_script.proofs.StreamLemmas.{Grows-trans, Grows-part}
-use Rattle.sysv_streams.specs.Faults.{Grows, IsStreamFault, LeavesBadLine, TellsBadLine, bad_line_text}
+use Rattle.sysv_streams.specs.Faults.{Grows, IsStreamFault, LeavesBadLine, TellsBadLine, bad_line_text, is_read_fault, is_write_fault}
 
 -- a fault of a stream says nothing of a line
 pub LeavesBadLine-stream : (fault : ScriptFault) (composed : List ℕ) → IsStreamFault fault → LeavesBadLine fault composed
@@ -55,3 +55,22 @@ pub IfOk-mapped : {T E D : Type 0} (P : T → Type 0) (Q : E → Type 0) (r : Re
     IfOk r P → MatchResult r (λ y. mapped ≡ Ok y) Q → is_ok mapped ≡ is_ok r → mapped ≡ Ok x → P x
 IfOk-mapped {D = D} P Q (Ok y) mapped x p same variant is = let inner : y ≡ x = Ok-once {D = D} y x (sym same ∙ is) in subst P inner p
 IfOk-mapped P Q (Err e) mapped x p same variant is = let never : true ≡ false = sym (ap is_ok is) ∙ variant in absurd cc
+
+-- where the reader failed nothing is composed, so no later fault of the writer hides it
+pub reader_ended : (handed ended : Result ⊤ ScriptFault) (was now : Bool) (composed : List ℕ) → IfErr handed (λ f. f ≡ Write) → (composed ≡ [] → IsOk handed) →
+    IfErr ended (λ f. IsStreamFault f → composed ≡ []) → now ≡ (is_read_fault ended || was) → now ≡ (is_read_fault (result_and handed ended) || was)
+reader_ended (Ok x) ended was now composed fault empty left is = is
+reader_ended (Err y) (Ok x) was now composed fault empty left is = subst (λ f. now ≡ (is_read_fault {T = ⊤} (Err f) || was)) (sym fault) is
+reader_ended (Err y) (Err Read) was now composed fault empty left is = let never : false ≡ true = empty (left tt) in absurd cc
+reader_ended (Err y) (Err Write) was now composed fault empty left is = subst (λ f. now ≡ (is_read_fault {T = ⊤} (Err f) || was)) (sym fault) is
+reader_ended (Err y) (Err (Line n)) was now composed fault empty left is = subst (λ f. now ≡ (is_read_fault {T = ⊤} (Err f) || was)) (sym fault) is
+reader_ended (Err y) (Err NoMemory) was now composed fault empty left is = subst (λ f. now ≡ (is_read_fault {T = ⊤} (Err f) || was)) (sym fault) is
+reader_ended (Err y) (Err Bound) was now composed fault empty left is = subst (λ f. now ≡ (is_read_fault {T = ⊤} (Err f) || was)) (sym fault) is
+
+-- the writer failed in the run or at its end
+pub writer_ended : (handed ended : Result ⊤ ScriptFault) (was mid now : Bool) → IfErr handed (λ f. f ≡ Write) → mid ≡ (is_write_fault ended || was) →
+    now ≡ (is_write_fault handed || mid) → now ≡ (is_write_fault (result_and handed ended) || was)
+writer_ended (Ok x) ended was mid now fault first second = second ∙ first
+writer_ended (Err y) ended was mid now fault first second =
+    let failed : now ≡ true = subst (λ f. now ≡ (is_write_fault {T = ⊤} (Err f) || mid)) fault second in
+    subst (λ f. now ≡ (is_write_fault {T = ⊤} (Err f) || was)) (sym fault) failed

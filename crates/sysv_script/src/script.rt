@@ -1,7 +1,8 @@
 //! The script language: a text of calls, one a line, that a world runs line by line.
-ghost use Rattle.std.specs.Prelude.{false, true, ◌≡◌, ◌+◌, ◌<◌, ◌≤◌, ◌++◌, [], ℕ, List, Option, Some, length, take, drop, IfOk, IfErr, OnOk, OnErr};
+ghost use Rattle.std.specs.Prelude.{false, true, ◌≡◌, ◌+◌, ◌<◌, ◌≤◌, ◌++◌, ◌||◌, [], ℕ, List, Option, Some, length, take, drop, IfOk, IfErr, IsOk, OnOk, OnErr};
 ghost use Rattle.std.specs.Io.KnownBytes.{Appends, IsAtEnd};
-ghost use Rattle.sysv_streams.specs.Faults.{Grows, IsLineFault, IsFrontOf, EndsAtLine, LeavesBadLine, TellsBadLine};
+ghost use Rattle.sysv_model.specs.Watched.{has_failed, stream_name, stream_of};
+ghost use Rattle.sysv_streams.specs.Faults.{Grows, IsLineFault, IsFrontOf, IsStreamFault, EndsAtLine, LeavesBadLine, TellsBadLine, is_read_fault, is_write_fault};
 ghost use Rattle.sysv_script.specs.ScriptRun.{Scene, opening_scene};
 ghost use Rattle.sysv_script.specs.ScriptText.{LineDoes, IsBad, WritesScript};
 ghost use Rattle.sysv_script.specs.ScriptSofar.{LineEnds, Leaves, IsText, RunsOn, RunsNext};
@@ -15,7 +16,7 @@ use crate::stage::Stage;
 use std::alloc::Global;
 use std::io::{Read, Write};
 use sysv_lines::{Head, LINE_BYTES, line_of};
-use sysv_model::NoMemory;
+use sysv_model::{NoMemory, Watched};
 use sysv_streams::{Found, Input, Output, SCRIPT_LINES, ScriptFault, next_line, read_on};
 use sysv_words::one_split;
 
@@ -29,16 +30,20 @@ use sysv_words::one_split;
 /// is for the caller to flush.
 pub fn run_script<R: Read, W: Write>(
     alloc: Global,
-    reader: &mut R,
-    writer: &mut W,
+    reader: &mut Watched<'_, R>,
+    writer: &mut Watched<'_, W>,
 ) -> Result<(), ScriptFault>
     // What the writer took is what the text prints; after a fault of a stream or of memory, a prefix of it.
-    ensures prints { (text : List ℕ) → R.remaining reader.old ≡ Some text → WritesScript result text (W.contents writer.old) (W.contents writer.new) }
+    ensures prints { (text : List ℕ) → R.remaining (stream_of reader.old) ≡ Some text → WritesScript result text (W.contents (stream_of writer.old)) (W.contents (stream_of writer.new)) }
     // A script that ends well was read to its end.
-    ensures whole { OnOk result (IsAtEnd (R.remaining reader.new)) }
+    ensures whole { OnOk result (IsAtEnd (R.remaining (stream_of reader.new))) }
     // What the writer took stays, and where a line is bad the last line says which.
-    ensures grows { Grows (W.contents writer.old) (W.contents writer.new) }
-    ensures bad { IfErr result (λ fault. TellsBadLine fault (W.contents writer.old) (W.contents writer.new)) }
+    ensures grows { Grows (W.contents (stream_of writer.old)) (W.contents (stream_of writer.new)) }
+    ensures bad { IfErr result (λ fault. TellsBadLine fault (W.contents (stream_of writer.old)) (W.contents (stream_of writer.new))) }
+    ensures same_reader { stream_name reader.new ≡ stream_name reader.old }
+    ensures same_writer { stream_name writer.new ≡ stream_name writer.old }
+    ensures reader_failed { has_failed reader.new ≡ (is_read_fault result || has_failed reader.old) }
+    ensures writer_failed { has_failed writer.new ≡ (is_write_fault result || has_failed writer.old) }
 {
     one_text();
     each_text_prints();
@@ -76,15 +81,20 @@ impl Run {
     fn run_lines<R: Read, W: Write>(
         &mut self,
         alloc: Global,
-        reader: &mut R,
-        writer: &mut W,
+        reader: &mut Watched<'_, R>,
+        writer: &mut Watched<'_, W>,
     ) -> Result<(), ScriptFault>
         requires { self.old.output ≡ [] }
-        ensures prints { (s : Scene) → IsSceneOf s self.old.stage → (text : List ℕ) → IsText self.old.input (R.remaining reader.old) text →
-            Leaves result s text (W.contents writer.old) (W.contents writer.new) self.new.output }
-        ensures whole { OnOk result (IsAtEnd (R.remaining reader.new)) }
-        ensures grows { Grows (W.contents writer.old) (W.contents writer.new) }
+        ensures prints { (s : Scene) → IsSceneOf s self.old.stage → (text : List ℕ) → IsText self.old.input (R.remaining (stream_of reader.old)) text →
+            Leaves result s text (W.contents (stream_of writer.old)) (W.contents (stream_of writer.new)) self.new.output }
+        ensures whole { OnOk result (IsAtEnd (R.remaining (stream_of reader.new))) }
+        ensures grows { Grows (W.contents (stream_of writer.old)) (W.contents (stream_of writer.new)) }
         ensures bad { IfErr result (λ fault. LeavesBadLine fault self.new.output) }
+        ensures none_left { IfErr result (λ fault. IsStreamFault fault → self.new.output ≡ []) }
+        ensures same_reader { stream_name reader.new ≡ stream_name reader.old }
+        ensures same_writer { stream_name writer.new ≡ stream_name writer.old }
+        ensures reader_failed { has_failed reader.new ≡ (is_read_fault result || has_failed reader.old) }
+        ensures writer_failed { has_failed writer.new ≡ (is_write_fault result || has_failed writer.old) }
     {
         for passed in 0..SCRIPT_LINES {
             match self.run_next(alloc, reader, writer, passed + 1) {
@@ -100,18 +110,23 @@ impl Run {
     fn run_next<R: Read, W: Write>(
         &mut self,
         alloc: Global,
-        reader: &mut R,
-        writer: &mut W,
+        reader: &mut Watched<'_, R>,
+        writer: &mut Watched<'_, W>,
         number: u32,
     ) -> Result<bool, ScriptFault>
         requires first { 1 ≤ number }
         requires last { number ≤ SCRIPT_LINES }
         ensures runs { (s : Scene) → (text : List ℕ) → (old : Option (List ℕ)) →
-            RunsOn s text old number self.old.stage self.old.input (R.remaining reader.old) (W.contents writer.old) self.old.output →
-            RunsNext result s text old number self.new.stage self.new.input (R.remaining reader.new) (W.contents writer.new) self.new.output }
-        ensures whole { IfOk result (λ more. more ≡ false → IsAtEnd (R.remaining reader.new)) }
-        ensures grows { Grows (W.contents writer.old) (W.contents writer.new) }
+            RunsOn s text old number self.old.stage self.old.input (R.remaining (stream_of reader.old)) (W.contents (stream_of writer.old)) self.old.output →
+            RunsNext result s text old number self.new.stage self.new.input (R.remaining (stream_of reader.new)) (W.contents (stream_of writer.new)) self.new.output }
+        ensures whole { IfOk result (λ more. more ≡ false → IsAtEnd (R.remaining (stream_of reader.new))) }
+        ensures grows { Grows (W.contents (stream_of writer.old)) (W.contents (stream_of writer.new)) }
         ensures bad { IfErr result (λ fault. LeavesBadLine fault self.new.output) }
+        ensures none_left { IfErr result (λ fault. IsStreamFault fault → self.new.output ≡ []) }
+        ensures same_reader { stream_name reader.new ≡ stream_name reader.old }
+        ensures same_writer { stream_name writer.new ≡ stream_name writer.old }
+        ensures reader_failed { has_failed reader.new ≡ (is_read_fault result || has_failed reader.old) }
+        ensures writer_failed { has_failed writer.new ≡ (is_write_fault result || has_failed writer.old) }
     {
         one_split();
         let Some(found) = next_line(&mut self.input, &mut self.output, reader, writer)? else {
@@ -148,15 +163,20 @@ impl Run {
     /// Sees that no line begins after the last that a script may have.
     fn expect_end<R: Read, W: Write>(
         &mut self,
-        reader: &mut R,
-        writer: &mut W,
+        reader: &mut Watched<'_, R>,
+        writer: &mut Watched<'_, W>,
     ) -> Result<(), ScriptFault>
         ensures runs { (s : Scene) → (text : List ℕ) → (old : Option (List ℕ)) → (number : ℕ) → SCRIPT_LINES < number →
-            RunsOn s text old number self.old.stage self.old.input (R.remaining reader.old) (W.contents writer.old) self.old.output →
-            Leaves result s text old (W.contents writer.new) self.new.output }
-        ensures whole { OnOk result (IsAtEnd (R.remaining reader.new)) }
-        ensures grows { Grows (W.contents writer.old) (W.contents writer.new) }
+            RunsOn s text old number self.old.stage self.old.input (R.remaining (stream_of reader.old)) (W.contents (stream_of writer.old)) self.old.output →
+            Leaves result s text old (W.contents (stream_of writer.new)) self.new.output }
+        ensures whole { OnOk result (IsAtEnd (R.remaining (stream_of reader.new))) }
+        ensures grows { Grows (W.contents (stream_of writer.old)) (W.contents (stream_of writer.new)) }
         ensures bad { IfErr result (λ fault. LeavesBadLine fault self.new.output) }
+        ensures none_left { IfErr result (λ fault. IsStreamFault fault → self.new.output ≡ []) }
+        ensures same_reader { stream_name reader.new ≡ stream_name reader.old }
+        ensures same_writer { stream_name writer.new ≡ stream_name writer.old }
+        ensures reader_failed { has_failed reader.new ≡ (is_read_fault result || has_failed reader.old) }
+        ensures writer_failed { has_failed writer.new ≡ (is_write_fault result || has_failed writer.old) }
     {
         if !self.input.waiting().is_empty() {
             return Err(ScriptFault::Bound);
@@ -169,10 +189,13 @@ impl Run {
     }
 
     /// Hands out the last answers, and ends the world.
-    fn end<W: Write>(self, writer: &mut W) -> Result<(), ScriptFault>
-        ensures ok { OnOk result (Appends (W.contents writer.old) (W.contents writer.new) self.output) }
-        ensures err { OnErr result (AppendsPart (W.contents writer.old) (W.contents writer.new) self.output) }
+    fn end<W: Write>(self, writer: &mut Watched<'_, W>) -> Result<(), ScriptFault>
+        ensures ok { OnOk result (Appends (W.contents (stream_of writer.old)) (W.contents (stream_of writer.new)) self.output) }
+        ensures err { OnErr result (AppendsPart (W.contents (stream_of writer.old)) (W.contents (stream_of writer.new)) self.output) }
         ensures fault { IfErr result (λ fault. fault ≡ ScriptFault.Write) }
+        ensures empty { self.output ≡ [] → IsOk result }
+        ensures same { stream_name writer.new ≡ stream_name writer.old }
+        ensures failed { has_failed writer.new ≡ (is_write_fault result || has_failed writer.old) }
     {
         let Run {
             stage,
@@ -220,11 +243,15 @@ mod tests {
     #[test]
     fn runs_a_script(rt: HostRuntime) {
         let answers = b"1 snd = 0\n2 rcv = 5 type 5 =hello\n".as_slice();
-        let mut reader = b"preset\n1 snd 0 5 - =hello\n2 rcv 0 9 0 -".as_slice();
+        let mut script = b"preset\n1 snd 0 5 - =hello\n2 rcv 0 9 0 -".as_slice();
         let Ok(mut written) = Vec::with_capacity(rt.alloc(), answers.len()) else {
             return;
         };
-        match run_script(rt.alloc(), &mut reader, &mut written) {
+        let mut reader = Watched::new(&mut script);
+        let mut writer = Watched::new(&mut written);
+        let ended = run_script(rt.alloc(), &mut reader, &mut writer);
+        assert!(rt; !reader.has_failed() && !writer.has_failed());
+        match ended {
             Ok(()) => assert!(rt; written.as_slice() == answers),
             Err(fault) => {
                 assert_eq!(rt; fault, ScriptFault::NoMemory);

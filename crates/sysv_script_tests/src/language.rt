@@ -1,6 +1,7 @@
 //! What each line of a script does, and which lines are bad.
 use std::alloc::Global;
 use std::test::Fail;
+use sysv_model::Watched;
 use sysv_script::{ScriptFault, run_script};
 
 /// What a script writes, and how it ends.
@@ -13,7 +14,11 @@ pub(crate) struct Ending {
 pub(crate) fn run(alloc: Global, script: &[u8]) -> Ending {
     let mut written = Vec::new(alloc);
     let mut reader = script;
-    let end = run_script(alloc, &mut reader, &mut written);
+    let end = run_script(
+        alloc,
+        &mut Watched::new(&mut reader),
+        &mut Watched::new(&mut written),
+    );
     Ending { written, end }
 }
 

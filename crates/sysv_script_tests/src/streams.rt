@@ -1,7 +1,11 @@
 //! Scripts over readers and writers that fail, stall or give little at a time.
 use crate::ends::{Asker, Counter, Endless, Page, Pieces};
+use std::alloc::Global;
 use std::cell::Cell;
+use std::io::{Read, Write};
+use std::process::Abort;
 use std::test::Fail;
+use sysv_model::Watched;
 use sysv_script::{ScriptFault, run_script};
 
 const SCRIPT: &[u8] = b"preset
@@ -21,6 +25,21 @@ const ANSWERS: &[u8] = b"1 rcv ! ENOMSG
 2 rcv ! ENOMSG
 ";
 
+/// Runs a script, whose end tells which stream has failed.
+fn run<R: Read, W: Write>(
+    rt: &impl Abort,
+    alloc: Global,
+    reader: &mut R,
+    writer: &mut W,
+) -> Result<(), ScriptFault> {
+    let mut reader = Watched::new(reader);
+    let mut writer = Watched::new(writer);
+    let end = run_script(alloc, &mut reader, &mut writer);
+    assert_eq!(rt; reader.has_failed(), end == Err(ScriptFault::Read));
+    assert_eq!(rt; writer.has_failed(), end == Err(ScriptFault::Write));
+    end
+}
+
 fn is_front(part: &[u8], whole: &[u8]) -> bool {
     whole.starts_with(part)
 }
@@ -34,7 +53,7 @@ fn takes_any_pieces(rt: HostRuntime) -> Result<(), Fail> {
             good: usize::MAX,
         };
         let mut writer = Page::new(piece, 512, false);
-        let end = run_script(rt.alloc(), &mut reader, &mut writer);
+        let end = run(&rt, rt.alloc(), &mut reader, &mut writer);
         assert_eq!(rt; end, Ok(()), "{piece}");
         assert!(rt; writer.written() == ANSWERS, "{piece}");
     }
@@ -50,7 +69,7 @@ fn says_that_the_reader_failed(rt: HostRuntime) -> Result<(), Fail> {
             good,
         };
         let mut writer = Page::new(512, 512, false);
-        let end = run_script(rt.alloc(), &mut reader, &mut writer);
+        let end = run(&rt, rt.alloc(), &mut reader, &mut writer);
         assert_eq!(rt; end, Err(ScriptFault::Read), "{good}");
         let lines = SCRIPT[..good].iter().filter(|byte| **byte == b'\n').count();
         let answers = writer
@@ -71,7 +90,7 @@ fn says_that_the_writer_failed(rt: HostRuntime) -> Result<(), Fail> {
             for piece in [1, 512] {
                 let mut reader = SCRIPT;
                 let mut writer = Page::new(piece, room, stalls);
-                let end = run_script(rt.alloc(), &mut reader, &mut writer);
+                let end = run(&rt, rt.alloc(), &mut reader, &mut writer);
                 assert_eq!(rt; end, Err(ScriptFault::Write), "{room}");
                 assert_eq!(rt; writer.written().len(), room);
                 assert!(rt; is_front(writer.written(), ANSWERS), "{room}");
@@ -80,7 +99,7 @@ fn says_that_the_writer_failed(rt: HostRuntime) -> Result<(), Fail> {
     }
     let mut reader = b"x".as_slice();
     let mut writer = Page::new(512, 5, false);
-    let end = run_script(rt.alloc(), &mut reader, &mut writer);
+    let end = run(&rt, rt.alloc(), &mut reader, &mut writer);
     assert_eq!(rt; end, Err(ScriptFault::Write));
     assert!(rt; writer.written() == b"line ".as_slice());
     Ok(())
@@ -96,7 +115,7 @@ fn holds_a_conversation(rt: HostRuntime) -> Result<(), Fail> {
         missing: 0,
     };
     let mut writer = Counter { answers: &answers };
-    let end = run_script(rt.alloc(), &mut reader, &mut writer);
+    let end = run(&rt, rt.alloc(), &mut reader, &mut writer);
     assert_eq!(rt; end, Ok(()));
     assert_eq!(rt; reader.missing, 0);
     assert_eq!(rt; reader.lines, 8);
@@ -109,7 +128,7 @@ fn stops_in_a_line_that_never_ends(rt: HostRuntime) -> Result<(), Fail> {
     for byte in [b'a', b'#', b' '] {
         let mut reader = Endless { byte, given: 0 };
         let mut writer = Page::new(512, 512, false);
-        let end = run_script(rt.alloc(), &mut reader, &mut writer);
+        let end = run(&rt, rt.alloc(), &mut reader, &mut writer);
         assert_eq!(rt; end, Err(ScriptFault::Line(1)));
         assert_eq!(rt; reader.given, 9001);
         assert!(rt; writer.written() == b"line 1: bad\n".as_slice());
@@ -121,7 +140,7 @@ fn stops_in_a_line_that_never_ends(rt: HostRuntime) -> Result<(), Fail> {
 fn says_that_memory_was_refused(rt: HostRuntime) -> Result<(), Fail> {
     let mut reader = SCRIPT;
     let mut writer = Page::new(512, 512, false);
-    match run_script(rt.alloc(), &mut reader, &mut writer) {
+    match run(&rt, rt.alloc(), &mut reader, &mut writer) {
         Ok(()) => assert!(rt; writer.written() == ANSWERS),
         Err(fault) => {
             assert_eq!(rt; fault, ScriptFault::NoMemory);

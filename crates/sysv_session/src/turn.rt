@@ -12,7 +12,7 @@ ghost use Rattle.sysv_wire.specs.Streams.{AppendsPrefix};
 use crate::kernel::Outcome;
 use crate::served::End;
 use std::io::{Read, Write};
-use sysv_model::{Body, Cred};
+use sysv_model::{Body, Cred, Watched};
 use sysv_queue::{Delivery, Tally};
 use sysv_wire::{
     Ask, Fault, Op, Outcome as Told, Reply, Request, WriteFault, read_request, write_reply,
@@ -22,7 +22,8 @@ use sysv_wire::{
 pub(crate) fn read_hello<R: Read>(reader: &mut R, text: &mut Body) -> Result<Cred, End>
     ensures { Greets result (R.remaining reader.old) (R.remaining reader.new) }
 {
-    match read_request(reader, text)? {
+    let mut reader = Watched::new(reader);
+    match read_request(&mut reader, text)? {
         Some(
             Request {
                 ask: Ask::Hello(cred),
@@ -37,7 +38,8 @@ pub(crate) fn read_hello<R: Read>(reader: &mut R, text: &mut Body) -> Result<Cre
 pub(crate) fn read_asked<R: Read>(reader: &mut R, text: &mut Body) -> Result<Option<Request>, Fault>
     ensures { ReadsAsked (R.remaining reader.old) (R.remaining reader.new) result text.new }
 {
-    match read_request(reader, text)? {
+    let mut reader = Watched::new(reader);
+    match read_request(&mut reader, text)? {
         Some(Request { ask: Ask::Hello(_) }) => Err(Fault::BadOp),
         found => Ok(found),
     }
@@ -50,7 +52,8 @@ pub(crate) fn send<W: Write>(writer: &mut W, reply: &Reply, text: &Body) -> Resu
     ensures ok { OnOk result (Appends (W.contents writer.old) (W.contents writer.new) (reply_spelling reply.now text.now)) }
     ensures err { OnErr result (AppendsPrefix (W.contents writer.old) (W.contents writer.new) (reply_spelling reply.now text.now)) }
 {
-    write_reply(writer, reply, text)?;
+    let mut writer = Watched::new(writer);
+    write_reply(&mut writer, reply, text)?;
     match writer.flush() {
         Ok(()) => Ok(()),
         Err(_) => Err(WriteFault),

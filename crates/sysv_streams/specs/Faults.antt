@@ -1,6 +1,6 @@
 -- How a script ends (this project's script language): the last line that is printed for a bad line
 -- says its number, counted from 1, and a script has at most 1,000,000 lines.
-use Rattle.std.specs.Prelude.{◌≡◌, ◌≤◌, ⊤, ℕ, List, [], ◌∷◌, ◌++◌, take, Option}
+use Rattle.std.specs.Prelude.{◌≡◌, ◌≤◌, ⊤, ℕ, Bool, true, false, List, [], ◌∷◌, ◌++◌, take, Option, Result, Ok, Err}
 use Rattle.std.specs.Io.KnownBytes.{Appends}
 use Rattle.sysv_lines.specs.Heads.{head_text}
 use Rattle.sysv_lines.specs.declared.head.Head.TheVariants.{Bad}
@@ -27,6 +27,32 @@ IsStreamFault Write = ⊤
 IsStreamFault (Line n) = ⊥
 IsStreamFault NoMemory = ⊥
 IsStreamFault Bound = ⊥
+
+-- the fault is that the reader failed
+abbrev pub is_read : ScriptFault → Bool
+is_read Read = true
+is_read Write = false
+is_read (Line n) = false
+is_read NoMemory = false
+is_read Bound = false
+
+-- the fault is that the writer failed
+abbrev pub is_write : ScriptFault → Bool
+is_write Read = false
+is_write Write = true
+is_write (Line n) = false
+is_write NoMemory = false
+is_write Bound = false
+
+-- the answer is that the reader failed
+abbrev pub is_read_fault : {T : Type 0} → Result T ScriptFault → Bool
+is_read_fault (Ok value) = false
+is_read_fault (Err fault) = is_read fault
+
+-- the answer is that the writer failed
+abbrev pub is_write_fault : {T : Type 0} → Result T ScriptFault → Bool
+is_write_fault (Ok value) = false
+is_write_fault (Err fault) = is_write fault
 
 -- Where this line ends the script it is bad, which is composed after what was; or memory was refused.
 abbrev pub EndsAtLine : ScriptFault → ℕ → (old new : List ℕ) → Type 0

@@ -1,6 +1,8 @@
 //! The bytes of a script that were read and wait to be run.
-ghost use Rattle.std.specs.Prelude.{◌≡◌, ◌+◌, ◌<◌, ◌≤◌, [], ◌++◌, length, take, drop, slice_range, vec_len, IfOk, IfErr, OnOk};
+ghost use Rattle.std.specs.Prelude.{◌≡◌, ◌+◌, ◌<◌, ◌≤◌, [], ◌++◌, ◌||◌, length, take, drop, slice_range, vec_len, IfOk, IfErr, OnOk};
 ghost use Rattle.std.specs.Io.KnownBytes.{Consumes, IsAtEnd};
+ghost use Rattle.sysv_model.specs.Watched.{has_failed, stream_name, stream_of};
+ghost use Rattle.sysv_streams.specs.Faults.{is_read_fault};
 ghost use Rattle.sysv_streams.specs.Streams.{TakesIn};
 ghost use Rattle.sysv_streams.specs.declared.input.TheConstants.{INPUT_ROOM};
 
@@ -9,7 +11,7 @@ use std::alloc::Global;
 use std::io::Read;
 use std::marker::Model;
 use sysv_lines::LINE_BYTES;
-use sysv_model::NoMemory;
+use sysv_model::{NoMemory, Watched};
 
 /// The bytes for which the input has room: one line of the greatest length and its LF. So of a line
 /// that has no end no more than these are read.
@@ -71,12 +73,14 @@ impl Input {
     }
 
     /// Reads once, after what waits; the number of bytes that came, 0 at the end.
-    pub fn read_from<R: Read>(&mut self, reader: &mut R) -> Result<usize, ScriptFault>
+    pub fn read_from<R: Read>(&mut self, reader: &mut Watched<'_, R>) -> Result<usize, ScriptFault>
         requires { length self.old < INPUT_ROOM }
-        ensures text { OnOk result (TakesIn (R.remaining reader.old) self.old (R.remaining reader.new) self.new) }
+        ensures text { OnOk result (TakesIn (R.remaining (stream_of reader.old)) self.old (R.remaining (stream_of reader.new)) self.new) }
         ensures count { IfOk result (λ count. length self.new ≡ length self.old + count) }
-        ensures end { IfOk result (λ count. count ≡ 0 → IsAtEnd (R.remaining reader.new)) }
+        ensures end { IfOk result (λ count. count ≡ 0 → IsAtEnd (R.remaining (stream_of reader.new))) }
         ensures err { IfErr result (λ fault. fault ≡ ScriptFault.Read) }
+        ensures same { stream_name reader.new ≡ stream_name reader.old }
+        ensures failed { has_failed reader.new ≡ (is_read_fault result || has_failed reader.old) }
     {
         let len = self.end - self.start;
         self.buffer.copy_within(self.start..self.end, 0);

@@ -1,7 +1,8 @@
 //! Where the next line of a script ends, among the bytes that wait and those that are read on.
-ghost use Rattle.std.specs.Prelude.{false, true, ◌≡◌, ◌+◌, ◌<◌, ◌≤◌, [], length, take, MatchOption, IfOk, IfErr, OnOk, OnErr, IfSome};
+ghost use Rattle.std.specs.Prelude.{false, true, ◌≡◌, ◌+◌, ◌<◌, ◌≤◌, ◌||◌, [], length, take, MatchOption, IfOk, IfErr, OnOk, OnErr, IfSome};
 ghost use Rattle.std.specs.Io.KnownBytes.{Appends, IsAtEnd};
-ghost use Rattle.sysv_streams.specs.Faults.{IsStreamFault};
+ghost use Rattle.sysv_model.specs.Watched.{has_failed, stream_name, stream_of};
+ghost use Rattle.sysv_streams.specs.Faults.{IsStreamFault, is_read_fault, is_write_fault};
 ghost use Rattle.sysv_streams.specs.Found.{HasNoEnd, IsFirstLine, IsNextLine, FindsLine};
 ghost use Rattle.sysv_streams.specs.Streams.{AppendsPart, HandsOn, TakesIn};
 ghost use Rattle.sysv_streams.specs.declared.input.TheConstants.{INPUT_ROOM};
@@ -12,6 +13,7 @@ use crate::input::Input;
 use crate::output::Output;
 use std::io::{Read, Write};
 use sysv_lines::LINE_BYTES;
+use sysv_model::Watched;
 
 /// The next line: the first bytes that wait.
 #[derive(Clone, Copy)]
@@ -26,15 +28,19 @@ pub struct Found {
 pub fn next_line<R: Read, W: Write>(
     input: &mut Input,
     output: &mut Output,
-    reader: &mut R,
-    writer: &mut W,
+    reader: &mut Watched<'_, R>,
+    writer: &mut Watched<'_, W>,
 ) -> Result<Option<Found>, ScriptFault>
-    ensures text { OnOk result (TakesIn (R.remaining reader.old) input.old (R.remaining reader.new) input.new) }
-    ensures answers { OnOk result (HandsOn (W.contents writer.old) output.old (W.contents writer.new) output.new) }
-    ensures found { IfOk result (λ found. FindsLine found input.new (R.remaining reader.new)) }
+    ensures text { OnOk result (TakesIn (R.remaining (stream_of reader.old)) input.old (R.remaining (stream_of reader.new)) input.new) }
+    ensures answers { OnOk result (HandsOn (W.contents (stream_of writer.old)) output.old (W.contents (stream_of writer.new)) output.new) }
+    ensures found { IfOk result (λ found. FindsLine found input.new (R.remaining (stream_of reader.new))) }
     ensures none_left { OnErr result (output.new ≡ []) }
-    ensures err { OnErr result (AppendsPart (W.contents writer.old) (W.contents writer.new) output.old) }
+    ensures err { OnErr result (AppendsPart (W.contents (stream_of writer.old)) (W.contents (stream_of writer.new)) output.old) }
     ensures fault { IfErr result IsStreamFault }
+    ensures same_reader { stream_name reader.new ≡ stream_name reader.old }
+    ensures same_writer { stream_name writer.new ≡ stream_name writer.old }
+    ensures reader_failed { has_failed reader.new ≡ (is_read_fault result || has_failed reader.old) }
+    ensures writer_failed { has_failed writer.new ≡ (is_write_fault result || has_failed writer.old) }
 {
     let mut seen = 0;
     loop {
@@ -105,17 +111,21 @@ fn first_end(text: &[u8]) -> Option<usize>
 pub fn read_on<R: Read, W: Write>(
     input: &mut Input,
     output: &mut Output,
-    reader: &mut R,
-    writer: &mut W,
+    reader: &mut Watched<'_, R>,
+    writer: &mut Watched<'_, W>,
 ) -> Result<usize, ScriptFault>
     requires { length input.old < INPUT_ROOM }
-    ensures text { OnOk result (TakesIn (R.remaining reader.old) input.old (R.remaining reader.new) input.new) }
+    ensures text { OnOk result (TakesIn (R.remaining (stream_of reader.old)) input.old (R.remaining (stream_of reader.new)) input.new) }
     ensures count { IfOk result (λ count. length input.new ≡ length input.old + count) }
-    ensures end { IfOk result (λ count. count ≡ 0 → IsAtEnd (R.remaining reader.new)) }
-    ensures answers { OnOk result (Appends (W.contents writer.old) (W.contents writer.new) output.old) }
+    ensures end { IfOk result (λ count. count ≡ 0 → IsAtEnd (R.remaining (stream_of reader.new))) }
+    ensures answers { OnOk result (Appends (W.contents (stream_of writer.old)) (W.contents (stream_of writer.new)) output.old) }
     ensures none_left { output.new ≡ [] }
-    ensures err { OnErr result (AppendsPart (W.contents writer.old) (W.contents writer.new) output.old) }
+    ensures err { OnErr result (AppendsPart (W.contents (stream_of writer.old)) (W.contents (stream_of writer.new)) output.old) }
     ensures fault { IfErr result IsStreamFault }
+    ensures same_reader { stream_name reader.new ≡ stream_name reader.old }
+    ensures same_writer { stream_name writer.new ≡ stream_name writer.old }
+    ensures reader_failed { has_failed reader.new ≡ (is_read_fault result || has_failed reader.old) }
+    ensures writer_failed { has_failed writer.new ≡ (is_write_fault result || has_failed writer.old) }
 {
     match output.hand_out(writer) {
         Ok(()) => input.read_from(reader),

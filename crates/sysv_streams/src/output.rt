@@ -1,7 +1,9 @@
 //! The answers that are composed and wait to be written.
-ghost use Rattle.std.specs.Prelude.{◌≡◌, [], ◌∷◌, ◌++◌, IfOk, IfErr, OnOk, OnErr};
+ghost use Rattle.std.specs.Prelude.{◌≡◌, [], ◌∷◌, ◌++◌, ◌||◌, IfOk, IfErr, IsOk, OnOk, OnErr};
 ghost use Rattle.std.specs.Io.KnownBytes.{Appends};
 ghost use Rattle.sysv_lines.specs.Heads.{head_text};
+ghost use Rattle.sysv_model.specs.Watched.{has_failed, stream_name, stream_of};
+ghost use Rattle.sysv_streams.specs.Faults.{is_write_fault};
 ghost use Rattle.sysv_streams.specs.Streams.{AppendsPart, HandsOn};
 
 use crate::fault::ScriptFault;
@@ -9,7 +11,7 @@ use std::alloc::Global;
 use std::io::Write;
 use std::marker::Model;
 use sysv_lines::Head;
-use sysv_model::{BLOCK_BYTES, Body, NoMemory};
+use sysv_model::{BLOCK_BYTES, Body, NoMemory, Watched};
 
 /// The bytes for which the output has room.
 const OUTPUT_ROOM: usize = 65536;
@@ -75,11 +77,13 @@ impl Output {
 
     /// Hands out what was composed where there might be no room for one more line. Where that fails
     /// nothing is left composed.
-    pub fn make_room<W: Write>(&mut self, writer: &mut W) -> Result<(), ScriptFault>
-        ensures ok { OnOk result (HandsOn (W.contents writer.old) self.old (W.contents writer.new) self.new) }
+    pub fn make_room<W: Write>(&mut self, writer: &mut Watched<'_, W>) -> Result<(), ScriptFault>
+        ensures ok { OnOk result (HandsOn (W.contents (stream_of writer.old)) self.old (W.contents (stream_of writer.new)) self.new) }
         ensures none_left { OnErr result (self.new ≡ []) }
-        ensures err { OnErr result (AppendsPart (W.contents writer.old) (W.contents writer.new) self.old) }
+        ensures err { OnErr result (AppendsPart (W.contents (stream_of writer.old)) (W.contents (stream_of writer.new)) self.old) }
         ensures fault { IfErr result (λ fault. fault ≡ ScriptFault.Write) }
+        ensures same { stream_name writer.new ≡ stream_name writer.old }
+        ensures failed { has_failed writer.new ≡ (is_write_fault result || has_failed writer.old) }
     {
         if self.bytes.len() <= OUTPUT_ROOM - LONGEST {
             return Ok(());
@@ -89,11 +93,14 @@ impl Output {
 
     /// Writes all that was composed, in as many writes as the writer wants. Nothing is left composed,
     /// also where that fails.
-    pub fn hand_out<W: Write>(&mut self, writer: &mut W) -> Result<(), ScriptFault>
-        ensures ok { OnOk result (Appends (W.contents writer.old) (W.contents writer.new) self.old) }
+    pub fn hand_out<W: Write>(&mut self, writer: &mut Watched<'_, W>) -> Result<(), ScriptFault>
+        ensures ok { OnOk result (Appends (W.contents (stream_of writer.old)) (W.contents (stream_of writer.new)) self.old) }
         ensures none_left { self.new ≡ [] }
-        ensures err { OnErr result (AppendsPart (W.contents writer.old) (W.contents writer.new) self.old) }
+        ensures err { OnErr result (AppendsPart (W.contents (stream_of writer.old)) (W.contents (stream_of writer.new)) self.old) }
         ensures fault { IfErr result (λ fault. fault ≡ ScriptFault.Write) }
+        ensures empty { self.old ≡ [] → IsOk result }
+        ensures same { stream_name writer.new ≡ stream_name writer.old }
+        ensures failed { has_failed writer.new ≡ (is_write_fault result || has_failed writer.old) }
     {
         let written = write_out(&self.bytes, writer);
         self.bytes.clear();
@@ -129,16 +136,20 @@ fn append_text(bytes: &mut Vec<u8>, text: &Body) -> Result<(), NoMemory>
 
 /// Writes the bytes, in as many writes as the writer wants. A write that fails or takes nothing
 /// ends it, and the writer has taken a part of them.
-fn write_out<W: Write>(bytes: &[u8], writer: &mut W) -> Result<(), ScriptFault>
-    ensures ok { OnOk result (Appends (W.contents writer.old) (W.contents writer.new) bytes.now) }
-    ensures err { OnErr result (AppendsPart (W.contents writer.old) (W.contents writer.new) bytes.now) }
+fn write_out<W: Write>(bytes: &[u8], writer: &mut Watched<'_, W>) -> Result<(), ScriptFault>
+    ensures ok { OnOk result (Appends (W.contents (stream_of writer.old)) (W.contents (stream_of writer.new)) bytes.now) }
+    ensures err { OnErr result (AppendsPart (W.contents (stream_of writer.old)) (W.contents (stream_of writer.new)) bytes.now) }
     ensures fault { IfErr result (λ fault. fault ≡ ScriptFault.Write) }
+    ensures empty { bytes.now ≡ [] → IsOk result }
+    ensures same { stream_name writer.new ≡ stream_name writer.old }
+    ensures failed { has_failed writer.new ≡ (is_write_fault result || has_failed writer.old) }
 {
     let mut written = 0;
     while written < bytes.len() {
         match writer.write(&bytes[written..]) {
-            Ok(0) | Err(_) => return Err(ScriptFault::Write),
+            Ok(0) => return Err(ScriptFault::Write),
             Ok(count) => written += count,
+            Err(_) => return Err(ScriptFault::Write),
         }
     }
     Ok(())

@@ -2,15 +2,17 @@ use crate::input::Input;
 use crate::lines::{next_line, read_on};
 use crate::output::Output;
 use sysv_lines::Head;
-use sysv_model::Body;
+use sysv_model::{Body, Watched};
 
 #[test]
 fn lines_are_found_one_by_one(rt: HostRuntime) {
     let (Ok(mut input), Ok(mut output)) = (Input::open(rt.alloc()), Output::open(rt.alloc())) else {
         return;
     };
-    let mut reader = b"ab\ncde".as_slice();
-    let mut writer = Vec::new(rt.alloc());
+    let mut text = b"ab\ncde".as_slice();
+    let mut reader = Watched::new(&mut text);
+    let mut written = Vec::new(rt.alloc());
+    let mut writer = Watched::new(&mut written);
     let Ok(Some(first)) = next_line(&mut input, &mut output, &mut reader, &mut writer) else {
         panic!(rt; "no first line");
     };
@@ -27,6 +29,7 @@ fn lines_are_found_one_by_one(rt: HostRuntime) {
         read_on(&mut input, &mut output, &mut reader, &mut writer),
         Ok(0)
     );
+    assert!(rt; !reader.has_failed() && !writer.has_failed());
 }
 
 #[test]
@@ -35,13 +38,14 @@ fn answers_are_written(rt: HostRuntime) {
         return;
     };
     assert!(rt; text.push_piece(b"hello"));
-    let Ok(mut writer) = Vec::with_capacity(rt.alloc(), 64) else {
+    let Ok(mut written) = Vec::with_capacity(rt.alloc(), 64) else {
         return;
     };
+    let mut writer = Watched::new(&mut written);
     assert!(rt; output.tell(Head::Worn { actor: 1 }).is_ok());
     assert!(rt; output.tell_text(Head::Bad { number: 2 }, &text).is_ok());
     assert!(rt; output.make_room(&mut writer).is_ok());
-    assert!(rt; writer.is_empty());
     assert!(rt; output.hand_out(&mut writer).is_ok());
-    assert!(rt; writer.as_slice() == b"1 worn\nline 2: badhello\n".as_slice());
+    assert!(rt; !writer.has_failed());
+    assert!(rt; written.as_slice() == b"1 worn\nline 2: badhello\n".as_slice());
 }

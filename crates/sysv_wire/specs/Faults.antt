@@ -1,7 +1,7 @@
 -- What a reader has taken of the input where it tells a fault (this profile's order): the length is
 -- judged first, then the version, the operation and the length that the operation wants, and then
 -- comes the rest of the frame.
-use Rattle.std.specs.Prelude.{◌≡◌, ◌≢◌, ◌<◌, ◌≤◌, ◌+◌, ◌^◌, ◌⊎◌, ⊤, ℕ, List, [], ◌∷◌, ◌++◌, length, Option}
+use Rattle.std.specs.Prelude.{◌≡◌, ◌≢◌, ◌<◌, ◌≤◌, ◌+◌, ◌^◌, ◌⊎◌, ⊤, ℕ, Bool, true, false, List, [], ◌∷◌, ◌++◌, length, Option, Result, Ok, Err}
 use Rattle.std.specs.Io.KnownBytes.{Consumes, IsAtEnd}
 use Rattle.sysv_wire.specs.declared.fault.Fault.{Fault}
 use Rattle.sysv_wire.specs.declared.fault.Fault.TheVariants.{Truncated, TooLong, BadOp, BadField, Read}
@@ -10,6 +10,19 @@ use Rattle.sysv_wire.specs.declared.frame.TheConstants.{VERSION, MIN_REQUEST, MA
 use Rattle.sysv_wire.specs.Frames.{op_number}
 use Rattle.sysv_wire.specs.Numbers.{u32_bytes}
 use Rattle.sysv_wire.specs.Requests.{IsRequestLength}
+
+-- the fault is that the reader failed
+abbrev pub is_read : Fault → Bool
+is_read Truncated = false
+is_read TooLong = false
+is_read BadOp = false
+is_read BadField = false
+is_read Read = true
+
+-- the answer is that fault
+abbrev pub is_read_fault : {T : Type 0} → Result T Fault → Bool
+is_read_fault (Ok value) = false
+is_read_fault (Err fault) = is_read fault
 
 -- after this fault the input is at its end
 abbrev pub EndsAt : Fault → Option (List ℕ) → Type 0

@@ -1,20 +1,23 @@
 //! Bytes from a reader, by its `read` alone.
-ghost use Rattle.std.specs.Prelude.{◌≡◌, ◌<◌, ◌≤◌, ◌++◌, [], ℕ, List, take, length, ⊤, IfOk, IfErr, OnOk, MatchOption};
+ghost use Rattle.std.specs.Prelude.{◌≡◌, ◌<◌, ◌≤◌, ◌++◌, ◌||◌, [], ℕ, List, take, length, ⊤, IfOk, IfErr, OnOk, MatchOption};
 ghost use Rattle.std.specs.Io.KnownBytes.{Consumes, IsAtEnd};
-ghost use Rattle.sysv_wire.specs.Faults.{Faults, Breaks, HeadFault, LengthFault, IsPartLength, IsShorter};
+ghost use Rattle.sysv_model.specs.Watched.{has_failed, stream_name, stream_of};
+ghost use Rattle.sysv_wire.specs.Faults.{Faults, Breaks, HeadFault, LengthFault, IsPartLength, IsShorter, is_read_fault};
 ghost use Rattle.sysv_wire.specs.Numbers.{u32_bytes};
 
 use crate::fault::Fault;
 use crate::number::take_u32;
 use std::io::Read;
-use sysv_model::{BLOCK_BYTES, BODY_ROOM, Body};
+use sysv_model::{BLOCK_BYTES, BODY_ROOM, Body, Watched};
 
 /// Reads until the bytes are full or the input ends; the number of bytes that came.
-pub(crate) fn fill<R: Read>(reader: &mut R, bytes: &mut [u8]) -> Result<usize, Fault>
-    ensures taken { IfOk result (λ count. Consumes (R.remaining reader.old) (R.remaining reader.new) (take count bytes.new)) }
+pub(crate) fn fill<R: Read>(reader: &mut Watched<'_, R>, bytes: &mut [u8]) -> Result<usize, Fault>
+    ensures taken { IfOk result (λ count. Consumes (R.remaining (stream_of reader.old)) (R.remaining (stream_of reader.new)) (take count bytes.new)) }
     ensures bound { IfOk result (λ count. count ≤ length bytes.new) }
-    ensures end { IfOk result (λ count. count < length bytes.new → IsAtEnd (R.remaining reader.new)) }
-    ensures fault { IfErr result (λ fault. Faults (Breaks (λ _. ⊥)) fault (R.remaining reader.old) (R.remaining reader.new)) }
+    ensures end { IfOk result (λ count. count < length bytes.new → IsAtEnd (R.remaining (stream_of reader.new))) }
+    ensures fault { IfErr result (λ fault. Faults (Breaks (λ _. ⊥)) fault (R.remaining (stream_of reader.old)) (R.remaining (stream_of reader.new))) }
+    ensures same { stream_name reader.new ≡ stream_name reader.old }
+    ensures failed { has_failed reader.new ≡ (is_read_fault result || has_failed reader.old) }
 {
     let mut count = 0;
     while count < bytes.len() {
@@ -28,9 +31,11 @@ pub(crate) fn fill<R: Read>(reader: &mut R, bytes: &mut [u8]) -> Result<usize, F
 }
 
 /// Reads until the bytes are full; `Truncated` where the input ends before.
-pub(crate) fn fill_all<R: Read>(reader: &mut R, bytes: &mut [u8]) -> Result<(), Fault>
-    ensures taken { OnOk result (Consumes (R.remaining reader.old) (R.remaining reader.new) bytes.new) }
-    ensures fault { IfErr result (λ fault. Faults (Breaks (IsShorter (length bytes.old))) fault (R.remaining reader.old) (R.remaining reader.new)) }
+pub(crate) fn fill_all<R: Read>(reader: &mut Watched<'_, R>, bytes: &mut [u8]) -> Result<(), Fault>
+    ensures taken { OnOk result (Consumes (R.remaining (stream_of reader.old)) (R.remaining (stream_of reader.new)) bytes.new) }
+    ensures fault { IfErr result (λ fault. Faults (Breaks (IsShorter (length bytes.old))) fault (R.remaining (stream_of reader.old)) (R.remaining (stream_of reader.new))) }
+    ensures same { stream_name reader.new ≡ stream_name reader.old }
+    ensures failed { has_failed reader.new ≡ (is_read_fault result || has_failed reader.old) }
 {
     let len = bytes.len();
     if fill(reader, bytes)? < len {
@@ -40,11 +45,13 @@ pub(crate) fn fill_all<R: Read>(reader: &mut R, bytes: &mut [u8]) -> Result<(), 
 }
 
 /// Reads a length; `None` where the input ends before it.
-fn read_length<R: Read>(reader: &mut R) -> Result<Option<u32>, Fault>
+fn read_length<R: Read>(reader: &mut Watched<'_, R>) -> Result<Option<u32>, Fault>
     ensures found { IfOk result (λ found. MatchOption found
-        (Consumes (R.remaining reader.old) (R.remaining reader.new) [] × IsAtEnd (R.remaining reader.new))
-        (λ n. Consumes (R.remaining reader.old) (R.remaining reader.new) (u32_bytes n))) }
-    ensures fault { IfErr result (λ fault. Faults (Breaks IsPartLength) fault (R.remaining reader.old) (R.remaining reader.new)) }
+        (Consumes (R.remaining (stream_of reader.old)) (R.remaining (stream_of reader.new)) [] × IsAtEnd (R.remaining (stream_of reader.new)))
+        (λ n. Consumes (R.remaining (stream_of reader.old)) (R.remaining (stream_of reader.new)) (u32_bytes n))) }
+    ensures fault { IfErr result (λ fault. Faults (Breaks IsPartLength) fault (R.remaining (stream_of reader.old)) (R.remaining (stream_of reader.new))) }
+    ensures same { stream_name reader.new ≡ stream_name reader.old }
+    ensures failed { has_failed reader.new ≡ (is_read_fault result || has_failed reader.old) }
 {
     let mut bytes = [0; 4];
     match fill(reader, &mut bytes)? {
@@ -74,14 +81,16 @@ fn check_length(length: u32, least: usize, most: u32) -> Result<(), Fault>
 /// Reads the head of a frame, its length and the first bytes of what follows, as many as the least
 /// length; `None` where the input ends before it.
 pub(crate) fn read_head<R: Read>(
-    reader: &mut R,
+    reader: &mut Watched<'_, R>,
     most: u32,
     head: &mut [u8],
 ) -> Result<Option<u32>, Fault>
     ensures found { IfOk result (λ found. MatchOption found
-        (Consumes (R.remaining reader.old) (R.remaining reader.new) [] × IsAtEnd (R.remaining reader.new))
-        (λ n. Consumes (R.remaining reader.old) (R.remaining reader.new) (u32_bytes n ++ head.new) × (length head.old ≤ n) × (n ≤ most))) }
-    ensures fault { IfErr result (λ fault. Faults (HeadFault (length head.old) most) fault (R.remaining reader.old) (R.remaining reader.new)) }
+        (Consumes (R.remaining (stream_of reader.old)) (R.remaining (stream_of reader.new)) [] × IsAtEnd (R.remaining (stream_of reader.new)))
+        (λ n. Consumes (R.remaining (stream_of reader.old)) (R.remaining (stream_of reader.new)) (u32_bytes n ++ head.new) × (length head.old ≤ n) × (n ≤ most))) }
+    ensures fault { IfErr result (λ fault. Faults (HeadFault (length head.old) most) fault (R.remaining (stream_of reader.old)) (R.remaining (stream_of reader.new))) }
+    ensures same { stream_name reader.new ≡ stream_name reader.old }
+    ensures failed { has_failed reader.new ≡ (is_read_fault result || has_failed reader.old) }
 {
     let Some(length) = read_length(reader)? else {
         return Ok(None);
@@ -92,11 +101,17 @@ pub(crate) fn read_head<R: Read>(
 }
 
 /// Reads a text of this many bytes into an empty body.
-pub(crate) fn read_text<R: Read>(reader: &mut R, len: usize, text: &mut Body) -> Result<(), Fault>
+pub(crate) fn read_text<R: Read>(
+    reader: &mut Watched<'_, R>,
+    len: usize,
+    text: &mut Body,
+) -> Result<(), Fault>
     requires empty { text.old ≡ [] }
     requires room { len ≤ BODY_ROOM }
-    ensures taken { OnOk result (Consumes (R.remaining reader.old) (R.remaining reader.new) text.new × (length text.new ≡ len)) }
-    ensures fault { IfErr result (λ fault. Faults (Breaks (IsShorter len)) fault (R.remaining reader.old) (R.remaining reader.new)) }
+    ensures taken { OnOk result (Consumes (R.remaining (stream_of reader.old)) (R.remaining (stream_of reader.new)) text.new × (length text.new ≡ len)) }
+    ensures fault { IfErr result (λ fault. Faults (Breaks (IsShorter len)) fault (R.remaining (stream_of reader.old)) (R.remaining (stream_of reader.new))) }
+    ensures same { stream_name reader.new ≡ stream_name reader.old }
+    ensures failed { has_failed reader.new ≡ (is_read_fault result || has_failed reader.old) }
 {
     let mut piece = [0; BLOCK_BYTES];
     let mut left = len;

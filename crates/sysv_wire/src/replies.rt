@@ -1,7 +1,8 @@
 //! Replies, read and written.
-ghost use Rattle.std.specs.Prelude.{◌≡◌, ◌≢◌, ◌≤◌, ◌+◌, ◌-◌, ◌++◌, ◌∷◌, ◌⊎◌, [], ℕ, List, Option, Some, Result, Err, length, ◌==◌, ◌↔◌, true, false, IsTrue, IfOk, IfErr, OnOk, OnErr};
+ghost use Rattle.std.specs.Prelude.{◌≡◌, ◌≢◌, ◌≤◌, ◌+◌, ◌-◌, ◌++◌, ◌∷◌, ◌⊎◌, ◌||◌, [], ℕ, List, Option, Some, Result, Err, length, ◌==◌, ◌↔◌, true, false, IsTrue, is_err, IfOk, IfErr, OnOk, OnErr};
 ghost use Rattle.std.specs.Io.KnownBytes.{Appends, Consumes};
-ghost use Rattle.sysv_wire.specs.Faults.{Faults};
+ghost use Rattle.sysv_model.specs.Watched.{has_failed, stream_name, stream_of};
+ghost use Rattle.sysv_wire.specs.Faults.{Faults, is_read_fault};
 ghost use Rattle.sysv_wire.specs.Frames.{op_number};
 ghost use Rattle.sysv_wire.specs.Numbers.{u32_bytes};
 ghost use Rattle.sysv_wire.specs.OneAnswer.{ReplyAt};
@@ -19,7 +20,7 @@ use crate::outcome::{errno_of, outcome_of};
 use crate::output::{write_both, write_out};
 use crate::reply::{Outcome, Reply};
 use std::io::{Read, Write};
-use sysv_model::{Body, MESSAGE_BYTES, Perm, Row, Stat};
+use sysv_model::{Body, MESSAGE_BYTES, Perm, Row, Stat, Watched};
 
 /// The most bytes that the fields of a reply take, its text not counted.
 const MAX_FIELDS: usize = 66;
@@ -72,16 +73,18 @@ fn may_take(op: Op, rest: usize) -> bool
 }
 
 /// Reads so many bytes, which are the fields of what an operation other than a receive gives.
-fn read_fields<R: Read>(reader: &mut R, op: Op, rest: usize) -> Result<Outcome, Fault>
+fn read_fields<R: Read>(reader: &mut Watched<'_, R>, op: Op, rest: usize) -> Result<Outcome, Fault>
     requires len { IsAnswerLength op rest }
     requires other { op ≢ Op.Rcv }
-    ensures taken { IfOk result (λ outcome. Consumes (R.remaining reader.old) (R.remaining reader.new) (outcome_fields outcome)) }
+    ensures taken { IfOk result (λ outcome. Consumes (R.remaining (stream_of reader.old)) (R.remaining (stream_of reader.new)) (outcome_fields outcome)) }
     ensures len { IfOk result (λ outcome. length (outcome_fields outcome) ≡ rest) }
     ensures answer { IfOk result (λ outcome. IsAnswer (op_number op) outcome) }
     ensures fits { IfOk result FitsOutcome }
     ensures error { IfOk result (λ outcome. error_number outcome ≡ 0) }
     ensures text { IfOk result (λ outcome. gives_text outcome ≡ false) }
-    ensures fault { IfErr result (λ fault. Faults (RestFault op 0 rest) fault (R.remaining reader.old) (R.remaining reader.new)) }
+    ensures fault { IfErr result (λ fault. Faults (RestFault op 0 rest) fault (R.remaining (stream_of reader.old)) (R.remaining (stream_of reader.new))) }
+    ensures same { stream_name reader.new ≡ stream_name reader.old }
+    ensures failed { has_failed reader.new ≡ (is_read_fault result || has_failed reader.old) }
 {
     let mut fields = [0; MAX_FIELDS];
     let fields = &mut fields[..rest];
@@ -90,17 +93,23 @@ fn read_fields<R: Read>(reader: &mut R, op: Op, rest: usize) -> Result<Outcome, 
 }
 
 /// Reads so many bytes, which are the type and the text of a message.
-fn read_message<R: Read>(reader: &mut R, rest: usize, text: &mut Body) -> Result<Outcome, Fault>
+fn read_message<R: Read>(
+    reader: &mut Watched<'_, R>,
+    rest: usize,
+    text: &mut Body,
+) -> Result<Outcome, Fault>
     requires least { 8 ≤ rest }
     requires most { rest ≤ MAX_REST }
     requires empty { text.old ≡ [] }
-    ensures taken { IfOk result (λ outcome. Consumes (R.remaining reader.old) (R.remaining reader.new) (outcome_fields outcome ++ text.new)) }
+    ensures taken { IfOk result (λ outcome. Consumes (R.remaining (stream_of reader.old)) (R.remaining (stream_of reader.new)) (outcome_fields outcome ++ text.new)) }
     ensures len { IfOk result (λ outcome. length (outcome_fields outcome ++ text.new) ≡ rest) }
     ensures answer { IfOk result (λ outcome. IsAnswer 3 outcome) }
     ensures fits { IfOk result FitsOutcome }
     ensures error { IfOk result (λ outcome. error_number outcome ≡ 0) }
     ensures text { IfOk result (λ outcome. gives_text outcome ≡ true) }
-    ensures fault { IfErr result (λ fault. Faults (RestFault Op.Rcv 0 rest) fault (R.remaining reader.old) (R.remaining reader.new)) }
+    ensures fault { IfErr result (λ fault. Faults (RestFault Op.Rcv 0 rest) fault (R.remaining (stream_of reader.old)) (R.remaining (stream_of reader.new))) }
+    ensures same { stream_name reader.new ≡ stream_name reader.old }
+    ensures failed { has_failed reader.new ≡ (is_read_fault result || has_failed reader.old) }
 {
     let mut bytes = [0; 8];
     fill_all(reader, &mut bytes)?;
@@ -111,7 +120,7 @@ fn read_message<R: Read>(reader: &mut R, rest: usize, text: &mut Body) -> Result
 
 /// Reads what stands after the error of a reply.
 fn read_rest<R: Read>(
-    reader: &mut R,
+    reader: &mut Watched<'_, R>,
     op: Op,
     error: u8,
     rest: usize,
@@ -120,13 +129,15 @@ fn read_rest<R: Read>(
     requires len { IsRestLength op error rest }
     requires most { rest ≤ MAX_REST }
     requires empty { text.old ≡ [] }
-    ensures taken { IfOk result (λ outcome. Consumes (R.remaining reader.old) (R.remaining reader.new) (outcome_fields outcome ++ outcome_text outcome text.new)) }
+    ensures taken { IfOk result (λ outcome. Consumes (R.remaining (stream_of reader.old)) (R.remaining (stream_of reader.new)) (outcome_fields outcome ++ outcome_text outcome text.new)) }
     ensures len { IfOk result (λ outcome. rest ≡ length (outcome_fields outcome ++ outcome_text outcome text.new)) }
     ensures answer { IfOk result (λ outcome. IsAnswer (op_number op) outcome) }
     ensures fits { IfOk result FitsOutcome }
     ensures error { IfOk result (λ outcome. error_number outcome ≡ error) }
     ensures text { IfOk result (λ outcome. text.new ≡ outcome_text outcome text.new) }
-    ensures fault { IfErr result (λ fault. Faults (RestFault op error rest) fault (R.remaining reader.old) (R.remaining reader.new)) }
+    ensures fault { IfErr result (λ fault. Faults (RestFault op error rest) fault (R.remaining (stream_of reader.old)) (R.remaining (stream_of reader.new))) }
+    ensures same { stream_name reader.new ≡ stream_name reader.old }
+    ensures failed { has_failed reader.new ≡ (is_read_fault result || has_failed reader.old) }
 {
     if error != 0 {
         let error = errno_of(error)?;
@@ -145,18 +156,25 @@ fn read_rest<R: Read>(
 /// judged first, then the version, the operation and the length that it wants with this error, and once
 /// all is read the error, the mark of a row that is there and the mode. Where the input ends within the
 /// frame it is `Truncated`, and where the reader fails it is `Read`.
-pub fn read_reply<R: Read>(reader: &mut R, text: &mut Body) -> Result<Option<Reply>, Fault>
-    ensures reads { ReadsReply (R.remaining reader.old) (R.remaining reader.new) result text.new }
+pub fn read_reply<R: Read>(
+    reader: &mut Watched<'_, R>,
+    text: &mut Body,
+) -> Result<Option<Reply>, Fault>
+    ensures reads { ReadsReply (R.remaining (stream_of reader.old)) (R.remaining (stream_of reader.new)) result text.new }
     // The answer that fits what the reader had left is given, unless the reader fails.
-    ensures only { (input : List ℕ) (answer : Result (Option Reply) Fault) → R.remaining reader.old ≡ Some input → ReplyAt input answer →
+    ensures only { (input : List ℕ) (answer : Result (Option Reply) Fault) → R.remaining (stream_of reader.old) ≡ Some input → ReplyAt input answer →
         (result ≡ answer) ⊎ (result ≡ Err Fault.Read) }
+    ensures same { stream_name reader.new ≡ stream_name reader.old }
+    ensures failed { has_failed reader.new ≡ (is_read_fault result || has_failed reader.old) }
 {
     next_reply(reader, text)
 }
 
 /// The same, by what was taken of the input.
-fn next_reply<R: Read>(reader: &mut R, text: &mut Body) -> Result<Option<Reply>, Fault>
-    ensures { ReadsReply (R.remaining reader.old) (R.remaining reader.new) result text.new }
+fn next_reply<R: Read>(reader: &mut Watched<'_, R>, text: &mut Body) -> Result<Option<Reply>, Fault>
+    ensures reads { ReadsReply (R.remaining (stream_of reader.old)) (R.remaining (stream_of reader.new)) result text.new }
+    ensures same { stream_name reader.new ≡ stream_name reader.old }
+    ensures failed { has_failed reader.new ≡ (is_read_fault result || has_failed reader.old) }
 {
     text.clear();
     let mut head = [0; 3];
@@ -174,11 +192,17 @@ fn next_reply<R: Read>(reader: &mut R, text: &mut Body) -> Result<Option<Reply>,
 /// Writes one reply, and with a receive's the text, by `write` alone; with any other reply the text is
 /// ignored. `WriteFault` where the writer fails or takes no byte, and then it took a prefix of the
 /// reply.
-pub fn write_reply<W: Write>(writer: &mut W, reply: &Reply, text: &Body) -> Result<(), WriteFault>
+pub fn write_reply<W: Write>(
+    writer: &mut Watched<'_, W>,
+    reply: &Reply,
+    text: &Body,
+) -> Result<(), WriteFault>
     requires answer { IsAnswer reply.now.op reply.now.result }
     requires text { length text.now ≤ MESSAGE_BYTES }
-    ensures ok { OnOk result (Appends (W.contents writer.old) (W.contents writer.new) (reply_spelling reply.now text.now)) }
-    ensures err { OnErr result (AppendsPrefix (W.contents writer.old) (W.contents writer.new) (reply_spelling reply.now text.now)) }
+    ensures ok { OnOk result (Appends (W.contents (stream_of writer.old)) (W.contents (stream_of writer.new)) (reply_spelling reply.now text.now)) }
+    ensures err { OnErr result (AppendsPrefix (W.contents (stream_of writer.old)) (W.contents (stream_of writer.new)) (reply_spelling reply.now text.now)) }
+    ensures same { stream_name writer.new ≡ stream_name writer.old }
+    ensures failed { has_failed writer.new ≡ (is_err result || has_failed writer.old) }
 {
     let fields = fields_of(&reply.result);
     if takes_text(&reply.result) {

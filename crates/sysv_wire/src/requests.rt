@@ -1,7 +1,8 @@
 //! Requests, read and written.
-ghost use Rattle.std.specs.Prelude.{◌≡◌, ◌≤◌, ◌+◌, ◌-◌, ◌<◌, ◌++◌, ◌∷◌, ◌⊎◌, [], ℕ, List, Option, Some, Result, Err, length, IfOk, IfErr, OnOk, OnErr};
+ghost use Rattle.std.specs.Prelude.{◌≡◌, ◌≤◌, ◌+◌, ◌-◌, ◌<◌, ◌++◌, ◌∷◌, ◌⊎◌, ◌||◌, [], ℕ, List, Option, Some, Result, Err, length, is_err, IfOk, IfErr, OnOk, OnErr};
 ghost use Rattle.std.specs.Io.KnownBytes.{Appends, Consumes};
-ghost use Rattle.sysv_wire.specs.Faults.{Faults, Breaks, IsShorter, OpFault};
+ghost use Rattle.sysv_model.specs.Watched.{has_failed, stream_name, stream_of};
+ghost use Rattle.sysv_wire.specs.Faults.{Faults, Breaks, IsShorter, OpFault, is_read_fault};
 ghost use Rattle.sysv_wire.specs.Frames.{op_number};
 ghost use Rattle.sysv_wire.specs.Numbers.{u32_bytes};
 ghost use Rattle.sysv_wire.specs.OneAnswer.{RequestAt};
@@ -18,7 +19,7 @@ use crate::output::{write_both, write_out};
 use crate::request::{Ask, Request};
 use bitflags::Flags as Set;
 use std::io::{Read, Write};
-use sysv_model::{BODY_ROOM, Body, Cred, Flags, SetTo};
+use sysv_model::{BODY_ROOM, Body, Cred, Flags, SetTo, Watched};
 
 /// The most bytes that the fields of a request take, its text not counted.
 const MAX_FIELDS: usize = 20;
@@ -203,16 +204,23 @@ fn row_of(fields: &[u8]) -> Ask
 }
 
 /// Reads the fields of a request with a whole length, and its text.
-fn read_ask<R: Read>(reader: &mut R, whole: u32, op: Op, text: &mut Body) -> Result<Ask, Fault>
+fn read_ask<R: Read>(
+    reader: &mut Watched<'_, R>,
+    whole: u32,
+    op: Op,
+    text: &mut Body,
+) -> Result<Ask, Fault>
     requires wanted { IsRequestLength op whole }
     requires most { whole ≤ MAX_REQUEST }
     requires empty { text.old ≡ [] }
-    ensures taken { IfOk result (λ ask. Consumes (R.remaining reader.old) (R.remaining reader.new) (ask_fields ask ++ ask_text op text.new)) }
+    ensures taken { IfOk result (λ ask. Consumes (R.remaining (stream_of reader.old)) (R.remaining (stream_of reader.new)) (ask_fields ask ++ ask_text op text.new)) }
     ensures op { IfOk result (λ ask. op_of ask ≡ op) }
     ensures fits { IfOk result FitsAsk }
     ensures len { IfOk result (λ ask. whole ≡ 2 + length (ask_fields ask ++ ask_text op text.new)) }
     ensures text { OnOk result (text.new ≡ ask_text op text.new) }
-    ensures fault { IfErr result (λ fault. Faults (Breaks (IsShorter (whole - 2))) fault (R.remaining reader.old) (R.remaining reader.new)) }
+    ensures fault { IfErr result (λ fault. Faults (Breaks (IsShorter (whole - 2))) fault (R.remaining (stream_of reader.old)) (R.remaining (stream_of reader.new))) }
+    ensures same { stream_name reader.new ≡ stream_name reader.old }
+    ensures failed { has_failed reader.new ≡ (is_read_fault result || has_failed reader.old) }
 {
     let mut fields = [0; MAX_FIELDS];
     let len = len_of(op);
@@ -231,18 +239,28 @@ fn read_ask<R: Read>(reader: &mut R, whole: u32, op: Op, text: &mut Body) -> Res
 /// No byte after the request is read, and none at all after what a fault is told of. The length is
 /// judged first, then the version, the operation and the length that it wants; where the input ends
 /// within the frame it is `Truncated`, and where the reader fails it is `Read`.
-pub fn read_request<R: Read>(reader: &mut R, text: &mut Body) -> Result<Option<Request>, Fault>
-    ensures reads { ReadsRequest (R.remaining reader.old) (R.remaining reader.new) result text.new }
+pub fn read_request<R: Read>(
+    reader: &mut Watched<'_, R>,
+    text: &mut Body,
+) -> Result<Option<Request>, Fault>
+    ensures reads { ReadsRequest (R.remaining (stream_of reader.old)) (R.remaining (stream_of reader.new)) result text.new }
     // The answer that fits what the reader had left is given, unless the reader fails.
-    ensures only { (input : List ℕ) (answer : Result (Option Request) Fault) → R.remaining reader.old ≡ Some input → RequestAt input answer →
+    ensures only { (input : List ℕ) (answer : Result (Option Request) Fault) → R.remaining (stream_of reader.old) ≡ Some input → RequestAt input answer →
         (result ≡ answer) ⊎ (result ≡ Err Fault.Read) }
+    ensures same { stream_name reader.new ≡ stream_name reader.old }
+    ensures failed { has_failed reader.new ≡ (is_read_fault result || has_failed reader.old) }
 {
     next_request(reader, text)
 }
 
 /// The same, by what was taken of the input.
-fn next_request<R: Read>(reader: &mut R, text: &mut Body) -> Result<Option<Request>, Fault>
-    ensures { ReadsRequest (R.remaining reader.old) (R.remaining reader.new) result text.new }
+fn next_request<R: Read>(
+    reader: &mut Watched<'_, R>,
+    text: &mut Body,
+) -> Result<Option<Request>, Fault>
+    ensures reads { ReadsRequest (R.remaining (stream_of reader.old)) (R.remaining (stream_of reader.new)) result text.new }
+    ensures same { stream_name reader.new ≡ stream_name reader.old }
+    ensures failed { has_failed reader.new ≡ (is_read_fault result || has_failed reader.old) }
 {
     text.clear();
     let mut head = [0; 2];
@@ -258,12 +276,14 @@ fn next_request<R: Read>(reader: &mut R, text: &mut Body) -> Result<Option<Reque
 /// ignored. `WriteFault` where the writer fails or takes no byte, and then it took a prefix of the
 /// request.
 pub fn write_request<W: Write>(
-    writer: &mut W,
+    writer: &mut Watched<'_, W>,
     request: &Request,
     text: &Body,
 ) -> Result<(), WriteFault>
-    ensures ok { OnOk result (Appends (W.contents writer.old) (W.contents writer.new) (request_spelling request.now text.now)) }
-    ensures err { OnErr result (AppendsPrefix (W.contents writer.old) (W.contents writer.new) (request_spelling request.now text.now)) }
+    ensures ok { OnOk result (Appends (W.contents (stream_of writer.old)) (W.contents (stream_of writer.new)) (request_spelling request.now text.now)) }
+    ensures err { OnErr result (AppendsPrefix (W.contents (stream_of writer.old)) (W.contents (stream_of writer.new)) (request_spelling request.now text.now)) }
+    ensures same { stream_name writer.new ≡ stream_name writer.old }
+    ensures failed { has_failed writer.new ≡ (is_err result || has_failed writer.old) }
 {
     let op = request.ask.op();
     let fields = fields_of(&request.ask);

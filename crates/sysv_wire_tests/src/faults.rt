@@ -1,6 +1,7 @@
 //! Bytes that spell no frame, and frames that break off, each with its fault worked by hand.
 use crate::ends::{Pieces, open_body};
 use crate::frames::{ANSWERS, OTHERS, SESSION, TOLD};
+use sysv_model::Watched;
 use sysv_wire::{Fault, Reply, Request, read_reply, read_request};
 
 /// Bytes, and what a reader of requests answers to them.
@@ -187,7 +188,8 @@ fn requests(rt: HostRuntime) {
     for (i, (bytes, answer)) in REQUESTS.iter().enumerate() {
         for piece in [1, 200] {
             let mut reader = Pieces::new(bytes, piece);
-            assert_eq!(rt; read_request(&mut reader, &mut text), *answer, "at {i}");
+            let read = read_request(&mut Watched::new(&mut reader), &mut text);
+            assert_eq!(rt; read, *answer, "at {i}");
         }
     }
 }
@@ -198,7 +200,8 @@ fn replies(rt: HostRuntime) {
     for (i, (bytes, answer)) in REPLIES.iter().enumerate() {
         for piece in [1, 200] {
             let mut reader = Pieces::new(bytes, piece);
-            assert_eq!(rt; read_reply(&mut reader, &mut text), *answer, "at {i}");
+            let read = read_reply(&mut Watched::new(&mut reader), &mut text);
+            assert_eq!(rt; read, *answer, "at {i}");
         }
     }
 }
@@ -221,7 +224,7 @@ fn requests_that_break_off(rt: HostRuntime) {
             for cut in start.saturating_add(1)..end {
                 assert!(rt; start <= cut && cut <= all.len());
                 let mut reader = Pieces::new(&all[start..cut], 200);
-                let answer = read_request(&mut reader, &mut text);
+                let answer = read_request(&mut Watched::new(&mut reader), &mut text);
                 assert_eq!(rt; answer, Err(Fault::Truncated), "{cut}");
             }
             start = end;
@@ -240,7 +243,7 @@ fn replies_that_break_off(rt: HostRuntime) {
             for cut in start.saturating_add(1)..end {
                 assert!(rt; start <= cut && cut <= all.len());
                 let mut reader = Pieces::new(&all[start..cut], 200);
-                let answer = read_reply(&mut reader, &mut text);
+                let answer = read_reply(&mut Watched::new(&mut reader), &mut text);
                 assert_eq!(rt; answer, Err(Fault::Truncated), "{cut}");
             }
             start = end;

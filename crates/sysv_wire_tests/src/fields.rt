@@ -1,7 +1,7 @@
 //! Each field of a frame with values that have no meaning there.
 use crate::ends::{Pieces, open_body};
 use std::process::Abort;
-use sysv_model::Body;
+use sysv_model::{Body, Watched};
 use sysv_wire::{Fault, Outcome, Reply, Request, read_reply, read_request};
 
 /// The bytes that the fields of each request take, by its operation; those of a send have no text.
@@ -26,13 +26,13 @@ fn frame(length: u8, version: u8, op: u8, error: u8) -> [u8; 96] {
 /// What a reader of requests answers to the first bytes, one at a time, with nothing after them.
 fn asked(text: &mut Body, bytes: &[u8; 96], len: u8) -> Result<Option<Request>, Fault> {
     let mut reader = Pieces::new(&bytes[..usize::from(len).min(96)], 1);
-    read_request(&mut reader, text)
+    read_request(&mut Watched::new(&mut reader), text)
 }
 
 /// What a reader of replies answers to them.
 fn told(text: &mut Body, bytes: &[u8; 96], len: u8) -> Result<Option<Reply>, Fault> {
     let mut reader = Pieces::new(&bytes[..usize::from(len).min(96)], 1);
-    read_reply(&mut reader, text)
+    read_reply(&mut Watched::new(&mut reader), text)
 }
 
 #[test]
@@ -179,9 +179,11 @@ fn modes_of_replies(rt: HostRuntime) {
 /// What both readers answer to these four bytes, and then the end.
 fn lengths_are(rt: &impl Abort, text: &mut Body, bytes: [u8; 4], request: Fault, reply: Fault) {
     let mut reader = Pieces::new(&bytes, 1);
-    assert_eq!(rt; read_request(&mut reader, text), Err(request), "{bytes:?}");
+    let answer = read_request(&mut Watched::new(&mut reader), text);
+    assert_eq!(rt; answer, Err(request), "{bytes:?}");
     let mut reader = Pieces::new(&bytes, 1);
-    assert_eq!(rt; read_reply(&mut reader, text), Err(reply), "{bytes:?}");
+    let answer = read_reply(&mut Watched::new(&mut reader), text);
+    assert_eq!(rt; answer, Err(reply), "{bytes:?}");
 }
 
 #[test]

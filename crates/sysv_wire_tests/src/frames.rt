@@ -3,7 +3,7 @@ use crate::ends::{Page, Pieces, open_body};
 use bitflags::Flags as Set;
 use std::alloc::Global;
 use std::process::Abort;
-use sysv_model::{Cred, Errno, Flags, MESSAGE_BYTES, Perm, Row, SetTo, Stat};
+use sysv_model::{Cred, Errno, Flags, MESSAGE_BYTES, Perm, Row, SetTo, Stat, Watched};
 use sysv_wire::{
     Ask, Outcome, Reply, Request, read_reply, read_request, write_reply, write_request,
 };
@@ -53,15 +53,18 @@ pub(crate) const TOLD: &[u8] = &[
 /// Reads the requests one by one in pieces of a size, and writes each again.
 fn reads_and_writes(rt: &impl Abort, alloc: Global, bytes: &[u8], asks: &[Ask], piece: usize) {
     let mut text = open_body(rt, alloc);
-    let mut reader = Pieces::new(bytes, piece);
-    let mut writer = Page::new(piece, 512, false);
+    let mut pieces = Pieces::new(bytes, piece);
+    let mut reader = Watched::new(&mut pieces);
+    let mut page = Page::new(piece, 512, false);
+    let mut writer = Watched::new(&mut page);
     for ask in asks {
         let request = Request { ask: *ask };
         assert_eq!(rt; read_request(&mut reader, &mut text), Ok(Some(request)));
         assert_eq!(rt; write_request(&mut writer, &request, &text), Ok(()));
     }
     assert_eq!(rt; read_request(&mut reader, &mut text), Ok(None));
-    assert!(rt; writer.written() == bytes);
+    assert!(rt; !reader.has_failed() && !writer.has_failed());
+    assert!(rt; page.written() == bytes);
 }
 
 /// Reads the replies one by one in pieces of a size, and writes each again.
@@ -73,8 +76,10 @@ fn reads_and_writes_replies(
     piece: usize,
 ) {
     let mut text = open_body(rt, alloc);
-    let mut reader = Pieces::new(bytes, piece);
-    let mut writer = Page::new(piece, 512, false);
+    let mut pieces = Pieces::new(bytes, piece);
+    let mut reader = Watched::new(&mut pieces);
+    let mut page = Page::new(piece, 512, false);
+    let mut writer = Watched::new(&mut page);
     for reply in replies {
         match read_reply(&mut reader, &mut text) {
             Ok(Some(read)) => {
@@ -86,7 +91,8 @@ fn reads_and_writes_replies(
         }
     }
     assert_eq!(rt; read_reply(&mut reader, &mut text), Ok(None));
-    assert!(rt; writer.written() == bytes);
+    assert!(rt; !reader.has_failed() && !writer.has_failed());
+    assert!(rt; page.written() == bytes);
 }
 
 #[test]

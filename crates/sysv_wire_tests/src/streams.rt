@@ -2,7 +2,7 @@
 use crate::ends::{Page, Pieces, open_body};
 use crate::frames::{ANSWERS, SESSION};
 use bitflags::Flags as Set;
-use sysv_model::Flags;
+use sysv_model::{Flags, Watched};
 use sysv_wire::{
     Ask, Fault, Outcome, Reply, Request, WriteFault, read_reply, read_request, write_reply,
     write_request,
@@ -12,11 +12,13 @@ use sysv_wire::{
 fn the_reader_fails(rt: HostRuntime) {
     let mut text = open_body(&rt, rt.alloc());
     for good in 0..SESSION.len() {
-        let mut reader = Pieces::new(SESSION, 5);
-        reader.good = good;
+        let mut pieces = Pieces::new(SESSION, 5);
+        pieces.good = good;
+        let mut reader = Watched::new(&mut pieces);
         let mut answer = Ok(None);
         for _ in 0..5 {
             answer = read_request(&mut reader, &mut text);
+            assert_eq!(rt; reader.has_failed(), answer.is_err(), "{good}");
             if answer.is_err() {
                 break;
             }
@@ -24,11 +26,13 @@ fn the_reader_fails(rt: HostRuntime) {
         assert_eq!(rt; answer, Err(Fault::Read), "{good}");
     }
     for good in 0..ANSWERS.len() {
-        let mut reader = Pieces::new(ANSWERS, 5);
-        reader.good = good;
+        let mut pieces = Pieces::new(ANSWERS, 5);
+        pieces.good = good;
+        let mut reader = Watched::new(&mut pieces);
         let mut answer = Ok(None);
         for _ in 0..5 {
             answer = read_reply(&mut reader, &mut text);
+            assert_eq!(rt; reader.has_failed(), answer.is_err(), "{good}");
             if answer.is_err() {
                 break;
             }
@@ -52,11 +56,13 @@ fn the_writer_fails(rt: HostRuntime) {
     for room in 0..24 {
         for stalls in [false, true] {
             for piece in [1, 512] {
-                let mut writer = Page::new(piece, room, stalls);
+                let mut page = Page::new(piece, room, stalls);
+                let mut writer = Watched::new(&mut page);
                 let end = write_request(&mut writer, &request, &text);
                 assert_eq!(rt; end, Err(WriteFault), "{room}");
-                assert_eq!(rt; writer.written().len(), room);
-                assert!(rt; spelling.starts_with(writer.written()), "{room}");
+                assert!(rt; writer.has_failed(), "{room}");
+                assert_eq!(rt; page.written().len(), room);
+                assert!(rt; spelling.starts_with(page.written()), "{room}");
             }
         }
     }
@@ -67,11 +73,13 @@ fn the_writer_fails(rt: HostRuntime) {
     assert!(rt; text.len() <= 8192);
     let spelling = &ANSWERS[25..42];
     for room in 0..17 {
-        let mut writer = Page::new(3, room, false);
+        let mut page = Page::new(3, room, false);
+        let mut writer = Watched::new(&mut page);
         let end = write_reply(&mut writer, &reply, &text);
         assert_eq!(rt; end, Err(WriteFault), "{room}");
-        assert_eq!(rt; writer.written().len(), room);
-        assert!(rt; spelling.starts_with(writer.written()), "{room}");
+        assert!(rt; writer.has_failed(), "{room}");
+        assert_eq!(rt; page.written().len(), room);
+        assert!(rt; spelling.starts_with(page.written()), "{room}");
     }
 }
 
@@ -84,7 +92,8 @@ fn the_longest_text(rt: HostRuntime) {
     frame[..22].copy_from_slice(&head);
     let mut text = open_body(&rt, rt.alloc());
     for piece in [1, 63, 64, 65, 9000] {
-        let mut reader = Pieces::new(&frame, piece);
+        let mut pieces = Pieces::new(&frame, piece);
+        let mut reader = Watched::new(&mut pieces);
         let ask = Ask::Snd {
             id: 0,
             mtype: 9,

@@ -16,6 +16,7 @@ use serving::serve_at;
 use std::env;
 use std::io;
 use std::process::ExitCode;
+use sysv_model::Watched;
 use sysv_script::run_script;
 
 /// The status where a task was refused or ended by a fault.
@@ -34,13 +35,19 @@ fn main(rt: HostRuntime) -> ExitCode {
         return say(&rt, "no memory");
     };
     match read_words(rt.alloc(), words.as_slice()) {
-        Ok(Asked::Script) => match run_script(rt.alloc(), &mut rt.stdin(), &mut rt.stdout()) {
-            Ok(()) => ExitCode::SUCCESS,
-            Err(fault) => {
-                let _ = eprintln!(rt; "sysvmsg: {fault}");
-                ExitCode::from(FAULT)
+        Ok(Asked::Script) => {
+            let mut script = rt.stdin();
+            let mut answers = rt.stdout();
+            let mut reader = Watched::new(&mut script);
+            let mut writer = Watched::new(&mut answers);
+            match run_script(rt.alloc(), &mut reader, &mut writer) {
+                Ok(()) => ExitCode::SUCCESS,
+                Err(fault) => {
+                    let _ = eprintln!(rt; "sysvmsg: {fault}");
+                    ExitCode::from(FAULT)
+                }
             }
-        },
+        }
         Ok(Asked::Serve(serving)) => serve_at(&rt, &serving),
         Ok(Asked::Client { path, command }) => run_at(&rt, path, &command),
         Err(error) => tell(&rt, &error),

@@ -4,7 +4,7 @@ use std::alloc::Global;
 use std::io;
 use std::io::Write;
 use std::time::{Clock, CpuClock};
-use sysv_model::Body;
+use sysv_model::{Body, Watched};
 use sysv_wire::{Op, Outcome, Reply, read_request, write_reply};
 
 /// How often.
@@ -51,12 +51,12 @@ pub(crate) fn time_of_turns<R: Clock + CpuClock>(rt: &R, alloc: Global) -> Optio
 /// Reads the send and writes its reply. False where either is not done.
 fn turn(frame: &[u8], text: &mut Body, slate: &mut Slate) -> bool {
     let mut input = frame;
-    let Ok(Some(_)) = read_request(&mut input, text) else {
+    let Ok(Some(_)) = read_request(&mut Watched::new(&mut input), text) else {
         return false;
     };
     let reply = Reply {
         op: Op::Snd.number(),
         result: Outcome::Snd,
     };
-    text.len() == 64 && write_reply(slate, &reply, text).is_ok()
+    text.len() == 64 && write_reply(&mut Watched::new(slate), &reply, text).is_ok()
 }

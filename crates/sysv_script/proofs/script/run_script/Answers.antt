@@ -1,17 +1,19 @@
-use Rattle.std.proofs.Common.{sym, subst}
-use Rattle.std.specs.Prelude.{IfErr}
-use Rattle.sysv_streams.specs.Faults.{TellsBadLine}
+use Rattle.std.proofs.Common.{◌≡◌, ◌||◌, Result, sym, subst}
+use Rattle.std.specs.Prelude.{IfErr, ⊤}
+use Rattle.sysv_model.specs.Watched.{has_failed, stream_of}
+use Rattle.sysv_streams.specs.declared.fault.ScriptFault.{ScriptFault}
+use Rattle.sysv_streams.specs.Faults.{TellsBadLine, is_read_fault, is_write_fault}
 use Rattle.sysv_script.specs.ScriptText.{WritesScript}
-use Rattle.sysv_script.proofs.FaultLemmas.{tells_end, grows_end}
+use Rattle.sysv_script.proofs.FaultLemmas.{tells_end, grows_end, reader_ended, writer_ended}
 use Rattle.sysv_script.proofs.ScriptEnds.{writes_none, writes_end, script_runs}
 use Rattle.sysv_script.proofs.script.run_script.Goals as goal
 
 pub returns-in_default-clause-prints : goal.returns-in_default-clause-prints
-returns-in_default-clause-prints g c = λ text known. writes_none c.one_text.ensures c.each_text_prints.ensures text (g.W.Write.contents c.args.writer.now)
+returns-in_default-clause-prints g c = λ text known. writes_none c.one_text.ensures c.each_text_prints.ensures text (g.W.Write.contents (stream_of c.args.writer.now))
 
 pub returns-clause-prints : goal.returns-clause-prints
 returns-clause-prints g c = λ text known.
-    subst (λ r. WritesScript r text (g.W.Write.contents c.args.writer.now) (g.W.Write.contents c.end.new.writer)) (sym c.and.ensures)
+    subst (λ r. WritesScript r text (g.W.Write.contents (stream_of c.args.writer.now)) (g.W.Write.contents (stream_of c.end.new.writer))) (sym c.and.ensures)
     (writes_end c.one_text.ensures c.each_text_prints.ensures c.end.result c.run_lines-ended.result text _ _ _ _ c.end.ensures.ok c.end.ensures.err c.end.ensures.fault
     (script_runs c.run_lines-ended.result _ _ text _ _ _ _ c.in-Ok.ensures.0 c.in-Ok.ensures.1 known c.run_lines-ended.ensures.prints))
 
@@ -21,5 +23,15 @@ returns-clause-grows g c =
 
 pub returns-clause-bad : goal.returns-clause-bad
 returns-clause-bad g c =
-    subst (λ r. IfErr r (λ fault. TellsBadLine fault (g.W.Write.contents c.args.writer.now) (g.W.Write.contents c.end.new.writer))) (sym c.and.ensures)
+    subst (λ r. IfErr r (λ fault. TellsBadLine fault (g.W.Write.contents (stream_of c.args.writer.now)) (g.W.Write.contents (stream_of c.end.new.writer)))) (sym c.and.ensures)
     (tells_end c.end.result c.run_lines-ended.result _ _ _ _ c.run_lines-ended.ensures.grows c.end.ensures.ok c.end.ensures.fault c.run_lines-ended.ensures.bad)
+
+pub returns-clause-reader_failed : goal.returns-clause-reader_failed
+returns-clause-reader_failed g c =
+    subst (λ (r : Result ⊤ ScriptFault). has_failed c.run_lines-ended.new.reader ≡ (is_read_fault r || has_failed c.args.reader.now)) (sym c.and.ensures)
+    (reader_ended c.end.result c.run_lines-ended.result _ _ _ c.end.ensures.fault c.end.ensures.empty c.run_lines-ended.ensures.none_left c.run_lines-ended.ensures.reader_failed)
+
+pub returns-clause-writer_failed : goal.returns-clause-writer_failed
+returns-clause-writer_failed g c =
+    subst (λ (r : Result ⊤ ScriptFault). has_failed c.end.new.writer ≡ (is_write_fault r || has_failed c.args.writer.now)) (sym c.and.ensures)
+    (writer_ended c.end.result c.run_lines-ended.result _ _ _ c.end.ensures.fault c.run_lines-ended.ensures.writer_failed c.end.ensures.failed)

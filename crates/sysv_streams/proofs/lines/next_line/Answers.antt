@@ -29,4 +29,8 @@ loop-found-preserved g c =
       before = subst HasNoEnd (sym front) none;
       text = TakesIn-trans _ _ _ _ _ _ c.loop-found.invariant.text taken;
       answers = HandsOn-all _ _ _ _ _ _ c.loop-found.invariant.answers c.in-Ok.ensures.answers c.in-Ok.ensures.none_left;
+      same_reader = c.in-Ok.ensures.same_reader ∙ c.loop-found.invariant.same_reader;
+      same_writer = c.in-Ok.ensures.same_writer ∙ c.loop-found.invariant.same_writer;
+      reader_failed = c.in-Ok.ensures.reader_failed ∙ c.loop-found.invariant.reader_failed;
+      writer_failed = c.in-Ok.ensures.writer_failed ∙ c.loop-found.invariant.writer_failed;
     }

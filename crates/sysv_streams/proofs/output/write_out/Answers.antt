@@ -1,7 +1,8 @@
-use Rattle.std.proofs.Common.{◌≡◌, ◌+◌, ◌-◌, ◌≤◌, ◌++◌, ℕ, List, length, take, drop, sym, ap, subst, ◌∙◌, arith, length-take}
+use Rattle.std.proofs.Common.{◌≡◌, ◌+◌, ◌-◌, ◌≤◌, ◌++◌, ◌||◌, ℕ, List, length, take, drop, sym, ap, subst, ◌∙◌, arith, length-take}
 use lib.Seq.{take-add, take-take}
 use Rattle.std.specs.Io.KnownBytes.{Appends}
 use Rattle.std.proofs.KnownBytes.{Appends-trans}
+use Rattle.sysv_model.specs.Watched.{has_failed, takes_none-some}
 use Rattle.sysv_streams.proofs.output.write_out.Goals as goal
 
 -- the prefix that was written, and then one of what is left
@@ -17,4 +18,9 @@ loop-written-preserved g c =
     let written = c.loop-written.written in
     let bound = c.in-Ok.ensures.bound in
     let fits : c.in-Ok.count ≤ length bytes - written = omega (arith, length-take (length bytes - written) (drop written bytes)) in
-    (omega arith, subst (Appends _ _) (fronts bytes written c.in-Ok.count fits) (Appends-trans _ _ _ _ _ c.loop-written.invariant.1 c.in-Ok.ensures.bytes))
+    record {
+      within = omega arith;
+      so_far = subst (Appends _ _) (fronts bytes written c.in-Ok.count fits) (Appends-trans _ _ _ _ _ c.loop-written.invariant.so_far c.in-Ok.ensures.bytes);
+      same = c.in-Ok.ensures.same ∙ c.loop-written.invariant.same;
+      failed = c.in-Ok.ensures.failed ∙ ap (λ b. b || has_failed c.loop-written.writer) (takes_none-some c.in-Ok.count _ c.in-Ok.count-test.1) ∙ c.loop-written.invariant.failed;
+    }

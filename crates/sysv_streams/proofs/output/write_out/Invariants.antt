@@ -1,10 +1,16 @@
 -- What was written so far is in the writer, and less is left each time.
-use Rattle.std.proofs.Common.{◌-◌, ◌≤◌, length, take}
+use Rattle.std.proofs.Common.{◌≡◌, ◌-◌, ◌≤◌, length, take}
 use Rattle.std.specs.Io.KnownBytes.{Appends}
+use Rattle.sysv_model.specs.Watched.{has_failed, stream_name, stream_of}
 use Rattle.sysv_streams.proofs.output.write_out.Given as goal
 
 abbrev pub invariant-loop-written : goal.invariant-loop-written
-invariant-loop-written g l = (l.written ≤ length l.bytes) × Appends (g.W.Write.contents l.initial.writer) (g.W.Write.contents l.writer) (take l.written l.bytes)
+invariant-loop-written g l = record {
+  within : l.written ≤ length l.bytes;
+  so_far : Appends (g.W.Write.contents (stream_of l.initial.writer)) (g.W.Write.contents (stream_of l.writer)) (take l.written l.bytes);
+  same : stream_name l.writer ≡ stream_name l.initial.writer;
+  failed : has_failed l.writer ≡ has_failed l.initial.writer;
+}
 
 abbrev pub decreases-loop-written : goal.decreases-loop-written
 decreases-loop-written g l = length l.bytes - l.written

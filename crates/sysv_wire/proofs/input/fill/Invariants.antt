@@ -1,12 +1,15 @@
 -- What came so far is at the start, and less is left each time.
-use Rattle.std.proofs.Common.{◌-◌, ◌≤◌, length, take}
+use Rattle.std.proofs.Common.{◌≡◌, ◌-◌, ◌≤◌, length, take}
 use Rattle.std.specs.Io.KnownBytes.{Consumes}
+use Rattle.sysv_model.specs.Watched.{has_failed, stream_name, stream_of}
 use Rattle.sysv_wire.proofs.input.fill.Given as goal
 
 abbrev pub invariant-loop-count : goal.invariant-loop-count
 invariant-loop-count g l = record {
   within : l.count ≤ length l.bytes;
-  so_far : Consumes (g.R.Read.remaining l.initial.reader) (g.R.Read.remaining l.reader) (take l.count l.bytes);
+  so_far : Consumes (g.R.Read.remaining (stream_of l.initial.reader)) (g.R.Read.remaining (stream_of l.reader)) (take l.count l.bytes);
+  same : stream_name l.reader ≡ stream_name l.initial.reader;
+  failed : has_failed l.reader ≡ has_failed l.initial.reader;
 }
 
 abbrev pub decreases-loop-count : goal.decreases-loop-count

@@ -1,11 +1,12 @@
 use Rattle.std.proofs.Common.{List, ℕ, Option, subst}
+use Rattle.sysv_model.specs.Watched.{stream_of}
 use Rattle.sysv_wire.specs.Reading.{ReadsReply}
 use Rattle.sysv_wire.proofs.ReplyAnswer.{reply_only}
 use Rattle.sysv_wire.proofs.replies.read_reply.Goals as goal
 
 pub returns-clause-only : goal.returns-clause-only
 returns-clause-only g c = λ input answer known fits.
-    let new = g.R.Read.remaining c.next_reply.new.reader in
+    let new = g.R.Read.remaining (stream_of c.next_reply.new.reader) in
     let result = c.next_reply.result in
     let text = c.next_reply.new.text in
-    reply_only input new result answer text (subst (λ (old : Option (List ℕ)). ReadsReply old new result text) known c.next_reply.ensures) fits
+    reply_only input new result answer text (subst (λ (old : Option (List ℕ)). ReadsReply old new result text) known c.next_reply.ensures.reads) fits

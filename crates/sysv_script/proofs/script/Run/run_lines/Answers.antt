@@ -1,4 +1,5 @@
-use Rattle.std.proofs.Common.{arith}
+use Rattle.std.proofs.Common.{arith, refl, ◌∙◌}
+use Rattle.sysv_model.specs.Watched.{stream_of}
 use Rattle.sysv_script.proofs.Scripting.{begins_text}
 use Rattle.sysv_script.proofs.ScriptEnds.{RunsNext-on, RunsNext-end}
 use Rattle.sysv_script.proofs.StreamLemmas.{Grows-none, Grows-trans}
@@ -6,14 +7,22 @@ use Rattle.sysv_script.proofs.script.Run.run_lines.Goals as goal
 
 pub loop-passed-init : goal.loop-passed-init
 loop-passed-init g c = record {
-  grows = Grows-none (g.W.Write.contents c.args.writer.now);
-  runs = λ s seen text t. begins_text s c.args.self.now.stage text c.args.self.now.input (g.R.Read.remaining c.args.reader.now) (g.W.Write.contents c.args.writer.now) c.args.self.now.output c.requires seen t;
+  grows = Grows-none (g.W.Write.contents (stream_of c.args.writer.now));
+  runs = λ s seen text t. begins_text s c.args.self.now.stage text c.args.self.now.input (g.R.Read.remaining (stream_of c.args.reader.now)) (g.W.Write.contents (stream_of c.args.writer.now)) c.args.self.now.output c.requires seen t;
+  same_reader = refl;
+  same_writer = refl;
+  reader_failed = refl;
+  writer_failed = refl;
 }
 
 pub loop-passed-preserved : goal.loop-passed-preserved
 loop-passed-preserved g c = record {
   grows = Grows-trans _ _ _ c.loop-passed.invariant.grows c.in-Ok-true.ensures.grows;
   runs = λ s seen text t. RunsNext-on c.in-Ok-true.field-0 _ _ _ _ _ _ _ _ _ c.in-Ok-true.field-0-test (c.in-Ok-true.ensures.runs s text _ (c.loop-passed.invariant.runs s seen text t));
+  same_reader = c.in-Ok-true.ensures.same_reader ∙ c.loop-passed.invariant.same_reader;
+  same_writer = c.in-Ok-true.ensures.same_writer ∙ c.loop-passed.invariant.same_writer;
+  reader_failed = c.in-Ok-true.ensures.reader_failed ∙ c.loop-passed.invariant.reader_failed;
+  writer_failed = c.in-Ok-true.ensures.writer_failed ∙ c.loop-passed.invariant.writer_failed;
 }
 
 pub returns-in-Ok-false-clause-prints : goal.returns-in-Ok-false-clause-prints

@@ -1,4 +1,5 @@
-use Rattle.std.proofs.Common.{◌+◌, ℕ, List}
+use Rattle.std.proofs.Common.{◌≡◌, ◌+◌, ℕ, List}
+use Rattle.sysv_model.specs.Watched.{has_failed, stream_name, stream_of}
 use Rattle.sysv_script.specs.ScriptRun.{Scene}
 use Rattle.sysv_script.specs.Staged.{IsSceneOf}
 use Rattle.sysv_streams.specs.Faults.{Grows}
@@ -7,7 +8,11 @@ use Rattle.sysv_script.proofs.script.Run.run_lines.Given as goal
 
 abbrev pub invariant-loop-passed : goal.invariant-loop-passed
 invariant-loop-passed g l = record {
-  grows : Grows (g.W.Write.contents l.initial.writer) (g.W.Write.contents l.writer);
-  runs : (s : Scene) → IsSceneOf s l.initial.self.stage → (text : List ℕ) → IsText l.initial.self.input (g.R.Read.remaining l.initial.reader) text →
-      RunsOn s text (g.W.Write.contents l.initial.writer) (l.passed + 1) l.self.stage l.self.input (g.R.Read.remaining l.reader) (g.W.Write.contents l.writer) l.self.output;
+  grows : Grows (g.W.Write.contents (stream_of l.initial.writer)) (g.W.Write.contents (stream_of l.writer));
+  runs : (s : Scene) → IsSceneOf s l.initial.self.stage → (text : List ℕ) → IsText l.initial.self.input (g.R.Read.remaining (stream_of l.initial.reader)) text →
+      RunsOn s text (g.W.Write.contents (stream_of l.initial.writer)) (l.passed + 1) l.self.stage l.self.input (g.R.Read.remaining (stream_of l.reader)) (g.W.Write.contents (stream_of l.writer)) l.self.output;
+  same_reader : stream_name l.reader ≡ stream_name l.initial.reader;
+  same_writer : stream_name l.writer ≡ stream_name l.initial.writer;
+  reader_failed : has_failed l.reader ≡ has_failed l.initial.reader;
+  writer_failed : has_failed l.writer ≡ has_failed l.initial.writer;
 }

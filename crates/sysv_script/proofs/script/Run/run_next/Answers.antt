@@ -1,4 +1,5 @@
 use Rattle.std.proofs.Common.{◌≡◌, ℕ, List, Option, Some, rules, subst, sym}
+use Rattle.sysv_model.specs.Watched.{stream_of}
 use Rattle.sysv_streams.specs.declared.lines.Found.{Found}
 use Rattle.sysv_streams.specs.Found.{FindsLine, IsNextLine}
 use Rattle.sysv_script.proofs.LineLemmas.{IsNextLine-front, IsNextLine-behind}
@@ -52,7 +53,7 @@ returns-in_err-found-clause-runs g c = λ s text old on.
 
 pub returns-in_default-clause-runs : goal.returns-in_default-clause-runs
 returns-in_default-clause-runs g c = λ s text old on.
-    let none = subst (λ (l : Option Found). FindsLine l c.next_line.new.input (g.R.Read.remaining c.next_line.new.reader)) c.in_default.is c.in_ok-found.ensures.found in
+    let none = subst (λ (l : Option Found). FindsLine l c.next_line.new.input (g.R.Read.remaining (stream_of c.next_line.new.reader))) c.in_default.is c.in_ok-found.ensures.found in
     ends_text _ _ _ _ _ _ _ _ _ none
     (hands_more _ _ _ _ _ _ _ _ _ _ _ c.in_ok-found.ensures.answers
     (takes_more _ _ _ _ _ _ _ _ _ _ _ c.in_ok-found.ensures.text on))
