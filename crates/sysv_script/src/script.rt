@@ -40,6 +40,7 @@ pub fn run_script<R: Read, W: Write>(
     // What the writer took stays, and where a line is bad the last line says which.
     ensures grows { Grows (W.contents (stream_of writer.old)) (W.contents (stream_of writer.new)) }
     ensures bad { IfErr result (λ fault. TellsBadLine fault (W.contents (stream_of writer.old)) (W.contents (stream_of writer.new))) }
+    // The streams are the same ones, and each has failed exactly where it had before or the fault says so.
     ensures same_reader { stream_name reader.new ≡ stream_name reader.old }
     ensures same_writer { stream_name writer.new ≡ stream_name writer.old }
     ensures reader_failed { has_failed reader.new ≡ (is_read_fault result || has_failed reader.old) }

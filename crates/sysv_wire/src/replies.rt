@@ -164,6 +164,7 @@ pub fn read_reply<R: Read>(
     // The answer that fits what the reader had left is given, unless the reader fails.
     ensures only { (input : List ℕ) (answer : Result (Option Reply) Fault) → R.remaining (stream_of reader.old) ≡ Some input → ReplyAt input answer →
         (result ≡ answer) ⊎ (result ≡ Err Fault.Read) }
+    // The reader is the same one, and has failed exactly where it had before or the answer is `Read`.
     ensures same { stream_name reader.new ≡ stream_name reader.old }
     ensures failed { has_failed reader.new ≡ (is_read_fault result || has_failed reader.old) }
 {
@@ -201,6 +202,7 @@ pub fn write_reply<W: Write>(
     requires text { length text.now ≤ MESSAGE_BYTES }
     ensures ok { OnOk result (Appends (W.contents (stream_of writer.old)) (W.contents (stream_of writer.new)) (reply_spelling reply.now text.now)) }
     ensures err { OnErr result (AppendsPrefix (W.contents (stream_of writer.old)) (W.contents (stream_of writer.new)) (reply_spelling reply.now text.now)) }
+    // The writer is the same one, and has failed exactly where it had before or the answer is a fault.
     ensures same { stream_name writer.new ≡ stream_name writer.old }
     ensures failed { has_failed writer.new ≡ (is_err result || has_failed writer.old) }
 {

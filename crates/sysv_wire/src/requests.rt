@@ -247,6 +247,7 @@ pub fn read_request<R: Read>(
     // The answer that fits what the reader had left is given, unless the reader fails.
     ensures only { (input : List ℕ) (answer : Result (Option Request) Fault) → R.remaining (stream_of reader.old) ≡ Some input → RequestAt input answer →
         (result ≡ answer) ⊎ (result ≡ Err Fault.Read) }
+    // The reader is the same one, and has failed exactly where it had before or the answer is `Read`.
     ensures same { stream_name reader.new ≡ stream_name reader.old }
     ensures failed { has_failed reader.new ≡ (is_read_fault result || has_failed reader.old) }
 {
@@ -282,6 +283,7 @@ pub fn write_request<W: Write>(
 ) -> Result<(), WriteFault>
     ensures ok { OnOk result (Appends (W.contents (stream_of writer.old)) (W.contents (stream_of writer.new)) (request_spelling request.now text.now)) }
     ensures err { OnErr result (AppendsPrefix (W.contents (stream_of writer.old)) (W.contents (stream_of writer.new)) (request_spelling request.now text.now)) }
+    // The writer is the same one, and has failed exactly where it had before or the answer is a fault.
     ensures same { stream_name writer.new ≡ stream_name writer.old }
     ensures failed { has_failed writer.new ≡ (is_err result || has_failed writer.old) }
 {
