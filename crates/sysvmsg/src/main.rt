@@ -13,9 +13,8 @@ use clap::Error;
 use clap::error::ErrorKind;
 use connection::run_at;
 use serving::serve_at;
-use std::env;
-use std::io;
 use std::process::ExitCode;
+use std::{env, io};
 use sysv_model::Watched;
 use sysv_script::run_script;
 
