@@ -1,6 +1,7 @@
 //! Buffers of one producer and one consumer.
 ghost use Rattle.std.specs.Prelude.{◌≡◌, ◌^◌, ◌<◌, ◌≤◌, ◌⊎◌, ◌↔◌, [], ◌∷◌, ◌++◌, length, IfOk, IfErr, OnOk, OnErr, IsErrOf};
 ghost use Rattle.sysv_buffer.specs.Refusals.{HandsBack};
+ghost use Rattle.sysv_buffer.specs.declared.buffer.TheConstants.{MAX_CELLS};
 
 use crate::board::{Board, IN, OUT, lay};
 use crate::ends::{Consumer, Producer};
@@ -41,7 +42,7 @@ impl<T: Drop> OneBuffer<T> {
         cells: usize,
     ) -> Result<(OneBuffer<T>, Producer<T>, Consumer<T>), OpenRefused>
         ensures ok { IfOk result (λ o. (o.0.room ≡ cells) × (o.1 ≡ record { buffer = o.0; put = [] }) × (o.2 ≡ record { buffer = o.0; taken = [] })) }
-        ensures bad_size { IsErrOf result OpenRefused.BadSize ↔ ((cells < 1) ⊎ (1024 < cells)) }
+        ensures bad_size { IsErrOf result OpenRefused.BadSize ↔ ((cells < 1) ⊎ (MAX_CELLS < cells)) }
     {
         if cells < 1 || cells > MAX_CELLS {
             return Err(OpenRefused::BadSize);

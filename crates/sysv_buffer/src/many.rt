@@ -1,6 +1,7 @@
 //! Buffers of many producers and consumers.
 ghost use Rattle.std.specs.Prelude.{◌≡◌, ◌<◌, ◌≤◌, ◌⊎◌, ◌↔◌, length, IfOk, IfErr, OnOk, IsErrOf};
 ghost use Rattle.sysv_buffer.specs.ManyEnds.{opened, split_off, Joins, HasItsOwn, Looks, Puts, Takes, GivesBack, Misses};
+ghost use Rattle.sysv_buffer.specs.declared.buffer.TheConstants.{MAX_CELLS};
 
 use crate::board::{IN, OUT};
 use crate::buffer::MAX_CELLS;
@@ -27,12 +28,13 @@ pub struct ManyBuffer<T> {
 impl<T> Model for ManyBuffer<T> {
     ghost use Rattle.std.specs.Prelude.{◌≡◌, ◌<◌, ◌≤◌};
     ghost use Rattle.sysv_buffer.specs.Ends.{Buffered};
+    ghost use Rattle.sysv_buffer.specs.declared.buffer.TheConstants.{MAX_CELLS};
 
     ghost Value = { Buffered };
 
     ghost view = { λ b. record { table = b.table.shared.table_id; room = b.room } };
 
-    ghost invariant = { λ b. (b.table.shared.table_id.words ≡ 64) × (b.table.shared.table_id.slots ≡ b.room) × (0 < b.room) × (b.room ≤ 1024) };
+    ghost invariant = { λ b. (b.table.shared.table_id.words ≡ 64) × (b.table.shared.table_id.slots ≡ b.room) × (0 < b.room) × (b.room ≤ MAX_CELLS) };
 }
 
 impl<T: Drop> ManyBuffer<T> {
@@ -40,7 +42,7 @@ impl<T: Drop> ManyBuffer<T> {
     /// refused.
     pub fn open(alloc: Global, cells: usize) -> Result<(ManyBuffer<T>, Seat<T>), OpenRefused>
         ensures ok { IfOk result (λ o. (o.0.room ≡ cells) × (o.1 ≡ opened o.0)) }
-        ensures bad_size { IsErrOf result OpenRefused.BadSize ↔ ((cells < 1) ⊎ (1024 < cells)) }
+        ensures bad_size { IsErrOf result OpenRefused.BadSize ↔ ((cells < 1) ⊎ (MAX_CELLS < cells)) }
     {
         if cells < 1 || cells > MAX_CELLS {
             return Err(OpenRefused::BadSize);

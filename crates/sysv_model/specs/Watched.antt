@@ -1,7 +1,6 @@
 -- A stream that is watched (this project's word): a reader or a writer that is borrowed, and whether it has failed since.
-use Rattle.std.specs.Prelude.{◌≡◌, ◌≢◌, ◌<◌, ℕ, Bool, true, false, not, ◌&&◌, ◌==◌, List, length, Result, Ok, Err}
+use Rattle.std.specs.Prelude.{◌≡◌, ◌≢◌, ℕ, Bool, true, false, not, ◌&&◌, ◌==◌, List, length, Result, Ok, Err}
 use Rattle.std.specs.Borrow.{GName}
-use Rattle.std.proofs.Common.{ap, arith}
 use Rattle.std.proofs.lemmas.Bool.{and_left, ne_eqb}
 use Rattle.sysv_model.specs.declared.watched.Watched.{Watched}
 
@@ -29,6 +28,3 @@ write_failed (Err error) bytes = true
 
 pub takes_none-some : (count : ℕ) (bytes : List ℕ) → count ≢ 0 → takes_none count bytes ≡ false
 takes_none-some count bytes took = and_left (count == 0) (not (length bytes == 0)) (ne_eqb count 0 took)
-
-pub takes_none-stalled : (bytes : List ℕ) → 0 < length bytes → takes_none 0 bytes ≡ true
-takes_none-stalled bytes some = ap not (ne_eqb (length bytes) 0 (λ none. omega (arith, none)))

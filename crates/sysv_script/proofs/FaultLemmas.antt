@@ -1,6 +1,6 @@
 -- What a fault that is passed on leaves.
 use Rattle.std.proofs.Common.{◌≡◌, ℕ, Bool, true, false, ◌||◌, List, [], ◌++◌, Result, Ok, Err, Option, ap, sym, subst, ◌∙◌, append_assoc}
-use Rattle.std.specs.Prelude.{IfOk, IfErr, IsOk, OnOk, OnErr, IsErrAnd, MatchResult, is_ok, ⊤}
+use Rattle.std.specs.Prelude.{IfErr, IsOk, OnOk, OnErr, IsErrAnd, ⊤}
 use Rattle.std.specs.Result.{result_and}
 use Rattle.std.specs.Io.KnownBytes.{Appends}
 use Rattle.std.proofs.KnownBytes.{Appends-trans}
@@ -46,15 +46,6 @@ tells_end (Err y) ended a b c composed grown all fault left = subst (λ f. Tells
 pub grows_end : (handed : Result ⊤ ScriptFault) (a b c : Option (List ℕ)) (composed : List ℕ) → Grows a b → OnOk handed (Appends b c composed) → OnErr handed (AppendsPart b c composed) → Grows a c
 grows_end (Ok x) a b c composed grown all part = Grows-trans a b c grown (composed, all)
 grows_end (Err y) a b c composed grown all part = Grows-trans a b c grown (Grows-part b c composed part)
-
-Ok-once : {T D : Type 0} (y x : T) → ◌≡◌ {A = Result T D} (Ok y) (Ok x) → y ≡ x
-Ok-once y x e = cc
-
--- what a call promised of its `Ok` holds of it after `map_err` too
-pub IfOk-mapped : {T E D : Type 0} (P : T → Type 0) (Q : E → Type 0) (r : Result T E) (mapped : Result T D) (x : T) →
-    IfOk r P → MatchResult r (λ y. mapped ≡ Ok y) Q → is_ok mapped ≡ is_ok r → mapped ≡ Ok x → P x
-IfOk-mapped {D = D} P Q (Ok y) mapped x p same variant is = let inner : y ≡ x = Ok-once {D = D} y x (sym same ∙ is) in subst P inner p
-IfOk-mapped P Q (Err e) mapped x p same variant is = let never : true ≡ false = sym (ap is_ok is) ∙ variant in absurd cc
 
 -- where the reader failed nothing is composed, so no later fault of the writer hides it
 pub reader_ended : (handed ended : Result ⊤ ScriptFault) (was now : Bool) (composed : List ℕ) → IfErr handed (λ f. f ≡ Write) → (composed ≡ [] → IsOk handed) →

@@ -1,14 +1,6 @@
-pub mod CredLemmas
-pub mod Standing
-pub mod Going
 pub mod Scripting
 pub mod ScriptEnds
 pub mod LineLemmas
 pub mod FaultLemmas
 pub mod StreamLemmas
-pub mod OneText
-pub mod EachText
-pub mod Kept
 pub mod Ran
-pub mod AllOn
-pub mod Opening

@@ -1,28 +1,27 @@
 -- How a run of a script that is under way ends, by the fault that ends it.
-use Rattle.std.proofs.Common.{◌≡◌, ◌+◌, ◌≤◌, ℕ, zero, suc, List, [], ◌∷◌, ◌++◌, Option, Some, Result, Ok, Err, length, take, refl, sym, ap, subst, ◌∙◌, arith, take_all}
+use Rattle.std.proofs.Common.{◌≡◌, ◌+◌, ◌≤◌, ℕ, zero, suc, List, [], ◌∷◌, ◌++◌, Option, Some, Result, Ok, Err, length, take, refl, sym, ap, subst, ◌∙◌}
 use Rattle.std.specs.Prelude.{IsErrAnd, IfErr, OnOk, OnErr, ⊤, Bool, true, false, not}
 use Rattle.std.specs.Result.{result_and}
 use Rattle.std.specs.Io.KnownBytes.{Appends}
 use Rattle.std.proofs.KnownBytes.{Appends-nil, Appends-trans}
 use lib.Seq.{take-append-add}
-use Rattle.sysv_script.specs.ScriptRun.{Scene, opening_scene}
-use Rattle.sysv_script.specs.declared.stage.Stage.{Stage}
-use Rattle.sysv_script.specs.Staged.{IsSceneOf}
+use Rattle.sysv_stage.specs.Scene.{Scene, opening_scene}
+use Rattle.sysv_stage.specs.declared.stage.Stage.{Stage}
+use Rattle.sysv_stage.specs.Staged.{IsSceneOf}
 use Rattle.sysv_streams.specs.Streams.{AppendsPart}
 use Rattle.sysv_streams.specs.Found.{IsNextLine}
+use Rattle.sysv_streams.proofs.StreamLemmas.{IsFrontOf-all}
 use Rattle.sysv_streams.specs.Faults.{IsFrontOf, IsStreamFault, IsLineFault, EndsAtLine}
-use Rattle.sysv_script.specs.ScriptText.{IsBad, Ending, Whole, BadLine, TooMany, ScriptPrints, WritesScript, WritesAll, WritesFront, WritesAtFault}
+use Rattle.sysv_texts.specs.ScriptText.{IsBad, Ending, Whole, BadLine, TooMany, ScriptPrints}
+use Rattle.sysv_script.specs.Written.{WritesScript, WritesAll, WritesFront, WritesAtFault}
 use Rattle.sysv_words.specs.OneSplit.{OneSplit}
-use Rattle.sysv_script.specs.OneText.{OneText}
-use Rattle.sysv_script.specs.EachText.{EachTextPrints}
+use Rattle.sysv_texts.specs.OneText.{OneText}
+use Rattle.sysv_texts.specs.EachText.{EachTextPrints}
 use Rattle.sysv_script.specs.ScriptSofar.{Halt, AtEnd, Before, Runs, IsText, RunsOn, RunsNext, LeavesAll, LeavesFront, LeavesAtFault, Leaves}
 use Rattle.sysv_streams.specs.declared.lines.Found.{Found}
 use Rattle.sysv_streams.specs.declared.fault.ScriptFault.{ScriptFault}
 use Rattle.sysv_streams.specs.declared.fault.ScriptFault.TheVariants.{Line, Read, Write, NoMemory, Bound}
 use Rattle.sysv_script.proofs.Scripting.{fails_at, stops_front}
-
-pub IsFrontOf-all : (text : List ℕ) → IsFrontOf text text
-IsFrontOf-all text = (length text, sym (take_all (length text) text (omega arith)))
 
 pub IsFrontOf-none : (none text : List ℕ) → none ≡ [] → IsFrontOf none text
 IsFrontOf-none none text e = (0, e)

@@ -1,14 +1,8 @@
 -- What two reads take in, and two writes hand on, one after the other.
-use Rattle.std.proofs.Common.{Result, Ok, Err}
-use Rattle.std.specs.Prelude.{OnErr}
 use Rattle.std.proofs.Common.{ℕ, List, [], ◌++◌, Option, take}
 use Rattle.std.proofs.KnownBytes.{Appends-nil, Appends-trans}
 use Rattle.sysv_streams.specs.Faults.{Grows}
 use Rattle.sysv_streams.specs.Streams.{AppendsPart, HandsOn}
-
-pub OnErr-from : {T E P : Type 0} (r : Result T E) → P → OnErr r P
-OnErr-from (Ok x) p = tt
-OnErr-from (Err e) p = p
 
 pub Grows-none : (a : Option (List ℕ)) → Grows a a
 Grows-none a = ([], Appends-nil a)

@@ -1,25 +1,19 @@
 -- The run of a script that is under way: the text that is left, and what is written and composed (this
 -- project's script language).
-use Rattle.std.specs.Prelude.{◌≡◌, ◌≤◌, ◌+◌, ℕ, Bool, true, false, List, [], ◌++◌, Option, Some, Result, Ok, Err, ⊤}
+use Rattle.std.specs.Prelude.{◌≡◌, ◌+◌, ℕ, Bool, true, false, List, [], ◌++◌, Option, Some, Result, Ok, Err, ⊤}
 use Rattle.std.specs.Io.KnownBytes.{Appends}
-use Rattle.sysv_script.specs.ScriptRun.{Scene}
+use Rattle.sysv_stage.specs.Scene.{Scene}
 use Rattle.sysv_streams.specs.Faults.{IsFrontOf}
-use Rattle.sysv_script.specs.Staged.{IsSceneOf}
-use Rattle.sysv_script.specs.declared.stage.Stage.{Stage}
-use Rattle.sysv_script.specs.ScriptText.{BeginsWith, LineDoes, IsBad, Ending, Whole, BadLine, TooMany, Prints}
-use Rattle.sysv_streams.specs.declared.fault.TheConstants.{SCRIPT_LINES}
+use Rattle.sysv_stage.specs.Staged.{IsSceneOf}
+use Rattle.sysv_stage.specs.declared.stage.Stage.{Stage}
+use Rattle.sysv_texts.specs.ScriptText.{LineDoes, IsBad, Ending, Whole, BadLine, TooMany, Prints}
+use Rattle.sysv_texts.specs.Sofar.{PrintsSofar}
 use Rattle.sysv_streams.specs.declared.fault.ScriptFault.{ScriptFault}
 use Rattle.sysv_streams.specs.declared.fault.ScriptFault.TheVariants.{Line, Read, Write, NoMemory, Bound}
 
 -- the text is what waits, and then what the reader has left
 abbrev pub IsText : List ℕ → Option (List ℕ) → List ℕ → Type 0
 IsText waiting left text = (behind : List ℕ) × (left ≡ Some behind) × (text ≡ waiting ++ behind)
-
--- What a text has printed before one of its lines, whichever that is.
-pub data PrintsSofar : Scene → ℕ → List ℕ → List ℕ → Type 0 where
-  Here : (s : Scene) (n : ℕ) (text : List ℕ) → PrintsSofar s n text []
-  Past : (s : Scene) (n : ℕ) (text line rest out : List ℕ) (after : Scene) (more : List ℕ) →
-      n ≤ SCRIPT_LINES → BeginsWith text line rest → LineDoes s line out after → PrintsSofar after (n + 1) rest more → PrintsSofar s n text (out ++ more)
 
 -- how far a run has come: to an ending, or before a line
 pub data Halt : Type 0 where

@@ -3,21 +3,22 @@ ghost use Rattle.std.specs.Prelude.{false, true, ◌≡◌, ◌+◌, ◌<◌, �
 ghost use Rattle.std.specs.Io.KnownBytes.{Appends, IsAtEnd};
 ghost use Rattle.sysv_model.specs.Watched.{has_failed, stream_name, stream_of};
 ghost use Rattle.sysv_streams.specs.Faults.{Grows, IsLineFault, IsFrontOf, IsStreamFault, EndsAtLine, LeavesBadLine, TellsBadLine, is_read_fault, is_write_fault};
-ghost use Rattle.sysv_script.specs.ScriptRun.{Scene, opening_scene};
-ghost use Rattle.sysv_script.specs.ScriptText.{LineDoes, IsBad, WritesScript};
+ghost use Rattle.sysv_stage.specs.Scene.{Scene, opening_scene};
+ghost use Rattle.sysv_texts.specs.ScriptText.{LineDoes, IsBad};
+ghost use Rattle.sysv_script.specs.Written.{WritesScript};
 ghost use Rattle.sysv_script.specs.ScriptSofar.{LineEnds, Leaves, IsText, RunsOn, RunsNext};
-ghost use Rattle.sysv_script.specs.Staged.{IsSceneOf};
+ghost use Rattle.sysv_stage.specs.Staged.{IsSceneOf};
 ghost use Rattle.sysv_streams.specs.Streams.{AppendsPart};
 ghost use Rattle.sysv_streams.specs.declared.fault.TheConstants.{SCRIPT_LINES};
 ghost use Rattle.sysv_lines.specs.declared.line.TheConstants.{LINE_BYTES};
 
-use crate::laws::{each_text_prints, one_text};
-use crate::stage::Stage;
 use std::alloc::Global;
 use std::io::{Read, Write};
 use sysv_lines::{Head, LINE_BYTES, line_of};
 use sysv_model::{NoMemory, Watched};
+use sysv_stage::Stage;
 use sysv_streams::{Found, Input, Output, SCRIPT_LINES, ScriptFault, next_line, read_on};
+use sysv_texts::{each_text_prints, one_text};
 use sysv_words::one_split;
 
 /// Runs the script that `reader` gives on a world of 16 actors, and writes to `writer` a line for
@@ -189,7 +190,7 @@ impl Run {
         }
     }
 
-    /// Hands out the last answers, and ends the world.
+    /// Writes the last answers, and ends the world.
     fn end<W: Write>(self, writer: &mut Watched<'_, W>) -> Result<(), ScriptFault>
         ensures ok { OnOk result (Appends (W.contents (stream_of writer.old)) (W.contents (stream_of writer.new)) self.output) }
         ensures err { OnErr result (AppendsPart (W.contents (stream_of writer.old)) (W.contents (stream_of writer.new)) self.output) }
@@ -204,7 +205,7 @@ impl Run {
             mut output,
         } = self;
         stage.end();
-        output.hand_out(writer)
+        output.write_to(writer)
     }
 }
 

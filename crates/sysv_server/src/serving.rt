@@ -1,6 +1,7 @@
 //! The server.
 ghost use Rattle.std.specs.Prelude.{◌≡◌, ◌≢◌, ◌≤◌, IfOk, IfErr};
 ghost use Rattle.sysv_model.specs.declared.limits.TheConstants.{MIN_BLOCKS, MAX_BLOCKS};
+ghost use Rattle.sysv_workers.specs.declared.workers.TheConstants.{MAX_WORKERS};
 ghost use Rattle.sysv_gated.specs.Seats.{AreOf};
 ghost use Rattle.sysv_server.specs.Added.{IsBalanced};
 ghost use Rattle.sysv_server.specs.Serving.{FaultOf, LeavesConnections, ServesAll, ServesOn, WorkedAll};
@@ -37,7 +38,7 @@ pub fn serve_on<R: Threads + Wait + Sync>(
     sessions: u64,
 ) -> Result<Sums, ServeFault>
     requires blocks { (MIN_BLOCKS ≤ blocks) × (blocks ≤ MAX_BLOCKS) }
-    requires workers { (1 ≤ workers) × (workers ≤ 16) }
+    requires workers { (1 ≤ workers) × (workers ≤ MAX_WORKERS) }
     ensures ok { IfOk result (λ sums. ServesOn blocks workers sessions sums) }
     ensures balance { IfOk result IsBalanced }
 {
@@ -54,7 +55,7 @@ pub fn serve_connections<S: Source<UnixStream>, R: Threads + Wait + Sync>(
     workers: u32,
 ) -> Result<Sums, ServeFault>
     requires blocks { (MIN_BLOCKS ≤ blocks) × (blocks ≤ MAX_BLOCKS) }
-    requires workers { (1 ≤ workers) × (workers ≤ 16) }
+    requires workers { (1 ≤ workers) × (workers ≤ MAX_WORKERS) }
     ensures ok { IfOk result (λ sums. ServesAll S.gives blocks workers source.old sums source.new) }
     ensures balance { IfOk result IsBalanced }
     ensures err { IfErr result (λ why. LeavesConnections source.old why source.new) }
@@ -78,7 +79,7 @@ fn serve_with<S: Source<UnixStream>, R: Threads + Wait + Sync>(
     count: usize,
 ) -> Result<Sums, ServeFault>
     requires pass { AreOf service.now pass.old.seats }
-    requires count { (1 ≤ count) × (count ≤ 16) }
+    requires count { (1 ≤ count) × (count ≤ MAX_WORKERS) }
     ensures pass { AreOf service.now pass.new.seats }
     ensures ok { IfOk result (λ sums. WorkedAll S.gives service.now count source.old sums source.new) }
     ensures err { IfErr result (λ why. LeavesConnections source.old why source.new) }

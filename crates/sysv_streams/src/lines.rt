@@ -107,7 +107,7 @@ fn first_end(text: &[u8]) -> Option<usize>
     text.iter().position(|byte| *byte == b'\n')
 }
 
-/// Hands out the answers and reads once; the number of bytes that came, 0 at the end.
+/// Writes the answers and reads once; the number of bytes that came, 0 at the end.
 pub fn read_on<R: Read, W: Write>(
     input: &mut Input,
     output: &mut Output,
@@ -127,7 +127,7 @@ pub fn read_on<R: Read, W: Write>(
     ensures reader_failed { has_failed reader.new ≡ (is_read_fault result || has_failed reader.old) }
     ensures writer_failed { has_failed writer.new ≡ (is_write_fault result || has_failed writer.old) }
 {
-    match output.hand_out(writer) {
+    match output.write_to(writer) {
         Ok(()) => input.read_from(reader),
         Err(fault) => Err(fault),
     }

@@ -75,7 +75,7 @@ impl Output {
         }
     }
 
-    /// Hands out what was composed where there might be no room for one more line. Where that fails
+    /// Writes what was composed where there might be no room for one more line. Where that fails
     /// nothing is left composed.
     pub fn make_room<W: Write>(&mut self, writer: &mut Watched<'_, W>) -> Result<(), ScriptFault>
         ensures ok { OnOk result (HandsOn (W.contents (stream_of writer.old)) self.old (W.contents (stream_of writer.new)) self.new) }
@@ -88,12 +88,12 @@ impl Output {
         if self.bytes.len() <= OUTPUT_ROOM - LONGEST {
             return Ok(());
         }
-        self.hand_out(writer)
+        self.write_to(writer)
     }
 
     /// Writes all that was composed, in as many writes as the writer wants. Nothing is left composed,
     /// also where that fails.
-    pub fn hand_out<W: Write>(&mut self, writer: &mut Watched<'_, W>) -> Result<(), ScriptFault>
+    pub fn write_to<W: Write>(&mut self, writer: &mut Watched<'_, W>) -> Result<(), ScriptFault>
         ensures ok { OnOk result (Appends (W.contents (stream_of writer.old)) (W.contents (stream_of writer.new)) self.old) }
         ensures none_left { self.new ≡ [] }
         ensures err { OnErr result (AppendsPart (W.contents (stream_of writer.old)) (W.contents (stream_of writer.new)) self.old) }

@@ -41,11 +41,12 @@ fn answers_are_written(rt: HostRuntime) {
     let Ok(mut written) = Vec::with_capacity(rt.alloc(), 64) else {
         return;
     };
-    let mut writer = Watched::new(&mut written);
     assert!(rt; output.tell(Head::Worn { actor: 1 }).is_ok());
     assert!(rt; output.tell_text(Head::Bad { number: 2 }, &text).is_ok());
-    assert!(rt; output.make_room(&mut writer).is_ok());
-    assert!(rt; output.hand_out(&mut writer).is_ok());
+    assert!(rt; output.make_room(&mut Watched::new(&mut written)).is_ok());
+    assert!(rt; written.is_empty());
+    let mut writer = Watched::new(&mut written);
+    assert!(rt; output.write_to(&mut writer).is_ok());
     assert!(rt; !writer.has_failed());
     assert!(rt; written.as_slice() == b"1 worn\nline 2: badhello\n".as_slice());
 }

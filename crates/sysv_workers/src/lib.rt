@@ -15,4 +15,4 @@ mod workers;
 pub use job::Job;
 pub use refusals::{WorkersFault, WorkersRefused};
 pub use source::Source;
-pub use workers::run_workers;
+pub use workers::{MAX_WORKERS, run_workers};

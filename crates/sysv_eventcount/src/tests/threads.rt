@@ -247,7 +247,7 @@ fn three_waiters_are_woken_at_their_goals(rt: HostRuntime) -> Result<(), Fail> {
     Ok(())
 }
 
-/// So often a bounded wait is tried, since one alone could begin after the other thread has advanced.
+/// How often a bounded wait is tried, since one alone could begin after the other thread has advanced.
 const TRIES: u64 = 100;
 
 // Advances ten times whenever it is asked to, waking nobody.

@@ -3,7 +3,7 @@ use Rattle.std.specs.Prelude.{IfErr, ⊤}
 use Rattle.sysv_model.specs.Watched.{has_failed, stream_of}
 use Rattle.sysv_streams.specs.declared.fault.ScriptFault.{ScriptFault}
 use Rattle.sysv_streams.specs.Faults.{TellsBadLine, is_read_fault, is_write_fault}
-use Rattle.sysv_script.specs.ScriptText.{WritesScript}
+use Rattle.sysv_script.specs.Written.{WritesScript}
 use Rattle.sysv_script.proofs.FaultLemmas.{tells_end, grows_end, reader_ended, writer_ended}
 use Rattle.sysv_script.proofs.ScriptEnds.{writes_none, writes_end, script_runs}
 use Rattle.sysv_script.proofs.script.run_script.Goals as goal

@@ -1,7 +1,7 @@
 use Rattle.std.proofs.Common.{◌≡◌, ◌+◌, ℕ, List}
 use Rattle.sysv_model.specs.Watched.{has_failed, stream_name, stream_of}
-use Rattle.sysv_script.specs.ScriptRun.{Scene}
-use Rattle.sysv_script.specs.Staged.{IsSceneOf}
+use Rattle.sysv_stage.specs.Scene.{Scene}
+use Rattle.sysv_stage.specs.Staged.{IsSceneOf}
 use Rattle.sysv_streams.specs.Faults.{Grows}
 use Rattle.sysv_script.specs.ScriptSofar.{IsText, RunsOn}
 use Rattle.sysv_script.proofs.script.Run.run_lines.Given as goal

@@ -1,8 +1,0 @@
--- The world in which nothing has happened is as runs leave it.
-use Rattle.std.proofs.Common.{ℕ}
-use Rattle.sysv_core.specs.Sound.{IsSound, OpensSound}
-use Rattle.sysv_lines.specs.declared.actor.TheConstants.{SCRIPT_ACTORS}
-use Rattle.sysv_script.specs.ScriptRun.{opening_world}
-
-pub opening_sound : OpensSound → (blocks : ℕ) → IsSound (opening_world blocks)
-opening_sound opens blocks = opens record { actors = SCRIPT_ACTORS; blocks = blocks; first = 0; generation = 0 }

@@ -1,0 +1,12 @@
+-- When the stage that the code keeps is seen as a scene of the definitions (this project's script
+-- language).
+use Rattle.std.specs.Prelude.{◌≡◌}
+use Rattle.sysv_core.specs.Seen.{IsSeenAs}
+use Rattle.sysv_stage.specs.Scene.{Scene}
+use Rattle.sysv_stage.specs.declared.stage.Stage.{Stage}
+
+pub record IsSceneOf (s : Scene) (stage : Stage) : Type 0 where
+  pub world : IsSeenAs s.world stage.world
+  pub creds : s.creds ≡ stage.creds
+  pub moment : s.moment ≡ stage.moment
+  pub fresh : s.fresh ≡ stage.fresh

@@ -1,0 +1,9 @@
+//! The stage of a script: a world of queues and actors, on which the lines of a script are run one by
+//! one. `specs/` has what a line does there and what it prints.
+#![tactic(auto)]
+
+mod stage;
+#[cfg(test)]
+mod tests;
+
+pub use stage::Stage;
