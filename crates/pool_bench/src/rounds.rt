@@ -2,7 +2,7 @@
 use bench_figures::{Time, Watch};
 use std::alloc::Global;
 use std::time::{Clock, CpuClock};
-use sysv_model::Body;
+use sysv_model::{Body, MESSAGE_BYTES, WORN};
 use sysv_pool::Pool;
 
 /// The rounds of one measurement.
@@ -12,7 +12,7 @@ pub const ROUNDS: u64 = 100_000;
 fn chain_round(pool: &mut Pool, text: &Body, out: &mut Body) -> bool {
     let len = text.len();
     let released = pool.released();
-    if len > 8192 || released >= 1 << 62 {
+    if len > MESSAGE_BYTES || released >= WORN {
         return false;
     }
     let Some(mut chain) = pool.reserve(len) else {

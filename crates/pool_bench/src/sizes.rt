@@ -4,11 +4,11 @@ use bench_figures::show;
 use std::alloc::Global;
 use std::io;
 use std::time::{Clock, CpuClock};
-use sysv_model::Body;
+use sysv_model::{Body, MESSAGE_BYTES};
 use sysv_pool::Pool;
 
 /// The bytes that are copied.
-const TEXT: [u8; 8192] = [b'x'; 8192];
+const TEXT: [u8; MESSAGE_BYTES] = [b'x'; MESSAGE_BYTES];
 
 /// Shows the time of rounds with chains beside that with vectors.
 fn show_beside<R: Clock + CpuClock + Print>(
@@ -31,7 +31,7 @@ fn show_beside<R: Clock + CpuClock + Print>(
 
 /// Shows the bytes that went through in a time, in millions a second.
 fn show_speed(rt: &impl Print, how: &str, nanos: Option<u64>) -> io::Result<()> {
-    let millions = nanos.map(|_| 8192 * 1000 * ROUNDS);
+    let millions = nanos.map(|_| MESSAGE_BYTES as u64 * 1000 * ROUNDS);
     show(
         rt,
         "8192 bytes",

@@ -1,5 +1,5 @@
 -- Slots of which no identifier was ever made.
-use Rattle.std.proofs.Common.{◌≡◌, ◌≢◌, ◌↔◌, rules, ℕ, zero, ℤ, IsTrue, is_some, nat_eq, get_or, length, pos, ◌+◌, ◌<◌, ◌≤◌, ◌==◌, ◌||◌, Bool, true, false, cond, List, [], ◌∷◌, ◌++◌, Option, None, Some, ◌⊎◌, inl, inr, refl, sym, ap, subst, ◌∙◌, arith}
+use Rattle.std.proofs.Common.{◌≡◌, ◌≢◌, ◌↔◌, rules, ℕ, ℤ, IsTrue, is_some, nat_eq, get_or, length, pos, ◌+◌, ◌<◌, ◌≤◌, ◌==◌, Bool, true, false, cond, List, [], ◌∷◌, ◌++◌, Option, None, Some, ◌⊎◌, inl, inr, refl, sym, ap, subst, ◌∙◌, arith}
 use Rattle.std.specs.Ordering.{int_eq}
 use Rattle.std.specs.List.{list_any, count_by, slice_get}
 use Rattle.std.proofs.lemmas.Bool.Decides.{nat_tests}
@@ -9,11 +9,11 @@ use Rattle.sysv_model.specs.declared.flags.Flags.{Flags}
 use Rattle.sysv_model.specs.declared.limits.TheConstants.{IPC_PRIVATE}
 use Rattle.sysv_model.specs.History.{Who}
 use Rattle.sysv_model.specs.Registry.{RegistryCall, RegistryReply, RegistryEntry, RegistryHistory, Begin, Settle, Forget, Made, Changed}
-use Rattle.sysv_keys.specs.declared.identifier.TheConstants.{SLOTS, GENERATION_LAST}
+use Rattle.sysv_keys.specs.declared.identifier.TheConstants.{SLOTS}
 use Rattle.sysv_keys.specs.declared.registry.KeyRow.{KeyRow}
 use Rattle.sysv_keys.specs.declared.registry.Place.{Place}
 use Rattle.sysv_keys.specs.Identifier.{id_of, slot_of_id}
-use Rattle.sysv_keys.specs.Rows.{makes, forgets, frees, is_made, is_settled, is_forgotten, IsRow, IsUnused, IsVacant, generation}
+use Rattle.sysv_keys.specs.Rows.{makes, forgets, frees, is_made, is_settled, is_forgotten, IsUnused, IsVacant, generation}
 use Rattle.sysv_keys.specs.LegalReply.{IsLegalReply, IsLegalHistory}
 use Rattle.sysv_keys.specs.StandsFor.{Registry, StandsFor}
 use Rattle.sysv_keys.specs.Unused.{UnusedSlots}

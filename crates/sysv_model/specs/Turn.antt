@@ -2,7 +2,7 @@
 -- by their numbers, the registry and the pool. What has happened is one list of turns, in the order in
 -- which they were made; the history of an object and the turns of a call are parts of it (this
 -- profile's).
-use Rattle.std.specs.Prelude.{ℕ, ◌==◌, ◌&&◌, Bool, true, false, List, [], ◌∷◌, if◌then◌else◌, filter, map}
+use Rattle.std.specs.Prelude.{ℕ, ◌==◌, ◌&&◌, Bool, false, List, [], ◌∷◌, if◌then◌else◌, filter, map}
 use Rattle.std.specs.List.{flat_map}
 use Rattle.sysv_model.specs.History.{Who, Actor, Seat, Call, Reply, Entry, History}
 use Rattle.sysv_model.specs.Registry.{RegistryCall, RegistryReply, RegistryEntry, RegistryHistory}
