@@ -1,2 +1,1 @@
 pub mod Snoc
-pub mod Watching

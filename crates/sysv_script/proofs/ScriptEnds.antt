@@ -10,8 +10,7 @@ use Rattle.sysv_stage.specs.declared.stage.Stage.{Stage}
 use Rattle.sysv_stage.specs.Staged.{IsSceneOf}
 use Rattle.sysv_streams.specs.Streams.{AppendsPart}
 use Rattle.sysv_streams.specs.Found.{IsNextLine}
-use Rattle.sysv_streams.proofs.StreamLemmas.{IsFrontOf-all}
-use Rattle.sysv_streams.specs.Faults.{IsFrontOf, IsStreamFault, IsLineFault, EndsAtLine}
+use Rattle.sysv_streams.specs.Faults.{IsFrontOf, IsFrontOf-all, IsStreamFault, IsLineFault, EndsAtLine}
 use Rattle.sysv_texts.specs.ScriptText.{IsBad, Ending, Whole, BadLine, TooMany, ScriptPrints}
 use Rattle.sysv_script.specs.Written.{WritesScript, WritesAll, WritesFront, WritesAtFault}
 use Rattle.sysv_words.specs.OneSplit.{OneSplit}

@@ -4,16 +4,8 @@ use Rattle.std.specs.List.{range_with_len}
 use Rattle.std.proofs.lemmas.Bool.{cases_eq}
 use Rattle.std.proofs.lemmas.List.{get_or-set_same, get_or-set_other}
 use Rattle.std.proofs.lemmas.List.FromFn.{fill_by_all}
-use Rattle.std.proofs.lemmas.Option.{slice_get-get_or}
 use Rattle.sysv_model.specs.declared.cred.Cred.{Cred}
-use Rattle.sysv_stage.specs.Scene.{first_cred, cred_at}
-
--- what is read at an actor's place
-pub cred_held : (creds : List Cred) (actor : ℕ) (d : Cred) → 1 ≤ actor → actor ≤ length creds → cred_at creds actor ≡ Some (get_or creds (actor - 1) d)
-cred_held creds zero d least most = absurd (omega (arith, least))
-cred_held creds (suc place) d least most =
-    let same : suc place - 1 ≡ place = omega arith in
-    slice_get-get_or creds place d (omega (arith, most)) ∙ ap (λ i. Some (get_or creds i d)) (sym same)
+use Rattle.sysv_stage.specs.Scene.{first_cred}
 
 -- the places before this one are those of actors as they are at first
 abbrev pub AreFirst : List Cred → ℕ → Type 0

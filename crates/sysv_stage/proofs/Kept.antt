@@ -1,6 +1,6 @@
 -- What a stage keeps of its scene, and what follows of a result that was told or mapped.
 use Rattle.std.proofs.Common.{◌≡◌, ◌∙◌, true, false, sym, ap, subst}
-use Rattle.std.specs.Prelude.{⊤, Result, Ok, Err, OnOk, IfOk, MatchResult, is_ok}
+use Rattle.std.specs.Prelude.{⊤, Result, Ok, Err, OnOk, OnErr, IfOk, MatchResult, is_ok}
 use Rattle.sysv_model.specs.declared.no_memory.NoMemory.{NoMemory}
 use Rattle.sysv_stage.specs.Scene.{Scene}
 use Rattle.sysv_stage.specs.Staged.{IsSceneOf}
@@ -13,6 +13,10 @@ kept s old new e seen = subst (IsSceneOf s) (sym e) (record { world = seen.world
 pub on_ok : {P Q : Type 0} (r : Result ⊤ NoMemory) → OnOk r P → (P → Q) → OnOk r Q
 on_ok (Ok done) p f = f p
 on_ok (Err why) p f = tt
+
+pub on_err : {T E P : Type 0} (r : Result T E) → P → OnErr r P
+on_err (Ok x) p = tt
+on_err (Err e) p = p
 
 Ok-once : {T D : Type 0} (y x : T) → ◌≡◌ {A = Result T D} (Ok y) (Ok x) → y ≡ x
 Ok-once y x e = cc

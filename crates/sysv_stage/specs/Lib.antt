@@ -5,4 +5,5 @@ pub use Rattle.sysv_lines.specs.Names
 pub use Rattle.sysv_lines.specs.Said
 pub use Rattle.sysv_lines.specs.Lines
 pub mod Scene
+pub mod CredHeld
 pub mod Staged

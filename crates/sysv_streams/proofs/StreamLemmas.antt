@@ -6,7 +6,6 @@ use lib.Seq.{take-append-add}
 use Rattle.std.specs.Io.KnownBytes.{Appends}
 use Rattle.std.proofs.KnownBytes.{Appends-nil, Appends-trans, Consumes-nil, Consumes-trans}
 use Rattle.sysv_streams.specs.Streams.{AppendsPart, HandsOn, TakesIn}
-use Rattle.sysv_streams.specs.Faults.{IsFrontOf}
 
 pub HandsOn-none : (a : Option (List ℕ)) (waiting : List ℕ) → HandsOn a waiting a waiting
 HandsOn-none a waiting = ([], refl, Appends-nil a)
@@ -35,6 +34,3 @@ TakesIn-trans a b c x y z first second =
 pub OnErr-from : {T E P : Type 0} (r : Result T E) → P → OnErr r P
 OnErr-from (Ok x) p = tt
 OnErr-from (Err e) p = p
-
-pub IsFrontOf-all : (text : List ℕ) → IsFrontOf text text
-IsFrontOf-all text = (length text, sym (take_all (length text) text (omega arith)))

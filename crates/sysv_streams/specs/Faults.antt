@@ -1,6 +1,7 @@
 -- How a script ends (this project's script language): the last line that is printed for a bad line
 -- says its number, counted from 1, and a script has at most 1,000,000 lines.
-use Rattle.std.specs.Prelude.{◌≡◌, ◌≤◌, ⊤, ℕ, Bool, true, false, List, [], ◌∷◌, ◌++◌, take, Option, Result, Ok, Err}
+use Rattle.std.specs.Prelude.{◌≡◌, ◌≤◌, ⊤, ℕ, Bool, true, false, List, [], ◌∷◌, ◌++◌, length, take, Option, Result, Ok, Err}
+use Rattle.std.proofs.Common.{sym, take_all, arith}
 use Rattle.std.specs.Io.KnownBytes.{Appends}
 use Rattle.sysv_lines.specs.Heads.{head_text}
 use Rattle.sysv_lines.specs.declared.head.Head.TheVariants.{Bad}
@@ -19,6 +20,9 @@ EndsInBadLine number text = (answers : List ℕ) × (text ≡ answers ++ bad_lin
 -- a prefix of the text
 abbrev pub IsFrontOf : List ℕ → List ℕ → Type 0
 IsFrontOf front text = (count : ℕ) × (front ≡ take count text)
+
+pub IsFrontOf-all : (text : List ℕ) → IsFrontOf text text
+IsFrontOf-all text = (length text, sym (take_all (length text) text (omega arith)))
 
 -- the reader or the writer has failed
 abbrev pub IsStreamFault : ScriptFault → Type 0

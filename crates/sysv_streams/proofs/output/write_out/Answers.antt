@@ -2,8 +2,7 @@ use Rattle.std.proofs.Common.{◌≡◌, ◌+◌, ◌-◌, ◌≤◌, ◌++◌, 
 use lib.Seq.{take-add, take-take}
 use Rattle.std.specs.Io.KnownBytes.{Appends}
 use Rattle.std.proofs.KnownBytes.{Appends-trans}
-use Rattle.sysv_model.specs.Watched.{has_failed}
-use Rattle.sysv_model.proofs.Watching.{takes_none-some}
+use Rattle.sysv_model.specs.Watched.{has_failed, takes_none-some}
 use Rattle.sysv_streams.proofs.output.write_out.Goals as goal
 
 -- the prefix that was written, and then one of what is left

@@ -1,8 +1,7 @@
 use Rattle.std.proofs.Common.{◌+◌, ◌≤◌, ◌-◌, ◌||◌, length, drop, ap, subst, ◌∙◌, arith, length-take}
 use Rattle.std.specs.Io.KnownBytes.{Appends}
 use Rattle.std.proofs.KnownBytes.{Appends-trans, Appends-kept}
-use Rattle.sysv_model.specs.Watched.{has_failed}
-use Rattle.sysv_model.proofs.Watching.{takes_none-some}
+use Rattle.sysv_model.specs.Watched.{has_failed, takes_none-some}
 use Rattle.sysv_wire.proofs.StreamLemmas.{went, AppendsPrefix-take}
 use Rattle.sysv_wire.proofs.output.write_out.Goals as goal
 

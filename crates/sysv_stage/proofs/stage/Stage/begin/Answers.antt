@@ -1,6 +1,6 @@
 use Rattle.std.proofs.Common.{◌≡◌, ◌∙◌, length, ap, rules, arith}
 use Rattle.sysv_stage.specs.Scene.{cred_at}
-use Rattle.sysv_stage.proofs.CredLemmas.{cred_held}
+use Rattle.sysv_stage.specs.CredHeld.{cred_held}
 use Rattle.sysv_stage.proofs.stage.Stage.begin.Goals as goal
 
 pub returns : goal.returns
