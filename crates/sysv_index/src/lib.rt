@@ -4,7 +4,8 @@
 
 mod entry;
 mod index;
+mod rows;
 
 pub use entry::{Entry, Numbered};
 pub use index::Index;
-pub use index::steps::Steps;
+pub use rows::steps::Steps;

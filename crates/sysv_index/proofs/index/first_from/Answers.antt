@@ -11,7 +11,7 @@ loop-low-init g c = record {
   within = omega arith;
   below = λ k d low high. absurd (omega arith);
   above = λ k d low high. absurd (omega arith);
-  few = (digits (length c.args.by_type.now), omega (arith, (digits-is (length c.args.by_type.now)).0), omega arith);
+  few = (digits (length c.args.by_type.now.entries.items), omega (arith, (digits-is (length c.args.by_type.now.entries.items)).0), omega arith);
   risen = omega arith;
   some = λ none. omega arith;
 }

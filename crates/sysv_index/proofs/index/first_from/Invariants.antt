@@ -8,12 +8,12 @@ use Rattle.sysv_index.proofs.index.first_from.Given as goal
 abbrev pub invariant-loop-low : goal.invariant-loop-low
 invariant-loop-low g l = record {
   ordered : l.low ≤ l.high;
-  within : l.high ≤ length l.by_type;
-  below : AllWithin (λ (e : Entry). e.mtype <ℤ l.mtype) l.by_type 0 l.low;
-  above : AllWithin (λ (e : Entry). l.mtype ≤ℤ e.mtype) l.by_type l.high (length l.by_type);
-  few : (left : ℕ) × (l.high - l.low < 2 ^ left) × (l.steps + left ≡ l.initial.steps + digits (length l.by_type));
+  within : l.high ≤ length l.by_type.entries.items;
+  below : AllWithin (λ (e : Entry). e.mtype <ℤ l.mtype) l.by_type.entries.items 0 l.low;
+  above : AllWithin (λ (e : Entry). l.mtype ≤ℤ e.mtype) l.by_type.entries.items l.high (length l.by_type.entries.items);
+  few : (left : ℕ) × (l.high - l.low < 2 ^ left) × (l.steps + left ≡ l.initial.steps + digits (length l.by_type.entries.items));
   risen : l.initial.steps ≤ l.steps;
-  some : l.steps ≡ l.initial.steps → l.high - l.low ≡ length l.by_type;
+  some : l.steps ≡ l.initial.steps → l.high - l.low ≡ length l.by_type.entries.items;
 }
 
 abbrev pub decreases-loop-low : goal.decreases-loop-low

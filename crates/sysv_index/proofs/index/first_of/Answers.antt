@@ -7,7 +7,7 @@ use Rattle.sysv_index.proofs.index.first_of.Goals as goal
 
 pub returns-else-found-mtype-clause-found : goal.returns-else-found-mtype-clause-found
 returns-else-found-mtype-clause-found g c =
-    let xs = c.args.by_type.now in
+    let xs = c.args.by_type.now.entries.items in
     let at = c.first_from-at.result in
     let same = to_z-of_z w64 c.args.mtype c.ranges.mtype in
     none_of_type xs c.args.mtype at c.probe-found.result c.requires c.probe-found.ensures.read
