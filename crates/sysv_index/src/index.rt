@@ -1,13 +1,12 @@
 //! The entries in two orders, and what a receive selects among them.
 
-ghost use Rattle.std.specs.Prelude.{◌≡◌, ◌≢◌, ℕ, ℤ, ◌+◌, ◌<◌, ◌≤◌, ◌<ℤ◌, ◌≤ℤ◌, ◌==◌, not, [], ◌∷◌, ◌++◌, List, IsTrue, ◌↔◌, IfOk, Some, MatchOption, length, map, filter, insert, remove, slice_get, vec_len, vec_capacity};
+ghost use Rattle.std.specs.Prelude.{◌≡◌, ℕ, ◌+◌, ◌<◌, ◌≤◌, ◌<ℤ◌, ◌≤ℤ◌, ◌↔◌, ◌==◌, not, [], ◌∷◌, ◌++◌, IsTrue, IfOk, Some, MatchOption, length, filter, remove, slice_get};
 ghost use Rattle.std.specs.List.{All, AllPairs, AllWithin};
 ghost use Rattle.sysv_model.specs.declared.limits.TheConstants.{QUEUE_MESSAGES};
 ghost use Rattle.sysv_rules.specs.Qualifies.{NoneQualifies};
 ghost use Rattle.sysv_rules.specs.Digits.{digits};
 ghost use Rattle.sysv_index.specs.declared.entry.Entry.{Entry};
-ghost use Rattle.sysv_index.specs.declared.entry.Numbered.{Numbered};
-ghost use Rattle.sysv_index.specs.Entries.{types_of, IsBefore, IsInserted};
+ghost use Rattle.sysv_index.specs.Entries.{types_of, IsBefore};
 ghost use Rattle.sysv_index.specs.Selected.{IsSelected, IsLowest, NoneLow, IsFirstOf, NoneOf};
 
 use crate::entry::{Entry, Numbered};

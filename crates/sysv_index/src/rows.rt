@@ -1,6 +1,6 @@
 //! Entries in an order. No other module reads them but through `probe`, which counts.
 
-ghost use Rattle.std.specs.Prelude.{◌≡◌, ℕ, ◌+◌, ◌<◌, ◌≤◌, ◌==◌, not, [], ◌∷◌, ◌++◌, List, IsTrue, ◌↔◌, IfOk, Some, filter, slice_get, length, vec_capacity};
+ghost use Rattle.std.specs.Prelude.{◌≡◌, ◌+◌, ◌<◌, ◌≤◌, ◌↔◌, ◌==◌, not, [], ◌∷◌, ◌++◌, IsTrue, IfOk, Some, filter, slice_get, length, vec_capacity};
 ghost use Rattle.std.specs.List.{AllPairs};
 ghost use Rattle.sysv_model.specs.declared.limits.TheConstants.{QUEUE_MESSAGES};
 ghost use Rattle.sysv_index.specs.declared.entry.Entry.{Entry};

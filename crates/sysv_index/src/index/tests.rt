@@ -1,19 +1,17 @@
 //! Selections compared with a list kept beside the index, whose plain rule is that of the message
 //! rules, and a full index of as many types.
 
-ghost use Rattle.std.specs.Prelude.{◌≡◌, ℕ, ◌+◌, ◌<◌, ◌≤◌, ◌^◌, length};
-ghost use Rattle.std.specs.List.{All};
-ghost use Rattle.sysv_index.specs.declared.entry.Entry.{Entry};
+ghost use Rattle.std.specs.Prelude.{◌≡◌, ◌+◌, ◌<◌, ◌≤◌, length};
+ghost use Rattle.sysv_model.specs.declared.limits.TheConstants.{QUEUE_MESSAGES};
 
 use super::*;
-use std::alloc::AllocError;
 use std::marker::Brand;
 use std::process::Abort;
 use std::sync::ledger::Blank;
 use std::test::Fail;
 use sysv_rules::select_plain;
 
-/// An index, though memory is refused once.
+/// An index. Memory is refused once at most.
 fn open_index(rt: &impl Abort, alloc: Global) -> Index
     ensures { length result ≡ 0 }
 {
@@ -40,39 +38,76 @@ fn select(index: &Index, sel: Selector) -> Option<Numbered> {
     select_with::<Brand>(index, sel, Blank::new(1))
 }
 
-/// What the plain rule names in a list of entries.
-fn select_beside(
-    alloc: Global,
-    sel: Selector,
-    entries: &[Entry],
-) -> Result<Option<Numbered>, AllocError> {
-    let types: Vec<i64> = entries.iter().map(|entry| entry.mtype).collect(alloc)?;
-    Ok(
-        select_plain(sel, &types)
-            .and_then(|place| entries.get(place))
-            .map(|entry| entry.numbered()),
-    )
+/// A full index is selected from by 11 reads at most, since 256 has nine binary digits.
+fn select_full<L: Ledger>(index: &Index, sel: Selector, blank: Blank) -> Option<Numbered>
+    requires full { length index.now ≡ QUEUE_MESSAGES }
+    requires name { blank.name ≡ L.name }
+    requires parts { blank.parts ≡ L.parts }
+    requires some { 0 < blank.parts }
+{
+    let mut steps = Steps::<L>::open(blank);
+    select_by_few(index, sel, &mut steps)
 }
 
-/// All three selectors select what the plain rule names in the list beside.
+fn select_by_few<L: Ledger>(index: &Index, sel: Selector, steps: &mut Steps<L>) -> Option<Numbered>
+    requires { length index.now ≡ QUEUE_MESSAGES }
+    ensures { steps.new ≤ steps.old + 11 }
+{
+    index.select(sel, steps)
+}
+
+/// A list with room for all that an index may hold. Memory is refused once at most.
+fn room<T: Drop>(rt: &impl Abort, alloc: Global) -> Vec<T> {
+    match Vec::with_capacity(alloc, QUEUE_MESSAGES) {
+        Ok(list) => list,
+        Err(_) => Vec::with_capacity(alloc, QUEUE_MESSAGES).expect(rt, "a second try"),
+    }
+}
+
+/// The entries in the order in which they were pushed, and a list for their types.
+#[derive(Drop)]
+struct Beside {
+    entries: Vec<Entry>,
+    types: Vec<i64>,
+}
+
+impl Beside {
+    fn open(rt: &impl Abort, alloc: Global) -> Beside {
+        Beside {
+            entries: room(rt, alloc),
+            types: room(rt, alloc),
+        }
+    }
+
+    /// What the plain rule names.
+    fn select(&mut self, sel: Selector) -> Result<Option<Numbered>, Fail> {
+        self.types.clear();
+        for entry in &self.entries {
+            self.types.push(entry.mtype)?;
+        }
+        let place = select_plain(sel, &self.types);
+        Ok(
+            place
+                .and_then(|place| self.entries.get(place))
+                .map(|entry| entry.numbered()),
+        )
+    }
+}
+
+/// All three selectors select what the plain rule names.
 fn assert_agree(
     rt: &impl Abort,
-    alloc: Global,
     index: &Index,
-    beside: &[Entry],
+    beside: &mut Beside,
     mtype: i64,
-) -> Result<(), AllocError> {
-    assert_eq!(rt; index.len(), beside.len());
+) -> Result<(), Fail> {
+    assert_eq!(rt; index.len(), beside.entries.len());
     for sel in [
         Selector::Any,
         Selector::Exactly(mtype),
         Selector::UpTo(mtype.unsigned_abs()),
     ] {
-        assert_eq!(rt;
-            select(index, sel),
-            select_beside(alloc, sel, beside)?,
-            "{mtype}"
-        );
+        assert_eq!(rt; select(index, sel), beside.select(sel)?, "{mtype}");
     }
     Ok(())
 }
@@ -93,13 +128,12 @@ fn script(step: u64) -> (Selector, i64)
 
 #[test]
 fn selections_follow_the_plain_rule(rt: HostRuntime) -> Result<(), Fail> {
-    let alloc = rt.alloc();
-    let mut index = open_index(&rt, alloc);
-    let mut beside: Vec<Entry> = Vec::new(alloc);
+    let mut index = open_index(&rt, rt.alloc());
+    let mut beside = Beside::open(&rt, rt.alloc());
     let mut taken = 0u32;
     for step in 0..500 {
         let (sel, mtype) = script(step);
-        assert_agree(&rt, alloc, &index, &beside, mtype)?;
+        assert_agree(&rt, &index, &mut beside, mtype)?;
         if step % 5 < 3 && index.len() < QUEUE_MESSAGES {
             let entry = Entry {
                 mtype,
@@ -107,14 +141,14 @@ fn selections_follow_the_plain_rule(rt: HostRuntime) -> Result<(), Fail> {
                 place: (step % 256) as usize,
             };
             index.push(entry);
-            beside.push(entry)?;
+            beside.entries.push(entry)?;
         } else if let Some(found) = select(&index, sel) {
             index.remove(found.number);
-            beside.retain(|entry| entry.number != found.number);
+            beside.entries.retain(|entry| entry.number != found.number);
             taken += 1;
         }
     }
-    assert!(rt; taken > 100 && beside.len() > 50);
+    assert!(rt; taken > 100 && beside.entries.len() > 50);
     Ok(())
 }
 
@@ -139,7 +173,8 @@ fn a_full_index_finds_each_type(rt: HostRuntime) {
     for number in 0..256 {
         let place = number as usize;
         let sel = Selector::Exactly(type_of_number(number));
-        assert_eq!(rt; select(&index, sel), Some(Numbered { number, place }));
+        let found = select_full::<Brand>(&index, sel, Blank::new(1));
+        assert_eq!(rt; found, Some(Numbered { number, place }));
     }
     assert_eq!(rt; select(&index, Selector::Exactly(0)), None);
     assert_eq!(rt; select(&index, Selector::Exactly(257)), None);

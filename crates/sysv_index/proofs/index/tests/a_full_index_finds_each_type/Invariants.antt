@@ -8,3 +8,6 @@ invariant-loop-number g l = record {
   long : length l.index ≡ l.number;
   low : All (λ (e : Entry). e.number < l.number) l.index;
 }
+
+abbrev pub ghosts-select_full : goal.ghosts-select_full
+ghosts-select_full g a = record { name = a.blank.name; parts = a.blank.parts }
