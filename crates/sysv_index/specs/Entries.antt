@@ -30,9 +30,13 @@ entry_of by_type n = record { mtype = type_of by_type n.number; number = n.numbe
 abbrev pub in_order : List Numbered → List Entry → List Entry
 in_order by_number by_type = map (λ n. entry_of by_type n) by_number
 
+-- each entry has a lower number than all that come after it
+abbrev pub NumbersRise : List Entry → Type 0
+NumbersRise entries = AllPairs (λ (a b : Entry). a.number < b.number) entries
+
 -- both lists have the same entries, each in its own order and each entry once
 pub record IsIndex (entries by_type : List Entry) : Type 0 where
-  pub rising : AllPairs (λ (a b : Entry). a.number < b.number) entries
+  pub rising : NumbersRise entries
   pub sorted : AllPairs IsBefore by_type
   pub held : All (Contains by_type) entries
   pub known : All (Contains entries) by_type

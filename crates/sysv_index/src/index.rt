@@ -6,7 +6,7 @@ ghost use Rattle.sysv_model.specs.declared.limits.TheConstants.{QUEUE_MESSAGES};
 ghost use Rattle.sysv_rules.specs.Qualifies.{NoneQualifies};
 ghost use Rattle.sysv_rules.specs.Digits.{digits};
 ghost use Rattle.sysv_index.specs.declared.entry.Entry.{Entry};
-ghost use Rattle.sysv_index.specs.Entries.{types_of, IsBefore};
+ghost use Rattle.sysv_index.specs.Entries.{types_of, IsBefore, NumbersRise};
 ghost use Rattle.sysv_index.specs.Selected.{IsSelected, IsLowest, NoneLow, IsFirstOf, NoneOf};
 
 use crate::entry::{Entry, Numbered};
@@ -52,10 +52,11 @@ impl Index {
         })
     }
 
-    /// How many entries it has.
+    /// How many entries it has: at most `QUEUE_MESSAGES`, and no two of one number.
     pub fn len(&self) -> usize
         ensures value { result ≡ length self.now }
         ensures few { result ≤ QUEUE_MESSAGES }
+        ensures rising { NumbersRise self.now }
     {
         self.by_number.len()
     }
