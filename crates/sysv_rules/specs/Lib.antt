@@ -1,3 +1,4 @@
 pub mod Permission
 pub mod Qualifies
 pub mod Named
+pub mod Digits

@@ -1,0 +1,168 @@
+-- The message that a selector names, found among entries by type.
+use Rattle.std.proofs.Common.{◌≡◌, ◌≢◌, ℕ, ◌<◌, ◌≤◌, ◌<ℤ◌, ◌≤ℤ◌, ℤ, pos, List, [], ◌∷◌, Option, Some, None, MatchOption, length, refl, sym, ap, subst, ◌∙◌, ◌⊎◌, inl, inr, arith}
+use Rattle.std.specs.List.{slice_get}
+use Rattle.std.proofs.lemmas.Bool.{cases_lt}
+use Rattle.std.proofs.lemmas.Int.{ints}
+use Rattle.std.proofs.lemmas.List.{get_or-map, length-map}
+use Rattle.std.proofs.lemmas.Option.{slice_get_within, get_or_from_slice_get, same_Some}
+use Rattle.sysv_model.specs.declared.selector.Selector.{Selector}
+use Rattle.sysv_model.specs.declared.selector.Selector.TheVariants.{Any, Exactly, UpTo}
+use Rattle.sysv_rules.specs.Qualifies.{Qualifies, QualifiesAt, NoneQualifies, type_at}
+use Rattle.sysv_index.specs.declared.entry.Entry.{Entry}
+use Rattle.sysv_index.specs.declared.entry.Numbered.{Numbered}
+use Rattle.sysv_index.specs.Entries.{IsBefore, IsIndex, types_of, entry_of, in_order}
+use Rattle.sysv_index.specs.Selected.{IsSelected, IsLowest, NoneLow, IsFirstOf, NoneOf}
+use Rattle.sysv_index.proofs.Lists.{there_is, one_there, at_place, at_places}
+use Rattle.sysv_index.proofs.Changes.{known_at, held_at}
+
+-- the types in the order of the numbers, at a place
+pub type_there : (entries : List Entry) (p : ℕ) (e : Entry) → slice_get entries p ≡ Some e → type_at (types_of entries) p ≡ e.mtype
+type_there entries p e there =
+    get_or-map (λ (o : Entry). o.mtype) entries p e (pos 0) (slice_get_within entries p e there) ∙ ap (λ (o : Entry). o.mtype) (get_or_from_slice_get entries p e e there)
+
+pub qualifies_there : (sel : Selector) (entries : List Entry) (p : ℕ) (e : Entry) → slice_get entries p ≡ Some e → Qualifies sel e.mtype → QualifiesAt sel (types_of entries) p
+qualifies_there sel entries p e there q =
+    let long = length-map entries (λ (o : Entry). o.mtype) in
+    let within = slice_get_within entries p e there in
+    (omega arith, subst (λ t. Qualifies sel t) (sym (type_there entries p e there)) q)
+
+pub entry_there : (entries : List Entry) (p : ℕ) → p < length (types_of entries) → (e : Entry) × (slice_get entries p ≡ Some e) × (type_at (types_of entries) p ≡ e.mtype)
+entry_there entries p within =
+    let long = length-map entries (λ (o : Entry). o.mtype) in
+    let w = there_is entries p (omega arith) in
+    (w.0, w.1, type_there entries p w.0 w.1)
+
+not_lower : (e o : Entry) → (e ≡ o) ⊎ IsBefore e o → ¬ (o.mtype <ℤ e.mtype)
+not_lower e o (inl same) h = let t = ap (λ (z : Entry). z.mtype) same in omega (arith, ints)
+not_lower e o (inr (inl lower)) h = omega (arith, ints)
+not_lower e o (inr (inr equal)) h = let t = equal.0 in omega (arith, ints)
+
+not_earlier : (e o : Entry) → (e ≡ o) ⊎ IsBefore e o → o.mtype ≡ e.mtype → ¬ (o.number < e.number)
+not_earlier e o (inl same) t h = let n = ap (λ (z : Entry). z.number) same in omega arith
+not_earlier e o (inr (inl lower)) t h = omega (arith, ints)
+not_earlier e o (inr (inr equal)) t h = let n = equal.1 in omega arith
+
+not_both : (a t : ℤ) → a <ℤ t → ¬ (a ≡ t)
+not_both a t h e = omega (arith, ints)
+
+-- what a bound admits it admits of lower types
+admits_lower : (a b : ℤ) (bound : ℕ) → ¬ (b <ℤ a) → b ≤ℤ pos bound → a ≤ℤ pos bound
+admits_lower a b bound h k = grind (arith, ints)
+
+module _ (entries by_type : List Entry) (x : IsIndex entries by_type) where
+  -- an entry by type, and one that does not stand before it
+  from_place : (i k : ℕ) (e o : Entry) → slice_get by_type i ≡ Some e → slice_get by_type k ≡ Some o → i ≤ k → (e ≡ o) ⊎ IsBefore e o
+  from_place i k e o here there order = elim (cases_lt i k) [
+    | inl less ↦ inr (at_places IsBefore by_type i k e o x.sorted less here there)
+    | inr over ↦ let same : i ≡ k = omega arith in inl (one_there by_type k e o (subst (λ n. slice_get by_type n ≡ Some e) same here) there)
+  ]
+
+  earlier_number : (i j : ℕ) (a b : Entry) → i < j → slice_get entries i ≡ Some a → slice_get entries j ≡ Some b → a.number < b.number
+  earlier_number i j a b less here there = at_places (λ (a b : Entry). a.number < b.number) entries i j a b x.rising less here there
+
+  pub lowest_named : (bound : ℕ) (found : Numbered) → IsLowest (UpTo bound) by_type found → IsSelected (UpTo bound) entries found
+  lowest_named bound found f =
+      let e = f.entry in
+      let first = f.there in
+      let w = known_at entries by_type x 0 e first in
+      let here = type_there entries w.0 e w.1 in
+      let q = qualifies_there (UpTo bound) entries w.0 e w.1 f.low in
+      record {
+        position = w.0;
+        entry = e;
+        there = w.1;
+        same = f.same;
+        named = (q, (q.0, none_lower w.0 w.1, none_before w.0 w.1));
+      }
+    where
+      none_lower : (p : ℕ) → slice_get entries p ≡ Some f.entry → (other : ℕ) → other < length (types_of entries) → ¬ (type_at (types_of entries) other <ℤ type_at (types_of entries) p)
+      none_lower p there other within h =
+          let o = entry_there entries other within in
+          let k = held_at entries by_type x other o.0 o.1 in
+          not_lower f.entry o.0 (from_place 0 k.0 f.entry o.0 f.there k.1 (omega arith)) (rw (← o.2, ← type_there entries p f.entry there) h)
+
+      none_before : (p : ℕ) → slice_get entries p ≡ Some f.entry → (earlier : ℕ) → earlier < p → ¬ (type_at (types_of entries) earlier ≡ type_at (types_of entries) p)
+      none_before p there earlier less h =
+          let long = length-map entries (λ (o : Entry). o.mtype) in
+          let within = slice_get_within entries p f.entry there in
+          let o = entry_there entries earlier (omega arith) in
+          let k = held_at entries by_type x earlier o.0 o.1 in
+          not_earlier f.entry o.0 (from_place 0 k.0 f.entry o.0 f.there k.1 (omega arith)) (sym o.2 ∙ (h ∙ type_there entries p f.entry there))
+          (earlier_number earlier p o.0 f.entry less o.1 there)
+
+  pub none_low : (bound : ℕ) → NoneLow (UpTo bound) by_type → NoneQualifies (UpTo bound) (types_of entries)
+  none_low bound none place q =
+      let o = entry_there entries place q.0 in
+      let k = held_at entries by_type x place o.0 o.1 in
+      let within = slice_get_within by_type k.0 o.0 k.1 in
+      let e = there_is by_type 0 (omega arith) in
+      none e.0 e.1 (admits_lower e.0.mtype o.0.mtype bound (not_lower e.0 o.0 (from_place 0 k.0 e.0 o.0 e.1 k.1 (omega arith))) (subst (λ t. t ≤ℤ pos bound) o.2 q.1))
+
+  pub first_named : (mtype : ℤ) (found : Numbered) → IsFirstOf mtype by_type found → IsSelected (Exactly mtype) entries found
+  first_named mtype found f =
+      let e = f.entry in
+      let w = known_at entries by_type x f.position e f.there in
+      record {
+        position = w.0;
+        entry = e;
+        there = w.1;
+        same = f.same;
+        named = (qualifies_there (Exactly mtype) entries w.0 e w.1 f.asked, none_before w.0 w.1);
+      }
+    where
+      of_type : (p earlier : ℕ) (o : Entry) (k : ℕ) → slice_get entries p ≡ Some f.entry → earlier < p → slice_get entries earlier ≡ Some o → slice_get by_type k ≡ Some o → ¬ (o.mtype ≡ mtype)
+      of_type p earlier o k there less here held asked = elim (cases_lt k f.position) [
+        | inl low ↦
+            let h = f.below k o (omega arith) low in
+            not_both o.mtype mtype (subst (λ (z : Entry). z.mtype <ℤ mtype) (get_or_from_slice_get by_type k o o held) h) asked
+        | inr high ↦ not_earlier f.entry o (from_place f.position k f.entry o f.there held high) (asked ∙ sym f.asked) (earlier_number earlier p o f.entry less here there)
+      ]
+
+      none_before : (p : ℕ) → slice_get entries p ≡ Some f.entry → (earlier : ℕ) → earlier < p → ¬ QualifiesAt (Exactly mtype) (types_of entries) earlier
+      none_before p there earlier less q =
+          let o = entry_there entries earlier q.0 in
+          let k = held_at entries by_type x earlier o.0 o.1 in
+          of_type p earlier o.0 k.0 there less o.1 k.1 (sym o.2 ∙ q.1)
+
+  pub none_of : (mtype : ℤ) → NoneOf mtype by_type → NoneQualifies (Exactly mtype) (types_of entries)
+  none_of mtype none place q =
+      let o = entry_there entries place q.0 in
+      let k = held_at entries by_type x place o.0 o.1 in
+      at_place (λ (e : Entry). e.mtype ≢ mtype) by_type k.0 o.0 none k.1 (sym o.2 ∙ q.1)
+
+pub earliest_named : (by_number : List Numbered) (by_type : List Entry) (n : Numbered) → slice_get by_number 0 ≡ Some n → IsSelected Any (in_order by_number by_type) n
+earliest_named [] by_type n there = cc
+earliest_named (m ∷ ms) by_type n there = record {
+  position = 0;
+  entry = entry_of by_type m;
+  there = refl;
+  same = sym (same_Some m n there);
+  named = ((omega arith, tt), (λ earlier less. absurd (omega arith)));
+}
+
+pub none_first : (by_number : List Numbered) (by_type : List Entry) → slice_get by_number 0 ≡ None → NoneQualifies Any (types_of (in_order by_number by_type))
+none_first [] by_type there place q = let h = q.0 in omega arith
+none_first (m ∷ ms) by_type there place q = cc
+
+-- what is found by type, or that nothing is, is what the selector names, or that it names nothing
+pub earliest_selected : (by_number ns : List Numbered) (by_type entries : List Entry) (sel : Selector) (r : Option Numbered) → sel ≡ Any → ns ≡ by_number → in_order by_number by_type ≡ entries →
+    r ≡ slice_get ns 0 → MatchOption r (NoneQualifies sel (types_of entries)) (IsSelected sel entries)
+earliest_selected by_number ns by_type entries sel None is same seen first =
+    subst (λ s. NoneQualifies s (types_of entries)) (sym is)
+    (subst (λ es. NoneQualifies Any (types_of es)) seen (none_first by_number by_type (ap (λ xs. slice_get xs 0) (sym same) ∙ sym first)))
+earliest_selected by_number ns by_type entries sel (Some n) is same seen first =
+    subst (λ s. IsSelected s entries n) (sym is)
+    (subst (λ es. IsSelected Any es n) seen (earliest_named by_number by_type n (ap (λ xs. slice_get xs 0) (sym same) ∙ sym first)))
+
+module _ (entries by_type ts : List Entry) (x : IsIndex entries by_type) (same : ts ≡ by_type) (sel : Selector) where
+  pub lowest_selected : (bound : ℕ) (r : Option Numbered) → sel ≡ UpTo bound → MatchOption r (NoneLow sel ts) (IsLowest sel ts) → MatchOption r (NoneQualifies sel (types_of entries)) (IsSelected sel entries)
+  lowest_selected bound None is none =
+      subst (λ s. NoneQualifies s (types_of entries)) (sym is) (none_low entries by_type x bound (subst (λ s. NoneLow s by_type) is (subst (λ es. NoneLow sel es) same none)))
+  lowest_selected bound (Some n) is found =
+      subst (λ s. IsSelected s entries n) (sym is) (lowest_named entries by_type x bound n (subst (λ s. IsLowest s by_type n) is (subst (λ es. IsLowest sel es n) same found)))
+
+  pub first_selected : (mtype asked : ℤ) (r : Option Numbered) → sel ≡ Exactly mtype → asked ≡ mtype → MatchOption r (NoneOf asked ts) (IsFirstOf asked ts) → MatchOption r (NoneQualifies sel (types_of entries)) (IsSelected sel entries)
+  first_selected mtype asked None is equal none =
+      subst (λ s. NoneQualifies s (types_of entries)) (sym is) (none_of entries by_type x mtype (subst (λ t. NoneOf t by_type) equal (subst (λ es. NoneOf asked es) same none)))
+  first_selected mtype asked (Some n) is equal found =
+      subst (λ s. IsSelected s entries n) (sym is) (first_named entries by_type x mtype n (subst (λ t. IsFirstOf t by_type n) equal (subst (λ es. IsFirstOf asked es n) same found)))

@@ -1,0 +1,20 @@
+use Rattle.std.proofs.Common.{refl, subst, w64, FitsSigned, rules}
+use Rattle.std.proofs.lemmas.Int.{to_z-of_z}
+use Rattle.sysv_index.specs.Entries.{IsIndex}
+use Rattle.sysv_index.proofs.Selection.{earliest_selected, lowest_selected, first_selected}
+use Rattle.sysv_index.proofs.index.Index.select.Goals as goal
+
+pub returns-in-Any-clause-selected : goal.returns-in-Any-clause-selected
+returns-in-Any-clause-selected g c =
+    earliest_selected c.self.inside.by_number.entries.items _ c.self.inside.by_type.entries.items c.args.self.now c.args.sel c.earliest.result c.in-Any.is refl c.self.view_is c.earliest.ensures.first
+
+pub returns-in-UpTo-clause-selected : goal.returns-in-UpTo-clause-selected
+returns-in-UpTo-clause-selected g c =
+    let x = subst (λ es. IsIndex es c.self.inside.by_type.entries.items) c.self.view_is c.self.invariant.0 in
+    lowest_selected c.args.self.now c.self.inside.by_type.entries.items _ x refl c.args.sel c.in-UpTo.field-0 c.lowest.result c.in-UpTo.is c.lowest.ensures.found
+
+pub returns-in-Exactly-clause-selected : goal.returns-in-Exactly-clause-selected
+returns-in-Exactly-clause-selected g c =
+    let x = subst (λ es. IsIndex es c.self.inside.by_type.entries.items) c.self.view_is c.self.invariant.0 in
+    let fits : FitsSigned w64 c.in-Exactly.mtype = search rules in
+    first_selected c.args.self.now c.self.inside.by_type.entries.items _ x refl c.args.sel c.in-Exactly.mtype _ c.first_of.result c.in-Exactly.is (to_z-of_z w64 c.in-Exactly.mtype fits) c.first_of.ensures.found

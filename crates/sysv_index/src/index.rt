@@ -1,0 +1,192 @@
+//! The entries in two orders, and what a receive selects among them.
+
+ghost use Rattle.std.specs.Prelude.{◌≡◌, ℕ, ◌+◌, ◌<◌, ◌≤◌, ◌<ℤ◌, ◌≤ℤ◌, ◌↔◌, ◌==◌, not, [], ◌∷◌, ◌++◌, IsTrue, IfOk, Some, MatchOption, length, filter, remove, slice_get};
+ghost use Rattle.std.specs.List.{All, AllPairs, AllWithin};
+ghost use Rattle.sysv_model.specs.declared.limits.TheConstants.{QUEUE_MESSAGES};
+ghost use Rattle.sysv_rules.specs.Qualifies.{NoneQualifies};
+ghost use Rattle.sysv_rules.specs.Digits.{digits};
+ghost use Rattle.sysv_index.specs.declared.entry.Entry.{Entry};
+ghost use Rattle.sysv_index.specs.Entries.{types_of, IsBefore, NumbersRise};
+ghost use Rattle.sysv_index.specs.Selected.{IsSelected, IsLowest, NoneLow, IsFirstOf, NoneOf};
+
+use crate::entry::{Entry, Numbered};
+use crate::rows::Row;
+use crate::rows::steps::Steps;
+use std::alloc::Global;
+use std::marker::Model;
+use std::sync::ledger::Ledger;
+use sysv_model::{NoMemory, QUEUE_MESSAGES};
+use sysv_rules::{Selector, qualifies};
+
+/// The messages that wait on one queue, at most `QUEUE_MESSAGES`. A contract sees the list of their
+/// entries in the order of their acceptance numbers.
+#[derive(Drop)]
+pub struct Index {
+    by_number: Row<Numbered>,
+    /// The same messages, by type and those of one type by number.
+    by_type: Row<Entry>,
+}
+
+impl Model for Index {
+    ghost use Rattle.std.specs.Prelude.{List, ◌≤◌, vec_capacity};
+    ghost use Rattle.sysv_model.specs.declared.limits.TheConstants.{QUEUE_MESSAGES};
+    ghost use Rattle.sysv_index.specs.declared.entry.Entry.{Entry};
+    ghost use Rattle.sysv_index.specs.Entries.{in_order, IsIndex};
+
+    ghost Value = { List Entry };
+
+    ghost view = { λ s. in_order s.by_number.entries.items s.by_type.entries.items };
+
+    ghost invariant = { λ s. IsIndex (in_order s.by_number.entries.items s.by_type.entries.items) s.by_type.entries.items × (QUEUE_MESSAGES ≤ vec_capacity s.by_number.entries) × (QUEUE_MESSAGES ≤ vec_capacity s.by_type.entries) };
+}
+
+impl Index {
+    /// An index without entries. Room for `QUEUE_MESSAGES` of them is made here, and no later call
+    /// takes memory.
+    pub fn open(alloc: Global) -> Result<Index, NoMemory>
+        ensures { IfOk result (λ index. index ≡ []) }
+    {
+        Ok(Index {
+            by_number: Row::open(alloc).map_err(|_| NoMemory)?,
+            by_type: Row::open(alloc).map_err(|_| NoMemory)?,
+        })
+    }
+
+    /// How many entries it has: at most `QUEUE_MESSAGES`, and no two of one number.
+    pub fn len(&self) -> usize
+        ensures value { result ≡ length self.now }
+        ensures few { result ≤ QUEUE_MESSAGES }
+        ensures rising { NumbersRise self.now }
+    {
+        self.by_number.len()
+    }
+
+    /// Whether it has none.
+    pub fn is_empty(&self) -> bool
+        ensures { IsTrue result ↔ (self.now ≡ []) }
+    {
+        self.by_number.is_empty()
+    }
+
+    /// Adds the entry of a message that was accepted after all that the index has.
+    pub fn push(&mut self, entry: Entry)
+        requires room { length self.old < QUEUE_MESSAGES }
+        requires last { All (λ (other : Entry). other.number < entry.number) self.old }
+        ensures { self.new ≡ self.old ++ entry ∷ [] }
+    {
+        self.by_number.push(entry.numbered());
+        self.by_type.insert(entry);
+    }
+
+    /// Takes the entry with this acceptance number out. Nothing changes where there is none.
+    pub fn remove(&mut self, number: u64)
+        ensures others { self.new ≡ filter (λ (entry : Entry). not (entry.number == number)) self.old }
+        ensures removed { (position : ℕ) (entry : Entry) → slice_get self.old position ≡ Some entry → entry.number ≡ number → self.new ≡ remove self.old position }
+    {
+        self.by_number.remove(number);
+        self.by_type.remove(number);
+    }
+
+    /// Takes all entries out.
+    pub fn clear(&mut self)
+        ensures { self.new ≡ [] }
+    {
+        self.by_number.clear();
+        self.by_type.clear();
+    }
+
+    /// The message that `sel` names (POSIX.1-2017, `msgrcv`, DESCRIPTION): of those that qualify the
+    /// first, and for a bound the first of the lowest type. `None` where none qualifies. For any
+    /// message, and for a bound, at most one entry is read; for an exact type the entries by type are
+    /// halved.
+    pub fn select<L: Ledger>(&self, sel: Selector, steps: &mut Steps<L>) -> Option<Numbered>
+        ensures selected { MatchOption result (NoneQualifies sel (types_of self.now)) (IsSelected sel self.now) }
+        ensures few { steps.new ≤ steps.old + digits (length self.now) + 2 }
+        ensures some { 0 < length self.now → steps.old < steps.new }
+        ensures risen { steps.old ≤ steps.new }
+    {
+        match sel {
+            Selector::Any => earliest(&self.by_number, steps),
+            Selector::UpTo(_) => lowest(&self.by_type, sel, steps),
+            Selector::Exactly(mtype) => first_of(&self.by_type, mtype, steps),
+        }
+    }
+}
+
+/// The entry of the lowest number.
+fn earliest<L: Ledger>(by_number: &Row<Numbered>, steps: &mut Steps<L>) -> Option<Numbered>
+    ensures first { result ≡ slice_get by_number.now.entries.items 0 }
+    ensures few { steps.new ≤ steps.old + 1 }
+    ensures risen { steps.old ≤ steps.new }
+    ensures some { 0 < length by_number.now.entries.items → steps.old < steps.new }
+{
+    if by_number.is_empty() {
+        return None;
+    }
+    Some(by_number.probe(0, steps))
+}
+
+/// The first entry of the lowest type, if that qualifies.
+fn lowest<L: Ledger>(by_type: &Row<Entry>, sel: Selector, steps: &mut Steps<L>) -> Option<Numbered>
+    ensures found { MatchOption result (NoneLow sel by_type.now.entries.items) (IsLowest sel by_type.now.entries.items) }
+    ensures few { steps.new ≤ steps.old + 1 }
+    ensures risen { steps.old ≤ steps.new }
+    ensures some { 0 < length by_type.now.entries.items → steps.old < steps.new }
+{
+    if by_type.is_empty() {
+        return None;
+    }
+    let lowest = by_type.probe(0, steps);
+    if qualifies(sel, lowest.mtype) {
+        Some(lowest.numbered())
+    } else {
+        None
+    }
+}
+
+/// The first entry of this type.
+fn first_of<L: Ledger>(by_type: &Row<Entry>, mtype: i64, steps: &mut Steps<L>) -> Option<Numbered>
+    requires { AllPairs IsBefore by_type.now.entries.items }
+    ensures found { MatchOption result (NoneOf mtype by_type.now.entries.items) (IsFirstOf mtype by_type.now.entries.items) }
+    ensures few { steps.new ≤ steps.old + digits (length by_type.now.entries.items) + 1 }
+    ensures risen { steps.old ≤ steps.new }
+    ensures some { 0 < length by_type.now.entries.items → steps.old < steps.new }
+{
+    let at = first_from(by_type, mtype, steps);
+    if at == by_type.len() {
+        return None;
+    }
+    let found = by_type.probe(at, steps);
+    if found.mtype == mtype {
+        Some(found.numbered())
+    } else {
+        None
+    }
+}
+
+/// The place of the first entry whose type is this or a higher one; where there is none, how many
+/// entries there are.
+fn first_from<L: Ledger>(by_type: &Row<Entry>, mtype: i64, steps: &mut Steps<L>) -> usize
+    requires { AllPairs IsBefore by_type.now.entries.items }
+    ensures within { result ≤ length by_type.now.entries.items }
+    ensures below { AllWithin (λ (e : Entry). e.mtype <ℤ mtype) by_type.now.entries.items 0 result }
+    ensures above { AllWithin (λ (e : Entry). mtype ≤ℤ e.mtype) by_type.now.entries.items result (length by_type.now.entries.items) }
+    ensures few { steps.new ≤ steps.old + digits (length by_type.now.entries.items) }
+    ensures risen { steps.old ≤ steps.new }
+    ensures some { 0 < length by_type.now.entries.items → steps.old < steps.new }
+{
+    let mut low = 0;
+    let mut high = by_type.len();
+    while low < high {
+        let middle = low + (high - low) / 2;
+        if by_type.probe(middle, steps).mtype < mtype {
+            low = middle + 1;
+        } else {
+            high = middle;
+        }
+    }
+    low
+}
+
+#[cfg(test)]
+mod tests;

@@ -1,0 +1,108 @@
+//! Entries in an order. No other module reads them but through `probe`, which counts.
+
+ghost use Rattle.std.specs.Prelude.{◌≡◌, ◌+◌, ◌<◌, ◌≤◌, ◌↔◌, ◌==◌, not, [], ◌∷◌, ◌++◌, IsTrue, IfOk, Some, filter, slice_get, length, vec_capacity};
+ghost use Rattle.std.specs.List.{AllPairs};
+ghost use Rattle.sysv_model.specs.declared.limits.TheConstants.{QUEUE_MESSAGES};
+ghost use Rattle.sysv_index.specs.declared.entry.Entry.{Entry};
+ghost use Rattle.sysv_index.specs.declared.entry.Numbered.{Numbered};
+ghost use Rattle.sysv_index.specs.Entries.{IsBefore, IsInserted};
+
+pub mod steps;
+
+use crate::entry::{Entry, Numbered};
+use std::alloc::{AllocError, Global};
+use std::sync::ledger::Ledger;
+use steps::Steps;
+use sysv_model::QUEUE_MESSAGES;
+
+/// Entries in an order, with room for `QUEUE_MESSAGES` from its opening on.
+#[derive(Drop)]
+pub(crate) struct Row<E> {
+    entries: Vec<E>,
+}
+
+impl<E: Copy> Row<E> {
+    /// A row without entries.
+    pub(crate) fn open(alloc: Global) -> Result<Row<E>, AllocError>
+        ensures empty { IfOk result (λ row. row.entries.items ≡ []) }
+        ensures roomy { IfOk result (λ row. QUEUE_MESSAGES ≤ vec_capacity row.entries) }
+    {
+        Ok(Row {
+            entries: Vec::with_capacity(alloc, QUEUE_MESSAGES)?,
+        })
+    }
+
+    /// How many entries it has.
+    pub(crate) fn len(&self) -> usize
+        ensures { result ≡ length self.now.entries.items }
+    {
+        self.entries.len()
+    }
+
+    /// Whether it has none.
+    pub(crate) fn is_empty(&self) -> bool
+        ensures { IsTrue result ↔ (self.now.entries.items ≡ []) }
+    {
+        self.entries.is_empty()
+    }
+
+    /// Reads the entry at a place, and counts it. There is no other way to read one.
+    pub(crate) fn probe<L: Ledger>(&self, at: usize, steps: &mut Steps<L>) -> E
+        requires { at < length self.now.entries.items }
+        ensures read { slice_get self.now.entries.items at ≡ Some result }
+        ensures counted { steps.new ≡ steps.old + 1 }
+    {
+        steps.tick();
+        self.entries[at]
+    }
+
+    /// Takes all entries out.
+    pub(crate) fn clear(&mut self)
+        ensures empty { self.new.entries.items ≡ [] }
+        ensures roomy { vec_capacity self.new.entries ≡ vec_capacity self.old.entries }
+    {
+        self.entries.clear();
+    }
+}
+
+impl Row<Numbered> {
+    /// Adds an entry at the end.
+    pub(crate) fn push(&mut self, entry: Numbered)
+        requires { length self.old.entries.items < vec_capacity self.old.entries }
+        ensures pushed { self.new.entries.items ≡ self.old.entries.items ++ entry ∷ [] }
+        ensures roomy { vec_capacity self.old.entries ≤ vec_capacity self.new.entries }
+    {
+        self.entries.push(entry).unwrap();
+    }
+
+    /// Takes the entries with this number out.
+    pub(crate) fn remove(&mut self, number: u64)
+        ensures others { self.new.entries.items ≡ filter (λ (n : Numbered). not (n.number == number)) self.old.entries.items }
+        ensures roomy { vec_capacity self.new.entries ≡ vec_capacity self.old.entries }
+    {
+        self.entries.retain(|kept| kept.number != number);
+    }
+}
+
+impl Row<Entry> {
+    /// Adds an entry behind those of its type, where the row is in the order of types.
+    pub(crate) fn insert(&mut self, entry: Entry)
+        requires room { length self.old.entries.items < vec_capacity self.old.entries }
+        requires sorted { AllPairs IsBefore self.old.entries.items }
+        ensures inserted { IsInserted self.old.entries.items entry self.new.entries.items }
+        ensures roomy { vec_capacity self.old.entries ≤ vec_capacity self.new.entries }
+    {
+        let at = self
+            .entries
+            .partition_point(|other| other.mtype <= entry.mtype);
+        self.entries.insert(at, entry).unwrap();
+    }
+
+    /// Takes the entries with this number out.
+    pub(crate) fn remove(&mut self, number: u64)
+        ensures others { self.new.entries.items ≡ filter (λ (e : Entry). not (e.number == number)) self.old.entries.items }
+        ensures roomy { vec_capacity self.new.entries ≡ vec_capacity self.old.entries }
+    {
+        self.entries.retain(|kept| kept.number != number);
+    }
+}
