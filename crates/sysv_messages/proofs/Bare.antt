@@ -1,5 +1,5 @@
 -- A store without messages.
-use Rattle.std.proofs.Common.{◌≡◌, ℕ, zero, suc, ◌+◌, ◌<◌, ◌≤◌, List, [], ◌∷◌, Option, None, length, get_or, refl, sym, ap, ◌∙◌, inl, inr, arith}
+use Rattle.std.proofs.Common.{◌≡◌, ℕ, ◌≤◌, List, [], ◌∷◌, Option, None, length, refl, ap, inl, inr, arith}
 use Rattle.std.specs.List.{All}
 use Rattle.std.proofs.lemmas.Bool.{cases_lt}
 use Rattle.std.proofs.lemmas.List.{get_or_past}
@@ -11,6 +11,7 @@ use Rattle.sysv_pool.specs.Chain.{Chained}
 use Rattle.sysv_messages.specs.declared.head.Head.{Head}
 use Rattle.sysv_messages.specs.Texts.{blocks_in, all_blocks}
 use Rattle.sysv_messages.specs.Kept.{chain_at, IsStore}
+use Rattle.sysv_messages.proofs.Lists.{no_some}
 
 pub no_blocks : (chains : List (Option Chained)) → All (λ chain. chain ≡ None) chains → all_blocks chains ≡ 0
 no_blocks [] none = refl
@@ -27,6 +28,8 @@ pub store_bare : (heads : Slab Head) (chains : List (Option Chained)) → heads.
     IsStore heads chains [] 0
 store_bare heads chains empty none wide roomy = record {
   kept = λ k d within. absurd (omega arith);
+  known = λ key some. absurd (no_some (get heads key) (ap (λ slots. get (record heads { slots = slots }) key) empty) some);
+  once = λ i j d less within. absurd (omega arith);
   same = ap (λ slots. slab_len (record heads { slots = slots })) empty;
   bare = λ place head. no_chain chains place none;
   wide = wide;

@@ -1,5 +1,5 @@
 -- Lists seen through a function, and lists read at a place.
-use Rattle.std.proofs.Common.{◌≡◌, ◌≢◌, ℕ, zero, suc, ◌+◌, ◌<◌, ◌==◌, Bool, true, false, not, List, [], ◌∷◌, Option, None, Some, IsSome, length, map, get_or, refl, sym, ap, subst, ◌∙◌, inl, inr, arith}
+use Rattle.std.proofs.Common.{◌≡◌, ◌≢◌, ℕ, zero, suc, ◌<◌, ◌==◌, Bool, true, not, List, [], ◌∷◌, Option, None, Some, IsSome, length, map, get_or, refl, sym, ap, subst, ◌∙◌, inl, inr}
 use Rattle.std.specs.List.{All, remove, slice_get, slice_index_or}
 use Rattle.std.proofs.lemmas.Bool.Decides.{Decides-eqb}
 use Rattle.std.proofs.lemmas.Bool.{cases_lt}
@@ -32,6 +32,9 @@ some_is o x e = subst IsSome (sym e) refl
 
 pub never_none : {X : Type 0} (o : Option X) (x : X) → o ≡ Some x → o ≡ None → ⊥
 never_none o x e f = let bad : Some x ≡ None = sym e ∙ f in absurd cc
+
+pub no_some : {X : Type 0} (o : Option X) → o ≡ None → IsSome o → ⊥
+no_some {X} o none some = let bad : IsSome {T = X} None = subst IsSome none some in absurd cc
 
 -- only a place of the list has something
 pub place_within : {X : Type 0} (xs : List (Option X)) (place : ℕ) (x : X) → slice_index_or xs place None ≡ Some x → place < length xs

@@ -1,11 +1,12 @@
 -- A message comes in.
-use Rattle.std.proofs.Common.{◌≡◌, ◌≢◌, ℕ, ◌+◌, ◌<◌, ◌≤◌, List, [], ◌∷◌, ◌++◌, Option, None, Some, length, map, set, get_or, refl, sym, ap, subst, ◌∙◌, inl, inr, arith}
-use Rattle.std.specs.List.{All}
+use Rattle.std.proofs.Common.{◌≡◌, ◌≢◌, ℕ, ◌+◌, ◌<◌, ◌≤◌, List, [], ◌∷◌, ◌++◌, Option, None, Some, IsSome, length, set, sym, ap, subst, ◌∙◌, inl, inr, arith}
+use Rattle.std.specs.List.{All, AllPairs, Contains}
 use Rattle.std.proofs.lemmas.Bool.{cases_eq}
 use Rattle.std.proofs.lemmas.List.{length_push, length-set, get_or-set_same, get_or-set_other, map-append}
-use Rattle.std.proofs.lemmas.List.Elements.{All-push, All-weaker}
+use Rattle.std.proofs.lemmas.List.Elements.{All-push, All-weaker, All-map, Contains-push, Contains-append_left}
+use Rattle.std.proofs.lemmas.List.Quantifiers.{all_pairs_push}
 use Rattle.std.proofs.lemmas.List.Sums.{sum_by_push, sum_by-set}
-use Rattle.slab.specs.Slab.{Slab, get, slab_len, Updates}
+use Rattle.slab.specs.Slab.{Slab, get, slab_len, ContainsKey, Updates}
 use Rattle.sysv_model.specs.Message.{Message}
 use Rattle.sysv_model.specs.Pool.{blocks_for}
 use Rattle.sysv_model.specs.declared.limits.TheConstants.{MESSAGE_BYTES as most_bytes}
@@ -13,7 +14,7 @@ use Rattle.sysv_pool.specs.Chain.{Chained}
 use Rattle.sysv_index.specs.declared.entry.Entry.{Entry}
 use Rattle.sysv_messages.specs.declared.head.Head.{Head}
 use Rattle.sysv_messages.specs.Texts.{chain_of, bytes_of, blocks_of, blocks_in, all_blocks}
-use Rattle.sysv_messages.specs.Kept.{chain_at, head_of, message_of, message_at, messages_of, IsKeptAs, IsKept, IsStore}
+use Rattle.sysv_messages.specs.Kept.{chain_at, head_of, message_of, message_at, messages_of, keys_of, IsKeptAs, IsKept, IsStore}
 use Rattle.sysv_messages.proofs.Lists.{never_none}
 use Rattle.sysv_messages.proofs.Seen.{all_kept, all_seen}
 
@@ -56,9 +57,26 @@ module _ (heads heads' : Slab Head) (chains chains' : List (Option Chained)) (en
     | inr other ↦ elsewhere place other ∙ s.bare place (sym (updates.others place other) ∙ none)
   ]
 
+  known_put : (key : ℕ) → ContainsKey heads' key → Contains (keys_of (entries ++ e ∷ [])) key
+  known_put key there =
+      let long : keys_of (entries ++ e ∷ []) ≡ keys_of entries ++ e.place ∷ [] = map-append (λ (o : Entry). o.place) entries (e ∷ []) in
+      subst (λ keys. Contains keys key) (sym long)
+      (elim (cases_eq key e.place) [
+        | inl same ↦ subst (λ k. Contains (keys_of entries ++ e.place ∷ []) k) (sym same) (Contains-push (keys_of entries) e.place)
+        | inr other ↦ Contains-append_left (keys_of entries) (e.place ∷ []) key (s.known key (subst IsSome (updates.others key other) there))
+      ])
+
+  once_put : AllPairs (λ (a b : ℕ). a ≢ b) (keys_of (entries ++ e ∷ []))
+  once_put =
+      let long : keys_of (entries ++ e ∷ []) ≡ keys_of entries ++ e.place ∷ [] = map-append (λ (o : Entry). o.place) entries (e ∷ []) in
+      subst (λ keys. AllPairs (λ (a b : ℕ). a ≢ b) keys) (sym long)
+      (all_pairs_push (λ (a b : ℕ). a ≢ b) (keys_of entries) e.place s.once (All-map (λ (k : ℕ). k ≢ e.place) (λ (o : Entry). o.place) entries apart))
+
   pub store_put : IsStore heads' chains' (entries ++ e ∷ []) (bytes + length m.bytes)
   store_put = record {
     kept = All-push (IsKept heads' chains') entries e (all_kept heads heads' chains chains' e.place updates.others elsewhere entries apart s.kept) kept;
+    known = known_put;
+    once = once_put;
     same = omega (arith, counted, s.same, length_push entries e);
     bare = bare_put;
     wide = ap length put ∙ (length-set chains e.place (Some (chain_of m.bytes)) ∙ (s.wide ∙ sym capacity));

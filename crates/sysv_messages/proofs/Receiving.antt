@@ -1,5 +1,5 @@
 -- What a selection among the entries says of the messages.
-use Rattle.std.proofs.Common.{◌≡◌, ℕ, ◌+◌, ◌-◌, ◌≤◌, ◌<◌, ◌==◌, not, None, set, List, Option, Some, length, refl, sym, ap, subst, ◌∙◌, arith}
+use Rattle.std.proofs.Common.{◌≡◌, ℕ, ◌+◌, ◌-◌, ◌≤◌, ◌<◌, ◌==◌, not, None, set, List, Option, Some, length, sym, ap, subst, ◌∙◌, arith}
 use Rattle.std.specs.List.{filter, remove, slice_get}
 use Rattle.std.proofs.lemmas.Option.{same_Some}
 use Rattle.slab.specs.Slab.{Slab, get, slab_len, Updates}
@@ -17,7 +17,7 @@ use Rattle.sysv_messages.specs.declared.head.Head.{Head}
 use Rattle.sysv_messages.specs.Texts.{chain_of, types_of}
 use Rattle.sysv_messages.specs.Taking.{IsTaken, IsTooLong}
 use Rattle.sysv_messages.specs.Kept.{chain_at, head_of, message_at, messages_of, IsKept, IsStore}
-use Rattle.sysv_messages.proofs.Seen.{types_seen, seen_at}
+use Rattle.sysv_messages.proofs.Seen.{types_seen}
 use Rattle.sysv_messages.proofs.Taken.{kept_there, message_there, bytes_there, seen_left, store_left}
 
 pub types_are : (heads : Slab Head) (chains : List (Option Chained)) (entries : List Entry) (messages : List Message) → messages_of heads chains entries ≡ messages → types_of messages ≡ types_in entries

@@ -1,21 +1,24 @@
 -- A message goes out.
-use Rattle.std.proofs.Common.{◌≡◌, ◌≢◌, ℕ, ◌+◌, ◌-◌, ◌<◌, ◌≤◌, ◌==◌, Bool, true, not, sum_by, List, [], ◌∷◌, ◌++◌, Option, None, Some, length, map, set, get_or, refl, sym, ap, subst, ◌∙◌, inl, inr, arith}
-use Rattle.std.specs.List.{All, filter, remove, slice_get}
+use Rattle.std.proofs.Common.{◌≡◌, ◌≢◌, ℕ, ◌+◌, ◌-◌, ◌<◌, ◌≤◌, ◌==◌, true, not, sum_by, List, ◌∷◌, Option, None, Some, IsSome, length, set, refl, sym, ap, subst, ◌∙◌, inl, inr, arith}
+use Rattle.std.specs.List.{All, AllPairs, Contains, filter, remove, slice_get}
 use Rattle.std.proofs.lemmas.Bool.{cases_eq}
 use Rattle.std.proofs.lemmas.List.{length-set, get_or-set_same, get_or-set_other}
 use Rattle.std.proofs.lemmas.List.Edits.{length-remove}
 use Rattle.std.proofs.lemmas.List.Elements.{All-filter, filter_passes}
+use Rattle.std.proofs.lemmas.List.Quantifiers.{all_pairs_remove}
+use Rattle.std.proofs.lemmas.List.Sorted.{IsPermutation-remove, Contains-permutation}
 use Rattle.std.proofs.lemmas.List.Sums.{sum_by-remove, sum_by-set}
-use Rattle.std.proofs.lemmas.Option.{slice_get_within, get_or_from_slice_get, same_Some}
-use Rattle.slab.specs.Slab.{Slab, get, slab_len, Updates}
+use Rattle.std.proofs.lemmas.Option.{slice_get_within, get_or_from_slice_get, same_Some, slice_get-map}
+use Rattle.slab.specs.Slab.{Slab, get, slab_len, ContainsKey, Updates}
+use Rattle.slab.proofs.SlabLemmas.{Contains-cons_cases}
 use Rattle.sysv_model.specs.Message.{Message}
 use Rattle.sysv_model.specs.Pool.{blocks_for}
 use Rattle.sysv_pool.specs.Chain.{Chained}
 use Rattle.sysv_index.specs.declared.entry.Entry.{Entry}
 use Rattle.sysv_messages.specs.declared.head.Head.{Head}
-use Rattle.sysv_messages.specs.Texts.{chain_of, bytes_of, blocks_of, blocks_in, all_blocks}
-use Rattle.sysv_messages.specs.Kept.{chain_at, head_of, message_at, messages_of, IsKept, IsStore}
-use Rattle.sysv_messages.proofs.Lists.{map_remove, at_place, all_both, other_number, place_within}
+use Rattle.sysv_messages.specs.Texts.{bytes_of, blocks_of, blocks_in, all_blocks}
+use Rattle.sysv_messages.specs.Kept.{chain_at, head_of, message_at, messages_of, keys_of, IsKept, IsStore}
+use Rattle.sysv_messages.proofs.Lists.{map_remove, at_place, all_both, other_number, place_within, no_some}
 use Rattle.sysv_messages.proofs.Seen.{seen_at, all_kept, all_seen}
 
 -- what a sum over messages loses
@@ -76,9 +79,35 @@ module _ (heads : Slab Head) (chains : List (Option Chained)) (entries : List En
       | inr other ↦ elsewhere place other ∙ s.bare place (sym (updates.others place other) ∙ none)
     ]
 
+    keys_left : keys_of entries' ≡ remove (keys_of entries) position
+    keys_left = ap keys_of removed ∙ map_remove (λ (o : Entry). o.place) entries position
+
+    key_there : slice_get (keys_of entries) position ≡ Some e.place
+    key_there = rw (slice_get-map (λ (o : Entry). o.place) entries position, there) refl
+
+    key_within : position < length (keys_of entries)
+    key_within = slice_get_within (keys_of entries) position e.place key_there
+
+    known_left : (key : ℕ) → ContainsKey heads' key → Contains (keys_of entries') key
+    known_left key some = elim (cases_eq key e.place) [
+      | inl same ↦ absurd (no_some (get heads' e.place) updates.changed (subst (λ k. ContainsKey heads' k) same some))
+      | inr other ↦
+          let had : Contains (keys_of entries) key = s.known key (subst IsSome (updates.others key other) some) in
+          let out = IsPermutation-remove (keys_of entries) position e.place key_within (sym (get_or_from_slice_get (keys_of entries) position e.place e.place key_there)) in
+          elim (Contains-cons_cases e.place key (remove (keys_of entries) position) (Contains-permutation (keys_of entries) (e.place ∷ remove (keys_of entries) position) key out had)) [
+            | inl it ↦ absurd (other (sym it))
+            | inr stays ↦ subst (λ keys. Contains keys key) (sym keys_left) stays
+          ]
+    ]
+
+    once_left : AllPairs (λ (a b : ℕ). a ≢ b) (keys_of entries')
+    once_left = subst (λ keys. AllPairs (λ (a b : ℕ). a ≢ b) keys) (sym keys_left) (all_pairs_remove (λ (a b : ℕ). a ≢ b) (keys_of entries) position key_within s.once)
+
     pub store_left : IsStore heads' chains' entries' (bytes - length its.bytes)
     store_left = record {
       kept = all_kept heads heads' chains chains' e.place updates.others elsewhere entries' apart kept_still;
+      known = known_left;
+      once = once_left;
       same = omega (arith, counted, s.same, ap length removed, length-remove entries position (slice_get_within entries position e there));
       bare = bare_left;
       wide = ap length left ∙ (length-set chains e.place None ∙ (s.wide ∙ sym capacity));

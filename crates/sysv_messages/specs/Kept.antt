@@ -1,8 +1,8 @@
 -- How the messages of a queue are kept (this profile's): the head of each under a key, the chain that
 -- holds its text at the same place, and an index that knows the key.
-use Rattle.std.specs.Prelude.{◌≡◌, ℕ, ◌≤◌, List, [], Option, None, Some, length, map, slice_index_or}
-use Rattle.std.specs.List.{All}
-use Rattle.slab.specs.Slab.{Slab, get, slab_len}
+use Rattle.std.specs.Prelude.{◌≡◌, ◌≢◌, ℕ, ◌≤◌, List, [], Option, None, Some, length, map, slice_index_or}
+use Rattle.std.specs.List.{All, AllPairs, Contains}
+use Rattle.slab.specs.Slab.{Slab, get, slab_len, ContainsKey}
 use Rattle.sysv_model.specs.Message.{Message}
 use Rattle.sysv_model.specs.declared.limits.TheConstants.{QUEUE_MESSAGES, MESSAGE_BYTES as most_bytes}
 use Rattle.sysv_pool.specs.Chain.{Chained}
@@ -33,6 +33,10 @@ message_at heads chains e = message_of (get heads e.place) (chain_at chains e.pl
 abbrev pub messages_of : Slab Head → List (Option Chained) → List Entry → List Message
 messages_of heads chains entries = map (λ (e : Entry). message_at heads chains e) entries
 
+-- the keys of these entries, in their order
+abbrev pub keys_of : List Entry → List ℕ
+keys_of entries = map (λ (e : Entry). e.place) entries
+
 -- the head of a message
 abbrev pub head_of : Message → Head
 head_of m = record { number = m.number; sender = m.sender; mtype = m.mtype; len = length m.bytes }
@@ -47,10 +51,12 @@ pub record IsKeptAs (head : Option Head) (chain : Option Chained) (m : Message) 
 abbrev pub IsKept : Slab Head → List (Option Chained) → Entry → Type 0
 IsKept heads chains e = IsKeptAs (get heads e.place) (chain_at chains e.place) (message_at heads chains e)
 
--- every entry's message is kept, nothing else is, and the sum is that of the texts
+-- every entry's message is kept, every head has its entry, once, and the sum is that of the texts
 pub record IsStore (heads : Slab Head) (chains : List (Option Chained)) (entries : List Entry) (bytes : ℕ) : Type 0 where
   pub kept : All (IsKept heads chains) entries
-  -- there are as many heads as entries, and no chain without a head
+  pub known : (key : ℕ) → ContainsKey heads key → Contains (keys_of entries) key
+  pub once : AllPairs (λ (a b : ℕ). a ≢ b) (keys_of entries)
+  -- so there are as many heads as entries, and no chain without a head
   pub same : slab_len heads ≡ length entries
   pub bare : (place : ℕ) → get heads place ≡ None → chain_at chains place ≡ None
   -- each key has a place for a chain, and there is room for all messages of a queue

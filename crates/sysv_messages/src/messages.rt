@@ -183,3 +183,5 @@ impl Messages {
     }
 }
 
+#[cfg(test)]
+mod tests;

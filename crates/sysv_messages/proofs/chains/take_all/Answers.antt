@@ -1,6 +1,5 @@
-use Rattle.std.proofs.Common.{◌≡◌, ◌+◌, ◌≤◌, [], None, length, ap, ◌∙◌, arith}
+use Rattle.std.proofs.Common.{◌≡◌, None, ap, ◌∙◌, arith}
 use Rattle.std.specs.List.{All}
-use Rattle.sysv_pool.specs.Chain.{Chained}
 use Rattle.sysv_messages.specs.Texts.{all_blocks}
 use Rattle.sysv_messages.proofs.Bare.{no_blocks}
 use Rattle.sysv_messages.proofs.chains.take_all.Goals as goal

@@ -1,4 +1,4 @@
-use Rattle.std.proofs.Common.{◌≡◌, ℕ, ◌+◌, ◌<◌, List, [], ◌∷◌, ◌++◌, Some, length, sym, ap, subst, ◌∙◌, arith, refl, slice_set, w64, ◌≤◌}
+use Rattle.std.proofs.Common.{◌≡◌, ℕ, ◌+◌, ◌<◌, [], ◌∷◌, ◌++◌, Some, length, sym, ap, subst, ◌∙◌, arith, refl, slice_set, w64, ◌≤◌}
 use Rattle.std.proofs.lemmas.Int.{to_z-of_z}
 use Rattle.sysv_model.specs.declared.limits.TheConstants.{MESSAGE_BYTES as most_bytes}
 use Rattle.std.specs.List.{All}
@@ -34,8 +34,8 @@ module _ (c : goal.After-self-1) where
   updates =
       let raw = rw (to_z-of_z w64 c.args.mtype c.ranges.mtype) at c.insert_reserved-place.ensures.updates in
       subst (λ n. Updates c.self.inside.heads c.insert_reserved-place.new.self c.insert_reserved-place.result
-          (Some (record { number = c.args.number; sender = c.args.sender; mtype = c.args.mtype; len = n })))
-          (sym c.requires.text) raw
+      (Some (record { number = c.args.number; sender = c.args.sender; mtype = c.args.mtype; len = n })))
+      (sym c.requires.text) raw
 
   put : c.put.new.chains.items ≡ slice_set c.self.inside.chains.items c.insert_reserved-place.result (Some (chain_of c.args.chain.bytes))
   put = c.put.ensures ∙ ap (λ chain. slice_set c.self.inside.chains.items c.insert_reserved-place.result (Some chain)) (its_chain c.args.chain c.args.len c.requires.text c.requires.blocks)

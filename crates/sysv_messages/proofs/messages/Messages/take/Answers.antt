@@ -1,16 +1,8 @@
-use Rattle.std.proofs.Common.{◌≡◌, ◌-◌, ◌≤◌, ◌==◌, not, Some, None, length, sym, ap, subst, ◌∙◌, arith, rules, refl, w64, FitsSigned, slice_set}
-use Rattle.std.specs.List.{filter, remove}
+use Rattle.std.proofs.Common.{ap, arith, rules, w64, FitsSigned}
 use Rattle.std.proofs.lemmas.Int.{to_z-of_z}
-use Rattle.sysv_model.specs.Message.{Message}
-use Rattle.sysv_model.specs.declared.limits.TheConstants.{MESSAGE_BYTES as most_bytes}
-use Rattle.sysv_index.specs.declared.entry.Entry.{Entry}
 use Rattle.sysv_messages.specs.declared.head.Head.{Head}
-use Rattle.sysv_messages.specs.Texts.{chain_of}
-use Rattle.sysv_messages.specs.Kept.{messages_of, head_of, IsStore}
-use Rattle.sysv_messages.specs.Taking.{IsTaken}
 use Rattle.sysv_messages.proofs.Lists.{some_is}
-use Rattle.sysv_messages.proofs.Receiving.{none_there, its_entry, entry_there, its_message, kept_it, head_is, chain_is, too_long, len_below, len_short, kept_as, store_without, taken_it}
-use Rattle.sysv_messages.proofs.Taken.{bytes_there, seen_left, store_left}
+use Rattle.sysv_messages.proofs.Receiving.{none_there, kept_it, head_is, too_long, len_below, len_short, kept_as, store_without, taken_it}
 use Rattle.sysv_messages.proofs.messages.Messages.take.Goals as goal
 
 pub returns-in_default-clause-refused : goal.returns-in_default-clause-refused
