@@ -1,8 +1,7 @@
 //! Places, each of which has a chain or none.
 
-ghost use Rattle.std.specs.Prelude.{◌≡◌, ◌+◌, ◌<◌, ◌≤◌, [], None, Some, IsSome, length, replicate, slice_set, vec_len, vec_capacity};
+ghost use Rattle.std.specs.Prelude.{◌≡◌, ◌<◌, ◌≤◌, [], None, Some, IsSome, length, replicate, slice_set, vec_len, vec_capacity};
 ghost use Rattle.std.specs.List.{All};
-ghost use Rattle.sysv_pool.specs.Chain.{Chained};
 ghost use Rattle.sysv_messages.specs.Texts.{all_blocks};
 ghost use Rattle.sysv_messages.specs.Kept.{chain_at};
 

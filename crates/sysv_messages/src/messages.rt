@@ -1,11 +1,10 @@
-ghost use Rattle.std.specs.Prelude.{◌≡◌, ℕ, ◌+◌, ◌^◌, ◌<◌, ◌≤◌, [], ◌∷◌, ◌++◌, IfOk, IfErr, OnErr, Some, None, IsTrue, ◌↔◌, MatchOption, MatchResult, length, remove, slice_get, vec_len};
+ghost use Rattle.std.specs.Prelude.{◌≡◌, ◌+◌, ◌^◌, ◌<◌, ◌≤◌, [], ◌∷◌, ◌++◌, IfOk, IfErr, OnErr, length};
 ghost use Rattle.std.specs.List.{All};
 ghost use Rattle.sysv_model.specs.declared.limits.TheConstants.{QUEUE_MESSAGES, MESSAGE_BYTES as most_bytes};
 ghost use Rattle.sysv_model.specs.Message.{Message};
 ghost use Rattle.sysv_model.specs.Pool.{blocks_for};
-ghost use Rattle.sysv_pool.specs.Chain.{Chained};
 ghost use Rattle.sysv_rules.specs.Digits.{digits};
-ghost use Rattle.sysv_messages.specs.Texts.{chain_of, blocks_of, bytes_of, all_blocks};
+ghost use Rattle.sysv_messages.specs.Texts.{blocks_of, bytes_of};
 ghost use Rattle.sysv_messages.specs.Taking.{IsTaken, IsRefused};
 
 use crate::chains;
@@ -120,7 +119,8 @@ impl Messages {
 
     /// Takes the message that `sel` names (POSIX.1-2017, `msgrcv`, DESCRIPTION), if its text has at most
     /// `most` bytes. The first cause of `NotTaken` that stands is the refusal, which leaves all as it
-    /// was. It takes no memory. `steps` counts the entries of the index that are read to find it.
+    /// was. It takes no memory. `steps` counts the entries of the index that are read to find it: at most
+    /// two more than the number of messages has binary digits.
     pub fn take<L: Ledger>(
         &mut self,
         sel: Selector,

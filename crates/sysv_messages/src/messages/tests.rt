@@ -1,7 +1,7 @@
 //! Messages that come and go by each kind of selector, refusals, a full store, and stores that end with
 //! messages in them.
 
-ghost use Rattle.std.specs.Prelude.{◌≡◌, ◌+◌, ◌<◌, ◌≤◌, [], length};
+ghost use Rattle.std.specs.Prelude.{◌≡◌, ◌+◌, ◌<◌, []};
 ghost use Rattle.std.specs.List.{All};
 ghost use Rattle.sysv_model.specs.Message.{Message};
 
