@@ -1,0 +1,13 @@
+use Rattle.std.proofs.Common.{◌≡◌, ◌+◌, [], None, length}
+use Rattle.std.specs.List.{AllWithin}
+use Rattle.sysv_messages.specs.Texts.{all_blocks}
+use Rattle.sysv_messages.proofs.chains.take_all.Given as goal
+
+-- the blocks of the chains that were taken are in the chain, and their places are bare
+abbrev pub invariant-loop-place : goal.invariant-loop-place
+invariant-loop-place l = record {
+  all : l.all.blocks + all_blocks l.chains.items ≡ all_blocks l.initial.chains.items;
+  text : l.all.bytes ≡ [];
+  bare : AllWithin (λ chain. chain ≡ None) l.chains.items 0 l.place;
+  places : length l.chains.items ≡ length l.initial.chains.items;
+}

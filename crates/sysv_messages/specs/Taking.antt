@@ -1,0 +1,31 @@
+-- What a receive takes among the messages that wait (POSIX.1-2017, msgrcv, DESCRIPTION): the one that
+-- its selector names, unless its text is longer than asked for.
+use Rattle.std.specs.Prelude.{◌≡◌, ℕ, ◌<◌, ◌≤◌, List, Some, length, slice_get, remove}
+use Rattle.sysv_model.specs.Message.{Message}
+use Rattle.sysv_model.specs.declared.selector.Selector.{Selector}
+use Rattle.sysv_rules.specs.Named.{IsNamed}
+use Rattle.sysv_rules.specs.Qualifies.{NoneQualifies}
+use Rattle.sysv_messages.specs.Texts.{types_of}
+use Rattle.sysv_messages.specs.declared.messages.NotTaken.{NotTaken}
+use Rattle.sysv_messages.specs.declared.messages.NotTaken.TheVariants.{NoneQualifies as NoMessage, TooLong}
+
+-- the message that the selector names is taken from its position, and the others stay
+pub record IsTaken (sel : Selector) (most : ℕ) (old : List Message) (m : Message) (new : List Message) : Type 0 where
+  pub position : ℕ
+  pub named : IsNamed sel (types_of old) position
+  pub there : slice_get old position ≡ Some m
+  pub fits : length m.bytes ≤ most
+  pub left : new ≡ remove old position
+
+-- the message that the selector names has a longer text
+pub record IsTooLong (sel : Selector) (most : ℕ) (messages : List Message) : Type 0 where
+  pub position : ℕ
+  pub message : Message
+  pub named : IsNamed sel (types_of messages) position
+  pub there : slice_get messages position ≡ Some message
+  pub longer : most < length message.bytes
+
+-- why none is taken
+abbrev pub IsRefused : Selector → ℕ → List Message → NotTaken → Type 0
+IsRefused sel most messages NoMessage = NoneQualifies sel (types_of messages)
+IsRefused sel most messages TooLong = IsTooLong sel most messages
