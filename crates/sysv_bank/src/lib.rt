@@ -7,8 +7,6 @@ mod calls;
 mod opening;
 mod refusals;
 mod seat;
-#[cfg(test)]
-mod tests;
 
 pub use bank::Bank;
 pub use refusals::NoMemory;

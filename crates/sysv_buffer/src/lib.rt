@@ -14,8 +14,6 @@ mod many_waits;
 mod refusals;
 mod rule;
 mod seat;
-#[cfg(test)]
-mod tests;
 mod turns;
 mod view;
 

@@ -8,8 +8,6 @@ mod exchange;
 mod fault;
 mod page;
 mod screen;
-#[cfg(test)]
-mod tests;
 mod words;
 
 pub use client::run_client;

@@ -273,6 +273,3 @@ fn idle(alloc: Global, actors: usize) -> Result<Vec<Option<Doing>>, OpenRefused>
     }
     Ok(idle)
 }
-
-#[cfg(test)]
-mod tests;

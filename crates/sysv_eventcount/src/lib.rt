@@ -9,8 +9,6 @@ mod refusals;
 mod rule;
 mod seat;
 mod sequencer;
-#[cfg(test)]
-mod tests;
 mod view;
 mod word;
 

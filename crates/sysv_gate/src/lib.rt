@@ -14,8 +14,6 @@ mod place;
 mod refusals;
 mod rule;
 mod seat;
-#[cfg(test)]
-mod tests;
 mod turns;
 mod view;
 mod waits;

@@ -15,8 +15,6 @@ mod registry;
 mod seats;
 mod sharing;
 mod slot;
-#[cfg(test)]
-mod tests;
 
 pub use gates::{Gates, Worn};
 pub use laws::{own_turns_are_last, seen_histories, seen_histories_obey};

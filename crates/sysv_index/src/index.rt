@@ -187,6 +187,3 @@ fn first_from<L: Ledger>(by_type: &Row<Entry>, mtype: i64, steps: &mut Steps<L>)
     }
     low
 }
-
-#[cfg(test)]
-mod tests;

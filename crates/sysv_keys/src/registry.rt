@@ -282,6 +282,3 @@ fn index_keys(places: &[Place], by_key: &mut IndexMap<i32, usize>)
         }
     }
 }
-
-#[cfg(test)]
-mod tests;

@@ -8,8 +8,6 @@ mod laws;
 mod line;
 mod names;
 mod request;
-#[cfg(test)]
-mod tests;
 mod told;
 
 pub use actor::{Actor, SCRIPT_ACTORS};

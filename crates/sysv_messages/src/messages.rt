@@ -182,6 +182,3 @@ impl Messages {
         chain
     }
 }
-
-#[cfg(test)]
-mod tests;

@@ -134,6 +134,3 @@ impl Pool {
         free_all(link);
     }
 }
-
-#[cfg(test)]
-mod tests;

@@ -549,6 +549,3 @@ fn may_as_asked(cred: Cred, queue: Attributes, flags: Flags) -> bool
     let write = asked & 0o222 == 0 || may(cred, queue.perm, Want::Write);
     read && write
 }
-
-#[cfg(test)]
-mod tests;

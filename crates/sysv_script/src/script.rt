@@ -237,28 +237,3 @@ fn bad_line(output: &mut Output, number: u32) -> ScriptFault
         Err(NoMemory) => ScriptFault::NoMemory,
     }
 }
-
-#[cfg(test)]
-mod tests {
-    use super::*;
-
-    #[test]
-    fn runs_a_script(rt: HostRuntime) {
-        let answers = b"1 snd = 0\n2 rcv = 5 type 5 =hello\n".as_slice();
-        let mut script = b"preset\n1 snd 0 5 - =hello\n2 rcv 0 9 0 -".as_slice();
-        let Ok(mut written) = Vec::with_capacity(rt.alloc(), answers.len()) else {
-            return;
-        };
-        let mut reader = Watched::new(&mut script);
-        let mut writer = Watched::new(&mut written);
-        let ended = run_script(rt.alloc(), &mut reader, &mut writer);
-        assert!(rt; !reader.has_failed() && !writer.has_failed());
-        match ended {
-            Ok(()) => assert!(rt; written.as_slice() == answers),
-            Err(fault) => {
-                assert_eq!(rt; fault, ScriptFault::NoMemory);
-                assert!(rt; answers.starts_with(written.as_slice()));
-            }
-        }
-    }
-}

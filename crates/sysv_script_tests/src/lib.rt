@@ -1,4 +1,5 @@
-//! Tests of the script language over whole scripts, with readers and writers of many habits.
+//! Tests of the script language: its words and lines, what is read and written, and whole scripts, with readers and
+//! writers of many habits.
 #![tactic(auto)]
 
 #[cfg(test)]
@@ -8,6 +9,16 @@ mod ends;
 #[cfg(test)]
 mod language;
 #[cfg(test)]
+mod lines;
+#[cfg(test)]
+mod passed;
+#[cfg(test)]
 mod rules;
 #[cfg(test)]
+mod stage;
+#[cfg(test)]
 mod streams;
+#[cfg(test)]
+mod whole;
+#[cfg(test)]
+mod words;

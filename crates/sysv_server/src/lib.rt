@@ -7,8 +7,6 @@ mod fault;
 mod serving;
 mod session;
 mod sums;
-#[cfg(test)]
-mod tests;
 
 pub use fault::ServeFault;
 pub use serving::{serve_connections, serve_on};

@@ -12,8 +12,6 @@ mod receive;
 mod send;
 mod service;
 mod stopping;
-#[cfg(test)]
-mod tests;
 mod waiting;
 
 pub use clock::Clock;

@@ -1,4 +1,4 @@
-//! Tests of the service with several threads, each of which has a pass of its own.
+//! Tests of the service by one pass, and with several threads, each of which has a pass of its own.
 #![tactic(auto)]
 
 #[cfg(test)]
@@ -11,6 +11,8 @@ mod crew;
 mod crowd;
 #[cfg(test)]
 mod example;
+#[cfg(test)]
+mod one_pass;
 #[cfg(test)]
 mod part;
 #[cfg(test)]

@@ -3,7 +3,5 @@
 #![tactic(auto)]
 
 mod stage;
-#[cfg(test)]
-mod tests;
 
 pub use stage::Stage;

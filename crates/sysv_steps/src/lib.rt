@@ -10,8 +10,6 @@ mod laws;
 mod receive;
 mod send;
 mod state;
-#[cfg(test)]
-mod tests;
 mod wait;
 
 pub use afterwards::Afterwards;

@@ -5,8 +5,6 @@ mod fault;
 mod input;
 mod lines;
 mod output;
-#[cfg(test)]
-mod tests;
 
 pub use fault::{SCRIPT_LINES, ScriptFault};
 pub use input::{INPUT_ROOM, Input};

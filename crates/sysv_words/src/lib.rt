@@ -5,8 +5,6 @@ mod flags;
 mod laws;
 mod octal;
 mod reads;
-#[cfg(test)]
-mod tests;
 mod word;
 
 pub use laws::{one_split, words_are_read};

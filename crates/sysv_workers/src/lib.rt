@@ -7,8 +7,6 @@ mod feed;
 mod job;
 mod refusals;
 mod source;
-#[cfg(test)]
-mod tests;
 mod worker;
 mod workers;
 

@@ -5,6 +5,7 @@ ghost use Rattle.sysv_objects.specs.Objects.{CountsUpTo};
 
 use super::*;
 use bitflags::Flags as _;
+use std::fmt::Debug;
 use std::process::Abort;
 use sysv_model::Body;
 use sysv_queue::Tally;
@@ -76,6 +77,11 @@ fn counts(objects: &Objects, id: i32) -> (u64, u64) {
     (objects.arrived(id), objects.freed(id))
 }
 
+/// The test fails where what was found is not what is wanted.
+fn assert_is<T: PartialEq + Debug + Drop>(rt: &impl Abort, found: T, wanted: T) {
+    assert_eq!(rt; found, wanted);
+}
+
 #[test]
 fn two_queues_lie_in_two_slots(rt: HostRuntime) {
     let mut objects = objects_at(&rt, rt.alloc(), 0);
@@ -83,15 +89,15 @@ fn two_queues_lie_in_two_slots(rt: HostRuntime) {
     make(&rt, &mut objects, 7, 0);
     make(&rt, &mut objects, 8, 1);
     assert!(rt; !objects.is_unused(0));
-    assert_eq!(rt; objects.settled(), 2);
-    assert_eq!(rt; objects.probe(1, USER, creating()), Probe::Granted);
-    assert_eq!(rt; objects.probe(65, USER, creating()), Probe::Gone);
+    assert_is(&rt, objects.settled(), 2);
+    assert_is(&rt, objects.probe(1, USER, creating()), Probe::Granted);
+    assert_is(&rt, objects.probe(65, USER, creating()), Probe::Gone);
     assert!(rt; !objects.install(64, 9, USER, 0o600, 60));
-    assert_eq!(rt; objects.stat(0, USER).map(|stat| stat.key), Ok(7));
-    assert_eq!(rt; objects.stat(1, USER).map(|stat| stat.key), Ok(8));
-    assert_eq!(rt; objects.stat(2, USER), Err(Errno::EINVAL));
+    assert_is(&rt, objects.stat(0, USER).map(|stat| stat.key), Ok(7));
+    assert_is(&rt, objects.stat(1, USER).map(|stat| stat.key), Ok(8));
+    assert_is(&rt, objects.stat(2, USER), Err(Errno::EINVAL));
     assert!(rt; are_low(&objects));
-    assert_eq!(rt; objects.end(Chain::empty()), 128);
+    assert_is(&rt, objects.end(Chain::empty()), 128);
 }
 
 #[test]
@@ -99,38 +105,38 @@ fn a_message_goes_through_its_slot(rt: HostRuntime) {
     let mut objects = objects_at(&rt, rt.alloc(), 0);
     make(&rt, &mut objects, 7, 0);
     make(&rt, &mut objects, 8, 1);
-    assert_eq!(rt; objects.look(1, USER, 2), Look::Fits);
-    assert_eq!(rt; objects.look(2, USER, 2), Look::Gone);
+    assert_is(&rt, objects.look(1, USER, 2), Look::Fits);
+    assert_is(&rt, objects.look(2, USER, 2), Look::Gone);
     assert!(rt; are_low(&objects));
     match objects.place(1, USER, 5, Chain::empty(), 0, 60) {
-        Ok(number) => assert_eq!(rt; number, 0),
+        Ok(number) => assert_is(&rt, number, 0),
         Err(_) => panic!(rt; "no room"),
     }
-    assert_eq!(rt; counts(&objects, 1), (1, 0));
-    assert_eq!(rt; counts(&objects, 0), (0, 0));
+    assert_is(&rt, counts(&objects, 1), (1, 0));
+    assert_is(&rt, counts(&objects, 0), (0, 0));
     assert!(rt; are_low(&objects));
     match objects.take(0, USER, Selector::Any, 9, false, 70) {
         Ok(_) => panic!(rt; "a message"),
-        Err(why) => assert_eq!(rt; why, TakeRefused::NoMatch { arrived: 0 }),
+        Err(why) => assert_is(&rt, why, TakeRefused::NoMatch { arrived: 0 }),
     }
     assert!(rt; are_low(&objects));
     let mut out = body_of(&rt, rt.alloc(), b"old");
     match objects.take(1, USER, Selector::Any, 9, false, 70) {
         Ok(taken) => {
             let (delivery, chain) = taken.finish(9, &mut out);
-            assert_eq!(rt; delivery.mtype(), 5);
+            assert_is(&rt, delivery.mtype(), 5);
             delivery.written(&mut Tally::open());
-            assert_eq!(rt; objects.released(), 0);
+            assert_is(&rt, objects.released(), 0);
             assert!(rt; are_low(&objects));
             give_back(&rt, &mut objects, chain);
         }
         Err(_) => panic!(rt; "no message"),
     }
-    assert_eq!(rt; objects.released(), 1);
-    assert_eq!(rt; out.len(), 0);
-    assert_eq!(rt; counts(&objects, 1), (1, 1));
+    assert_is(&rt, objects.released(), 1);
+    assert_is(&rt, out.len(), 0);
+    assert_is(&rt, counts(&objects, 1), (1, 1));
     assert!(rt; are_low(&objects));
-    assert_eq!(rt; objects.end(Chain::empty()), 128);
+    assert_is(&rt, objects.end(Chain::empty()), 128);
 }
 
 #[test]
@@ -144,12 +150,12 @@ fn a_queue_is_changed_removed_and_forgotten(rt: HostRuntime) {
         qbytes: 9,
     };
     assert!(rt; are_low(&objects));
-    assert_eq!(rt; objects.set(2_147_483_584, USER, to, 80), Ok(()));
-    assert_eq!(rt; counts(&objects, 2_147_483_584), (1, 1));
+    assert_is(&rt, objects.set(2_147_483_584, USER, to, 80), Ok(()));
+    assert_is(&rt, counts(&objects, 2_147_483_584), (1, 1));
     assert!(rt; are_low(&objects));
     match objects.remove(2_147_483_585, USER) {
         Ok(_) => panic!(rt; "a removal"),
-        Err(why) => assert_eq!(rt; why, Errno::EINVAL),
+        Err(why) => assert_is(&rt, why, Errno::EINVAL),
     }
     assert!(rt; are_low(&objects));
     let chain = match objects.remove(2_147_483_584, USER) {
@@ -158,9 +164,9 @@ fn a_queue_is_changed_removed_and_forgotten(rt: HostRuntime) {
     };
     assert!(rt; objects.forget(2_147_483_584));
     assert!(rt; !objects.forget(2_147_483_584));
-    assert_eq!(rt; objects.settled(), 2);
+    assert_is(&rt, objects.settled(), 2);
     assert!(rt; are_low(&objects));
-    assert_eq!(rt; objects.end(chain), 128);
+    assert_is(&rt, objects.end(chain), 128);
 }
 
 #[test]
@@ -169,20 +175,20 @@ fn blocks_are_reserved_and_released(rt: HostRuntime) {
     let Some(chain) = objects.reserve(8192) else {
         panic!(rt; "too few blocks");
     };
-    assert_eq!(rt; chain.blocks(), 128);
+    assert_is(&rt, chain.blocks(), 128);
     if let Some(more) = objects.reserve(1) {
         more.end();
         panic!(rt; "a block too many");
     }
     assert!(rt; are_low(&objects));
     give_back(&rt, &mut objects, chain);
-    assert_eq!(rt; objects.released(), 1);
+    assert_is(&rt, objects.released(), 1);
     let Some(chain) = objects.reserve(65) else {
         panic!(rt; "too few blocks");
     };
-    assert_eq!(rt; chain.blocks(), 2);
+    assert_is(&rt, chain.blocks(), 2);
     assert!(rt; are_low(&objects));
-    assert_eq!(rt; objects.end(chain), 128);
+    assert_is(&rt, objects.end(chain), 128);
 }
 
 #[test]
@@ -195,7 +201,7 @@ fn a_generation_or_a_size_out_of_range_is_refused(rt: HostRuntime) {
     for (generation, blocks, want) in refused {
         match Objects::open_at(rt.alloc(), generation, blocks) {
             Ok(_) => panic!(rt; "objects"),
-            Err(why) => assert_eq!(rt; why, want),
+            Err(why) => assert_is(&rt, why, want),
         }
     }
 }

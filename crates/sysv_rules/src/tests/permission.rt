@@ -2,6 +2,7 @@
 //! communication.
 
 use crate::permission::{Want, may, may_control};
+use std::process::Abort;
 use sysv_model::{Cred, Perm};
 
 /// The nine mode bits.
@@ -24,6 +25,15 @@ fn caller(uid: u32, gid: u32) -> Cred {
     Cred { uid, gid, pid: 10 }
 }
 
+/// Whether the caller of a queue with this mode may do what it wants.
+fn assert_may(rt: &impl Abort, who: &str, cred: Cred, mode: u16, want: Want, may_it: bool) {
+    assert_eq!(rt;
+        may(cred, queue(mode), want),
+        may_it,
+        "{who}: {want:?} by {mode}"
+    );
+}
+
 #[test]
 fn one_bit_grants_and_eight_do_not(rt: HostRuntime) {
     let table = [
@@ -40,21 +50,13 @@ fn one_bit_grants_and_eight_do_not(rt: HostRuntime) {
     ];
     for (who, cred, read, write) in table {
         for bit in BITS {
-            assert_eq!(rt;
-                may(cred, queue(bit), Want::Read),
-                bit == read,
-                "{who} reads by {bit}"
-            );
-            assert_eq!(rt;
-                may(cred, queue(bit), Want::Write),
-                bit == write,
-                "{who} writes by {bit}"
-            );
+            assert_may(&rt, who, cred, bit, Want::Read, bit == read);
+            assert_may(&rt, who, cred, bit, Want::Write, bit == write);
         }
-        assert!(rt; may(cred, queue(0o777), Want::Read), "{who}");
-        assert!(rt; may(cred, queue(0o777), Want::Write), "{who}");
-        assert!(rt; !may(cred, queue(0o777 - read), Want::Read), "{who}");
-        assert!(rt; !may(cred, queue(0o777 - write), Want::Write), "{who}");
+        assert_may(&rt, who, cred, 0o777, Want::Read, true);
+        assert_may(&rt, who, cred, 0o777, Want::Write, true);
+        assert_may(&rt, who, cred, 0o777 - read, Want::Read, false);
+        assert_may(&rt, who, cred, 0o777 - write, Want::Write, false);
     }
 }
 
@@ -69,14 +71,8 @@ fn a_lower_class_does_not_help(rt: HostRuntime) {
         ("member of the creator's group", caller(98, 21), 0o007),
     ];
     for (who, cred, mode) in table {
-        assert!(rt;
-            !may(cred, queue(mode), Want::Read),
-            "{who} reads by {mode}"
-        );
-        assert!(rt;
-            !may(cred, queue(mode), Want::Write),
-            "{who} writes by {mode}"
-        );
+        assert_may(&rt, who, cred, mode, Want::Read, false);
+        assert_may(&rt, who, cred, mode, Want::Write, false);
     }
 }
 
@@ -84,8 +80,8 @@ fn a_lower_class_does_not_help(rt: HostRuntime) {
 fn user_zero_always_may(rt: HostRuntime) {
     for mode in [0, 0o777, 0o111, 0o400, 0o002] {
         for gid in [0, 20, 99] {
-            assert!(rt; may(caller(0, gid), queue(mode), Want::Read), "{mode}");
-            assert!(rt; may(caller(0, gid), queue(mode), Want::Write), "{mode}");
+            assert_may(&rt, "user zero", caller(0, gid), mode, Want::Read, true);
+            assert_may(&rt, "user zero", caller(0, gid), mode, Want::Write, true);
             assert!(rt; may_control(caller(0, gid), queue(mode)), "{mode}");
         }
     }

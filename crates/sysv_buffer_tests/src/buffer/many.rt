@@ -1,0 +1,113 @@
+//! Items through a buffer of many.
+ghost use Rattle.std.specs.Prelude.{◌≡◌};
+
+use super::Ware;
+use crate::parts::assert_is;
+use std::alloc::Global;
+use std::process::Abort;
+use sysv_buffer::{ManyBuffer, ManyPutRefused, ManyTakeRefused, OpenRefused, Seat};
+
+/// A buffer and its first seat. Memory is refused once at most.
+pub(super) fn opened<T: Drop>(
+    rt: &impl Abort,
+    alloc: Global,
+    cells: usize,
+) -> (ManyBuffer<T>, Seat<T>)
+    ensures { result.1.buffer ≡ result.0 }
+{
+    match ManyBuffer::open(alloc, cells) {
+        Err(OpenRefused::NoMemory) => match ManyBuffer::open(alloc, cells) {
+            Ok(made) => made,
+            Err(why) => panic!(rt; "a second try: {why}"),
+        },
+        Ok(made) => made,
+        Err(why) => panic!(rt; "{cells} cells: {why}"),
+    }
+}
+
+/// The number of the item that came back because the buffer was full.
+fn came_back(put: Result<(), ManyPutRefused<Ware>>) -> Option<u64> {
+    match put {
+        Ok(()) => None,
+        Err(ManyPutRefused::Full(item)) => Some(item.number),
+        Err(ManyPutRefused::Busy(_)) => Some(u64::MAX),
+        Err(ManyPutRefused::Worn(_)) => Some(u64::MAX - 1),
+    }
+}
+
+/// The number of the item that was taken, or why there was none.
+fn number_of(taken: Result<Ware, ManyTakeRefused>) -> Result<u64, ManyTakeRefused> {
+    match taken {
+        Ok(item) => Ok(item.number),
+        Err(why) => Err(why),
+    }
+}
+
+#[test]
+fn two_cells_of_many_hold_two_items(rt: HostRuntime) {
+    let (buffer, mut seat) = opened(&rt, rt.alloc(), 2);
+    assert_is(
+        &rt,
+        came_back(buffer.try_put(&mut seat, Ware { number: 1 })),
+        None,
+    );
+    assert_is(
+        &rt,
+        came_back(buffer.try_put(&mut seat, Ware { number: 2 })),
+        None,
+    );
+    assert_is(
+        &rt,
+        came_back(buffer.try_put(&mut seat, Ware { number: 3 })),
+        Some(3),
+    );
+    assert_is(&rt, number_of(buffer.try_take(&mut seat)), Ok(1));
+    assert_is(&rt, number_of(buffer.try_take(&mut seat)), Ok(2));
+    assert_is(
+        &rt,
+        number_of(buffer.try_take(&mut seat)),
+        Err(ManyTakeRefused::Empty),
+    );
+}
+
+#[test]
+fn seats_come_and_go(rt: HostRuntime) {
+    let (buffer, mut one) = opened(&rt, rt.alloc(), 1);
+    let mut two = buffer.split(&mut one);
+    assert_is(
+        &rt,
+        came_back(buffer.try_put(&mut two, Ware { number: 7 })),
+        None,
+    );
+    assert_is(
+        &rt,
+        came_back(buffer.try_put(&mut one, Ware { number: 8 })),
+        Some(8),
+    );
+    assert_is(&rt, number_of(buffer.try_take(&mut one)), Ok(7));
+    buffer.join(&mut one, two);
+    assert_is(
+        &rt,
+        came_back(buffer.try_put(&mut one, Ware { number: 9 })),
+        None,
+    );
+    assert_is(&rt, number_of(buffer.try_take(&mut one)), Ok(9));
+}
+
+#[test]
+fn sizes_of_many_out_of_range(rt: HostRuntime) {
+    for cells in [0, 1025, usize::MAX] {
+        match ManyBuffer::<Ware>::open(rt.alloc(), cells) {
+            Err(OpenRefused::BadSize) => {}
+            _ => panic!(rt; "{cells} cells"),
+        }
+    }
+    for cells in [1, 1024] {
+        let (buffer, mut seat) = opened(&rt, rt.alloc(), cells);
+        assert_is(
+            &rt,
+            came_back(buffer.try_put(&mut seat, Ware { number: 7 })),
+            None,
+        );
+    }
+}

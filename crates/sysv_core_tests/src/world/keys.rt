@@ -1,0 +1,237 @@
+//! Gets, presets, and controls of queues.
+
+use super::*;
+
+fn private() -> Call {
+    Call::Get {
+        key: 0,
+        flags: flags(0o600),
+    }
+}
+
+#[test]
+fn gets_find_and_make_queues(rt: HostRuntime) {
+    let mut world = world_at(&rt, rt.alloc(), 0, 0);
+    let get = |key, bits| Call::Get {
+        key,
+        flags: flags(bits),
+    };
+    let refused = Outcome::Refused;
+    let gets = [
+        (9, 512 + 1024 + 0o600, Outcome::Id(0)),
+        (9, 512 + 1024 + 0o600, refused(Errno::EEXIST)),
+        (5, 1024 + 0o600, refused(Errno::ENOENT)),
+        (0, 0o600, Outcome::Id(1)),
+        (0, 0o600, Outcome::Id(2)),
+        (9, 0, Outcome::Id(0)),
+    ];
+    for (key, bits, outcome) in gets {
+        assert_is(&rt, make(&rt, &mut world, 1, get(key, bits)), outcome);
+    }
+    let strange = [
+        (0, Outcome::Id(0)),
+        (0o400, refused(Errno::EACCES)),
+        (512 + 1024 + 0o400, refused(Errno::EEXIST)),
+    ];
+    for (bits, outcome) in strange {
+        let event = stranger(2, get(9, bits));
+        assert_nothing(&rt, world.step(event));
+        assert_is(&rt, go(&rt, &mut world, 2), outcome);
+    }
+    for id in 3..64 {
+        assert_is(&rt, make(&rt, &mut world, 1, get(0, 0)), Outcome::Id(id));
+    }
+    let full = refused(Errno::ENOSPC);
+    assert_is(&rt, make(&rt, &mut world, 1, get(0, 0)), full);
+    assert_is(&rt, world.end(), 128);
+}
+
+/// User 2000 of group 2000 starts a call.
+fn stranger(actor: u32, call: Call) -> Event {
+    Event::Start {
+        actor,
+        cred: Cred {
+            uid: 2000,
+            gid: 2000,
+            pid: 9,
+        },
+        call,
+    }
+}
+
+#[test]
+fn a_get_waits_until_the_key_is_settled(rt: HostRuntime) {
+    let mut world = world_at(&rt, rt.alloc(), 0, 0);
+    assert_nothing(&rt, world.step(start(1, get_or_make(4))));
+    assert!(rt; matches!(world.standing(1), Some(Standing::At(Phase::Begin(_)))));
+    assert_nothing(&rt, world.step(step(1)));
+    assert!(rt; matches!(world.standing(1), Some(Standing::At(Phase::Install { .. }))));
+    let call = Call::Get {
+        key: 4,
+        flags: flags(0),
+    };
+    assert_nothing(&rt, world.step(start(2, call)));
+    assert_nothing(&rt, world.step(step(2)));
+    assert_nothing(&rt, world.step(step(2)));
+    assert!(rt; is_waiting(&world, 2));
+    assert_is(&rt, go(&rt, &mut world, 1), Outcome::Id(0));
+    assert_is(&rt, go(&rt, &mut world, 2), Outcome::Id(0));
+    assert_is(&rt, world.end(), 128);
+}
+
+#[test]
+fn a_get_waits_between_removal_and_forget(rt: HostRuntime) {
+    let mut world = world_at(&rt, rt.alloc(), 0, 0);
+    assert_is(
+        &rt,
+        make(&rt, &mut world, 1, get_or_make(4)),
+        Outcome::Id(0),
+    );
+    assert_nothing(&rt, world.step(start(1, Call::Remove { id: 0 })));
+    assert!(rt; matches!(world.standing(1), Some(Standing::At(Phase::Remove { .. }))));
+    assert_nothing(&rt, world.step(step(1)));
+    assert!(rt; matches!(world.standing(1), Some(Standing::At(Phase::Forget { .. }))));
+    let call = Call::Get {
+        key: 4,
+        flags: flags(512 + 1024 + 0o600),
+    };
+    assert_nothing(&rt, world.step(start(2, call)));
+    for _ in 0..4 {
+        assert_nothing(&rt, world.step(step(2)));
+    }
+    assert!(rt; is_waiting(&world, 2));
+    assert_is(&rt, go(&rt, &mut world, 1), Outcome::Zero);
+    assert_is(&rt, go(&rt, &mut world, 2), Outcome::Id(64));
+    assert_is(&rt, world.end(), 128);
+}
+
+#[test]
+fn controls_are_refused_in_their_order(rt: HostRuntime) {
+    let mut world = world_at(&rt, rt.alloc(), 0, 0);
+    assert_is(
+        &rt,
+        make(&rt, &mut world, 1, get_or_make(5)),
+        Outcome::Id(0),
+    );
+    let too_much = SetTo {
+        uid: 1,
+        gid: 1,
+        mode: 0o600,
+        qbytes: 70_000,
+    };
+    let owner = Outcome::Refused(Errno::EPERM);
+    for call in [
+        Call::Remove { id: 0 },
+        Call::Set {
+            id: 0,
+            to: too_much,
+        },
+    ] {
+        assert_nothing(&rt, world.step(stranger(2, call)));
+        assert_is(&rt, go(&rt, &mut world, 2), owner);
+    }
+    let rest = [
+        (Call::Remove { id: 0 }, Outcome::Zero),
+        (Call::Remove { id: 0 }, Outcome::Refused(Errno::EINVAL)),
+        (Call::Stat { id: 0 }, Outcome::Refused(Errno::EINVAL)),
+    ];
+    for (call, outcome) in rest {
+        assert_is(&rt, make(&rt, &mut world, 1, call), outcome);
+    }
+    assert_is(&rt, world.end(), 128);
+}
+
+#[test]
+fn a_set_queue_tells_its_attributes(rt: HostRuntime) {
+    let mut world = world_at(&rt, rt.alloc(), 0, 0);
+    assert_is(
+        &rt,
+        make(&rt, &mut world, 1, get_or_make(3)),
+        Outcome::Id(0),
+    );
+    let to = SetTo {
+        uid: 2000,
+        gid: 7,
+        mode: 0o1640,
+        qbytes: 5,
+    };
+    assert_nothing(&rt, world.step(start(1, Call::Set { id: 0, to })));
+    let set = world.step(Event::Step { actor: 1, now: 60 });
+    assert_nothing(&rt, set);
+    assert_answer(&rt, world.step(step(1)), (1, Outcome::Zero, None));
+    let stat = Stat {
+        key: 3,
+        perm: Perm {
+            uid: 2000,
+            gid: 7,
+            cuid: 1000,
+            cgid: 1000,
+            mode: 0o640,
+        },
+        cbytes: 0,
+        qnum: 0,
+        qbytes: 5,
+        lspid: 0,
+        lrpid: 0,
+        stime: 0,
+        rtime: 0,
+        ctime: 60,
+    };
+    assert_is(
+        &rt,
+        make(&rt, &mut world, 1, Call::Stat { id: 0 }),
+        Outcome::Stat(stat),
+    );
+    assert_is(&rt, world.end(), 128);
+}
+
+#[test]
+fn a_preset_is_made_in_an_unused_slot_alone(rt: HostRuntime) {
+    let mut world = world_at(&rt, rt.alloc(), 0, 0);
+    assert!(rt; world.preset());
+    assert!(rt; !world.preset());
+    let removed = make(&rt, &mut world, 1, Call::Remove { id: 0 });
+    assert_is(&rt, removed, Outcome::Zero);
+    assert!(rt; !world.preset());
+    assert_is(&rt, make(&rt, &mut world, 1, private()), Outcome::Id(64));
+    assert_is(&rt, world.end(), 128);
+    let mut world = world_at(&rt, rt.alloc(), 0, 0);
+    assert_is(&rt, make(&rt, &mut world, 1, private()), Outcome::Id(0));
+    assert!(rt; !world.preset());
+    let _blocks = world.end();
+    let mut world = world_at(&rt, rt.alloc(), 0, 1);
+    assert!(rt; !world.preset());
+    let _blocks = world.end();
+}
+
+#[test]
+fn the_last_generation(rt: HostRuntime) {
+    let alloc = rt.alloc();
+    let mut world = world_at(&rt, alloc, 0, 33_554_431);
+    let id = 2_147_483_584;
+    let calls = [
+        (private(), 3, Outcome::Id(id)),
+        (Call::Remove { id }, 3, Outcome::Zero),
+        (private(), 3, Outcome::Id(2_147_483_585)),
+    ];
+    for (call, steps, outcome) in calls {
+        let mut events = match Vec::with_capacity(alloc, 4) {
+            Ok(events) => events,
+            Err(_) => Vec::with_capacity(alloc, 4).expect(&rt, "a second try"),
+        };
+        assert!(rt; events.push(start(1, call)).is_ok());
+        for _ in 0..steps {
+            assert!(rt; events.push(step(1)).is_ok());
+        }
+        let answers = match world.run(alloc, events) {
+            Ok(answers) => answers,
+            Err(back) => match world.run(alloc, back) {
+                Ok(answers) => answers,
+                Err(_) => panic!(rt; "a second try"),
+            },
+        };
+        assert_eq!(rt; answers.len(), 1);
+        assert_answers(&rt, &answers[0], (1, outcome, None));
+    }
+    assert_is(&rt, world.end(), 128);
+}

@@ -1,0 +1,5 @@
+use Rattle.std.proofs.Common.{◌≡◌}
+use Rattle.sysv_eventcount_tests.proofs.eventcount.threads.Exclusion.enter_often.Given as goal
+
+abbrev pub invariant-loop : goal.invariant-loop
+invariant-loop g l = (l.drawing.counter ≡ l.self.turns) × (l.serving.counter ≡ l.self.served)

@@ -1,0 +1,5 @@
+//! Tests of gates by one thread and by several.
+#![tactic(auto)]
+
+#[cfg(test)]
+mod gate;

@@ -1,0 +1,223 @@
+//! Changes and removals of a queue.
+
+use super::*;
+
+/// Sets queue `id` for `cred` at moment 70. A refusal leaves what the queue shows, and the counts.
+fn set_as(rt: &impl Abort, desk: &mut Desk, id: i32, cred: Cred, to: SetTo) -> Result<(), Errno> {
+    let (arrived, freed) = desk.slot.counts();
+    assert!(rt; arrived < 1 << 63);
+    assert!(rt; freed < 1 << 63);
+    let shown = desk.slot.stat(0, USER_ZERO);
+    let done = desk.slot.set(id, cred, to, 70);
+    if done.is_ok() {
+        assert_eq!(rt; desk.slot.counts(), (arrived + 1, freed + 1));
+    } else {
+        assert_eq!(rt; desk.slot.stat(0, USER_ZERO), shown);
+        assert_eq!(rt; desk.slot.counts(), (arrived, freed));
+    }
+    done
+}
+
+/// What keeps the sender's ownership of the queue, with another limit.
+fn limited_to(qbytes: u32) -> SetTo {
+    SetTo {
+        uid: 1000,
+        gid: 1000,
+        mode: 0o600,
+        qbytes,
+    }
+}
+
+/// Removes queue `id`, and answers how many blocks come back. A refusal leaves the counts.
+fn remove_as(rt: &impl Abort, desk: &mut Desk, id: i32, cred: Cred) -> Result<u32, Errno> {
+    let (arrived, freed) = desk.slot.counts();
+    assert!(rt; arrived < 1 << 63);
+    assert!(rt; freed < 1 << 63);
+    match desk.slot.remove(id, cred) {
+        Ok(discarded) => {
+            assert_eq!(rt; desk.slot.counts(), (arrived + 1, freed + 1));
+            let chain = discarded.into_chain();
+            let blocks = chain.blocks();
+            give_back(rt, &mut desk.pool, chain);
+            Ok(blocks)
+        }
+        Err(why) => {
+            assert_eq!(rt; desk.slot.counts(), (arrived, freed));
+            Err(why)
+        }
+    }
+}
+
+/// A set of queue `id` ends so.
+fn assert_sets(
+    rt: &impl Abort,
+    desk: &mut Desk,
+    id: i32,
+    cred: Cred,
+    to: SetTo,
+    wanted: Result<(), Errno>,
+) {
+    assert_eq!(rt; set_as(rt, desk, id, cred, to), wanted, "{cred:?}");
+}
+
+/// A removal of queue `id` ends so.
+fn assert_removes(
+    rt: &impl Abort,
+    desk: &mut Desk,
+    id: i32,
+    cred: Cred,
+    wanted: Result<u32, Errno>,
+) {
+    assert_eq!(rt; remove_as(rt, desk, id, cred), wanted, "{cred:?}");
+}
+
+#[test]
+fn a_set_changes_owner_mode_limit_and_moment(rt: HostRuntime) {
+    let mut desk = open_desk(&rt, rt.alloc());
+    assert!(rt; desk.slot.install(64, 3, SENDER, 0o640, 50));
+    assert_sends_as(&rt, &mut desk, 64, SENDER, 4, b"abc", Ok(0));
+    let to = SetTo {
+        uid: 1001,
+        gid: 2000,
+        mode: 0o7004,
+        qbytes: 100,
+    };
+    assert_sets(&rt, &mut desk, 64, SENDER, to, Ok(()));
+    let shown = Stat {
+        key: 3,
+        perm: Perm {
+            uid: 1001,
+            gid: 2000,
+            cuid: 1000,
+            cgid: 1000,
+            mode: 0o004,
+        },
+        cbytes: 3,
+        qnum: 1,
+        qbytes: 100,
+        lspid: 101,
+        lrpid: 0,
+        stime: 7,
+        rtime: 0,
+        ctime: 70,
+    };
+    assert_eq!(rt; desk.slot.stat(64, STRANGER), Ok(shown));
+    assert_eq!(rt; desk.slot.stat(64, SENDER), Err(Errno::EACCES));
+    end_desk(&rt, desk, 1);
+}
+
+#[test]
+fn a_set_is_refused_by_the_first_cause(rt: HostRuntime) {
+    let mut desk = desk_with_shared_queue(&rt, rt.alloc());
+    let table = [
+        (64, STRANGER, 70_000, Err(Errno::EINVAL)),
+        (0, STRANGER, 70_000, Err(Errno::EPERM)),
+        (0, STRANGER, 16_384, Err(Errno::EPERM)),
+        (0, MEMBER, 1, Err(Errno::EPERM)),
+        (0, SENDER, 70_000, Err(Errno::EINVAL)),
+        (0, SENDER, 65_537, Err(Errno::EINVAL)),
+        (0, SENDER, 65_536, Err(Errno::EPERM)),
+        (0, SENDER, 16_385, Err(Errno::EPERM)),
+        (0, SENDER, 16_384, Ok(())),
+        (0, SENDER, 2, Ok(())),
+        (0, SENDER, 9, Err(Errno::EPERM)),
+        (0, USER_ZERO, 70_000, Err(Errno::EINVAL)),
+        (0, USER_ZERO, 65_537, Err(Errno::EINVAL)),
+        (0, USER_ZERO, 65_536, Ok(())),
+        (0, SENDER, 65_536, Ok(())),
+    ];
+    for (id, cred, qbytes, done) in table {
+        let to = limited_to(qbytes);
+        let answer = set_as(&rt, &mut desk, id, cred, to);
+        assert_eq!(rt; answer, done, "{cred:?} {qbytes}");
+    }
+    end_desk(&rt, desk, 0);
+}
+
+#[test]
+fn a_lower_limit_removes_nothing(rt: HostRuntime) {
+    let mut desk = desk_with_queue(&rt, rt.alloc());
+    assert_sends(&rt, &mut desk, 1, b"abcd", Ok(0));
+    assert_sets(&rt, &mut desk, 0, SENDER, limited_to(2), Ok(()));
+    assert_looks(&rt, &desk, 0, SENDER, 0, Look::Full { freed: 1 });
+    assert_receives(&rt, &mut desk, 9, false, Ok(got(1, b"abcd", 0)));
+    assert_holds(&rt, &desk.out, b"abcd");
+    assert_looks(&rt, &desk, 0, SENDER, 2, Look::Fits);
+    assert_looks(&rt, &desk, 0, SENDER, 3, Look::Full { freed: 2 });
+    end_desk(&rt, desk, 0);
+}
+
+#[test]
+fn the_creator_controls_a_queue_that_has_another_owner(rt: HostRuntime) {
+    let mut desk = desk_with_queue(&rt, rt.alloc());
+    let to = SetTo {
+        uid: 1002,
+        ..limited_to(16_384)
+    };
+    assert_sets(&rt, &mut desk, 0, SENDER, to, Ok(()));
+    assert_sets(&rt, &mut desk, 0, STRANGER, to, Ok(()));
+    assert_sets(&rt, &mut desk, 0, SENDER, to, Ok(()));
+    assert_sets(&rt, &mut desk, 0, MEMBER, to, Err(Errno::EPERM));
+    assert_removes(&rt, &mut desk, 0, MEMBER, Err(Errno::EPERM));
+    assert_removes(&rt, &mut desk, 0, SENDER, Ok(0));
+    end_desk(&rt, desk, 0);
+}
+
+#[test]
+fn a_removal_discards_what_waits(rt: HostRuntime) {
+    let mut desk = desk_with_shared_queue(&rt, rt.alloc());
+    assert_sends(&rt, &mut desk, 1, b"text", Ok(0));
+    let sent = send(&rt, &mut desk, 1, &[b'x'; 130]);
+    assert_eq!(rt; sent, Ok(1));
+    for cred in [STRANGER, MEMBER] {
+        assert_eq!(rt;
+            remove_as(&rt, &mut desk, 0, cred),
+            Err(Errno::EPERM),
+            "{cred:?}"
+        );
+        assert_eq!(rt;
+            remove_as(&rt, &mut desk, 64, cred),
+            Err(Errno::EINVAL),
+            "{cred:?}"
+        );
+    }
+    assert_removes(&rt, &mut desk, 0, USER_ZERO, Ok(4));
+    assert_counts(&rt, &desk, (3, 1));
+    assert_eq!(rt; desk.slot.row(), None);
+    end_desk(&rt, desk, 0);
+}
+
+#[test]
+fn a_removed_queue_is_gone(rt: HostRuntime) {
+    let mut desk = desk_with_shared_queue(&rt, rt.alloc());
+    assert_removes(&rt, &mut desk, 0, USER_ZERO, Ok(0));
+    for cred in [SENDER, STRANGER, USER_ZERO] {
+        assert_eq!(rt;
+            remove_as(&rt, &mut desk, 0, cred),
+            Err(Errno::EINVAL),
+            "{cred:?}"
+        );
+        assert_eq!(rt;
+            set_as(&rt, &mut desk, 0, cred, limited_to(1)),
+            Err(Errno::EINVAL),
+            "{cred:?}"
+        );
+        assert_eq!(rt; desk.slot.stat(0, cred), Err(Errno::EINVAL), "{cred:?}");
+    }
+    assert_looks(&rt, &desk, 0, SENDER, 0, Look::Gone);
+    assert_receives(&rt, &mut desk, 100, false, Err(TakeRefused::Gone));
+
+    assert!(rt; desk.slot.install(64, 0, SENDER, 0o600, 0));
+    assert_looks(&rt, &desk, 0, SENDER, 0, Look::Gone);
+    assert_receives_as(
+        &rt,
+        &mut desk,
+        64,
+        SENDER,
+        Selector::Any,
+        Err(TakeRefused::NoMatch { arrived: 1 }),
+    );
+    assert_sends_as(&rt, &mut desk, 64, SENDER, 1, b"next", Ok(1));
+    assert_counts(&rt, &desk, (2, 1));
+    end_desk(&rt, desk, 1);
+}
