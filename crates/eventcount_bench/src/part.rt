@@ -31,20 +31,11 @@ pub(crate) struct Stepper<'a> {
     pub(crate) step: Step,
 }
 
-/// One side of a ping-pong: it waits for the one count, and advances the other.
+/// One side of a ping-pong over a count: it waits for each second value, from its first one on, and advances to the next.
 #[derive(Drop)]
-pub(crate) struct Game<'a> {
-    pub(crate) heard: Place<'a>,
-    pub(crate) said: Place<'a>,
-}
-
-impl<'a> Game<'a> {
-    /// The other side.
-    pub(crate) fn other(&mut self) -> Option<Game<'a>> {
-        let heard = self.said.split()?;
-        let said = self.heard.split()?;
-        Some(Game { heard, said })
-    }
+pub(crate) struct Player<'a> {
+    pub(crate) place: Place<'a>,
+    pub(crate) first: u64,
 }
 
 /// What a thread does.
@@ -52,8 +43,9 @@ impl<'a> Game<'a> {
 pub(crate) enum Part<'a> {
     Steps(Stepper<'a>),
     /// Plays all rounds.
-    Play(Game<'a>),
-    PlayLocked(&'a LockedCount, &'a LockedCount),
+    Play(Player<'a>),
+    /// The same over a locked count, from this value on.
+    PlayLocked(&'a LockedCount, u64),
     /// Waits for the first advance.
     Sleep(Place<'a>),
     /// Advances after a second.
@@ -64,8 +56,8 @@ impl Part<'_> {
     fn act<R: Wait + Clock>(&mut self, rt: &R) {
         match self {
             Part::Steps(stepper) => step_often(rt, stepper),
-            Part::Play(game) => play(rt, game),
-            Part::PlayLocked(heard, said) => play_locked(rt, heard, said),
+            Part::Play(player) => play(rt, player),
+            Part::PlayLocked(count, first) => play_locked(rt, count, *first),
             Part::Sleep(place) => place.hear(rt, 1),
             Part::Rouse(place) => rouse(rt, place),
         }
@@ -99,18 +91,18 @@ fn read_often(place: &mut Place) {
     }
 }
 
-fn play(rt: &impl Wait, game: &mut Game) {
+fn play(rt: &impl Wait, player: &mut Player) {
     for round in 0..ROUNDS {
-        game.heard.hear(rt, round + 1);
-        game.said.advance();
-        game.said.wake(rt);
+        player.place.hear(rt, player.first.wrapping_add(2 * round));
+        player.place.advance();
+        player.place.wake(rt);
     }
 }
 
-fn play_locked(rt: &impl Wait, heard: &LockedCount, said: &LockedCount) {
+fn play_locked(rt: &impl Wait, count: &LockedCount, first: u64) {
     for round in 0..ROUNDS {
-        heard.await_at_least(rt, round + 1);
-        said.advance(rt);
+        count.await_at_least(rt, first.wrapping_add(2 * round));
+        count.advance(rt);
     }
 }
 

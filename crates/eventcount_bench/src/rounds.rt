@@ -1,7 +1,6 @@
-//! Waits that sleep: a ping-pong of two threads over two eventcounts, the same over two locked counts, and a wait of a
-//! second.
+//! Waits that sleep: a ping-pong of two threads over an eventcount, the same over a locked count, and a wait of a second.
 use crate::locked::LockedCount;
-use crate::part::{Game, Part, ROUNDS, time_of};
+use crate::part::{Part, Player, ROUNDS, time_of};
 use crate::place::Place;
 use bench_figures::{Time, show};
 use std::alloc::Global;
@@ -14,35 +13,36 @@ use sysv_eventcount::Eventcount;
 /// How often the two kinds of ping-pong are measured in turn.
 const REPEATS: u32 = 5;
 
-// The nanoseconds of all rounds over two eventcounts.
-fn over_places<R: Threads + Wait + Clock + CpuClock + Sync>(rt: &R, mut one: Game) -> Option<u64> {
-    let two = one.other()?;
-    time_of(rt, Time::Passed, &mut [Part::Play(one), Part::Play(two)])
-}
-
-fn over_counts<R: Threads + Wait + Clock + CpuClock + Sync>(rt: &R, alloc: Global) -> Option<u64> {
-    let Ok((ping, ping_seat)) = Eventcount::open(alloc, 1) else {
-        return None;
+// The nanoseconds of all rounds over an eventcount.
+fn over_places<R: Threads + Wait + Clock + CpuClock + Sync>(
+    rt: &R,
+    mut place: Place,
+) -> Option<u64> {
+    let other = Player {
+        place: place.split()?,
+        first: 1,
     };
-    let Ok((pong, pong_seat)) = Eventcount::open(alloc, 0) else {
-        return None;
-    };
-    let heard = Place::new(&ping, ping_seat);
-    let said = Place::new(&pong, pong_seat);
-    over_places(rt, Game { heard, said })
-}
-
-// The same over two locked counts.
-fn over_locks<R: Threads + Wait + Clock + CpuClock + Sync>(rt: &R) -> Option<u64> {
-    let ping = LockedCount::new(1);
-    let pong = LockedCount::new(0);
     time_of(
         rt,
         Time::Passed,
-        &mut [
-            Part::PlayLocked(&ping, &pong),
-            Part::PlayLocked(&pong, &ping),
-        ],
+        &mut [Part::Play(Player { place, first: 0 }), Part::Play(other)],
+    )
+}
+
+fn over_a_count<R: Threads + Wait + Clock + CpuClock + Sync>(rt: &R, alloc: Global) -> Option<u64> {
+    let Ok((count, seat)) = Eventcount::open(alloc, 0) else {
+        return None;
+    };
+    over_places(rt, Place::new(&count, seat))
+}
+
+// The same over a locked count.
+fn over_a_lock<R: Threads + Wait + Clock + CpuClock + Sync>(rt: &R) -> Option<u64> {
+    let count = LockedCount::new(0);
+    time_of(
+        rt,
+        Time::Passed,
+        &mut [Part::PlayLocked(&count, 0), Part::PlayLocked(&count, 1)],
     )
 }
 
@@ -70,8 +70,8 @@ fn show_rounds<R: Threads + Wait + Clock + CpuClock + Print + Sync>(
     rt: &R,
     alloc: Global,
 ) -> io::Result<()> {
-    let counts = over_counts(rt, alloc);
-    let locks = over_locks(rt);
+    let counts = over_a_count(rt, alloc);
+    let locks = over_a_lock(rt);
     show(rt, "ping-pong", "eventcounts", counts, ROUNDS, "ns a round")?;
     show(rt, "ping-pong", "locks", locks, ROUNDS, "ns a round")?;
     show(
