@@ -21,24 +21,33 @@ fn advance_three_times(count: &Eventcount, seat: &mut Seat) -> Option<[u64; 3]>
 fn an_eventcount_counts_advances(rt: HostRuntime) -> Result<(), Fail> {
     let (count, mut seat) = Eventcount::open(rt.alloc(), 0)?;
     assert_eq!(rt; advance_three_times(&count, &mut seat), Some([1, 2, 3]));
-    assert_eq!(rt; count.read(&mut seat), 3);
-    assert_eq!(rt; count.await_turns(&mut seat, 3, 10), Awaited::Reached(3));
-    assert_eq!(rt; count.await_turns(&mut seat, 4, 10), Awaited::Short(3));
-    assert_eq!(rt; count.await_at_least(&rt, &mut seat, 3), 3);
+    let three = count.await_turns(&mut seat, 3, 10);
+    let four = count.await_turns(&mut seat, 4, 10);
+    assert_eq!(rt; (three, four), (Awaited::Reached(3), Awaited::Short(3)));
+    let read = count.read(&mut seat);
+    assert_eq!(rt; (read, count.await_at_least(&rt, &mut seat, 3)), (3, 3));
     count.wake(&rt);
     Ok(())
+}
+
+// Advances by a seat that was split off, and answers what the other one sees before they are joined and after.
+fn advance_beside(count: &Eventcount, seat: &mut Seat) -> Option<(u64, Awaited, u64)>
+    requires { seat.old.counter ≡ count.now }
+{
+    let mut other = count.split(seat).ok()?;
+    count.advance(&mut other).ok()?;
+    let read = count.read(seat);
+    let awaited = count.await_turns(seat, 4, 1);
+    count.join(seat, other);
+    Some((read, awaited, count.read(seat)))
 }
 
 // A read that answers what its own seat has seen would be too low here.
 #[test]
 fn read_tells_own_knowledge_only(rt: HostRuntime) -> Result<(), Fail> {
     let (count, mut seat) = Eventcount::open(rt.alloc(), 3)?;
-    let mut other = count.split(&mut seat)?;
-    assert_eq!(rt; count.advance(&mut other)?, 4);
-    assert_eq!(rt; count.read(&mut seat), 4);
-    assert_eq!(rt; count.await_turns(&mut seat, 4, 1), Awaited::Reached(4));
-    count.join(&mut seat, other);
-    assert_eq!(rt; count.read(&mut seat), 4);
+    let seen = advance_beside(&count, &mut seat);
+    assert_eq!(rt; seen, Some((4, Awaited::Reached(4), 4)));
     Ok(())
 }
 

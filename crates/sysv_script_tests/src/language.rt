@@ -1,5 +1,6 @@
 //! What each line of a script does, and which lines are bad.
 use std::alloc::Global;
+use std::process::Abort;
 use std::test::Fail;
 use sysv_model::Watched;
 use sysv_script::{ScriptFault, run_script};
@@ -22,13 +23,25 @@ pub(crate) fn run(alloc: Global, script: &[u8]) -> Ending {
     Ending { written, end }
 }
 
-/// Runs `preset` and this line.
-fn run_after_preset(alloc: Global, line: &[u8]) -> Result<Ending, Fail> {
+/// A script ends so, and writes this.
+fn assert_runs(
+    rt: &(impl Abort + AllocGlobal),
+    script: &[u8],
+    end: Result<(), ScriptFault>,
+    written: &[u8],
+) {
+    let ending = run(rt.alloc(), script);
+    assert_eq!(rt; ending.end, end, "{script:?}");
+    assert!(rt; ending.written.as_slice() == written, "{script:?}");
+}
+
+/// `preset` and this line.
+fn after_preset(alloc: Global, line: &[u8]) -> Result<Vec<u8>, Fail> {
     let mut script = Vec::new(alloc);
     script.extend_from_slice(b"preset\n")?;
     script.extend_from_slice(line)?;
     script.push(b'\n')?;
-    Ok(run(alloc, script.as_slice()))
+    Ok(script)
 }
 
 /// A line that ends in this many letters.
@@ -146,25 +159,19 @@ const BAD: [&[u8]; 101] = [
 
 #[test]
 fn names_bad_lines(rt: HostRuntime) -> Result<(), Fail> {
+    let bad = b"line 2: bad\n".as_slice();
     for line in BAD.iter() {
-        let ending = run_after_preset(rt.alloc(), line)?;
-        assert_eq!(rt; ending.end, Err(ScriptFault::Line(2)), "{line:?}");
-        assert!(rt;
-            ending.written.as_slice() == b"line 2: bad\n".as_slice(),
-            "{line:?}"
-        );
+        let script = after_preset(rt.alloc(), line)?;
+        assert_runs(&rt, script.as_slice(), Err(ScriptFault::Line(2)), bad);
     }
-    let text = lettered(rt.alloc(), b"1 snd 0 1 NOWAIT =", 8257)?;
-    let comment = lettered(rt.alloc(), b"#", 9000)?;
-    for line in [text.as_slice(), comment.as_slice()] {
-        let ending = run_after_preset(rt.alloc(), line)?;
-        assert_eq!(rt; ending.end, Err(ScriptFault::Line(2)));
-        assert!(rt; ending.written.as_slice() == b"line 2: bad\n".as_slice());
+    for (start, letters) in [(b"1 snd 0 1 NOWAIT =".as_slice(), 8257), (b"#", 9000)] {
+        let line = lettered(rt.alloc(), start, letters)?;
+        let script = after_preset(rt.alloc(), line.as_slice())?;
+        assert_runs(&rt, script.as_slice(), Err(ScriptFault::Line(2)), bad);
     }
     let script = b"# one\n\n1 rcv 0 1 0 -\n#\nx\n1 rcv 0 1 0 -\n";
-    let ending = run(rt.alloc(), script);
-    assert_eq!(rt; ending.end, Err(ScriptFault::Line(5)));
-    assert!(rt; ending.written.as_slice() == b"1 rcv ! EINVAL\nline 5: bad\n".as_slice());
+    let written = b"1 rcv ! EINVAL\nline 5: bad\n";
+    assert_runs(&rt, script, Err(ScriptFault::Line(5)), written);
     Ok(())
 }
 
@@ -247,25 +254,19 @@ const ANSWERED: [(&[u8], &[u8]); 49] = [
 #[test]
 fn answers_calls(rt: HostRuntime) -> Result<(), Fail> {
     for (line, answer) in ANSWERED.iter() {
-        let ending = run_after_preset(rt.alloc(), line)?;
-        assert_eq!(rt; ending.end, Ok(()), "{line:?}");
-        assert!(rt; ending.written.as_slice() == *answer, "{line:?}");
+        let script = after_preset(rt.alloc(), line)?;
+        assert_runs(&rt, script.as_slice(), Ok(()), answer);
     }
-    for text in ["1 snd 0 1 NOWAIT =a\n", "1 snd 0 1 NOWAIT =a"] {
-        let ending = run(rt.alloc(), text.as_bytes());
-        assert_eq!(rt; ending.end, Ok(()));
-        assert!(rt; ending.written.as_slice() == b"1 snd ! EINVAL\n".as_slice());
+    for script in ["1 snd 0 1 NOWAIT =a\n", "1 snd 0 1 NOWAIT =a"] {
+        assert_runs(&rt, script.as_bytes(), Ok(()), b"1 snd ! EINVAL\n");
     }
-    let ending = run(rt.alloc(), b"16 rcv 0 1 0 NOWAIT");
-    assert_eq!(rt; ending.end, Ok(()));
-    assert!(rt; ending.written.as_slice() == b"16 rcv ! EINVAL\n".as_slice());
+    assert_runs(&rt, b"16 rcv 0 1 0 NOWAIT", Ok(()), b"16 rcv ! EINVAL\n");
     let longest = lettered(rt.alloc(), b"1 snd 0 1 - =", 8256)?;
-    let ending = run_after_preset(rt.alloc(), longest.as_slice())?;
-    assert!(rt; ending.written.as_slice() == b"1 snd ! EINVAL\n".as_slice());
+    let script = after_preset(rt.alloc(), longest.as_slice())?;
+    assert_runs(&rt, script.as_slice(), Ok(()), b"1 snd ! EINVAL\n");
     let comment = lettered(rt.alloc(), b"#", 8999)?;
-    let ending = run_after_preset(rt.alloc(), comment.as_slice())?;
-    assert_eq!(rt; ending.end, Ok(()));
-    assert!(rt; ending.written.is_empty());
+    let script = after_preset(rt.alloc(), comment.as_slice())?;
+    assert_runs(&rt, script.as_slice(), Ok(()), b"");
     Ok(())
 }
 
@@ -284,9 +285,7 @@ const FULL_OUT: &[u8] = b"1 snd = 0
 
 #[test]
 fn keeps_the_limits_of_a_queue(rt: HostRuntime) -> Result<(), Fail> {
-    let ending = run(rt.alloc(), FULL_IN);
-    assert_eq!(rt; ending.end, Ok(()));
-    assert!(rt; ending.written.as_slice() == FULL_OUT);
+    assert_runs(&rt, FULL_IN, Ok(()), FULL_OUT);
     let mut script = Vec::from_slice(rt.alloc(), b"preset\n")?;
     let mut answers = Vec::new(rt.alloc());
     for _ in 0..256 {
@@ -295,9 +294,7 @@ fn keeps_the_limits_of_a_queue(rt: HostRuntime) -> Result<(), Fail> {
     }
     script.extend_from_slice(b"1 snd 0 1 NOWAIT =\n")?;
     answers.extend_from_slice(b"1 snd ! EAGAIN\n")?;
-    let ending = run(rt.alloc(), script.as_slice());
-    assert_eq!(rt; ending.end, Ok(()));
-    assert!(rt; ending.written.as_slice() == answers.as_slice());
+    assert_runs(&rt, script.as_slice(), Ok(()), answers.as_slice());
     Ok(())
 }
 
@@ -311,12 +308,12 @@ fn ends_behind_the_millionth_line(rt: HostRuntime) -> Result<(), Fail> {
         (b"\n\n".as_slice(), Err(ScriptFault::Bound)),
         (b"\nx\n".as_slice(), Err(ScriptFault::Bound)),
     ];
-    for (behind, end) in ends.iter() {
+    for (behind, end) in ends {
         let mut script = Vec::from_elem(rt.alloc(), b'\n', 999_999)?;
         script.extend_from_slice(last)?;
         script.extend_from_slice(behind)?;
         let ending = run(rt.alloc(), script.as_slice());
-        assert_eq!(rt; ending.end, *end, "{behind:?}");
+        assert_eq!(rt; ending.end, end, "{behind:?}");
         assert!(rt; ending.written.as_slice() == b"1 rcv ! EINVAL\n".as_slice());
     }
     Ok(())
@@ -334,8 +331,6 @@ fn gives_long_texts_back(rt: HostRuntime) -> Result<(), Fail> {
         }
         answers.push(b'\n')?;
     }
-    let ending = run(rt.alloc(), script.as_slice());
-    assert_eq!(rt; ending.end, Ok(()));
-    assert!(rt; ending.written.as_slice() == answers.as_slice());
+    assert_runs(&rt, script.as_slice(), Ok(()), answers.as_slice());
     Ok(())
 }

@@ -150,6 +150,19 @@ pub(crate) fn counts_of(served: &Served) -> (u32, u64, u64, u64) {
     )
 }
 
+/// A session ended so, with these counts, and these bytes are its answers.
+pub(crate) fn assert_served(
+    rt: &impl Abort,
+    served: &Served,
+    page: &Page,
+    end: End,
+    counts: (u32, u64, u64, u64),
+    answers: &[u8],
+) {
+    assert_eq!(rt; (served.end, counts_of(served)), (end, counts));
+    assert_eq!(rt; page.written(), answers);
+}
+
 /// Serves one session on this kernel. Memory is refused once at most, and then nothing was read or written.
 pub(crate) fn served_on(
     rt: &impl Abort,

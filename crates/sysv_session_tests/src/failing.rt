@@ -1,5 +1,7 @@
 //! Readers and writers that fail after each byte, and writers that cannot be flushed.
-use crate::ends::{ANSWER_ENDS, ANSWERS, Page, Pieces, REQUEST_ENDS, SESSION, counts_of, served};
+use crate::ends::{
+    ANSWER_ENDS, ANSWERS, Page, Pieces, REQUEST_ENDS, SESSION, assert_served, served,
+};
 use sysv_session::End;
 use sysv_wire::Fault;
 
@@ -11,8 +13,8 @@ fn the_reader_fails(rt: HostRuntime) {
         let mut page = Page::new();
         let told = served(&rt, rt.alloc(), &mut reader, &mut page);
         let whole = REQUEST_ENDS.iter().filter(|end| **end <= good).count();
-        assert_eq!(rt; told.end, End::Fault(Fault::Read), "{good}");
-        assert_eq!(rt; told.requests as usize, whole, "{good}");
+        let end = End::Fault(Fault::Read);
+        assert_eq!(rt; (told.end, told.requests as usize), (end, whole), "{good}");
         let answered = if whole == 0 {
             0
         } else {
@@ -28,9 +30,14 @@ fn the_reader_fails_at_the_end(rt: HostRuntime) {
     reader.good = SESSION.len();
     let mut page = Page::new();
     let told = served(&rt, rt.alloc(), &mut reader, &mut page);
-    assert_eq!(rt; told.end, End::Fault(Fault::Read));
-    assert_eq!(rt; counts_of(&told), (5, 1, 1, 0));
-    assert!(rt; page.written() == ANSWERS);
+    assert_served(
+        &rt,
+        &told,
+        &page,
+        End::Fault(Fault::Read),
+        (5, 1, 1, 0),
+        ANSWERS,
+    );
 }
 
 /// The requests and the messages taken, written and lost where the writer takes so many bytes.
@@ -55,9 +62,14 @@ fn the_writer_fails(rt: HostRuntime) {
                 page.stalls = stalls;
                 page.piece = piece;
                 let told = served(&rt, rt.alloc(), &mut reader, &mut page);
-                assert_eq!(rt; told.end, End::Write, "{room}");
-                assert_eq!(rt; counts_of(&told), told_at(room), "{room}");
-                assert!(rt; page.written() == &ANSWERS[..room.min(49)], "{room}");
+                assert_served(
+                    &rt,
+                    &told,
+                    &page,
+                    End::Write,
+                    told_at(room),
+                    &ANSWERS[..room.min(49)],
+                );
             }
         }
     }
@@ -77,9 +89,14 @@ fn the_writer_cannot_be_flushed(rt: HostRuntime) {
         let mut page = Page::new();
         page.flushes = flushes;
         let told = served(&rt, rt.alloc(), &mut reader, &mut page);
-        assert_eq!(rt; told.end, End::Write, "{flushes}");
-        assert_eq!(rt; counts_of(&told), counts[flushes], "{flushes}");
         let answered = ANSWER_ENDS[flushes];
-        assert!(rt; page.written() == &ANSWERS[..answered.min(49)], "{flushes}");
+        assert_served(
+            &rt,
+            &told,
+            &page,
+            End::Write,
+            counts[flushes],
+            &ANSWERS[..answered.min(49)],
+        );
     }
 }

@@ -2,7 +2,7 @@
 ghost use Rattle.std.specs.Prelude.{◌≡◌};
 ghost use Rattle.sysv_gated.specs.Seats.{AreOf};
 
-use crate::ends::{ANSWERS, Page, Pieces, SESSION, counts_of};
+use crate::ends::{ANSWERS, Page, Pieces, SESSION, assert_served};
 use std::alloc::Global;
 use std::process::Abort;
 use std::sync::Wait;
@@ -91,9 +91,7 @@ fn the_session_cut_after_each_byte(rt: HostRuntime) {
         let mut reader = Pieces::new(&SESSION[..cut], &SESSION[cut..], usize::MAX);
         let mut page = Page::new();
         let told = served(&rt, rt.alloc(), &mut reader, &mut page, 0);
-        assert_eq!(rt; told.end, End::Ended, "{cut}");
-        assert_eq!(rt; counts_of(&told), (5, 1, 1, 0), "{cut}");
-        assert!(rt; page.written() == ANSWERS, "{cut}");
+        assert_served(&rt, &told, &page, End::Ended, (5, 1, 1, 0), ANSWERS);
     }
 }
 
@@ -104,9 +102,7 @@ fn the_session_by_pieces(rt: HostRuntime) {
         let mut page = Page::new();
         page.piece = piece;
         let told = served(&rt, rt.alloc(), &mut reader, &mut page, 0);
-        assert_eq!(rt; told.end, End::Ended, "{piece}");
-        assert_eq!(rt; counts_of(&told), (5, 1, 1, 0), "{piece}");
-        assert!(rt; page.written() == ANSWERS, "{piece}");
+        assert_served(&rt, &told, &page, End::Ended, (5, 1, 1, 0), ANSWERS);
     }
 }
 

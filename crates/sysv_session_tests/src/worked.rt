@@ -1,5 +1,7 @@
 //! A session whose bytes are worked by hand, whole and cut short, and sessions that end early.
-use crate::ends::{ANSWER_ENDS, ANSWERS, Page, Pieces, REQUEST_ENDS, SESSION, counts_of, served};
+use crate::ends::{
+    ANSWER_ENDS, ANSWERS, Page, Pieces, REQUEST_ENDS, SESSION, assert_served, served,
+};
 use std::alloc::Global;
 use std::process::Abort;
 use sysv_session::End;
@@ -11,9 +13,7 @@ fn the_session_cut_after_each_byte(rt: HostRuntime) {
         let mut reader = Pieces::new(&SESSION[..cut], &SESSION[cut..], usize::MAX);
         let mut page = Page::new();
         let told = served(&rt, rt.alloc(), &mut reader, &mut page);
-        assert_eq!(rt; told.end, End::Ended, "{cut}");
-        assert_eq!(rt; counts_of(&told), (5, 1, 1, 0), "{cut}");
-        assert!(rt; page.written() == ANSWERS, "{cut}");
+        assert_served(&rt, &told, &page, End::Ended, (5, 1, 1, 0), ANSWERS);
     }
 }
 
@@ -24,9 +24,7 @@ fn the_session_byte_by_byte(rt: HostRuntime) {
         let mut page = Page::new();
         page.piece = piece;
         let told = served(&rt, rt.alloc(), &mut reader, &mut page);
-        assert_eq!(rt; told.end, End::Ended, "{piece}");
-        assert_eq!(rt; counts_of(&told), (5, 1, 1, 0), "{piece}");
-        assert!(rt; page.written() == ANSWERS, "{piece}");
+        assert_served(&rt, &told, &page, End::Ended, (5, 1, 1, 0), ANSWERS);
     }
 }
 
@@ -54,8 +52,7 @@ fn the_session_ended_after_each_byte(rt: HostRuntime) {
         } else {
             End::Fault(Fault::Truncated)
         };
-        assert_eq!(rt; told.end, end, "{cut}");
-        assert_eq!(rt; told.requests as usize, whole, "{cut}");
+        assert_eq!(rt; (told.end, told.requests as usize), (end, whole), "{cut}");
         let answered = if whole == 0 {
             0
         } else {
@@ -70,9 +67,14 @@ fn ten_bytes_into_the_send(rt: HostRuntime) {
     let mut reader = Pieces::new(&SESSION[..42], &[], usize::MAX);
     let mut page = Page::new();
     let told = served(&rt, rt.alloc(), &mut reader, &mut page);
-    assert_eq!(rt; told.end, End::Fault(Fault::Truncated));
-    assert_eq!(rt; counts_of(&told), (2, 0, 0, 0));
-    assert!(rt; page.written() == &ANSWERS[..18]);
+    assert_served(
+        &rt,
+        &told,
+        &page,
+        End::Fault(Fault::Truncated),
+        (2, 0, 0, 0),
+        &ANSWERS[..18],
+    );
 }
 
 /// A session of these bytes ends so, before any hello.
@@ -80,9 +82,7 @@ fn ends_unanswered(rt: &impl Abort, alloc: Global, bytes: &[u8], end: End) {
     let mut reader = Pieces::new(bytes, &[], usize::MAX);
     let mut page = Page::new();
     let told = served(rt, alloc, &mut reader, &mut page);
-    assert_eq!(rt; told.end, end);
-    assert_eq!(rt; counts_of(&told), (0, 0, 0, 0));
-    assert_eq!(rt; page.written().len(), 0);
+    assert_served(rt, &told, &page, end, (0, 0, 0, 0), b"");
     assert_eq!(rt; page.flush_count, 0);
 }
 
@@ -121,9 +121,7 @@ fn ends_after_hello(rt: &impl Abort, alloc: Global, bytes: &[u8], end: End) {
     let mut reader = Pieces::new(&SESSION[..18], bytes, usize::MAX);
     let mut page = Page::new();
     let told = served(rt, alloc, &mut reader, &mut page);
-    assert_eq!(rt; told.end, end);
-    assert_eq!(rt; counts_of(&told), (1, 0, 0, 0));
-    assert!(rt; page.written() == &ANSWERS[..7]);
+    assert_served(rt, &told, &page, end, (1, 0, 0, 0), &ANSWERS[..7]);
     assert_eq!(rt; page.flush_count, 1);
 }
 

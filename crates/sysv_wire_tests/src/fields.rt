@@ -35,6 +35,11 @@ fn told(text: &mut Body, bytes: &[u8; 96], len: u8) -> Result<Option<Reply>, Fau
     read_reply(&mut Watched::new(&mut reader), text)
 }
 
+/// Nothing, or a bad field.
+fn bad_field_unless(is_good: bool) -> Option<Fault> {
+    if is_good { None } else { Some(Fault::BadField) }
+}
+
 #[test]
 fn versions_and_operations_of_requests(rt: HostRuntime) {
     let mut text = open_body(&rt, rt.alloc());
@@ -57,14 +62,12 @@ fn versions_and_operations_of_replies(rt: HostRuntime) {
     for version in 0..=255u8 {
         for op in 0..=255u8 {
             let bytes = frame(3, version, op, 22);
-            let answer = told(&mut text, &bytes, 7);
-            if version != 1 {
-                assert_eq!(rt; answer, Err(Fault::BadField), "{version} {op}");
-            } else if op > 7 {
-                assert_eq!(rt; answer, Err(Fault::BadOp), "{op}");
+            let fault = if version == 1 && op > 7 {
+                Some(Fault::BadOp)
             } else {
-                assert!(rt; answer.is_ok(), "{op}");
-            }
+                bad_field_unless(version == 1)
+            };
+            assert_eq!(rt; told(&mut text, &bytes, 7).err(), fault, "{version} {op}");
         }
     }
 }
@@ -77,11 +80,8 @@ fn lengths_of_requests(rt: HostRuntime) {
         for length in 2..90u8 {
             let bytes = frame(length, 1, op, 0);
             let answer = asked(&mut text, &bytes, length.saturating_add(4));
-            if length == wanted || (op == 2 && length > wanted) {
-                assert!(rt; answer.is_ok(), "{op} {length}");
-            } else {
-                assert_eq!(rt; answer, Err(Fault::BadField), "{op} {length}");
-            }
+            let fault = bad_field_unless(length == wanted || (op == 2 && length > wanted));
+            assert_eq!(rt; answer.err(), fault, "{op} {length}");
         }
     }
 }
@@ -94,16 +94,20 @@ fn lengths_of_replies(rt: HostRuntime) {
         for length in 3..90u8 {
             let bytes = frame(length, 1, op, 0);
             let answer = told(&mut text, &bytes, length.saturating_add(4));
-            if length == wanted || (op == 3 && length > wanted) {
-                assert!(rt; answer.is_ok(), "{op} {length}");
-            } else {
-                assert_eq!(rt; answer, Err(Fault::BadField), "{op} {length}");
-            }
-            if length > 3 {
-                let bytes = frame(length, 1, op, 22);
-                let answer = told(&mut text, &bytes, length.saturating_add(4));
-                assert_eq!(rt; answer, Err(Fault::BadField), "{op} {length}");
-            }
+            let fault = bad_field_unless(length == wanted || (op == 3 && length > wanted));
+            assert_eq!(rt; answer.err(), fault, "{op} {length}");
+        }
+    }
+}
+
+#[test]
+fn lengths_of_refusals(rt: HostRuntime) {
+    let mut text = open_body(&rt, rt.alloc());
+    for op in 0..8u8 {
+        for length in 4..90u8 {
+            let bytes = frame(length, 1, op, 22);
+            let answer = told(&mut text, &bytes, length.saturating_add(4));
+            assert_eq!(rt; answer, Err(Fault::BadField), "{op} {length}");
         }
     }
 }
@@ -143,11 +147,8 @@ fn marks_of_rows(rt: HostRuntime) {
             let mut bytes = frame(length, 1, 7, 0);
             bytes[7] = mark;
             let answer = told(&mut text, &bytes, length.saturating_add(4));
-            if mark == wanted {
-                assert!(rt; answer.is_ok(), "{mark} {length}");
-            } else {
-                assert_eq!(rt; answer, Err(Fault::BadField), "{mark} {length}");
-            }
+            let fault = bad_field_unless(mark == wanted);
+            assert_eq!(rt; answer.err(), fault, "{mark} {length}");
         }
     }
 }
@@ -166,12 +167,8 @@ fn modes_of_replies(rt: HostRuntime) {
             row[21] = low;
             let one = told(&mut text, &attributes, 73);
             let two = told(&mut text, &row, 30);
-            if high < 2 {
-                assert!(rt; one.is_ok() && two.is_ok(), "{high} {low}");
-            } else {
-                assert_eq!(rt; one, Err(Fault::BadField), "{high} {low}");
-                assert_eq!(rt; two, Err(Fault::BadField), "{high} {low}");
-            }
+            let fault = bad_field_unless(high < 2);
+            assert_eq!(rt; (one.err(), two.err()), (fault, fault), "{high} {low}");
         }
     }
 }

@@ -59,12 +59,13 @@ fn reads_and_writes(rt: &impl Abort, alloc: Global, bytes: &[u8], asks: &[Ask], 
     let mut writer = Watched::new(&mut page);
     for ask in asks {
         let request = Request { ask: *ask };
-        assert_eq!(rt; read_request(&mut reader, &mut text), Ok(Some(request)));
-        assert_eq!(rt; write_request(&mut writer, &request, &text), Ok(()));
+        let read = read_request(&mut reader, &mut text);
+        let written = write_request(&mut writer, &request, &text);
+        assert_eq!(rt; (read, written), (Ok(Some(request)), Ok(())));
     }
-    assert_eq!(rt; read_request(&mut reader, &mut text), Ok(None));
-    assert!(rt; !reader.has_failed() && !writer.has_failed());
-    assert!(rt; page.written() == bytes);
+    let end = read_request(&mut reader, &mut text);
+    let failed = reader.has_failed() || writer.has_failed();
+    assert_eq!(rt; (end, failed, page.written()), (Ok(None), false, bytes));
 }
 
 /// Reads the replies one by one in pieces of a size, and writes each again.
@@ -90,9 +91,9 @@ fn reads_and_writes_replies(
             other => assert_eq!(rt; other, Ok(Some(*reply))),
         }
     }
-    assert_eq!(rt; read_reply(&mut reader, &mut text), Ok(None));
-    assert!(rt; !reader.has_failed() && !writer.has_failed());
-    assert!(rt; page.written() == bytes);
+    let end = read_reply(&mut reader, &mut text);
+    let failed = reader.has_failed() || writer.has_failed();
+    assert_eq!(rt; (end, failed, page.written()), (Ok(None), false, bytes));
 }
 
 #[test]

@@ -2,47 +2,76 @@
 use crate::ends::{Page, Pieces, open_body};
 use crate::frames::{ANSWERS, SESSION};
 use bitflags::Flags as Set;
-use sysv_model::{Flags, Watched};
+use std::process::Abort;
+use sysv_model::{Body, Flags, Watched};
 use sysv_wire::{
     Ask, Fault, Outcome, Reply, Request, WriteFault, read_reply, read_request, write_reply,
     write_request,
 };
 
+/// What the first request answers that is not one, where the reader fails after so many bytes, and whether it is then
+/// known to have failed.
+fn end_of_requests(text: &mut Body, good: usize) -> (Result<Option<Request>, Fault>, bool) {
+    let mut pieces = Pieces::new(SESSION, 5);
+    pieces.good = good;
+    let mut reader = Watched::new(&mut pieces);
+    let mut answer = Ok(None);
+    for _ in 0..5 {
+        answer = read_request(&mut reader, text);
+        if answer.is_err() || reader.has_failed() {
+            break;
+        }
+    }
+    (answer, reader.has_failed())
+}
+
+/// The same of replies.
+fn end_of_replies(text: &mut Body, good: usize) -> (Result<Option<Reply>, Fault>, bool) {
+    let mut pieces = Pieces::new(ANSWERS, 5);
+    pieces.good = good;
+    let mut reader = Watched::new(&mut pieces);
+    let mut answer = Ok(None);
+    for _ in 0..5 {
+        answer = read_reply(&mut reader, text);
+        if answer.is_err() || reader.has_failed() {
+            break;
+        }
+    }
+    (answer, reader.has_failed())
+}
+
 #[test]
 fn the_reader_fails(rt: HostRuntime) {
     let mut text = open_body(&rt, rt.alloc());
     for good in 0..SESSION.len() {
-        let mut pieces = Pieces::new(SESSION, 5);
-        pieces.good = good;
-        let mut reader = Watched::new(&mut pieces);
-        let mut answer = Ok(None);
-        for _ in 0..5 {
-            answer = read_request(&mut reader, &mut text);
-            assert_eq!(rt; reader.has_failed(), answer.is_err(), "{good}");
-            if answer.is_err() {
-                break;
-            }
-        }
-        assert_eq!(rt; answer, Err(Fault::Read), "{good}");
+        let end = end_of_requests(&mut text, good);
+        assert_eq!(rt; end, (Err(Fault::Read), true), "{good}");
     }
     for good in 0..ANSWERS.len() {
-        let mut pieces = Pieces::new(ANSWERS, 5);
-        pieces.good = good;
-        let mut reader = Watched::new(&mut pieces);
-        let mut answer = Ok(None);
-        for _ in 0..5 {
-            answer = read_reply(&mut reader, &mut text);
-            assert_eq!(rt; reader.has_failed(), answer.is_err(), "{good}");
-            if answer.is_err() {
-                break;
-            }
-        }
-        assert_eq!(rt; answer, Err(Fault::Read), "{good}");
+        let end = end_of_replies(&mut text, good);
+        assert_eq!(rt; end, (Err(Fault::Read), true), "{good}");
     }
 }
 
+/// How a write to this page ended, and whether the page is then known to have failed.
+type End = (Result<(), WriteFault>, bool);
+
+/// A write has failed once these bytes were taken.
+fn assert_fails_after(rt: &impl Abort, end: End, page: &Page, taken: &[u8]) {
+    let room = taken.len();
+    assert_eq!(rt; end, (Err(WriteFault), true), "{room}");
+    assert_eq!(rt; page.written(), taken);
+}
+
+/// How the write of a request ends.
+fn end_of_request(page: &mut Page, request: &Request, text: &Body) -> End {
+    let mut writer = Watched::new(page);
+    let end = write_request(&mut writer, request, text);
+    (end, writer.has_failed())
+}
+
 #[test]
-fn the_writer_fails(rt: HostRuntime) {
+fn a_writer_fails_within_a_request(rt: HostRuntime) {
     let mut text = open_body(&rt, rt.alloc());
     assert!(rt; text.push_piece(b"hi"));
     let request = Request {
@@ -52,34 +81,30 @@ fn the_writer_fails(rt: HostRuntime) {
             flags: Flags::from_bits_retain(0),
         },
     };
-    let spelling = &SESSION[32..56];
     for room in 0..24 {
-        for stalls in [false, true] {
-            for piece in [1, 512] {
-                let mut page = Page::new(piece, room, stalls);
-                let mut writer = Watched::new(&mut page);
-                let end = write_request(&mut writer, &request, &text);
-                assert_eq!(rt; end, Err(WriteFault), "{room}");
-                assert!(rt; writer.has_failed(), "{room}");
-                assert_eq!(rt; page.written().len(), room);
-                assert!(rt; spelling.starts_with(page.written()), "{room}");
-            }
+        for (piece, stalls) in [(1, false), (1, true), (512, false), (512, true)] {
+            let mut page = Page::new(piece, room, stalls);
+            let end = end_of_request(&mut page, &request, &text);
+            assert_fails_after(&rt, end, &page, &SESSION[32..32 + room]);
         }
     }
+}
+
+#[test]
+fn a_writer_fails_within_a_reply(rt: HostRuntime) {
+    let mut text = open_body(&rt, rt.alloc());
+    assert!(rt; text.push_piece(b"hi"));
+    assert!(rt; text.len() <= 8192);
     let reply = Reply {
         op: 3,
         result: Outcome::Rcv { mtype: 5 },
     };
-    assert!(rt; text.len() <= 8192);
-    let spelling = &ANSWERS[25..42];
     for room in 0..17 {
         let mut page = Page::new(3, room, false);
         let mut writer = Watched::new(&mut page);
         let end = write_reply(&mut writer, &reply, &text);
-        assert_eq!(rt; end, Err(WriteFault), "{room}");
-        assert!(rt; writer.has_failed(), "{room}");
-        assert_eq!(rt; page.written().len(), room);
-        assert!(rt; spelling.starts_with(page.written()), "{room}");
+        let end = (end, writer.has_failed());
+        assert_fails_after(&rt, end, &page, &ANSWERS[25..25 + room]);
     }
 }
 

@@ -1,6 +1,6 @@
 //! What a command line asks for.
 ghost use Rattle.std.specs.Prelude.{IfOk, OnOk};
-ghost use Rattle.sysvmsg.specs.Asked.{HasLimits, IsWithinLimits};
+ghost use Rattle.sysvmsg.specs.Asked.{AreBlocks, AreWorkers, HasLimits, IsWithinLimits};
 ghost use Rattle.sysv_clients.specs.Run.{HasShortText};
 
 use crate::commands::command;
@@ -127,24 +127,44 @@ fn server<'a>(words: &ArgMatches<'a>) -> Result<Serving<'a>, Bad>
     let Some(path) = words.get_str("path") else {
         return Err(NO_COMMAND);
     };
-    let blocks = number(words, "blocks", 1024)?;
-    if !(MIN_BLOCKS..=MAX_BLOCKS).contains(&blocks) {
-        return Err(BAD_BLOCKS);
-    }
-    let workers = number(words, "workers", 4)?;
-    if !(1..=MAX_WORKERS).contains(&workers) {
-        return Err(BAD_WORKERS);
-    }
-    let sessions = match words.get_str("sessions") {
-        Some(word) => u64::read(word.as_bytes()).ok_or(BAD_SESSIONS)?,
-        None => 0,
-    };
     Ok(Serving {
         path,
-        blocks,
-        workers,
-        sessions,
+        blocks: blocks_of(words)?,
+        workers: workers_of(words)?,
+        sessions: sessions_of(words)?,
     })
+}
+
+/// The blocks of a pool.
+fn blocks_of(words: &ArgMatches<'_>) -> Result<u32, Bad>
+    ensures { IfOk result AreBlocks }
+{
+    let blocks = number(words, "blocks", 1024)?;
+    if (MIN_BLOCKS..=MAX_BLOCKS).contains(&blocks) {
+        Ok(blocks)
+    } else {
+        Err(BAD_BLOCKS)
+    }
+}
+
+/// How many workers serve.
+fn workers_of(words: &ArgMatches<'_>) -> Result<u32, Bad>
+    ensures { IfOk result AreWorkers }
+{
+    let workers = number(words, "workers", 4)?;
+    if (1..=MAX_WORKERS).contains(&workers) {
+        Ok(workers)
+    } else {
+        Err(BAD_WORKERS)
+    }
+}
+
+/// After how many sessions a server ends.
+fn sessions_of(words: &ArgMatches<'_>) -> Result<u64, Bad> {
+    match words.get_str("sessions") {
+        Some(word) => u64::read(word.as_bytes()).ok_or(BAD_SESSIONS),
+        None => Ok(0),
+    }
 }
 
 /// What an `ipcrm` asks for.

@@ -211,17 +211,15 @@ fn argument_of<'a>(alloc: Global, given: Argument) -> Arg<'a> {
     let (id, form, help) = given;
     let argument = Arg::new(alloc, id).help(help);
     match form {
-        Form::Word(name) => argument
-            .value_name(name)
-            .required(true)
-            .action(ArgAction::Set),
-        Form::Value(name) => argument.value_name(name).action(ArgAction::Set).long(id),
-        Form::Letter(letter, name) => argument
-            .value_name(name)
-            .action(ArgAction::Set)
-            .short(letter),
+        Form::Word(name) => valued(argument, name).required(true),
+        Form::Value(name) => valued(argument, name).long(id),
+        Form::Letter(letter, name) => valued(argument, name).short(letter),
         Form::Flag => argument.action(ArgAction::SetTrue).long(id),
     }
+}
+
+fn valued<'a>(argument: Arg<'a>, name: &'static str) -> Arg<'a> {
+    argument.value_name(name).action(ArgAction::Set)
 }
 
 fn group_of<'a>(alloc: Global, either: Either) -> Result<ArgGroup<'a>, AllocError> {

@@ -17,6 +17,13 @@ use sysv_eventcount::{Awaited, Eventcount, Seat, Sequencer};
 /// What each of the threads does so many times.
 const TIMES: u64 = 100;
 
+/// A thread's seats, at two objects or two at one.
+#[derive(Drop)]
+struct Pair {
+    one: Seat,
+    two: Seat,
+}
+
 // Draws some tickets with a seat, and gives them beside it.
 fn draw(alloc: Global, turns: &Sequencer, mut seat: Seat) -> Option<(Seat, Vec<u64>)>
     requires { seat.counter ≡ turns.now }
@@ -122,57 +129,71 @@ impl Exclusion {
         Some(())
     }
 
-    fn enter_often(&self, rt: &impl Wait, mut drawing: Seat, mut serving: Seat) -> Option<()>
-        requires drawing { drawing.counter ≡ self.now.turns }
-        requires serving { serving.counter ≡ self.now.served }
+    fn enter_often(&self, rt: &impl Wait, mut seats: Pair) -> Option<()>
+        requires drawing { seats.one.counter ≡ self.now.turns }
+        requires serving { seats.two.counter ≡ self.now.served }
     {
         for _ in 0..TIMES {
-            self.enter(rt, &mut drawing, &mut serving)?;
+            self.enter(rt, &mut seats.one, &mut seats.two)?;
         }
         Some(())
     }
 
-    fn enter_by_two<R: Threads + Wait + Sync>(
-        &self,
-        rt: &R,
-        t1: Seat,
-        s1: Seat,
-        t2: Seat,
-        s2: Seat,
-    ) -> (Option<()>, Option<()>)
-        requires one { (t1.counter ≡ self.now.turns) × (s1.counter ≡ self.now.served) }
-        requires two { (t2.counter ≡ self.now.turns) × (s2.counter ≡ self.now.served) }
+    // The seats of one more thread.
+    fn split(&self, seats: &mut Pair) -> Option<Pair>
+        requires drawing { seats.old.one.counter ≡ self.now.turns }
+        requires serving { seats.old.two.counter ≡ self.now.served }
+        ensures new { IfSome result (λ new. (new.one.counter ≡ self.now.turns) × (new.two.counter ≡ self.now.served)) }
+        ensures drawing { seats.new.one.counter ≡ seats.old.one.counter }
+        ensures serving { seats.new.two.counter ≡ seats.old.two.counter }
     {
-        join(
+        let one = self.turns.split(&mut seats.one).ok()?;
+        let two = self.served.split(&mut seats.two).ok()?;
+        Some(Pair { one, two })
+    }
+
+    fn enter_by_two<R: Threads + Wait + Sync>(&self, rt: &R, mut seats: Pair) -> Option<()>
+        requires drawing { seats.one.counter ≡ self.now.turns }
+        requires serving { seats.two.counter ≡ self.now.served }
+    {
+        let others = self.split(&mut seats)?;
+        let (first, second) = join(
             rt,
-            || self.enter_often(rt, t1, s1),
-            || self.enter_often(rt, t2, s2),
-        )
+            || self.enter_often(rt, seats),
+            || self.enter_often(rt, others),
+        );
+        first.and(second)
+    }
+
+    fn enter_by_four<R: Threads + Wait + Sync>(&self, rt: &R, mut seats: Pair) -> Option<()>
+        requires drawing { seats.one.counter ≡ self.now.turns }
+        requires serving { seats.two.counter ≡ self.now.served }
+    {
+        let others = self.split(&mut seats)?;
+        let (first, second) = join(
+            rt,
+            || -> Option<()>
+                requires { IsSync R.row × (seats.one.counter ≡ self.now.turns) × (seats.two.counter ≡ self.now.served) }
+            { self.enter_by_two(rt, seats) },
+            || -> Option<()>
+                requires { IsSync R.row × (others.one.counter ≡ self.now.turns) × (others.two.counter ≡ self.now.served) }
+            { self.enter_by_two(rt, others) },
+        );
+        first.and(second)
     }
 }
 
 #[test]
 fn one_thread_at_a_time_is_in_the_section(rt: HostRuntime) -> Result<(), Fail> {
-    let (turns, mut t1) = Sequencer::open(rt.alloc(), 0)?;
-    let (served, mut s1) = Eventcount::open(rt.alloc(), 0)?;
-    let t2 = turns.split(&mut t1)?;
-    let t3 = turns.split(&mut t1)?;
-    let t4 = turns.split(&mut t1)?;
-    let s2 = served.split(&mut s1)?;
-    let s3 = served.split(&mut s1)?;
-    let s4 = served.split(&mut s1)?;
+    let (turns, one) = Sequencer::open(rt.alloc(), 0)?;
+    let (served, two) = Eventcount::open(rt.alloc(), 0)?;
     let all = Exclusion {
         turns,
         served,
         total: AtomicU64::new(0),
     };
-    let done = join(
-        &rt,
-        || all.enter_by_two(&rt, t1, s1, t2, s2),
-        || all.enter_by_two(&rt, t3, s3, t4, s4),
-    );
-    assert!(rt; done == ((Some(()), Some(())), (Some(()), Some(()))));
-    assert_eq!(rt; all.total.load(SeqCst), 400);
+    let done = all.enter_by_four(&rt, Pair { one, two });
+    assert_eq!(rt; (done, all.total.load(SeqCst)), (Some(()), 400));
     Ok(())
 }
 
@@ -198,15 +219,11 @@ fn wait_for(rt: &impl Wait, count: &Eventcount, mut seat: Seat, goal: u64) -> u6
 }
 
 // Waits for two goals, each in a thread of its own.
-fn wait_for_both<R: Threads + Wait + Sync>(
-    rt: &R,
-    count: &Eventcount,
-    one: Seat,
-    two: Seat,
-) -> (u64, u64)
-    requires one { one.counter ≡ count.now }
-    requires two { two.counter ≡ count.now }
+fn wait_for_both<R: Threads + Wait + Sync>(rt: &R, count: &Eventcount, seats: Pair) -> (u64, u64)
+    requires one { seats.one.counter ≡ count.now }
+    requires two { seats.two.counter ≡ count.now }
 {
+    let Pair { one, two } = seats;
     join(
         rt,
         || wait_for(rt, count, one, 1),
@@ -218,32 +235,61 @@ fn wait_for_both<R: Threads + Wait + Sync>(
 fn wait_and_advance<R: Threads + Wait + Clock + Sync>(
     rt: &R,
     count: &Eventcount,
-    waiting: Seat,
-    advancing: Seat,
+    seats: Pair,
 ) -> (u64, bool)
-    requires waiting { waiting.counter ≡ count.now }
-    requires advancing { advancing.counter ≡ count.now }
+    requires waiting { seats.one.counter ≡ count.now }
+    requires advancing { seats.two.counter ≡ count.now }
 {
+    let Pair { one, two } = seats;
     join(
         rt,
-        || wait_for(rt, count, waiting, 3),
-        || advance_often(rt, count, advancing, 3),
+        || wait_for(rt, count, one, 3),
+        || advance_often(rt, count, two, 3),
     )
+}
+
+// The seats of one more thread at two eventcounts.
+fn split_both(first: &Eventcount, second: &Eventcount, seats: &mut Pair) -> Option<Pair>
+    requires one { seats.old.one.counter ≡ first.now }
+    requires two { seats.old.two.counter ≡ second.now }
+    ensures new { IfSome result (λ new. (new.one.counter ≡ first.now) × (new.two.counter ≡ second.now)) }
+    ensures one { seats.new.one.counter ≡ seats.old.one.counter }
+    ensures two { seats.new.two.counter ≡ seats.old.two.counter }
+{
+    let one = first.split(&mut seats.one).ok()?;
+    let two = second.split(&mut seats.two).ok()?;
+    Some(Pair { one, two })
+}
+
+// What the waits for 1, 2 and 3 answer while a fourth thread advances three times, and whether it could.
+fn wait_by_three<R: Threads + Wait + Clock + Sync>(
+    rt: &R,
+    count: &Eventcount,
+    mut seats: Pair,
+) -> Option<((u64, u64), (u64, bool))>
+    requires one { seats.one.counter ≡ count.now }
+    requires two { seats.two.counter ≡ count.now }
+{
+    let others = split_both(count, count, &mut seats)?;
+    Some(join(
+        rt,
+        || -> (u64, u64)
+            requires { IsSync R.row × (seats.one.counter ≡ count.now) × (seats.two.counter ≡ count.now) }
+        { wait_for_both(rt, count, seats) },
+        || -> (u64, bool)
+            requires { IsSync R.row × (others.one.counter ≡ count.now) × (others.two.counter ≡ count.now) }
+        { wait_and_advance(rt, count, others) },
+    ))
 }
 
 #[test]
 fn three_waiters_are_woken_at_their_goals(rt: HostRuntime) -> Result<(), Fail> {
-    let (count, mut seat) = Eventcount::open(rt.alloc(), 0)?;
-    let first = count.split(&mut seat)?;
-    let second = count.split(&mut seat)?;
-    let third = count.split(&mut seat)?;
-    let ((one, two), (three, advanced)) = join(
-        &rt,
-        || wait_for_both(&rt, &count, first, second),
-        || wait_and_advance(&rt, &count, third, seat),
-    );
-    assert!(rt; advanced && (1..4).contains(&one) && (2..4).contains(&two));
-    assert_eq!(rt; three, 3);
+    let (count, mut one) = Eventcount::open(rt.alloc(), 0)?;
+    let two = count.split(&mut one)?;
+    let answers = wait_by_three(&rt, &count, Pair { one, two });
+    let ((one, two), last) = answers.ok_or("each seat splits")?;
+    assert!(rt; (1..4).contains(&one) && (2..4).contains(&two));
+    assert_eq!(rt; last, (3, true));
     Ok(())
 }
 
@@ -254,16 +300,15 @@ const TRIES: u64 = 100;
 fn advance_when_asked(
     rt: &impl Wait,
     asked: &Eventcount,
-    mut hearing: Seat,
     count: &Eventcount,
-    mut seat: Seat,
+    mut seats: Pair,
 ) -> bool
-    requires hearing { hearing.counter ≡ asked.now }
-    requires seat { seat.counter ≡ count.now }
+    requires hearing { seats.one.counter ≡ asked.now }
+    requires seat { seats.two.counter ≡ count.now }
 {
     for tries in 0..TRIES {
-        asked.await_at_least(rt, &mut hearing, tries + 1);
-        if !advance_ten_times(count, &mut seat) {
+        asked.await_at_least(rt, &mut seats.one, tries + 1);
+        if !advance_ten_times(count, &mut seats.two) {
             return false;
         }
     }
@@ -305,34 +350,45 @@ fn ask_and_see(
 fn see_ten_when_asking(
     rt: &impl Wait,
     asked: &Eventcount,
-    mut asking: Seat,
     count: &Eventcount,
-    mut seat: Seat,
+    mut seats: Pair,
 ) -> u64
-    requires asking { asking.counter ≡ asked.now }
-    requires seat { seat.counter ≡ count.now }
+    requires asking { seats.one.counter ≡ asked.now }
+    requires seat { seats.two.counter ≡ count.now }
 {
     let mut seen = 0;
     for tries in 0..TRIES {
         let goal = 10 * (tries + 1);
-        let reached = ask_and_see(rt, asked, &mut asking, count, &mut seat, goal);
+        let reached = ask_and_see(rt, asked, &mut seats.one, count, &mut seats.two, goal);
         seen += u64::from(reached);
     }
     seen
 }
 
+// One thread asks and the other advances.
+fn ask_and_advance<R: Threads + Wait + Sync>(
+    rt: &R,
+    asked: &Eventcount,
+    count: &Eventcount,
+    mut seats: Pair,
+) -> Option<(u64, bool)>
+    requires one { seats.one.counter ≡ asked.now }
+    requires two { seats.two.counter ≡ count.now }
+{
+    let others = split_both(asked, count, &mut seats)?;
+    Some(join(
+        rt,
+        || see_ten_when_asking(rt, asked, count, seats),
+        || advance_when_asked(rt, asked, count, others),
+    ))
+}
+
 #[test]
 fn turns_see_what_another_thread_advances(rt: HostRuntime) -> Result<(), Fail> {
-    let (asked, mut asking) = Eventcount::open(rt.alloc(), 0)?;
-    let (count, mut seat) = Eventcount::open(rt.alloc(), 0)?;
-    let hearing = asked.split(&mut asking)?;
-    let other_seat = count.split(&mut seat)?;
-    let both = join(
-        &rt,
-        || see_ten_when_asking(&rt, &asked, asking, &count, seat),
-        || advance_when_asked(&rt, &asked, hearing, &count, other_seat),
-    );
-    assert_eq!(rt; both, (TRIES, true));
+    let (asked, one) = Eventcount::open(rt.alloc(), 0)?;
+    let (count, two) = Eventcount::open(rt.alloc(), 0)?;
+    let both = ask_and_advance(&rt, &asked, &count, Pair { one, two });
+    assert_eq!(rt; both, Some((TRIES, true)));
     Ok(())
 }
 
@@ -341,20 +397,14 @@ const ROUNDS: u64 = 2000;
 
 // Plays all rounds: waits for the one count, and advances the other. In every hundredth round it pauses before, so that
 // the other side has gone to sleep.
-fn play<R: Wait + Clock>(
-    rt: &R,
-    hear: &Eventcount,
-    mut hearing: Seat,
-    say: &Eventcount,
-    mut saying: Seat,
-) -> bool
-    requires hearing { hearing.counter ≡ hear.now }
-    requires saying { saying.counter ≡ say.now }
+fn play<R: Wait + Clock>(rt: &R, hear: &Eventcount, say: &Eventcount, mut seats: Pair) -> bool
+    requires hearing { seats.one.counter ≡ hear.now }
+    requires saying { seats.two.counter ≡ say.now }
 {
     for round in 0..ROUNDS {
-        hear.await_at_least(rt, &mut hearing, round + 1);
+        hear.await_at_least(rt, &mut seats.one, round + 1);
         pause_at(rt, round);
-        if say.advance(&mut saying).is_err() {
+        if say.advance(&mut seats.two).is_err() {
             return false;
         }
         say.wake(rt);
@@ -368,18 +418,31 @@ fn pause_at(rt: &impl Clock, round: u64) {
     }
 }
 
+// Both sides.
+fn play_both<R: Threads + Wait + Clock + Sync>(
+    rt: &R,
+    ping: &Eventcount,
+    pong: &Eventcount,
+    mut seats: Pair,
+) -> Option<(bool, bool)>
+    requires one { seats.one.counter ≡ ping.now }
+    requires two { seats.two.counter ≡ pong.now }
+{
+    let Pair { one, two } = split_both(ping, pong, &mut seats)?;
+    let swapped = Pair { one: two, two: one };
+    Some(join(
+        rt,
+        || play(rt, ping, pong, seats),
+        || play(rt, pong, ping, swapped),
+    ))
+}
+
 // Each side sleeps and is woken over and over.
 #[test]
 fn two_threads_wake_each_other(rt: HostRuntime) -> Result<(), Fail> {
-    let (ping, mut ping_one) = Eventcount::open(rt.alloc(), 1)?;
-    let (pong, mut pong_one) = Eventcount::open(rt.alloc(), 0)?;
-    let ping_two = ping.split(&mut ping_one)?;
-    let pong_two = pong.split(&mut pong_one)?;
-    let both = join(
-        &rt,
-        || play(&rt, &ping, ping_one, &pong, pong_one),
-        || play(&rt, &pong, pong_two, &ping, ping_two),
-    );
-    assert_eq!(rt; both, (true, true));
+    let (ping, one) = Eventcount::open(rt.alloc(), 1)?;
+    let (pong, two) = Eventcount::open(rt.alloc(), 0)?;
+    let both = play_both(&rt, &ping, &pong, Pair { one, two });
+    assert_eq!(rt; both, Some((true, true)));
     Ok(())
 }
