@@ -30,16 +30,17 @@ fn an_eventcount_counts_advances(rt: HostRuntime) -> Result<(), Fail> {
     Ok(())
 }
 
-// Advances by a seat that was split off, and answers what the other one sees before they are joined and after.
-fn advance_beside(count: &Eventcount, seat: &mut Seat) -> Option<(u64, Awaited, u64)>
+// Advances by a seat that was split off, and answers what that gave and what the other one sees before they are joined
+// and after.
+fn advance_beside(count: &Eventcount, seat: &mut Seat) -> Option<(u64, u64, Awaited, u64)>
     requires { seat.old.counter ≡ count.now }
 {
     let mut other = count.split(seat).ok()?;
-    count.advance(&mut other).ok()?;
+    let advanced = count.advance(&mut other).ok()?;
     let read = count.read(seat);
     let awaited = count.await_turns(seat, 4, 1);
     count.join(seat, other);
-    Some((read, awaited, count.read(seat)))
+    Some((advanced, read, awaited, count.read(seat)))
 }
 
 // A read that answers what its own seat has seen would be too low here.
@@ -47,7 +48,7 @@ fn advance_beside(count: &Eventcount, seat: &mut Seat) -> Option<(u64, Awaited, 
 fn read_tells_own_knowledge_only(rt: HostRuntime) -> Result<(), Fail> {
     let (count, mut seat) = Eventcount::open(rt.alloc(), 3)?;
     let seen = advance_beside(&count, &mut seat);
-    assert_eq!(rt; seen, Some((4, Awaited::Reached(4), 4)));
+    assert_eq!(rt; seen, Some((4, 4, Awaited::Reached(4), 4)));
     Ok(())
 }
 
