@@ -140,6 +140,23 @@ fn opening_answers_or_lacks_memory(rt: HostRuntime) {
     }
 }
 
+// A gate is opened and closed: not every opening lacks memory.
+#[test]
+fn always_no_memory(rt: HostRuntime) -> Result<(), Fail> {
+    let (gate, seat) = opened(&rt, 0).ok_or("no memory")?;
+    assert_is(&rt, gate.close(seat).turns, 0);
+    Ok(())
+}
+
+// A lone try has its turn: not every try is busy.
+#[test]
+fn try_call_always_busy(rt: HostRuntime) -> Result<(), Fail> {
+    let (gate, mut seat) = opened(&rt, 0).ok_or("no memory")?;
+    let reply = gate.try_call(&mut seat, 3).ok();
+    assert_is(&rt, (reply, gate.close(seat).turns), (Some(0), 1));
+    Ok(())
+}
+
 /// A slip that can be neither dropped nor copied.
 struct Slip {
     number: u32,
@@ -188,18 +205,20 @@ fn what_cannot_be_dropped_goes_through(rt: HostRuntime) {
                 }
             }
             let closing = gate.close(seat);
-            spend(&rt, closing.object);
-            spend(&rt, closing.rest);
+            assert_is(&rt, number_in(closing.object), 2);
+            assert_is(&rt, number_in(closing.rest), 0);
         }
         Err(OpenRefused::NoMemory(drawer) | OpenRefused::BadStart(drawer)) => {
-            spend(&rt, Some(drawer));
+            assert_is(&rt, number_in(Some(drawer)), 1);
         }
     }
 }
 
-fn spend(rt: &impl Abort, drawer: Option<Drawer>) {
-    if let Some(Drawer { kept }) = drawer {
-        assert!(rt; number_of(kept) > 0);
+// Spends the slip that a drawer keeps: its number, or 0 where there is no drawer.
+fn number_in(drawer: Option<Drawer>) -> u32 {
+    match drawer {
+        Some(Drawer { kept }) => number_of(kept),
+        None => 0,
     }
 }
 

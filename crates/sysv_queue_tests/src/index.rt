@@ -209,13 +209,23 @@ fn entries_come_and_go(rt: HostRuntime) {
     index.push(first);
     index.push(second);
     assert_eq!(rt; index.len(), 2);
-    assert_selects(&rt, &index, Selector::Any, Some(first.numbered()));
-    assert_selects(&rt, &index, Selector::UpTo(5), Some(second.numbered()));
+    let (tenth, twelfth) = (
+        Numbered {
+            number: 10,
+            place: 3,
+        },
+        Numbered {
+            number: 12,
+            place: 0,
+        },
+    );
+    assert_selects(&rt, &index, Selector::Any, Some(tenth));
+    assert_selects(&rt, &index, Selector::UpTo(5), Some(twelfth));
     assert_selects(&rt, &index, Selector::UpTo(1), None);
-    assert_selects(&rt, &index, Selector::Exactly(5), Some(first.numbered()));
+    assert_selects(&rt, &index, Selector::Exactly(5), Some(tenth));
     assert_selects(&rt, &index, Selector::Exactly(4), None);
     index.remove(10);
-    assert_selects(&rt, &index, Selector::Any, Some(second.numbered()));
+    assert_selects(&rt, &index, Selector::Any, Some(twelfth));
     assert_selects(&rt, &index, Selector::Exactly(5), None);
     index.remove(11);
     assert_eq!(rt; index.len(), 1);
