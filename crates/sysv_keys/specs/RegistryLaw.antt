@@ -1,7 +1,7 @@
 -- The law that every history of legal replies obeys (this profile's words for what POSIX.1-2017, msgget
 -- and 2.7.1 IPC General Description, say of keys and identifiers): no identifier is made twice, a key
--- has one queue at most, a new queue takes the least vacant slot, and an identifier that was forgotten
--- never comes back.
+-- that is not private has one queue at most, a new queue takes the least vacant slot, and an identifier
+-- that was forgotten never comes back.
 use Rattle.std.specs.Prelude.{◌≡◌, ◌≢◌, ℕ, ℤ, ◌+◌, ◌<◌, ◌≤◌, ◌⊎◌, Bool, true, false, ◌∷◌, ◌++◌, pos, count_by}
 use Rattle.sysv_model.specs.declared.limits.TheConstants.{IPC_PRIVATE}
 use Rattle.sysv_model.specs.Registry.{RegistryCall, RegistryReply, RegistryEntry, RegistryHistory, Settle, Forget, Found, Made, Changed, settled}

@@ -26,8 +26,8 @@ pub enum Begun {
     Found { id: i32, settled: u64 },
     /// A new identifier, whose queue is still to be installed.
     Made { id: i32 },
-    /// Another call is making the queue of the key; it is settled or forgotten once the settled count
-    /// is above this one.
+    /// Another call is making the queue of the key; before the settled count is above this one it is
+    /// neither settled nor forgotten.
     Busy { settled: u64 },
     /// `ENOENT`: the key has no queue and none is to be made. `ENOSPC`: no slot is vacant.
     Refused(Errno),

@@ -70,7 +70,7 @@ pub struct SetTo {
     pub gid: u32,
     /// The mode, of which the low nine bits count.
     pub mode: u32,
-    /// The most bytes that may wait, 0 to 65,536.
+    /// The most bytes that may wait; above 65,536 it is refused.
     pub qbytes: u32,
 }
 

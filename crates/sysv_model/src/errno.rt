@@ -21,13 +21,13 @@ pub enum Errno {
     EEXIST,
     /// An argument or the identifier is not valid.
     EINVAL,
-    /// Every slot is taken.
+    /// No slot is vacant.
     ENOSPC,
     /// No message is named, and the call is not to wait.
     ENOMSG,
     /// The queue was removed while the call was under way.
     EIDRM,
-    /// A count is worn out.
+    /// A gate of the service is worn out.
     EOVERFLOW,
 }
 

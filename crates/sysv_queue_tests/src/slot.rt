@@ -495,7 +495,7 @@ fn each_class_has_its_own_bits(rt: HostRuntime) {
 }
 
 #[test]
-fn the_identifier_is_asked_first_and_permission_next(rt: HostRuntime) {
+fn the_identifier_is_asked_first(rt: HostRuntime) {
     let mut desk = desk_with_shared_queue(&rt, rt.alloc());
     assert_looks(&rt, &desk, 64, STRANGER, 0, Look::Gone);
     assert_sends_as(
@@ -515,7 +515,13 @@ fn the_identifier_is_asked_first_and_permission_next(rt: HostRuntime) {
         Selector::Any,
         Err(TakeRefused::Gone),
     );
+    assert_counts(&rt, &desk, (0, 0));
+    end_desk(&rt, desk, 0);
+}
 
+#[test]
+fn permission_is_asked_before_messages(rt: HostRuntime) {
+    let mut desk = desk_with_shared_queue(&rt, rt.alloc());
     assert_receives_as(
         &rt,
         &mut desk,
@@ -532,7 +538,13 @@ fn the_identifier_is_asked_first_and_permission_next(rt: HostRuntime) {
         Selector::Any,
         Err(TakeRefused::NoMatch { arrived: 0 }),
     );
+    assert_counts(&rt, &desk, (0, 0));
+    end_desk(&rt, desk, 0);
+}
 
+#[test]
+fn permission_is_asked_before_room_and_length(rt: HostRuntime) {
+    let mut desk = desk_with_shared_queue(&rt, rt.alloc());
     let bytes = [b'x'; 8192];
     for number in 0..2 {
         assert_sends(&rt, &mut desk, 1, &bytes, Ok(number));
@@ -549,7 +561,6 @@ fn the_identifier_is_asked_first_and_permission_next(rt: HostRuntime) {
         Err(Unplaced::Denied),
     );
     assert_sends(&rt, &mut desk, 1, b"text", Err(Unplaced::Full { freed: 0 }));
-
     assert_receives_as(
         &rt,
         &mut desk,

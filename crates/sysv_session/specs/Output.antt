@@ -40,7 +40,7 @@ Writes (Fault fault) frames old new = Appends old new (concat frames)
 Writes Write frames old new = BreaksOff frames old new
 Writes Bound frames old new = Appends old new (concat frames)
 
--- the calls whose replies were written whole and flushed: all, but for the last where the writer failed
+-- the calls whose replies were written whole: all, but for the last where the writer failed
 abbrev pub answered : End → List Call → List Call
 answered Ended calls = calls
 answered NoMemory calls = calls
@@ -49,6 +49,6 @@ answered (Fault fault) calls = calls
 answered Write calls = take (length calls - 1) calls
 answered Bound calls = calls
 
--- The tally tells how many messages the kernel gave, and how many of them were written whole and flushed.
+-- The tally tells how many messages the kernel gave, and how many of them were written whole.
 abbrev pub Tallies : End → List Call → Tallied → Type 0
 Tallies why calls tally = (taken_in tally ≡ messages_of calls) × (tally.written ≡ messages_of (answered why calls))

@@ -20,7 +20,7 @@ one_written outcome tally = record { written = tally.written + messages_in outco
 abbrev pub one_lost : Outcome → Tallied → Tallied
 one_lost outcome tally = record { written = tally.written; lost = tally.lost + messages_in outcome }
 
--- an outcome is written as its frame, whole and flushed, and counted as written
+-- an outcome is written whole, as its frame, and counted as written
 abbrev pub Answers : Result ⊤ End → Outcome → List ℕ → (old new : Option (List ℕ)) → (before after : Tallied) → Type 0
 Answers (Ok done) outcome given old new before after = Appends old new (outcome_spelling outcome given) × (after ≡ one_written outcome before)
 Answers (Err Write) outcome given old new before after = AppendsPrefix old new (outcome_spelling outcome given) × (after ≡ one_lost outcome before)

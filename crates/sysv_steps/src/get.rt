@@ -36,7 +36,7 @@ impl Getting {
     }
 
     /// Where the call stands after its begin. It waits where another call is making the queue of the key,
-    /// until that is settled or forgotten, and is refused where the key has no queue and none is made:
+    /// until the settled count has risen, and is refused where the key has no queue and none is made:
     /// with ENOENT or ENOSPC, as the registry says (POSIX.1-2017, `msgget`, ERRORS).
     pub fn begun(self, begun: Begun) -> State
         ensures { (text : List ℕ) → follows_begin (getting self) (begun_reply begun) ≡ Some (state_of result text) }
@@ -79,8 +79,8 @@ impl Getting {
     /// Where the call stands after the probe of the identifier that its begin found, when the settled
     /// count was `settled`. A live queue is refused with EEXIST where the flags have IPC_CREAT and
     /// IPC_EXCL, whoever may use it, and else with EACCES where permission is denied (POSIX.1-2017,
-    /// `msgget`, ERRORS). Where the queue is gone or not yet there, the call waits until that row is
-    /// settled or forgotten.
+    /// `msgget`, ERRORS). Where the queue is gone or not yet there, the call waits until the settled
+    /// count is above that value.
     pub fn probed(self, id: i32, settled: u64, found: Probe) -> State
         ensures { (text : List ℕ) → follows_probe (getting self) id settled (probe_reply found) ≡ Some (state_of result text) }
     {

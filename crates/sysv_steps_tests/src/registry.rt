@@ -79,7 +79,15 @@ fn keys_and_private_keys(rt: HostRuntime) {
         flags(0),
         Begun::Found { id: 0, settled: 3 },
     );
-    for id in 3..64 {
+    assert_is(&rt, registry.settled(), 3);
+}
+
+#[test]
+fn a_full_registry_makes_no_queue(rt: HostRuntime) {
+    let mut registry = open_registry(&rt, rt.alloc());
+    assert_begins(&rt, &mut registry, 9, creating(), Begun::Made { id: 0 });
+    assert!(rt; registry.settle(0));
+    for id in 1..64 {
         make_private(&rt, &mut registry, id);
     }
     assert_begins(

@@ -9,7 +9,8 @@ pub const SCRIPT_LINES: u32 = 1_000_000;
 #[derive(Clone, Copy, PartialEq, Eq, Debug, Error)]
 pub enum ScriptFault {
     /// The line with this number, counted from 1, is bad: it is not understood, or longer than 9,000
-    /// bytes, or a `preset` where a queue is live.
+    /// bytes, or a `preset` where slot 0 has or had a queue, or a `pool` after any other line that is
+    /// not skipped.
     #[error("line {0} is bad")]
     Line(u32),
     /// The reader failed.
