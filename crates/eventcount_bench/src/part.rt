@@ -18,7 +18,7 @@ pub(crate) const ROUNDS: u64 = 100_000;
 /// At most so many threads run at a time.
 const THREADS: usize = 2;
 
-/// What a thread does at its place.
+/// What a thread does.
 #[derive(Clone, Copy)]
 pub(crate) enum Act {
     /// Ends at once.
@@ -31,45 +31,35 @@ pub(crate) enum Act {
     Read,
     /// One side of a ping-pong: it waits for each second value, from this one on, and advances to the next.
     Play(u64),
+    /// The same over the locked count.
+    PlayLocked(u64),
     /// Waits for the first advance.
     Sleep,
     /// Advances after a second.
     Rouse,
 }
 
-/// A place, and what a thread does there.
+/// A place and a locked count, and what a thread does there.
 #[derive(Drop)]
-pub(crate) struct Actor<'a> {
+struct Part<'a> {
     place: Place<'a>,
+    locked: &'a LockedCount,
     act: Act,
-}
-
-/// What a thread does.
-#[derive(Drop)]
-pub(crate) enum Part<'a> {
-    Acts(Actor<'a>),
-    /// One side of a ping-pong over a locked count, from this value on.
-    PlayLocked(&'a LockedCount, u64),
 }
 
 impl Part<'_> {
     fn run<R: Wait + Clock>(&mut self, rt: &R) {
-        match self {
-            Part::Acts(actor) => act_at(rt, &mut actor.place, actor.act),
-            Part::PlayLocked(count, first) => play_locked(rt, count, *first),
+        let place = &mut self.place;
+        match self.act {
+            Act::Rest => {}
+            Act::Advance => advance_often(place),
+            Act::AdvanceAndWake => wake_often(rt, place),
+            Act::Read => read_often(place),
+            Act::Play(first) => play(rt, place, first),
+            Act::PlayLocked(first) => play_locked(rt, self.locked, first),
+            Act::Sleep => place.hear(rt, 1),
+            Act::Rouse => rouse(rt, place),
         }
-    }
-}
-
-fn act_at<R: Wait + Clock>(rt: &R, place: &mut Place, act: Act) {
-    match act {
-        Act::Rest => {}
-        Act::Advance => advance_often(place),
-        Act::AdvanceAndWake => wake_often(rt, place),
-        Act::Read => read_often(place),
-        Act::Play(first) => play(rt, place, first),
-        Act::Sleep => place.hear(rt, 1),
-        Act::Rouse => rouse(rt, place),
     }
 }
 
@@ -113,43 +103,40 @@ fn rouse<R: Wait + Clock>(rt: &R, place: &mut Place) {
     place.wake(rt);
 }
 
-/// Has each of two parts in a thread of its own, and answers the nanoseconds until both have ended.
-pub(crate) fn time_of<R: Threads + Wait + Clock + CpuClock + Sync>(
-    rt: &R,
-    time: Time,
-    one: Part,
-    other: Part,
-) -> Option<u64> {
-    let watch = Watch::start(rt, time)?;
-    for_each_mut(rt, &mut [one, other], THREADS, &|_, part| part.run(rt));
-    watch.nanos(rt)
-}
-
 fn time_at<R: Threads + Wait + Clock + CpuClock + Sync>(
     rt: &R,
     time: Time,
     mut place: Place,
-    one: Act,
-    other: Act,
+    locked: &LockedCount,
+    acts: [Act; 2],
 ) -> Option<u64> {
-    let beside = Actor {
+    let [one, other] = acts;
+    let watch = Watch::start(rt, time)?;
+    let beside = Part {
         place: place.split()?,
+        locked,
         act: other,
     };
-    let here = Actor { place, act: one };
-    time_of(rt, time, Part::Acts(here), Part::Acts(beside))
+    let here = Part {
+        place,
+        locked,
+        act: one,
+    };
+    for_each_mut(rt, &mut [here, beside], THREADS, &|_, part| part.run(rt));
+    watch.nanos(rt)
 }
 
-/// The same of two threads at a new eventcount. `None` comes where one of them was refused.
-pub(crate) fn time_over<R: Threads + Wait + Clock + CpuClock + Sync>(
+/// Has two threads act over a new eventcount and a new locked count, and answers the nanoseconds until both have ended.
+/// `None` comes where something was refused.
+pub(crate) fn time_of<R: Threads + Wait + Clock + CpuClock + Sync>(
     rt: &R,
     alloc: Global,
     time: Time,
-    one: Act,
-    other: Act,
+    acts: [Act; 2],
 ) -> Option<u64> {
+    let locked = LockedCount::new(0);
     let Ok((count, seat)) = Eventcount::open(alloc, 0) else {
         return None;
     };
-    time_at(rt, time, Place::new(&count, seat), one, other)
+    time_at(rt, time, Place::new(&count, seat), &locked, acts)
 }

@@ -1,5 +1,5 @@
 //! Single steps, by one thread and by two.
-use crate::part::{Act, STEPS, time_over};
+use crate::part::{Act, STEPS, time_of};
 use bench_figures::{Time, show};
 use std::alloc::Global;
 use std::io;
@@ -15,9 +15,9 @@ fn show_step<R: Threads + Wait + Clock + CpuClock + Print + Sync>(
     what: &str,
     step: Act,
 ) -> io::Result<()> {
-    let alone = time_over(rt, alloc, Time::Passed, step, Act::Rest);
+    let alone = time_of(rt, alloc, Time::Passed, [step, Act::Rest]);
     show(rt, what, "one thread", alone, STEPS, UNIT)?;
-    let beside = time_over(rt, alloc, Time::Passed, step, step);
+    let beside = time_of(rt, alloc, Time::Passed, [step; 2]);
     show(rt, what, "two threads", beside, 2 * STEPS, UNIT)
 }
 
