@@ -34,7 +34,8 @@ use Rattle.sysv_steps.specs.Next.{next}
 use Rattle.sysv_steps.specs.HeldBlocks.{held, given_by, left_by, HasItsBlocks, GivesWhatIsAsked, EachStepKeepsItsBlocks}
 use Rattle.sysv_core.specs.World.{Started, Doing, doing_in, preset_who, preset_cred, preset_flags, preset_begin, preset_settle, with_preset_turns}
 use Rattle.sysv_core.specs.Conserved.{blocks_waiting, blocks_in_call, blocks_in_calls, AreConserved}
-use Rattle.sysv_core.proofs.Lists.{same_place, at_most, sum_set}
+use Rattle.sysv_lists.proofs.Orders.{at_most}
+use Rattle.sysv_core.proofs.Lists.{same_place, sum_set}
 use Rattle.sysv_core.proofs.Histories.{turn_of, slot_more, pool_more, pool_stays, slot_stays, begun_turns, installed_turns, preset_slot, preset_pool, returned_more, reserved_more}
 use Rattle.sysv_core.proofs.Along.{slot_around}
 

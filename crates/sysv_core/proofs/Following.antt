@@ -30,7 +30,7 @@ use Rattle.sysv_core.specs.declared.doing.Led.TheVariants as led
 use Rattle.sysv_core.specs.Led.{LeadsTo}
 use Rattle.sysv_core.specs.Kinds.{Kind, Sends, Receives, Bare, kind_of, phase_kind, wait_kind, gives_back, IsOf, brings}
 use Rattle.sysv_core.specs.Held.{text_in, IsHeldBy, IsHeldOrOver}
-use Rattle.sysv_core.proofs.Lists.{at_most}
+use Rattle.sysv_lists.proofs.Orders.{at_most}
 
 -- the step is an install
 abbrev pub is_install : Phase → Bool

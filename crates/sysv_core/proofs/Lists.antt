@@ -44,11 +44,6 @@ same_place zero (suc j) = inr (λ e. omega arith)
 same_place (suc i) zero = inr (λ e. omega arith)
 same_place (suc i) (suc j) = elim (same_place i j) [ inl e ↦ inl (ap suc e) | inr f ↦ inr (λ e. f (omega arith)) ]
 
-pub at_most : (a b : ℕ) → (a ≤ b) ⊎ (b < a)
-at_most zero b = inl (omega arith)
-at_most (suc a) zero = inr (omega arith)
-at_most (suc a) (suc b) = elim (at_most a b) [ inl h ↦ inl (omega arith) | inr h ↦ inr (omega arith) ]
-
 -- a sum where one element is another
 pub sum_set : {X : Type 0} (f : X → ℕ) (xs : List X) (i : ℕ) (x y : X) → slice_get xs i ≡ Some x → sum_by f (slice_set xs i y) + f x ≡ sum_by f xs + f y
 sum_set f [] i x y e = absurd cc

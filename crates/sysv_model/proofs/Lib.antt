@@ -1,1 +1,2 @@
 pub mod Snoc
+pub mod Writing

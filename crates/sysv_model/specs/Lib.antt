@@ -10,3 +10,4 @@ pub mod Registry
 pub mod Pool
 pub mod Turn
 pub mod Watched
+pub mod Writing

@@ -73,39 +73,3 @@ impl fmt::Display for Errno {
         f.write_str(name)
     }
 }
-
-#[cfg(test)]
-mod tests {
-    use super::*;
-    use std::alloc::Global;
-    use std::process::Abort;
-
-    /// What the error prints. Memory is refused once at most.
-    fn printed(rt: &impl Abort, alloc: Global, error: Errno) -> String {
-        match format!(in alloc; "{error}") {
-            Ok(text) => text,
-            Err(_) => format!(in alloc; "{error}").expect(rt, "a second try"),
-        }
-    }
-
-    #[test]
-    fn numbers_and_names(rt: HostRuntime) {
-        let table = [
-            (Errno::EPERM, 1, "EPERM"),
-            (Errno::ENOENT, 2, "ENOENT"),
-            (Errno::E2BIG, 7, "E2BIG"),
-            (Errno::EAGAIN, 11, "EAGAIN"),
-            (Errno::EACCES, 13, "EACCES"),
-            (Errno::EEXIST, 17, "EEXIST"),
-            (Errno::EINVAL, 22, "EINVAL"),
-            (Errno::ENOSPC, 28, "ENOSPC"),
-            (Errno::ENOMSG, 42, "ENOMSG"),
-            (Errno::EIDRM, 43, "EIDRM"),
-            (Errno::EOVERFLOW, 75, "EOVERFLOW"),
-        ];
-        for (error, number, name) in table {
-            assert_eq!(rt; error.number(), number, "{name}");
-            assert_eq!(rt; printed(&rt, rt.alloc(), error).as_str(), name);
-        }
-    }
-}

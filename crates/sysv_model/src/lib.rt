@@ -25,4 +25,4 @@ pub use limits::{
 };
 pub use no_memory::NoMemory;
 pub use selector::Selector;
-pub use watched::Watched;
+pub use watched::{Watched, WriteFault};

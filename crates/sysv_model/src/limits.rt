@@ -33,23 +33,3 @@ pub const MAX_BLOCKS: u32 = 65536;
 
 /// The number of counted steps at which a world is worn out, 2^62.
 pub const WORN: u64 = 1 << 62;
-
-#[cfg(test)]
-mod tests {
-    use super::*;
-
-    #[test]
-    fn figures(rt: HostRuntime) {
-        assert_eq!(rt; IPC_PRIVATE, 0);
-        assert_eq!(rt; MESSAGE_BYTES, 8_192);
-        assert_eq!(rt; BODY_ROOM, 8_256);
-        assert_eq!(rt; BLOCK_BYTES, 64);
-        assert_eq!(rt; QUEUE_MESSAGES, 256);
-        assert_eq!(rt; QBYTES_AT_CREATION, 16_384);
-        assert_eq!(rt; MAX_QBYTES, 65_536);
-        assert_eq!(rt; MAX_ACTORS, 1_024);
-        assert_eq!(rt; MIN_BLOCKS, 128);
-        assert_eq!(rt; MAX_BLOCKS, 65_536);
-        assert_eq!(rt; WORN, 4_611_686_018_427_387_904);
-    }
-}

@@ -31,24 +31,3 @@ impl Selector {
         }
     }
 }
-
-#[cfg(test)]
-mod tests {
-    use super::*;
-
-    #[test]
-    fn a_type_argument_asks_for_its_kind(rt: HostRuntime) {
-        let table = [
-            (0, Selector::Any),
-            (1, Selector::Exactly(1)),
-            (i64::MAX, Selector::Exactly(9_223_372_036_854_775_807)),
-            (-1, Selector::UpTo(1)),
-            (-i64::MAX, Selector::UpTo(9_223_372_036_854_775_807)),
-            (i64::MIN, Selector::UpTo(9_223_372_036_854_775_808)),
-        ];
-        for (mtype, sel) in table {
-            assert_eq!(rt; Selector::of(mtype, Flags::IPC_NOWAIT), sel, "{mtype}");
-            assert_eq!(rt; Selector::of(mtype, Flags::MSG_EXCEPT), sel, "{mtype}");
-        }
-    }
-}

@@ -1,10 +1,16 @@
 //! Streams that remember whether they failed.
-ghost use Rattle.std.specs.Prelude.{◌≡◌, ◌||◌, false, is_err};
+ghost use Rattle.std.specs.Prelude.{◌≡◌, ◌||◌, false, is_err, OnErr, OnOk};
 ghost use Rattle.std.specs.Io.{ReadsAtMost, WritesAtMost};
-ghost use Rattle.std.specs.Io.KnownBytes.{Keeps, ReadConsumes, WriteAppends};
+ghost use Rattle.std.specs.Io.KnownBytes.{Appends, Keeps, ReadConsumes, WriteAppends};
 
 use std::io;
 use std::io::{Read, Write};
+use thiserror::Error;
+
+/// The bytes were not all written: the writer failed, or took none of some. It took a prefix of them.
+#[derive(Clone, Copy, PartialEq, Eq, Debug, Error)]
+#[error("the bytes cannot be written")]
+pub struct WriteFault;
 
 /// A reader or a writer that is borrowed, and whether a read, a write or a flush of it has failed since. What
 /// is read and written is the stream's own: this gives and takes the same bytes, and the same errors.
@@ -93,109 +99,30 @@ impl<S: Write> Write for Watched<'_, S> {
     }
 }
 
-#[cfg(test)]
-mod tests {
-    use super::*;
-    use std::io::ErrorKind;
+impl<S: Write> Watched<'_, S> {
+    ghost use Rattle.sysv_model.specs.Watched.{has_failed, stream_name, stream_of};
+    ghost use Rattle.sysv_model.specs.Writing.{AppendsPrefix};
 
-    /// Gives and takes one byte, and then fails, or takes nothing where it stalls.
-    #[derive(Drop)]
-    struct Once {
-        is_over: bool,
-        stalls: bool,
-    }
-
-    impl Once {
-        /// How many bytes it gives or takes.
-        fn step(&mut self) -> io::Result<usize> {
-            if !self.is_over {
-                self.is_over = true;
-                return Ok(1);
+    /// Writes all the bytes, in as many writes as the writer wants.
+    ///
+    /// # Errors
+    ///
+    /// `WriteFault` if a write fails, or takes no byte of some. The writer has then taken a prefix of
+    /// the bytes, perhaps all of them.
+    pub fn write_out(&mut self, bytes: &[u8]) -> Result<(), WriteFault>
+        ensures ok { OnOk result (Appends (S.contents (stream_of self.old)) (S.contents (stream_of self.new)) bytes.now) }
+        ensures err { OnErr result (AppendsPrefix (S.contents (stream_of self.old)) (S.contents (stream_of self.new)) bytes.now) }
+        ensures same { stream_name self.new ≡ stream_name self.old }
+        ensures failed { has_failed self.new ≡ (is_err result || has_failed self.old) }
+    {
+        let mut written = 0;
+        while written < bytes.len() {
+            match self.write(&bytes[written..]) {
+                Ok(0) => return Err(WriteFault),
+                Ok(count) => written += count,
+                Err(_) => return Err(WriteFault),
             }
-            if self.stalls {
-                return Ok(0);
-            }
-            Err(io::Error::from(ErrorKind::TimedOut))
         }
-    }
-
-    impl Read for Once {
-        fn read(&mut self, buf: &mut [u8]) -> io::Result<usize> {
-            Ok(self.step()?.min(buf.len()))
-        }
-    }
-
-    impl Write for Once {
-        fn write(&mut self, buf: &[u8]) -> io::Result<usize> {
-            Ok(self.step()?.min(buf.len()))
-        }
-
-        fn flush(&mut self) -> io::Result<()> {
-            self.step()?;
-            Ok(())
-        }
-    }
-
-    #[test]
-    fn a_failed_read_is_remembered(rt: HostRuntime) {
-        let mut bytes = [0; 4];
-        let mut stream = Once {
-            is_over: false,
-            stalls: false,
-        };
-        let mut reader = Watched::new(&mut stream);
-        assert!(rt; matches!(reader.read(&mut bytes), Ok(1)));
-        assert!(rt; !reader.has_failed());
-        assert!(rt; reader.read(&mut bytes).is_err());
-        assert!(rt; reader.has_failed());
-    }
-
-    #[test]
-    fn the_end_of_a_reader_is_no_failure(rt: HostRuntime) {
-        let mut bytes = [0; 4];
-        let mut stream = b"hi".as_slice();
-        let mut reader = Watched::new(&mut stream);
-        assert!(rt; matches!(reader.read(&mut bytes), Ok(2)));
-        assert!(rt; matches!(reader.read(&mut bytes), Ok(0)));
-        assert!(rt; !reader.has_failed());
-        assert!(rt; bytes == *b"hi\0\0");
-    }
-
-    #[test]
-    fn a_failed_write_is_remembered(rt: HostRuntime) {
-        for stalls in [false, true] {
-            let mut stream = Once {
-                is_over: false,
-                stalls,
-            };
-            let mut writer = Watched::new(&mut stream);
-            assert!(rt; matches!(writer.write(b"hi"), Ok(1)));
-            assert!(rt; !writer.has_failed());
-            assert_eq!(rt; writer.write(b"i").is_ok(), stalls);
-            assert!(rt; writer.has_failed());
-        }
-    }
-
-    #[test]
-    fn a_write_of_nothing_is_no_failure(rt: HostRuntime) {
-        let mut stream = Once {
-            is_over: true,
-            stalls: true,
-        };
-        let mut writer = Watched::new(&mut stream);
-        assert!(rt; matches!(writer.write(b""), Ok(0)));
-        assert!(rt; writer.flush().is_ok());
-        assert!(rt; !writer.has_failed());
-    }
-
-    #[test]
-    fn a_failed_flush_is_remembered(rt: HostRuntime) {
-        let mut stream = Once {
-            is_over: true,
-            stalls: false,
-        };
-        let mut writer = Watched::new(&mut stream);
-        assert!(rt; writer.flush().is_err());
-        assert!(rt; writer.has_failed());
+        Ok(())
     }
 }

@@ -317,6 +317,3 @@ fn joined(mut slots: Vec<QueueSlot>) -> Chain
     slots.destroy_empty();
     chain
 }
-
-#[cfg(test)]
-mod tests;

@@ -1,14 +1,10 @@
 -- Each call has exactly one legal reply, since the blocks are enough or not.
-use Rattle.std.proofs.Common.{◌≡◌, ℕ, zero, suc, ◌+◌, ◌<◌, ◌≤◌, ◌⊎◌, inl, inr, refl, sym, ap, ◌∙◌, arith}
+use Rattle.std.proofs.Common.{◌≡◌, ◌+◌, inl, inr, refl, sym, ap, ◌∙◌, arith}
+use Rattle.sysv_lists.proofs.Orders.{at_most}
 use Rattle.sysv_model.specs.Pool.{blocks_for, PoolCall, Reserve, Release, PoolReply, Reserved, TooFew, Released, Foreign}
 use Rattle.sysv_pool.specs.State.{State, state_of}
 use Rattle.sysv_pool.specs.LegalReply.{Legal}
 use Rattle.sysv_pool.specs.OneReply.{SomeReplyIsLegal, NoTwoRepliesAreLegal}
-
-at_most : (a b : ℕ) → (a ≤ b) ⊎ (b < a)
-at_most zero b = inl (omega arith)
-at_most (suc a) zero = inr (omega arith)
-at_most (suc a) (suc b) = elim (at_most a b) [ inl h ↦ inl (omega arith) | inr h ↦ inr (omega arith) ]
 
 some_reply : (pool : State) (call : PoolCall) → (reply : PoolReply) × Legal pool call reply
 some_reply pool (Reserve size) = elim (at_most (blocks_for size) pool.free) [

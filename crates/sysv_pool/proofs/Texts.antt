@@ -1,13 +1,9 @@
 -- Texts that lie in blocks of 64 bytes.
-use Rattle.std.proofs.Common.{◌≡◌, ℕ, zero, suc, ◌+◌, ◌-◌, ◌*◌, ◌/◌, ◌%◌, ◌≤◌, ◌<◌, ◌⊎◌, inl, inr, min, List, ◌++◌, length, take, drop, sym, ap, ◌∙◌, arith, length-take, length-drop}
+use Rattle.std.proofs.Common.{◌≡◌, ℕ, ◌+◌, ◌-◌, ◌*◌, ◌/◌, ◌%◌, inl, inr, min, List, ◌++◌, length, take, drop, sym, ap, ◌∙◌, arith, length-take, length-drop}
 use Rattle.std.proofs.Math.Seq.{take-append-add}
 use Rattle.std.proofs.lemmas.List.{take_all, take-append-le, take-append-drop, drop-drop}
+use Rattle.sysv_lists.proofs.Orders.{at_most}
 use Rattle.sysv_model.specs.Blocks.{block_of}
-
-at_most : (a b : ℕ) → (a ≤ b) ⊎ (b < a)
-at_most zero b = inl (omega arith)
-at_most (suc a) zero = inr (omega arith)
-at_most (suc a) (suc b) = elim (at_most a b) [ inl h ↦ inl (omega arith) | inr h ↦ inr (omega arith) ]
 
 -- as many blocks as hold n bytes, rounded up either way
 pub rounded_up : (n : ℕ) → n / 64 + min 1 (n % 64) ≡ (n + 63) / 64

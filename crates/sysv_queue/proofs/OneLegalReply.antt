@@ -2,6 +2,7 @@
 -- and a selector names one place or none.
 use Rattle.std.proofs.Common.{◌≡◌, ◌≢◌, ℕ, zero, suc, ℤ, ◌+◌, ◌<◌, ◌≤◌, ◌⊎◌, inl, inr, Bool, true, false, List, Option, None, Some, IsSome, refl, sym, ap, subst, ◌∙◌, arith, length, option_map, bit_and}
 use Rattle.std.proofs.lemmas.Bool.{cases_eq}
+use Rattle.sysv_lists.proofs.Orders.{at_most}
 use Rattle.sysv_model.specs.declared.cred.Cred.{Cred}
 use Rattle.sysv_model.specs.declared.errno.Errno.TheVariants.{EPERM, EACCES, EINVAL}
 use Rattle.sysv_model.specs.declared.flags.Flags.{Flags}
@@ -24,11 +25,6 @@ use Rattle.sysv_queue.specs.OneReply.{SomeReplyIsLegal, NoTwoRepliesAreLegal}
 use Rattle.sysv_queue.proofs.Ids.{is_live}
 use Rattle.sysv_queue.proofs.Rules.{PermittedOrNot, NamedOrNone, OneNamed}
 use Rattle.sysv_queue.proofs.Naming.{named_message, none_named, never_given, one_message_named}
-
-at_most : (a b : ℕ) → (a ≤ b) ⊎ (b < a)
-at_most zero b = inl (omega arith)
-at_most (suc a) zero = inr (omega arith)
-at_most (suc a) (suc b) = elim (at_most a b) [ inl h ↦ inl (omega arith) | inr h ↦ inr (omega arith) ]
 
 room_at : (qbytes : ℕ) (messages : List Message) (size : ℕ) → FitsOn qbytes messages size ⊎ ¬ FitsOn qbytes messages size
 room_at qbytes messages size = elim (at_most (bytes_of messages + size) qbytes) [

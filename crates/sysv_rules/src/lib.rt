@@ -6,8 +6,6 @@
 mod laws;
 mod permission;
 mod selector;
-#[cfg(test)]
-mod tests;
 
 pub use laws::{granted_or_not, named_or_none, one_named};
 pub use permission::{Want, may, may_control};

@@ -2,6 +2,7 @@
 use Rattle.std.proofs.Common.{◌≡◌, ◌+◌, ◌-◌, ◌≤◌, ◌<◌, ◌⊎◌, ℕ, zero, suc, inl, inr, Bool, true, false, List, [], ◌∷◌, ◌++◌, Option, Some, None, length, get_or, refl, ap, ◌∙◌, arith}
 use Rattle.std.proofs.Common.{subst, if◌then◌else◌}
 use Rattle.std.proofs.lemmas.List.{length-set}
+use Rattle.sysv_lists.proofs.Orders.{at_most}
 use Rattle.sysv_model.specs.declared.cred.Cred.{Cred}
 use Rattle.std.specs.List.{range_with_len}
 use Rattle.sysv_steps.specs.Call.{SystemCall}
@@ -27,11 +28,6 @@ use Rattle.sysv_words.specs.OneSplit.{OneSplit}
 use Rattle.sysv_lines.specs.OneLine.{EachLineIsDecided}
 
 -- a number is at most another, or above it
-at_most : (a b : ℕ) → (a ≤ b) ⊎ (b < a)
-at_most zero b = inl (omega arith)
-at_most (suc a) zero = inr (omega arith)
-at_most (suc a) (suc b) = elim (at_most a b) [ inl h ↦ inl (omega arith) | inr h ↦ inr (omega arith) ]
-
 -- ---- the first line of a text
 
 -- the text begins with a line, and less is left after it

@@ -4,6 +4,8 @@ use Rattle.std.proofs.Common.{◌≡◌, ◌≤◌, ◌<◌, ◌+◌, ◌⊎◌,
 use Rattle.std.specs.Prelude.{Contains}
 use Rattle.std.proofs.lemmas.Bool.{cases_eq}
 use Rattle.std.proofs.lemmas.List.Elements.{Contains-append_cases}
+use Rattle.sysv_lists.specs.Prefix.{IsPrefixOf}
+use Rattle.sysv_lists.proofs.Orders.{at_most}
 use Rattle.sysv_words.specs.Words.{SplitsAt}
 
 -- it holds, or it does not
@@ -33,12 +35,6 @@ either (inl p) q = inl (inl p)
 either (inr none) (inl q) = inl (inr q)
 either (inr none) (inr not) = inr (λ h. elim h [ inl p ↦ none p | inr q ↦ not q ])
 
--- a number is at most another, or above it, and not both
-pub at_most : (a b : ℕ) → (a ≤ b) ⊎ (b < a)
-at_most zero b = inl (omega arith)
-at_most (suc a) zero = inr (omega arith)
-at_most (suc a) (suc b) = elim (at_most a b) [ inl h ↦ inl (omega arith) | inr h ↦ inr (omega arith) ]
-
 pub not_both : (a b : ℕ) → a ≤ b → b < a → ⊥
 not_both a b h k = omega arith
 
@@ -58,15 +54,11 @@ same_or_not (x ∷ xs) (y ∷ ys) = elim (cases_eq x y) [
   | inr other ↦ inr (λ e. other (cc))
 ]
 
--- the text begins with this front
-abbrev pub IsBegun : List ℕ → List ℕ → Type 0
-IsBegun front text = (rest : List ℕ) × (text ≡ front ++ rest)
-
-begun_behind : (x y : ℕ) (front text : List ℕ) → IsBegun (x ∷ front) (y ∷ text) → (y ≡ x) × IsBegun front text
+begun_behind : (x y : ℕ) (front text : List ℕ) → IsPrefixOf (x ∷ front) (y ∷ text) → (y ≡ x) × IsPrefixOf front text
 begun_behind x y front text (rest, e) = (cc, (rest, cc))
 
 -- a text begins with a front, or it does not
-pub begun_or_not : (front text : List ℕ) → Decided (IsBegun front text)
+pub begun_or_not : (front text : List ℕ) → Decided (IsPrefixOf front text)
 begun_or_not [] text = inl (text, refl)
 begun_or_not (x ∷ front) [] = inr (λ h. let e = h.1 in cc)
 begun_or_not (x ∷ front) (y ∷ text) = elim (cases_eq y x) [

@@ -1,0 +1,5 @@
+pub mod Orders
+pub mod Prefixes
+pub mod Counting
+pub mod Places
+pub mod Sums

@@ -1,0 +1,2 @@
+pub mod Prefix
+pub mod Numbers

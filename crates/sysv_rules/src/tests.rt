@@ -1,2 +1,0 @@
-mod permission;
-mod selection;
