@@ -1,6 +1,6 @@
 //! Clients over bytes that are worked by hand.
+use crate::parts::assert_is;
 use std::alloc::Global;
-use std::fmt::Debug;
 use std::io;
 use std::io::{ErrorKind, Read, Write};
 use std::process::Abort;
@@ -202,11 +202,6 @@ fn joined(rt: &impl Abort, alloc: Global, parts: &[&[u8]]) -> Tape {
         tape.put(part);
     }
     tape
-}
-
-/// The test fails where what was found is not what is wanted.
-fn assert_is<T: PartialEq + Debug + Drop>(rt: &impl Abort, found: T, wanted: T) {
-    assert_eq!(rt; found, wanted);
 }
 
 #[test]

@@ -4,6 +4,7 @@
 ghost use Rattle.std.specs.Prelude.{◌≡◌, ◌+◌, ◌<◌, ◌≤◌, length};
 ghost use Rattle.sysv_model.specs.declared.limits.TheConstants.{QUEUE_MESSAGES};
 
+use crate::parts::type_of_number;
 use std::alloc::Global;
 use std::marker::Brand;
 use std::process::Abort;
@@ -152,13 +153,6 @@ fn selections_follow_the_plain_rule(rt: HostRuntime) -> Result<(), Fail> {
     }
     assert!(rt; taken > 100 && beside.entries.len() > 50);
     Ok(())
-}
-
-/// The type of the message with this number, each of 1 to 256 once.
-fn type_of_number(number: u64) -> i64
-    requires { number < 256 }
-{
-    (number * 77 % 256) as i64 + 1
 }
 
 #[test]

@@ -2,21 +2,11 @@
 //! identifiers of all.
 
 use crate::parts::assert_is;
-use bitflags::Flags as _;
 use std::alloc::Global;
 use std::process::Abort;
 use sysv_keys::{Begun, Registry, RegistryRefused, slot_of_id};
-use sysv_model::{Errno, Flags, IPC_PRIVATE, NoMemory};
-
-/// The flags with these bits.
-fn flags(bits: u32) -> Flags {
-    Flags::from_bits_retain(bits)
-}
-
-/// IPC_CREAT and mode 0600.
-fn creating() -> Flags {
-    flags(512 + 0o600)
-}
+use sysv_model::{Errno, Flags, IPC_PRIVATE};
+use tests_kit::{creating, flags};
 
 /// A registry whose slots all have this generation. Memory is refused once at most.
 fn registry_at(rt: &impl Abort, alloc: Global, generation: u32) -> Registry {

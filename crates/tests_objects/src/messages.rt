@@ -5,7 +5,7 @@ ghost use Rattle.std.specs.Prelude.{◌≡◌, ◌+◌, ◌<◌, []};
 ghost use Rattle.std.specs.List.{All};
 ghost use Rattle.sysv_model.specs.Message.{Message};
 
-use crate::parts::{give_back, open_body, open_pool};
+use crate::parts::{assert_holds, give_back, open_body, open_pool, type_of_number};
 use std::alloc::Global;
 use std::marker::Brand;
 use std::process::Abort;
@@ -53,7 +53,7 @@ fn open_desk(rt: &impl Abort, alloc: Global) -> Desk
         text: open_body(rt, alloc),
         out: open_body(rt, alloc),
         messages: open_messages(rt, alloc),
-        pool: open_pool(rt, alloc),
+        pool: open_pool(rt, alloc, 512),
     }
 }
 
@@ -127,14 +127,6 @@ fn receive(
     Ok(received)
 }
 
-fn assert_holds(rt: &impl Abort, body: &Body, text: &[u8]) {
-    assert_eq!(rt; body.len(), text.len());
-    for (i, byte) in text.iter().enumerate() {
-        assert!(rt; i < body.len());
-        assert_eq!(rt; body.byte(i), *byte, "at {i}");
-    }
-}
-
 #[test]
 fn messages_come_and_go(rt: HostRuntime) {
     let mut desk = open_desk(&rt, rt.alloc());
@@ -195,13 +187,6 @@ fn all_messages_are_taken(rt: HostRuntime) {
     assert_eq!(rt; (desk.messages.len(), desk.messages.bytes()), (0, 0));
     send(&rt, &mut desk, 0, 1, &[3; 128]);
     end_desk(&rt, desk, 2);
-}
-
-/// The type of the message with this number, each of 1 to 256 once.
-fn type_of_number(number: u64) -> i64
-    requires { number < 256 }
-{
-    (number * 77 % 256) as i64 + 1
 }
 
 #[test]

@@ -4,10 +4,10 @@ ghost use Rattle.std.specs.Prelude.{◌≡◌, ◌≤◌, length};
 ghost use Rattle.sysv_model.specs.declared.limits.TheConstants.{MESSAGE_BYTES as most_bytes};
 ghost use Rattle.sysv_model.specs.Pool.{blocks_for};
 
-use crate::parts::{assert_is, open_body, open_pool};
+use crate::parts::{assert_is, give_back, open_body, open_pool};
 use std::alloc::Global;
 use std::process::Abort;
-use sysv_model::{Body, NoMemory};
+use sysv_model::Body;
 use sysv_pool::{Chain, Pool, PoolRefused};
 
 /// Why there is no pool of that many blocks.
@@ -40,16 +40,6 @@ fn holding(rt: &impl Abort, pool: &mut Pool, body: &Body) -> Chain
     let mut chain = reserved(rt, pool, body.len());
     chain.fill(body);
     chain
-}
-
-/// Gives back a chain which the pool takes.
-fn give_back(rt: &impl Abort, pool: &mut Pool, chain: Chain) {
-    let released = pool.released();
-    assert!(rt; released < 100);
-    if let Err(chain) = pool.release(chain) {
-        let blocks = chain.end();
-        panic!(rt; "a chain of {blocks} blocks came back");
-    }
 }
 
 /// The free blocks of a pool, and how often a chain was released to it.

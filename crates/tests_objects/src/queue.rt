@@ -3,7 +3,7 @@
 
 mod control;
 
-use crate::parts::{give_back, open_body, open_pool};
+use crate::parts::{assert_holds, give_back, open_body, open_pool};
 use bitflags::Flags as _;
 use std::alloc::Global;
 use std::process::Abort;
@@ -77,7 +77,7 @@ fn open_desk(rt: &impl Abort, alloc: Global) -> Desk {
         text: open_body(rt, alloc),
         out: open_body(rt, alloc),
         slot: open_slot(rt, alloc),
-        pool: open_pool(rt, alloc),
+        pool: open_pool(rt, alloc, 512),
     }
 }
 
@@ -108,14 +108,6 @@ fn end_desk(rt: &impl Abort, desk: Desk, blocks: u32) {
     give_back(rt, &mut pool, chain);
     assert_eq!(rt; pool.free(), 512);
     pool.end();
-}
-
-fn assert_holds(rt: &impl Abort, body: &Body, text: &[u8]) {
-    assert_eq!(rt; body.len(), text.len());
-    for (i, byte) in text.iter().enumerate() {
-        assert!(rt; i < body.len());
-        assert_eq!(rt; body.byte(i), *byte, "at {i}");
-    }
 }
 
 /// Sends this text to queue `id`. A refused chain comes back as it was.

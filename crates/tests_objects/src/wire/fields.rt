@@ -1,8 +1,9 @@
 //! Each field of a frame with values that have no meaning there.
-use crate::ends::{Pieces, open_body};
+use crate::parts::open_body;
 use std::process::Abort;
 use sysv_model::{Body, Watched};
 use sysv_wire::{Fault, Outcome, Reply, Request, read_reply, read_request};
+use tests_kit::Pieces;
 
 /// The bytes that the fields of each request take, by its operation; those of a send have no text.
 const ASKED: [u8; 8] = [12, 8, 16, 20, 4, 20, 4, 4];

@@ -1,6 +1,5 @@
 //! Readers and writers that fail within a frame, and the longest texts.
-use crate::ends::{Page, Pieces, open_body};
-use crate::frames::{ANSWERS, SESSION};
+use crate::parts::open_body;
 use bitflags::Flags as Set;
 use std::process::Abort;
 use sysv_model::{Body, Flags, Watched};
@@ -8,6 +7,8 @@ use sysv_wire::{
     Ask, Fault, Outcome, Reply, Request, WriteFault, read_reply, read_request, write_reply,
     write_request,
 };
+use tests_kit::worked::{ANSWERS, SESSION};
+use tests_kit::{Page, Pieces};
 
 /// What the first request answers that is not one, where the reader fails after so many bytes, and whether it is then
 /// known to have failed.
@@ -83,7 +84,7 @@ fn a_writer_fails_within_a_request(rt: HostRuntime) {
     };
     for room in 0..24 {
         for (piece, stalls) in [(1, false), (1, true), (512, false), (512, true)] {
-            let mut page = Page::new(piece, room, stalls);
+            let mut page = Page::taking(piece, room, stalls);
             let end = end_of_request(&mut page, &request, &text);
             assert_fails_after(&rt, end, &page, &SESSION[32..32 + room]);
         }
@@ -100,7 +101,7 @@ fn a_writer_fails_within_a_reply(rt: HostRuntime) {
         result: Outcome::Rcv { mtype: 5 },
     };
     for room in 0..17 {
-        let mut page = Page::new(3, room, false);
+        let mut page = Page::taking(3, room, false);
         let mut writer = Watched::new(&mut page);
         let end = write_reply(&mut writer, &reply, &text);
         let end = (end, writer.has_failed());
