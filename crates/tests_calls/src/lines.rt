@@ -1,3 +1,4 @@
+//! Lines of a script.
 use bitflags::Flags as _;
 use std::io::Write;
 use sysv_lines::{Head, Line, Operation, Request, Text, Told, line_of};

@@ -1,3 +1,4 @@
+//! A stage on which lines run.
 use std::alloc::Global;
 use sysv_lines::line_of;
 use sysv_model::{NoMemory, Watched};

@@ -15,17 +15,12 @@ use sysv_steps::{
     Afterwards, Ending, Getting, Phase, Receiving, Sending, State, Wait, begin_remove, begin_set,
     begin_stat, forgotten, given_back, removed, set_done, stat_told,
 };
-
-const CALLER: Cred = Cred {
-    uid: 1000,
-    gid: 1000,
-    pid: 101,
-};
+use tests_kit::USER;
 
 /// A send before its look, which found the queue live before or not.
 fn sending(live_seen: bool) -> Sending {
     Sending {
-        cred: CALLER,
+        cred: USER,
         id: 0,
         mtype: 5,
         nowait: true,
@@ -37,7 +32,7 @@ fn sending(live_seen: bool) -> Sending {
 /// A receive before its take.
 fn receiving(live_seen: bool) -> Receiving {
     Receiving {
-        cred: CALLER,
+        cred: USER,
         id: 0,
         selector: Selector::UpTo(4),
         size: 9,
@@ -50,7 +45,7 @@ fn receiving(live_seen: bool) -> Receiving {
 /// A call for the queue of key 7.
 fn getting(flags: Flags) -> Getting {
     Getting {
-        cred: CALLER,
+        cred: USER,
         key: 7,
         flags,
     }
@@ -150,7 +145,7 @@ fn open_queue(rt: &impl Abort, alloc: Global) -> QueueSlot {
             Err(NoMemory) => panic!(rt; "a second try"),
         },
     };
-    assert!(rt; slot.install(0, 7, CALLER, 0o600, 0));
+    assert!(rt; slot.install(0, 7, USER, 0o600, 0));
     slot
 }
 
@@ -173,7 +168,7 @@ fn send_text(rt: &impl Abort, slot: &mut QueueSlot, pool: &mut Pool, alloc: Glob
     chain.fill(&text);
     let (arrived, _) = slot.counts();
     assert!(rt; arrived < 100);
-    match slot.place(0, CALLER, 2, chain, 130, 0) {
+    match slot.place(0, USER, 2, chain, 130, 0) {
         Ok(number) => assert_eq!(rt; number, arrived),
         Err(PlaceRefused { why, chain }) => {
             panic!(rt; "{} blocks came back: {why:?}", chain.end())
@@ -208,7 +203,7 @@ fn release(rt: &impl Abort, pool: &mut Pool, state: State) -> Shown {
 fn a_get_begins(rt: HostRuntime) {
     let get = getting(Flags::IPC_CREAT);
     let begun = |begun| show(get.begun(begun));
-    assert!(rt; show(Getting::begin(CALLER, 7, Flags::IPC_CREAT)) == Shown::Begin(get));
+    assert!(rt; show(Getting::begin(USER, 7, Flags::IPC_CREAT)) == Shown::Begin(get));
     assert!(rt; begun(Begun::Made { id: 67 }) == Shown::Install { get, id: 67 });
     assert!(rt;
         begun(Begun::Found { id: 67, settled: 5 })
@@ -269,12 +264,9 @@ fn the_attributes_are_told(rt: HostRuntime) {
         rtime: 11,
         ctime: 12,
     };
-    let read = Shown::Stat {
-        cred: CALLER,
-        id: 67,
-    };
-    assert!(rt; show(begin_stat(CALLER, 67)) == read);
-    assert!(rt; show(begin_stat(CALLER, -1)) == Shown::Refused(Errno::EINVAL));
+    let read = Shown::Stat { cred: USER, id: 67 };
+    assert!(rt; show(begin_stat(USER, 67)) == read);
+    assert!(rt; show(begin_stat(USER, -1)) == Shown::Refused(Errno::EINVAL));
     assert!(rt; show(stat_told(Ok(stat))) == Shown::Told(stat));
     assert!(rt; show(stat_told(Err(Errno::EACCES))) == Shown::Refused(Errno::EACCES));
 }
@@ -288,15 +280,15 @@ fn a_queue_is_changed(rt: HostRuntime) {
         qbytes: 4096,
     };
     let set = Shown::Set {
-        cred: CALLER,
+        cred: USER,
         id: 67,
         to,
     };
-    assert!(rt; show(begin_set(CALLER, 67, to)) == set);
-    assert!(rt; show(begin_set(CALLER, -1, to)) == Shown::Refused(Errno::EINVAL));
+    assert!(rt; show(begin_set(USER, 67, to)) == set);
+    assert!(rt; show(begin_set(USER, -1, to)) == Shown::Refused(Errno::EINVAL));
     assert!(rt; show(set_done(Ok(()))) == Shown::SetGiveback);
     assert!(rt; show(set_done(Err(Errno::EPERM))) == Shown::Refused(Errno::EPERM));
-    let mut pool = open_pool(&rt, rt.alloc(), 128);
+    let mut pool = open_pool(&rt, rt.alloc());
     assert!(rt; release(&rt, &mut pool, set_done(Ok(()))) == Shown::Zero);
     assert_is(&rt, pool.free(), 128);
     pool.end();
@@ -304,23 +296,20 @@ fn a_queue_is_changed(rt: HostRuntime) {
 
 #[test]
 fn a_removal_begins(rt: HostRuntime) {
-    let remove = Shown::Remove {
-        cred: CALLER,
-        id: 67,
-    };
-    assert!(rt; show(begin_remove(CALLER, 67)) == remove);
-    assert!(rt; show(begin_remove(CALLER, -1)) == Shown::Refused(Errno::EINVAL));
+    let remove = Shown::Remove { cred: USER, id: 67 };
+    assert!(rt; show(begin_remove(USER, 67)) == remove);
+    assert!(rt; show(begin_remove(USER, -1)) == Shown::Refused(Errno::EINVAL));
     assert!(rt; show(removed(67, Err(Errno::EPERM))) == Shown::Refused(Errno::EPERM));
 }
 
 #[test]
 fn a_removal_gives_back_what_it_discarded(rt: HostRuntime) {
-    let mut pool = open_pool(&rt, rt.alloc(), 128);
+    let mut pool = open_pool(&rt, rt.alloc());
     let mut slot = open_queue(&rt, rt.alloc());
     send_text(&rt, &mut slot, &mut pool, rt.alloc());
     let (arrived, freed) = slot.counts();
     assert!(rt; arrived < 100 && freed < 100);
-    let chain = match removed(0, slot.remove(0, CALLER)) {
+    let chain = match removed(0, slot.remove(0, USER)) {
         State::Goes(Phase::Forget { id: 0, chain }) => chain,
         state => {
             show(state);
@@ -382,7 +371,7 @@ fn a_send_waits_for_room(rt: HostRuntime) {
     };
     let full = Look::Full { freed: 3 };
     assert!(rt; show(waiting(false).looked(full)) == Shown::Waits(wait));
-    let mut pool = open_pool(&rt, rt.alloc(), 128);
+    let mut pool = open_pool(&rt, rt.alloc());
     let chain = three_blocks(&rt, &mut pool);
     let refused = waiting(true).unplaced(Unplaced::Full { freed: 3 }, chain);
     assert!(rt; release(&rt, &mut pool, refused) == Shown::Waits(wait));
@@ -402,7 +391,7 @@ fn a_send_waits_for_blocks(rt: HostRuntime) {
     };
     assert!(rt; show(waiting.reserved(None)) == Shown::Waits(wait));
     assert!(rt; show(sending(true).reserved(None)) == Shown::Refused(Errno::EAGAIN));
-    let mut pool = open_pool(&rt, rt.alloc(), 128);
+    let mut pool = open_pool(&rt, rt.alloc());
     let chain = three_blocks(&rt, &mut pool);
     let place = Shown::Place {
         send: waiting,
@@ -430,14 +419,7 @@ fn a_receive_waits_for_a_message(rt: HostRuntime) {
 
 #[test]
 fn a_send_begins(rt: HostRuntime) {
-    let begin = |id, mtype, size| show(Sending::begin(
-        CALLER,
-        id,
-        mtype,
-        Flags::IPC_NOWAIT,
-        size,
-        7,
-    ));
+    let begin = |id, mtype, size| show(Sending::begin(USER, id, mtype, Flags::IPC_NOWAIT, size, 7));
     assert!(rt; begin(0, 5, 8192) == Shown::Look(sending(false)));
     assert!(rt; begin(0, 0, 1) == Shown::Refused(Errno::EINVAL));
     assert!(rt; begin(0, 5, 8193) == Shown::Refused(Errno::EINVAL));
@@ -462,7 +444,7 @@ fn a_send_is_refused_at_its_place(rt: HostRuntime) {
         (Unplaced::Denied, Errno::EACCES),
         (Unplaced::Full { freed: 3 }, Errno::EAGAIN),
     ];
-    let mut pool = open_pool(&rt, rt.alloc(), 128);
+    let mut pool = open_pool(&rt, rt.alloc());
     for (why, errno) in table {
         let chain = three_blocks(&rt, &mut pool);
         let refused = sending(true).unplaced(why, chain);
@@ -482,7 +464,7 @@ fn a_send_is_refused_at_its_place(rt: HostRuntime) {
 
 #[test]
 fn a_receive_begins(rt: HostRuntime) {
-    let begin = |id, flags| show(Receiving::begin(CALLER, id, 9, -4, flags));
+    let begin = |id, flags| show(Receiving::begin(USER, id, 9, -4, flags));
     assert!(rt; begin(0, Flags::IPC_NOWAIT) == Shown::Take(receiving(false)));
     assert!(rt; begin(-1, Flags::IPC_NOWAIT) == Shown::Refused(Errno::EINVAL));
     assert!(rt; begin(0, Flags::MSG_EXCEPT) == Shown::Refused(Errno::EINVAL));
@@ -490,13 +472,13 @@ fn a_receive_begins(rt: HostRuntime) {
 
 #[test]
 fn a_receive_gives_back_what_it_took(rt: HostRuntime) {
-    let mut pool = open_pool(&rt, rt.alloc(), 128);
+    let mut pool = open_pool(&rt, rt.alloc());
     let mut slot = open_queue(&rt, rt.alloc());
     send_text(&rt, &mut slot, &mut pool, rt.alloc());
     let mut out = open_body(&rt, rt.alloc());
     let (_, freed) = slot.counts();
     assert!(rt; freed < 100);
-    let given = match slot.take(0, CALLER, Selector::UpTo(4), 9, true, 0) {
+    let given = match slot.take(0, USER, Selector::UpTo(4), 9, true, 0) {
         Ok(taken) => {
             let (delivery, chain) = taken.finish(9, &mut out);
             receiving(true).given(delivery, chain)

@@ -1,3 +1,4 @@
+//! What is read, line by line, and what is written.
 use sysv_lines::Head;
 use sysv_model::{Body, Watched};
 use sysv_streams::{Input, Output, next_line, read_on};

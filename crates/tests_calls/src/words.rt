@@ -1,3 +1,4 @@
+//! Words of a line.
 use bitflags::Flags as _;
 use sysv_model::Flags;
 use sysv_words::{Octal, Reads, split_at_mark};

@@ -13,6 +13,7 @@ use sysv_core::{Answer, Call, Event, OpenRefused, Outcome, Standing, Stepped, Wo
 use sysv_model::{Body, Cred, Errno, Flags, NoMemory, Perm, SetTo, Stat};
 use sysv_queue::Look;
 use sysv_steps::Phase;
+use tests_kit::{creating, flags};
 
 /// What an answer is to be: whose, how the call ended, and the text of the body that comes with it.
 type Want<'a> = (u32, Outcome, Option<&'a [u8]>);
@@ -68,16 +69,11 @@ fn is_waiting(world: &World, actor: u32) -> bool {
     matches!(world.standing(actor), Some(Standing::Waits(_)))
 }
 
-/// The flags with these bits.
-fn flags(bits: u32) -> Flags {
-    Flags::from_bits_retain(bits)
-}
-
 /// A get of this key, with IPC_CREAT and mode 0600.
 fn get_or_make(key: i32) -> Call {
     Call::Get {
         key,
-        flags: flags(512 + 0o600),
+        flags: creating(),
     }
 }
 

@@ -1,6 +1,6 @@
 //! Keys, control, waiting and blocks, each as POSIX.1-2017 has it in msgget and msgctl, and in this profile's
 //! steps.
-use crate::language::run;
+use super::language::run;
 use std::io::Write;
 use std::test::Fail;
 

@@ -1,39 +1,13 @@
-//! Readers that give their bytes piece by piece, fail or never end, and writers that take little.
+//! A reader that never ends, and a reader and a writer that hold a conversation.
 use std::cell::Cell;
 use std::io;
-use std::io::{ErrorKind, Read, Write};
-
-/// Gives at most `piece` bytes at a time, and fails once `good` bytes were given.
-#[derive(Drop)]
-pub(crate) struct Pieces<'a> {
-    pub(crate) rest: &'a [u8],
-    pub(crate) piece: usize,
-    pub(crate) good: usize,
-}
-
-impl Read for Pieces<'_> {
-    fn read(&mut self, buf: &mut [u8]) -> io::Result<usize> {
-        if self.good == 0 {
-            return Err(io::Error::from(ErrorKind::TimedOut));
-        }
-        let count = self
-            .piece
-            .min(self.good)
-            .min(self.rest.len())
-            .min(buf.len());
-        let (front, rest) = self.rest.split_at(count);
-        buf[..count].copy_from_slice(front);
-        self.rest = rest;
-        self.good -= count;
-        Ok(count)
-    }
-}
+use std::io::{Read, Write};
 
 /// Gives the same byte for ever, and counts.
 #[derive(Drop)]
-pub(crate) struct Endless {
-    pub(crate) byte: u8,
-    pub(crate) given: usize,
+pub(super) struct Endless {
+    pub(super) byte: u8,
+    pub(super) given: usize,
 }
 
 impl Read for Endless {
@@ -49,11 +23,11 @@ impl Read for Endless {
 /// Gives one line at a time, and counts how often an answer is missing when more is asked for.
 /// The first line has no answer, and each other has one.
 #[derive(Drop)]
-pub(crate) struct Asker<'a> {
-    pub(crate) rest: &'a [u8],
-    pub(crate) lines: u32,
-    pub(crate) answers: &'a Cell<u32>,
-    pub(crate) missing: u32,
+pub(super) struct Asker<'a> {
+    pub(super) rest: &'a [u8],
+    pub(super) lines: u32,
+    pub(super) answers: &'a Cell<u32>,
+    pub(super) missing: u32,
 }
 
 impl Read for Asker<'_> {
@@ -74,8 +48,8 @@ impl Read for Asker<'_> {
 
 /// Counts the lines that it takes.
 #[derive(Drop)]
-pub(crate) struct Counter<'a> {
-    pub(crate) answers: &'a Cell<u32>,
+pub(super) struct Counter<'a> {
+    pub(super) answers: &'a Cell<u32>,
 }
 
 impl Write for Counter<'_> {
@@ -86,55 +60,6 @@ impl Write for Counter<'_> {
             }
         }
         Ok(buf.len())
-    }
-
-    fn flush(&mut self) -> io::Result<()> {
-        Ok(())
-    }
-}
-
-/// Takes at most `piece` bytes at a time up to `room` in all, and then fails, or takes nothing
-/// where `stalls` is set. It needs no memory.
-#[derive(Drop)]
-pub(crate) struct Page {
-    pub(crate) bytes: [u8; 512],
-    pub(crate) len: usize,
-    pub(crate) piece: usize,
-    pub(crate) room: usize,
-    pub(crate) stalls: bool,
-}
-
-impl Page {
-    pub(crate) fn new(piece: usize, room: usize, stalls: bool) -> Page {
-        Page {
-            bytes: [0; 512],
-            len: 0,
-            piece,
-            room,
-            stalls,
-        }
-    }
-
-    pub(crate) fn written(&self) -> &[u8] {
-        let all = &self.bytes[..];
-        &all[..self.len.min(all.len())]
-    }
-}
-
-impl Write for Page {
-    fn write(&mut self, buf: &[u8]) -> io::Result<usize> {
-        let left = self.room.min(512).saturating_sub(self.len);
-        if left == 0 && !self.stalls {
-            return Err(io::Error::from(ErrorKind::BrokenPipe));
-        }
-        let count = self.piece.min(left).min(buf.len());
-        for byte in &buf[..count] {
-            if self.len < 512 {
-                self.bytes[self.len] = *byte;
-                self.len += 1;
-            }
-        }
-        Ok(count)
     }
 
     fn flush(&mut self) -> io::Result<()> {

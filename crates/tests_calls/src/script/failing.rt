@@ -1,5 +1,5 @@
 //! Scripts over readers and writers that fail, stall or give little at a time.
-use crate::ends::{Asker, Counter, Endless, Page, Pieces};
+use super::ends::{Asker, Counter, Endless};
 use std::alloc::Global;
 use std::cell::Cell;
 use std::io::{Read, Write};
@@ -7,6 +7,7 @@ use std::process::Abort;
 use std::test::Fail;
 use sysv_model::Watched;
 use sysv_script::{ScriptFault, run_script};
+use tests_kit::{Page, Pieces};
 
 const SCRIPT: &[u8] = b"preset
 1 rcv 0 100 0 NOWAIT
@@ -47,12 +48,8 @@ fn is_front(part: &[u8], whole: &[u8]) -> bool {
 #[test]
 fn takes_any_pieces(rt: HostRuntime) -> Result<(), Fail> {
     for piece in [1usize, 2, 3, 7, 20, 9000, 9001, 100_000] {
-        let mut reader = Pieces {
-            rest: SCRIPT,
-            piece,
-            good: usize::MAX,
-        };
-        let mut writer = Page::new(piece, 512, false);
+        let mut reader = Pieces::new(SCRIPT, piece);
+        let mut writer = Page::taking(piece, 512, false);
         let end = run(&rt, rt.alloc(), &mut reader, &mut writer);
         assert_eq!(rt; end, Ok(()), "{piece}");
         assert!(rt; writer.written() == ANSWERS, "{piece}");
@@ -63,12 +60,9 @@ fn takes_any_pieces(rt: HostRuntime) -> Result<(), Fail> {
 #[test]
 fn says_that_the_reader_failed(rt: HostRuntime) -> Result<(), Fail> {
     for good in 0..=SCRIPT.len() {
-        let mut reader = Pieces {
-            rest: SCRIPT,
-            piece: 5,
-            good,
-        };
-        let mut writer = Page::new(512, 512, false);
+        let mut reader = Pieces::new(SCRIPT, 5);
+        reader.good = good;
+        let mut writer = Page::taking(512, 512, false);
         let end = run(&rt, rt.alloc(), &mut reader, &mut writer);
         assert_eq!(rt; end, Err(ScriptFault::Read), "{good}");
         let lines = SCRIPT[..good].iter().filter(|byte| **byte == b'\n').count();
@@ -89,7 +83,7 @@ fn says_that_the_writer_failed(rt: HostRuntime) -> Result<(), Fail> {
         for stalls in [false, true] {
             for piece in [1, 512] {
                 let mut reader = SCRIPT;
-                let mut writer = Page::new(piece, room, stalls);
+                let mut writer = Page::taking(piece, room, stalls);
                 let end = run(&rt, rt.alloc(), &mut reader, &mut writer);
                 assert_eq!(rt; end, Err(ScriptFault::Write), "{room}");
                 assert_eq!(rt; writer.written().len(), room);
@@ -98,7 +92,7 @@ fn says_that_the_writer_failed(rt: HostRuntime) -> Result<(), Fail> {
         }
     }
     let mut reader = b"x".as_slice();
-    let mut writer = Page::new(512, 5, false);
+    let mut writer = Page::taking(512, 5, false);
     let end = run(&rt, rt.alloc(), &mut reader, &mut writer);
     assert_eq!(rt; end, Err(ScriptFault::Write));
     assert!(rt; writer.written() == b"line ".as_slice());
@@ -127,7 +121,7 @@ fn holds_a_conversation(rt: HostRuntime) -> Result<(), Fail> {
 fn stops_in_a_line_that_never_ends(rt: HostRuntime) -> Result<(), Fail> {
     for byte in [b'a', b'#', b' '] {
         let mut reader = Endless { byte, given: 0 };
-        let mut writer = Page::new(512, 512, false);
+        let mut writer = Page::taking(512, 512, false);
         let end = run(&rt, rt.alloc(), &mut reader, &mut writer);
         assert_eq!(rt; end, Err(ScriptFault::Line(1)));
         assert_eq!(rt; reader.given, 9001);
@@ -139,7 +133,7 @@ fn stops_in_a_line_that_never_ends(rt: HostRuntime) -> Result<(), Fail> {
 #[test]
 fn says_that_memory_was_refused(rt: HostRuntime) -> Result<(), Fail> {
     let mut reader = SCRIPT;
-    let mut writer = Page::new(512, 512, false);
+    let mut writer = Page::taking(512, 512, false);
     match run(&rt, rt.alloc(), &mut reader, &mut writer) {
         Ok(()) => assert!(rt; writer.written() == ANSWERS),
         Err(fault) => {

@@ -7,12 +7,12 @@ use sysv_script::{ScriptFault, run_script};
 
 /// What a script writes, and how it ends.
 #[derive(Drop)]
-pub(crate) struct Ending {
-    pub(crate) written: Vec<u8>,
-    pub(crate) end: Result<(), ScriptFault>,
+pub(super) struct Ending {
+    pub(super) written: Vec<u8>,
+    pub(super) end: Result<(), ScriptFault>,
 }
 
-pub(crate) fn run(alloc: Global, script: &[u8]) -> Ending {
+pub(super) fn run(alloc: Global, script: &[u8]) -> Ending {
     let mut written = Vec::new(alloc);
     let mut reader = script;
     let end = run_script(

@@ -1,6 +1,6 @@
 //! Which message a receive takes, how much of it is given, and who may send and receive, each as
 //! POSIX.1-2017 has it in msgsnd, msgrcv and the general description of interprocess communication.
-use crate::language::run;
+use super::language::run;
 
 /// Scripts with what they print. In each the queue is of user and group 1000 and has mode 0600.
 const RUNS: [(&[u8], &[u8]); 13] = [
