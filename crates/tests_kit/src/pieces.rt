@@ -21,6 +21,16 @@ impl<'a> Pieces<'a> {
             good: usize::MAX,
         }
     }
+
+    /// All of both texts, each in one piece, and then the end.
+    pub fn both(front: &'a [u8], rest: &'a [u8]) -> Pieces<'a> {
+        Pieces {
+            front,
+            rest,
+            piece: usize::MAX,
+            good: usize::MAX,
+        }
+    }
 }
 
 impl Read for Pieces<'_> {

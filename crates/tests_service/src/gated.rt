@@ -4,9 +4,8 @@ ghost use Rattle.std.specs.Prelude.{◌≡◌, ◌≤◌, [], length};
 ghost use Rattle.sysv_model.specs.declared.limits.TheConstants.{MESSAGE_BYTES as most_bytes};
 ghost use Rattle.sysv_gated.specs.Seats.{AreOf};
 
-use bitflags::Flags as _;
+use crate::parts::{assert_is, body_of, empty_body};
 use std::alloc::Global;
-use std::fmt::Debug;
 use std::process::Abort;
 use std::sync::Wait;
 use sysv_gate::{Awaited, Closing};
@@ -14,17 +13,12 @@ use sysv_gated::{
     GatedPool, GatedSlot, Gates, GatesClosed, GatesRefused, Letter, NoMemory, Seats, Worn,
 };
 use sysv_keys::Begun;
-use sysv_model::{Body, Cred, Errno, Flags, IPC_PRIVATE, MESSAGE_BYTES, Selector, SetTo};
+use sysv_model::{Errno, IPC_PRIVATE, MESSAGE_BYTES, Selector, SetTo};
 use sysv_pool::Chain;
 use sysv_queue::{Look, Probe, Tally};
+use tests_kit::{USER, creating};
 
 const LIMIT: u64 = 1 << 62;
-
-const USER: Cred = Cred {
-    uid: 1000,
-    gid: 1000,
-    pid: 101,
-};
 
 const TO: SetTo = SetTo {
     uid: 1000,
@@ -32,11 +26,6 @@ const TO: SetTo = SetTo {
     mode: 0o600,
     qbytes: 9,
 };
-
-/// IPC_CREAT and mode 0600.
-fn creating() -> Flags {
-    Flags::from_bits_retain(512 + 0o600)
-}
 
 /// Gates at 128 blocks and identifiers from the first generation on, whose tickets begin at `first`. Memory is refused once
 /// at most.
@@ -55,19 +44,6 @@ fn gates_at(rt: &impl Abort, alloc: Global, first: u64) -> (Gates, Seats)
     }
 }
 
-/// A body without a text. Memory is refused once at most.
-fn empty_body(rt: &impl Abort, alloc: Global) -> Body
-    ensures { result ≡ [] }
-{
-    match Body::open(alloc) {
-        Ok(body) => body,
-        Err(_) => match Body::open(alloc) {
-            Ok(body) => body,
-            Err(_) => panic!(rt; "a second try"),
-        },
-    }
-}
-
 /// A letter with this text, in blocks of the pool.
 fn letter_of<R: Wait + Abort>(
     rt: &R,
@@ -79,8 +55,7 @@ fn letter_of<R: Wait + Abort>(
     requires { AreOf gates.now seats.old }
     ensures { AreOf gates.now seats.new }
 {
-    let mut body = empty_body(rt, alloc);
-    assert!(rt; body.push_piece(text));
+    let body = body_of(rt, alloc, text);
     assert!(rt; body.len() <= MESSAGE_BYTES);
     match gates.reserve(rt, seats, body.len()) {
         Ok(Some(chain)) => {
@@ -176,11 +151,6 @@ fn ended(rt: &impl Abort, closed: GatesClosed) -> (u64, u64, u64) {
     end_pool(pool.object);
     end_pool(pool.rest);
     turns
-}
-
-/// The test fails where what was found is not what is wanted.
-fn assert_is<T: PartialEq + Debug + Drop>(rt: &impl Abort, found: T, wanted: T) {
-    assert_eq!(rt; found, wanted);
 }
 
 #[test]

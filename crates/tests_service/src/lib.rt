@@ -1,25 +1,11 @@
-//! Tests of the service by one pass, and with several threads, each of which has a pass of its own.
+//! Tests of the objects of a service behind their gates, of the service by one pass and by several threads, and of sessions.
 #![tactic(auto)]
 
 #[cfg(test)]
-mod ask;
+mod gated;
 #[cfg(test)]
-mod board;
+mod parts;
 #[cfg(test)]
-mod crew;
+mod service;
 #[cfg(test)]
-mod crowd;
-#[cfg(test)]
-mod example;
-#[cfg(test)]
-mod one_pass;
-#[cfg(test)]
-mod part;
-#[cfg(test)]
-mod room;
-#[cfg(test)]
-mod stops;
-#[cfg(test)]
-mod turns;
-#[cfg(test)]
-mod waits;
+mod session;

@@ -1,18 +1,19 @@
 //! Calls as data.
 ghost use Rattle.sysv_gated.specs.Seats.{AreOf};
 
-use crate::board::Moment;
-use crate::room::{USER, body_of, creating, waiting};
+use super::board::Moment;
+use crate::parts::{body_of, empty_body};
 use std::alloc::Global;
 use std::process::Abort;
 use std::sync::Wait;
-use sysv_model::{Cred, Errno, SetTo};
+use sysv_model::{Body, Cred, Errno, Flags, MESSAGE_BYTES, SetTo};
 use sysv_queue::Tally;
 use sysv_service::{Pass, Service};
+use tests_kit::{USER, creating, flags};
 
 /// A call of the service by `USER`. A send or a receive waits.
 #[derive(Clone, Copy)]
-pub(crate) enum Ask {
+pub(super) enum Ask {
     /// Makes the queue of this key, or finds it.
     Get(i32),
     /// Sends a message of type 1 with so many bytes.
@@ -27,11 +28,16 @@ pub(crate) enum Ask {
     Stop,
 }
 
+/// No flag: a send and a receive wait.
+pub(super) fn waiting() -> Flags {
+    flags(0)
+}
+
 /// What a call answers: an identifier, the length of the text that was received, how many queues were removed, or 0.
-pub(crate) type Told = Result<i64, Errno>;
+pub(super) type Told = Result<i64, Errno>;
 
 /// Makes the call.
-pub(crate) fn make<R: Abort + Wait>(
+pub(super) fn make<R: Abort + Wait>(
     rt: &R,
     alloc: Global,
     service: &Service,
@@ -48,7 +54,7 @@ pub(crate) fn make<R: Abort + Wait>(
             Ok(i64::from(id))
         }
         Ask::Send(id, size) => {
-            let text = body_of(rt, alloc, b'x', size);
+            let text = letters(rt, alloc, size);
             service.msgsnd(rt, pass, &clock, USER, id, 1, &text, waiting())?;
             Ok(0)
         }
@@ -69,6 +75,13 @@ pub(crate) fn make<R: Abort + Wait>(
     }
 }
 
+/// A body of so many letters.
+fn letters(rt: &impl Abort, alloc: Global, size: usize) -> Body {
+    let text = [b'x'; MESSAGE_BYTES];
+    assert!(rt; size <= MESSAGE_BYTES);
+    body_of(rt, alloc, &text[..size])
+}
+
 fn receive<R: Abort + Wait>(
     rt: &R,
     alloc: Global,
@@ -81,7 +94,7 @@ fn receive<R: Abort + Wait>(
     requires { AreOf service.now pass.old.seats }
     ensures { AreOf service.now pass.new.seats }
 {
-    let mut out = body_of(rt, alloc, b'x', 0);
+    let mut out = empty_body(rt, alloc);
     let size = 8192;
     let given = service.msgrcv(rt, pass, &clock, USER, id, &mut out, size, mtype, waiting())?;
     given.written(&mut Tally::open());

@@ -6,32 +6,36 @@ use std::thread;
 use sysv_service::Clock;
 
 /// A thread is held for at most so many looks.
-pub(crate) const LOOKS: u32 = 10_000_000;
+pub(super) const LOOKS: u32 = 10_000_000;
 
 /// How many things were said.
 #[derive(Drop)]
-pub(crate) struct Board {
+pub(super) struct Board {
     said: AtomicU64,
 }
 
 impl Board {
-    pub(crate) fn new() -> Board {
+    pub(super) fn new() -> Board {
         Board {
             said: AtomicU64::new(0),
         }
     }
 
+    pub(super) fn two() -> [Board; 2] {
+        [Board::new(), Board::new()]
+    }
+
     /// Says one thing more.
-    pub(crate) fn say(&self) {
+    pub(super) fn say(&self) {
         self.said.fetch_add(1, SeqCst);
     }
 
-    pub(crate) fn said(&self) -> u64 {
+    pub(super) fn said(&self) -> u64 {
         self.said.load(SeqCst)
     }
 
     /// Waits until so many things were said.
-    pub(crate) fn hear(&self, rt: &impl Wait, goal: u64) {
+    pub(super) fn hear(&self, rt: &impl Wait, goal: u64) {
         for _ in rt.forever() {
             if self.said() >= goal {
                 return;
@@ -54,7 +58,7 @@ impl Board {
 
 /// The clock of a thread.
 #[derive(Clone, Copy)]
-pub(crate) enum Moment<'a> {
+pub(super) enum Moment<'a> {
     /// It stands still.
     Still,
     /// It says how often it was asked.

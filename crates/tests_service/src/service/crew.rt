@@ -4,10 +4,10 @@ ghost use Rattle.std.specs.List.{All};
 ghost use Rattle.std.specs.Thread.{IsSync};
 ghost use Rattle.sysv_gated.specs.Seats.{AreOf};
 
-use crate::ask::{Ask, make};
-use crate::board::Moment;
-use crate::part::Part;
-use crate::room::opened;
+use super::ask::{Ask, make};
+use super::board::Moment;
+use super::part::Part;
+use crate::parts::opened;
 use std::alloc::Global;
 use std::process::Abort;
 use std::sync::Wait;
@@ -17,24 +17,24 @@ use sysv_service::{Closed, Pass, Service};
 
 /// What is left of a service.
 #[derive(Drop)]
-pub(crate) struct Left<'a> {
+pub(super) struct Left<'a> {
     /// What the threads did, in the order in which they were given.
-    pub(crate) parts: Vec<Part<'a>>,
+    pub(super) parts: Vec<Part<'a>>,
     /// How many queues lived at the end.
-    pub(crate) live: u32,
-    pub(crate) closed: Closed,
+    pub(super) live: u32,
+    pub(super) closed: Closed,
 }
 
 /// Opens a service of so many blocks, makes the calls, each of which has to succeed, has each part act in a thread of its
 /// own, and closes the service.
-pub(crate) fn run<'a, R: Threads + Abort + Wait + Clock + Sync>(
+pub(super) fn run<'a, R: Threads + Abort + Wait + Clock + Sync>(
     rt: &R,
     alloc: Global,
     blocks: u32,
     before: &[Ask],
     parts: Vec<Part<'a>>,
 ) -> Left<'a> {
-    let (service, mut pass) = opened(rt, alloc, blocks);
+    let (service, mut pass) = opened(rt, alloc, blocks, 0);
     for call in before {
         let told = make(rt, alloc, &service, &mut pass, Moment::Still, *call);
         assert!(rt; told.is_ok());

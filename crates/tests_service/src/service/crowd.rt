@@ -1,17 +1,18 @@
 //! Four senders and four receivers at one queue that takes one byte at a time.
 ghost use Rattle.sysv_gated.specs.Seats.{AreOf};
 
-use crate::ask::Ask;
-use crate::board::Moment;
-use crate::crew::run;
-use crate::part::Part;
-use crate::room::{USER, body_of, closed, waiting};
+use super::ask::{Ask, waiting};
+use super::board::Moment;
+use super::crew::run;
+use super::part::Part;
+use crate::parts::{body_of, closed, empty_body};
 use std::alloc::Global;
 use std::process::Abort;
 use std::sync::Wait;
 use sysv_model::SetTo;
 use sysv_queue::Tally;
 use sysv_service::{Pass, Service};
+use tests_kit::USER;
 
 /// Each sender sends, and each receiver receives, so many messages.
 const TIMES: u8 = 200;
@@ -28,14 +29,14 @@ const ONE_BYTE: SetTo = SetTo {
 
 /// Sends its messages in their order, by two types in turn: their byte is their number.
 #[derive(Drop)]
-pub(crate) struct Sender {
+pub(super) struct Sender {
     /// From 0 on.
     number: i64,
 }
 
 /// Receives messages of any type.
 #[derive(Drop)]
-pub(crate) struct Receiver {
+pub(super) struct Receiver {
     /// The messages in their order.
     got: Vec<Message>,
 }
@@ -47,7 +48,7 @@ struct Message {
 }
 
 impl Sender {
-    pub(crate) fn send_all<R: Abort + Wait>(
+    pub(super) fn send_all<R: Abort + Wait>(
         &self,
         rt: &R,
         alloc: Global,
@@ -58,7 +59,7 @@ impl Sender {
         ensures { AreOf service.now pass.new.seats }
     {
         for number in 0..TIMES {
-            let text = body_of(rt, alloc, number, 1);
+            let text = body_of(rt, alloc, &[number]);
             let mtype = type_of(self.number, number);
             let sent = service.msgsnd(rt, pass, &Moment::Still, USER, 0, mtype, &text, waiting());
             assert_eq!(rt; sent, Ok(()));
@@ -75,7 +76,7 @@ fn type_of(sender: i64, number: u8) -> i64 {
 }
 
 impl Receiver {
-    pub(crate) fn receive_all<R: Abort + Wait>(
+    pub(super) fn receive_all<R: Abort + Wait>(
         &mut self,
         rt: &R,
         alloc: Global,
@@ -85,7 +86,7 @@ impl Receiver {
         requires { AreOf service.now pass.old.seats }
         ensures { AreOf service.now pass.new.seats }
     {
-        let mut out = body_of(rt, alloc, 0, 0);
+        let mut out = empty_body(rt, alloc);
         for _ in 0..TIMES {
             let clock = Moment::Still;
             let given = service.msgrcv(rt, pass, &clock, USER, 0, &mut out, 1, 0, waiting());

@@ -3,80 +3,16 @@
 ghost use Rattle.std.specs.Prelude.{◌≡◌};
 ghost use Rattle.sysv_gated.specs.Seats.{AreOf};
 
+use crate::parts::{CLOCK, assert_is, body_of, closed, empty_body, opened};
 use bitflags::Flags as _;
 use std::alloc::Global;
-use std::fmt::Debug;
 use std::process::Abort;
 use std::sync::Wait;
 use sysv_gated::GatesRefused;
-use sysv_model::{Body, Cred, Errno, Flags, SetTo};
+use sysv_model::{Errno, Flags, SetTo};
 use sysv_queue::Tally;
-use sysv_service::{Clock, Closed, Pass, Service};
-
-const USER: Cred = Cred {
-    uid: 1000,
-    gid: 1000,
-    pid: 101,
-};
-
-const OTHER: Cred = Cred {
-    uid: 2000,
-    gid: 2000,
-    pid: 102,
-};
-
-/// IPC_CREAT and mode 0600.
-fn creating() -> Flags {
-    Flags::from_bits_retain(512 + 0o600)
-}
-
-/// A clock that stands still.
-struct Still(u64);
-
-impl Clock for Still {
-    ghost may = { λ clock now. now ≡ clock.0 };
-
-    fn now(&self) -> u64 {
-        self.0
-    }
-}
-
-const CLOCK: Still = Still(7);
-
-/// A service of 128 blocks whose tickets begin at `first`. Memory is refused once at most.
-fn opened(rt: &impl Abort, alloc: Global, first: u64) -> (Service, Pass)
-    ensures { AreOf result.0 result.1.seats }
-{
-    match Service::open_at(alloc, 128, first, 0) {
-        Ok(opened) => opened,
-        Err(why) => {
-            assert_eq!(rt; why, GatesRefused::NoMemory);
-            match Service::open_at(alloc, 128, first, 0) {
-                Ok(opened) => opened,
-                Err(why) => panic!(rt; "a second try: {why:?}"),
-            }
-        }
-    }
-}
-
-/// A body with this text. Memory is refused once at most.
-fn body_of(rt: &impl Abort, alloc: Global, text: &[u8]) -> Body {
-    let mut body = match Body::open(alloc) {
-        Ok(body) => body,
-        Err(_) => Body::open(alloc).expect(rt, "a second try"),
-    };
-    assert!(rt; body.push_piece(text));
-    body
-}
-
-/// What a closed service of 128 blocks gives back, all of which are free.
-const fn closed(waiting: u64) -> Closed {
-    Closed {
-        waiting,
-        free: 128,
-        held: 0,
-    }
-}
+use sysv_service::{Pass, Service};
+use tests_kit::{OTHER, USER, creating};
 
 /// Sends this text to the queue of the identifier, without waiting.
 fn send(
@@ -133,14 +69,9 @@ fn receive(
     }
 }
 
-/// The test fails where what was found is not what is wanted.
-fn assert_is<T: PartialEq + Debug + Drop>(rt: &impl Abort, found: T, wanted: T) {
-    assert_eq!(rt; found, wanted);
-}
-
 #[test]
 fn a_pass_receives_its_own_message(rt: HostRuntime) {
-    let (service, mut pass) = opened(&rt, rt.alloc(), 0);
+    let (service, mut pass) = opened(&rt, rt.alloc(), 128, 0);
     let id = service.msgget(&rt, &mut pass, &CLOCK, USER, 7, creating());
     assert_is(&rt, id, Ok(0));
     assert_is(
@@ -173,12 +104,12 @@ fn a_pass_receives_its_own_message(rt: HostRuntime) {
         send(&rt, rt.alloc(), &service, &mut pass, 0, 6, b"left"),
         Ok(()),
     );
-    assert_is(&rt, service.close(pass), closed(1));
+    assert_is(&rt, service.close(pass), closed(1, 128));
 }
 
 #[test]
 fn a_queue_is_told_set_and_removed(rt: HostRuntime) {
-    let (service, mut pass) = opened(&rt, rt.alloc(), 0);
+    let (service, mut pass) = opened(&rt, rt.alloc(), 128, 0);
     let id = service.msgget(&rt, &mut pass, &CLOCK, USER, 7, creating());
     assert_is(&rt, id, Ok(0));
     let to = SetTo {
@@ -226,7 +157,7 @@ fn a_queue_is_told_set_and_removed(rt: HostRuntime) {
     );
     let id = service.msgget(&rt, &mut pass, &CLOCK, USER, 7, creating());
     assert_is(&rt, id, Ok(64));
-    assert_is(&rt, service.close(pass), closed(0));
+    assert_is(&rt, service.close(pass), closed(0, 128));
 }
 
 /// A msgget of no key.
@@ -254,27 +185,27 @@ fn make_with_message(
 
 #[test]
 fn one_ticket_is_left(rt: HostRuntime) {
-    let (service, mut pass) = opened(&rt, rt.alloc(), (1 << 62) - 1);
+    let (service, mut pass) = opened(&rt, rt.alloc(), 128, (1 << 62) - 1);
     assert_is(&rt, get(&rt, &service, &mut pass), Err(Errno::EOVERFLOW));
     let sent = send(&rt, rt.alloc(), &service, &mut pass, 0, 5, b"x");
     assert_is(&rt, sent, Err(Errno::EOVERFLOW));
-    assert_is(&rt, service.close(pass), closed(0));
+    assert_is(&rt, service.close(pass), closed(0, 128));
 }
 
 #[test]
 fn two_tickets_are_left(rt: HostRuntime) {
-    let (service, mut pass) = opened(&rt, rt.alloc(), (1 << 62) - 2);
+    let (service, mut pass) = opened(&rt, rt.alloc(), 128, (1 << 62) - 2);
     assert_is(&rt, get(&rt, &service, &mut pass), Ok(0));
     let sent = send(&rt, rt.alloc(), &service, &mut pass, 0, 5, b"x");
     assert_is(&rt, sent, Err(Errno::EOVERFLOW));
     let received = receive(&rt, rt.alloc(), &service, &mut pass, 0, 0);
     assert_is(&rt, received, Err(Errno::EOVERFLOW));
-    assert_is(&rt, service.close(pass), closed(0));
+    assert_is(&rt, service.close(pass), closed(0, 128));
 }
 
 #[test]
 fn a_removal_goes_on_at_a_worn_registry(rt: HostRuntime) {
-    let (service, mut pass) = opened(&rt, rt.alloc(), (1 << 62) - 2);
+    let (service, mut pass) = opened(&rt, rt.alloc(), 128, (1 << 62) - 2);
     assert_is(&rt, get(&rt, &service, &mut pass), Ok(0));
     assert_is(&rt, service.msgctl_rmid(&rt, &mut pass, USER, 0), Ok(()));
     assert_is(
@@ -283,23 +214,23 @@ fn a_removal_goes_on_at_a_worn_registry(rt: HostRuntime) {
         Err(Errno::EOVERFLOW),
     );
     assert_is(&rt, get(&rt, &service, &mut pass), Err(Errno::EOVERFLOW));
-    assert_is(&rt, service.close(pass), closed(0));
+    assert_is(&rt, service.close(pass), closed(0, 128));
 }
 
 #[test]
 fn three_tickets_are_left(rt: HostRuntime) {
-    let (service, mut pass) = opened(&rt, rt.alloc(), (1 << 62) - 3);
+    let (service, mut pass) = opened(&rt, rt.alloc(), 128, (1 << 62) - 3);
     assert_is(&rt, get(&rt, &service, &mut pass), Ok(0));
     let sent = send(&rt, rt.alloc(), &service, &mut pass, 0, 5, b"x");
     assert_is(&rt, sent, Ok(()));
     let received = receive(&rt, rt.alloc(), &service, &mut pass, 0, 0);
     assert_is(&rt, received, Err(Errno::EOVERFLOW));
-    assert_is(&rt, service.close(pass), closed(1));
+    assert_is(&rt, service.close(pass), closed(1, 128));
 }
 
 #[test]
 fn an_install_is_undone_at_a_worn_gate(rt: HostRuntime) {
-    let (service, mut pass) = opened(&rt, rt.alloc(), (1 << 62) - 5);
+    let (service, mut pass) = opened(&rt, rt.alloc(), 128, (1 << 62) - 5);
     assert_is(&rt, get(&rt, &service, &mut pass), Ok(0));
     let sent = send(&rt, rt.alloc(), &service, &mut pass, 0, 5, b"x");
     assert_is(&rt, sent, Ok(()));
@@ -309,12 +240,12 @@ fn an_install_is_undone_at_a_worn_gate(rt: HostRuntime) {
     }
     assert_is(&rt, service.msgctl_rmid(&rt, &mut pass, USER, 0), Ok(()));
     assert_is(&rt, get(&rt, &service, &mut pass), Err(Errno::EOVERFLOW));
-    assert_is(&rt, service.close(pass), closed(0));
+    assert_is(&rt, service.close(pass), closed(0, 128));
 }
 
 #[test]
 fn a_pass_keeps_a_chain_that_cannot_go_back(rt: HostRuntime) {
-    let (service, mut pass) = opened(&rt, rt.alloc(), (1 << 62) - 6);
+    let (service, mut pass) = opened(&rt, rt.alloc(), 128, (1 << 62) - 6);
     make_with_message(&rt, rt.alloc(), &service, &mut pass, 0);
     make_with_message(&rt, rt.alloc(), &service, &mut pass, 1);
     make_with_message(&rt, rt.alloc(), &service, &mut pass, 2);
@@ -326,14 +257,14 @@ fn a_pass_keeps_a_chain_that_cannot_go_back(rt: HostRuntime) {
     assert_is(&rt, sent, Ok(()));
     let received = receive(&rt, rt.alloc(), &service, &mut pass, 2, 0);
     assert_is(&rt, received, Ok((5, 1)));
-    assert_is(&rt, service.close(pass), closed(1));
+    assert_is(&rt, service.close(pass), closed(1, 128));
 }
 
 #[test]
 fn a_wait_ends_at_a_worn_gate(rt: HostRuntime) {
-    let (service, mut pass) = opened(&rt, rt.alloc(), (1 << 62) - 2);
+    let (service, mut pass) = opened(&rt, rt.alloc(), 128, (1 << 62) - 2);
     assert_is(&rt, get(&rt, &service, &mut pass), Ok(0));
-    let mut out = body_of(&rt, rt.alloc(), b"");
+    let mut out = empty_body(&rt, rt.alloc());
     match service.msgrcv(
         &rt,
         &mut pass,
@@ -351,12 +282,12 @@ fn a_wait_ends_at_a_worn_gate(rt: HostRuntime) {
         }
         Err(why) => assert_is(&rt, why, Errno::EOVERFLOW),
     }
-    assert_is(&rt, service.close(pass), closed(0));
+    assert_is(&rt, service.close(pass), closed(0, 128));
 }
 
 #[test]
 fn a_stop_removes_every_queue(rt: HostRuntime) {
-    let (service, mut pass) = opened(&rt, rt.alloc(), 0);
+    let (service, mut pass) = opened(&rt, rt.alloc(), 128, 0);
     make_with_message(&rt, rt.alloc(), &service, &mut pass, 0);
     make_with_message(&rt, rt.alloc(), &service, &mut pass, 1);
     make_with_message(&rt, rt.alloc(), &service, &mut pass, 2);
@@ -364,12 +295,12 @@ fn a_stop_removes_every_queue(rt: HostRuntime) {
     assert_is(&rt, service.stop(&rt, &mut pass), Ok(2));
     assert_is(&rt, service.list_row(&rt, &mut pass, 0), Ok(None));
     assert_is(&rt, service.stop(&rt, &mut pass), Ok(0));
-    assert_is(&rt, service.close(pass), closed(0));
+    assert_is(&rt, service.close(pass), closed(0, 128));
 }
 
 #[test]
 fn passes_are_split_and_joined(rt: HostRuntime) {
-    let (service, mut pass) = opened(&rt, rt.alloc(), 0);
+    let (service, mut pass) = opened(&rt, rt.alloc(), 128, 0);
     let id = service.msgget(&rt, &mut pass, &CLOCK, USER, 7, creating());
     assert_is(&rt, id, Ok(0));
     if let Ok(mut other) = service.split_pass(rt.alloc(), &mut pass) {
@@ -385,7 +316,7 @@ fn passes_are_split_and_joined(rt: HostRuntime) {
             Ok((5, 4)),
         );
     }
-    assert_is(&rt, service.close(pass), closed(0));
+    assert_is(&rt, service.close(pass), closed(0, 128));
 }
 
 #[test]
@@ -406,6 +337,6 @@ fn sizes_out_of_range_open_no_service(rt: HostRuntime) {
     }
     match Service::open(rt.alloc(), 128) {
         Err(why) => assert_is(&rt, why, GatesRefused::NoMemory),
-        Ok((service, pass)) => assert_is(&rt, service.close(pass), closed(0)),
+        Ok((service, pass)) => assert_is(&rt, service.close(pass), closed(0, 128)),
     }
 }

@@ -1,10 +1,10 @@
 //! What a thread does.
 ghost use Rattle.sysv_gated.specs.Seats.{AreOf};
 
-use crate::ask::{Ask, Told, make};
-use crate::board::{Board, Moment};
-use crate::crowd::{Receiver, Sender};
-use crate::turns::Tease;
+use super::ask::{Ask, Told, make};
+use super::board::{Board, Moment};
+use super::crowd::{Receiver, Sender};
+use super::turns::Tease;
 use std::alloc::Global;
 use std::process::Abort;
 use std::sync::Wait;
@@ -14,7 +14,7 @@ use sysv_service::{Pass, Service};
 
 /// What one thread does with its pass.
 #[derive(Drop)]
-pub(crate) enum Part<'a> {
+pub(super) enum Part<'a> {
     /// Makes a call once its turn comes.
     Asks(Turn<'a>),
     Teases(Tease<'a>),
@@ -23,7 +23,7 @@ pub(crate) enum Part<'a> {
 }
 
 impl Part<'_> {
-    pub(crate) fn act<R: Abort + Wait + Clock>(
+    pub(super) fn act<R: Abort + Wait + Clock>(
         &mut self,
         rt: &R,
         alloc: Global,
@@ -44,27 +44,27 @@ impl Part<'_> {
 
 /// A call of a thread, and what was said before it and after it.
 #[derive(Drop)]
-pub(crate) struct Turn<'a> {
-    pub(crate) board: &'a Board,
+pub(super) struct Turn<'a> {
+    pub(super) board: &'a Board,
     /// It says that it runs.
-    pub(crate) runs: bool,
+    pub(super) runs: bool,
     /// It waits until so many things were said.
-    pub(crate) after: u64,
+    pub(super) after: u64,
     /// It lets the others come to their waits, and says that it begins.
-    pub(crate) begins: bool,
-    pub(crate) clock: Moment<'a>,
-    pub(crate) ask: Ask,
+    pub(super) begins: bool,
+    pub(super) clock: Moment<'a>,
+    pub(super) ask: Ask,
     /// It says that it was answered.
-    pub(crate) ends: bool,
+    pub(super) ends: bool,
     /// The answer, once it is there.
-    pub(crate) told: Option<Told>,
+    pub(super) told: Option<Told>,
     /// How many things were said when the answer came.
-    pub(crate) said: u64,
+    pub(super) said: u64,
 }
 
 impl<'a> Turn<'a> {
     /// A call that is made at once by a thread that says that it runs.
-    pub(crate) fn at_once(board: &'a Board, ask: Ask) -> Turn<'a> {
+    pub(super) fn at_once(board: &'a Board, ask: Ask) -> Turn<'a> {
         Turn {
             board,
             runs: true,
@@ -105,12 +105,12 @@ impl<'a> Turn<'a> {
 }
 
 /// Adds a part after the others.
-pub(crate) fn add<'a>(rt: &impl Abort, parts: &mut Vec<Part<'a>>, part: Part<'a>) {
+pub(super) fn add<'a>(rt: &impl Abort, parts: &mut Vec<Part<'a>>, part: Part<'a>) {
     parts.push(part).expect(rt, "memory");
 }
 
 /// What the call of this part was answered, and how many things were said by then.
-pub(crate) fn told_of(rt: &impl Abort, parts: &[Part], place: usize) -> (Told, u64) {
+pub(super) fn told_of(rt: &impl Abort, parts: &[Part], place: usize) -> (Told, u64) {
     let Some(Part::Asks(turn)) = parts.get(place) else {
         panic!(rt; "no call at {place}")
     };

@@ -1,16 +1,17 @@
 //! Waits of every kind end when what they wait for comes.
 
-use crate::ask::{Ask, Told};
-use crate::board::{Board, Moment};
-use crate::crew::run;
-use crate::part::{Part, Turn, add, told_of};
-use crate::room::{ROOT, USER, closed};
+use super::ask::{Ask, Told};
+use super::board::{Board, Moment};
+use super::crew::run;
+use super::part::{Part, Turn, add, told_of};
+use crate::parts::closed;
 use std::alloc::Global;
 use std::process::Abort;
 use std::sync::Wait;
 use std::thread::Threads;
 use std::time::Clock;
-use sysv_model::{Cred, Errno, SetTo};
+use sysv_model::{Errno, SetTo};
+use tests_kit::{ROOT, USER};
 
 /// A wait is tried so many times where the other call may come first.
 const TRIES: u32 = 50;

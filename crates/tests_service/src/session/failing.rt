@@ -1,14 +1,14 @@
 //! Readers and writers that fail after each byte, and writers that cannot be flushed.
-use crate::ends::{
-    ANSWER_ENDS, ANSWERS, Page, Pieces, REQUEST_ENDS, SESSION, assert_served, served,
-};
+use super::served::{assert_served, served};
 use sysv_session::End;
 use sysv_wire::Fault;
+use tests_kit::worked::{ANSWER_ENDS, ANSWERS, REQUEST_ENDS, SESSION};
+use tests_kit::{Page, Pieces};
 
 #[test]
 fn the_reader_fails(rt: HostRuntime) {
     for good in 0..SESSION.len() {
-        let mut reader = Pieces::new(SESSION, &[], usize::MAX);
+        let mut reader = Pieces::new(SESSION, usize::MAX);
         reader.good = good;
         let mut page = Page::new();
         let told = served(&rt, rt.alloc(), &mut reader, &mut page);
@@ -26,7 +26,7 @@ fn the_reader_fails(rt: HostRuntime) {
 
 #[test]
 fn the_reader_fails_at_the_end(rt: HostRuntime) {
-    let mut reader = Pieces::new(SESSION, &[], usize::MAX);
+    let mut reader = Pieces::new(SESSION, usize::MAX);
     reader.good = SESSION.len();
     let mut page = Page::new();
     let told = served(&rt, rt.alloc(), &mut reader, &mut page);
@@ -56,7 +56,7 @@ fn the_writer_fails(rt: HostRuntime) {
     for room in 0..ANSWERS.len() {
         for stalls in [false, true] {
             for piece in [1, 5, usize::MAX] {
-                let mut reader = Pieces::new(SESSION, &[], usize::MAX);
+                let mut reader = Pieces::new(SESSION, usize::MAX);
                 let mut page = Page::new();
                 page.room = room;
                 page.stalls = stalls;
@@ -85,7 +85,7 @@ fn the_writer_cannot_be_flushed(rt: HostRuntime) {
         (5, 1, 1, 0),
     ];
     for flushes in 0..5 {
-        let mut reader = Pieces::new(SESSION, &[], usize::MAX);
+        let mut reader = Pieces::new(SESSION, usize::MAX);
         let mut page = Page::new();
         page.flushes = flushes;
         let told = served(&rt, rt.alloc(), &mut reader, &mut page);

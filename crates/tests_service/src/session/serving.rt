@@ -2,53 +2,22 @@
 ghost use Rattle.std.specs.Prelude.{◌≡◌};
 ghost use Rattle.sysv_gated.specs.Seats.{AreOf};
 
-use crate::ends::{ANSWERS, Page, Pieces, SESSION, assert_served};
+use super::served::assert_served;
+use crate::parts::{CLOCK, Still, closed, opened};
 use std::alloc::Global;
 use std::process::Abort;
 use std::sync::Wait;
-use sysv_gated::GatesRefused;
 use sysv_kernel::ServiceKernel;
-use sysv_service::{Clock, Pass, Service};
+use sysv_service::{Pass, Service};
 use sysv_session::{End, Served};
-
-/// A clock that stands still.
-struct Still(u64);
-
-impl Clock for Still {
-    ghost may = { λ clock now. now ≡ clock.0 };
-
-    fn now(&self) -> u64 {
-        self.0
-    }
-}
-
-const CLOCK: Still = Still(7);
-
-/// A service of 128 blocks. Memory is refused once at most.
-fn opened(rt: &impl Abort, alloc: Global) -> (Service, Pass)
-    ensures { AreOf result.0 result.1.seats }
-{
-    match Service::open(alloc, 128) {
-        Ok(opened) => opened,
-        Err(why) => {
-            assert_eq!(rt; why, GatesRefused::NoMemory);
-            match Service::open(alloc, 128) {
-                Ok(opened) => opened,
-                Err(why) => panic!(rt; "a second try: {why:?}"),
-            }
-        }
-    }
-}
+use tests_kit::worked::{ANSWERS, SESSION};
+use tests_kit::{Page, Pieces};
 
 /// Ends the service. So many messages waited, and then all blocks are free.
 fn ended(rt: &impl Abort, service: Service, pass: Pass, waiting: u64)
     requires { AreOf service pass.seats }
 {
-    let closed = service.close(pass);
-    assert_eq!(rt;
-        (closed.waiting, closed.free, closed.held),
-        (waiting, 128, 0)
-    );
+    assert_eq!(rt; service.close(pass), closed(waiting, 128));
 }
 
 /// Serves one session. Memory is refused once at most, and then nothing was read or written.
@@ -65,7 +34,7 @@ fn talked<R: Abort + Wait>(
     if served.end != End::NoMemory {
         return served;
     }
-    assert_eq!(rt; (page.written().len(), page.flush_count), (0, 0));
+    assert_eq!(rt; (page.written().len(), page.flushed().len()), (0, 0));
     kernel.serve(alloc, reader, page)
 }
 
@@ -77,7 +46,7 @@ fn served<R: Abort + Wait>(
     page: &mut Page,
     waiting: u64,
 ) -> Served {
-    let (service, pass) = opened(rt, alloc);
+    let (service, pass) = opened(rt, alloc, 128, 0);
     let mut kernel = ServiceKernel::new(rt, &service, &CLOCK, pass);
     let told = talked(rt, alloc, reader, page, &mut kernel);
     let pass = kernel.into_pass();
@@ -88,7 +57,7 @@ fn served<R: Abort + Wait>(
 #[test]
 fn the_session_cut_after_each_byte(rt: HostRuntime) {
     for cut in 0..SESSION.len() + 1 {
-        let mut reader = Pieces::new(&SESSION[..cut], &SESSION[cut..], usize::MAX);
+        let mut reader = Pieces::both(&SESSION[..cut], &SESSION[cut..]);
         let mut page = Page::new();
         let told = served(&rt, rt.alloc(), &mut reader, &mut page, 0);
         assert_served(&rt, &told, &page, End::Ended, (5, 1, 1, 0), ANSWERS);
@@ -98,7 +67,7 @@ fn the_session_cut_after_each_byte(rt: HostRuntime) {
 #[test]
 fn the_session_by_pieces(rt: HostRuntime) {
     for piece in [1, 2, 3, 7, 64] {
-        let mut reader = Pieces::new(SESSION, &[], piece);
+        let mut reader = Pieces::new(SESSION, piece);
         let mut page = Page::new();
         page.piece = piece;
         let told = served(&rt, rt.alloc(), &mut reader, &mut page, 0);
@@ -109,7 +78,7 @@ fn the_session_by_pieces(rt: HostRuntime) {
 /// Runs a session of a hello, a get of queue 0 with key 7, mode 0600 and these bytes, whose replies follow those to the first
 /// two requests.
 fn answers<R: Abort + Wait>(rt: &R, alloc: Global, bytes: &[u8], replies: &[u8], waiting: u64) {
-    let mut reader = Pieces::new(&SESSION[..32], bytes, usize::MAX);
+    let mut reader = Pieces::both(&SESSION[..32], bytes);
     let mut page = Page::new();
     let told = served(rt, alloc, &mut reader, &mut page, waiting);
     assert_eq!(rt; told.end, End::Ended);

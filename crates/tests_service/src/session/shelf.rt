@@ -14,31 +14,29 @@ use sysv_pool::{Chain, Pool};
 use sysv_queue::{PlaceRefused, QueueSlot, TakeRefused, Unplaced};
 use sysv_session::{Kernel, Outcome};
 use sysv_wire::{Ask, Op, Outcome as Told, Reply, Request};
+use tests_kit::open_pool;
 
 /// The most that a count reaches here.
 const MAX_COUNT: u64 = 1 << 32;
 
 /// One slot for a queue, and what it stands on. It answers msgget, msgsnd and msgrcv, which never wait,
 /// and refuses all else with EINVAL.
-pub(crate) struct Shelf {
+pub(super) struct Shelf {
     slot: QueueSlot,
     registry: Registry,
     pool: Pool,
     /// The requests that it was asked.
-    pub(crate) asked: u32,
+    pub(super) asked: u32,
 }
 
 impl Shelf {
     /// No queue, and a pool of 128 blocks. Memory is refused once at most.
-    pub(crate) fn open(rt: &impl Abort, alloc: Global) -> Shelf {
+    pub(super) fn open(rt: &impl Abort, alloc: Global) -> Shelf {
         let registry = match Registry::open(alloc) {
             Ok(registry) => registry,
             Err(_) => Registry::open(alloc).ok().expect(rt, "a second try"),
         };
-        let pool = match Pool::open(alloc, 128) {
-            Ok(pool) => pool,
-            Err(_) => Pool::open(alloc, 128).ok().expect(rt, "a second try"),
-        };
+        let pool = open_pool(alloc, 128).expect(rt, "a second try");
         let slot = match QueueSlot::open(alloc) {
             Ok(slot) => slot,
             Err(_) => QueueSlot::open(alloc).ok().expect(rt, "a second try"),
@@ -52,7 +50,7 @@ impl Shelf {
     }
 
     /// Ends the shelf; how many blocks are free with those of what waits.
-    pub(crate) fn end(self) -> u32 {
+    pub(super) fn end(self) -> u32 {
         let Shelf {
             slot,
             registry: _,

@@ -1,9 +1,11 @@
 //! A kernel that waits for a lock in each of its calls.
-use crate::ends::{Page, Pieces, SESSION, counts_of};
+use super::served::counts_of;
 use std::sync::{Mutex, Wait};
 use sysv_model::{Body, Cred, Errno};
 use sysv_session::{End, Kernel, Outcome, serve};
 use sysv_wire::{Outcome as Told, Reply, Request};
+use tests_kit::worked::SESSION;
+use tests_kit::{Page, Pieces};
 
 /// Counts what it is asked under a lock, and refuses all.
 #[derive(Drop)]
@@ -34,7 +36,7 @@ fn a_kernel_may_wait(rt: HostRuntime) {
         rt: &rt,
         asked: &asked,
     };
-    let mut reader = Pieces::new(SESSION, &[], usize::MAX);
+    let mut reader = Pieces::new(SESSION, usize::MAX);
     let mut page = Page::new();
     let told = serve(rt.alloc(), &mut reader, &mut page, &mut kernel);
     if told.end == End::NoMemory {

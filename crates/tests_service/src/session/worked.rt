@@ -1,16 +1,16 @@
 //! A session whose bytes are worked by hand, whole and cut short, and sessions that end early.
-use crate::ends::{
-    ANSWER_ENDS, ANSWERS, Page, Pieces, REQUEST_ENDS, SESSION, assert_served, served,
-};
+use super::served::{assert_served, served};
 use std::alloc::Global;
 use std::process::Abort;
 use sysv_session::End;
 use sysv_wire::Fault;
+use tests_kit::worked::{ANSWER_ENDS, ANSWERS, REQUEST_ENDS, SESSION};
+use tests_kit::{Page, Pieces};
 
 #[test]
 fn the_session_cut_after_each_byte(rt: HostRuntime) {
     for cut in 0..SESSION.len() + 1 {
-        let mut reader = Pieces::new(&SESSION[..cut], &SESSION[cut..], usize::MAX);
+        let mut reader = Pieces::both(&SESSION[..cut], &SESSION[cut..]);
         let mut page = Page::new();
         let told = served(&rt, rt.alloc(), &mut reader, &mut page);
         assert_served(&rt, &told, &page, End::Ended, (5, 1, 1, 0), ANSWERS);
@@ -20,7 +20,7 @@ fn the_session_cut_after_each_byte(rt: HostRuntime) {
 #[test]
 fn the_session_byte_by_byte(rt: HostRuntime) {
     for piece in [1, 2, 3, 7, 64] {
-        let mut reader = Pieces::new(SESSION, &[], piece);
+        let mut reader = Pieces::new(SESSION, piece);
         let mut page = Page::new();
         page.piece = piece;
         let told = served(&rt, rt.alloc(), &mut reader, &mut page);
@@ -30,19 +30,18 @@ fn the_session_byte_by_byte(rt: HostRuntime) {
 
 #[test]
 fn each_reply_is_flushed_once(rt: HostRuntime) {
-    let mut reader = Pieces::new(SESSION, &[], usize::MAX);
+    let mut reader = Pieces::new(SESSION, usize::MAX);
     let mut page = Page::new();
     page.piece = 3;
     let told = served(&rt, rt.alloc(), &mut reader, &mut page);
     assert_eq!(rt; told.end, End::Ended);
-    assert_eq!(rt; page.flush_count, 5);
-    assert!(rt; page.flushed == [7, 18, 25, 42, 49, 0, 0, 0]);
+    assert_eq!(rt; page.flushed(), [7, 18, 25, 42, 49].as_slice());
 }
 
 #[test]
 fn the_session_ended_after_each_byte(rt: HostRuntime) {
     for cut in 0..SESSION.len() {
-        let mut reader = Pieces::new(&SESSION[..cut], &[], usize::MAX);
+        let mut reader = Pieces::new(&SESSION[..cut], usize::MAX);
         let mut page = Page::new();
         let told = served(&rt, rt.alloc(), &mut reader, &mut page);
         let whole = REQUEST_ENDS.iter().filter(|end| **end <= cut).count();
@@ -64,7 +63,7 @@ fn the_session_ended_after_each_byte(rt: HostRuntime) {
 
 #[test]
 fn ten_bytes_into_the_send(rt: HostRuntime) {
-    let mut reader = Pieces::new(&SESSION[..42], &[], usize::MAX);
+    let mut reader = Pieces::new(&SESSION[..42], usize::MAX);
     let mut page = Page::new();
     let told = served(&rt, rt.alloc(), &mut reader, &mut page);
     assert_served(
@@ -79,11 +78,11 @@ fn ten_bytes_into_the_send(rt: HostRuntime) {
 
 /// A session of these bytes ends so, before any hello.
 fn ends_unanswered(rt: &impl Abort, alloc: Global, bytes: &[u8], end: End) {
-    let mut reader = Pieces::new(bytes, &[], usize::MAX);
+    let mut reader = Pieces::new(bytes, usize::MAX);
     let mut page = Page::new();
     let told = served(rt, alloc, &mut reader, &mut page);
     assert_served(rt, &told, &page, end, (0, 0, 0, 0), b"");
-    assert_eq!(rt; page.flush_count, 0);
+    assert_eq!(rt; page.flushed().len(), 0);
 }
 
 #[test]
@@ -118,11 +117,11 @@ fn the_first_frame_is_no_hello(rt: HostRuntime) {
 
 /// A session of a hello and these bytes ends so, with the hello's reply alone.
 fn ends_after_hello(rt: &impl Abort, alloc: Global, bytes: &[u8], end: End) {
-    let mut reader = Pieces::new(&SESSION[..18], bytes, usize::MAX);
+    let mut reader = Pieces::both(&SESSION[..18], bytes);
     let mut page = Page::new();
     let told = served(rt, alloc, &mut reader, &mut page);
     assert_served(rt, &told, &page, end, (1, 0, 0, 0), &ANSWERS[..7]);
-    assert_eq!(rt; page.flush_count, 1);
+    assert_eq!(rt; page.flushed().len(), 1);
 }
 
 #[test]
