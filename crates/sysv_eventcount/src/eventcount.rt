@@ -1,7 +1,7 @@
 //! Eventcounts.
 ghost use Rattle.std.specs.Prelude.{◌≡◌, ◌-◌, ◌^◌, ◌<◌, ◌≤◌, IfOk, OnOk, OnErr, IsErr, IsErrOf, ◌↔◌};
 ghost use Rattle.sysv_eventcount.specs.Counter.{opened, saw, added, after_split, split_off, after_join, Learns, MeetsWear};
-ghost use Rattle.sysv_eventcount.specs.Numbers.{NoneTwice};
+ghost use Rattle.sysv_lists.specs.Numbers.{NoneTwice};
 ghost use Rattle.sysv_eventcount.specs.Waits.{value_of, Tells};
 
 use crate::awaited::Awaited;

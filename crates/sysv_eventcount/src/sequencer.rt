@@ -1,7 +1,7 @@
 //! Sequencers.
 ghost use Rattle.std.specs.Prelude.{◌≡◌, ◌^◌, ◌<◌, IfOk, OnOk, OnErr, IsErr, IsErrOf, ◌↔◌};
 ghost use Rattle.sysv_eventcount.specs.Counter.{opened, added, after_split, split_off, after_join, Learns, MeetsWear};
-ghost use Rattle.sysv_eventcount.specs.Numbers.{NoneTwice};
+ghost use Rattle.sysv_lists.specs.Numbers.{NoneTwice};
 
 use crate::refusals::{OpenRefused, TooMany, Worn};
 use crate::seat::Seat;

@@ -1,6 +1,6 @@
 //! The word of an eventcount or a sequencer, with all its steps.
 ghost use Rattle.std.specs.Prelude.{◌≡◌, ◌+◌, ◌^◌, ◌<◌, ◌≤◌, IfOk, OnOk, OnErr, IsErr, IsErrOf, ◌↔◌};
-ghost use Rattle.sysv_eventcount.specs.Numbers.{NoneTwice};
+ghost use Rattle.sysv_lists.specs.Numbers.{NoneTwice};
 ghost use Rattle.sysv_eventcount.specs.Counter.{opened, saw, added, after_split, split_off, after_join, Learns, MeetsWear};
 
 use crate::refusals::{OpenRefused, TooMany, Worn};

@@ -1,5 +1,5 @@
 use Rattle.std.proofs.Common.{rules, sym, subst}
-use Rattle.sysv_eventcount.specs.Numbers.{NoneTwice}
+use Rattle.sysv_lists.specs.Numbers.{NoneTwice}
 use Rattle.sysv_eventcount.specs.Steps.{Mine}
 use Rattle.sysv_eventcount.proofs.Keeping.{joins, weighs}
 use Rattle.sysv_eventcount.proofs.word.Word.join.Goals as goal
