@@ -1,7 +1,7 @@
 -- The running history of an object: its turns, in the order in which they were finished. A turn says which seat made it,
 -- the call, the reply, and the object after it. Reed and Kanodia's mutual exclusion by a sequencer and an eventcount
 -- gives the order.
-use Rattle.std.specs.Prelude.{◌≡◌, ℕ, zero, suc, ◌+◌, ◌<◌, ◌≤◌, List, [], ◌∷◌, ◌++◌}
+use Rattle.std.specs.Prelude.{◌≡◌, ℕ, zero, suc, ◌+◌, ◌<◌, ◌≤◌, List, [], ◌∷◌}
 use Rattle.sysv_gate.specs.declared.view.Turn.{Turn}
 use Rattle.sysv_lists.specs.Numbers.{times, NoneTwice}
 
