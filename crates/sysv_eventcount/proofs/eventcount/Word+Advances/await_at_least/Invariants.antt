@@ -1,6 +1,6 @@
 use Rattle.std.proofs.Common.{◌≡◌, ◌≤◌}
 use Rattle.sysv_eventcount.specs.Counter.{saw}
-use Rattle.sysv_eventcount.proofs.eventcount.Eventcount.await_at_least.Given as goal
+use Rattle.sysv_eventcount.proofs.eventcount.Word+Advances.await_at_least.Given as goal
 
 -- the seat has seen more, and is else what it was
 abbrev pub invariant-loop : goal.invariant-loop

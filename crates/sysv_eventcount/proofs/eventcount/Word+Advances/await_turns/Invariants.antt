@@ -1,6 +1,6 @@
 use Rattle.std.proofs.Common.{◌≡◌}
 use Rattle.sysv_eventcount.specs.Counter.{saw, Learns}
-use Rattle.sysv_eventcount.proofs.eventcount.Eventcount.await_turns.Given as goal
+use Rattle.sysv_eventcount.proofs.eventcount.Word+Advances.await_turns.Given as goal
 
 -- the seat has seen the value that was read last, and has learned of it
 abbrev pub invariant-loop-turn : goal.invariant-loop-turn
