@@ -33,13 +33,4 @@ pub index_sync : IsSync index.the_row
 index_sync = search crossing depth 30
 
 pub messages_send : IsSend messages.the_row
-messages_send = search (crossing, index_send, chain_send) depth 40
-
-pub messages_sync : IsSync messages.the_row
-messages_sync = search (crossing, index_sync, chain_sync) depth 40
-
-pub queue_send : IsSend slot.the_row
-queue_send = search (crossing, messages_send, attributes.the_send) depth 30
-
-pub queue_sync : IsSync slot.the_row
-queue_sync = search (crossing, messages_sync, attributes.the_sync) depth 30
+messages_send = ?

@@ -22,5 +22,6 @@ pub mod WorkedRemoval
 pub mod Control
 pub mod Shows
 pub mod Numbering
+pub mod Receives
 pub mod Crossing
 pub mod BlocksKept
