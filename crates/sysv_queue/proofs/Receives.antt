@@ -1,5 +1,5 @@
 -- The turns of a receive that came to its queue, by what the store of messages gave.
-use Rattle.std.proofs.Common.{◌≡◌, ℕ, ℤ, ◌+◌, ◌<◌, ◌≤◌, ◌⊎◌, Bool, true, false, inl, inr, length, option_map, remove, refl, sym, ap, subst, ◌∙◌, arith}
+use Rattle.std.proofs.Common.{◌≡◌, ℕ, ℤ, ◌+◌, ◌<◌, ◌≤◌, Bool, true, false, inl, inr, length, option_map, remove, refl, sym, ap, subst, ◌∙◌, arith}
 use Rattle.sysv_model.specs.declared.cred.Cred.{Cred}
 use Rattle.sysv_model.specs.declared.limits.TheConstants.{MESSAGE_BYTES as most_bytes}
 use Rattle.sysv_model.specs.declared.selector.Selector.{Selector}

@@ -1,5 +1,5 @@
 -- How many entries of the index a receive reads to find its message (this profile's).
-use Rattle.std.specs.Prelude.{ℤ, ℕ, Result, Ok, Err, ⊤}
+use Rattle.std.specs.Prelude.{Result, Ok, Err, ⊤}
 use Rattle.sysv_model.specs.declared.selector.Selector.{Selector}
 use Rattle.sysv_model.specs.declared.selector.Selector.TheVariants.{Any, Exactly, UpTo}
 use Rattle.sysv_queue.specs.declared.slot.TakeRefused.{TakeRefused}
