@@ -4,6 +4,8 @@
 #[cfg(test)]
 mod index;
 #[cfg(test)]
+mod indexed;
+#[cfg(test)]
 mod messages;
 #[cfg(test)]
 mod parts;
