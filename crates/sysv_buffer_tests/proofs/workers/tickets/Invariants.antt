@@ -1,6 +1,0 @@
-use Rattle.std.proofs.Common.{◌≡◌, ◌≤◌, vec_len, vec_capacity}
-use Rattle.sysv_buffer_tests.proofs.workers.tickets.Given as goal
-
--- so many tickets were made
-abbrev pub invariant-loop-number : goal.invariant-loop-number
-invariant-loop-number g l = (vec_len l.tickets ≡ l.number) × (17 ≤ vec_capacity l.tickets)

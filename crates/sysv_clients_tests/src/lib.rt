@@ -1,5 +1,0 @@
-//! Tests of the client's commands over memory.
-#![tactic(auto)]
-
-#[cfg(test)]
-mod clients;

@@ -1,5 +1,0 @@
-//! Tests of eventcounts and sequencers by one thread and by several.
-#![tactic(auto)]
-
-#[cfg(test)]
-mod eventcount;

@@ -1,4 +1,0 @@
-use Rattle.sysv_queue_tests.proofs.index.select.Given as goal
-
-abbrev pub ghosts-select_with : goal.ghosts-select_with
-ghosts-select_with a = record { name = a.blank.name; parts = a.blank.parts }

@@ -1,6 +1,0 @@
-use Rattle.sysv_gated.specs.Seats.{AreOf}
-use Rattle.sysv_service_tests.proofs.crew.count_live.Given as goal
-
--- it is a pass of the service
-abbrev pub invariant-loop-slot : goal.invariant-loop-slot
-invariant-loop-slot g l = AreOf l.service l.pass.seats

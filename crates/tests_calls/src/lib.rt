@@ -1,0 +1,20 @@
+//! Tests of the machine of each call, of a world of queues and actors, and of the script language from its words to whole
+//! scripts.
+#![tactic(auto)]
+
+#[cfg(test)]
+mod lines;
+#[cfg(test)]
+mod parts;
+#[cfg(test)]
+mod script;
+#[cfg(test)]
+mod stage;
+#[cfg(test)]
+mod steps;
+#[cfg(test)]
+mod streams;
+#[cfg(test)]
+mod words;
+#[cfg(test)]
+mod world;

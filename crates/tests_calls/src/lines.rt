@@ -1,0 +1,117 @@
+//! Lines of a script.
+use bitflags::Flags as _;
+use std::io::Write;
+use sysv_lines::{Head, Line, Operation, Request, Text, Told, line_of};
+use sysv_model::{Errno, Flags};
+
+#[test]
+fn a_line_says_what_an_actor_starts(rt: HostRuntime) {
+    let said = line_of(b"2 snd -1 9223372036854775807 NOWAIT+0600 =a b");
+    let Some(
+        Line::Start {
+            actor,
+            request,
+            goes,
+        },
+    ) = said
+    else {
+        panic!(rt; "no start");
+    };
+    assert_eq!(rt; actor, 2);
+    assert!(rt; goes);
+    let Request::Send {
+        id,
+        mtype,
+        flags,
+        text,
+    } = request
+    else {
+        panic!(rt; "no send");
+    };
+    assert_eq!(rt; (id, mtype), (-1, i64::MAX));
+    assert!(rt;
+        flags
+            == Flags::IPC_NOWAIT
+                .union(Flags::USER_READ)
+                .union(Flags::USER_WRITE)
+    );
+    let Text::Given(bytes) = text else {
+        panic!(rt; "no text");
+    };
+    assert_eq!(rt; bytes, b"a b".as_slice());
+    assert!(rt; line_of(b"17 snd 0 1 - =").is_none());
+}
+
+#[test]
+fn orders_are_understood(rt: HostRuntime) {
+    assert!(rt;
+        matches!(
+            line_of(b"now 18446744073709551615"),
+            Some(Line::Moment(u64::MAX))
+        )
+    );
+    assert!(rt; matches!(line_of(b"step 16"), Some(Line::Step { actor: 16 })));
+    assert!(rt; matches!(line_of(b"go 01"), Some(Line::Go { actor: 1 })));
+    assert!(rt; matches!(line_of(b"all"), Some(Line::All)));
+    assert!(rt; matches!(line_of(b"pool 128"), Some(Line::Pool { blocks: 128 })));
+    assert!(rt; line_of(b"pool 127").is_none());
+    assert!(rt; line_of(b"pool 65537").is_none());
+    assert!(rt; matches!(line_of(b"as 3 5 6 7"), Some(Line::Cred { actor: 3, .. })));
+    assert!(rt; line_of(b"go 0").is_none());
+    assert!(rt; line_of(b"all ").is_none());
+    assert!(rt; line_of(b"wait 1").is_none());
+}
+
+#[test]
+fn each_call_is_understood(rt: HostRuntime) {
+    let get = line_of(b"+1 get -4 CREAT+0600");
+    let Some(Line::Start { request, goes, .. }) = get else {
+        panic!(rt; "no get");
+    };
+    assert!(rt; !goes);
+    assert!(rt; matches!(request, Request::Get { key: -4, .. }));
+    let Some(Line::Start { request, .. }) = line_of(b"1 set 64 5 6 0640 70000") else {
+        panic!(rt; "no set");
+    };
+    let Request::Set { id, to } = request else {
+        panic!(rt; "no set");
+    };
+    assert_eq!(rt;
+        (id, to.uid, to.gid, to.mode, to.qbytes),
+        (64, 5, 6, 416, 70000)
+    );
+    let Some(Line::Start { request, .. }) = line_of(b"2 rm 7") else {
+        panic!(rt; "no removal");
+    };
+    assert!(rt; matches!(request, Request::Remove { id: 7 }));
+    let Some(Line::Start { request, .. }) = line_of(b"2 stat 8") else {
+        panic!(rt; "no stat");
+    };
+    assert!(rt; matches!(request, Request::Stat { id: 8 }));
+    assert!(rt; line_of(b"1 set 0 1 1 1000 5").is_none());
+    assert!(rt; line_of(b"1 rm 0 ").is_none());
+}
+
+#[test]
+fn heads_are_printed(rt: HostRuntime) {
+    let table = [
+        (Told::Zero, b"1 snd = 0".as_slice()),
+        (
+            Told::Got { len: 5, mtype: -7 },
+            b"1 snd = 5 type -7 =".as_slice(),
+        ),
+        (Told::Refused(Errno::EAGAIN), b"1 snd ! EAGAIN".as_slice()),
+    ];
+    for (told, line) in table {
+        let head = Head::Answers {
+            actor: 1,
+            operation: Operation::Send,
+            told,
+        };
+        let Ok(mut printed) = Vec::with_capacity(rt.alloc(), 64) else {
+            return;
+        };
+        assert!(rt; write!(printed, "{head}").is_ok());
+        assert_eq!(rt; printed.as_slice(), line);
+    }
+}

@@ -1,0 +1,68 @@
+//! A reader that never ends, and a reader and a writer that hold a conversation.
+use std::cell::Cell;
+use std::io;
+use std::io::{Read, Write};
+
+/// Gives the same byte for ever, and counts.
+#[derive(Drop)]
+pub(super) struct Endless {
+    pub(super) byte: u8,
+    pub(super) given: usize,
+}
+
+impl Read for Endless {
+    fn read(&mut self, buf: &mut [u8]) -> io::Result<usize> {
+        for place in buf.iter_mut() {
+            *place = self.byte;
+        }
+        self.given = self.given.saturating_add(buf.len());
+        Ok(buf.len())
+    }
+}
+
+/// Gives one line at a time, and counts how often an answer is missing when more is asked for.
+/// The first line has no answer, and each other has one.
+#[derive(Drop)]
+pub(super) struct Asker<'a> {
+    pub(super) rest: &'a [u8],
+    pub(super) lines: u32,
+    pub(super) answers: &'a Cell<u32>,
+    pub(super) missing: u32,
+}
+
+impl Read for Asker<'_> {
+    fn read(&mut self, buf: &mut [u8]) -> io::Result<usize> {
+        if self.answers.get() != self.lines.saturating_sub(1) {
+            self.missing = self.missing.saturating_add(1);
+        }
+        let end = self.rest.iter().position(|byte| *byte == b'\n');
+        let count = end.map_or(self.rest.len(), |end| end.saturating_add(1));
+        let count = count.min(buf.len()).min(self.rest.len());
+        let (front, rest) = self.rest.split_at(count);
+        buf[..count].copy_from_slice(front);
+        self.rest = rest;
+        self.lines = self.lines.saturating_add(1);
+        Ok(count)
+    }
+}
+
+/// Counts the lines that it takes.
+#[derive(Drop)]
+pub(super) struct Counter<'a> {
+    pub(super) answers: &'a Cell<u32>,
+}
+
+impl Write for Counter<'_> {
+    fn write(&mut self, buf: &[u8]) -> io::Result<usize> {
+        for byte in buf {
+            if *byte == b'\n' {
+                self.answers.set(self.answers.get().saturating_add(1));
+            }
+        }
+        Ok(buf.len())
+    }
+
+    fn flush(&mut self) -> io::Result<()> {
+        Ok(())
+    }
+}

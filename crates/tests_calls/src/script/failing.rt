@@ -1,0 +1,145 @@
+//! Scripts over readers and writers that fail, stall or give little at a time.
+use super::ends::{Asker, Counter, Endless};
+use std::alloc::Global;
+use std::cell::Cell;
+use std::io::{Read, Write};
+use std::process::Abort;
+use std::test::Fail;
+use sysv_model::Watched;
+use sysv_script::{ScriptFault, run_script};
+use tests_kit::{Page, Pieces};
+
+const SCRIPT: &[u8] = b"preset
+1 rcv 0 100 0 NOWAIT
+1 snd 0 5 NOWAIT =hello
+1 snd 0 2 NOWAIT =
+2 rcv 0 100 0 NOWAIT
+2 rcv 0 100 0 NOWAIT
+2 rcv 0 100 0 NOWAIT
+";
+
+const ANSWERS: &[u8] = b"1 rcv ! ENOMSG
+1 snd = 0
+1 snd = 0
+2 rcv = 5 type 5 =hello
+2 rcv = 0 type 2 =
+2 rcv ! ENOMSG
+";
+
+/// Runs a script, whose end tells which stream has failed.
+fn run<R: Read, W: Write>(
+    rt: &impl Abort,
+    alloc: Global,
+    reader: &mut R,
+    writer: &mut W,
+) -> Result<(), ScriptFault> {
+    let mut reader = Watched::new(reader);
+    let mut writer = Watched::new(writer);
+    let end = run_script(alloc, &mut reader, &mut writer);
+    assert_eq!(rt; reader.has_failed(), end == Err(ScriptFault::Read));
+    assert_eq!(rt; writer.has_failed(), end == Err(ScriptFault::Write));
+    end
+}
+
+fn is_front(part: &[u8], whole: &[u8]) -> bool {
+    whole.starts_with(part)
+}
+
+#[test]
+fn takes_any_pieces(rt: HostRuntime) -> Result<(), Fail> {
+    for piece in [1usize, 2, 3, 7, 20, 9000, 9001, 100_000] {
+        let mut reader = Pieces::new(SCRIPT, piece);
+        let mut writer = Page::taking(piece, 512, false);
+        let end = run(&rt, rt.alloc(), &mut reader, &mut writer);
+        assert_eq!(rt; end, Ok(()), "{piece}");
+        assert!(rt; writer.written() == ANSWERS, "{piece}");
+    }
+    Ok(())
+}
+
+#[test]
+fn says_that_the_reader_failed(rt: HostRuntime) -> Result<(), Fail> {
+    for good in 0..=SCRIPT.len() {
+        let mut reader = Pieces::new(SCRIPT, 5);
+        reader.good = good;
+        let mut writer = Page::taking(512, 512, false);
+        let end = run(&rt, rt.alloc(), &mut reader, &mut writer);
+        assert_eq!(rt; end, Err(ScriptFault::Read), "{good}");
+        let lines = SCRIPT[..good].iter().filter(|byte| **byte == b'\n').count();
+        let answers = writer
+            .written()
+            .iter()
+            .filter(|byte| **byte == b'\n')
+            .count();
+        assert_eq!(rt; answers, lines.saturating_sub(1), "{good}");
+        assert!(rt; is_front(writer.written(), ANSWERS), "{good}");
+    }
+    Ok(())
+}
+
+#[test]
+fn says_that_the_writer_failed(rt: HostRuntime) -> Result<(), Fail> {
+    for room in 0..ANSWERS.len() {
+        for stalls in [false, true] {
+            for piece in [1, 512] {
+                let mut reader = SCRIPT;
+                let mut writer = Page::taking(piece, room, stalls);
+                let end = run(&rt, rt.alloc(), &mut reader, &mut writer);
+                assert_eq!(rt; end, Err(ScriptFault::Write), "{room}");
+                assert_eq!(rt; writer.written().len(), room);
+                assert!(rt; is_front(writer.written(), ANSWERS), "{room}");
+            }
+        }
+    }
+    let mut reader = b"x".as_slice();
+    let mut writer = Page::taking(512, 5, false);
+    let end = run(&rt, rt.alloc(), &mut reader, &mut writer);
+    assert_eq!(rt; end, Err(ScriptFault::Write));
+    assert!(rt; writer.written() == b"line ".as_slice());
+    Ok(())
+}
+
+#[test]
+fn holds_a_conversation(rt: HostRuntime) -> Result<(), Fail> {
+    let answers = Cell::new(0u32);
+    let mut reader = Asker {
+        rest: SCRIPT,
+        lines: 0,
+        answers: &answers,
+        missing: 0,
+    };
+    let mut writer = Counter { answers: &answers };
+    let end = run(&rt, rt.alloc(), &mut reader, &mut writer);
+    assert_eq!(rt; end, Ok(()));
+    assert_eq!(rt; reader.missing, 0);
+    assert_eq!(rt; reader.lines, 8);
+    assert_eq!(rt; answers.get(), 6);
+    Ok(())
+}
+
+#[test]
+fn stops_in_a_line_that_never_ends(rt: HostRuntime) -> Result<(), Fail> {
+    for byte in [b'a', b'#', b' '] {
+        let mut reader = Endless { byte, given: 0 };
+        let mut writer = Page::taking(512, 512, false);
+        let end = run(&rt, rt.alloc(), &mut reader, &mut writer);
+        assert_eq!(rt; end, Err(ScriptFault::Line(1)));
+        assert_eq!(rt; reader.given, 9001);
+        assert!(rt; writer.written() == b"line 1: bad\n".as_slice());
+    }
+    Ok(())
+}
+
+#[test]
+fn says_that_memory_was_refused(rt: HostRuntime) -> Result<(), Fail> {
+    let mut reader = SCRIPT;
+    let mut writer = Page::taking(512, 512, false);
+    match run(&rt, rt.alloc(), &mut reader, &mut writer) {
+        Ok(()) => assert!(rt; writer.written() == ANSWERS),
+        Err(fault) => {
+            assert_eq!(rt; fault, ScriptFault::NoMemory);
+            assert!(rt; is_front(writer.written(), ANSWERS));
+        }
+    }
+    Ok(())
+}

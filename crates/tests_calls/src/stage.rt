@@ -1,0 +1,55 @@
+//! A stage on which lines run.
+use std::alloc::Global;
+use sysv_lines::line_of;
+use sysv_model::{NoMemory, Watched};
+use sysv_stage::Stage;
+use sysv_streams::Output;
+
+// Runs one line; `false` where it is bad.
+fn run(
+    stage: &mut Stage,
+    alloc: Global,
+    text: &[u8],
+    output: &mut Output,
+) -> Result<bool, NoMemory> {
+    match line_of(text) {
+        Some(line) => stage.run(alloc, line, output),
+        None => Ok(false),
+    }
+}
+
+// Makes the queue, sends a message and receives it, each at a line of its own; `true` where each was understood.
+fn send_and_receive(
+    stage: &mut Stage,
+    alloc: Global,
+    output: &mut Output,
+) -> Result<bool, NoMemory> {
+    let made = run(stage, alloc, b"preset", output)?;
+    let sent = run(stage, alloc, b"1 snd 0 5 - =hello", output)?;
+    let received = run(stage, alloc, b"2 rcv 0 9 0 -", output)?;
+    Ok(made && sent && received)
+}
+
+#[test]
+fn a_message_goes_through_the_stage(rt: HostRuntime) {
+    let Ok(mut output) = Output::open(rt.alloc()) else {
+        return;
+    };
+    let Ok(mut written) = Vec::with_capacity(rt.alloc(), 64) else {
+        return;
+    };
+    let Ok(mut stage) = Stage::open(rt.alloc()) else {
+        return;
+    };
+    let understood = send_and_receive(&mut stage, rt.alloc(), &mut output);
+    let late = run(&mut stage, rt.alloc(), b"preset", &mut output);
+    stage.end();
+    if understood == Err(NoMemory) || late == Err(NoMemory) {
+        return;
+    }
+    assert_eq!(rt; understood, Ok(true));
+    assert_eq!(rt; late, Ok(false));
+    let mut writer = Watched::new(&mut written);
+    assert!(rt; output.write_to(&mut writer).is_ok());
+    assert!(rt; written.as_slice() == b"1 snd = 0\n2 rcv = 5 type 5 =hello\n".as_slice());
+}

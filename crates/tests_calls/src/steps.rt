@@ -1,0 +1,506 @@
+//! The rows of the step table, by hand from the standard's errors.
+
+ghost use Rattle.std.specs.Prelude.{◌≡◌};
+ghost use Rattle.sysv_model.specs.Pool.{blocks_for};
+
+use crate::parts::{assert_is, open_body, open_pool};
+use bitflags::Flags as _;
+use std::alloc::Global;
+use std::process::Abort;
+use sysv_keys::Begun;
+use sysv_model::{Body, Cred, Errno, Flags, NoMemory, Perm, Selector, SetTo, Stat};
+use sysv_pool::{Chain, Pool};
+use sysv_queue::{Delivery, Look, PlaceRefused, Probe, QueueSlot, TakeRefused, Tally, Unplaced};
+use sysv_steps::{
+    Afterwards, Ending, Getting, Phase, Receiving, Sending, State, Wait, begin_remove, begin_set,
+    begin_stat, forgotten, given_back, removed, set_done, stat_told,
+};
+use tests_kit::USER;
+
+/// A send before its look, which found the queue live before or not.
+fn sending(live_seen: bool) -> Sending {
+    Sending {
+        cred: USER,
+        id: 0,
+        mtype: 5,
+        nowait: true,
+        released: 7,
+        live_seen,
+    }
+}
+
+/// A receive before its take.
+fn receiving(live_seen: bool) -> Receiving {
+    Receiving {
+        cred: USER,
+        id: 0,
+        selector: Selector::UpTo(4),
+        size: 9,
+        noerror: false,
+        nowait: true,
+        live_seen,
+    }
+}
+
+/// A call for the queue of key 7.
+fn getting(flags: Flags) -> Getting {
+    Getting {
+        cred: USER,
+        key: 7,
+        flags,
+    }
+}
+
+/// A state that can be compared: a chain is its blocks, and a delivery its type.
+#[derive(Clone, Copy, PartialEq, Eq)]
+enum Shown {
+    Begin(Getting),
+    Install { get: Getting, id: i32 },
+    Settle { id: i32 },
+    Probe { get: Getting, id: i32, settled: u64 },
+    Unmake { id: i32 },
+    Look(Sending),
+    Reserve(Sending),
+    Place { send: Sending, blocks: u32 },
+    SendGiveback { blocks: u32, afterwards: Afterwards },
+    Take(Receiving),
+    ReceiveGiveback { blocks: u32, mtype: i64 },
+    Stat { cred: Cred, id: i32 },
+    Set { cred: Cred, id: i32, to: SetTo },
+    SetGiveback,
+    Remove { cred: Cred, id: i32 },
+    Forget { id: i32, blocks: u32 },
+    RemoveGiveback { blocks: u32 },
+    Waits(Wait),
+    Id(i32),
+    Zero,
+    Got { mtype: i64 },
+    Told(Stat),
+    Refused(Errno),
+}
+
+/// The type of a delivery, which is then lost.
+fn mtype_of(delivery: Delivery) -> i64 {
+    let mtype = delivery.mtype();
+    delivery.lost(&mut Tally::open());
+    mtype
+}
+
+fn show_phase(phase: Phase) -> Shown {
+    match phase {
+        Phase::Begin(get) => Shown::Begin(get),
+        Phase::Install { get, id } => Shown::Install { get, id },
+        Phase::Settle { id } => Shown::Settle { id },
+        Phase::Probe { get, id, settled } => Shown::Probe { get, id, settled },
+        Phase::Unmake { id } => Shown::Unmake { id },
+        Phase::Look(send) => Shown::Look(send),
+        Phase::Reserve(send) => Shown::Reserve(send),
+        Phase::Place { send, chain } => Shown::Place {
+            send,
+            blocks: chain.end(),
+        },
+        Phase::SendGiveback { chain, afterwards } => Shown::SendGiveback {
+            blocks: chain.end(),
+            afterwards,
+        },
+        Phase::Take(receive) => Shown::Take(receive),
+        Phase::ReceiveGiveback { chain, delivery } => Shown::ReceiveGiveback {
+            blocks: chain.end(),
+            mtype: mtype_of(delivery),
+        },
+        Phase::Stat { cred, id } => Shown::Stat { cred, id },
+        Phase::Set { cred, id, to } => Shown::Set { cred, id, to },
+        Phase::SetGiveback => Shown::SetGiveback,
+        Phase::Remove { cred, id } => Shown::Remove { cred, id },
+        Phase::Forget { id, chain } => Shown::Forget {
+            id,
+            blocks: chain.end(),
+        },
+        Phase::RemoveGiveback { chain } => Shown::RemoveGiveback {
+            blocks: chain.end(),
+        },
+    }
+}
+
+fn show(state: State) -> Shown {
+    match state {
+        State::Goes(phase) => show_phase(phase),
+        State::Waits(wait) => Shown::Waits(wait),
+        State::Over(Ending::Id(id)) => Shown::Id(id),
+        State::Over(Ending::Zero) => Shown::Zero,
+        State::Over(Ending::Got { delivery }) => Shown::Got {
+            mtype: mtype_of(delivery),
+        },
+        State::Over(Ending::Told(stat)) => Shown::Told(stat),
+        State::Over(Ending::Refused(why)) => Shown::Refused(why),
+    }
+}
+
+/// A slot with queue 0, which is its caller's. Memory is refused once at most.
+fn open_queue(rt: &impl Abort, alloc: Global) -> QueueSlot {
+    let mut slot = match QueueSlot::open(alloc) {
+        Ok(slot) => slot,
+        Err(NoMemory) => match QueueSlot::open(alloc) {
+            Ok(slot) => slot,
+            Err(NoMemory) => panic!(rt; "a second try"),
+        },
+    };
+    assert!(rt; slot.install(0, 7, USER, 0o600, 0));
+    slot
+}
+
+/// The chain of a text of 130 bytes, which takes three blocks.
+fn three_blocks(rt: &impl Abort, pool: &mut Pool) -> Chain
+    ensures { result.blocks ≡ blocks_for 130 }
+{
+    match pool.reserve(130) {
+        Some(chain) => chain,
+        None => panic!(rt; "too few blocks"),
+    }
+}
+
+/// Puts a text of 130 letters on queue 0, as a message of type 2.
+fn send_text(rt: &impl Abort, slot: &mut QueueSlot, pool: &mut Pool, alloc: Global) {
+    let mut text = open_body(rt, alloc);
+    assert!(rt; text.push_piece(&[b'x'; 130]));
+    assert_eq!(rt; text.len(), 130);
+    let mut chain = three_blocks(rt, pool);
+    chain.fill(&text);
+    let (arrived, _) = slot.counts();
+    assert!(rt; arrived < 100);
+    match slot.place(0, USER, 2, chain, 130, 0) {
+        Ok(number) => assert_eq!(rt; number, arrived),
+        Err(PlaceRefused { why, chain }) => {
+            panic!(rt; "{} blocks came back: {why:?}", chain.end())
+        }
+    }
+}
+
+/// Where a call stands that was at its giveback, once the pool has its chain.
+fn release(rt: &impl Abort, pool: &mut Pool, state: State) -> Shown {
+    let (chain, after) = match state {
+        State::Goes(Phase::SendGiveback { chain, afterwards }) => (chain, afterwards.given_back()),
+        State::Goes(Phase::ReceiveGiveback { chain, delivery }) => {
+            (chain, Receiving::given_back(delivery))
+        }
+        State::Goes(Phase::SetGiveback) => (Chain::empty(), given_back()),
+        State::Goes(Phase::RemoveGiveback { chain }) => (chain, given_back()),
+        state => {
+            show(state);
+            panic!(rt; "no giveback")
+        }
+    };
+    let released = pool.released();
+    assert!(rt; released < 100);
+    if let Err(chain) = pool.release(chain) {
+        panic!(rt; "a chain of {} blocks came back", chain.end());
+    }
+    assert_eq!(rt; pool.released(), released + 1);
+    show(after)
+}
+
+#[test]
+fn a_get_begins(rt: HostRuntime) {
+    let get = getting(Flags::IPC_CREAT);
+    let begun = |begun| show(get.begun(begun));
+    assert!(rt; show(Getting::begin(USER, 7, Flags::IPC_CREAT)) == Shown::Begin(get));
+    assert!(rt; begun(Begun::Made { id: 67 }) == Shown::Install { get, id: 67 });
+    assert!(rt;
+        begun(Begun::Found { id: 67, settled: 5 })
+            == Shown::Probe {
+                get,
+                id: 67,
+                settled: 5
+            }
+    );
+    let wait = Wait::Settled { above: 5, get };
+    assert!(rt; begun(Begun::Busy { settled: 5 }) == Shown::Waits(wait));
+    assert!(rt; begun(Begun::Refused(Errno::ENOSPC)) == Shown::Refused(Errno::ENOSPC));
+}
+
+#[test]
+fn a_get_makes_a_queue(rt: HostRuntime) {
+    assert!(rt; show(Getting::installed(67, true)) == Shown::Settle { id: 67 });
+    assert!(rt; show(Getting::settled(67)) == Shown::Id(67));
+    assert!(rt; show(Getting::installed(67, false)) == Shown::Unmake { id: 67 });
+    assert!(rt; show(Getting::unmade()) == Shown::Refused(Errno::ENOSPC));
+}
+
+#[test]
+fn a_get_probes_what_it_found(rt: HostRuntime) {
+    let get = getting(Flags::IPC_CREAT);
+    let wait = Wait::Settled { above: 5, get };
+    let probed = |found| show(get.probed(67, 5, found));
+    assert!(rt; probed(Probe::Gone) == Shown::Waits(wait));
+    assert!(rt; probed(Probe::Denied) == Shown::Refused(Errno::EACCES));
+    assert!(rt; probed(Probe::Granted) == Shown::Id(67));
+    let get = getting(Flags::IPC_CREAT | Flags::IPC_EXCL);
+    let wait = Wait::Settled { above: 5, get };
+    let probed = |found| show(get.probed(67, 5, found));
+    assert!(rt; probed(Probe::Gone) == Shown::Waits(wait));
+    assert!(rt; probed(Probe::Denied) == Shown::Refused(Errno::EEXIST));
+    assert!(rt; probed(Probe::Granted) == Shown::Refused(Errno::EEXIST));
+    let old = getting(Flags::IPC_EXCL);
+    assert!(rt; show(old.probed(67, 5, Probe::Granted)) == Shown::Id(67));
+}
+
+#[test]
+fn the_attributes_are_told(rt: HostRuntime) {
+    let stat = Stat {
+        key: 7,
+        perm: Perm {
+            uid: 1,
+            gid: 2,
+            cuid: 3,
+            cgid: 4,
+            mode: 0o600,
+        },
+        cbytes: 5,
+        qnum: 6,
+        qbytes: 7,
+        lspid: 8,
+        lrpid: 9,
+        stime: 10,
+        rtime: 11,
+        ctime: 12,
+    };
+    let read = Shown::Stat { cred: USER, id: 67 };
+    assert!(rt; show(begin_stat(USER, 67)) == read);
+    assert!(rt; show(begin_stat(USER, -1)) == Shown::Refused(Errno::EINVAL));
+    assert!(rt; show(stat_told(Ok(stat))) == Shown::Told(stat));
+    assert!(rt; show(stat_told(Err(Errno::EACCES))) == Shown::Refused(Errno::EACCES));
+}
+
+#[test]
+fn a_queue_is_changed(rt: HostRuntime) {
+    let to = SetTo {
+        uid: 1,
+        gid: 2,
+        mode: 0o640,
+        qbytes: 4096,
+    };
+    let set = Shown::Set {
+        cred: USER,
+        id: 67,
+        to,
+    };
+    assert!(rt; show(begin_set(USER, 67, to)) == set);
+    assert!(rt; show(begin_set(USER, -1, to)) == Shown::Refused(Errno::EINVAL));
+    assert!(rt; show(set_done(Ok(()))) == Shown::SetGiveback);
+    assert!(rt; show(set_done(Err(Errno::EPERM))) == Shown::Refused(Errno::EPERM));
+    let mut pool = open_pool(&rt, rt.alloc());
+    assert!(rt; release(&rt, &mut pool, set_done(Ok(()))) == Shown::Zero);
+    assert_is(&rt, pool.free(), 128);
+    pool.end();
+}
+
+#[test]
+fn a_removal_begins(rt: HostRuntime) {
+    let remove = Shown::Remove { cred: USER, id: 67 };
+    assert!(rt; show(begin_remove(USER, 67)) == remove);
+    assert!(rt; show(begin_remove(USER, -1)) == Shown::Refused(Errno::EINVAL));
+    assert!(rt; show(removed(67, Err(Errno::EPERM))) == Shown::Refused(Errno::EPERM));
+}
+
+#[test]
+fn a_removal_gives_back_what_it_discarded(rt: HostRuntime) {
+    let mut pool = open_pool(&rt, rt.alloc());
+    let mut slot = open_queue(&rt, rt.alloc());
+    send_text(&rt, &mut slot, &mut pool, rt.alloc());
+    let (arrived, freed) = slot.counts();
+    assert!(rt; arrived < 100 && freed < 100);
+    let chain = match removed(0, slot.remove(0, USER)) {
+        State::Goes(Phase::Forget { id: 0, chain }) => chain,
+        state => {
+            show(state);
+            panic!(rt; "no forget")
+        }
+    };
+    assert_is(&rt, chain.blocks(), 3);
+    assert!(rt; release(&rt, &mut pool, forgotten(chain)) == Shown::Zero);
+    assert_is(&rt, pool.free(), 128);
+    pool.end();
+    assert_is(&rt, slot.end().end(), 0);
+    assert!(rt; show(forgotten(Chain::empty())) == Shown::RemoveGiveback { blocks: 0 });
+}
+
+#[test]
+fn a_wait_ends_above_its_value(rt: HostRuntime) {
+    let get = getting(Flags::IPC_CREAT);
+    let settled = Wait::Settled { above: 5, get };
+    assert!(rt; !settled.is_over(5) && settled.is_over(6));
+    assert!(rt; !settled.is_over(0) && settled.is_over(u64::MAX));
+    assert!(rt; show_phase(settled.resume(6)) == Shown::Begin(get));
+    let arrived = Wait::Arrived {
+        above: 0,
+        receive: receiving(true),
+    };
+    assert!(rt; !arrived.is_over(0) && arrived.is_over(1));
+    assert!(rt; show_phase(arrived.resume(1)) == Shown::Take(receiving(true)));
+}
+
+#[test]
+fn the_released_count_is_read_by_its_own_wait_alone(rt: HostRuntime) {
+    let freed = Wait::Freed {
+        above: u64::MAX,
+        send: sending(true),
+    };
+    assert!(rt; !freed.is_over(u64::MAX));
+    assert!(rt; show_phase(freed.resume(9)) == Shown::Look(sending(true)));
+    let released = Wait::Released {
+        above: 7,
+        send: sending(true),
+    };
+    assert!(rt; !released.is_over(7) && released.is_over(8));
+    let later = Sending {
+        released: 9,
+        ..sending(true)
+    };
+    assert!(rt; show_phase(released.resume(9)) == Shown::Look(later));
+}
+
+#[test]
+fn a_send_waits_for_room(rt: HostRuntime) {
+    let waiting = |live_seen| Sending {
+        nowait: false,
+        ..sending(live_seen)
+    };
+    let wait = Wait::Freed {
+        above: 3,
+        send: waiting(true),
+    };
+    let full = Look::Full { freed: 3 };
+    assert!(rt; show(waiting(false).looked(full)) == Shown::Waits(wait));
+    let mut pool = open_pool(&rt, rt.alloc());
+    let chain = three_blocks(&rt, &mut pool);
+    let refused = waiting(true).unplaced(Unplaced::Full { freed: 3 }, chain);
+    assert!(rt; release(&rt, &mut pool, refused) == Shown::Waits(wait));
+    assert_is(&rt, pool.free(), 128);
+    pool.end();
+}
+
+#[test]
+fn a_send_waits_for_blocks(rt: HostRuntime) {
+    let waiting = Sending {
+        nowait: false,
+        ..sending(true)
+    };
+    let wait = Wait::Released {
+        above: 7,
+        send: waiting,
+    };
+    assert!(rt; show(waiting.reserved(None)) == Shown::Waits(wait));
+    assert!(rt; show(sending(true).reserved(None)) == Shown::Refused(Errno::EAGAIN));
+    let mut pool = open_pool(&rt, rt.alloc());
+    let chain = three_blocks(&rt, &mut pool);
+    let place = Shown::Place {
+        send: waiting,
+        blocks: 3,
+    };
+    assert!(rt; show(waiting.reserved(Some(chain))) == place);
+    pool.end();
+}
+
+#[test]
+fn a_receive_waits_for_a_message(rt: HostRuntime) {
+    let waiting = |live_seen| Receiving {
+        nowait: false,
+        ..receiving(live_seen)
+    };
+    let wait = Wait::Arrived {
+        above: 1,
+        receive: waiting(true),
+    };
+    let none = TakeRefused::NoMatch { arrived: 1 };
+    assert!(rt; show(waiting(false).untaken(none)) == Shown::Waits(wait));
+    let gone = waiting(true).untaken(TakeRefused::Gone);
+    assert!(rt; show(gone) == Shown::Refused(Errno::EIDRM));
+}
+
+#[test]
+fn a_send_begins(rt: HostRuntime) {
+    let begin = |id, mtype, size| show(Sending::begin(USER, id, mtype, Flags::IPC_NOWAIT, size, 7));
+    assert!(rt; begin(0, 5, 8192) == Shown::Look(sending(false)));
+    assert!(rt; begin(0, 0, 1) == Shown::Refused(Errno::EINVAL));
+    assert!(rt; begin(0, 5, 8193) == Shown::Refused(Errno::EINVAL));
+    assert!(rt; begin(-1, 5, 1) == Shown::Refused(Errno::EINVAL));
+}
+
+#[test]
+fn a_send_looks(rt: HostRuntime) {
+    let looked = |found| show(sending(false).looked(found));
+    assert!(rt; looked(Look::Fits) == Shown::Reserve(sending(true)));
+    assert!(rt; looked(Look::Gone) == Shown::Refused(Errno::EINVAL));
+    assert!(rt; looked(Look::Denied) == Shown::Refused(Errno::EACCES));
+    assert!(rt; looked(Look::Full { freed: 3 }) == Shown::Refused(Errno::EAGAIN));
+    let again = sending(true).looked(Look::Gone);
+    assert!(rt; show(again) == Shown::Refused(Errno::EIDRM));
+}
+
+#[test]
+fn a_send_is_refused_at_its_place(rt: HostRuntime) {
+    let table = [
+        (Unplaced::Gone, Errno::EIDRM),
+        (Unplaced::Denied, Errno::EACCES),
+        (Unplaced::Full { freed: 3 }, Errno::EAGAIN),
+    ];
+    let mut pool = open_pool(&rt, rt.alloc());
+    for (why, errno) in table {
+        let chain = three_blocks(&rt, &mut pool);
+        let refused = sending(true).unplaced(why, chain);
+        assert_is(&rt, pool.free(), 125);
+        assert!(rt; release(&rt, &mut pool, refused) == Shown::Refused(errno));
+        assert_is(&rt, pool.free(), 128);
+    }
+    pool.end();
+    let giveback = Shown::SendGiveback {
+        blocks: 0,
+        afterwards: Afterwards::Refused(Errno::EIDRM),
+    };
+    let refused = sending(true).unplaced(Unplaced::Gone, Chain::empty());
+    assert!(rt; show(refused) == giveback);
+    assert!(rt; show(Sending::placed()) == Shown::Zero);
+}
+
+#[test]
+fn a_receive_begins(rt: HostRuntime) {
+    let begin = |id, flags| show(Receiving::begin(USER, id, 9, -4, flags));
+    assert!(rt; begin(0, Flags::IPC_NOWAIT) == Shown::Take(receiving(false)));
+    assert!(rt; begin(-1, Flags::IPC_NOWAIT) == Shown::Refused(Errno::EINVAL));
+    assert!(rt; begin(0, Flags::MSG_EXCEPT) == Shown::Refused(Errno::EINVAL));
+}
+
+#[test]
+fn a_receive_gives_back_what_it_took(rt: HostRuntime) {
+    let mut pool = open_pool(&rt, rt.alloc());
+    let mut slot = open_queue(&rt, rt.alloc());
+    send_text(&rt, &mut slot, &mut pool, rt.alloc());
+    let mut out = open_body(&rt, rt.alloc());
+    let (_, freed) = slot.counts();
+    assert!(rt; freed < 100);
+    let given = match slot.take(0, USER, Selector::UpTo(4), 9, true, 0) {
+        Ok(taken) => {
+            let (delivery, chain) = taken.finish(9, &mut out);
+            receiving(true).given(delivery, chain)
+        }
+        Err(why) => panic!(rt; "not taken: {why:?}"),
+    };
+    assert_is(&rt, pool.free(), 125);
+    assert!(rt; release(&rt, &mut pool, given) == Shown::Got { mtype: 2 });
+    assert_is(&rt, pool.free(), 128);
+    assert_is(&rt, out.len(), 9);
+    pool.end();
+    assert_is(&rt, slot.end().end(), 0);
+}
+
+#[test]
+fn a_receive_is_given_no_message(rt: HostRuntime) {
+    let untaken = |live_seen, why| show(receiving(live_seen).untaken(why));
+    assert!(rt; untaken(false, TakeRefused::Gone) == Shown::Refused(Errno::EINVAL));
+    assert!(rt; untaken(true, TakeRefused::Gone) == Shown::Refused(Errno::EIDRM));
+    assert!(rt; untaken(false, TakeRefused::Denied) == Shown::Refused(Errno::EACCES));
+    assert!(rt;
+        untaken(false, TakeRefused::NoMatch { arrived: 1 }) == Shown::Refused(Errno::ENOMSG)
+    );
+    assert!(rt; untaken(false, TakeRefused::TooLong) == Shown::Refused(Errno::E2BIG));
+}

@@ -1,0 +1,51 @@
+//! What is read, line by line, and what is written.
+use sysv_lines::Head;
+use sysv_model::{Body, Watched};
+use sysv_streams::{Input, Output, next_line, read_on};
+
+#[test]
+fn lines_are_found_one_by_one(rt: HostRuntime) {
+    let (Ok(mut input), Ok(mut output)) = (Input::open(rt.alloc()), Output::open(rt.alloc())) else {
+        return;
+    };
+    let mut text = b"ab\ncde".as_slice();
+    let mut reader = Watched::new(&mut text);
+    let mut written = Vec::new(rt.alloc());
+    let mut writer = Watched::new(&mut written);
+    let Ok(Some(first)) = next_line(&mut input, &mut output, &mut reader, &mut writer) else {
+        panic!(rt; "no first line");
+    };
+    assert_eq!(rt; (first.len, first.is_last), (2, false));
+    assert!(rt; input.waiting().len() > 2);
+    input.pass_line(2);
+    assert!(rt; input.waiting() == b"cde".as_slice());
+    let Ok(Some(last)) = next_line(&mut input, &mut output, &mut reader, &mut writer) else {
+        panic!(rt; "no last line");
+    };
+    assert_eq!(rt; (last.len, last.is_last), (3, true));
+    assert!(rt; input.waiting().len() < 9001);
+    assert_eq!(rt;
+        read_on(&mut input, &mut output, &mut reader, &mut writer),
+        Ok(0)
+    );
+    assert!(rt; !reader.has_failed() && !writer.has_failed());
+}
+
+#[test]
+fn answers_are_written(rt: HostRuntime) {
+    let (Ok(mut output), Ok(mut text)) = (Output::open(rt.alloc()), Body::open(rt.alloc())) else {
+        return;
+    };
+    assert!(rt; text.push_piece(b"hello"));
+    let Ok(mut written) = Vec::with_capacity(rt.alloc(), 64) else {
+        return;
+    };
+    assert!(rt; output.tell(Head::Worn { actor: 1 }).is_ok());
+    assert!(rt; output.tell_text(Head::Bad { number: 2 }, &text).is_ok());
+    assert!(rt; output.make_room(&mut Watched::new(&mut written)).is_ok());
+    assert!(rt; written.is_empty());
+    let mut writer = Watched::new(&mut written);
+    assert!(rt; output.write_to(&mut writer).is_ok());
+    assert!(rt; !writer.has_failed());
+    assert!(rt; written.as_slice() == b"1 worn\nline 2: badhello\n".as_slice());
+}

@@ -1,0 +1,414 @@
+//! Two actors that take turns step by step, events that are not possible, sizes out of range, and a
+//! list of events with its answers.
+
+mod blocks;
+mod keys;
+mod waits;
+
+use crate::parts::{assert_is, open_body};
+use bitflags::Flags as _;
+use std::alloc::Global;
+use std::process::Abort;
+use sysv_core::{Answer, Call, Event, OpenRefused, Outcome, Standing, Stepped, World};
+use sysv_model::{Body, Cred, Errno, Flags, NoMemory, Perm, SetTo, Stat};
+use sysv_queue::Look;
+use sysv_steps::Phase;
+use tests_kit::{creating, flags};
+
+/// What an answer is to be: whose, how the call ended, and the text of the body that comes with it.
+type Want<'a> = (u32, Outcome, Option<&'a [u8]>);
+
+/// A world of 1,024 blocks with queue 0. Memory is refused once at most.
+fn world_with_queue(rt: &impl Abort, alloc: Global, actors: u32) -> World {
+    let mut world = match World::open(alloc, actors, 1024) {
+        Ok(world) => world,
+        Err(why) => {
+            assert_eq!(rt; why, OpenRefused::NoMemory);
+            World::open(alloc, actors, 1024).expect(rt, "a second try")
+        }
+    };
+    assert!(rt; world.preset());
+    assert!(rt; !world.preset());
+    world
+}
+
+/// A world of four actors and 128 blocks that begins with this step number and this generation. Memory is refused
+/// once at most.
+fn world_at(rt: &impl Abort, alloc: Global, first_step: u64, generation: u32) -> World {
+    match World::open_at(alloc, 4, 128, first_step, generation) {
+        Ok(world) => world,
+        Err(why) => {
+            assert_eq!(rt; why, OpenRefused::NoMemory);
+            World::open_at(alloc, 4, 128, first_step, generation).expect(rt, "a second try")
+        }
+    }
+}
+
+/// Steps of the actor until its call is answered.
+fn go(rt: &impl Abort, world: &mut World, actor: u32) -> Outcome {
+    for _ in 0..8 {
+        match world.step(step(actor)) {
+            Stepped::Answer(answer) => {
+                assert_eq!(rt; answer.actor, actor);
+                return answer.result;
+            }
+            Stepped::Nothing => {}
+            Stepped::Worn => panic!(rt; "worn"),
+        }
+    }
+    panic!(rt; "no answer")
+}
+
+/// The actor makes a call that goes through.
+fn make(rt: &impl Abort, world: &mut World, actor: u32, call: Call) -> Outcome {
+    assert_nothing(rt, world.step(start(actor, call)));
+    go(rt, world, actor)
+}
+
+fn is_waiting(world: &World, actor: u32) -> bool {
+    matches!(world.standing(actor), Some(Standing::Waits(_)))
+}
+
+/// A get of this key, with IPC_CREAT and mode 0600.
+fn get_or_make(key: i32) -> Call {
+    Call::Get {
+        key,
+        flags: creating(),
+    }
+}
+
+/// A body with this text. Memory is refused once at most.
+fn body_of(rt: &impl Abort, alloc: Global, text: &[u8]) -> Body {
+    let mut body = open_body(rt, alloc);
+    assert!(rt; body.push_piece(text));
+    body
+}
+
+fn start(actor: u32, call: Call) -> Event {
+    let cred = Cred {
+        uid: 1000,
+        gid: 1000,
+        pid: actor.saturating_add(100),
+    };
+    Event::Start { actor, cred, call }
+}
+
+/// The actor starts a send to queue 0.
+fn send(rt: &impl Abort, alloc: Global, actor: u32, mtype: i64, text: &[u8]) -> Event {
+    let call = Call::Send {
+        id: 0,
+        mtype,
+        flags: Flags::IPC_NOWAIT,
+        body: body_of(rt, alloc, text),
+    };
+    start(actor, call)
+}
+
+/// The actor starts a receive of at most 100 bytes from queue 0. The body that it gives is not empty.
+fn receive(rt: &impl Abort, alloc: Global, actor: u32) -> Event {
+    let call = receive_of(rt, alloc, 100, 0, Flags::IPC_NOWAIT);
+    start(actor, call)
+}
+
+/// A receive from queue 0. The body that it gives is not empty.
+fn receive_of(rt: &impl Abort, alloc: Global, size: u32, mtype: i64, flags: Flags) -> Call {
+    Call::Receive {
+        id: 0,
+        size,
+        mtype,
+        flags,
+        body: body_of(rt, alloc, b"old"),
+    }
+}
+
+fn step(actor: u32) -> Event {
+    Event::Step { actor, now: 0 }
+}
+
+fn assert_nothing(rt: &impl Abort, stepped: Stepped) {
+    assert!(rt; matches!(&stepped, Stepped::Nothing));
+}
+
+fn assert_answers(rt: &impl Abort, answer: &Answer, want: Want<'_>) {
+    let (actor, outcome, text) = want;
+    assert_eq!(rt; answer.actor, actor);
+    assert_eq!(rt; answer.result, outcome);
+    match (&answer.body, text) {
+        (None, None) => {}
+        (Some(body), Some(text)) => {
+            assert_eq!(rt; body.len(), text.len());
+            for (i, byte) in text.iter().enumerate() {
+                assert!(rt; i < body.len());
+                assert_eq!(rt; body.byte(i), *byte, "at {i}");
+            }
+        }
+        _ => panic!(rt; "a body too many or too few"),
+    }
+}
+
+fn assert_answer(rt: &impl Abort, stepped: Stepped, want: Want<'_>) {
+    match stepped {
+        Stepped::Answer(answer) => assert_answers(rt, &answer, want),
+        _ => panic!(rt; "no answer"),
+    }
+}
+
+/// Steps of the actor until its call is answered so.
+fn assert_ends(rt: &impl Abort, world: &mut World, want: Want<'_>) {
+    let (actor, _, _) = want;
+    for _ in 0..8 {
+        match world.step(step(actor)) {
+            Stepped::Answer(answer) => {
+                assert_answers(rt, &answer, want);
+                return;
+            }
+            Stepped::Nothing => {}
+            Stepped::Worn => panic!(rt; "worn"),
+        }
+    }
+    panic!(rt; "no answer")
+}
+
+/// The actor receives from start to end.
+fn assert_receives(rt: &impl Abort, alloc: Global, world: &mut World, want: Want<'_>) {
+    let (actor, _, _) = want;
+    assert_nothing(rt, world.step(receive(rt, alloc, actor)));
+    assert_ends(rt, world, want);
+}
+
+/// The actor sends from start to end, and is answered zero.
+fn assert_sends(rt: &impl Abort, alloc: Global, world: &mut World, actor: u32, text: &[u8]) {
+    assert_sends_type(rt, alloc, world, actor, 7, text);
+}
+
+fn assert_sends_type(
+    rt: &impl Abort,
+    alloc: Global,
+    world: &mut World,
+    actor: u32,
+    mtype: i64,
+    text: &[u8],
+) {
+    assert_nothing(rt, world.step(send(rt, alloc, actor, mtype, text)));
+    assert_ends(rt, world, (actor, Outcome::Zero, None));
+}
+
+#[test]
+fn a_send_and_a_receive_run_between_look_and_place(rt: HostRuntime) {
+    let alloc = rt.alloc();
+    let mut world = world_with_queue(&rt, alloc, 2);
+    let no_message = Outcome::Refused(Errno::ENOMSG);
+    assert_nothing(&rt, world.step(send(&rt, alloc, 1, 5, b"hello")));
+    assert_nothing(&rt, world.step(step(1)));
+    assert_nothing(&rt, world.step(step(1)));
+    assert_sends(&rt, alloc, &mut world, 2, b"between");
+    let got = Outcome::Got { mtype: 7, len: 7 };
+    assert_receives(&rt, alloc, &mut world, (2, got, Some(b"between")));
+    assert_receives(&rt, alloc, &mut world, (2, no_message, Some(b"")));
+    assert_answer(&rt, world.step(step(1)), (1, Outcome::Zero, None));
+    let got = Outcome::Got { mtype: 5, len: 5 };
+    assert_receives(&rt, alloc, &mut world, (2, got, Some(b"hello")));
+    assert_receives(&rt, alloc, &mut world, (2, no_message, Some(b"")));
+    assert_is(&rt, world.end(), 1024);
+}
+
+#[test]
+fn a_place_finds_that_the_room_is_gone(rt: HostRuntime) {
+    let alloc = rt.alloc();
+    let mut world = world_with_queue(&rt, alloc, 2);
+    let bytes = [b'x'; 8192];
+    assert_nothing(&rt, world.step(send(&rt, alloc, 1, 5, b"y")));
+    assert_nothing(&rt, world.step(step(1)));
+    assert_nothing(&rt, world.step(step(1)));
+    assert_sends(&rt, alloc, &mut world, 2, &bytes);
+    assert_sends(&rt, alloc, &mut world, 2, &bytes);
+    let full = Outcome::Refused(Errno::EAGAIN);
+    assert_nothing(&rt, world.step(step(1)));
+    assert!(rt;
+        matches!(
+            world.standing(1),
+            Some(Standing::At(Phase::SendGiveback { .. }))
+        )
+    );
+    assert_answer(&rt, world.step(step(1)), (1, full, None));
+    assert_sends(&rt, alloc, &mut world, 2, b"");
+    assert_is(&rt, world.end(), 1024);
+}
+
+#[test]
+fn a_receive_takes_what_it_names(rt: HostRuntime) {
+    let alloc = rt.alloc();
+    let mut world = world_with_queue(&rt, alloc, 2);
+    let sent: [(i64, &[u8]); 4] = [(5, b"a"), (2, b"b"), (5, b"c"), (i64::MAX, b"d")];
+    for (mtype, text) in sent {
+        assert_sends_type(&rt, alloc, &mut world, 1, mtype, text);
+    }
+    let wait = Flags::IPC_NOWAIT;
+    let cut = wait.union(Flags::MSG_NOERROR);
+    let none = Outcome::Refused(Errno::ENOMSG);
+    let long = Outcome::Refused(Errno::E2BIG);
+    let got = |mtype, len| Outcome::Got { mtype, len };
+    let receives: [(i64, u32, Flags, Outcome, &[u8]); 8] = [
+        (3, 9, wait, none, b""),
+        (5, 0, wait, long, b""),
+        (5, 0, cut, got(5, 0), b""),
+        (i64::MIN, 9, wait, got(2, 1), b"b"),
+        (-4, 9, wait, none, b""),
+        (i64::MIN, 1, wait, got(5, 1), b"c"),
+        (i64::MIN, 1, wait, got(i64::MAX, 1), b"d"),
+        (0, 9, cut, none, b""),
+    ];
+    for (mtype, size, flags, outcome, text) in receives {
+        let call = receive_of(&rt, alloc, size, mtype, flags);
+        assert_nothing(&rt, world.step(start(2, call)));
+        assert_ends(&rt, &mut world, (2, outcome, Some(text)));
+    }
+    let call = receive_of(&rt, alloc, 9, 0, Flags::MSG_EXCEPT);
+    let invalid = Outcome::Refused(Errno::EINVAL);
+    assert_answer(&rt, world.step(start(2, call)), (2, invalid, Some(b"")));
+    assert_is(&rt, world.end(), 1024);
+}
+
+#[test]
+fn a_stranger_is_denied(rt: HostRuntime) {
+    let alloc = rt.alloc();
+    let mut world = world_with_queue(&rt, alloc, 2);
+    let stranger = |call| Event::Start {
+        actor: 2,
+        cred: Cred {
+            uid: 2000,
+            gid: 1000,
+            pid: 9,
+        },
+        call,
+    };
+    let denied = Outcome::Refused(Errno::EACCES);
+    let call = receive_of(&rt, alloc, 9, 0, Flags::IPC_NOWAIT);
+    assert_nothing(&rt, world.step(stranger(call)));
+    assert_answer(&rt, world.step(step(2)), (2, denied, Some(b"")));
+    let call = Call::Send {
+        id: 0,
+        mtype: 1,
+        flags: Flags::IPC_NOWAIT,
+        body: body_of(&rt, alloc, b"x"),
+    };
+    assert_nothing(&rt, world.step(stranger(call)));
+    assert_answer(&rt, world.step(step(2)), (2, denied, None));
+    let none = Outcome::Refused(Errno::ENOMSG);
+    assert_receives(&rt, alloc, &mut world, (1, none, Some(b"")));
+    assert_is(&rt, world.end(), 1024);
+}
+
+#[test]
+fn what_is_not_possible_gives_nothing(rt: HostRuntime) {
+    let alloc = rt.alloc();
+    let mut world = world_with_queue(&rt, alloc, 2);
+    for actor in [0, 3] {
+        assert_nothing(&rt, world.step(send(&rt, alloc, actor, 5, b"none")));
+        assert_nothing(&rt, world.step(step(actor)));
+        assert_nothing(&rt, world.step(step(actor)));
+    }
+    assert_nothing(&rt, world.step(step(1)));
+    assert_nothing(&rt, world.step(send(&rt, alloc, 1, 5, b"kept")));
+    assert_nothing(&rt, world.step(receive(&rt, alloc, 1)));
+    assert_nothing(&rt, world.step(step(1)));
+    assert_nothing(&rt, world.step(send(&rt, alloc, 1, 6, b"other")));
+    assert_ends(&rt, &mut world, (1, Outcome::Zero, None));
+    assert_nothing(&rt, world.step(step(1)));
+    let got = Outcome::Got { mtype: 5, len: 4 };
+    assert_receives(&rt, alloc, &mut world, (2, got, Some(b"kept")));
+    let no_message = Outcome::Refused(Errno::ENOMSG);
+    assert_receives(&rt, alloc, &mut world, (2, no_message, Some(b"")));
+    assert_is(&rt, world.end(), 1024);
+}
+
+#[test]
+fn a_size_out_of_range_opens_no_world(rt: HostRuntime) {
+    for (actors, blocks) in [(0, 128), (1025, 128), (1, 127), (1, 65_537)] {
+        match World::open(rt.alloc(), actors, blocks) {
+            Ok(_) => panic!(rt; "a world of {actors} actors and {blocks} blocks"),
+            Err(why) => assert_eq!(rt; why, OpenRefused::BadSize, "{actors} {blocks}"),
+        }
+    }
+    for (first_step, generation) in [((1 << 62) + 1, 0), (0, 33_554_432)] {
+        match World::open_at(rt.alloc(), 2, 128, first_step, generation) {
+            Ok(_) => panic!(rt; "a world from step {first_step} and generation {generation}"),
+            Err(why) => assert_eq!(rt; why, OpenRefused::BadSize, "{first_step} {generation}"),
+        }
+    }
+    for (actors, blocks) in [(1, 128), (1024, 65_536)] {
+        match World::open(rt.alloc(), actors, blocks) {
+            Ok(world) => assert_is(&rt, world.end(), blocks),
+            Err(why) => assert_eq!(rt; why, OpenRefused::NoMemory, "{actors} {blocks}"),
+        }
+    }
+}
+
+/// Actor 1 receives, sends `hello` and sends nothing; actor 2 receives three times.
+fn six_calls(rt: &impl Abort, alloc: Global) -> Vec<Event> {
+    let mut events = match Vec::with_capacity(alloc, 19) {
+        Ok(events) => events,
+        Err(_) => Vec::with_capacity(alloc, 19).expect(rt, "a second try"),
+    };
+    for event in [receive(rt, alloc, 1), step(1)] {
+        assert!(rt; events.push(event).is_ok());
+    }
+    for (mtype, text) in [(5, b"hello".as_slice()), (2, b"")] {
+        for event in [send(rt, alloc, 1, mtype, text), step(1), step(1), step(1)] {
+            assert!(rt; events.push(event).is_ok());
+        }
+    }
+    for _ in 0..3 {
+        for event in [receive(rt, alloc, 2), step(2), step(2)] {
+            assert!(rt; events.push(event).is_ok());
+        }
+    }
+    events
+}
+
+#[test]
+fn six_calls_have_six_answers(rt: HostRuntime) {
+    let alloc = rt.alloc();
+    let mut world = world_with_queue(&rt, alloc, 16);
+    let events = six_calls(&rt, alloc);
+    let answers = match world.run(alloc, events) {
+        Ok(answers) => answers,
+        Err(back) => {
+            assert_is(&rt, back.len(), 19);
+            match world.run(alloc, back) {
+                Ok(answers) => answers,
+                Err(_) => panic!(rt; "a second try"),
+            }
+        }
+    };
+    let no_message = Outcome::Refused(Errno::ENOMSG);
+    let wants: [Want<'_>; 6] = [
+        (1, no_message, Some(b"")),
+        (1, Outcome::Zero, None),
+        (1, Outcome::Zero, None),
+        (2, Outcome::Got { mtype: 5, len: 5 }, Some(b"hello")),
+        (2, Outcome::Got { mtype: 2, len: 0 }, Some(b"")),
+        (2, no_message, Some(b"")),
+    ];
+    assert_is(&rt, answers.len(), wants.len());
+    for (answer, want) in answers.iter().zip(wants) {
+        assert_answers(&rt, answer, want);
+    }
+    assert_is(&rt, world.end(), 1024);
+}
+
+#[test]
+fn an_actor_stands_before_its_next_step(rt: HostRuntime) {
+    let mut world = world_with_queue(&rt, rt.alloc(), 2);
+    assert!(rt; world.standing(0).is_none());
+    assert!(rt; world.standing(1).is_none());
+    assert!(rt; world.standing(3).is_none());
+    let _started = world.step(send(&rt, rt.alloc(), 1, 5, b"hello"));
+    assert!(rt; matches!(world.standing(1), Some(Standing::At(Phase::Look(_)))));
+    assert!(rt; world.standing(2).is_none());
+    let _looked = world.step(Event::Step { actor: 1, now: 0 });
+    assert!(rt; matches!(world.standing(1), Some(Standing::At(Phase::Reserve(_)))));
+    let _reserved = world.step(Event::Step { actor: 1, now: 0 });
+    assert!(rt; matches!(world.standing(1), Some(Standing::At(Phase::Place { .. }))));
+    assert_is(&rt, world.end(), 1024);
+}

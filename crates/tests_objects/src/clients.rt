@@ -1,0 +1,585 @@
+//! Clients over bytes that are worked by hand.
+use crate::parts::assert_is;
+use std::alloc::Global;
+use std::io;
+use std::io::{ErrorKind, Read, Write};
+use std::process::Abort;
+use sysv_clients::{Command, Target, Task, id_of, key_of, run_client, type_of};
+use sysv_model::{BODY_ROOM, Cred};
+
+/// The bytes for which a tape has room.
+const TAPE_ROOM: usize = 9000;
+
+/// Bytes that are read, or that were written.
+#[derive(Drop)]
+struct Tape {
+    bytes: Vec<u8>,
+    /// How many were read.
+    read: usize,
+    /// How many it gives or takes before it fails.
+    good: usize,
+    /// How many it gives or takes at a time.
+    piece: usize,
+    /// How often it can be flushed.
+    flushes: usize,
+    /// How often it was.
+    flushed: usize,
+}
+
+impl Tape {
+    /// An empty tape. Memory is refused once at most.
+    fn new(rt: &impl Abort, alloc: Global) -> Tape {
+        let bytes = match Vec::with_capacity(alloc, TAPE_ROOM) {
+            Ok(bytes) => bytes,
+            Err(_) => Vec::with_capacity(alloc, TAPE_ROOM).expect(rt, "a second try"),
+        };
+        Tape {
+            bytes,
+            read: 0,
+            good: usize::MAX,
+            piece: usize::MAX,
+            flushes: usize::MAX,
+            flushed: 0,
+        }
+    }
+
+    /// Puts bytes at the end, for which there is room.
+    fn put(&mut self, bytes: &[u8]) {
+        let _ = self.bytes.extend_from_slice(bytes);
+    }
+
+    fn text(&self) -> &[u8] {
+        &self.bytes
+    }
+
+    fn len(&self) -> usize {
+        self.bytes.len()
+    }
+}
+
+impl Read for Tape {
+    fn read(&mut self, buf: &mut [u8]) -> io::Result<usize> {
+        let left = self.bytes.len().saturating_sub(self.read);
+        let good = self.good.saturating_sub(self.read);
+        if good == 0 {
+            return Err(io::Error::from(ErrorKind::TimedOut));
+        }
+        let count = self.piece.min(good).min(left).min(buf.len());
+        let from = self.bytes.len() - left;
+        buf[..count].copy_from_slice(&self.bytes[from..from + count]);
+        self.read = from + count;
+        Ok(count)
+    }
+}
+
+impl Write for Tape {
+    fn write(&mut self, buf: &[u8]) -> io::Result<usize> {
+        let left = self.good.min(TAPE_ROOM).saturating_sub(self.bytes.len());
+        if left == 0 {
+            return Err(io::Error::from(ErrorKind::BrokenPipe));
+        }
+        let count = self.piece.min(left).min(buf.len());
+        self.put(&buf[..count]);
+        Ok(count)
+    }
+
+    fn flush(&mut self) -> io::Result<()> {
+        if self.flushed >= self.flushes {
+            return Err(io::Error::from(ErrorKind::BrokenPipe));
+        }
+        self.flushed = self.flushed.saturating_add(1);
+        Ok(())
+    }
+}
+
+/// What a client reads, writes and shows.
+#[derive(Drop)]
+struct Talk {
+    replies: Tape,
+    requests: Tape,
+    screen: Tape,
+}
+
+impl Talk {
+    /// A server that will reply so.
+    fn new(rt: &impl Abort, alloc: Global, replies: &[&[u8]]) -> Talk {
+        Talk {
+            replies: joined(rt, alloc, replies),
+            requests: Tape::new(rt, alloc),
+            screen: Tape::new(rt, alloc),
+        }
+    }
+
+    /// Runs a client; its status. Memory is refused once at most, and then nothing was read or written.
+    fn run(&mut self, rt: &impl Abort, alloc: Global, task: Task<'_>) -> i32 {
+        if let Task::Send { text, .. } = task {
+            assert!(rt; text.len() <= BODY_ROOM);
+        }
+        let command = Command { cred: WHO, task };
+        let status = run_client(
+            alloc,
+            &command,
+            &mut self.replies,
+            &mut self.requests,
+            &mut self.screen,
+        );
+        if self.screen.text() != b"sysvmsg: no memory\n".as_slice() {
+            return status;
+        }
+        assert_eq!(rt; status, 1);
+        assert_eq!(rt; (self.replies.read, self.requests.len()), (0, 0));
+        self.screen.bytes.clear();
+        self.screen.flushed = 0;
+        run_client(
+            alloc,
+            &command,
+            &mut self.replies,
+            &mut self.requests,
+            &mut self.screen,
+        )
+    }
+}
+
+/// Who the clients say they are.
+const WHO: Cred = Cred {
+    uid: 1000,
+    gid: 1000,
+    pid: 1,
+};
+
+/// The hello of `WHO`, and its reply.
+const HELLO: &[u8] = b"\0\0\0\x0e\x01\0\0\0\x03\xe8\0\0\x03\xe8\0\0\0\x01";
+
+const WELCOME: &[u8] = b"\0\0\0\x03\x01\0\0";
+
+/// `msgget` of key 7 with flags 0, and the reply that gives identifier 64.
+const GET: &[u8] = b"\0\0\0\x0a\x01\x01\0\0\0\x07\0\0\0\0";
+
+const GOT: &[u8] = b"\0\0\0\x07\x01\x01\0\0\0\0\x40";
+
+/// That operation is done, and gives nothing.
+const SENT: &[u8] = b"\0\0\0\x03\x01\x02\0";
+
+const REMOVED: &[u8] = b"\0\0\0\x03\x01\x06\0";
+
+/// Identifier 64 is removed.
+const REMOVE: &[u8] = b"\0\0\0\x06\x01\x06\0\0\0\x40";
+
+/// `msgrcv` of any type from identifier 64, at most 8,192 bytes with flags 0, and a message of type 5.
+const RECEIVE: &[u8] = b"\0\0\0\x16\x01\x03\0\0\0\x40\0\0\x20\0\0\0\0\0\0\0\0\0\0\0\0\0";
+
+const MESSAGE: &[u8] = b"\0\0\0\x0e\x01\x03\0\0\0\0\0\0\0\0\x05abc";
+
+/// No queue lives in the slot.
+const VACANT: &[u8] = b"\0\0\0\x04\x01\x07\0\0";
+
+/// Identifier 0, key 7, user 1000, mode 0640, 3 bytes in 1 message.
+const ROW: &[u8] =
+    b"\0\0\0\x1a\x01\x07\0\x01\0\0\0\0\0\0\0\x07\0\0\x03\xe8\x01\xa0\0\0\0\x03\0\0\0\x01";
+
+/// The greatest of each, and the key -2147483648.
+const WIDE: &[u8] =
+    b"\0\0\0\x1a\x01\x07\0\x01\x7f\xff\xff\xff\x80\0\0\0\xff\xff\xff\xff\x01\xff\xff\xff\xff\xff\xff\xff\xff\xff";
+
+const HEAD: &[u8] = b"key             msqid      owner perms  bytes messages\n";
+
+const LINE: &[u8] = b"0x00000007          0       1000   640      3        1\n";
+
+const WIDE_LINE: &[u8] = b"0x80000000 2147483647 4294967295   777 4294967295 4294967295\n";
+
+const RECEIVE_ANY: Task<'static> = Task::Receive {
+    key: 7,
+    size: 8192,
+    mtype: 0,
+    nowait: false,
+    noerror: false,
+};
+
+/// These bytes, one after the other.
+fn joined(rt: &impl Abort, alloc: Global, parts: &[&[u8]]) -> Tape {
+    let mut tape = Tape::new(rt, alloc);
+    for part in parts {
+        tape.put(part);
+    }
+    tape
+}
+
+#[test]
+fn a_queue_is_removed_by_its_identifier(rt: HostRuntime) {
+    let mut talk = Talk::new(&rt, rt.alloc(), &[WELCOME, REMOVED]);
+    let status = talk.run(&rt, rt.alloc(), Task::Remove(Target::Id(2147483647)));
+    assert_is(&rt, status, 0);
+    let wanted = joined(
+        &rt,
+        rt.alloc(),
+        &[HELLO, b"\0\0\0\x06\x01\x06\x7f\xff\xff\xff"],
+    );
+    assert!(rt; talk.requests.text() == wanted.text());
+    assert_is(&rt, talk.requests.flushed, 2);
+    assert_is(&rt, talk.replies.read, 14);
+    assert_is(&rt, talk.screen.len(), 0);
+}
+
+#[test]
+fn a_queue_is_removed_by_its_key(rt: HostRuntime) {
+    let mut talk = Talk::new(&rt, rt.alloc(), &[WELCOME, GOT, REMOVED, b"more"]);
+    let status = talk.run(&rt, rt.alloc(), Task::Remove(Target::Key(7)));
+    assert_is(&rt, status, 0);
+    assert!(rt; talk.requests.text() == joined(&rt, rt.alloc(), &[HELLO, GET, REMOVE]).text());
+    assert_is(&rt, talk.requests.flushed, 3);
+    assert_is(&rt, talk.replies.read, 25);
+    assert_is(&rt, talk.screen.len(), 0);
+}
+
+#[test]
+fn a_message_is_sent(rt: HostRuntime) {
+    let table: [(i64, bool, &[u8]); 3] = [
+        (1, false, b"\0\0\0\0\0\0\0\x01\0\0\0\0"),
+        (5, true, b"\0\0\0\0\0\0\0\x05\0\0\x08\0"),
+        (i64::MAX, false, b"\x7f\xff\xff\xff\xff\xff\xff\xff\0\0\0\0"),
+    ];
+    for (mtype, nowait, fields) in table {
+        let mut talk = Talk::new(&rt, rt.alloc(), &[WELCOME, GOT, SENT]);
+        let task = Task::Send {
+            key: 7,
+            text: b"abc",
+            mtype,
+            nowait,
+        };
+        assert_is(&rt, talk.run(&rt, rt.alloc(), task), 0);
+        let wanted = joined(
+            &rt,
+            rt.alloc(),
+            &[
+                HELLO,
+                b"\0\0\0\x0a\x01\x01\0\0\0\x07\0\0\x03\x80",
+                b"\0\0\0\x15\x01\x02\0\0\0\x40",
+                fields,
+                b"abc",
+            ],
+        );
+        assert!(rt; talk.requests.text() == wanted.text(), "{mtype}");
+        assert_is(&rt, talk.screen.len(), 0);
+    }
+}
+
+#[test]
+fn the_longest_text_is_sent(rt: HostRuntime) {
+    let text = [b'x'; BODY_ROOM];
+    let mut talk = Talk::new(&rt, rt.alloc(), &[WELCOME, GOT, b"\0\0\0\x03\x01\x02\x16"]);
+    let task = Task::Send {
+        key: 7,
+        text: &text,
+        mtype: 1,
+        nowait: false,
+    };
+    assert_is(&rt, talk.run(&rt, rt.alloc(), task), 1);
+    let wanted = joined(
+        &rt,
+        rt.alloc(),
+        &[
+            HELLO,
+            b"\0\0\0\x0a\x01\x01\0\0\0\x07\0\0\x03\x80",
+            b"\0\0\x20\x52\x01\x02\0\0\0\x40\0\0\0\0\0\0\0\x01\0\0\0\0",
+            &text,
+        ],
+    );
+    assert!(rt; talk.requests.text() == wanted.text());
+    assert!(rt; talk.screen.text() == b"sysvmsg: EINVAL\n".as_slice());
+}
+
+#[test]
+fn a_message_is_received(rt: HostRuntime) {
+    let mut talk = Talk::new(&rt, rt.alloc(), &[WELCOME, GOT, MESSAGE]);
+    assert_is(&rt, talk.run(&rt, rt.alloc(), RECEIVE_ANY), 0);
+    assert!(rt; talk.requests.text() == joined(&rt, rt.alloc(), &[HELLO, GET, RECEIVE]).text());
+    assert_is(&rt, talk.requests.flushed, 3);
+    assert!(rt; talk.screen.text() == b"abc\n".as_slice());
+    assert_is(&rt, talk.screen.flushed, 1);
+}
+
+#[test]
+fn a_receive_says_what_is_wanted(rt: HostRuntime) {
+    let mut talk = Talk::new(
+        &rt,
+        rt.alloc(),
+        &[WELCOME, GOT, b"\0\0\0\x0b\x01\x03\0\0\0\0\0\0\0\0\x05"],
+    );
+    let task = Task::Receive {
+        key: 7,
+        size: u32::MAX,
+        mtype: -5,
+        nowait: true,
+        noerror: true,
+    };
+    assert_is(&rt, talk.run(&rt, rt.alloc(), task), 0);
+    let wanted = joined(
+        &rt,
+        rt.alloc(),
+        &[
+            HELLO,
+            GET,
+            b"\0\0\0\x16\x01\x03\0\0\0\x40\xff\xff\xff\xff\xff\xff\xff\xff\xff\xff\xff\xfb\0\0\x18\0",
+        ],
+    );
+    assert!(rt; talk.requests.text() == wanted.text());
+    assert!(rt; talk.screen.text() == b"\n".as_slice());
+}
+
+#[test]
+fn the_longest_message_is_received(rt: HostRuntime) {
+    let text = [b'y'; 8192];
+    let front = b"\0\0\x20\x0b\x01\x03\0\0\0\0\0\0\0\0\x05";
+    let mut talk = Talk::new(&rt, rt.alloc(), &[WELCOME, GOT, front, &text]);
+    talk.replies.piece = 100;
+    assert_is(&rt, talk.run(&rt, rt.alloc(), RECEIVE_ANY), 0);
+    assert!(rt; talk.screen.text() == joined(&rt, rt.alloc(), &[&text, b"\n"]).text());
+}
+
+/// A server with queues in slot 0 and slot 63.
+fn listed(rt: &impl Abort, alloc: Global) -> Talk {
+    let mut talk = Talk::new(rt, alloc, &[WELCOME, ROW]);
+    for _ in 0..62 {
+        talk.replies.put(VACANT);
+    }
+    talk.replies.put(WIDE);
+    talk
+}
+
+#[test]
+fn queues_are_listed(rt: HostRuntime) {
+    let mut talk = listed(&rt, rt.alloc());
+    assert_is(&rt, talk.run(&rt, rt.alloc(), Task::List), 0);
+    let mut wanted = joined(&rt, rt.alloc(), &[HELLO]);
+    for slot in 0..64 {
+        wanted.put(b"\0\0\0\x06\x01\x07\0\0\0");
+        wanted.put(&[slot]);
+    }
+    assert!(rt; talk.requests.text() == wanted.text());
+    assert_is(&rt, talk.requests.flushed, 65);
+    assert!(rt; talk.screen.text() == joined(&rt, rt.alloc(), &[HEAD, LINE, WIDE_LINE]).text());
+}
+
+#[test]
+fn no_queue_is_listed(rt: HostRuntime) {
+    let mut talk = Talk::new(&rt, rt.alloc(), &[WELCOME]);
+    for _ in 0..64 {
+        talk.replies.put(VACANT);
+    }
+    talk.replies.piece = 3;
+    talk.requests.piece = 5;
+    talk.screen.piece = 1;
+    assert_is(&rt, talk.run(&rt, rt.alloc(), Task::List), 0);
+    assert!(rt; talk.screen.text() == HEAD);
+}
+
+#[test]
+fn a_refusal_is_named(rt: HostRuntime) {
+    let table: [(u8, &[u8]); 11] = [
+        (1, b"sysvmsg: EPERM\n"),
+        (2, b"sysvmsg: ENOENT\n"),
+        (7, b"sysvmsg: E2BIG\n"),
+        (11, b"sysvmsg: EAGAIN\n"),
+        (13, b"sysvmsg: EACCES\n"),
+        (17, b"sysvmsg: EEXIST\n"),
+        (22, b"sysvmsg: EINVAL\n"),
+        (28, b"sysvmsg: ENOSPC\n"),
+        (42, b"sysvmsg: ENOMSG\n"),
+        (43, b"sysvmsg: EIDRM\n"),
+        (75, b"sysvmsg: EOVERFLOW\n"),
+    ];
+    for (number, line) in table {
+        let mut talk = Talk::new(&rt, rt.alloc(), &[b"\0\0\0\x03\x01\0", &[number], WELCOME]);
+        assert_is(&rt, talk.run(&rt, rt.alloc(), Task::List), 1);
+        assert!(rt; talk.screen.text() == line, "{number}");
+        assert!(rt; talk.requests.text() == HELLO);
+        assert_is(&rt, talk.replies.read, 7);
+    }
+}
+
+#[test]
+fn a_later_request_is_refused(rt: HostRuntime) {
+    let mut talk = Talk::new(
+        &rt,
+        rt.alloc(),
+        &[WELCOME, b"\0\0\0\x03\x01\x01\x02", MESSAGE],
+    );
+    assert_is(&rt, talk.run(&rt, rt.alloc(), RECEIVE_ANY), 1);
+    assert!(rt; talk.requests.text() == joined(&rt, rt.alloc(), &[HELLO, GET]).text());
+    assert!(rt; talk.screen.text() == b"sysvmsg: ENOENT\n".as_slice());
+}
+
+/// The one line where a server does not reply.
+const NO_REPLY: &[u8] = b"sysvmsg: no reply\n";
+
+#[test]
+fn the_replies_are_cut_after_each_byte(rt: HostRuntime) {
+    for cut in 0..36 {
+        for fails in [false, true] {
+            let mut talk = Talk::new(&rt, rt.alloc(), &[WELCOME, GOT, MESSAGE]);
+            if fails {
+                talk.replies.good = cut;
+            } else {
+                talk.replies.bytes.truncate(cut);
+            }
+            assert_eq!(rt; talk.run(&rt, rt.alloc(), RECEIVE_ANY), 1, "{cut}");
+            assert!(rt; talk.screen.text() == NO_REPLY, "{cut}");
+            let asked = match cut {
+                0..=6 => joined(&rt, rt.alloc(), &[HELLO]),
+                7..=17 => joined(&rt, rt.alloc(), &[HELLO, GET]),
+                _ => joined(&rt, rt.alloc(), &[HELLO, GET, RECEIVE]),
+            };
+            assert!(rt; talk.requests.text() == asked.text(), "{cut}");
+        }
+    }
+}
+
+#[test]
+fn a_table_that_is_cut_leaves_one_line(rt: HostRuntime) {
+    let mut talk = listed(&rt, rt.alloc());
+    let len = talk.replies.len();
+    talk.replies.bytes.truncate(len.saturating_sub(1));
+    assert_is(&rt, talk.run(&rt, rt.alloc(), Task::List), 1);
+    assert!(rt; talk.screen.text() == NO_REPLY);
+}
+
+#[test]
+fn a_reply_to_another_request_is_none(rt: HostRuntime) {
+    let table: [&[u8]; 7] = [
+        REMOVED,
+        GOT,
+        MESSAGE,
+        b"\0\0\0\x03\x01\x06\x0d",
+        b"\0\0\0\x03\x02\0\0",
+        b"\0\0\0\x03\x01\0\x03",
+        b"\0\0\x20\x0c\x01\0\0",
+    ];
+    for reply in table {
+        let mut talk = Talk::new(&rt, rt.alloc(), &[reply, WELCOME]);
+        let status = talk.run(&rt, rt.alloc(), Task::Remove(Target::Id(0)));
+        assert_is(&rt, status, 1);
+        assert!(rt; talk.screen.text() == NO_REPLY);
+        assert!(rt; talk.requests.text() == HELLO);
+    }
+}
+
+#[test]
+fn the_writer_fails(rt: HostRuntime) {
+    let all = joined(&rt, rt.alloc(), &[HELLO, GET, RECEIVE]);
+    for room in 0..58 {
+        let mut talk = Talk::new(&rt, rt.alloc(), &[WELCOME, GOT, MESSAGE]);
+        talk.requests.good = room;
+        assert_eq!(rt; talk.run(&rt, rt.alloc(), RECEIVE_ANY), 1, "{room}");
+        assert!(rt; talk.screen.text() == NO_REPLY, "{room}");
+        let text = all.text();
+        assert!(rt;
+            talk.requests.text() == &text[..room.min(text.len())],
+            "{room}"
+        );
+        let read = match room {
+            0..=17 => 0,
+            18..=31 => 7,
+            _ => 18,
+        };
+        assert_eq!(rt; talk.replies.read, read, "{room}");
+    }
+}
+
+#[test]
+fn the_writer_cannot_be_flushed(rt: HostRuntime) {
+    for flushes in 0..3 {
+        let mut talk = Talk::new(&rt, rt.alloc(), &[WELCOME, GOT, MESSAGE]);
+        talk.requests.flushes = flushes;
+        assert_eq!(rt; talk.run(&rt, rt.alloc(), RECEIVE_ANY), 1, "{flushes}");
+        assert!(rt; talk.screen.text() == NO_REPLY, "{flushes}");
+        let read = [0, 7, 18];
+        assert_eq!(rt; talk.replies.read, read[flushes], "{flushes}");
+    }
+}
+
+#[test]
+fn the_screen_fails(rt: HostRuntime) {
+    let shown = joined(&rt, rt.alloc(), &[HEAD, LINE, WIDE_LINE]);
+    for room in [0, 1, 54, 55, 56, 170] {
+        let mut talk = listed(&rt, rt.alloc());
+        talk.screen.good = room;
+        assert_eq!(rt; talk.run(&rt, rt.alloc(), Task::List), 1, "{room}");
+        let text = shown.text();
+        assert!(rt;
+            talk.screen.text() == &text[..room.min(text.len())],
+            "{room}"
+        );
+    }
+    let mut talk = listed(&rt, rt.alloc());
+    talk.screen.flushes = 0;
+    assert_is(&rt, talk.run(&rt, rt.alloc(), Task::List), 1);
+    assert!(rt; talk.screen.text() == shown.text());
+}
+
+#[test]
+fn keys(rt: HostRuntime) {
+    let table: [(&[u8], Option<i32>); 24] = [
+        (b"1", Some(1)),
+        (b"007", Some(7)),
+        (b"2147483647", Some(2147483647)),
+        (b"0x7", Some(7)),
+        (b"0x00000007", Some(7)),
+        (b"0x7fffffff", Some(2147483647)),
+        (b"0x80000000", Some(-2147483648)),
+        (b"0xFFFFFFFF", Some(-1)),
+        (b"0xaBc", Some(2748)),
+        (b"0", None),
+        (b"-0", None),
+        (b"0x0", None),
+        (b"0x00000000", None),
+        (b"2147483648", None),
+        (b"-1", None),
+        (b"+1", None),
+        (b"", None),
+        (b"0x", None),
+        (b"0x000000007", None),
+        (b"0x+7", None),
+        (b"0x-7", None),
+        (b"0X7", None),
+        (b"0xg", None),
+        (b"7 ", None),
+    ];
+    for (word, key) in table {
+        assert_eq!(rt; key_of(word), key, "{word:?}");
+    }
+}
+
+#[test]
+fn identifiers(rt: HostRuntime) {
+    let table: [(&[u8], Option<i32>); 9] = [
+        (b"0", Some(0)),
+        (b"64", Some(64)),
+        (b"2147483647", Some(2147483647)),
+        (b"2147483648", None),
+        (b"-1", None),
+        (b"+1", None),
+        (b"0x1", None),
+        (b"", None),
+        (b"\xff", None),
+    ];
+    for (word, id) in table {
+        assert_eq!(rt; id_of(word), id, "{word:?}");
+    }
+}
+
+#[test]
+fn types(rt: HostRuntime) {
+    let table: [(&[u8], Option<i64>); 8] = [
+        (b"1", Some(1)),
+        (b"9223372036854775807", Some(9223372036854775807)),
+        (b"9223372036854775808", None),
+        (b"0", None),
+        (b"-1", None),
+        (b"+1", None),
+        (b"1.0", None),
+        (b"", None),
+    ];
+    for (word, mtype) in table {
+        assert_eq!(rt; type_of(word), mtype, "{word:?}");
+    }
+}

@@ -1,0 +1,229 @@
+//! Selections compared with a list kept beside the index, whose plain rule is that of the message
+//! rules, and a full index of as many types.
+
+ghost use Rattle.std.specs.Prelude.{◌≡◌, ◌+◌, ◌<◌, ◌≤◌, length};
+ghost use Rattle.sysv_model.specs.declared.limits.TheConstants.{QUEUE_MESSAGES};
+
+use crate::parts::type_of_number;
+use std::alloc::Global;
+use std::marker::Brand;
+use std::process::Abort;
+use std::sync::ledger::{Blank, Ledger};
+use std::test::Fail;
+use sysv_index::{Entry, Index, Numbered, Steps};
+use sysv_model::{NoMemory, QUEUE_MESSAGES, Selector};
+use sysv_rules::select_plain;
+
+/// An index. Memory is refused once at most.
+fn open_index(rt: &impl Abort, alloc: Global) -> Index
+    ensures { length result ≡ 0 }
+{
+    match Index::open(alloc) {
+        Ok(index) => index,
+        Err(why) => {
+            assert_eq!(rt; why, NoMemory);
+            Index::open(alloc).expect(rt, "a second try")
+        }
+    }
+}
+
+/// What is selected, with a counter that is given up.
+fn select_with<L: Ledger>(index: &Index, sel: Selector, blank: Blank) -> Option<Numbered>
+    requires name { blank.name ≡ L.name }
+    requires parts { blank.parts ≡ L.parts }
+    requires some { 0 < blank.parts }
+{
+    let mut steps = Steps::<L>::open(blank);
+    index.select(sel, &mut steps)
+}
+
+fn select(index: &Index, sel: Selector) -> Option<Numbered> {
+    select_with::<Brand>(index, sel, Blank::new(1))
+}
+
+/// A full index is selected from by 11 reads at most, since 256 has nine binary digits.
+fn select_full<L: Ledger>(index: &Index, sel: Selector, blank: Blank) -> Option<Numbered>
+    requires full { length index.now ≡ QUEUE_MESSAGES }
+    requires name { blank.name ≡ L.name }
+    requires parts { blank.parts ≡ L.parts }
+    requires some { 0 < blank.parts }
+{
+    let mut steps = Steps::<L>::open(blank);
+    select_by_few(index, sel, &mut steps)
+}
+
+fn select_by_few<L: Ledger>(index: &Index, sel: Selector, steps: &mut Steps<L>) -> Option<Numbered>
+    requires { length index.now ≡ QUEUE_MESSAGES }
+    ensures { steps.new ≤ steps.old + 11 }
+{
+    index.select(sel, steps)
+}
+
+/// A list with room for all that an index may hold. Memory is refused once at most.
+fn room<T: Drop>(rt: &impl Abort, alloc: Global) -> Vec<T> {
+    match Vec::with_capacity(alloc, QUEUE_MESSAGES) {
+        Ok(list) => list,
+        Err(_) => Vec::with_capacity(alloc, QUEUE_MESSAGES).expect(rt, "a second try"),
+    }
+}
+
+/// The entries in the order in which they were pushed, and a list for their types.
+#[derive(Drop)]
+struct Beside {
+    entries: Vec<Entry>,
+    types: Vec<i64>,
+}
+
+impl Beside {
+    fn open(rt: &impl Abort, alloc: Global) -> Beside {
+        Beside {
+            entries: room(rt, alloc),
+            types: room(rt, alloc),
+        }
+    }
+
+    /// What the plain rule names.
+    fn select(&mut self, sel: Selector) -> Result<Option<Numbered>, Fail> {
+        self.types.clear();
+        for entry in &self.entries {
+            self.types.push(entry.mtype)?;
+        }
+        let place = select_plain(sel, &self.types);
+        Ok(
+            place
+                .and_then(|place| self.entries.get(place))
+                .map(|entry| entry.numbered()),
+        )
+    }
+}
+
+/// All three selectors select what the plain rule names.
+fn assert_agree(
+    rt: &impl Abort,
+    index: &Index,
+    beside: &mut Beside,
+    mtype: i64,
+) -> Result<(), Fail> {
+    assert_eq!(rt; index.len(), beside.entries.len());
+    for sel in [
+        Selector::Any,
+        Selector::Exactly(mtype),
+        Selector::UpTo(mtype.unsigned_abs()),
+    ] {
+        assert_eq!(rt; select(index, sel), beside.select(sel)?, "{mtype}");
+    }
+    Ok(())
+}
+
+/// The selector of a step, and the type of the message that it sends.
+fn script(step: u64) -> (Selector, i64)
+    requires { step < 500 }
+{
+    let mixed = step * 13 % 17 + step / 7;
+    let mtype = (mixed % 7) as i64 + 1;
+    let sel = match mixed % 3 {
+        0 => Selector::Any,
+        1 => Selector::Exactly(mtype),
+        _ => Selector::UpTo(mtype.unsigned_abs()),
+    };
+    (sel, mtype)
+}
+
+#[test]
+fn selections_follow_the_plain_rule(rt: HostRuntime) -> Result<(), Fail> {
+    let mut index = open_index(&rt, rt.alloc());
+    let mut beside = Beside::open(&rt, rt.alloc());
+    let mut taken = 0u32;
+    for step in 0..500 {
+        let (sel, mtype) = script(step);
+        assert_agree(&rt, &index, &mut beside, mtype)?;
+        if step % 5 < 3 && index.len() < QUEUE_MESSAGES {
+            let entry = Entry {
+                mtype,
+                number: step,
+                place: (step % 256) as usize,
+            };
+            index.push(entry);
+            beside.entries.push(entry)?;
+        } else if let Some(found) = select(&index, sel) {
+            index.remove(found.number);
+            beside.entries.retain(|entry| entry.number != found.number);
+            taken += 1;
+        }
+    }
+    assert!(rt; taken > 100 && beside.entries.len() > 50);
+    Ok(())
+}
+
+#[test]
+fn a_full_index_finds_each_type(rt: HostRuntime) {
+    let mut index = open_index(&rt, rt.alloc());
+    for number in 0..256 {
+        index.push(Entry {
+            mtype: type_of_number(number),
+            number,
+            place: number as usize,
+        });
+    }
+    assert_eq!(rt; index.len(), QUEUE_MESSAGES);
+    for number in 0..256 {
+        let place = number as usize;
+        let sel = Selector::Exactly(type_of_number(number));
+        let found = select_full::<Brand>(&index, sel, Blank::new(1));
+        assert_eq!(rt; found, Some(Numbered { number, place }));
+    }
+    assert_eq!(rt; select(&index, Selector::Exactly(0)), None);
+    assert_eq!(rt; select(&index, Selector::Exactly(257)), None);
+}
+
+/// What is selected is this.
+fn assert_selects(rt: &impl Abort, index: &Index, sel: Selector, wanted: Option<Numbered>) {
+    assert_eq!(rt; select(index, sel), wanted, "{sel:?}");
+}
+
+#[test]
+fn entries_come_and_go(rt: HostRuntime) {
+    let mut index = open_index(&rt, rt.alloc());
+    assert!(rt; index.is_empty());
+    assert_selects(&rt, &index, Selector::Any, None);
+    assert_selects(&rt, &index, Selector::Exactly(5), None);
+    assert_selects(&rt, &index, Selector::UpTo(9), None);
+    let (first, second) = (
+        Entry {
+            mtype: 5,
+            number: 10,
+            place: 3,
+        },
+        Entry {
+            mtype: 2,
+            number: 12,
+            place: 0,
+        },
+    );
+    index.push(first);
+    index.push(second);
+    assert_eq!(rt; index.len(), 2);
+    let (tenth, twelfth) = (
+        Numbered {
+            number: 10,
+            place: 3,
+        },
+        Numbered {
+            number: 12,
+            place: 0,
+        },
+    );
+    assert_selects(&rt, &index, Selector::Any, Some(tenth));
+    assert_selects(&rt, &index, Selector::UpTo(5), Some(twelfth));
+    assert_selects(&rt, &index, Selector::UpTo(1), None);
+    assert_selects(&rt, &index, Selector::Exactly(5), Some(tenth));
+    assert_selects(&rt, &index, Selector::Exactly(4), None);
+    index.remove(10);
+    assert_selects(&rt, &index, Selector::Any, Some(twelfth));
+    assert_selects(&rt, &index, Selector::Exactly(5), None);
+    index.remove(11);
+    assert_eq!(rt; index.len(), 1);
+    index.clear();
+    assert!(rt; index.is_empty());
+    assert_selects(&rt, &index, Selector::Any, None);
+}

@@ -1,0 +1,255 @@
+//! Keys that are found, made, busy and refused; rows that are settled and forgotten; and the last
+//! identifiers of all.
+
+use crate::parts::assert_is;
+use std::alloc::Global;
+use std::process::Abort;
+use sysv_keys::{Begun, Registry, RegistryRefused, slot_of_id};
+use sysv_model::{Errno, Flags, IPC_PRIVATE};
+use tests_kit::{creating, flags};
+
+/// A registry whose slots all have this generation. Memory is refused once at most.
+fn registry_at(rt: &impl Abort, alloc: Global, generation: u32) -> Registry {
+    for _ in 0..3 {
+        match Registry::open_at(alloc, generation) {
+            Ok(registry) => return registry,
+            Err(why) => assert_eq!(rt; why, RegistryRefused::NoMemory),
+        }
+    }
+    Registry::open_at(alloc, generation).expect(rt, "a fourth try")
+}
+
+fn open_registry(rt: &impl Abort, alloc: Global) -> Registry {
+    match Registry::open(alloc) {
+        Ok(registry) => registry,
+        Err(why) => {
+            assert_eq!(rt; why, RegistryRefused::NoMemory);
+            registry_at(rt, alloc, 0)
+        }
+    }
+}
+
+/// Makes a private queue and settles it.
+fn make_private(rt: &impl Abort, registry: &mut Registry, id: i32) {
+    assert_eq!(rt; registry.begin(IPC_PRIVATE, flags(0)), Begun::Made { id });
+    assert!(rt; registry.settle(id));
+}
+
+/// A begin ends so.
+fn assert_begins(rt: &impl Abort, registry: &mut Registry, key: i32, flags: Flags, wanted: Begun) {
+    assert_eq!(rt; registry.begin(key, flags), wanted, "key {key}");
+}
+
+#[test]
+fn keys_and_private_keys(rt: HostRuntime) {
+    let mut registry = open_registry(&rt, rt.alloc());
+    assert_begins(
+        &rt,
+        &mut registry,
+        9,
+        flags(512 + 1024 + 0o600),
+        Begun::Made { id: 0 },
+    );
+    assert!(rt; registry.settle(0));
+    let found = Begun::Found { id: 0, settled: 1 };
+    assert_begins(&rt, &mut registry, 9, flags(512 + 1024 + 0o600), found);
+    assert_begins(
+        &rt,
+        &mut registry,
+        5,
+        flags(1024 + 0o600),
+        Begun::Refused(Errno::ENOENT),
+    );
+    make_private(&rt, &mut registry, 1);
+    make_private(&rt, &mut registry, 2);
+    assert_begins(
+        &rt,
+        &mut registry,
+        9,
+        flags(0),
+        Begun::Found { id: 0, settled: 3 },
+    );
+    assert_is(&rt, registry.settled(), 3);
+}
+
+#[test]
+fn a_full_registry_makes_no_queue(rt: HostRuntime) {
+    let mut registry = open_registry(&rt, rt.alloc());
+    assert_begins(&rt, &mut registry, 9, creating(), Begun::Made { id: 0 });
+    assert!(rt; registry.settle(0));
+    for id in 1..64 {
+        make_private(&rt, &mut registry, id);
+    }
+    assert_begins(
+        &rt,
+        &mut registry,
+        IPC_PRIVATE,
+        flags(0),
+        Begun::Refused(Errno::ENOSPC),
+    );
+    assert_begins(
+        &rt,
+        &mut registry,
+        5,
+        creating(),
+        Begun::Refused(Errno::ENOSPC),
+    );
+    assert_begins(
+        &rt,
+        &mut registry,
+        5,
+        flags(0),
+        Begun::Refused(Errno::ENOENT),
+    );
+    assert_begins(
+        &rt,
+        &mut registry,
+        9,
+        creating(),
+        Begun::Found { id: 0, settled: 64 },
+    );
+    assert_is(&rt, registry.settled(), 64);
+}
+
+#[test]
+fn a_key_is_busy_until_it_is_settled(rt: HostRuntime) {
+    let mut registry = open_registry(&rt, rt.alloc());
+    assert_begins(&rt, &mut registry, -4, creating(), Begun::Made { id: 0 });
+    assert_begins(&rt, &mut registry, -4, flags(0), Begun::Busy { settled: 0 });
+    assert!(rt; registry.settle(0));
+    assert!(rt; !registry.settle(0));
+    assert_begins(
+        &rt,
+        &mut registry,
+        -4,
+        flags(0),
+        Begun::Found { id: 0, settled: 1 },
+    );
+    assert!(rt; !registry.settle(64));
+    assert!(rt; !registry.settle(1));
+    assert!(rt; !registry.settle(-1));
+    assert_is(&rt, registry.settled(), 1);
+}
+
+#[test]
+fn a_forgotten_identifier_is_never_given_again(rt: HostRuntime) {
+    let mut registry = open_registry(&rt, rt.alloc());
+    assert_begins(&rt, &mut registry, 7, creating(), Begun::Made { id: 0 });
+    assert_begins(&rt, &mut registry, 8, creating(), Begun::Made { id: 1 });
+    assert_begins(
+        &rt,
+        &mut registry,
+        i32::MIN,
+        creating(),
+        Begun::Made { id: 2 },
+    );
+    assert!(rt; registry.settle(1));
+    assert!(rt; registry.forget(1));
+    assert!(rt; !registry.forget(1));
+    assert!(rt; registry.forget(0));
+    assert_is(&rt, registry.settled(), 3);
+    assert_begins(
+        &rt,
+        &mut registry,
+        7,
+        flags(0),
+        Begun::Refused(Errno::ENOENT),
+    );
+    assert_begins(&rt, &mut registry, 7, creating(), Begun::Made { id: 64 });
+    assert!(rt; !registry.forget(0));
+    assert!(rt; !registry.settle(0));
+    assert_begins(&rt, &mut registry, 8, creating(), Begun::Made { id: 65 });
+    assert_begins(
+        &rt,
+        &mut registry,
+        i32::MIN,
+        creating(),
+        Begun::Busy { settled: 3 },
+    );
+    assert!(rt; registry.forget(2));
+    assert_begins(
+        &rt,
+        &mut registry,
+        IPC_PRIVATE,
+        flags(0),
+        Begun::Made { id: 66 },
+    );
+}
+
+#[test]
+fn the_last_identifiers(rt: HostRuntime) {
+    let mut registry = registry_at(&rt, rt.alloc(), 33_554_431);
+    for slot in 0..64_usize {
+        let key = slot as i32 + 1;
+        let id = 2_147_483_584 + slot as i32;
+        assert_is(&rt, slot_of_id(id), slot);
+        assert_begins(&rt, &mut registry, key, creating(), Begun::Made { id });
+        assert!(rt; registry.forget(id));
+        assert_begins(
+            &rt,
+            &mut registry,
+            key,
+            flags(0),
+            Begun::Refused(Errno::ENOENT),
+        );
+    }
+    assert_begins(
+        &rt,
+        &mut registry,
+        IPC_PRIVATE,
+        flags(0),
+        Begun::Refused(Errno::ENOSPC),
+    );
+    assert_begins(
+        &rt,
+        &mut registry,
+        1,
+        creating(),
+        Begun::Refused(Errno::ENOSPC),
+    );
+    assert_is(&rt, registry.settled(), 64);
+}
+
+#[test]
+fn generations_past_the_last_are_refused(rt: HostRuntime) {
+    for generation in [33_554_432, u32::MAX] {
+        match Registry::open_at(rt.alloc(), generation) {
+            Ok(_) => panic!(rt; "a registry"),
+            Err(why) => assert_is(&rt, why, RegistryRefused::BadStart),
+        }
+    }
+}
+
+#[test]
+fn many_keys_come_and_go(rt: HostRuntime) {
+    let mut registry = open_registry(&rt, rt.alloc());
+    let mut first: i32 = 0;
+    for _ in 0..200 {
+        for id in first..first.wrapping_add(64) {
+            assert_begins(
+                &rt,
+                &mut registry,
+                id.wrapping_add(1),
+                creating(),
+                Begun::Made { id },
+            );
+        }
+        for id in first..first.wrapping_add(64) {
+            assert!(rt; registry.forget(id));
+        }
+        first = first.wrapping_add(64);
+    }
+    assert_is(&rt, registry.settled(), 12_800);
+}
+
+#[test]
+fn a_slot_is_unused_until_its_first_identifier(rt: HostRuntime) {
+    let mut registry = open_registry(&rt, rt.alloc());
+    assert!(rt; registry.is_unused(0));
+    make_private(&rt, &mut registry, 0);
+    assert!(rt; !registry.is_unused(0));
+    assert!(rt; registry.is_unused(1));
+    assert!(rt; registry.forget(0));
+    assert!(rt; !registry.is_unused(0));
+    assert!(rt; !registry_at(&rt, rt.alloc(), 1).is_unused(0));
+}

@@ -1,0 +1,29 @@
+//! Tests of the words of all calls, of the rules, of queues and what they stand on, of frames and of clients.
+#![tactic(auto)]
+
+#[cfg(test)]
+mod clients;
+#[cfg(test)]
+mod index;
+#[cfg(test)]
+mod indexed;
+#[cfg(test)]
+mod keys;
+#[cfg(test)]
+mod messages;
+#[cfg(test)]
+mod model;
+#[cfg(test)]
+mod objects;
+#[cfg(test)]
+mod parts;
+#[cfg(test)]
+mod pool;
+#[cfg(test)]
+mod queue;
+#[cfg(test)]
+mod rules;
+#[cfg(test)]
+mod watched;
+#[cfg(test)]
+mod wire;

@@ -1,0 +1,221 @@
+//! Messages that come and go by each kind of selector, refusals, a full store, and stores that end with
+//! messages in them.
+
+ghost use Rattle.std.specs.Prelude.{◌≡◌, ◌+◌, ◌<◌, []};
+ghost use Rattle.std.specs.List.{All};
+ghost use Rattle.sysv_model.specs.Message.{Message};
+
+use crate::parts::{assert_holds, give_back, open_body, open_pool, type_of_number};
+use std::alloc::Global;
+use std::marker::Brand;
+use std::process::Abort;
+use std::sync::ledger::{Blank, Ledger};
+use sysv_index::Steps;
+use sysv_messages::{Messages, NotTaken, Waiting};
+use sysv_model::{Body, NoMemory, QUEUE_MESSAGES, Selector};
+use sysv_pool::{Chain, Pool};
+
+/// A store, and what its callers have at hand.
+struct Desk {
+    messages: Messages,
+    pool: Pool,
+    text: Body,
+    out: Body,
+}
+
+/// What a receive gave, in a form that can be compared.
+#[derive(Clone, Copy, PartialEq, Eq, Debug)]
+struct Received {
+    number: u64,
+    sender: u32,
+    mtype: i64,
+    len: usize,
+}
+
+/// A store without messages. Memory is refused once at most.
+fn open_messages(rt: &impl Abort, alloc: Global) -> Messages
+    ensures { result ≡ [] }
+{
+    match Messages::open(alloc) {
+        Ok(messages) => messages,
+        Err(NoMemory) => match Messages::open(alloc) {
+            Ok(messages) => messages,
+            Err(NoMemory) => panic!(rt; "a second try"),
+        },
+    }
+}
+
+/// A store without messages beside a pool of 512 blocks.
+fn open_desk(rt: &impl Abort, alloc: Global) -> Desk
+    ensures { result.messages ≡ [] }
+{
+    Desk {
+        text: open_body(rt, alloc),
+        out: open_body(rt, alloc),
+        messages: open_messages(rt, alloc),
+        pool: open_pool(rt, alloc, 512),
+    }
+}
+
+/// Ends the store, in which messages of that many blocks wait, and the pool, in which all blocks are then
+/// free.
+fn end_desk(rt: &impl Abort, desk: Desk, blocks: u32) {
+    let Desk {
+        messages,
+        mut pool,
+        text: _,
+        out: _,
+    } = desk;
+    let chain = messages.end();
+    assert_eq!(rt; chain.blocks(), blocks);
+    give_back(rt, &mut pool, chain);
+    assert_eq!(rt; pool.free(), 512);
+    pool.end();
+}
+
+/// Puts a message of process 101 with this text in.
+fn send(rt: &impl Abort, desk: &mut Desk, number: u64, mtype: i64, text: &[u8])
+    requires { All (λ (m : Message). m.number < number) desk.old.messages }
+    ensures { All (λ (m : Message). m.number < number + 1) desk.new.messages }
+{
+    desk.text.clear();
+    assert!(rt; desk.text.push_piece(text));
+    let size = desk.text.len();
+    assert!(rt; size <= 8192);
+    let Some(mut chain) = desk.pool.reserve(size) else {
+        panic!(rt; "too few blocks for {size} bytes");
+    };
+    chain.fill(&desk.text);
+    assert!(rt; desk.messages.len() < QUEUE_MESSAGES);
+    assert!(rt; desk.messages.bytes() < 1 << 30);
+    desk.messages.push(number, 101, mtype, chain, size);
+}
+
+/// A message that is taken, with a counter that is given up.
+fn take_with<L: Ledger>(
+    messages: &mut Messages,
+    sel: Selector,
+    most: usize,
+    blank: Blank,
+) -> Result<Waiting, NotTaken>
+    requires name { blank.name ≡ L.name }
+    requires parts { blank.parts ≡ L.parts }
+    requires some { 0 < blank.parts }
+{
+    let mut steps = Steps::<L>::open(blank);
+    messages.take(sel, most, &mut steps)
+}
+
+/// Receives a text of at most `most` bytes into `out`. Its blocks come back.
+fn receive(
+    rt: &impl Abort,
+    desk: &mut Desk,
+    sel: Selector,
+    most: usize,
+) -> Result<Received, NotTaken> {
+    let message = take_with::<Brand>(&mut desk.messages, sel, most, Blank::new(1))?;
+    let received = Received {
+        number: message.number(),
+        sender: message.sender(),
+        mtype: message.mtype(),
+        len: message.len(),
+    };
+    let chain = message.into_chain();
+    desk.out.clear();
+    chain.copy_out(received.len, &mut desk.out);
+    give_back(rt, &mut desk.pool, chain);
+    Ok(received)
+}
+
+#[test]
+fn messages_come_and_go(rt: HostRuntime) {
+    let mut desk = open_desk(&rt, rt.alloc());
+    send(&rt, &mut desk, 3, 5, b"first");
+    send(&rt, &mut desk, 4, 2, &[7; 130]);
+    send(&rt, &mut desk, 5, 5, b"");
+    send(&rt, &mut desk, 6, 9, b"last");
+    assert_eq!(rt; (desk.messages.len(), desk.messages.bytes()), (4, 139));
+    assert_eq!(rt; desk.pool.free(), 507);
+    assert_eq!(rt;
+        receive(&rt, &mut desk, Selector::Exactly(4), 8192),
+        Err(NotTaken::NoneQualifies)
+    );
+    assert_eq!(rt;
+        receive(&rt, &mut desk, Selector::UpTo(8), 129),
+        Err(NotTaken::TooLong)
+    );
+    assert_eq!(rt; (desk.messages.len(), desk.messages.bytes()), (4, 139));
+    let second = Received {
+        number: 4,
+        sender: 101,
+        mtype: 2,
+        len: 130,
+    };
+    assert_eq!(rt; receive(&rt, &mut desk, Selector::UpTo(8), 130), Ok(second));
+    assert_holds(&rt, &desk.out, &[7; 130]);
+    let first = Received {
+        number: 3,
+        mtype: 5,
+        len: 5,
+        ..second
+    };
+    assert_eq!(rt;
+        receive(&rt, &mut desk, Selector::Exactly(5), 8192),
+        Ok(first)
+    );
+    assert_holds(&rt, &desk.out, b"first");
+    let empty = Received {
+        number: 5,
+        len: 0,
+        ..first
+    };
+    assert_eq!(rt; receive(&rt, &mut desk, Selector::Any, 0), Ok(empty));
+    assert_holds(&rt, &desk.out, b"");
+    assert_eq!(rt; (desk.messages.len(), desk.messages.bytes()), (1, 4));
+    assert_eq!(rt; desk.pool.free(), 511);
+    end_desk(&rt, desk, 1);
+}
+
+#[test]
+fn all_messages_are_taken(rt: HostRuntime) {
+    let mut desk = open_desk(&rt, rt.alloc());
+    send(&rt, &mut desk, 0, 1, &[1; 64]);
+    send(&rt, &mut desk, 1, 1, &[2; 65]);
+    let all = desk.messages.take_all();
+    assert_eq!(rt; all.blocks(), 3);
+    give_back(&rt, &mut desk.pool, all);
+    assert_eq!(rt; (desk.messages.len(), desk.messages.bytes()), (0, 0));
+    send(&rt, &mut desk, 0, 1, &[3; 128]);
+    end_desk(&rt, desk, 2);
+}
+
+#[test]
+fn a_full_store_gives_each_type(rt: HostRuntime) {
+    let mut desk = open_desk(&rt, rt.alloc());
+    for number in 0..256 {
+        send(&rt, &mut desk, number, type_of_number(number), b"x");
+    }
+    assert_eq!(rt;
+        (desk.messages.len(), desk.messages.bytes()),
+        (QUEUE_MESSAGES, 256)
+    );
+    for number in 0..256 {
+        let mtype = type_of_number(number);
+        let expected = Received {
+            number,
+            sender: 101,
+            mtype,
+            len: 1,
+        };
+        assert_eq!(rt;
+            receive(&rt, &mut desk, Selector::Exactly(mtype), 1),
+            Ok(expected)
+        );
+    }
+    assert_eq!(rt;
+        receive(&rt, &mut desk, Selector::Any, 8192),
+        Err(NotTaken::NoneQualifies)
+    );
+    assert_eq!(rt; desk.messages.len(), 0);
+    end_desk(&rt, desk, 0);
+}

@@ -1,0 +1,171 @@
+//! The words of all calls: limits, errors, flags, bodies and selectors.
+use crate::parts::open_body;
+use bitflags::Flags as Set;
+use std::alloc::Global;
+use std::process::Abort;
+use sysv_model::{
+    BLOCK_BYTES, BODY_ROOM, Errno, Flags, IPC_PRIVATE, MAX_ACTORS, MAX_BLOCKS, MAX_QBYTES,
+    MESSAGE_BYTES, MIN_BLOCKS, QBYTES_AT_CREATION, QUEUE_MESSAGES, Selector, WORN,
+};
+
+#[test]
+fn figures(rt: HostRuntime) {
+    assert_eq!(rt; IPC_PRIVATE, 0);
+    assert_eq!(rt; MESSAGE_BYTES, 8_192);
+    assert_eq!(rt; BODY_ROOM, 8_256);
+    assert_eq!(rt; BLOCK_BYTES, 64);
+    assert_eq!(rt; QUEUE_MESSAGES, 256);
+    assert_eq!(rt; QBYTES_AT_CREATION, 16_384);
+    assert_eq!(rt; MAX_QBYTES, 65_536);
+    assert_eq!(rt; MAX_ACTORS, 1_024);
+    assert_eq!(rt; MIN_BLOCKS, 128);
+    assert_eq!(rt; MAX_BLOCKS, 65_536);
+    assert_eq!(rt; WORN, 4_611_686_018_427_387_904);
+}
+
+/// What the error prints. Memory is refused once at most.
+fn printed(rt: &impl Abort, alloc: Global, error: Errno) -> String {
+    match format!(in alloc; "{error}") {
+        Ok(text) => text,
+        Err(_) => format!(in alloc; "{error}").expect(rt, "a second try"),
+    }
+}
+
+#[test]
+fn numbers_and_names(rt: HostRuntime) {
+    let table = [
+        (Errno::EPERM, 1, "EPERM"),
+        (Errno::ENOENT, 2, "ENOENT"),
+        (Errno::E2BIG, 7, "E2BIG"),
+        (Errno::EAGAIN, 11, "EAGAIN"),
+        (Errno::EACCES, 13, "EACCES"),
+        (Errno::EEXIST, 17, "EEXIST"),
+        (Errno::EINVAL, 22, "EINVAL"),
+        (Errno::ENOSPC, 28, "ENOSPC"),
+        (Errno::ENOMSG, 42, "ENOMSG"),
+        (Errno::EIDRM, 43, "EIDRM"),
+        (Errno::EOVERFLOW, 75, "EOVERFLOW"),
+    ];
+    for (error, number, name) in table {
+        assert_eq!(rt; error.number(), number, "{name}");
+        assert_eq!(rt; printed(&rt, rt.alloc(), error).as_str(), name);
+    }
+}
+
+#[test]
+fn named_flags_have_their_numbers(rt: HostRuntime) {
+    let table = [
+        (Flags::OTHER_EXECUTE, 1, "OTHER_EXECUTE"),
+        (Flags::OTHER_WRITE, 2, "OTHER_WRITE"),
+        (Flags::OTHER_READ, 4, "OTHER_READ"),
+        (Flags::GROUP_EXECUTE, 8, "GROUP_EXECUTE"),
+        (Flags::GROUP_WRITE, 16, "GROUP_WRITE"),
+        (Flags::GROUP_READ, 32, "GROUP_READ"),
+        (Flags::USER_EXECUTE, 64, "USER_EXECUTE"),
+        (Flags::USER_WRITE, 128, "USER_WRITE"),
+        (Flags::USER_READ, 256, "USER_READ"),
+        (Flags::IPC_CREAT, 512, "IPC_CREAT"),
+        (Flags::IPC_EXCL, 1024, "IPC_EXCL"),
+        (Flags::IPC_NOWAIT, 2048, "IPC_NOWAIT"),
+        (Flags::MSG_NOERROR, 4096, "MSG_NOERROR"),
+        (Flags::MSG_EXCEPT, 8192, "MSG_EXCEPT"),
+    ];
+    assert_eq!(rt; Flags::flags().len(), table.len());
+    for (flag, number, name) in table {
+        assert_eq!(rt; flag.bits(), number, "{name}");
+        assert_eq!(rt; Flags::from_name(name), Some(flag), "{name}");
+    }
+}
+
+#[test]
+fn all_bits_are_kept(rt: HostRuntime) {
+    for bits in [0, 0o777, 16384, 1 << 31, 0xffff_ffff] {
+        assert_eq!(rt; Flags::from_bits_retain(bits).bits(), bits);
+    }
+    let wide = Flags::from_bits_retain(0xffff_ffff);
+    assert!(rt; wide.contains(Flags::MSG_EXCEPT));
+    let made = Flags::IPC_CREAT | Flags::USER_READ | Flags::USER_WRITE;
+    assert_eq!(rt; made.bits(), 0x380);
+    assert!(rt; !made.contains(Flags::IPC_NOWAIT));
+}
+
+#[test]
+fn a_piece_is_added_whole_or_not_at_all(rt: HostRuntime) {
+    let mut body = open_body(&rt, rt.alloc());
+    assert_eq!(rt; body.len(), 0);
+    let bytes = [7; 8257];
+    let table = [
+        (0, 0, true, 0),
+        (0, 1, true, 1),
+        (0, 8256, true, 8256),
+        (0, 8257, false, 0),
+        (1, 8255, true, 8256),
+        (1, 8256, false, 1),
+        (8192, 64, true, 8256),
+        (8192, 65, false, 8192),
+        (8256, 0, true, 8256),
+        (8256, 1, false, 8256),
+    ];
+    for (held, piece, fits, left) in table {
+        assert!(rt; held <= bytes.len() && piece <= bytes.len());
+        body.clear();
+        assert_eq!(rt; body.len(), 0, "cleared before {held}");
+        assert!(rt; body.push_piece(&bytes[..held]));
+        assert_eq!(rt;
+            body.push_piece(&bytes[..piece]),
+            fits,
+            "{piece} after {held}"
+        );
+        assert_eq!(rt; body.len(), left, "{piece} after {held}");
+    }
+}
+
+#[test]
+fn a_text_is_read_by_blocks(rt: HostRuntime) {
+    let mut body = open_body(&rt, rt.alloc());
+    let text = [b'x'; 130];
+    assert!(rt; body.push_piece(&text));
+    let table = [(0, 64), (1, 64), (2, 2), (3, 0), (u32::MAX, 0)];
+    for (k, len) in table {
+        assert_eq!(rt; body.block(k).len(), len, "block {k}");
+    }
+    assert_eq!(rt; body.block(2), b"xx".as_slice());
+}
+
+#[test]
+fn a_text_is_cut(rt: HostRuntime) {
+    let mut body = open_body(&rt, rt.alloc());
+    assert!(rt; body.push_piece(b"hello"));
+    body.truncate(9);
+    assert_eq!(rt; body.block(0), b"hello".as_slice());
+    body.truncate(2);
+    assert_eq!(rt; body.block(0), b"he".as_slice());
+}
+
+#[test]
+fn bytes_stand_in_order(rt: HostRuntime) {
+    let mut body = open_body(&rt, rt.alloc());
+    assert!(rt; body.push_piece(b"he"));
+    assert!(rt; body.push_piece(b"llo"));
+    assert_eq!(rt; body.len(), 5);
+    for (i, byte) in [b'h', b'e', b'l', b'l', b'o'].into_iter().enumerate() {
+        assert!(rt; i < body.len());
+        assert_eq!(rt; body.byte(i), byte, "at {i}");
+    }
+}
+
+#[test]
+fn a_type_argument_asks_for_its_kind(rt: HostRuntime) {
+    let table = [
+        (0, Selector::Any),
+        (1, Selector::Exactly(1)),
+        (i64::MAX, Selector::Exactly(9_223_372_036_854_775_807)),
+        (-1, Selector::UpTo(1)),
+        (-i64::MAX, Selector::UpTo(9_223_372_036_854_775_807)),
+        (i64::MIN, Selector::UpTo(9_223_372_036_854_775_808)),
+    ];
+    for (mtype, sel) in table {
+        assert_eq!(rt; Selector::of(mtype, Flags::IPC_NOWAIT), sel, "{mtype}");
+        assert_eq!(rt; Selector::of(mtype, Flags::MSG_EXCEPT), sel, "{mtype}");
+    }
+}

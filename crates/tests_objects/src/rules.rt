@@ -1,0 +1,4 @@
+//! Permission and selection.
+
+mod permission;
+mod selection;

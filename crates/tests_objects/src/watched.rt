@@ -1,0 +1,105 @@
+//! Streams that are watched.
+use std::io;
+use std::io::{ErrorKind, Read, Write};
+use sysv_model::Watched;
+
+/// Gives and takes one byte, and then fails, or takes nothing where it stalls.
+#[derive(Drop)]
+struct Once {
+    is_over: bool,
+    stalls: bool,
+}
+
+impl Once {
+    /// How many bytes it gives or takes.
+    fn step(&mut self) -> io::Result<usize> {
+        if !self.is_over {
+            self.is_over = true;
+            return Ok(1);
+        }
+        if self.stalls {
+            return Ok(0);
+        }
+        Err(io::Error::from(ErrorKind::TimedOut))
+    }
+}
+
+impl Read for Once {
+    fn read(&mut self, buf: &mut [u8]) -> io::Result<usize> {
+        Ok(self.step()?.min(buf.len()))
+    }
+}
+
+impl Write for Once {
+    fn write(&mut self, buf: &[u8]) -> io::Result<usize> {
+        Ok(self.step()?.min(buf.len()))
+    }
+
+    fn flush(&mut self) -> io::Result<()> {
+        self.step()?;
+        Ok(())
+    }
+}
+
+#[test]
+fn a_failed_read_is_remembered(rt: HostRuntime) {
+    let mut bytes = [0; 4];
+    let mut stream = Once {
+        is_over: false,
+        stalls: false,
+    };
+    let mut reader = Watched::new(&mut stream);
+    assert!(rt; matches!(reader.read(&mut bytes), Ok(1)));
+    assert!(rt; !reader.has_failed());
+    assert!(rt; reader.read(&mut bytes).is_err());
+    assert!(rt; reader.has_failed());
+}
+
+#[test]
+fn the_end_of_a_reader_is_no_failure(rt: HostRuntime) {
+    let mut bytes = [0; 4];
+    let mut stream = b"hi".as_slice();
+    let mut reader = Watched::new(&mut stream);
+    assert!(rt; matches!(reader.read(&mut bytes), Ok(2)));
+    assert!(rt; matches!(reader.read(&mut bytes), Ok(0)));
+    assert!(rt; !reader.has_failed());
+    assert!(rt; bytes == *b"hi\0\0");
+}
+
+#[test]
+fn a_failed_write_is_remembered(rt: HostRuntime) {
+    for stalls in [false, true] {
+        let mut stream = Once {
+            is_over: false,
+            stalls,
+        };
+        let mut writer = Watched::new(&mut stream);
+        assert!(rt; matches!(writer.write(b"hi"), Ok(1)));
+        assert!(rt; !writer.has_failed());
+        assert_eq!(rt; writer.write(b"i").is_ok(), stalls);
+        assert!(rt; writer.has_failed());
+    }
+}
+
+#[test]
+fn a_write_of_nothing_is_no_failure(rt: HostRuntime) {
+    let mut stream = Once {
+        is_over: true,
+        stalls: true,
+    };
+    let mut writer = Watched::new(&mut stream);
+    assert!(rt; matches!(writer.write(b""), Ok(0)));
+    assert!(rt; writer.flush().is_ok());
+    assert!(rt; !writer.has_failed());
+}
+
+#[test]
+fn a_failed_flush_is_remembered(rt: HostRuntime) {
+    let mut stream = Once {
+        is_over: true,
+        stalls: false,
+    };
+    let mut writer = Watched::new(&mut stream);
+    assert!(rt; writer.flush().is_err());
+    assert!(rt; writer.has_failed());
+}

@@ -1,0 +1,198 @@
+//! Frames whose bytes are worked by hand.
+use crate::parts::open_body;
+use bitflags::Flags as Set;
+use std::alloc::Global;
+use std::process::Abort;
+use sysv_model::{Cred, Errno, Flags, MESSAGE_BYTES, Perm, Row, SetTo, Stat, Watched};
+use sysv_wire::{
+    Ask, Outcome, Reply, Request, read_reply, read_request, write_reply, write_request,
+};
+use tests_kit::worked::{ANSWERS, SESSION};
+use tests_kit::{Page, Pieces};
+
+/// Requests with numbers at the ends of their ranges.
+pub(super) const OTHERS: &[u8] = &[
+    0x00, 0x00, 0x00, 0x0a, 0x01, 0x01, 0x80, 0x00, 0x00, 0x00, 0xff, 0xff, 0xff, 0xff, 0x00, 0x00,
+    0x00, 0x12, 0x01, 0x02, 0xff, 0xff, 0xff, 0xff, 0x80, 0x00, 0x00, 0x00, 0x00, 0x00, 0x00, 0x00,
+    0x00, 0x00, 0x20, 0x00, 0x00, 0x00, 0x00, 0x06, 0x01, 0x04, 0x00, 0x00, 0x00, 0x40, 0x00, 0x00,
+    0x00, 0x16, 0x01, 0x05, 0x00, 0x00, 0x00, 0x00, 0x00, 0x00, 0x03, 0xe8, 0x00, 0x00, 0x03, 0xe9,
+    0xff, 0xff, 0xff, 0xff, 0x00, 0x00, 0x20, 0x00, 0x00, 0x00, 0x00, 0x06, 0x01, 0x06, 0x7f, 0xff,
+    0xff, 0xff, 0x00, 0x00, 0x00, 0x06, 0x01, 0x07, 0x00, 0x00, 0x00, 0x03,
+];
+
+/// Attributes, rows and what has no fields.
+pub(super) const TOLD: &[u8] = &[
+    0x00, 0x00, 0x00, 0x45, 0x01, 0x04, 0x00, 0x00, 0x00, 0x00, 0x07, 0x00, 0x00, 0x03, 0xe8, 0x00,
+    0x00, 0x03, 0xe9, 0x00, 0x00, 0x03, 0xea, 0x00, 0x00, 0x03, 0xeb, 0x01, 0x80, 0x00, 0x00, 0x00,
+    0x03, 0x00, 0x00, 0x00, 0x01, 0x00, 0x00, 0x40, 0x00, 0x00, 0x00, 0x00, 0x65, 0x00, 0x00, 0x00,
+    0x66, 0x00, 0x00, 0x00, 0x00, 0x00, 0x00, 0x00, 0x01, 0x00, 0x00, 0x00, 0x00, 0x00, 0x00, 0x00,
+    0x02, 0x00, 0x00, 0x00, 0x01, 0x00, 0x00, 0x00, 0x03, 0x00, 0x00, 0x00, 0x1a, 0x01, 0x07, 0x00,
+    0x01, 0x00, 0x00, 0x00, 0x40, 0x00, 0x00, 0x00, 0x07, 0x00, 0x00, 0x03, 0xe8, 0x01, 0xff, 0x00,
+    0x00, 0x00, 0x03, 0x00, 0x00, 0x00, 0x01, 0x00, 0x00, 0x00, 0x04, 0x01, 0x07, 0x00, 0x00, 0x00,
+    0x00, 0x00, 0x03, 0x01, 0x05, 0x00, 0x00, 0x00, 0x00, 0x03, 0x01, 0x06, 0x00, 0x00, 0x00, 0x00,
+    0x03, 0x01, 0x07, 0x0b,
+];
+
+/// Reads the requests one by one in pieces of a size, and writes each again.
+fn reads_and_writes(rt: &impl Abort, alloc: Global, bytes: &[u8], asks: &[Ask], piece: usize) {
+    let mut text = open_body(rt, alloc);
+    let mut pieces = Pieces::new(bytes, piece);
+    let mut reader = Watched::new(&mut pieces);
+    let mut page = Page::taking(piece, 512, false);
+    let mut writer = Watched::new(&mut page);
+    for ask in asks {
+        let request = Request { ask: *ask };
+        let read = read_request(&mut reader, &mut text);
+        let written = write_request(&mut writer, &request, &text);
+        assert_eq!(rt; (read, written), (Ok(Some(request)), Ok(())));
+    }
+    let end = read_request(&mut reader, &mut text);
+    let failed = reader.has_failed() || writer.has_failed();
+    assert_eq!(rt; (end, failed, page.written()), (Ok(None), false, bytes));
+}
+
+/// Reads the replies one by one in pieces of a size, and writes each again.
+fn reads_and_writes_replies(
+    rt: &impl Abort,
+    alloc: Global,
+    bytes: &[u8],
+    replies: &[Reply],
+    piece: usize,
+) {
+    let mut text = open_body(rt, alloc);
+    let mut pieces = Pieces::new(bytes, piece);
+    let mut reader = Watched::new(&mut pieces);
+    let mut page = Page::taking(piece, 512, false);
+    let mut writer = Watched::new(&mut page);
+    for reply in replies {
+        match read_reply(&mut reader, &mut text) {
+            Ok(Some(read)) => {
+                assert_eq!(rt; read, *reply);
+                assert!(rt; text.len() <= MESSAGE_BYTES);
+                assert_eq!(rt; write_reply(&mut writer, &read, &text), Ok(()));
+            }
+            other => assert_eq!(rt; other, Ok(Some(*reply))),
+        }
+    }
+    let end = read_reply(&mut reader, &mut text);
+    let failed = reader.has_failed() || writer.has_failed();
+    assert_eq!(rt; (end, failed, page.written()), (Ok(None), false, bytes));
+}
+
+#[test]
+fn a_session(rt: HostRuntime) {
+    let receive = Ask::Rcv {
+        id: 0,
+        size: 100,
+        mtype: -5,
+        flags: Flags::IPC_NOWAIT,
+    };
+    let asks = [
+        Ask::Hello(Cred {
+            uid: 1000,
+            gid: 1000,
+            pid: 101,
+        }),
+        Ask::Get {
+            key: 7,
+            flags: Flags::from_bits_retain(0o1600),
+        },
+        Ask::Snd {
+            id: 0,
+            mtype: 5,
+            flags: Flags::from_bits_retain(0),
+        },
+        receive,
+        receive,
+    ];
+    let replies = [
+        (0, Outcome::Hello),
+        (1, Outcome::Get { id: 0 }),
+        (2, Outcome::Snd),
+        (3, Outcome::Rcv { mtype: 5 }),
+        (3, Outcome::Refused(Errno::ENOMSG)),
+    ]
+    .map(|(op, outcome)| Reply {
+        op,
+        result: outcome,
+    });
+    for piece in [1, 2, 3, 5, 200] {
+        reads_and_writes(&rt, rt.alloc(), SESSION, &asks, piece);
+        reads_and_writes_replies(&rt, rt.alloc(), ANSWERS, &replies, piece);
+    }
+}
+
+#[test]
+fn ends_of_ranges(rt: HostRuntime) {
+    let asks = [
+        Ask::Get {
+            key: i32::MIN,
+            flags: Flags::from_bits_retain(u32::MAX),
+        },
+        Ask::Snd {
+            id: -1,
+            mtype: i64::MIN,
+            flags: Flags::MSG_EXCEPT,
+        },
+        Ask::Stat { id: 64 },
+        Ask::Set {
+            id: 0,
+            to: SetTo {
+                uid: 1000,
+                gid: 1001,
+                mode: u32::MAX,
+                qbytes: 8192,
+            },
+        },
+        Ask::Rm { id: i32::MAX },
+        Ask::Row { slot: 3 },
+    ];
+    for piece in [1, 7, 200] {
+        reads_and_writes(&rt, rt.alloc(), OTHERS, &asks, piece);
+    }
+}
+
+#[test]
+fn attributes_and_rows(rt: HostRuntime) {
+    let stat = Stat {
+        key: 7,
+        perm: Perm {
+            uid: 1000,
+            gid: 1001,
+            cuid: 1002,
+            cgid: 1003,
+            mode: 0o600,
+        },
+        cbytes: 3,
+        qnum: 1,
+        qbytes: 16384,
+        lspid: 101,
+        lrpid: 102,
+        stime: 1,
+        rtime: 2,
+        ctime: 4_294_967_299,
+    };
+    let row = Row {
+        id: 64,
+        key: 7,
+        uid: 1000,
+        mode: 0o777,
+        cbytes: 3,
+        qnum: 1,
+    };
+    let replies = [
+        (4, Outcome::Stat(stat)),
+        (7, Outcome::Row(Some(row))),
+        (7, Outcome::Row(None)),
+        (5, Outcome::Set),
+        (6, Outcome::Rm),
+        (7, Outcome::Refused(Errno::EAGAIN)),
+    ]
+    .map(|(op, outcome)| Reply {
+        op,
+        result: outcome,
+    });
+    for piece in [1, 7, 200] {
+        reads_and_writes_replies(&rt, rt.alloc(), TOLD, &replies, piece);
+    }
+}

@@ -1,0 +1,133 @@
+//! Readers and writers that fail within a frame, and the longest texts.
+use crate::parts::open_body;
+use bitflags::Flags as Set;
+use std::process::Abort;
+use sysv_model::{Body, Flags, Watched};
+use sysv_wire::{
+    Ask, Fault, Outcome, Reply, Request, WriteFault, read_reply, read_request, write_reply,
+    write_request,
+};
+use tests_kit::worked::{ANSWERS, SESSION};
+use tests_kit::{Page, Pieces};
+
+/// What the first request answers that is not one, where the reader fails after so many bytes, and whether it is then
+/// known to have failed.
+fn end_of_requests(text: &mut Body, good: usize) -> (Result<Option<Request>, Fault>, bool) {
+    let mut pieces = Pieces::new(SESSION, 5);
+    pieces.good = good;
+    let mut reader = Watched::new(&mut pieces);
+    let mut answer = Ok(None);
+    for _ in 0..5 {
+        answer = read_request(&mut reader, text);
+        if answer.is_err() || reader.has_failed() {
+            break;
+        }
+    }
+    (answer, reader.has_failed())
+}
+
+/// The same of replies.
+fn end_of_replies(text: &mut Body, good: usize) -> (Result<Option<Reply>, Fault>, bool) {
+    let mut pieces = Pieces::new(ANSWERS, 5);
+    pieces.good = good;
+    let mut reader = Watched::new(&mut pieces);
+    let mut answer = Ok(None);
+    for _ in 0..5 {
+        answer = read_reply(&mut reader, text);
+        if answer.is_err() || reader.has_failed() {
+            break;
+        }
+    }
+    (answer, reader.has_failed())
+}
+
+#[test]
+fn the_reader_fails(rt: HostRuntime) {
+    let mut text = open_body(&rt, rt.alloc());
+    for good in 0..SESSION.len() {
+        let end = end_of_requests(&mut text, good);
+        assert_eq!(rt; end, (Err(Fault::Read), true), "{good}");
+    }
+    for good in 0..ANSWERS.len() {
+        let end = end_of_replies(&mut text, good);
+        assert_eq!(rt; end, (Err(Fault::Read), true), "{good}");
+    }
+}
+
+/// How a write to this page ended, and whether the page is then known to have failed.
+type End = (Result<(), WriteFault>, bool);
+
+/// A write has failed once these bytes were taken.
+fn assert_fails_after(rt: &impl Abort, end: End, page: &Page, taken: &[u8]) {
+    let room = taken.len();
+    assert_eq!(rt; end, (Err(WriteFault), true), "{room}");
+    assert_eq!(rt; page.written(), taken);
+}
+
+/// How the write of a request ends.
+fn end_of_request(page: &mut Page, request: &Request, text: &Body) -> End {
+    let mut writer = Watched::new(page);
+    let end = write_request(&mut writer, request, text);
+    (end, writer.has_failed())
+}
+
+#[test]
+fn a_writer_fails_within_a_request(rt: HostRuntime) {
+    let mut text = open_body(&rt, rt.alloc());
+    assert!(rt; text.push_piece(b"hi"));
+    let request = Request {
+        ask: Ask::Snd {
+            id: 0,
+            mtype: 5,
+            flags: Flags::from_bits_retain(0),
+        },
+    };
+    for room in 0..24 {
+        for (piece, stalls) in [(1, false), (1, true), (512, false), (512, true)] {
+            let mut page = Page::taking(piece, room, stalls);
+            let end = end_of_request(&mut page, &request, &text);
+            assert_fails_after(&rt, end, &page, &SESSION[32..32 + room]);
+        }
+    }
+}
+
+#[test]
+fn a_writer_fails_within_a_reply(rt: HostRuntime) {
+    let mut text = open_body(&rt, rt.alloc());
+    assert!(rt; text.push_piece(b"hi"));
+    assert!(rt; text.len() <= 8192);
+    let reply = Reply {
+        op: 3,
+        result: Outcome::Rcv { mtype: 5 },
+    };
+    for room in 0..17 {
+        let mut page = Page::taking(3, room, false);
+        let mut writer = Watched::new(&mut page);
+        let end = write_reply(&mut writer, &reply, &text);
+        let end = (end, writer.has_failed());
+        assert_fails_after(&rt, end, &page, &ANSWERS[25..25 + room]);
+    }
+}
+
+#[test]
+fn the_longest_text(rt: HostRuntime) {
+    let mut frame = [b'x'; 8278];
+    let head = [
+        0, 0, 0x20, 0x52, 1, 2, 0, 0, 0, 0, 0, 0, 0, 0, 0, 0, 0, 9, 0, 0, 0, 0,
+    ];
+    frame[..22].copy_from_slice(&head);
+    let mut text = open_body(&rt, rt.alloc());
+    for piece in [1, 63, 64, 65, 9000] {
+        let mut pieces = Pieces::new(&frame, piece);
+        let mut reader = Watched::new(&mut pieces);
+        let ask = Ask::Snd {
+            id: 0,
+            mtype: 9,
+            flags: Flags::from_bits_retain(0),
+        };
+        let request = Request { ask };
+        assert_eq!(rt; read_request(&mut reader, &mut text), Ok(Some(request)));
+        assert_eq!(rt; text.len(), 8256);
+        assert_eq!(rt; read_request(&mut reader, &mut text), Ok(None));
+    }
+}

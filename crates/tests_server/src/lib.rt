@@ -1,0 +1,7 @@
+//! Tests of a server on a real socket, with frames worked by hand and with clients.
+#![tactic(auto)]
+
+#[cfg(test)]
+mod commands;
+#[cfg(test)]
+mod server;

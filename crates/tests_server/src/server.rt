@@ -1,0 +1,286 @@
+//! Servers on a socket, whose clients write their frames by hand.
+ghost use Rattle.std.specs.Prelude.{◌≤◌};
+
+use crate::commands::five_sessions;
+use std::alloc::Global;
+use std::io::{Read, Write};
+use std::net::Net;
+use std::os::unix::net::{UnixListener, UnixStream};
+use std::process::Abort;
+use std::rt::Files;
+use std::sync::Wait;
+use std::thread::Threads;
+use std::{fs, thread};
+use sysv_server::{ServeFault, Sums, serve_on};
+
+/// A hello of user and group 1000, pid 101.
+pub(crate) const HELLO: &[u8] = &[
+    0x00, 0x00, 0x00, 0x0e, 0x01, 0x00, 0x00, 0x00, 0x03, 0xe8, 0x00, 0x00, 0x03, 0xe8, 0x00, 0x00,
+    0x00, 0x65,
+];
+
+/// A hello of user and group 2000, pid 102.
+const OTHER: &[u8] = &[
+    0x00, 0x00, 0x00, 0x0e, 0x01, 0x00, 0x00, 0x00, 0x07, 0xd0, 0x00, 0x00, 0x07, 0xd0, 0x00, 0x00,
+    0x00, 0x66,
+];
+
+/// The reply to a hello.
+pub(crate) const KNOWN: &[u8] = &[0x00, 0x00, 0x00, 0x03, 0x01, 0x00, 0x00];
+
+/// A get of key 7 with IPC_CREAT and mode 0640.
+pub(crate) const CREATE: &[u8] = &[
+    0x00, 0x00, 0x00, 0x0a, 0x01, 0x01, 0x00, 0x00, 0x00, 0x07, 0x00, 0x00, 0x03, 0xa0,
+];
+
+/// A get of key 7 without flags.
+const FIND: &[u8] = &[
+    0x00, 0x00, 0x00, 0x0a, 0x01, 0x01, 0x00, 0x00, 0x00, 0x07, 0x00, 0x00, 0x00, 0x00,
+];
+
+/// The reply to a get: identifier 0.
+pub(crate) const FOUND: &[u8] = &[
+    0x00, 0x00, 0x00, 0x07, 0x01, 0x01, 0x00, 0x00, 0x00, 0x00, 0x00,
+];
+
+/// The reply to a get: ENOENT.
+const NOT_FOUND: &[u8] = &[0x00, 0x00, 0x00, 0x03, 0x01, 0x01, 0x02];
+
+/// A send of `abc`, of type 5, to queue 0.
+pub(crate) const SEND: &[u8] = &[
+    0x00, 0x00, 0x00, 0x15, 0x01, 0x02, 0x00, 0x00, 0x00, 0x00, 0x00, 0x00, 0x00, 0x00, 0x00, 0x00,
+    0x00, 0x05, 0x00, 0x00, 0x00, 0x00, 0x61, 0x62, 0x63,
+];
+
+/// The reply to a send.
+pub(crate) const SENT: &[u8] = &[0x00, 0x00, 0x00, 0x03, 0x01, 0x02, 0x00];
+
+/// A receive of at most 100 bytes of any type from queue 0, which waits.
+const RECEIVE: &[u8] = &[
+    0x00, 0x00, 0x00, 0x16, 0x01, 0x03, 0x00, 0x00, 0x00, 0x00, 0x00, 0x00, 0x00, 0x64, 0x00, 0x00,
+    0x00, 0x00, 0x00, 0x00, 0x00, 0x00, 0x00, 0x00, 0x00, 0x00,
+];
+
+/// The same without waiting.
+const RECEIVE_NOW: &[u8] = &[
+    0x00, 0x00, 0x00, 0x16, 0x01, 0x03, 0x00, 0x00, 0x00, 0x00, 0x00, 0x00, 0x00, 0x64, 0x00, 0x00,
+    0x00, 0x00, 0x00, 0x00, 0x00, 0x00, 0x00, 0x00, 0x08, 0x00,
+];
+
+/// The reply to a receive: `abc`, of type 5.
+const RECEIVED: &[u8] = &[
+    0x00, 0x00, 0x00, 0x0e, 0x01, 0x03, 0x00, 0x00, 0x00, 0x00, 0x00, 0x00, 0x00, 0x00, 0x05, 0x61,
+    0x62, 0x63,
+];
+
+/// IPC_RMID of queue 0.
+const REMOVE: &[u8] = &[0x00, 0x00, 0x00, 0x06, 0x01, 0x06, 0x00, 0x00, 0x00, 0x00];
+
+/// The replies to IPC_RMID: done, and EPERM.
+const REMOVED: &[u8] = &[0x00, 0x00, 0x00, 0x03, 0x01, 0x06, 0x00];
+
+const NOT_REMOVED: &[u8] = &[0x00, 0x00, 0x00, 0x03, 0x01, 0x06, 0x01];
+
+/// The row of queue 0: key 7, user 1000, mode 0640, three bytes in one message.
+const ROW: &[u8] = &[
+    0x00, 0x00, 0x00, 0x1a, 0x01, 0x07, 0x00, 0x01, 0x00, 0x00, 0x00, 0x00, 0x00, 0x00, 0x00, 0x07,
+    0x00, 0x00, 0x03, 0xe8, 0x01, 0xa0, 0x00, 0x00, 0x00, 0x03, 0x00, 0x00, 0x00, 0x01,
+];
+
+/// That there is no row.
+const NO_ROW: &[u8] = &[0x00, 0x00, 0x00, 0x04, 0x01, 0x07, 0x00, 0x00];
+
+/// The requests were written, and the replies came.
+fn asks(stream: &mut UnixStream, requests: &[&[u8]], replies: &[&[u8]]) -> bool {
+    for request in requests {
+        if stream.write_all(request).is_err() {
+            return false;
+        }
+    }
+    replies.iter().all(|reply| gives(stream, reply))
+}
+
+/// These bytes come next.
+fn gives(stream: &mut UnixStream, reply: &[u8]) -> bool {
+    let mut read = [0u8; 64];
+    let read = &mut read[..reply.len().min(64)];
+    stream.read_exact(read).is_ok() && &*read == reply
+}
+
+/// A session was answered so.
+pub(crate) fn talks(rt: &impl Net, path: &str, requests: &[&[u8]], replies: &[&[u8]]) -> bool {
+    match UnixStream::connect(rt, path) {
+        Ok(mut stream) => asks(&mut stream, requests, replies),
+        Err(_) => false,
+    }
+}
+
+// Each client below makes all its connections, answered or not, since the server waits for so many.
+
+/// A message goes from one session to another.
+fn passing(rt: &impl Net, path: &str) -> bool {
+    talks(rt, path, &[HELLO, CREATE, SEND], &[KNOWN, FOUND, SENT])
+        & talks(rt, path, &[HELLO, RECEIVE_NOW], &[KNOWN, RECEIVED])
+}
+
+/// A queue is made, shown, kept from another user, and removed.
+fn commanding(rt: &impl Net, path: &str) -> bool {
+    talks(rt, path, &[HELLO, CREATE, SEND], &[KNOWN, FOUND, SENT])
+        & listing(rt, path)
+        & talks(rt, path, &[OTHER, REMOVE], &[KNOWN, NOT_REMOVED])
+        & talks(rt, path, &[HELLO, REMOVE], &[KNOWN, REMOVED])
+        & talks(rt, path, &[HELLO, FIND], &[KNOWN, NOT_FOUND])
+}
+
+/// The rows of all slots, of which the first has a queue.
+fn listing(rt: &impl Net, path: &str) -> bool {
+    let Ok(mut stream) = UnixStream::connect(rt, path) else {
+        return false;
+    };
+    if !asks(&mut stream, &[HELLO], &[KNOWN]) {
+        return false;
+    }
+    for slot in 0..64u8 {
+        let request: &[u8] = &[0x00, 0x00, 0x00, 0x06, 0x01, 0x07, 0x00, 0x00, 0x00, slot];
+        let reply = if slot == 0 { ROW } else { NO_ROW };
+        if !asks(&mut stream, &[request], &[reply]) {
+            return false;
+        }
+    }
+    true
+}
+
+/// One session waits for what two others send, and is given the first.
+fn waiting(rt: &impl Net, path: &str) -> bool {
+    let Ok(mut first) = UnixStream::connect(rt, path) else {
+        return false;
+    };
+    asks(&mut first, &[HELLO, CREATE, RECEIVE], &[KNOWN, FOUND])
+        & talks(rt, path, &[HELLO, SEND], &[KNOWN, SENT])
+        & talks(rt, path, &[HELLO, SEND], &[KNOWN, SENT])
+        & gives(&mut first, RECEIVED)
+}
+
+/// One session waits for what two others send, and its client is gone by then.
+fn vanishing(rt: &impl Net, path: &str) -> bool {
+    talks(rt, path, &[HELLO, CREATE, RECEIVE], &[KNOWN, FOUND])
+        & talks(rt, path, &[HELLO, SEND], &[KNOWN, SENT])
+        & talks(rt, path, &[HELLO, SEND], &[KNOWN, SENT])
+}
+
+/// A client goes away within a frame, and another before it says anything.
+fn breaking(rt: &impl Net, path: &str) -> bool {
+    talks(rt, path, &[HELLO, &CREATE[..5]], &[KNOWN]) & talks(rt, path, &[], &[])
+}
+
+/// The clients of a test.
+#[derive(Clone, Copy)]
+enum Clients {
+    Passing,
+    Commanding,
+    Waiting,
+    Vanishing,
+    Breaking,
+    Asking,
+}
+
+impl Clients {
+    /// They were answered as they should be.
+    fn run(self, rt: &impl Net, alloc: Global, path: &str) -> bool {
+        match self {
+            Clients::Passing => passing(rt, path),
+            Clients::Commanding => commanding(rt, path),
+            Clients::Waiting => waiting(rt, path),
+            Clients::Vanishing => vanishing(rt, path),
+            Clients::Breaking => breaking(rt, path),
+            Clients::Asking => five_sessions(rt, alloc, path),
+        }
+    }
+}
+
+/// What a server with so many workers and sessions answers, and whether its clients were answered as they should be.
+fn served<R: Threads + Wait + Net + Files + Abort + Sync>(
+    rt: &R,
+    alloc: Global,
+    workers: u32,
+    sessions: u64,
+    clients: Clients,
+) -> (Result<Sums, ServeFault>, bool)
+    requires { (1 ≤ workers) × (workers ≤ 16) }
+{
+    let path = "server.socket";
+    let _old = fs::remove_file(rt, path);
+    let listener = UnixListener::bind(rt, path).expect(rt, "a socket");
+    thread::join(
+        rt,
+        move || -> Result<Sums, ServeFault>
+            requires { (1 ≤ workers) × (workers ≤ 16) }
+        {
+            let sums = serve_on(rt, alloc, &listener, 128, workers, sessions);
+            drop(listener);
+            sums
+        },
+        move || clients.run(rt, alloc, path),
+    )
+}
+
+/// The server answers these sums, and its clients were answered as they should be. It is tried again if memory or a
+/// thread was refused before a session began.
+fn adds_up<R: Threads + Wait + Net + Files + Abort + Sync>(
+    rt: &R,
+    alloc: Global,
+    workers: u32,
+    clients: Clients,
+    all: Sums,
+)
+    requires { (1 ≤ workers) × (workers ≤ 16) }
+{
+    let first = served(rt, alloc, workers, all.sessions, clients);
+    if matches!(&first.0, Err(ServeFault::NoMemory | ServeFault::Thread)) {
+        let second = served(rt, alloc, workers, all.sessions, clients);
+        assert_eq!(rt; second, (Ok(all), true));
+    } else {
+        assert_eq!(rt; first, (Ok(all), true));
+    }
+}
+
+/// So many sessions, whose messages were written and lost.
+fn sums(sessions: u64, written: u64, lost: u64) -> Sums {
+    Sums {
+        sessions,
+        taken: written.saturating_add(lost),
+        written,
+        lost,
+    }
+}
+
+#[test]
+fn a_message_goes_from_one_session_to_another(rt: HostRuntime) {
+    adds_up(&rt, rt.alloc(), 1, Clients::Passing, sums(2, 1, 0));
+    adds_up(&rt, rt.alloc(), 4, Clients::Passing, sums(2, 1, 0));
+}
+
+#[test]
+fn a_queue_is_made_and_removed(rt: HostRuntime) {
+    adds_up(&rt, rt.alloc(), 1, Clients::Commanding, sums(5, 0, 0));
+}
+
+#[test]
+fn a_session_waits_for_another(rt: HostRuntime) {
+    adds_up(&rt, rt.alloc(), 2, Clients::Waiting, sums(3, 1, 0));
+}
+
+#[test]
+fn a_client_is_gone_when_its_message_comes(rt: HostRuntime) {
+    adds_up(&rt, rt.alloc(), 2, Clients::Vanishing, sums(3, 0, 1));
+}
+
+#[test]
+fn clients_go_away_early(rt: HostRuntime) {
+    adds_up(&rt, rt.alloc(), 1, Clients::Breaking, sums(2, 0, 0));
+}
+
+#[test]
+fn a_server_and_its_clients(rt: HostRuntime) {
+    adds_up(&rt, rt.alloc(), 1, Clients::Asking, sums(5, 0, 0));
+}

@@ -1,0 +1,348 @@
+//! All objects behind their gates, called from one thread.
+
+ghost use Rattle.std.specs.Prelude.{◌≡◌, ◌≤◌, [], length};
+ghost use Rattle.sysv_model.specs.declared.limits.TheConstants.{MESSAGE_BYTES as most_bytes};
+ghost use Rattle.sysv_gated.specs.Seats.{AreOf};
+
+use crate::parts::{assert_is, body_of, empty_body};
+use std::alloc::Global;
+use std::process::Abort;
+use std::sync::Wait;
+use sysv_gate::{Awaited, Closing};
+use sysv_gated::{
+    GatedPool, GatedSlot, Gates, GatesClosed, GatesRefused, Letter, NoMemory, Seats, Worn,
+};
+use sysv_keys::Begun;
+use sysv_model::{Errno, IPC_PRIVATE, MESSAGE_BYTES, Selector, SetTo};
+use sysv_pool::Chain;
+use sysv_queue::{Look, Probe, Tally};
+use tests_kit::{USER, creating};
+
+const LIMIT: u64 = 1 << 62;
+
+const TO: SetTo = SetTo {
+    uid: 1000,
+    gid: 1000,
+    mode: 0o600,
+    qbytes: 9,
+};
+
+/// Gates at 128 blocks and identifiers from the first generation on, whose tickets begin at `first`. Memory is refused once
+/// at most.
+fn gates_at(rt: &impl Abort, alloc: Global, first: u64) -> (Gates, Seats)
+    ensures { AreOf result.0 result.1 }
+{
+    match Gates::open_at(alloc, 128, first, 0) {
+        Ok(opened) => opened,
+        Err(why) => {
+            assert_eq!(rt; why, GatesRefused::NoMemory);
+            match Gates::open_at(alloc, 128, first, 0) {
+                Ok(opened) => opened,
+                Err(_) => panic!(rt; "a second try"),
+            }
+        }
+    }
+}
+
+/// A letter with this text, in blocks of the pool.
+fn letter_of<R: Wait + Abort>(
+    rt: &R,
+    alloc: Global,
+    gates: &Gates,
+    seats: &mut Seats,
+    text: &[u8],
+) -> Letter
+    requires { AreOf gates.now seats.old }
+    ensures { AreOf gates.now seats.new }
+{
+    let body = body_of(rt, alloc, text);
+    assert!(rt; body.len() <= MESSAGE_BYTES);
+    match gates.reserve(rt, seats, body.len()) {
+        Ok(Some(chain)) => {
+            let letter = Letter::of(chain, &body);
+            assert_eq!(rt; letter.size(), text.len());
+            letter
+        }
+        Ok(None) => panic!(rt; "no blocks"),
+        Err(_) => panic!(rt; "worn"),
+    }
+}
+
+/// Places a letter of type 9 in the queue 1, and answers its number.
+fn placed<R: Wait + Abort>(rt: &R, gates: &Gates, seats: &mut Seats, letter: Letter) -> u64
+    requires { AreOf gates.now seats.old }
+    ensures { AreOf gates.now seats.new }
+{
+    match gates.place(rt, seats, 1, USER, 9, letter, 60) {
+        Ok(Ok(number)) => number,
+        Ok(Err(refused)) => {
+            refused.chain.end();
+            panic!(rt; "no room")
+        }
+        Err(letter) => {
+            letter.into_chain().end();
+            panic!(rt; "worn")
+        }
+    }
+}
+
+/// Releases a chain of the pool.
+fn give_back<R: Wait + Abort>(rt: &R, gates: &Gates, seats: &mut Seats, chain: Chain)
+    requires { AreOf gates.now seats.old }
+    ensures { AreOf gates.now seats.new }
+{
+    match gates.release(rt, seats, chain) {
+        Ok(Ok(())) => {}
+        Ok(Err(foreign)) => {
+            foreign.end();
+            panic!(rt; "a foreign chain");
+        }
+        Err(chain) => {
+            chain.end();
+            panic!(rt; "worn");
+        }
+    }
+}
+
+/// Frees a slot that came back.
+fn end_slot(slot: Option<GatedSlot>) {
+    if let Some(slot) = slot {
+        slot.into_slot().end().end();
+    }
+}
+
+/// Frees the slots that came back.
+fn end_slots(mut closings: Vec<Closing<GatedSlot>>) {
+    while let Some(closing) = closings.pop() {
+        let Closing {
+            object,
+            rest,
+            turns: _,
+        } = closing;
+        end_slot(object);
+        end_slot(rest);
+    }
+    closings.destroy_empty();
+}
+
+/// Frees a pool that came back.
+fn end_pool(pool: Option<GatedPool>) {
+    if let Some(pool) = pool {
+        pool.into_pool().end();
+    }
+}
+
+/// The turns at all slots, at the registry and at the pool. Each object has come back, and is freed.
+fn ended(rt: &impl Abort, closed: GatesClosed) -> (u64, u64, u64) {
+    let GatesClosed {
+        slots,
+        registry,
+        pool,
+    } = closed;
+    assert_eq!(rt; slots.len(), 64);
+    assert!(rt; slots.iter().all(|closing| closing.object.is_some()));
+    assert!(rt; registry.object.is_some());
+    assert!(rt; pool.object.is_some());
+    let at_slots = slots
+        .iter()
+        .fold(0, |turns: u64, closing| turns.wrapping_add(closing.turns));
+    let turns = (at_slots, registry.turns, pool.turns);
+    end_slots(slots);
+    end_pool(pool.object);
+    end_pool(pool.rest);
+    turns
+}
+
+#[test]
+fn a_key_is_made_settled_and_forgotten(rt: HostRuntime) {
+    let (gates, mut seats) = gates_at(&rt, rt.alloc(), 0);
+    let private = gates.begin(&rt, &mut seats, IPC_PRIVATE, creating());
+    assert_is(&rt, private, Ok(Begun::Made { id: 0 }));
+    let made = gates.begin(&rt, &mut seats, 7, creating());
+    assert_is(&rt, made, Ok(Begun::Made { id: 1 }));
+    assert_is(&rt, gates.settle(&rt, &mut seats, 1), Ok(true));
+    assert_is(
+        &rt,
+        gates.await_settled(&rt, &mut seats, 1),
+        Awaited::Reached(1),
+    );
+    let found = gates.begin(&rt, &mut seats, 7, creating());
+    assert_is(&rt, found, Ok(Begun::Found { id: 1, settled: 1 }));
+    assert_is(&rt, gates.forget(&rt, &mut seats, 1), Ok(true));
+    assert_is(&rt, gates.forget(&rt, &mut seats, 1), Ok(false));
+    assert_is(
+        &rt,
+        gates.await_settled(&rt, &mut seats, 2),
+        Awaited::Reached(2),
+    );
+    assert_is(&rt, ended(&rt, gates.close(seats)), (0, 6, 0));
+}
+
+#[test]
+fn a_message_goes_through_its_slot(rt: HostRuntime) {
+    let (gates, mut seats) = gates_at(&rt, rt.alloc(), 5);
+    let made = gates.install(&rt, &mut seats, 1, 7, USER, 0o600, 50);
+    assert_is(&rt, made, Ok(true));
+    let letter = letter_of(&rt, rt.alloc(), &gates, &mut seats, b"hello");
+    assert_is(&rt, gates.look(&rt, &mut seats, 1, USER, 5), Ok(Look::Fits));
+    assert_is(&rt, placed(&rt, &gates, &mut seats, letter), 0);
+    let arrived = gates.await_arrived(&rt, &mut seats, 1, 1);
+    assert_is(&rt, arrived, Awaited::Reached(1));
+    let mut out = empty_body(&rt, rt.alloc());
+    match gates.take(&rt, &mut seats, 1, USER, Selector::Any, 9, false, 70) {
+        Ok(Ok(taken)) => {
+            let (delivery, chain) = taken.finish(9, &mut out);
+            assert_is(&rt, (delivery.mtype(), delivery.sender()), (9, 101));
+            delivery.written(&mut Tally::open());
+            assert_is(&rt, gates.released(&mut seats), 0);
+            give_back(&rt, &gates, &mut seats, chain);
+        }
+        Ok(Err(_)) => panic!(rt; "no message"),
+        Err(_) => panic!(rt; "worn"),
+    }
+    assert!(rt; out.block(0) == b"hello".as_slice());
+    let freed = gates.await_freed(&rt, &mut seats, 1, 1);
+    assert_is(&rt, freed, Awaited::Reached(1));
+    assert_is(&rt, gates.released(&mut seats), 1);
+    assert_is(
+        &rt,
+        gates.await_released(&rt, &mut seats, 1),
+        Awaited::Reached(1),
+    );
+    assert_is(&rt, ended(&rt, gates.close(seats)), (4, 0, 2));
+}
+
+#[test]
+fn a_queue_is_told_changed_and_removed(rt: HostRuntime) {
+    let (gates, mut seats) = gates_at(&rt, rt.alloc(), 0);
+    let made = gates.install(&rt, &mut seats, 1, 7, USER, 0o600, 50);
+    assert_is(&rt, made, Ok(true));
+    let letter = letter_of(&rt, rt.alloc(), &gates, &mut seats, b"hello");
+    assert_is(&rt, placed(&rt, &gates, &mut seats, letter), 0);
+    let stat = gates.stat(&rt, &mut seats, 1, USER);
+    assert_is(
+        &rt,
+        stat.map(|stat| stat.map(|stat| stat.cbytes)),
+        Ok(Ok(5)),
+    );
+    assert_is(&rt, gates.set(&rt, &mut seats, 1, USER, TO, 80), Ok(Ok(())));
+    let row = gates.row(&rt, &mut seats, 1);
+    assert_is(
+        &rt,
+        row.map(|row| row.map(|row| (row.key, row.qnum))),
+        Ok(Some((7, 1))),
+    );
+    assert_is(&rt, gates.row(&rt, &mut seats, 0), Ok(None));
+    let granted = gates.probe(&rt, &mut seats, 1, USER, creating());
+    assert_is(&rt, granted, Ok(Probe::Granted));
+    match gates.remove(&rt, &mut seats, 1, USER) {
+        Ok(Ok(discarded)) => {
+            let chain = discarded.into_chain();
+            assert_is(&rt, chain.blocks(), 1);
+            give_back(&rt, &gates, &mut seats, chain);
+        }
+        Ok(Err(_)) => panic!(rt; "no removal"),
+        Err(_) => panic!(rt; "worn"),
+    }
+    let gone = gates.probe(&rt, &mut seats, 1, USER, creating());
+    assert_is(&rt, gone, Ok(Probe::Gone));
+    let gone = gates.stat(&rt, &mut seats, 1, USER);
+    assert_is(&rt, gone, Ok(Err(Errno::EINVAL)));
+    assert_is(&rt, ended(&rt, gates.close(seats)), (10, 0, 2));
+}
+
+#[test]
+fn seats_are_split_and_joined(rt: HostRuntime) {
+    let (gates, mut seats) = gates_at(&rt, rt.alloc(), 100);
+    match gates.split(rt.alloc(), &mut seats) {
+        Ok(mut other) => {
+            let made = gates.install(&rt, &mut other, 0, 7, USER, 0o600, 50);
+            assert_is(&rt, made, Ok(true));
+            let again = gates.install(&rt, &mut seats, 0, 7, USER, 0o600, 50);
+            assert_is(&rt, again, Ok(false));
+            let made = gates.begin(&rt, &mut other, 7, creating());
+            assert_is(&rt, made, Ok(Begun::Made { id: 0 }));
+            let busy = gates.begin(&rt, &mut seats, 7, creating());
+            assert_is(&rt, busy, Ok(Begun::Busy { settled: 0 }));
+            match gates.reserve(&rt, &mut other, 65) {
+                Ok(Some(chain)) => assert_is(&rt, chain.end(), 2),
+                Ok(None) => panic!(rt; "no blocks"),
+                Err(_) => panic!(rt; "worn"),
+            }
+            gates.join(&mut seats, other);
+            assert_is(&rt, ended(&rt, gates.close(seats)), (2, 2, 1));
+        }
+        Err(NoMemory) => assert_is(&rt, ended(&rt, gates.close(seats)), (0, 0, 0)),
+    }
+}
+
+#[test]
+fn what_is_out_of_range_is_refused(rt: HostRuntime) {
+    let refused = [
+        (127, 0, 0),
+        (65_537, 0, 0),
+        (128, LIMIT + 1, 0),
+        (128, 0, 33_554_432),
+        (127, LIMIT + 1, 33_554_432),
+    ];
+    for (blocks, first, generation) in refused {
+        match Gates::open_at(rt.alloc(), blocks, first, generation) {
+            Ok(_) => panic!(rt; "gates"),
+            Err(why) => assert_is(&rt, why, GatesRefused::BadSize),
+        }
+    }
+}
+
+#[test]
+fn worn_gates_of_slots_serve_nothing(rt: HostRuntime) {
+    let (gates, mut seats) = gates_at(&rt, rt.alloc(), LIMIT);
+    let made = gates.install(&rt, &mut seats, 1, 7, USER, 0o600, 50);
+    assert_is(&rt, made, Err(Worn));
+    let granted = gates.probe(&rt, &mut seats, 1, USER, creating());
+    assert_is(&rt, granted, Err(Worn));
+    assert_is(&rt, gates.look(&rt, &mut seats, 1, USER, 5), Err(Worn));
+    assert_is(&rt, gates.stat(&rt, &mut seats, 1, USER), Err(Worn));
+    assert_is(&rt, gates.set(&rt, &mut seats, 1, USER, TO, 80), Err(Worn));
+    assert_is(&rt, gates.row(&rt, &mut seats, 1), Err(Worn));
+    match gates.take(&rt, &mut seats, 1, USER, Selector::Any, 9, false, 70) {
+        Err(Worn) => {}
+        Ok(_) => panic!(rt; "a turn"),
+    }
+    match gates.remove(&rt, &mut seats, 1, USER) {
+        Err(Worn) => {}
+        Ok(_) => panic!(rt; "a turn"),
+    }
+    let letter = Letter::of(Chain::empty(), &empty_body(&rt, rt.alloc()));
+    match gates.place(&rt, &mut seats, 1, USER, 9, letter, 60) {
+        Err(letter) => assert_is(&rt, letter.into_chain().end(), 0),
+        Ok(_) => panic!(rt; "a turn"),
+    }
+    assert_is(
+        &rt,
+        gates.await_arrived(&rt, &mut seats, 1, 1),
+        Awaited::Worn,
+    );
+    assert_is(&rt, gates.await_freed(&rt, &mut seats, 1, 1), Awaited::Worn);
+    assert_is(&rt, ended(&rt, gates.close(seats)), (0, 0, 0));
+}
+
+#[test]
+fn worn_gates_of_registry_and_pool_serve_nothing(rt: HostRuntime) {
+    let (gates, mut seats) = gates_at(&rt, rt.alloc(), LIMIT);
+    let made = gates.begin(&rt, &mut seats, IPC_PRIVATE, creating());
+    assert_is(&rt, made, Err(Worn));
+    assert_is(&rt, gates.settle(&rt, &mut seats, 0), Err(Worn));
+    assert_is(&rt, gates.forget(&rt, &mut seats, 0), Err(Worn));
+    assert_is(&rt, gates.await_settled(&rt, &mut seats, 1), Awaited::Worn);
+    match gates.reserve(&rt, &mut seats, 65) {
+        Err(Worn) => {}
+        Ok(_) => panic!(rt; "a turn"),
+    }
+    match gates.release(&rt, &mut seats, Chain::empty()) {
+        Err(chain) => assert_is(&rt, chain.end(), 0),
+        Ok(_) => panic!(rt; "a turn"),
+    }
+    assert_is(&rt, gates.released(&mut seats), 0);
+    assert_is(&rt, gates.await_released(&rt, &mut seats, 1), Awaited::Worn);
+    assert_is(&rt, ended(&rt, gates.close(seats)), (0, 0, 0));
+}

@@ -1,0 +1,11 @@
+//! Tests of the objects of a service behind their gates, of the service by one pass and by several threads, and of sessions.
+#![tactic(auto)]
+
+#[cfg(test)]
+mod gated;
+#[cfg(test)]
+mod parts;
+#[cfg(test)]
+mod service;
+#[cfg(test)]
+mod session;

@@ -1,0 +1,102 @@
+//! Calls as data.
+ghost use Rattle.sysv_gated.specs.Seats.{AreOf};
+
+use super::board::Moment;
+use crate::parts::{body_of, empty_body};
+use std::alloc::Global;
+use std::process::Abort;
+use std::sync::Wait;
+use sysv_model::{Body, Cred, Errno, Flags, MESSAGE_BYTES, SetTo};
+use sysv_queue::Tally;
+use sysv_service::{Pass, Service};
+use tests_kit::{USER, creating, flags};
+
+/// A call of the service by `USER`. A send or a receive waits.
+#[derive(Clone, Copy)]
+pub(super) enum Ask {
+    /// Makes the queue of this key, or finds it.
+    Get(i32),
+    /// Sends a message of type 1 with so many bytes.
+    Send(i32, usize),
+    /// Receives a message of any type.
+    Receive(i32),
+    /// The receive of a message of type 2.
+    ReceiveSecond(i32),
+    /// Sets these attributes, as this user.
+    Set(i32, Cred, SetTo),
+    Remove(i32),
+    Stop,
+}
+
+/// No flag: a send and a receive wait.
+pub(super) fn waiting() -> Flags {
+    flags(0)
+}
+
+/// What a call answers: an identifier, the length of the text that was received, how many queues were removed, or 0.
+pub(super) type Told = Result<i64, Errno>;
+
+/// Makes the call.
+pub(super) fn make<R: Abort + Wait>(
+    rt: &R,
+    alloc: Global,
+    service: &Service,
+    pass: &mut Pass,
+    clock: Moment,
+    ask: Ask,
+) -> Told
+    requires { AreOf service.now pass.old.seats }
+    ensures { AreOf service.now pass.new.seats }
+{
+    match ask {
+        Ask::Get(key) => {
+            let id = service.msgget(rt, pass, &clock, USER, key, creating())?;
+            Ok(i64::from(id))
+        }
+        Ask::Send(id, size) => {
+            let text = letters(rt, alloc, size);
+            service.msgsnd(rt, pass, &clock, USER, id, 1, &text, waiting())?;
+            Ok(0)
+        }
+        Ask::Receive(id) => receive(rt, alloc, service, pass, clock, id, 0),
+        Ask::ReceiveSecond(id) => receive(rt, alloc, service, pass, clock, id, 2),
+        Ask::Set(id, cred, to) => {
+            service.msgctl_set(rt, pass, &clock, cred, id, to)?;
+            Ok(0)
+        }
+        Ask::Remove(id) => {
+            service.msgctl_rmid(rt, pass, USER, id)?;
+            Ok(0)
+        }
+        Ask::Stop => {
+            let removed = service.stop(rt, pass)?;
+            Ok(i64::from(removed))
+        }
+    }
+}
+
+/// A body of so many letters.
+fn letters(rt: &impl Abort, alloc: Global, size: usize) -> Body {
+    let text = [b'x'; MESSAGE_BYTES];
+    assert!(rt; size <= MESSAGE_BYTES);
+    body_of(rt, alloc, &text[..size])
+}
+
+fn receive<R: Abort + Wait>(
+    rt: &R,
+    alloc: Global,
+    service: &Service,
+    pass: &mut Pass,
+    clock: Moment,
+    id: i32,
+    mtype: i64,
+) -> Told
+    requires { AreOf service.now pass.old.seats }
+    ensures { AreOf service.now pass.new.seats }
+{
+    let mut out = empty_body(rt, alloc);
+    let size = 8192;
+    let given = service.msgrcv(rt, pass, &clock, USER, id, &mut out, size, mtype, waiting())?;
+    given.written(&mut Tally::open());
+    Ok(out.len() as i64)
+}

@@ -1,0 +1,342 @@
+//! One pass calls the service.
+
+ghost use Rattle.std.specs.Prelude.{◌≡◌};
+ghost use Rattle.sysv_gated.specs.Seats.{AreOf};
+
+use crate::parts::{CLOCK, assert_is, body_of, closed, empty_body, opened};
+use bitflags::Flags as _;
+use std::alloc::Global;
+use std::process::Abort;
+use std::sync::Wait;
+use sysv_gated::GatesRefused;
+use sysv_model::{Errno, Flags, SetTo};
+use sysv_queue::Tally;
+use sysv_service::{Pass, Service};
+use tests_kit::{OTHER, USER, creating};
+
+/// Sends this text to the queue of the identifier, without waiting.
+fn send(
+    rt: &(impl Abort + Wait),
+    alloc: Global,
+    service: &Service,
+    pass: &mut Pass,
+    id: i32,
+    mtype: i64,
+    text: &[u8],
+) -> Result<(), Errno>
+    requires { AreOf service.now pass.old.seats }
+    ensures { AreOf service.now pass.new.seats }
+{
+    let text = body_of(rt, alloc, text);
+    service.msgsnd(rt, pass, &CLOCK, USER, id, mtype, &text, Flags::IPC_NOWAIT)
+}
+
+/// Receives a text of at most `size` bytes from the queue of the identifier, without waiting, and tells its type and length.
+fn receive(
+    rt: &(impl Abort + Wait),
+    alloc: Global,
+    service: &Service,
+    pass: &mut Pass,
+    id: i32,
+    mtype: i64,
+) -> Result<(i64, usize), Errno>
+    requires { AreOf service.now pass.old.seats }
+    ensures { AreOf service.now pass.new.seats }
+{
+    let mut out = body_of(rt, alloc, b"what was there before");
+    let given = service.msgrcv(
+        rt,
+        pass,
+        &CLOCK,
+        USER,
+        id,
+        &mut out,
+        100,
+        mtype,
+        Flags::IPC_NOWAIT,
+    );
+    match given {
+        Ok(delivery) => {
+            let told = (delivery.mtype(), delivery.len());
+            delivery.written(&mut Tally::open());
+            assert_eq!(rt; told.1, out.len());
+            Ok(told)
+        }
+        Err(why) => {
+            assert_eq!(rt; out.len(), 0);
+            Err(why)
+        }
+    }
+}
+
+#[test]
+fn a_pass_receives_its_own_message(rt: HostRuntime) {
+    let (service, mut pass) = opened(&rt, rt.alloc(), 128, 0);
+    let id = service.msgget(&rt, &mut pass, &CLOCK, USER, 7, creating());
+    assert_is(&rt, id, Ok(0));
+    assert_is(
+        &rt,
+        send(&rt, rt.alloc(), &service, &mut pass, 0, 5, b"ping"),
+        Ok(()),
+    );
+    assert_is(
+        &rt,
+        receive(&rt, rt.alloc(), &service, &mut pass, 0, -9),
+        Ok((5, 4)),
+    );
+    assert_is(
+        &rt,
+        receive(&rt, rt.alloc(), &service, &mut pass, 0, -9),
+        Err(Errno::ENOMSG),
+    );
+    assert_is(
+        &rt,
+        send(&rt, rt.alloc(), &service, &mut pass, 0, 0, b"ping"),
+        Err(Errno::EINVAL),
+    );
+    assert_is(
+        &rt,
+        send(&rt, rt.alloc(), &service, &mut pass, 64, 5, b"ping"),
+        Err(Errno::EINVAL),
+    );
+    assert_is(
+        &rt,
+        send(&rt, rt.alloc(), &service, &mut pass, 0, 6, b"left"),
+        Ok(()),
+    );
+    assert_is(&rt, service.close(pass), closed(1, 128));
+}
+
+#[test]
+fn a_queue_is_told_set_and_removed(rt: HostRuntime) {
+    let (service, mut pass) = opened(&rt, rt.alloc(), 128, 0);
+    let id = service.msgget(&rt, &mut pass, &CLOCK, USER, 7, creating());
+    assert_is(&rt, id, Ok(0));
+    let to = SetTo {
+        uid: 1000,
+        gid: 1000,
+        mode: 0o640,
+        qbytes: 4,
+    };
+    let set = service.msgctl_set(&rt, &mut pass, &CLOCK, OTHER, 0, to);
+    assert_is(&rt, set, Err(Errno::EPERM));
+    assert_is(
+        &rt,
+        service.msgctl_set(&rt, &mut pass, &CLOCK, USER, 0, to),
+        Ok(()),
+    );
+    assert_is(
+        &rt,
+        send(&rt, rt.alloc(), &service, &mut pass, 0, 5, b"hello"),
+        Err(Errno::EAGAIN),
+    );
+    match service.msgctl_stat(&rt, &mut pass, USER, 0) {
+        Ok(stat) => assert_is(&rt, (stat.key, stat.qbytes, stat.ctime), (7, 4, 7)),
+        Err(why) => panic!(rt; "no attributes: {why}"),
+    }
+    match service.list_row(&rt, &mut pass, 0) {
+        Ok(Some(row)) => assert_is(&rt, (row.id, row.mode), (0, 0o640)),
+        _ => panic!(rt; "no row"),
+    }
+    assert_is(
+        &rt,
+        service.list_row(&rt, &mut pass, 64),
+        Err(Errno::EINVAL),
+    );
+    assert_is(
+        &rt,
+        service.msgctl_rmid(&rt, &mut pass, OTHER, 0),
+        Err(Errno::EPERM),
+    );
+    assert_is(&rt, service.msgctl_rmid(&rt, &mut pass, USER, 0), Ok(()));
+    assert_is(&rt, service.list_row(&rt, &mut pass, 0), Ok(None));
+    assert_is(
+        &rt,
+        receive(&rt, rt.alloc(), &service, &mut pass, 0, 0),
+        Err(Errno::EINVAL),
+    );
+    let id = service.msgget(&rt, &mut pass, &CLOCK, USER, 7, creating());
+    assert_is(&rt, id, Ok(64));
+    assert_is(&rt, service.close(pass), closed(0, 128));
+}
+
+/// A msgget of no key.
+fn get(rt: &impl Wait, service: &Service, pass: &mut Pass) -> Result<i32, Errno>
+    requires { AreOf service.now pass.old.seats }
+    ensures { AreOf service.now pass.new.seats }
+{
+    service.msgget(rt, pass, &CLOCK, USER, 0, creating())
+}
+
+/// Makes a queue of no key, whose identifier is to be this one, and sends one byte to it.
+fn make_with_message(
+    rt: &(impl Abort + Wait),
+    alloc: Global,
+    service: &Service,
+    pass: &mut Pass,
+    id: i32,
+)
+    requires { AreOf service.now pass.old.seats }
+    ensures { AreOf service.now pass.new.seats }
+{
+    assert_is(&rt, get(rt, service, pass), Ok(id));
+    assert_is(&rt, send(rt, alloc, service, pass, id, 5, b"x"), Ok(()));
+}
+
+#[test]
+fn one_ticket_is_left(rt: HostRuntime) {
+    let (service, mut pass) = opened(&rt, rt.alloc(), 128, (1 << 62) - 1);
+    assert_is(&rt, get(&rt, &service, &mut pass), Err(Errno::EOVERFLOW));
+    let sent = send(&rt, rt.alloc(), &service, &mut pass, 0, 5, b"x");
+    assert_is(&rt, sent, Err(Errno::EOVERFLOW));
+    assert_is(&rt, service.close(pass), closed(0, 128));
+}
+
+#[test]
+fn two_tickets_are_left(rt: HostRuntime) {
+    let (service, mut pass) = opened(&rt, rt.alloc(), 128, (1 << 62) - 2);
+    assert_is(&rt, get(&rt, &service, &mut pass), Ok(0));
+    let sent = send(&rt, rt.alloc(), &service, &mut pass, 0, 5, b"x");
+    assert_is(&rt, sent, Err(Errno::EOVERFLOW));
+    let received = receive(&rt, rt.alloc(), &service, &mut pass, 0, 0);
+    assert_is(&rt, received, Err(Errno::EOVERFLOW));
+    assert_is(&rt, service.close(pass), closed(0, 128));
+}
+
+#[test]
+fn a_removal_goes_on_at_a_worn_registry(rt: HostRuntime) {
+    let (service, mut pass) = opened(&rt, rt.alloc(), 128, (1 << 62) - 2);
+    assert_is(&rt, get(&rt, &service, &mut pass), Ok(0));
+    assert_is(&rt, service.msgctl_rmid(&rt, &mut pass, USER, 0), Ok(()));
+    assert_is(
+        &rt,
+        service.list_row(&rt, &mut pass, 0),
+        Err(Errno::EOVERFLOW),
+    );
+    assert_is(&rt, get(&rt, &service, &mut pass), Err(Errno::EOVERFLOW));
+    assert_is(&rt, service.close(pass), closed(0, 128));
+}
+
+#[test]
+fn three_tickets_are_left(rt: HostRuntime) {
+    let (service, mut pass) = opened(&rt, rt.alloc(), 128, (1 << 62) - 3);
+    assert_is(&rt, get(&rt, &service, &mut pass), Ok(0));
+    let sent = send(&rt, rt.alloc(), &service, &mut pass, 0, 5, b"x");
+    assert_is(&rt, sent, Ok(()));
+    let received = receive(&rt, rt.alloc(), &service, &mut pass, 0, 0);
+    assert_is(&rt, received, Err(Errno::EOVERFLOW));
+    assert_is(&rt, service.close(pass), closed(1, 128));
+}
+
+#[test]
+fn an_install_is_undone_at_a_worn_gate(rt: HostRuntime) {
+    let (service, mut pass) = opened(&rt, rt.alloc(), 128, (1 << 62) - 5);
+    assert_is(&rt, get(&rt, &service, &mut pass), Ok(0));
+    let sent = send(&rt, rt.alloc(), &service, &mut pass, 0, 5, b"x");
+    assert_is(&rt, sent, Ok(()));
+    match service.list_row(&rt, &mut pass, 0) {
+        Ok(Some(row)) => assert_is(&rt, row.qnum, 1),
+        _ => panic!(rt; "no row"),
+    }
+    assert_is(&rt, service.msgctl_rmid(&rt, &mut pass, USER, 0), Ok(()));
+    assert_is(&rt, get(&rt, &service, &mut pass), Err(Errno::EOVERFLOW));
+    assert_is(&rt, service.close(pass), closed(0, 128));
+}
+
+#[test]
+fn a_pass_keeps_a_chain_that_cannot_go_back(rt: HostRuntime) {
+    let (service, mut pass) = opened(&rt, rt.alloc(), 128, (1 << 62) - 6);
+    make_with_message(&rt, rt.alloc(), &service, &mut pass, 0);
+    make_with_message(&rt, rt.alloc(), &service, &mut pass, 1);
+    make_with_message(&rt, rt.alloc(), &service, &mut pass, 2);
+    let received = receive(&rt, rt.alloc(), &service, &mut pass, 0, 0);
+    assert_is(&rt, received, Ok((5, 1)));
+    let received = receive(&rt, rt.alloc(), &service, &mut pass, 1, 0);
+    assert_is(&rt, received, Ok((5, 1)));
+    let sent = send(&rt, rt.alloc(), &service, &mut pass, 0, 5, b"x");
+    assert_is(&rt, sent, Ok(()));
+    let received = receive(&rt, rt.alloc(), &service, &mut pass, 2, 0);
+    assert_is(&rt, received, Ok((5, 1)));
+    assert_is(&rt, service.close(pass), closed(1, 128));
+}
+
+#[test]
+fn a_wait_ends_at_a_worn_gate(rt: HostRuntime) {
+    let (service, mut pass) = opened(&rt, rt.alloc(), 128, (1 << 62) - 2);
+    assert_is(&rt, get(&rt, &service, &mut pass), Ok(0));
+    let mut out = empty_body(&rt, rt.alloc());
+    match service.msgrcv(
+        &rt,
+        &mut pass,
+        &CLOCK,
+        USER,
+        0,
+        &mut out,
+        9,
+        0,
+        Flags::empty(),
+    ) {
+        Ok(delivery) => {
+            delivery.lost(&mut Tally::open());
+            panic!(rt; "there was no message")
+        }
+        Err(why) => assert_is(&rt, why, Errno::EOVERFLOW),
+    }
+    assert_is(&rt, service.close(pass), closed(0, 128));
+}
+
+#[test]
+fn a_stop_removes_every_queue(rt: HostRuntime) {
+    let (service, mut pass) = opened(&rt, rt.alloc(), 128, 0);
+    make_with_message(&rt, rt.alloc(), &service, &mut pass, 0);
+    make_with_message(&rt, rt.alloc(), &service, &mut pass, 1);
+    make_with_message(&rt, rt.alloc(), &service, &mut pass, 2);
+    assert_is(&rt, service.msgctl_rmid(&rt, &mut pass, USER, 1), Ok(()));
+    assert_is(&rt, service.stop(&rt, &mut pass), Ok(2));
+    assert_is(&rt, service.list_row(&rt, &mut pass, 0), Ok(None));
+    assert_is(&rt, service.stop(&rt, &mut pass), Ok(0));
+    assert_is(&rt, service.close(pass), closed(0, 128));
+}
+
+#[test]
+fn passes_are_split_and_joined(rt: HostRuntime) {
+    let (service, mut pass) = opened(&rt, rt.alloc(), 128, 0);
+    let id = service.msgget(&rt, &mut pass, &CLOCK, USER, 7, creating());
+    assert_is(&rt, id, Ok(0));
+    if let Ok(mut other) = service.split_pass(rt.alloc(), &mut pass) {
+        assert_is(
+            &rt,
+            send(&rt, rt.alloc(), &service, &mut other, 0, 5, b"ping"),
+            Ok(()),
+        );
+        service.join_pass(&mut pass, other);
+        assert_is(
+            &rt,
+            receive(&rt, rt.alloc(), &service, &mut pass, 0, 0),
+            Ok((5, 4)),
+        );
+    }
+    assert_is(&rt, service.close(pass), closed(0, 128));
+}
+
+#[test]
+fn sizes_out_of_range_open_no_service(rt: HostRuntime) {
+    for (blocks, first, generation) in [
+        (127, 0, 0),
+        (65_537, 0, 0),
+        (128, (1 << 62) + 1, 0),
+        (128, 0, 33_554_432),
+    ] {
+        match Service::open_at(rt.alloc(), blocks, first, generation) {
+            Err(why) => assert_is(&rt, why, GatesRefused::BadSize),
+            Ok((service, pass)) => {
+                service.close(pass);
+                panic!(rt; "{blocks} blocks, {first}, {generation}")
+            }
+        }
+    }
+    match Service::open(rt.alloc(), 128) {
+        Err(why) => assert_is(&rt, why, GatesRefused::NoMemory),
+        Ok((service, pass)) => assert_is(&rt, service.close(pass), closed(0, 128)),
+    }
+}

@@ -1,0 +1,118 @@
+//! What a thread does.
+ghost use Rattle.sysv_gated.specs.Seats.{AreOf};
+
+use super::ask::{Ask, Told, make};
+use super::board::{Board, Moment};
+use super::crowd::{Receiver, Sender};
+use super::turns::Tease;
+use std::alloc::Global;
+use std::process::Abort;
+use std::sync::Wait;
+use std::thread;
+use std::time::{Clock, Duration};
+use sysv_service::{Pass, Service};
+
+/// What one thread does with its pass.
+#[derive(Drop)]
+pub(super) enum Part<'a> {
+    /// Makes a call once its turn comes.
+    Asks(Turn<'a>),
+    Teases(Tease<'a>),
+    Sends(Sender),
+    Receives(Receiver),
+}
+
+impl Part<'_> {
+    pub(super) fn act<R: Abort + Wait + Clock>(
+        &mut self,
+        rt: &R,
+        alloc: Global,
+        service: &Service,
+        pass: &mut Pass,
+    )
+        requires { AreOf service.now pass.old.seats }
+        ensures { AreOf service.now pass.new.seats }
+    {
+        match self {
+            Part::Asks(turn) => turn.take(rt, alloc, service, pass),
+            Part::Teases(tease) => tease.act(rt, alloc, service, pass),
+            Part::Sends(sender) => sender.send_all(rt, alloc, service, pass),
+            Part::Receives(receiver) => receiver.receive_all(rt, alloc, service, pass),
+        }
+    }
+}
+
+/// A call of a thread, and what was said before it and after it.
+#[derive(Drop)]
+pub(super) struct Turn<'a> {
+    pub(super) board: &'a Board,
+    /// It says that it runs.
+    pub(super) runs: bool,
+    /// It waits until so many things were said.
+    pub(super) after: u64,
+    /// It lets the others come to their waits, and says that it begins.
+    pub(super) begins: bool,
+    pub(super) clock: Moment<'a>,
+    pub(super) ask: Ask,
+    /// It says that it was answered.
+    pub(super) ends: bool,
+    /// The answer, once it is there.
+    pub(super) told: Option<Told>,
+    /// How many things were said when the answer came.
+    pub(super) said: u64,
+}
+
+impl<'a> Turn<'a> {
+    /// A call that is made at once by a thread that says that it runs.
+    pub(super) fn at_once(board: &'a Board, ask: Ask) -> Turn<'a> {
+        Turn {
+            board,
+            runs: true,
+            after: 0,
+            begins: false,
+            clock: Moment::Still,
+            ask,
+            ends: false,
+            told: None,
+            said: 0,
+        }
+    }
+
+    fn take<R: Abort + Wait + Clock>(
+        &mut self,
+        rt: &R,
+        alloc: Global,
+        service: &Service,
+        pass: &mut Pass,
+    )
+        requires { AreOf service.now pass.old.seats }
+        ensures { AreOf service.now pass.new.seats }
+    {
+        if self.runs {
+            self.board.say();
+        }
+        self.board.hear(rt, self.after);
+        if self.begins {
+            thread::sleep(rt, Duration::from_millis(20));
+            self.board.say();
+        }
+        self.told = Some(make(rt, alloc, service, pass, self.clock, self.ask));
+        self.said = self.board.said();
+        if self.ends {
+            self.board.say();
+        }
+    }
+}
+
+/// Adds a part after the others.
+pub(super) fn add<'a>(rt: &impl Abort, parts: &mut Vec<Part<'a>>, part: Part<'a>) {
+    parts.push(part).expect(rt, "memory");
+}
+
+/// What the call of this part was answered, and how many things were said by then.
+pub(super) fn told_of(rt: &impl Abort, parts: &[Part], place: usize) -> (Told, u64) {
+    let Some(Part::Asks(turn)) = parts.get(place) else {
+        panic!(rt; "no call at {place}")
+    };
+    (turn.told.expect(rt, "an answer"), turn.said)
+}

@@ -1,0 +1,57 @@
+//! A stop ends all waits.
+
+use super::ask::Ask;
+use super::board::{Board, Moment};
+use super::crew::run;
+use super::part::{Part, Turn, add, told_of};
+use super::turns::{Tease, Then};
+use crate::parts::closed;
+use std::process::Abort;
+use sysv_model::Errno;
+
+/// Two receives of type 2 at a queue, whose clocks have a board each, and a thread that says once both have looked.
+fn add_waiters<'a>(
+    rt: &impl Abort,
+    parts: &mut Vec<Part<'a>>,
+    board: &'a Board,
+    id: i32,
+    looks: &'a [Board],
+) {
+    for look in looks {
+        let turn = Turn {
+            runs: false,
+            clock: Moment::Counts(look),
+            ..Turn::at_once(board, Ask::ReceiveSecond(id))
+        };
+        add(rt, parts, Part::Asks(turn));
+    }
+    let then = Then::Says(board);
+    add(rt, parts, Part::Teases(Tease { id, looks, then }));
+}
+
+/// The stop begins once each of six receives has looked, so each of them has found its queue.
+#[test]
+fn a_stop_wakes_all_who_wait(rt: HostRuntime) {
+    let alloc = rt.alloc();
+    let board = Board::new();
+    let looks = [Board::two(), Board::two(), Board::two()];
+    let mut parts = Vec::new(alloc);
+    for (id, pair) in (0..3).zip(looks.iter()) {
+        add_waiters(&rt, &mut parts, &board, id, pair);
+    }
+    let stops = Turn {
+        runs: false,
+        after: 3,
+        begins: true,
+        ..Turn::at_once(&board, Ask::Stop)
+    };
+    add(&rt, &mut parts, Part::Asks(stops));
+    let before = [Ask::Get(1), Ask::Get(2), Ask::Get(3)];
+    let left = run(&rt, alloc, 128, &before, parts);
+    assert_eq!(rt; left.live, 0);
+    assert_eq!(rt; left.closed, closed(0, 128));
+    for waiter in [0, 1, 3, 4, 6, 7] {
+        assert_eq!(rt; told_of(&rt, &left.parts, waiter), (Err(Errno::EIDRM), 4));
+    }
+    assert_eq!(rt; told_of(&rt, &left.parts, 9).0, Ok(3));
+}

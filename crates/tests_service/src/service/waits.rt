@@ -1,0 +1,178 @@
+//! Waits of every kind end when what they wait for comes.
+
+use super::ask::{Ask, Told};
+use super::board::{Board, Moment};
+use super::crew::run;
+use super::part::{Part, Turn, add, told_of};
+use crate::parts::closed;
+use std::alloc::Global;
+use std::process::Abort;
+use std::sync::Wait;
+use std::thread::Threads;
+use std::time::Clock;
+use sysv_model::{Errno, SetTo};
+use tests_kit::{ROOT, USER};
+
+/// A wait is tried so many times where the other call may come first.
+const TRIES: u32 = 50;
+
+/// The queue of user 1000 with this mode and limit.
+fn to(mode: u32, qbytes: u32) -> SetTo {
+    SetTo {
+        uid: 1000,
+        gid: 1000,
+        mode,
+        qbytes,
+    }
+}
+
+/// A call that waits, after these calls, and one that ends its wait.
+#[derive(Clone, Copy)]
+struct Case {
+    before: [Ask; 3],
+    waits: Ask,
+    ends: Ask,
+    told: Told,
+}
+
+/// What the wait answers, how many things were said by then, and what ended it.
+fn waited<R: Threads + Abort + Wait + Clock + Sync>(
+    rt: &R,
+    alloc: Global,
+    case: &Case,
+) -> (Told, u64, Told) {
+    let board = Board::new();
+    let waits = Turn::at_once(&board, case.waits);
+    let ends = Turn {
+        runs: false,
+        after: 1,
+        begins: true,
+        ..Turn::at_once(&board, case.ends)
+    };
+    let mut parts = Vec::new(alloc);
+    add(rt, &mut parts, Part::Asks(waits));
+    add(rt, &mut parts, Part::Asks(ends));
+    let left = run(rt, alloc, 128, &case.before, parts);
+    assert_eq!(rt; (left.closed.free, left.closed.held), (128, 0));
+    let (told, said) = told_of(rt, &left.parts, 0);
+    (told, said, told_of(rt, &left.parts, 1).0)
+}
+
+/// The wait has come to its end, and not before the call that ends it began. Where the removal came before the first look,
+/// it is tried again.
+fn check<R: Threads + Abort + Wait + Clock + Sync>(rt: &R, alloc: Global, case: &Case) {
+    for _ in 0..TRIES {
+        let (told, said, ending) = waited(rt, alloc, case);
+        assert_eq!(rt; said, 2);
+        assert!(rt; ending.is_ok());
+        if told != Err(Errno::EINVAL) {
+            assert_eq!(rt; told, case.told);
+            return;
+        }
+    }
+    panic!(rt; "the removal came first each time")
+}
+
+#[test]
+fn a_send_waits_for_room(rt: HostRuntime) {
+    let before = [
+        Ask::Get(1),
+        Ask::Set(0, USER, to(0o600, 1)),
+        Ask::Send(0, 1),
+    ];
+    let waits = Ask::Send(0, 1);
+    for (ends, told) in [
+        (Ask::Receive(0), Ok(0)),
+        (Ask::Set(0, ROOT, to(0o600, 2)), Ok(0)),
+        (Ask::Remove(0), Err(Errno::EIDRM)),
+    ] {
+        check(
+            &rt,
+            rt.alloc(),
+            &Case {
+                before,
+                waits,
+                ends,
+                told,
+            },
+        );
+    }
+}
+
+#[test]
+fn a_receive_waits_for_a_message(rt: HostRuntime) {
+    let before = [Ask::Get(1), Ask::Get(2), Ask::Get(3)];
+    let waits = Ask::Receive(0);
+    for (ends, told) in [
+        (Ask::Send(0, 5), Ok(5)),
+        (Ask::Set(0, USER, to(0o200, 1)), Err(Errno::EACCES)),
+        (Ask::Remove(0), Err(Errno::EIDRM)),
+    ] {
+        check(
+            &rt,
+            rt.alloc(),
+            &Case {
+                before,
+                waits,
+                ends,
+                told,
+            },
+        );
+    }
+}
+
+#[test]
+fn a_send_waits_for_blocks(rt: HostRuntime) {
+    let before = [Ask::Get(1), Ask::Get(2), Ask::Send(0, 8192)];
+    let waits = Ask::Send(1, 1);
+    for (ends, told) in [
+        (Ask::Receive(0), Ok(0)),
+        (Ask::Remove(0), Ok(0)),
+        (Ask::Remove(1), Err(Errno::EIDRM)),
+    ] {
+        check(
+            &rt,
+            rt.alloc(),
+            &Case {
+                before,
+                waits,
+                ends,
+                told,
+            },
+        );
+    }
+}
+
+/// The first get makes the queue, and its clock holds it before the install, until the second has come to its wait and the
+/// third says so.
+#[test]
+fn a_get_waits_for_a_key_that_is_made(rt: HostRuntime) {
+    let alloc = rt.alloc();
+    let board = Board::new();
+    let makes = Turn {
+        runs: false,
+        clock: Moment::Holds(&board, 3),
+        ..Turn::at_once(&board, Ask::Get(7))
+    };
+    let waits = Turn {
+        runs: false,
+        after: 1,
+        begins: true,
+        ..Turn::at_once(&board, Ask::Get(7))
+    };
+    let releases = Turn {
+        runs: false,
+        after: 2,
+        begins: true,
+        ..Turn::at_once(&board, Ask::Get(8))
+    };
+    let mut parts = Vec::new(alloc);
+    for turn in [makes, waits, releases] {
+        add(&rt, &mut parts, Part::Asks(turn));
+    }
+    let left = run(&rt, alloc, 128, &[], parts);
+    assert_eq!(rt; left.closed, closed(0, 128));
+    assert_eq!(rt; told_of(&rt, &left.parts, 0), (Ok(0), 3));
+    assert_eq!(rt; told_of(&rt, &left.parts, 1), (Ok(0), 3));
+    assert_eq!(rt; told_of(&rt, &left.parts, 2).0, Ok(1));
+}

@@ -1,0 +1,66 @@
+//! Sessions over readers and writers, and what they told.
+use super::shelf::Shelf;
+use std::alloc::Global;
+use std::process::Abort;
+use sysv_session::{End, Served, serve};
+use tests_kit::{Page, Pieces};
+
+/// What a session told, in numbers: its requests, and the messages that were taken, written and lost.
+pub(super) fn counts_of(served: &Served) -> (u32, u64, u64, u64) {
+    let tally = served.tally;
+    (
+        served.requests,
+        tally.taken(),
+        tally.written(),
+        tally.lost(),
+    )
+}
+
+/// A session ended so, with these counts, and these bytes are its answers.
+pub(super) fn assert_served(
+    rt: &impl Abort,
+    served: &Served,
+    page: &Page,
+    end: End,
+    counts: (u32, u64, u64, u64),
+    answers: &[u8],
+) {
+    assert_eq!(rt; (served.end, counts_of(served)), (end, counts));
+    assert_eq!(rt; page.written(), answers);
+}
+
+/// Serves one session on this kernel. Memory is refused once at most, and then nothing was read or written.
+pub(super) fn served_on(
+    rt: &impl Abort,
+    alloc: Global,
+    reader: &mut Pieces<'_>,
+    writer: &mut Page,
+    kernel: &mut Shelf,
+) -> Served {
+    let all = (reader.front.len(), reader.rest.len());
+    let served = serve(alloc, reader, writer, kernel);
+    if served.end != End::NoMemory {
+        return served;
+    }
+    assert_eq!(rt; counts_of(&served), (0, 0, 0, 0));
+    assert_eq!(rt; (reader.front.len(), reader.rest.len()), all);
+    assert_eq!(rt; (writer.written().len(), writer.flushed().len()), (0, 0));
+    assert_eq!(rt; kernel.asked, 0);
+    let again = serve(alloc, reader, writer, kernel);
+    assert!(rt; again.end != End::NoMemory);
+    again
+}
+
+/// Serves one session on a new kernel, whose blocks are all free in the end.
+pub(super) fn served(
+    rt: &impl Abort,
+    alloc: Global,
+    reader: &mut Pieces<'_>,
+    writer: &mut Page,
+) -> Served {
+    let mut kernel = Shelf::open(rt, alloc);
+    let served = served_on(rt, alloc, reader, writer, &mut kernel);
+    assert_eq!(rt; kernel.asked.saturating_add(1), served.requests.max(1));
+    assert_eq!(rt; kernel.end(), 128);
+    served
+}

@@ -1,0 +1,190 @@
+//! A kernel of one queue, with a registry and a pool.
+ghost use Rattle.std.specs.Prelude.{◌≡◌, ⊤, false};
+ghost use Rattle.sysv_session.specs.Answers.{MayAnswer};
+ghost use Rattle.sysv_wire.specs.Frames.{op_number};
+ghost use Rattle.sysv_wire.specs.Replies.{IsAnswer, gives_text};
+ghost use Rattle.sysv_wire.specs.Requests.{op_of};
+
+use bitflags::Flags as Set;
+use std::alloc::Global;
+use std::process::Abort;
+use sysv_keys::{Begun, Registry};
+use sysv_model::{Body, Cred, Errno, Flags, MESSAGE_BYTES, Selector};
+use sysv_pool::{Chain, Pool};
+use sysv_queue::{PlaceRefused, QueueSlot, TakeRefused, Unplaced};
+use sysv_session::{Kernel, Outcome};
+use sysv_wire::{Ask, Op, Outcome as Told, Reply, Request};
+use tests_kit::open_pool;
+
+/// The most that a count reaches here.
+const MAX_COUNT: u64 = 1 << 32;
+
+/// One slot for a queue, and what it stands on. It answers msgget, msgsnd and msgrcv, which never wait,
+/// and refuses all else with EINVAL.
+pub(super) struct Shelf {
+    slot: QueueSlot,
+    registry: Registry,
+    pool: Pool,
+    /// The requests that it was asked.
+    pub(super) asked: u32,
+}
+
+impl Shelf {
+    /// No queue, and a pool of 128 blocks. Memory is refused once at most.
+    pub(super) fn open(rt: &impl Abort, alloc: Global) -> Shelf {
+        let registry = match Registry::open(alloc) {
+            Ok(registry) => registry,
+            Err(_) => Registry::open(alloc).ok().expect(rt, "a second try"),
+        };
+        let pool = open_pool(alloc, 128).expect(rt, "a second try");
+        let slot = match QueueSlot::open(alloc) {
+            Ok(slot) => slot,
+            Err(_) => QueueSlot::open(alloc).ok().expect(rt, "a second try"),
+        };
+        Shelf {
+            slot,
+            registry,
+            pool,
+            asked: 0,
+        }
+    }
+
+    /// Ends the shelf; how many blocks are free with those of what waits.
+    pub(super) fn end(self) -> u32 {
+        let Shelf {
+            slot,
+            registry: _,
+            mut pool,
+            asked: _,
+        } = self;
+        give_back(&mut pool, slot.end());
+        let free = pool.free();
+        pool.end();
+        free
+    }
+
+    fn get(&mut self, cred: Cred, key: i32, flags: Flags) -> Told
+        ensures answer { IsAnswer (op_number Op.Get) result }
+        ensures text { gives_text result ≡ false }
+    {
+        match self.registry.begin(key, flags) {
+            Begun::Found { id, .. } => Told::Get { id },
+            Begun::Made { id } => {
+                if self.slot.install(id, key, cred, flags.bits(), 0) && self.registry.settle(id) {
+                    Told::Get { id }
+                } else {
+                    Told::Refused(Errno::ENOSPC)
+                }
+            }
+            Begun::Busy { .. } => Told::Refused(Errno::EAGAIN),
+            Begun::Refused(why) => Told::Refused(why),
+        }
+    }
+
+    fn send(&mut self, cred: Cred, id: i32, mtype: i64, text: &Body) -> Told
+        ensures answer { IsAnswer (op_number Op.Snd) result }
+        ensures text { gives_text result ≡ false }
+    {
+        if text.len() > MESSAGE_BYTES || self.slot.counts().0 > MAX_COUNT {
+            return Told::Refused(Errno::EINVAL);
+        }
+        let Some(mut chain) = self.pool.reserve(text.len()) else {
+            return Told::Refused(Errno::EAGAIN);
+        };
+        chain.fill(text);
+        match self.slot.place(id, cred, mtype, chain, text.len(), 0) {
+            Ok(_) => Told::Snd,
+            Err(PlaceRefused { why, chain }) => {
+                give_back(&mut self.pool, chain);
+                match why {
+                    Unplaced::Gone => Told::Refused(Errno::EINVAL),
+                    Unplaced::Denied => Told::Refused(Errno::EACCES),
+                    Unplaced::Full { .. } => Told::Refused(Errno::EAGAIN),
+                }
+            }
+        }
+    }
+
+    fn receive(&mut self, cred: Cred, ask: &Ask, given: &mut Body) -> Outcome
+        requires { op_of ask.now ≡ Op.Rcv }
+        ensures { MayAnswer ask.now result given.new }
+    {
+        let Ask::Rcv {
+            id,
+            size,
+            mtype,
+            flags,
+        } = *ask
+        else {
+            unreachable!()
+        };
+        given.clear();
+        if self.slot.counts().1 > MAX_COUNT {
+            return refusal(Op::Rcv, Errno::EOVERFLOW);
+        }
+        let noerror = flags.contains(Flags::MSG_NOERROR);
+        match self
+            .slot
+            .take(id, cred, Selector::of(mtype, flags), size, noerror, 0)
+        {
+            Ok(taken) => {
+                let (delivery, chain) = taken.finish(size, given);
+                give_back(&mut self.pool, chain);
+                Outcome::Got(delivery)
+            }
+            Err(TakeRefused::Gone) => refusal(Op::Rcv, Errno::EINVAL),
+            Err(TakeRefused::Denied) => refusal(Op::Rcv, Errno::EACCES),
+            Err(TakeRefused::NoMatch { .. }) => refusal(Op::Rcv, Errno::ENOMSG),
+            Err(TakeRefused::TooLong) => refusal(Op::Rcv, Errno::E2BIG),
+        }
+    }
+}
+
+impl Kernel for Shelf {
+    ghost use Rattle.std.specs.Prelude.{⊤};
+
+    ghost meaning = { λ _ _ _ _ _ _ _. ⊤ };
+
+    fn call(&mut self, cred: Cred, request: &Request, text: &Body, given: &mut Body) -> Outcome {
+        self.asked = self.asked.wrapping_add(1);
+        match request.ask {
+            Ask::Get { key, flags } => {
+                let result = self.get(cred, key, flags);
+                Outcome::Reply(Reply {
+                    op: Op::Get.number(),
+                    result,
+                })
+            }
+            Ask::Snd { id, mtype, .. } => {
+                let result = self.send(cred, id, mtype, text);
+                Outcome::Reply(Reply {
+                    op: Op::Snd.number(),
+                    result,
+                })
+            }
+            Ask::Rcv { .. } => self.receive(cred, &request.ask, given),
+            _ => refusal(request.ask.op(), Errno::EINVAL),
+        }
+    }
+}
+
+/// The refusal of an operation.
+fn refusal(op: Op, why: Errno) -> Outcome
+    ensures { result ≡ Outcome.Reply (record { op = op_number op; result = Told.Refused why }) }
+{
+    Outcome::Reply(Reply {
+        op: op.number(),
+        result: Told::Refused(why),
+    })
+}
+
+/// Puts a chain back into the pool that it came from.
+fn give_back(pool: &mut Pool, chain: Chain) {
+    if pool.released() > MAX_COUNT {
+        let _blocks = chain.end();
+        return;
+    }
+    if let Err(chain) = pool.release(chain) {
+        let _blocks = chain.end();
+    }
+}

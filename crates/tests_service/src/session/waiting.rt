@@ -1,0 +1,53 @@
+//! A kernel that waits for a lock in each of its calls.
+use super::served::counts_of;
+use std::sync::{Mutex, Wait};
+use sysv_model::{Body, Cred, Errno};
+use sysv_session::{End, Kernel, Outcome, serve};
+use sysv_wire::{Outcome as Told, Reply, Request};
+use tests_kit::worked::SESSION;
+use tests_kit::{Page, Pieces};
+
+/// Counts what it is asked under a lock, and refuses all.
+#[derive(Drop)]
+struct Locked<'a, R: Wait> {
+    rt: &'a R,
+    asked: &'a Mutex<u32>,
+}
+
+impl<R: Wait> Kernel for Locked<'_, R> {
+    ghost use Rattle.std.specs.Prelude.{⊤};
+
+    ghost meaning = { λ _ _ _ _ _ _ _. ⊤ };
+
+    fn call(&mut self, _cred: Cred, request: &Request, _text: &Body, _given: &mut Body) -> Outcome {
+        let mut asked = self.asked.lock(self.rt);
+        *asked = asked.wrapping_add(1);
+        Outcome::Reply(Reply {
+            op: request.ask.op().number(),
+            result: Told::Refused(Errno::ENOMSG),
+        })
+    }
+}
+
+#[test]
+fn a_kernel_may_wait(rt: HostRuntime) {
+    let asked = Mutex::new(0);
+    let mut kernel = Locked {
+        rt: &rt,
+        asked: &asked,
+    };
+    let mut reader = Pieces::new(SESSION, usize::MAX);
+    let mut page = Page::new();
+    let told = serve(rt.alloc(), &mut reader, &mut page, &mut kernel);
+    if told.end == End::NoMemory {
+        assert_eq!(rt; counts_of(&told), (0, 0, 0, 0));
+        assert_eq!(rt; reader.front.len(), 108);
+        assert_eq!(rt; page.written().len(), 0);
+        assert_eq!(rt; *asked.lock(&rt), 0);
+        return;
+    }
+    assert_eq!(rt; told.end, End::Ended);
+    assert_eq!(rt; counts_of(&told), (5, 0, 0, 0));
+    assert_eq!(rt; *asked.lock(&rt), 4);
+    assert_eq!(rt; page.written().len(), 35);
+}

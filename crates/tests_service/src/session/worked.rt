@@ -1,0 +1,145 @@
+//! A session whose bytes are worked by hand, whole and cut short, and sessions that end early.
+use super::served::{assert_served, served};
+use std::alloc::Global;
+use std::process::Abort;
+use sysv_session::End;
+use sysv_wire::Fault;
+use tests_kit::worked::{ANSWER_ENDS, ANSWERS, REQUEST_ENDS, SESSION};
+use tests_kit::{Page, Pieces};
+
+#[test]
+fn the_session_cut_after_each_byte(rt: HostRuntime) {
+    for cut in 0..SESSION.len() + 1 {
+        let mut reader = Pieces::both(&SESSION[..cut], &SESSION[cut..]);
+        let mut page = Page::new();
+        let told = served(&rt, rt.alloc(), &mut reader, &mut page);
+        assert_served(&rt, &told, &page, End::Ended, (5, 1, 1, 0), ANSWERS);
+    }
+}
+
+#[test]
+fn the_session_byte_by_byte(rt: HostRuntime) {
+    for piece in [1, 2, 3, 7, 64] {
+        let mut reader = Pieces::new(SESSION, piece);
+        let mut page = Page::new();
+        page.piece = piece;
+        let told = served(&rt, rt.alloc(), &mut reader, &mut page);
+        assert_served(&rt, &told, &page, End::Ended, (5, 1, 1, 0), ANSWERS);
+    }
+}
+
+#[test]
+fn each_reply_is_flushed_once(rt: HostRuntime) {
+    let mut reader = Pieces::new(SESSION, usize::MAX);
+    let mut page = Page::new();
+    page.piece = 3;
+    let told = served(&rt, rt.alloc(), &mut reader, &mut page);
+    assert_eq!(rt; told.end, End::Ended);
+    assert_eq!(rt; page.flushed(), [7, 18, 25, 42, 49].as_slice());
+}
+
+#[test]
+fn the_session_ended_after_each_byte(rt: HostRuntime) {
+    for cut in 0..SESSION.len() {
+        let mut reader = Pieces::new(&SESSION[..cut], usize::MAX);
+        let mut page = Page::new();
+        let told = served(&rt, rt.alloc(), &mut reader, &mut page);
+        let whole = REQUEST_ENDS.iter().filter(|end| **end <= cut).count();
+        let is_between = cut == 0 || REQUEST_ENDS.contains(&cut);
+        let end = if is_between {
+            End::Ended
+        } else {
+            End::Fault(Fault::Truncated)
+        };
+        assert_eq!(rt; (told.end, told.requests as usize), (end, whole), "{cut}");
+        let answered = if whole == 0 {
+            0
+        } else {
+            ANSWER_ENDS[whole.min(5) - 1]
+        };
+        assert!(rt; page.written() == &ANSWERS[..answered.min(49)], "{cut}");
+    }
+}
+
+#[test]
+fn ten_bytes_into_the_send(rt: HostRuntime) {
+    let mut reader = Pieces::new(&SESSION[..42], usize::MAX);
+    let mut page = Page::new();
+    let told = served(&rt, rt.alloc(), &mut reader, &mut page);
+    assert_served(
+        &rt,
+        &told,
+        &page,
+        End::Fault(Fault::Truncated),
+        (2, 0, 0, 0),
+        &ANSWERS[..18],
+    );
+}
+
+/// A session of these bytes ends so, before any hello.
+fn ends_unanswered(rt: &impl Abort, alloc: Global, bytes: &[u8], end: End) {
+    let mut reader = Pieces::new(bytes, usize::MAX);
+    let mut page = Page::new();
+    let told = served(rt, alloc, &mut reader, &mut page);
+    assert_served(rt, &told, &page, end, (0, 0, 0, 0), b"");
+    assert_eq!(rt; page.flushed().len(), 0);
+}
+
+#[test]
+fn the_first_frame_is_no_hello(rt: HostRuntime) {
+    ends_unanswered(&rt, rt.alloc(), &SESSION[18..], End::NoHello);
+    ends_unanswered(&rt, rt.alloc(), &[], End::Ended);
+    ends_unanswered(
+        &rt,
+        rt.alloc(),
+        &[0, 0, 0x20, 0x53],
+        End::Fault(Fault::TooLong),
+    );
+    ends_unanswered(
+        &rt,
+        rt.alloc(),
+        &[0, 0, 0, 2, 1, 8],
+        End::Fault(Fault::BadOp),
+    );
+    ends_unanswered(
+        &rt,
+        rt.alloc(),
+        &[0, 0, 0, 2, 1, 0],
+        End::Fault(Fault::BadField),
+    );
+    ends_unanswered(
+        &rt,
+        rt.alloc(),
+        &SESSION[..17],
+        End::Fault(Fault::Truncated),
+    );
+}
+
+/// A session of a hello and these bytes ends so, with the hello's reply alone.
+fn ends_after_hello(rt: &impl Abort, alloc: Global, bytes: &[u8], end: End) {
+    let mut reader = Pieces::both(&SESSION[..18], bytes);
+    let mut page = Page::new();
+    let told = served(rt, alloc, &mut reader, &mut page);
+    assert_served(rt, &told, &page, end, (1, 0, 0, 0), &ANSWERS[..7]);
+    assert_eq!(rt; page.flushed().len(), 1);
+}
+
+#[test]
+fn a_second_hello(rt: HostRuntime) {
+    ends_after_hello(&rt, rt.alloc(), &SESSION[..18], End::Fault(Fault::BadOp));
+}
+
+#[test]
+fn bad_frames_after_the_hello(rt: HostRuntime) {
+    let table: [(&[u8], Fault); 6] = [
+        (&[0, 0, 0, 1], Fault::BadField),
+        (&[0, 0, 0x20, 0x53], Fault::TooLong),
+        (&[0, 0, 0, 2, 1, 8], Fault::BadOp),
+        (&[0, 0, 0, 2, 9, 1], Fault::BadField),
+        (&[0, 0, 0, 0x0d, 1, 1], Fault::BadField),
+        (&[0, 0, 0, 6, 1, 4, 0, 0], Fault::Truncated),
+    ];
+    for (bytes, fault) in table {
+        ends_after_hello(&rt, rt.alloc(), bytes, End::Fault(fault));
+    }
+}

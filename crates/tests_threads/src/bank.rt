@@ -1,0 +1,125 @@
+//! Banks by one thread.
+ghost use Rattle.std.specs.Prelude.{◌≡◌, ◌+◌, ◌%◌, ◌^◌, ◌≤◌, length, IfOk, IfSome};
+ghost use Rattle.std.specs.List.{All};
+ghost use Rattle.sysv_bank.specs.Banks.{gates_of};
+
+mod held;
+mod keeper;
+mod place;
+
+use crate::parts::{LIMIT, assert_is};
+use crate::sum::Sum;
+use std::alloc::Global;
+use std::test::Fail;
+use sysv_bank::{Bank, BankSeat, NoMemory};
+use sysv_gate::{Awaited, Closing, OpenRefused, TryRefused};
+
+// Three sums, of 10, 20 and 30.
+fn opened(alloc: Global, first: u64) -> Option<(Bank<Sum>, BankSeat<Sum>)>
+    ensures { IfSome result (λ o. (gates_of o.1 ≡ o.0) × (length o.0 ≡ 3)) }
+{
+    let objects = Vec::from_array(alloc, [Sum::new(10), Sum::new(20), Sum::new(30)]).ok()?;
+    Bank::open(alloc, objects, first).ok()
+}
+
+// All turns at all places.
+fn turns_of(closings: Vec<Closing<Sum>, Global>) -> u64 {
+    closings
+        .iter()
+        .fold(0, |turns: u64, closing| turns.wrapping_add(closing.turns))
+}
+
+#[test]
+fn each_place_has_its_own_turns(rt: HostRuntime) -> Result<(), Fail> {
+    let (bank, mut seat) = opened(rt.alloc(), 5).ok_or("no memory")?;
+    assert!(rt; matches!(&bank.call(&rt, 1, &mut seat, 5), Ok(20)));
+    assert!(rt; matches!(&bank.try_call(1, &mut seat, 4), Ok(25)));
+    assert!(rt; matches!(&bank.call(&rt, 2, &mut seat, 7), Ok(30)));
+    bank.wake(&rt, 1);
+    assert_is(
+        &rt,
+        (bank.arrived(0, &mut seat), bank.freed(0, &mut seat)),
+        (0, 0),
+    );
+    assert_is(
+        &rt,
+        (bank.arrived(1, &mut seat), bank.freed(1, &mut seat)),
+        (1, 1),
+    );
+    assert_is(
+        &rt,
+        bank.await_arrived(&rt, 2, &mut seat, 1),
+        Awaited::Reached(1),
+    );
+    assert_is(
+        &rt,
+        bank.await_freed(&rt, 1, &mut seat, 1),
+        Awaited::Reached(1),
+    );
+    let mut sums = Vec::new(rt.alloc());
+    for closing in bank.close(seat) {
+        let sum = closing.object.map_or(0, |sum| sum.sum);
+        sums.push((closing.turns, sum)).map_err(|_| "no memory")?;
+    }
+    assert!(rt; sums.as_slice() == [(0, 10), (2, 29), (1, 37)].as_slice());
+    Ok(())
+}
+
+#[test]
+fn seats_are_split_and_joined_together(rt: HostRuntime) -> Result<(), Fail> {
+    let (bank, mut seat) = opened(rt.alloc(), 0).ok_or("no memory")?;
+    match bank.split(rt.alloc(), &mut seat) {
+        Ok(mut other) => {
+            assert!(rt; matches!(&bank.call(&rt, 0, &mut other, 1), Ok(10)));
+            assert!(rt; matches!(&bank.call(&rt, 0, &mut seat, 2), Ok(11)));
+            assert!(rt; matches!(&bank.try_call(2, &mut other, 3), Ok(30)));
+            assert_is(&rt, bank.arrived(2, &mut seat), 1);
+            bank.join(&mut seat, other);
+            assert_is(&rt, turns_of(bank.close(seat)), 3);
+        }
+        Err(NoMemory) => assert_is(&rt, turns_of(bank.close(seat)), 0),
+    }
+    Ok(())
+}
+
+#[test]
+fn a_worn_place_serves_nothing(rt: HostRuntime) -> Result<(), Fail> {
+    let (bank, mut seat) = opened(rt.alloc(), LIMIT - 1).ok_or("no memory")?;
+    assert!(rt; matches!(&bank.call(&rt, 2, &mut seat, 5), Ok(30)));
+    assert!(rt; matches!(&bank.call(&rt, 2, &mut seat, 5), Err(worn) if worn.call == 5));
+    assert!(rt; matches!(&bank.try_call(2, &mut seat, 6), Err(TryRefused::Worn(6))));
+    assert!(rt; matches!(&bank.await_freed(&rt, 2, &mut seat, 1), Awaited::Worn));
+    assert!(rt; matches!(&bank.try_call(1, &mut seat, 6), Ok(20)));
+    assert_is(&rt, turns_of(bank.close(seat)), 2);
+    Ok(())
+}
+
+// Where memory fails, which a run can ask for, the objects come back in their order.
+#[test]
+fn opening_answers_or_lacks_memory(rt: HostRuntime) {
+    let Ok(objects) = Vec::from_array(rt.alloc(), [Sum::new(10), Sum::new(20), Sum::new(30)]) else {
+        return;
+    };
+    match Bank::open(rt.alloc(), objects, 0) {
+        Ok((bank, seat)) => assert_is(&rt, bank.close(seat).len(), 3),
+        Err(OpenRefused::NoMemory(back)) => {
+            let mut sums = back.iter().map(|sum| sum.sum);
+            assert_is(
+                &rt,
+                (sums.next(), sums.next(), sums.next(), sums.next()),
+                (Some(10), Some(20), Some(30), None),
+            );
+        }
+        Err(OpenRefused::BadStart(_)) => panic!(rt; "the start is 0"),
+    }
+}
+
+#[test]
+fn a_start_above_the_limit_is_refused(rt: HostRuntime) -> Result<(), Fail> {
+    let objects = Vec::from_array(rt.alloc(), [Sum::new(10)]).map_err(|_| "no memory")?;
+    match Bank::open(rt.alloc(), objects, LIMIT + 1) {
+        Err(OpenRefused::BadStart(back)) => assert_is(&rt, back.len(), 1),
+        _ => panic!(rt; "the start is above the limit"),
+    }
+    Ok(())
+}

@@ -1,0 +1,17 @@
+//! Tests of eventcounts, buffers, workers, gates and banks, by one thread and by several.
+#![tactic(auto)]
+
+#[cfg(test)]
+mod bank;
+#[cfg(test)]
+mod buffer;
+#[cfg(test)]
+mod eventcount;
+#[cfg(test)]
+mod gate;
+#[cfg(test)]
+mod parts;
+#[cfg(test)]
+mod sum;
+#[cfg(test)]
+mod workers;
