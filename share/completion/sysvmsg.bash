@@ -10,7 +10,7 @@ _sysvmsg_words() {
     ipcrm) echo "-q -Q $credentials --help --version" ;;
     snd) echo "--type --nowait $credentials --help --version" ;;
     rcv) echo "--type --upto --size --nowait --noerror $credentials --help --version" ;;
-    *) echo "script serve ipcs ipcrm snd rcv help --help --version" ;;
+    *) echo "serve snd rcv ipcs ipcrm script --help --version" ;;
     esac
 }
 
