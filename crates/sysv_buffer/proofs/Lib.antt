@@ -1,10 +1,8 @@
-pub mod Places
 pub mod Running
 pub mod Stepping
 pub mod Opening
 pub mod Turning
 pub mod Agreeing
-pub mod ManySums
 pub mod ManySeats
 pub mod ManyStepping
 pub mod ManySeating

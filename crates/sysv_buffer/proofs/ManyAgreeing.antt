@@ -2,7 +2,7 @@
 use Rattle.std.proofs.Common.{arith}
 use Rattle.sysv_buffer.specs.ManyRing.{put_at, taken_at}
 use Rattle.sysv_buffer.specs.ManyLaws.{OneList, NoPlaceTwice}
-use Rattle.sysv_buffer.proofs.ManySums.{at-le-sum_by, two-le-sum_by}
+use Rattle.sysv_lists.proofs.Sums.{at-le-sum_by, two-le-sum_by}
 
 module _ (T : Type 0) where
   pub one_list : OneList T

@@ -13,10 +13,13 @@ use Rattle.atomic_table.proofs.Lists.{at_snoc, set_again, set_else}
 use Rattle.sysv_buffer.specs.declared.view.View.{View}
 use Rattle.sysv_buffer.specs.declared.view.Role.TheVariants.{Producer, Consumer}
 use Rattle.sysv_buffer.specs.declared.many_view.Sight.{Sight}
-use Rattle.sysv_buffer.specs.ManyRing.{times, put_at, taken_at, filling, emptying, Knows, Seated, Crowded, first_sight}
+use Rattle.sysv_lists.specs.Numbers.{times}
+use Rattle.sysv_buffer.specs.ManyRing.{put_at, taken_at, filling, emptying, Knows, Seated, Crowded, first_sight}
 use Rattle.sysv_buffer.specs.ManySteps.{beside, both_of}
 use Rattle.sysv_buffer.proofs.Opening.{all_cells, empty_cell}
-use Rattle.sysv_buffer.proofs.ManySums.{each_set, sum_by-set_at, times-append, none_of}
+use Rattle.sysv_lists.proofs.Places.{each_set}
+use Rattle.sysv_lists.proofs.Counting.{times-append, none_of}
+use Rattle.sysv_lists.proofs.Sums.{sum_by-set_at}
 
 module _ {T : Type 0} where
   -- a sight of nothing is so

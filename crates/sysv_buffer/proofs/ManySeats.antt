@@ -7,8 +7,10 @@ use mathlib.Core.Option.{some}
 use lib.ListN.{get_elem?}
 use Rattle.sysv_buffer.specs.declared.view.View.{View}
 use Rattle.sysv_buffer.specs.declared.many_view.Sight.{Sight}
-use Rattle.sysv_buffer.specs.ManyRing.{times, put_at, taken_at, filling, emptying, Knows, Seated}
-use Rattle.sysv_buffer.proofs.ManySums.{each_set, sum_by-set_at, at-le-sum_by, two-le-sum_by}
+use Rattle.sysv_lists.specs.Numbers.{times}
+use Rattle.sysv_buffer.specs.ManyRing.{put_at, taken_at, filling, emptying, Knows, Seated}
+use Rattle.sysv_lists.proofs.Places.{each_set}
+use Rattle.sysv_lists.proofs.Sums.{sum_by-set_at, at-le-sum_by, two-le-sum_by}
 
 -- the places from one number on, below another, each once at most
 abbrev pub News : ℕ → ℕ → (ℕ → ℕ) → Type 0

@@ -1,5 +1,5 @@
 -- Each kind of step keeps the rule of a buffer of many.
-use Rattle.std.proofs.Common.{◌≡◌, ℕ, ◌+◌, ◌%◌, ◌^◌, ◌<◌, ◌≤◌, eqb, cond, Bool, true, false, List, [], ◌∷◌, ◌++◌, inl, inr, ⊎_elim, length, set, get_or, refl, sym, ap, ◌∙◌, subst, arith, length-set, length-append, append_assoc, get_or-set_same, get_or-set_other, Option, Some, None}
+use Rattle.std.proofs.Common.{◌≡◌, ℕ, ◌+◌, ◌%◌, ◌^◌, ◌<◌, ◌≤◌, eqb, cond, Bool, true, false, List, [], ◌∷◌, ◌++◌, inl, inr, ⊎_elim, length, set, get_or, refl, sym, ap, ◌∙◌, subst, arith, length-set, length-append, get_or-set_same, get_or-set_other, Option, Some, None}
 use mathlib.Core.Bool.{true≢false}
 use mathlib.Core.Logic.{dite}
 use native.Mathlib.Decide.{ℕ_discrete, dec_le}
@@ -14,12 +14,17 @@ use Rattle.sysv_buffer.specs.declared.view.View.{View}
 use Rattle.sysv_buffer.specs.declared.many_view.Sight.{Sight}
 use Rattle.sysv_buffer.specs.Ring.{Homes, Runs}
 use Rattle.sysv_buffer.specs.Steps.{holding}
-use Rattle.sysv_buffer.specs.ManyRing.{times, put_at, taken_at, filling, emptying, Seated, Crowded}
+use Rattle.sysv_lists.specs.Numbers.{times}
+use Rattle.sysv_buffer.specs.ManyRing.{put_at, taken_at, filling, emptying, Seated, Crowded}
 use Rattle.sysv_buffer.specs.ManySteps.{Own, DrawsPut, DrawsTake, CountsPut, CountsTaken, ReachesRoom, ReachesItem, Places, Removes}
-use Rattle.sysv_buffer.proofs.Places.{at_most}
+use Rattle.sysv_lists.proofs.Orders.{at_most}
 use Rattle.sysv_buffer.proofs.Running.{reached, put_in, grabbed, emptied}
-use Rattle.sysv_buffer.proofs.ManySums.{at-le-sum_by, one_there, some_part, times-append, times-one-le, the-one, has, only, none_of}
+use Rattle.sysv_lists.proofs.Places.{one_there}
+use Rattle.sysv_lists.proofs.Counting.{times-append, times-one-le, the-one, has, only, none_of}
+use Rattle.sysv_lists.proofs.Sums.{at-le-sum_by, some_part}
 use Rattle.sysv_buffer.proofs.ManySeats.{News, no_news, stays, other_put, other_taken, drawn_put, drawn_taken}
+use Rattle.sysv_lists.specs.Prefix.{IsPrefixOf}
+use Rattle.sysv_lists.proofs.Prefixes.{prefix_self, prefix_snoc, prefix_whole}
 
 -- one new number
 one_new : (n : ℕ) → News n (n + 1) (λ k. times k (n ∷ []))
@@ -199,7 +204,7 @@ module _ {T : Type 0} where
 
   -- a seat that has no cell out sees more
   looked : (put : List T) (taken : ℕ) (p c : View T) (np nt id : ℕ) (views : List (Sight T)) (v w : Sight T) → Seated put taken p c np nt views → get_elem? views id ≡ some v
-      → ((more : List T) × (put ≡ w.seen ++ more)) → ((more : List T) × (put ≡ w.told ++ more)) → w.gone ≤ taken → w.puts ≡ v.puts → w.takes ≡ v.takes → w.put_ticket ≡ v.put_ticket → w.take_ticket ≡ v.take_ticket
+      → IsPrefixOf w.seen put → IsPrefixOf w.told put → w.gone ≤ taken → w.puts ≡ v.puts → w.takes ≡ v.takes → w.put_ticket ≡ v.put_ticket → w.take_ticket ≡ v.take_ticket
       → v.fills ≡ false → v.empties ≡ false → w.fills ≡ false → w.empties ≡ false → Seated put taken p c np nt (set views id w)
   looked put taken p c np nt id views v w s at seen told gone same_puts same_takes same_put same_take idle idle' still still' =
       let know = s.each id v at in
@@ -241,7 +246,7 @@ module _ {T : Type 0} where
         keeps,
         tt,
         on_in s g (get_or s.words 0 0) g.put s.homes g.p g.c (set s.views id w) g.in_word g.runs
-            (looked g.put g.taken g.p g.c (get_or s.words 32 0) (get_or s.words 48 0) id s.views v w g.seats at ([], sym (append-nil g.put)) know.told know.gone refl refl refl refl idle idle' idle idle'),
+            (looked g.put g.taken g.p g.c (get_or s.words 32 0) (get_or s.words 48 0) id s.views v w g.seats at (prefix_self g.put) know.told know.gone refl refl refl refl idle idle' idle idle'),
         record {
           put = g.put;
           more = know.seen.0;
@@ -271,10 +276,6 @@ module _ {T : Type 0} where
         (refl, omega (arith, g.out_word, g.runs.order, g.runs.limit)),
       )
 
-  nil_of : (xs : List T) → length xs ≡ 0 → xs ≡ []
-  nil_of [] e = refl
-  nil_of (x ∷ xs) e = absurd (omega arith)
-
   -- where a seat has the next ticket and no cell out, no cell is out for a put
   none_fills : (put : List T) (taken : ℕ) (p c : View T) (np nt id : ℕ) (views : List (Sight T)) (v : Sight T) → Seated put taken p c np nt views → get_elem? views id ≡ some v → v.put_ticket ≡ length put ∷ [] → v.fills ≡ false → p.holds ≡ false
   none_fills put taken p c np nt id views v s at next idle = not_true p.holds (λ h.
@@ -300,10 +301,8 @@ module _ {T : Type 0} where
       let v : Sight T = me.0 in
       let know = g.seats.each id v at in
       let far : length g.put ≤ length v.seen = know.waits_to_put (length v.seen) (has (length v.seen) v.put_ticket ticket) in
-      let long : length g.put ≡ length v.seen + length know.seen.0 = ap length know.seen.1 ∙ length-append v.seen know.seen.0 in
-      let nothing : know.seen.0 ≡ [] = nil_of know.seen.0 (omega arith) in
-      let all : v.seen ≡ g.put = sym (know.seen.1 ∙ (ap (λ l. v.seen ++ l) nothing ∙ append-nil v.seen)) in
-      let count : length v.seen ≡ length g.put = omega arith in
+      let all : v.seen ≡ g.put = prefix_whole v.seen g.put know.seen far in
+      let count : length v.seen ≡ length g.put = ap length all in
       let next : v.put_ticket ≡ length g.put ∷ [] = ticket ∙ ap (λ (k : ℕ). k ∷ []) count in
       let below = drawn_put g.put g.taken g.p g.c np nt s.views g.seats id (length v.seen) v at (has (length v.seen) v.put_ticket ticket) in
       let limit = g.seats.put_limit in
@@ -406,7 +405,7 @@ module _ {T : Type 0} where
                 empties = λ h. let f = fit.empties h in (f.0, refl, f.2);
               };
               here = record {
-                seen = ([], sym (append-nil g.put));
+                seen = prefix_self g.put;
                 told = know.told;
                 gone = know.gone;
                 own_put = know.own_put;
@@ -437,9 +436,6 @@ module _ {T : Type 0} where
         ),
       ))
       (at_most n v.gone)
-
-  longer_by : {put : List T} (x : T) (seen : List T) → (more : List T) × (put ≡ seen ++ more) → (more : List T) × (put ++ x ∷ [] ≡ seen ++ more)
-  longer_by x seen is = (is.0 ++ x ∷ [], ap (λ m. m ++ x ∷ []) is.1 ∙ append_assoc seen is.0 (x ∷ []))
 
   places_at : (slots id : ℕ) (v : Sight T) (k : ℕ) (x : T) → v.fills ≡ true → k ≡ length v.seen % slots
       → Allows Crowded slots id (v, (k, Some x) ∷ []) 0 (λ n. (n + 1) % 18446744073709551616) (Places (step slots 0 1 0 none) (v, (k, Some x) ∷ []))
@@ -472,8 +468,8 @@ module _ {T : Type 0} where
               others = λ i u apart there fit.
                   let alone : 1 ≤ times l u.put_ticket → ⊥ = λ h. other_put g.put g.taken g.p g.c np nt s.views g.seats id i l v u at apart there holds h in
                   record {
-                    seen = longer_by x u.seen fit.seen;
-                    told = longer_by x u.told fit.told;
+                    seen = prefix_snoc u.seen g.put x fit.seen;
+                    told = prefix_snoc u.told g.put x fit.told;
                     gone = fit.gone;
                     own_put = λ j h. let below = fit.own_put j h in omega arith;
                     own_taken = fit.own_taken;
@@ -484,7 +480,7 @@ module _ {T : Type 0} where
                   };
               here = record {
                 seen = ([], ap (λ m. m ++ x ∷ []) (sym out.1) ∙ sym (append-nil (v.seen ++ x ∷ [])));
-                told = longer_by x v.told know.told;
+                told = prefix_snoc v.told g.put x know.told;
                 gone = know.gone;
                 own_put = λ j h. let is = own j in dite (dec_le 1 (times j v.puts)) (λ d. let below = know.own_put j d in omega arith) (λ nd. let e = the-one j l (omega (arith, nd)) in omega arith);
                 own_taken = know.own_taken;

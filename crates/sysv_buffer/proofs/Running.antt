@@ -1,17 +1,17 @@
 -- How cells go out and come home while the rule holds.
-use Rattle.std.proofs.Common.{◌≡◌, ◌≢◌, ℕ, ◌+◌, ◌%◌, ◌^◌, ◌<◌, true, false, List, [], ◌∷◌, ◌++◌, ⊎_elim, length, set, refl, sym, ap, ◌∙◌, arith, length-set, length-append, append_assoc, Some, None}
+use Rattle.std.proofs.Common.{◌≡◌, ◌≢◌, ℕ, ◌+◌, ◌%◌, ◌^◌, ◌<◌, true, false, List, [], ◌∷◌, ◌++◌, ⊎_elim, length, set, refl, sym, ap, ◌∙◌, arith, length-set, length-append, Some, None}
 use mathlib.Core.Bool.{true≢false}
 use mathlib.Core.Logic.{dite}
 use native.Mathlib.Decide.{ℕ_discrete}
 use mathlib.Core.Option.{none, some}
 use lib.ListN.{get_elem?}
 use Rattle.std.proofs.Math.Nat.{mod-lt, add-mod_right}
-use Rattle.std.proofs.lemmas.List.{append-nil}
 use Rattle.atomic_table.proofs.Lists.{set_here, set_else, one_turn}
 use Rattle.sysv_buffer.specs.declared.view.View.{View}
 use Rattle.sysv_buffer.specs.Ring.{Homes, Runs}
 use Rattle.sysv_buffer.specs.Steps.{holding}
-use Rattle.sysv_buffer.proofs.Places.{at_below, there, at_snoc_place}
+use Rattle.sysv_lists.proofs.Places.{at_below, there, at_snoc_place}
+use Rattle.sysv_lists.proofs.Prefixes.{prefix_self, prefix_snoc}
 
 -- two places of one window have cells of their own
 other_cell : (i k n : ℕ) → i < k → k < i + n → (i % n) ≢ (k % n)
@@ -63,7 +63,7 @@ module _ {T : Type 0} (n : ℕ) (put : List T) (taken : ℕ) (homes : Homes T) (
         may_put = λ h. absurd (true≢false (sym h));
         consumer = r.consumer;
         takes = r.takes;
-        seen = (r.seen.0 ++ x ∷ [], ap (λ l. l ++ x ∷ []) r.seen.1 ∙ append_assoc c.put r.seen.0 (x ∷ []));
+        seen = prefix_snoc c.put put x r.seen;
         known = r.known;
         may_take = λ h. let t = r.may_take h in omega arith;
         full = λ i y from at not. ⊎_elim
@@ -94,7 +94,7 @@ module _ {T : Type 0} (n : ℕ) (put : List T) (taken : ℕ) (homes : Homes T) (
           may_put = r.may_put;
           consumer = r.consumer;
           takes = r.takes;
-          seen = ([], sym (append-nil put));
+          seen = prefix_self put;
           known = r.order;
           may_take = λ _. waits;
           full = λ i y from at not.

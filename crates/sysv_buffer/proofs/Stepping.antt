@@ -9,7 +9,7 @@ use Rattle.sysv_buffer.specs.declared.view.Role.{Role}
 use Rattle.sysv_buffer.specs.declared.view.Role.TheVariants.{Both, Producer, Consumer}
 use Rattle.sysv_buffer.specs.Ring.{Homes, Runs, Going, Kept, start}
 use Rattle.sysv_buffer.specs.Steps.{Mine, holding, CountsIn, Reaches, Puts, CountsOut, Looks, Takes}
-use Rattle.sysv_buffer.proofs.Places.{at_most}
+use Rattle.sysv_lists.proofs.Orders.{at_most}
 use Rattle.sysv_buffer.proofs.Running.{reached, put_in, grabbed, emptied}
 
 unlike : (a b : Role) → a ≡ b → a ≡ Consumer → b ≡ Producer → ⊥

@@ -5,7 +5,7 @@ use lib.ListN.{get_elem?}
 use Rattle.std.proofs.lemmas.List.{take-append-le}
 use Rattle.sysv_buffer.specs.declared.view.Role.TheVariants.{Consumer}
 use Rattle.sysv_buffer.specs.Steps.{Mine, Grabs}
-use Rattle.sysv_buffer.proofs.Places.{at_below}
+use Rattle.sysv_lists.proofs.Places.{at_below}
 
 module _ {T : Type 0} where
   take_next : (xs : List T) (t : ℕ) (x : T) → get_elem? xs t ≡ some x → take (suc t) xs ≡ take t xs ++ x ∷ []

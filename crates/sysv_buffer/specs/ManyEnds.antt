@@ -8,6 +8,7 @@ use Rattle.sysv_buffer.specs.declared.refusals.ManyPutRefused.{ManyPutRefused}
 use Rattle.sysv_buffer.specs.declared.refusals.ManyPutRefused.TheVariants as refused
 use Rattle.sysv_buffer.specs.declared.refusals.ManyTakeRefused.{ManyTakeRefused}
 use Rattle.sysv_buffer.specs.declared.refusals.ManyTakeRefused.TheVariants as missed
+use Rattle.sysv_lists.specs.Prefix.{IsPrefixOf}
 
 -- A seat: whose seat it is, what was put, as far as it has seen, how many items it has seen taken, and the places of its
 -- own items, and of those that it took, in the list of what was put
@@ -34,8 +35,8 @@ module _ {T : Type 0} where
   -- One seat has taken in another. It has seen what was put by now, which begins with what either had seen, and has the
   -- places of both
   pub record Joins (one two after : Holding T) : Type 0 where
-    pub begins_one : (more : List T) × (after.seen ≡ one.seen ++ more)
-    pub begins_two : (more : List T) × (after.seen ≡ two.seen ++ more)
+    pub begins_one : IsPrefixOf one.seen after.seen
+    pub begins_two : IsPrefixOf two.seen after.seen
     pub puts : after.puts ≡ one.puts ++ two.puts
     pub takes : after.takes ≡ one.takes ++ two.takes
     pub own : HasItsOwn after

@@ -2,17 +2,15 @@
 -- Sequencers", Communications of the ACM, 1979). Words 0 and 16 are IN and OUT, as in a buffer of one. Word 32 is the
 -- sequencer of the puts and word 48 that of the takes. Each is the next ticket, and a ticket is the place of one item.
 -- The cells are kept as those of a buffer whose one producer and one consumer make all puts and takes.
-use Rattle.std.specs.Prelude.{◌≡◌, ℕ, ◌+◌, ◌^◌, ◌<◌, ◌≤◌, ◌==◌, true, false, cond, List, [], ◌∷◌, ◌++◌, length, slice_index, count_by, sum_by, Option}
+use Rattle.std.specs.Prelude.{◌≡◌, ℕ, ◌+◌, ◌^◌, ◌<◌, ◌≤◌, true, false, cond, List, [], ◌∷◌, length, slice_index, sum_by, Option}
 use mathlib.Core.Option.{some}
 use lib.ListN.{get_elem?}
 use Rattle.atomic_table.specs.Table.{State}
 use Rattle.sysv_buffer.specs.declared.view.View.{View}
 use Rattle.sysv_buffer.specs.declared.many_view.Sight.{Sight}
 use Rattle.sysv_buffer.specs.Ring.{Runs}
-
--- how often k stands in the list
-abbrev pub times : ℕ → List ℕ → ℕ
-times k ks = count_by (λ j. j == k) ks
+use Rattle.sysv_lists.specs.Prefix.{IsPrefixOf}
+use Rattle.sysv_lists.specs.Numbers.{times}
 
 module _ {T : Type 0} where
   -- how often a seat has the place k among its puts or as its ticket, and the same of its takes
@@ -31,8 +29,8 @@ module _ {T : Type 0} where
   -- What one seat knows is so. A ticket is for a place that was not reached yet, and a cell is out with the seat only
   -- where it holds the very next ticket
   pub record Knows (put : List T) (taken : ℕ) (p c : View T) (v : Sight T) : Type 0 where
-    pub seen : (more : List T) × (put ≡ v.seen ++ more)
-    pub told : (more : List T) × (put ≡ v.told ++ more)
+    pub seen : IsPrefixOf v.seen put
+    pub told : IsPrefixOf v.told put
     pub gone : v.gone ≤ taken
     pub own_put : (k : ℕ) → 1 ≤ times k v.puts → k < length put
     pub own_taken : (k : ℕ) → 1 ≤ times k v.takes → k < taken

@@ -4,7 +4,8 @@ use mathlib.Core.Option.{some}
 use lib.ListN.{get_elem?}
 use Rattle.atomic_table.specs.Table.{Me, Step, rest}
 use Rattle.sysv_buffer.specs.declared.many_view.Sight.{Sight}
-use Rattle.sysv_buffer.specs.ManyRing.{times}
+use Rattle.sysv_lists.specs.Numbers.{times}
+use Rattle.sysv_lists.specs.Prefix.{IsPrefixOf}
 
 module _ (T : Type 0) where
   abbrev pub Own : Type 0
@@ -31,7 +32,7 @@ module _ {T : Type 0} where
     pub put : List T
     pub more : List T
     pub longer : put ≡ m.0.seen ++ more
-    pub told : (rest : List T) × (put ≡ m.0.told ++ rest)
+    pub told : IsPrefixOf m.0.told put
     pub puts : AreOnce put m.0.puts
     pub takes : AreOnce put m.0.takes
     pub count : n ≡ length put

@@ -1,13 +1,14 @@
 -- The rule of a buffer of one producer and one consumer, after Reed and Kanodia ("Synchronization with
 -- Eventcounts and Sequencers", Communications of the ACM, 1979). Word 0 is IN, how many items were put, and word 16
 -- is OUT, how many were taken; they lie 128 bytes apart, so that they share no cache line. Item i lies in cell i mod n.
-use Rattle.std.specs.Prelude.{◌≡◌, ◌≢◌, ◌⊎◌, ℕ, ◌+◌, ◌%◌, ◌^◌, ◌<◌, ◌≤◌, true, false, List, [], ◌∷◌, ◌++◌, length, slice_index, Option, Some, None}
+use Rattle.std.specs.Prelude.{◌≡◌, ◌≢◌, ◌⊎◌, ℕ, ◌+◌, ◌%◌, ◌^◌, ◌<◌, ◌≤◌, true, false, List, [], ◌∷◌, length, slice_index, Option, Some, None}
 use mathlib.Core.Option.{some}
 use mathlib.Core.Option as maybe
 use lib.ListN.{get_elem?}
 use Rattle.atomic_table.specs.Table.{State}
 use Rattle.sysv_buffer.specs.declared.view.View.{View}
 use Rattle.sysv_buffer.specs.declared.view.Role.TheVariants.{Both, Producer, Consumer}
+use Rattle.sysv_lists.specs.Prefix.{IsPrefixOf}
 
 -- the cells at home
 abbrev pub Homes : Type 0 → Type 0
@@ -29,7 +30,7 @@ module _ {T : Type 0} where
     -- the consumer knows how many were taken, and a prefix of what was put
     pub consumer : c.role ≡ Consumer
     pub takes : c.taken ≡ taken
-    pub seen : (more : List T) × (put ≡ c.put ++ more)
+    pub seen : IsPrefixOf c.put put
     pub known : taken ≤ length c.put
     pub may_take : c.holds ≡ true → taken < length c.put
     -- an item that waits lies in its cell, but for the one whose cell is out with the consumer

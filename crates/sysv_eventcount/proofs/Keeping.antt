@@ -5,14 +5,14 @@ use mathlib.Core.Option.{none, some}
 use lib.ListN.{get_elem?}
 use Rattle.std.proofs.lemmas.List.Sums.{sum_by_push}
 use Rattle.std.proofs.lemmas.Bool.Decides.{nat_tests}
-use Rattle.atomic_table.proofs.Lists.{set_else}
 use Rattle.atomic_table.specs.Table.{State, step, keeps, stepped, Allows, Splits, Joins}
 use Rattle.sysv_eventcount.specs.declared.view.View.{View}
-use Rattle.sysv_eventcount.specs.Numbers.{times, once_between, NoneTwice}
+use Rattle.sysv_lists.specs.Numbers.{times, once_between, NoneTwice}
 use Rattle.sysv_eventcount.specs.Rule.{cleared_count, Fits, IsKept, OneWord}
 use Rattle.sysv_eventcount.specs.Steps.{Mine, Informs, looked, after_clearing, after_adding, Looks, Clears, Adds, Weighs, left_of, given_of, both_of, spent}
-use Rattle.sysv_eventcount.proofs.Sums.{set_at, each_set, each_snoc, sum_by-set_at, at-le-sum_by, sum_by-le-each, sum_by-alone}
-use Rattle.sysv_eventcount.proofs.Counting.{times-append, times-snoc, once_between-next, once_between-le}
+use Rattle.sysv_lists.proofs.Places.{set_at, set_else, each_set, each_snoc}
+use Rattle.sysv_lists.proofs.Sums.{sum_by-set_at, at-le-sum_by, sum_by-le-each, sum_by-alone}
+use Rattle.sysv_lists.proofs.Counting.{times-append, times-snoc, once_between-next, once_between-le}
 
 module _ (first : ℕ) where
   -- no number is found twice
@@ -73,7 +73,7 @@ module _ (first : ℕ) where
             omega arith;
         allowances = omega arith;
         room = room;
-        each = each_set (Fits first n) (Fits first m) views id w kept.each (grows n m le) fits;
+        each = each_set (Fits first n) (Fits first m) views id w kept.each (λ k u away there. grows n m le u) fits;
       }
 
   -- a load that leaves the view's additions and allowance
@@ -98,7 +98,7 @@ module _ (first : ℕ) where
       let small : n < 2 ^ 62 = grind (arith, nat_tests) in
       let w : View = cleared_to true n v in
       let fits : Fits first n w = cleared_fits true n v (kept.each id v at) some_part in
-      let each = each_set (Fits first n) (Fits first n) views id w kept.each (λ u fit. fit) fits in
+      let each = each_set (Fits first n) (Fits first n) views id w kept.each (λ k u away there fit. fit) fits in
       let fewer = sum_by-le-each cleared_count (λ (u : View). u.allowance) (set views id w) (λ k u there. (each k u there).cleared) in
       let parts = sum_by-set_at (λ (u : View). u.allowance) views id v w at in
       let allowances = kept.allowances in
@@ -202,7 +202,7 @@ module _ (first : ℕ) where
             let sums = sum_by-set_at cleared_count views id v both at in
             let sums' = sum_by-set_at cleared_count middle other w spent still in
             omega arith;
-        each = each_set (Fits first n) (Fits first n) middle other spent (each_set (Fits first n) (Fits first n) views id both kept.each (λ u fit. fit) both_fits) (λ u fit. fit) spent_fits;
+        each = each_set (Fits first n) (Fits first n) middle other spent (each_set (Fits first n) (Fits first n) views id both kept.each (λ k u away there fit. fit) both_fits) (λ k u away there fit. fit) spent_fits;
       }
 
 -- the step of a table of one word that changes one view

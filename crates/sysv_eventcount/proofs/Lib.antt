@@ -1,5 +1,3 @@
-pub mod Sums
-pub mod Counting
 pub mod Keeping
 pub mod Learning
 pub mod Agreeing

@@ -3,7 +3,7 @@
 -- tickets before it. The allowances are this project's profile: they bound how many seats there can be.
 use Rattle.std.specs.Prelude.{◌≡◌, ℕ, ◌+◌, ◌-◌, ◌/◌, ◌^◌, ◌≤◌, max, List, [], ◌∷◌, ◌++◌, length}
 use Rattle.atomic_table.specs.Seated.{TableId}
-use Rattle.sysv_eventcount.specs.Numbers.{NoneTwice, AreBetween}
+use Rattle.sysv_lists.specs.Numbers.{NoneTwice, AreBetween}
 
 -- an eventcount or a sequencer: which it is, and its first value
 pub record Counter : Type 0 where

@@ -3,7 +3,7 @@ use Rattle.std.specs.Prelude.{◌≡◌, ℕ, ◌+◌, ◌≤◌, List}
 use mathlib.Core.Option.{some}
 use lib.ListN.{get_elem?}
 use Rattle.sysv_eventcount.specs.declared.view.View.{View}
-use Rattle.sysv_eventcount.specs.Numbers.{times}
+use Rattle.sysv_lists.specs.Numbers.{times}
 use Rattle.sysv_eventcount.specs.Rule.{IsKept}
 
 -- no number stands in the lists of two seats

@@ -1,4 +1,3 @@
-pub mod Numbers
 pub mod Counter
 pub mod Rule
 pub mod Laws

@@ -6,7 +6,7 @@ use mathlib.Core.Option.{some}
 use lib.ListN.{get_elem?}
 use Rattle.atomic_table.specs.Table.{State}
 use Rattle.sysv_eventcount.specs.declared.view.View.{View}
-use Rattle.sysv_eventcount.specs.Numbers.{times, once_between}
+use Rattle.sysv_lists.specs.Numbers.{times, once_between}
 
 -- how many additions a view is cleared for
 abbrev pub cleared_count : View → ℕ

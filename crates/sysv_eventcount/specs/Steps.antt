@@ -3,7 +3,7 @@ use Rattle.std.specs.Prelude.{◌≡◌, ℕ, ◌+◌, ◌-◌, ◌/◌, ◌^◌
 use Rattle.atomic_table.specs.Table.{Me, Step}
 use Rattle.sysv_eventcount.specs.declared.view.View.{View}
 use Rattle.sysv_eventcount.specs.Counter.{Teaches}
-use Rattle.sysv_eventcount.specs.Numbers.{NoneTwice}
+use Rattle.sysv_lists.specs.Numbers.{NoneTwice}
 
 abbrev pub Mine : Type 0
 Mine = Me (Unit {0}) View

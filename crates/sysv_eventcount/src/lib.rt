@@ -13,8 +13,9 @@ mod view;
 mod word;
 
 pub use awaited::Awaited;
-pub use eventcount::Eventcount;
+pub use eventcount::{Advances, Eventcount};
 pub use laws::{no_number_in_two_seats, no_value_is_invented};
 pub use refusals::{OpenRefused, TooMany, Worn};
 pub use seat::Seat;
-pub use sequencer::Sequencer;
+pub use sequencer::{Sequencer, Tickets};
+pub use word::Word;

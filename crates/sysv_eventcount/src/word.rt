@@ -1,6 +1,6 @@
-//! The word of an eventcount or a sequencer, with all its steps.
+//! The word of an eventcount or a sequencer, and all steps on it.
 ghost use Rattle.std.specs.Prelude.{◌≡◌, ◌+◌, ◌^◌, ◌<◌, ◌≤◌, IfOk, OnOk, OnErr, IsErr, IsErrOf, ◌↔◌};
-ghost use Rattle.sysv_eventcount.specs.Numbers.{NoneTwice};
+ghost use Rattle.sysv_lists.specs.Numbers.{NoneTwice};
 ghost use Rattle.sysv_eventcount.specs.Counter.{opened, saw, added, after_split, split_off, after_join, Learns, MeetsWear};
 
 use crate::refusals::{OpenRefused, TooMany, Worn};
@@ -9,7 +9,7 @@ use crate::seat::Seat;
 use crate::view::View;
 use atomic_table::Table;
 use std::alloc::Global;
-use std::marker::Model;
+use std::marker::{Model, PhantomData};
 use std::sync::Wait;
 
 /// From here on nothing is added.
@@ -24,12 +24,15 @@ const PART: u64 = 64;
 /// A sleep compares the low 32 bits of the word.
 const LOW_BITS: u64 = 0xffff_ffff;
 
+/// What eventcounts and sequencers have in common: a number that only rises, and the seats that step with it. `K` is
+/// `Advances` or `Tickets`.
 #[derive(Drop)]
-pub(crate) struct Word {
+pub struct Word<K> {
     table: Table<(), View, u64, Counting, Global>,
+    kind: PhantomData<K>,
 }
 
-impl Model for Word {
+impl<K> Model for Word<K> {
     ghost use Rattle.std.specs.Prelude.{◌≡◌};
     ghost use Rattle.sysv_eventcount.specs.Counter.{Counter};
 
@@ -40,9 +43,11 @@ impl Model for Word {
     ghost invariant = { λ w. w.table.shared.table_id.words ≡ 1 };
 }
 
-impl Word {
-    pub(crate) fn open(alloc: Global, first: u64) -> Result<(Word, Seat), OpenRefused>
-        ensures ok { IfOk result (λ o. (o.0.first ≡ first) × (o.1 ≡ opened o.0) × (first ≤ 2 ^ 62)) }
+impl<K> Word<K> {
+    /// Opens a word at `first`, with its first seat, which has the whole allowance of 2^61. It fails with `BadStart` if
+    /// `first` is above 2^62, and with `NoMemory` if the word cannot be allocated.
+    pub fn open(alloc: Global, first: u64) -> Result<(Word<K>, Seat), OpenRefused>
+        ensures ok { IfOk result (λ o. (o.0.first ≡ first) × (o.1 ≡ opened o.0)) }
         ensures bad_start { IsErrOf result OpenRefused.BadStart ↔ (2 ^ 62 < first) }
     {
         if first > LIMIT {
@@ -55,10 +60,18 @@ impl Word {
             token,
             allowance: WHOLE,
         };
-        Ok((Word { table }, seat))
+        Ok((
+            Word {
+                table,
+                kind: PhantomData,
+            },
+            seat,
+        ))
     }
 
-    pub(crate) fn split(&self, seat: &mut Seat) -> Result<Seat, TooMany>
+    /// Moves a 64th of the seat's allowance, rounded down, to a new seat, which has seen what this seat has seen. It
+    /// fails, and nothing changes, if the allowance is below 64.
+    pub fn split(&self, seat: &mut Seat) -> Result<Seat, TooMany>
         requires { seat.old.counter ≡ self.now }
         ensures ok { IfOk result (λ s. (s ≡ split_off seat.old) × (seat.new ≡ after_split seat.old)) }
         ensures too_many { IsErr result ↔ (seat.old.allowance < 64) }
@@ -77,7 +90,9 @@ impl Word {
         })
     }
 
-    pub(crate) fn join(&self, seat: &mut Seat, other: Seat)
+    /// Takes in another seat of this word: what it has seen, its additions and its allowance. No number is then in the
+    /// list of its additions twice.
+    pub fn join(&self, seat: &mut Seat, other: Seat)
         requires seat { seat.old.counter ≡ self.now }
         requires other { other.counter ≡ self.now }
         ensures joined { seat.new ≡ after_join seat.old other }
@@ -98,7 +113,7 @@ impl Word {
         self.table.shared.load::<Looking>(&mut seat.token, 0)
     }
 
-    /// Adds one, and answers the number that was there.
+    /// Adds one, and returns the number that was there.
     pub(crate) fn add(&self, seat: &mut Seat) -> Result<u64, Worn>
         requires { seat.old.counter ≡ self.now }
         ensures ok { IfOk result (λ n. seat.new ≡ added n seat.old) }

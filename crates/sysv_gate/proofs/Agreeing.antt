@@ -2,23 +2,24 @@
 use Rattle.std.proofs.Common.{◌≡◌, ◌⊎◌, inl, inr, ⊎_elim, ℕ, zero, suc, ◌+◌, ◌≤◌, List, [], ◌∷◌, ◌++◌, get_or, refl, sym, ◌∙◌, arith}
 use Rattle.sysv_gate.specs.declared.view.View.{View}
 use Rattle.sysv_gate.specs.declared.view.Turn.{Turn}
-use Rattle.sysv_gate.specs.Numbers.{times}
-use Rattle.sysv_gate.specs.History.{BeginsWith, made_at}
+use Rattle.sysv_lists.specs.Numbers.{times}
+use Rattle.sysv_lists.specs.Prefix.{IsPrefixOf}
+use Rattle.sysv_gate.specs.History.{made_at}
 use Rattle.sysv_gate.specs.Laws.{OneTurnAtATime, NoTurnOfTwoSeats, OneHistory, CountsOutsideATurn}
-use Rattle.sysv_gate.proofs.Sums.{two-le-sum_by}
+use Rattle.sysv_lists.proofs.Sums.{two-le-sum_by}
 use Rattle.sysv_gate.specs.Counts.{word_of, of_count}
 use Rattle.sysv_gate.specs.History.{after_all}
 use Rattle.sysv_gate.proofs.Announcing.{exactly}
 use Rattle.sysv_gate.proofs.Keeping.{served_alone}
 
--- of two beginnings of a list the one begins the other
-begin_each_other : {A : Type 0} (xs ys xs' ys' : List A) → xs ++ xs' ≡ ys ++ ys' → BeginsWith xs ys ⊎ BeginsWith ys xs
-begin_each_other [] ys xs' ys' same = inr (ys, refl)
-begin_each_other (x ∷ xs) [] xs' ys' same = inl (x ∷ xs, refl)
-begin_each_other {A} (x ∷ xs) (y ∷ ys) xs' ys' same =
+-- of two prefixes of a list, one is a prefix of the other
+prefix_either : {A : Type 0} (xs ys xs' ys' : List A) → xs ++ xs' ≡ ys ++ ys' → IsPrefixOf ys xs ⊎ IsPrefixOf xs ys
+prefix_either [] ys xs' ys' same = inr (ys, refl)
+prefix_either (x ∷ xs) [] xs' ys' same = inl (x ∷ xs, refl)
+prefix_either {A} (x ∷ xs) (y ∷ ys) xs' ys' same =
     let first : x ≡ y = cc in
     let rest : xs ++ xs' ≡ ys ++ ys' = cc in
-    ⊎_elim (λ (b : BeginsWith xs ys). inl (b.0, λ i. first i ∷ b.1 i)) (λ (b : BeginsWith ys xs). inr (b.0, λ i. sym first i ∷ b.1 i)) (begin_each_other xs ys xs' ys' rest)
+    ⊎_elim (λ (b : IsPrefixOf ys xs). inl (b.0, λ i. first i ∷ b.1 i)) (λ (b : IsPrefixOf xs ys). inr (b.0, λ i. sym first i ∷ b.1 i)) (prefix_either xs ys xs' ys' rest)
 
 module _ {O C R : Type 0} where
   made_by_one : (one two : List ℕ) → ((x : ℕ) → times x one + times x two ≤ 1) → (ts : List (Turn O C R)) (p : ℕ) → made_at one ts p + made_at two ts p ≤ 1
@@ -43,7 +44,7 @@ module _ {O C R : Type 0} where
     one_history opening first log drawn homes views kept i k v w other at there =
         let one = (kept.each i v at).seen in
         let two = (kept.each k w there).seen in
-        begin_each_other v.seen w.seen one.0 two.0 (sym one.1 ∙ two.1)
+        prefix_either v.seen w.seen one.0 two.0 (sym one.1 ∙ two.1)
 
     pub counts_outside : (counted : O → ℕ × ℕ) → CountsOutsideATurn {C = C} {R = R} moves counted
     counts_outside counted opening first s held nobody = (

@@ -15,7 +15,8 @@ use Rattle.sysv_gate.specs.Turns.{rise}
 use Rattle.sysv_gate.specs.Counts.{word_of, of_count, with_count, larger}
 use Rattle.sysv_gate.specs.Rule.{IsAnnounced, AreAnnounced}
 use Rattle.sysv_gate.proofs.Counting.{risen_by}
-use Rattle.sysv_gate.proofs.Sums.{each_set, sum_by-set_at, some_part}
+use Rattle.sysv_lists.proofs.Places.{each_set}
+use Rattle.sysv_lists.proofs.Sums.{sum_by-set_at, some_part}
 
 -- a number that was put in for a count is the one for it
 pub put_in : (count : Count) (n : ℕ) (ns : ℕ × ℕ) → of_count count (with_count count n ns) ≡ n

@@ -10,14 +10,16 @@ use Rattle.atomic_table.specs.declared.shared.Seat.{Seat}
 use Rattle.sysv_gate.specs.declared.closing.Closing.{Closing}
 use Rattle.sysv_gate.specs.declared.view.View.{View}
 use Rattle.sysv_gate.specs.declared.view.Turn.{Turn}
-use Rattle.sysv_gate.specs.Numbers.{times}
-use Rattle.sysv_gate.specs.History.{BeginsWith, IsLegal, after_all, HasItsOwn}
+use Rattle.sysv_lists.specs.Numbers.{times}
+use Rattle.sysv_lists.specs.Prefix.{IsPrefixOf}
+use Rattle.sysv_gate.specs.History.{IsLegal, after_all, HasItsOwn}
 use Rattle.sysv_gate.specs.Rule.{Homes, Spot, put, IsKept, Gated}
 use Rattle.sysv_gate.specs.Gates.{Holding}
 use Rattle.sysv_gate.specs.Held.{Rests}
 use Rattle.sysv_gate.specs.Closings.{held_object, ATurnIsDue, Closes}
-use Rattle.sysv_gate.proofs.Sums.{at_below, one_there, some_part}
-use Rattle.sysv_gate.proofs.Counting.{once_between-first}
+use Rattle.sysv_lists.proofs.Places.{at_below, one_there}
+use Rattle.sysv_lists.proofs.Sums.{some_part}
+use Rattle.sysv_lists.proofs.Counting.{once_between-first}
 use Rattle.sysv_gate.proofs.Keeping.{no_ticket_no_turn, own_turns}
 
 read_at : (xs : List ℕ) (i a : ℕ) → get_elem? xs i ≡ some a → get_or xs i 0 ≡ a
@@ -34,7 +36,7 @@ module _ {O C R : Type 0} (moves : O → C → R → O → Type 0) (counted : O 
   pub record Ended (h : Holding O C R) (served next : ℕ) (spot : Spot O C R) : Type 0 where
     pub log : List (Turn O C R)
     pub legal : IsLegal moves h.gate.opening log
-    pub longer : BeginsWith log h.seen
+    pub longer : IsPrefixOf h.seen log
     pub own : HasItsOwn h.numbers h.own log
     pub count : served ≡ h.gate.first + length log
     pub whole : served ≡ next → held_object spot ≡ Some (after_all h.gate.opening log)
@@ -79,7 +81,7 @@ module _ {O C R : Type 0} (moves : O → C → R → O → Type 0) (counted : O 
       record {
         log = log;
         legal = kept.legal;
-        longer = subst (BeginsWith log) rests.seen (kept.each token.id token.me.0 at).seen;
+        longer = subst (λ (l : List (Turn O C R)). IsPrefixOf l log) rests.seen (kept.each token.id token.me.0 at).seen;
         own = subst (λ (l : List ℕ). HasItsOwn h.numbers l log) rests.own (subst (λ (l : List ℕ). HasItsOwn l token.me.0.own log) rests.numbers own);
         count = count;
         whole = λ all.

@@ -1,26 +1,10 @@
 -- Histories that grow by one turn.
-use Rattle.std.proofs.Common.{◌≡◌, ℕ, zero, suc, ◌+◌, ◌≤◌, ◌==◌, cond, List, [], ◌∷◌, ◌++◌, length, sym, refl, ap, ◌∙◌, arith, append_assoc, length-append}
-use Rattle.std.proofs.lemmas.List.{append-nil, nil_from_length}
+use Rattle.std.proofs.Common.{◌≡◌, ℕ, zero, suc, ◌+◌, ◌≤◌, ◌==◌, cond, List, [], ◌∷◌, ◌++◌, length, refl, arith}
 use Rattle.std.proofs.lemmas.Bool.Decides.{nat_tests}
 use Rattle.sysv_gate.specs.declared.view.Turn.{Turn}
-use Rattle.sysv_gate.specs.Numbers.{times, NoneTwice}
-use Rattle.sysv_gate.proofs.Counting.{times-append}
-use Rattle.sysv_gate.specs.History.{BeginsWith, after_all, IsLegal, made_at}
-
-module _ {A : Type 0} where
-  pub begins_self : (xs : List A) → BeginsWith xs xs
-  begins_self xs = ([], sym (append-nil xs))
-
-  pub begins_snoc : (whole part : List A) (x : A) → BeginsWith whole part → BeginsWith (whole ++ x ∷ []) part
-  begins_snoc whole part x b = (b.0 ++ x ∷ [], ap (λ (l : List A). l ++ x ∷ []) b.1 ∙ append_assoc part b.0 (x ∷ []))
-
-  -- a beginning that is as long as the whole is the whole
-  pub begins_whole : (whole part : List A) → BeginsWith whole part → length whole ≤ length part → part ≡ whole
-  begins_whole whole part b le =
-      let more : List A = b.0 in
-      let e : length whole ≡ length part + length more = ap length b.1 ∙ length-append part more in
-      let none : more ≡ [] = nil_from_length more (omega arith) in
-      sym (b.1 ∙ ap (λ (l : List A). part ++ l) none ∙ append-nil part)
+use Rattle.sysv_lists.specs.Numbers.{times, NoneTwice}
+use Rattle.sysv_lists.proofs.Counting.{times-append}
+use Rattle.sysv_gate.specs.History.{after_all, IsLegal, made_at}
 
 module _ {O C R : Type 0} where
   pub after_all-snoc : (o : O) (ts : List (Turn O C R)) (t : Turn O C R) → after_all o (ts ++ t ∷ []) ≡ t.after

@@ -10,13 +10,17 @@ use Rattle.atomic_table.proofs.Lists.{at_set}
 use Rattle.sysv_gate.specs.declared.view.View.{View}
 use Rattle.sysv_gate.specs.declared.view.Turn.{Turn}
 use Rattle.sysv_gate.specs.declared.place.Done.{Done}
-use Rattle.sysv_gate.specs.Numbers.{times, once_between, NoneTwice}
-use Rattle.sysv_gate.specs.History.{BeginsWith, after_all, made_at, HasItsOwn}
+use Rattle.sysv_lists.specs.Numbers.{times, once_between, NoneTwice}
+use Rattle.sysv_lists.specs.Prefix.{IsPrefixOf}
+use Rattle.sysv_gate.specs.History.{after_all, made_at, HasItsOwn}
 use Rattle.sysv_gate.specs.Rule.{Homes, put, IsHome, bearers, Fits, IsKept}
 use Rattle.sysv_gate.specs.Steps.{turn_of, ended}
-use Rattle.sysv_gate.proofs.Sums.{set_at, at_below, one_there, each_set, each_before, sum_by-set_at, at-le-sum_by, two-le-sum_by}
-use Rattle.sysv_gate.proofs.Counting.{times-snoc, times-one, the-one, once_between-drop, once_between-le, first_between, not_true, another}
-use Rattle.sysv_gate.proofs.Histories.{begins_self, begins_snoc, after_all-snoc, legal-snoc, made_at-le, made_at-mine, made_at-theirs}
+use Rattle.sysv_lists.proofs.Places.{set_at, at_below, one_there, each_set, each_before}
+use Rattle.sysv_lists.proofs.Sums.{sum_by-set_at, at-le-sum_by, two-le-sum_by}
+use Rattle.sysv_lists.proofs.Counting.{times-snoc, times-one, the-one, once_between-drop, once_between-le, first_between}
+use Rattle.sysv_gate.proofs.Counting.{not_true, another}
+use Rattle.sysv_lists.proofs.Prefixes.{prefix_self, prefix_snoc}
+use Rattle.sysv_gate.proofs.Histories.{after_all-snoc, legal-snoc, made_at-le, made_at-mine, made_at-theirs}
 
 module _ {O C R : Type 0} (moves : O → C → R → O → Type 0) (opening : O) (first : ℕ) where
   abbrev V : Type 0
@@ -149,8 +153,8 @@ module _ {O C R : Type 0} (moves : O → C → R → O → Type 0) (opening : O)
       let theirs : times v.number u.numbers ≡ 0 = omega arith in
       record {
         start = fits.start;
-        seen = begins_snoc log u.seen t fits.seen;
-        also = begins_snoc log u.also t fits.also;
+        seen = prefix_snoc u.seen log t fits.seen;
+        also = prefix_snoc u.also log t fits.also;
         turn = λ turn. absurd (true≢false (sym turn ∙ served_alone log drawn id homes views v kept at holds k u other there));
         own = λ p. fits.own p ∙ sym (made_at-theirs u.numbers log t p theirs);
         worn = fits.worn;
@@ -162,8 +166,8 @@ module _ {O C R : Type 0} (moves : O → C → R → O → Type 0) (opening : O)
   ended_fits log drawn v call reply after fits whole mine =
       let t : Turn O C R = turn_of v call reply after in record {
         start = fits.start;
-        seen = subst (λ (l : Log). BeginsWith (log ++ t ∷ []) (l ++ t ∷ [])) (sym whole) (begins_self (log ++ t ∷ []));
-        also = begins_snoc log v.also t fits.also;
+        seen = subst (λ (l : Log). IsPrefixOf (l ++ t ∷ []) (log ++ t ∷ [])) (sym whole) (prefix_self (log ++ t ∷ []));
+        also = prefix_snoc v.also log t fits.also;
         turn = λ turn. absurd (true≢false (sym turn));
         own = λ p.
             let before = fits.own p in
@@ -193,7 +197,7 @@ module _ {O C R : Type 0} (moves : O → C → R → O → Type 0) (opening : O)
       let less : s < drawn = first_between s drawn (omega arith) in
       let long : first + length (log ++ t ∷ []) ≡ s + 1 = omega (arith, length-append log (t ∷ [])) in
       let held : times s (ticket ∷ []) ≡ times s v.tickets = ap (times s) (sym one) in
-      let is : ticket ≡ s = the-one s ticket (omega (arith, times-one s ticket)) in
+      let is : ticket ≡ s = the-one s ticket (omega arith) in
       let once = numbers_once log drawn id homes views v kept at v.number in (
         less,
         record {

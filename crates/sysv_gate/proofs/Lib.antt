@@ -1,4 +1,3 @@
-pub mod Sums
 pub mod Counting
 pub mod Histories
 pub mod Keeping

@@ -8,13 +8,13 @@ use Rattle.std.proofs.lemmas.Bool.Decides.{nat_tests}
 use Rattle.atomic_table.specs.Table.{opening}
 use Rattle.atomic_table.proofs.Lists.{at_snoc}
 use Rattle.sysv_gate.specs.declared.view.View.{View}
-use Rattle.sysv_gate.specs.Numbers.{times, once_between}
+use Rattle.sysv_lists.specs.Numbers.{times, once_between}
 use Rattle.sysv_gate.specs.Rule.{Spot, put, bearers, Fits, IsKept, IsAnnounced, AreAnnounced, Gated, start}
 use Rattle.sysv_gate.specs.declared.count.Count.{Count}
 use Rattle.sysv_gate.specs.declared.count.Count.TheVariants.{Arrived, Freed}
 use Rattle.sysv_gate.specs.Counts.{of_count}
 use Rattle.sysv_gate.proofs.Announcing.{none_yet}
-use Rattle.sysv_gate.proofs.Counting.{once_between-same, times-one, one-le-one}
+use Rattle.sysv_lists.proofs.Counting.{once_between-same, times-one, times-one-le}
 
 -- a list of one, which was empty before
 pub pushed : {A : Type 0} (xs ys : List A) (x y : A) → ys ≡ xs ++ x ∷ [] → xs ≡ [] → x ≡ y → ys ≡ y ∷ []
@@ -43,7 +43,7 @@ module _ {O C R : Type 0} (moves : O → C → R → O → Type 0) (counted : O 
     tickets = λ x. let zero_left = once_between-same first x in let same : first + 0 ≡ first = omega arith in subst (λ (n : ℕ). sum_by (λ (v : View O C R). times x v.tickets) (start o first ∷ []) ≡ once_between n first x) (sym same) (omega arith);
     order = omega arith;
     limit = le;
-    apart = λ x. omega (arith, times-one x 0, one-le-one 0 x);
+    apart = λ x. omega (arith, times-one x 0, times-one-le x 0);
     unused = λ x le. nobody_else first o x le;
     nameless = λ i v at p is empty. absurd (named_first o first i v at empty);
     known = λ x none p. refl;

@@ -1,35 +1,32 @@
 -- How seats come, and how one is joined into another.
-use Rattle.std.proofs.Common.{◌≡◌, ◌≢◌, ℕ, zero, suc, ◌+◌, ◌^◌, ◌≤◌, ◌||◌, Bool, true, false, List, [], ◌∷◌, ◌++◌, ◌⊎◌, inl, inr, ⊎_elim, length, set, get_or, refl, sym, ap, ◌∙◌, subst, arith, length-set, length-append, Some, None}
+use Rattle.std.proofs.Common.{◌≡◌, ◌≢◌, ℕ, ◌+◌, ◌^◌, ◌≤◌, ◌||◌, Bool, true, false, List, [], ◌∷◌, ◌++◌, ⊎_elim, length, set, get_or, refl, sym, ap, ◌∙◌, subst, arith, length-set, length-append, Some, None}
 use mathlib.Core.Bool.{true≢false}
 use mathlib.Core.Logic.{dite}
 use native.Mathlib.Decide.{ℕ_discrete}
-use mathlib.Core.Option.{none, some, some-injective, some-ne-none}
+use mathlib.Core.Option.{none, some}
 use lib.ListN.{get_elem?}
 use Rattle.std.proofs.lemmas.List.Sums.{sum_by_push}
 use Rattle.atomic_table.specs.Table.{State, step, keeps, Allows, Splits, Joins}
 use Rattle.atomic_table.proofs.Lists.{at_set, at_longer, at_snoc, set_else}
 use Rattle.sysv_gate.specs.declared.view.View.{View}
 use Rattle.sysv_gate.specs.declared.view.Turn.{Turn}
-use Rattle.sysv_gate.specs.Numbers.{times}
-use Rattle.sysv_gate.specs.History.{BeginsWith, IsLegal, after_all, made_at, HasItsOwn}
+use Rattle.sysv_lists.specs.Numbers.{times}
+use Rattle.sysv_lists.specs.Prefix.{IsPrefixOf}
+use Rattle.sysv_gate.specs.History.{IsLegal, after_all, made_at, HasItsOwn}
 use Rattle.sysv_gate.specs.Counts.{word_of, of_count, larger}
 use Rattle.sysv_gate.specs.Rule.{Homes, Spot, bearers, Fits, IsKept, AreAnnounced, Gated}
 use Rattle.sysv_gate.specs.Gates.{Gateway, Holding}
 use Rattle.sysv_gate.specs.Gates.{Joins as Joined}
 use Rattle.sysv_gate.specs.Steps.{Mine, parted, newcomer, named, both_of, spent, merged, Names, Gathers, Merges}
-use Rattle.sysv_gate.proofs.Sums.{set_at, at_below, each_set, each_before, sum_by-set_at}
-use Rattle.sysv_gate.proofs.Counting.{times-one, times-append, one-le-one, another}
-use Rattle.sysv_gate.proofs.Histories.{begins_self, made_at-nobody, made_at-append}
+use Rattle.sysv_lists.proofs.Places.{at_snoc_place, set_at, at_below, each_set, each_before}
+use Rattle.sysv_lists.proofs.Sums.{sum_by-set_at}
+use Rattle.sysv_lists.proofs.Counting.{times-one, times-append, times-one-le}
+use Rattle.sysv_gate.proofs.Counting.{another}
+use Rattle.sysv_lists.proofs.Prefixes.{prefix_self}
+use Rattle.sysv_gate.proofs.Histories.{made_at-nobody, made_at-append}
 use Rattle.sysv_gate.proofs.Keeping.{own_turns, stays, still_alone, not_alone}
 use Rattle.sysv_gate.proofs.Announcing.{none_yet, larger_up_to, counts_on, counts_more}
 use Rattle.sysv_gate.proofs.Stepping.{on_serving, told_on}
-
-module _ {A : Type 0} where
-  at_snoc_place : (xs : List A) (b a : A) (k : ℕ) → get_elem? (xs ++ b ∷ []) k ≡ some a → (get_elem? xs k ≡ some a) ⊎ ((k ≡ length xs) × (b ≡ a))
-  at_snoc_place [] b a zero at = inr (refl, some-injective b a at)
-  at_snoc_place [] b a (suc k) at = absurd (some-ne-none a (sym at))
-  at_snoc_place (x ∷ xs) b a zero at = inl at
-  at_snoc_place (x ∷ xs) b a (suc k) at = ⊎_elim inl (λ t. inr (ap suc t.0, t.1)) (at_snoc_place xs b a k at)
 
 module _ {O C R : Type 0} (moves : O → C → R → O → Type 0) (counted : O → ℕ × ℕ) (opening : O) (first : ℕ) where
   abbrev V : Type 0
@@ -71,7 +68,7 @@ module _ {O C R : Type 0} (moves : O → C → R → O → Type 0) (counted : O 
         apart = λ x.
             let now = more x in
             let before = kept.apart x in
-            dite (ℕ_discrete id x) (λ e. let free : bearers x views ≡ 0 = subst (λ (n : ℕ). bearers n views ≡ 0) e nobody in omega (arith, times-one x id, one-le-one id x))
+            dite (ℕ_discrete id x) (λ e. let free : bearers x views ≡ 0 = subst (λ (n : ℕ). bearers n views ≡ 0) e nobody in omega (arith, times-one x id, times-one-le x id))
             (λ ne. let other = apart_from x ne in omega arith);
         unused = λ x le.
             let long : length (set views id w) ≡ length views = length-set views id w in
@@ -263,7 +260,7 @@ module _ {O C R : Type 0} (moves : O → C → R → O → Type 0) (counted : O 
         tt,
         on_serving moves counted opening first s log (get_or s.words 16 0) s.homes (set s.views id w) held.0 held.1 held.2.1
             (stays moves opening first log drawn drawn id s.homes s.homes s.views me.0 w kept at (omega arith) kept.limit refl refl (λ x. refl) (λ _. (idle, refl))
-            (record { start = fits.start; seen = begins_self log; also = (log, refl); turn = λ turn. absurd (true≢false (sym turn ∙ idle)); own = fits.own; worn = fits.worn }) (λ mark. ((kept.alone id me.0 at mark).0, refl)))
+            (record { start = fits.start; seen = prefix_self log; also = (log, refl); turn = λ turn. absurd (true≢false (sym turn ∙ idle)); own = fits.own; worn = fits.worn }) (λ mark. ((kept.alone id me.0 at mark).0, refl)))
             (told_on moves counted opening first s log id me.0 w held.2.3 at refl (λ _. idle) refl),
         λ o is.
             let same : opening ≡ o = sym (fits.start o is).0 in
@@ -274,8 +271,8 @@ module _ {O C R : Type 0} where
   -- what a seat has after it took in another and looked
   pub record Gathered (moves : O → C → R → O → Type 0) (o : O) (v w : View O C R) (slots : List (ℕ × Spot O C R)) (m : Mine O C R) : Type 0 where
     pub log : List (Turn O C R)
-    pub one : BeginsWith log v.seen
-    pub two : BeginsWith log w.seen
+    pub one : IsPrefixOf v.seen log
+    pub two : IsPrefixOf w.seen log
     pub is : m ≡ (merged log (both_of v w), slots)
     pub legal : IsLegal moves o log
     pub own : HasItsOwn (v.numbers ++ w.numbers) (v.own ++ w.own) log
@@ -284,8 +281,8 @@ module _ {O C R : Type 0} where
   gathered moves o v w slots m m' both told =
       let log : List (Turn O C R) = told.log in record {
         log = log;
-        one = subst (λ (x : Mine O C R). BeginsWith log x.0.seen) both told.one;
-        two = subst (λ (x : Mine O C R). BeginsWith log x.0.also) both told.two;
+        one = subst (λ (x : Mine O C R). IsPrefixOf x.0.seen log) both told.one;
+        two = subst (λ (x : Mine O C R). IsPrefixOf x.0.also log) both told.two;
         is = told.is ∙ ap (λ (x : Mine O C R). (merged log x.0, x.1)) both;
         legal = told.legal;
         own = subst (λ (x : Mine O C R). HasItsOwn x.0.numbers x.0.own log) both told.own;
@@ -311,8 +308,8 @@ module _ {O C R : Type 0} where
       let log : List (Turn O C R) = told.log in
       let is = told.is in record {
         seen = log;
-        begins_one = subst (BeginsWith log) shows.seen told.one;
-        begins_two = subst (BeginsWith log) seen told.two;
+        begins_one = subst (λ (l : List (Turn O C R)). IsPrefixOf l log) shows.seen told.one;
+        begins_two = subst (λ (l : List (Turn O C R)). IsPrefixOf l log) seen told.two;
         joined = λ i. record {
           gate = same i;
           number = (ap (λ (x : Mine O C R). x.0.number) is ∙ shows.number) i;

@@ -14,14 +14,17 @@ use Rattle.sysv_gate.specs.declared.view.View.{View}
 use Rattle.sysv_gate.specs.declared.view.Turn.{Turn}
 use Rattle.sysv_gate.specs.declared.place.Done.{Done}
 use Rattle.sysv_gate.specs.declared.count.Count.{Count}
-use Rattle.sysv_gate.specs.Numbers.{times, once_between}
-use Rattle.sysv_gate.specs.History.{BeginsWith, after_all, IsLegal, HasItsOwn}
+use Rattle.sysv_lists.specs.Numbers.{times, once_between}
+use Rattle.sysv_lists.specs.Prefix.{IsPrefixOf}
+use Rattle.sysv_gate.specs.History.{after_all, IsLegal, HasItsOwn}
 use Rattle.sysv_gate.specs.Rule.{Homes, Spot, put, IsHome, Fits, IsKept, IsAnnounced, AreAnnounced, Gated}
 use Rattle.sysv_gate.specs.Counts.{word_of, of_count}
 use Rattle.sysv_gate.specs.Steps.{weighed, drew, looked, entered, turn_of, announced_by, read_to, ended, Mine, Weighs, Draws, Turns, Enters, Announces, Reads, Ends}
-use Rattle.sysv_gate.proofs.Sums.{set_at, one_there}
-use Rattle.sysv_gate.proofs.Counting.{times-one, times-same, once_between-next, holds_some, marked_by, not_true}
-use Rattle.sysv_gate.proofs.Histories.{begins_self, begins_whole, after_all-snoc, grows_on}
+use Rattle.sysv_lists.proofs.Places.{set_at, one_there}
+use Rattle.sysv_lists.proofs.Counting.{times-one, times-same, once_between-next}
+use Rattle.sysv_gate.proofs.Counting.{holds_some, marked_by, not_true}
+use Rattle.sysv_lists.proofs.Prefixes.{prefix_self, prefix_whole}
+use Rattle.sysv_gate.proofs.Histories.{after_all-snoc, grows_on}
 use Rattle.sysv_gate.proofs.Announcing.{put_in, of_other, none_yet, from_48, below_80, same_count, counts_on, counts_stay, set_aside, exactly}
 use Rattle.sysv_gate.proofs.Keeping.{served_alone, nobody_in_turn, no_ticket_no_turn, own_turns, stays, grows}
 
@@ -160,7 +163,7 @@ module _ {O C R : Type 0} (moves : O → C → R → O → Type 0) (counted : O 
   -- a look, where b says whether the seat holds the ticket that is served
   looks_as : (b : Bool) (id : ℕ) (me : M) (s : St) → Holds s → get_elem? s.views id ≡ some me.0 → me.0.in_turn ≡ false → me.1 ≡ []
       → nat_lt 0 (times (get_or s.words 16 0) me.0.tickets) ≡ b
-      → (a : Act (Spot O C R)) × (log : Log) × Valid s.homes me.1 a × Holds (stepped s 16 (get_or s.words 16 0) id me.1 (record me.0 { seen = log; in_turn = b }) a) × BeginsWith log me.0.seen
+      → (a : Act (Spot O C R)) × (log : Log) × Valid s.homes me.1 a × Holds (stepped s 16 (get_or s.words 16 0) id me.1 (record me.0 { seen = log; in_turn = b }) a) × IsPrefixOf me.0.seen log
       × (get_or s.words 16 0 ≡ first + length log) × IsLegal moves opening log
       × (b ≡ true → (last : Option (Done C R)) × (carried_after me.1 a ≡ (0, put (after_all opening log) last) ∷ [])) × (b ≡ false → carried_after me.1 a ≡ me.1)
       × (b ≡ true → BeginsTurn log me.0)
@@ -179,7 +182,7 @@ module _ {O C R : Type 0} (moves : O → C → R → O → Type 0) (counted : O 
         home.1,
         on_serving s log n (set s.homes 0 none) (set s.views id w) held.0 (length-set s.homes 0 none ∙ held.1) serves
             (stays moves opening first log drawn drawn id s.homes (set s.homes 0 none) s.views me.0 w kept at (omega arith) kept.limit refl refl (λ x. refl) (λ turn. absurd (true≢false turn))
-            (record { start = fits.start; seen = begins_self log; also = fits.also; turn = λ _. (has, refl); own = fits.own; worn = fits.worn }) (λ mark. ((kept.alone id me.0 at mark).0, refl)))
+            (record { start = fits.start; seen = prefix_self log; also = fits.also; turn = λ _. (has, refl); own = fits.own; worn = fits.worn }) (λ mark. ((kept.alone id me.0 at mark).0, refl)))
             (told_on s log id me.0 w held.2.3 at refl (λ _. idle) refl),
         fits.seen,
         serves,
@@ -201,7 +204,7 @@ module _ {O C R : Type 0} (moves : O → C → R → O → Type 0) (counted : O 
         tt,
         on_serving s log n s.homes (set s.views id w) held.0 held.1 serves
             (stays moves opening first log drawn drawn id s.homes s.homes s.views me.0 w kept at (omega arith) kept.limit refl refl (λ x. refl) (λ _. (idle, refl))
-            (record { start = fits.start; seen = begins_self log; also = fits.also; turn = λ turn. absurd (true≢false (sym turn)); own = fits.own; worn = fits.worn }) (λ mark. ((kept.alone id me.0 at mark).0, refl)))
+            (record { start = fits.start; seen = prefix_self log; also = fits.also; turn = λ turn. absurd (true≢false (sym turn)); own = fits.own; worn = fits.worn }) (λ mark. ((kept.alone id me.0 at mark).0, refl)))
             (told_on s log id me.0 w held.2.3 at refl (λ _. idle) refl),
         fits.seen,
         serves,
@@ -258,7 +261,7 @@ module _ {O C R : Type 0} (moves : O → C → R → O → Type 0) (counted : O 
       (λ hit.
       let w : V = entered n me.0 in
       let more : n + 1 ≡ next = omega arith in
-      let whole : me.0.seen ≡ log = begins_whole log me.0.seen fits.seen (omega arith) in
+      let whole : me.0.seen ≡ log = prefix_whole me.0.seen log fits.seen (omega arith) in
       let long : length me.0.seen ≡ length log = ap length whole in
       let served : n ≡ first + length log = omega arith in
       let nobody = no_ticket_no_turn moves opening first log n s.homes s.views kept (omega arith) in

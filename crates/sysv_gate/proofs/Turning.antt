@@ -1,5 +1,5 @@
 -- What a seat learns from step to step of a call.
-use Rattle.std.proofs.Common.{◌≡◌, ◌≢◌, ℕ, ◌+◌, ◌<◌, ◌≤◌, ◌^◌, true, false, List, [], ◌∷◌, ◌++◌, length, refl, sym, ap, ◌∙◌, subst, arith, append_assoc, Option, Some}
+use Rattle.std.proofs.Common.{◌≡◌, ◌≢◌, ℕ, ◌+◌, ◌<◌, ◌≤◌, ◌^◌, true, false, List, [], ◌∷◌, length, refl, sym, ap, ◌∙◌, subst, arith, Option, Some}
 use Rattle.std.specs.Prelude.{cond, nat_lt}
 use mathlib.Core.Option.{none}
 use Rattle.std.proofs.lemmas.Bool.Decides.{nat_tests}
@@ -14,18 +14,18 @@ use Rattle.sysv_gate.specs.declared.awaited.Awaited.{Awaited}
 use Rattle.sysv_gate.specs.declared.awaited.Awaited.TheVariants.{Reached}
 use Rattle.sysv_gate.specs.declared.awaited.Awaited.TheVariants as awaited
 use Rattle.sysv_gate.specs.Counts.{word_of, of_count}
-use Rattle.sysv_gate.specs.Numbers.{times}
-use Rattle.sysv_gate.specs.History.{BeginsWith, after_all, IsLegal, HasItsOwn, Moves, AreUpTo, AreBelow}
+use Rattle.sysv_lists.specs.Numbers.{times}
+use Rattle.sysv_lists.specs.Prefix.{IsPrefixOf}
+use Rattle.sysv_gate.specs.History.{after_all, IsLegal, HasItsOwn, Moves, AreUpTo, AreBelow}
 use Rattle.sysv_gate.specs.Rule.{Spot, put}
 use Rattle.sysv_gate.specs.Steps.{Mine, weighed, looked, entered, turn_of, announced_by, read_to, ended, Looks, Reads, HasTurn, after_turn}
 use Rattle.sysv_gate.specs.Turns.{Looked, TurnCame, SawMore, HasMade, rise, Applied, HasRead, ReadMore, HasWaited}
 use Rattle.atomic_table.specs.Table.{step, rest}
-use Rattle.sysv_gate.proofs.Counting.{times-one, low_mark, high_mark}
-use Rattle.sysv_gate.proofs.Histories.{begins_self, legal-snoc, rises}
+use Rattle.sysv_lists.proofs.Counting.{times-one}
+use Rattle.sysv_gate.proofs.Counting.{low_mark, high_mark}
+use Rattle.sysv_lists.proofs.Prefixes.{prefix_self, prefix_trans}
+use Rattle.sysv_gate.proofs.Histories.{legal-snoc, rises}
 use Rattle.sysv_gate.proofs.Announcing.{put_in, put_twice, put_same}
-
-pub begins_trans : {A : Type 0} (xs ys zs : List A) → BeginsWith xs ys → BeginsWith ys zs → BeginsWith xs zs
-begins_trans {A} xs ys zs long short = (short.0 ++ long.0, long.1 ∙ ap (λ (l : List A). l ++ long.0) short.1 ∙ append_assoc zs short.0 long.0)
 
 one_held : (n : ℕ) (tickets : List ℕ) → tickets ≡ n ∷ [] → nat_lt 0 (times n tickets) ≡ true
 one_held n tickets is = let e : times n tickets ≡ times n (n ∷ []) = ap (times n) is in grind (arith, nat_tests, times-one n n)
@@ -87,7 +87,7 @@ module _ {O C R : Type 0} where
         let log : List (Turn O C R) = saw.log in
         let is : m.0 ≡ record v { seen = log } = ap (λ (x : Mine O C R). x.0) saw.is in record {
           log = came.log;
-          longer = begins_trans came.log log v.seen (subst (λ (u : View O C R). BeginsWith came.log u.seen) is came.longer) saw.longer;
+          longer = prefix_trans v.seen log came.log saw.longer (subst (λ (u : View O C R). IsPrefixOf u.seen came.log) is came.longer);
           count = subst (λ (u : View O C R). ticket ≡ u.first + length came.log) is came.count;
           view = came.view ∙ ap (λ (u : View O C R). record u { seen = came.log; tickets = ticket ∷ []; in_turn = true }) is;
           turn = came.turn;
@@ -97,13 +97,13 @@ module _ {O C R : Type 0} where
   saw_later v m m' saw more =
       let is : m.0 ≡ record v { seen = saw.log } = ap (λ (x : Mine O C R). x.0) saw.is in record {
         log = more.log;
-        longer = begins_trans more.log saw.log v.seen (subst (λ (u : View O C R). BeginsWith more.log u.seen) is more.longer) saw.longer;
+        longer = prefix_trans v.seen saw.log more.log saw.longer (subst (λ (u : View O C R). IsPrefixOf u.seen more.log) is more.longer);
         is = more.is ∙ ap (λ (u : View O C R). (record u { seen = more.log }, [])) is;
       }
 
   -- a seat that waits has seen no less than it has seen
   pub saw_nothing : (m : Mine O C R) → m.1 ≡ [] → SawMore m.0 m
-  saw_nothing m bare = record { log = m.0.seen; longer = begins_self m.0.seen; is = λ i. (m.0, bare i) }
+  saw_nothing m bare = record { log = m.0.seen; longer = prefix_self m.0.seen; is = λ i. (m.0, bare i) }
 
   -- a ticket below 2^62 leaves the view
   pub unweighed : (m m' : Mine O C R) (n : ℕ) → m' ≡ (weighed n m.0, m.1) → n < 2 ^ 62 → m' ≡ m

@@ -5,8 +5,9 @@ use lib.ListN.{get_elem?}
 use Rattle.sysv_gate.specs.declared.closing.Closing.{Closing}
 use Rattle.sysv_gate.specs.declared.view.View.{View}
 use Rattle.sysv_gate.specs.declared.view.Turn.{Turn}
-use Rattle.sysv_gate.specs.Numbers.{times}
-use Rattle.sysv_gate.specs.History.{BeginsWith, IsLegal, after_all, HasItsOwn}
+use Rattle.sysv_lists.specs.Numbers.{times}
+use Rattle.sysv_lists.specs.Prefix.{IsPrefixOf}
+use Rattle.sysv_gate.specs.History.{IsLegal, after_all, HasItsOwn}
 use Rattle.sysv_gate.specs.Rule.{Spot, Homes, IsKept}
 use Rattle.sysv_gate.specs.Gates.{Gateway, Holding}
 
@@ -28,7 +29,7 @@ module _ {O C R : Type 0} where
   pub record Closes (moves : O → C → R → O → Type 0) (seat : Holding O C R) (c : Closing O) : Type 0 where
     pub log : List (Turn O C R)
     pub legal : IsLegal moves seat.gate.opening log
-    pub longer : BeginsWith log seat.seen
+    pub longer : IsPrefixOf seat.seen log
     pub own : HasItsOwn seat.numbers seat.own log
     pub turns : c.turns ≡ length log
     pub object : IfSome c.object (λ o. (o ≡ after_all seat.gate.opening log) × (c.rest ≡ None))

@@ -3,7 +3,8 @@ use Rattle.std.specs.Prelude.{◌≡◌, ℕ, ◌≤◌, ◌||◌, Bool, true, f
 use Rattle.atomic_table.specs.Seated.{TableId}
 use Rattle.sysv_gate.specs.declared.view.Turn.{Turn}
 use Rattle.sysv_gate.specs.declared.count.Count.{Count}
-use Rattle.sysv_gate.specs.History.{BeginsWith, IsLegal, after_all, HasItsOwn}
+use Rattle.sysv_lists.specs.Prefix.{IsPrefixOf}
+use Rattle.sysv_gate.specs.History.{IsLegal, after_all, HasItsOwn}
 use Rattle.sysv_gate.specs.Counts.{of_count, with_count, larger}
 
 -- a gate: which it is, the object that it was opened with, and its first ticket
@@ -78,8 +79,8 @@ module _ {O C R : Type 0} where
   -- and the numbers of both, and what either had read of the counts
   pub record Joins (moves : O → C → R → O → Type 0) (one two after : Holding O C R) : Type 0 where
     pub seen : List (Turn O C R)
-    pub begins_one : BeginsWith seen one.seen
-    pub begins_two : BeginsWith seen two.seen
+    pub begins_one : IsPrefixOf one.seen seen
+    pub begins_two : IsPrefixOf two.seen seen
     pub joined : after ≡ record one { seen = seen; own = one.own ++ two.own; numbers = one.numbers ++ two.numbers; worn = one.worn || two.worn; read = larger one.read two.read; alone = false }
     pub legal : IsLegal moves one.gate.opening seen
     pub own : HasItsOwn after.numbers after.own seen

@@ -6,7 +6,7 @@ use Rattle.atomic_table.specs.declared.shared.Seat.{Seat}
 use Rattle.sysv_gate.specs.declared.view.View.{View}
 use Rattle.sysv_gate.specs.Rule.{Spot}
 use Rattle.sysv_gate.specs.Gates.{Holding}
-use Rattle.sysv_gate.specs.Numbers.{times}
+use Rattle.sysv_lists.specs.Numbers.{times}
 
 module _ {O C R : Type 0} where
   abbrev pub held : Inside O C R → Holding O C R

@@ -1,13 +1,9 @@
 -- The running history of an object: its turns, in the order in which they were finished. A turn says which seat made it,
 -- the call, the reply, and the object after it. Reed and Kanodia's mutual exclusion by a sequencer and an eventcount
 -- gives the order.
-use Rattle.std.specs.Prelude.{◌≡◌, ℕ, zero, suc, ◌+◌, ◌<◌, ◌≤◌, List, [], ◌∷◌, ◌++◌}
+use Rattle.std.specs.Prelude.{◌≡◌, ℕ, zero, suc, ◌+◌, ◌<◌, ◌≤◌, List, [], ◌∷◌}
 use Rattle.sysv_gate.specs.declared.view.Turn.{Turn}
-use Rattle.sysv_gate.specs.Numbers.{times, NoneTwice}
-
--- the whole list begins with the part
-abbrev pub BeginsWith : {A : Type 0} → List A → List A → Type 0
-BeginsWith {A} whole part = (more : List A) × (whole ≡ part ++ more)
+use Rattle.sysv_lists.specs.Numbers.{times, NoneTwice}
 
 -- each of the two counts stays or rises by one
 abbrev pub RiseByOneAtMost : ℕ × ℕ → ℕ × ℕ → Type 0

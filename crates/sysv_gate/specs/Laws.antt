@@ -4,10 +4,11 @@ use mathlib.Core.Option.{some}
 use lib.ListN.{get_elem?}
 use Rattle.sysv_gate.specs.declared.view.View.{View}
 use Rattle.sysv_gate.specs.declared.view.Turn.{Turn}
-use Rattle.sysv_gate.specs.Numbers.{times}
+use Rattle.sysv_lists.specs.Numbers.{times}
 use Rattle.atomic_table.specs.Table.{State}
 use Rattle.sysv_gate.specs.declared.count.Count.{Count}
-use Rattle.sysv_gate.specs.History.{BeginsWith, IsLegal, after_all}
+use Rattle.sysv_lists.specs.Prefix.{IsPrefixOf}
+use Rattle.sysv_gate.specs.History.{IsLegal, after_all}
 use Rattle.sysv_gate.specs.Counts.{word_of, of_count}
 use Rattle.sysv_gate.specs.Rule.{Spot, Homes, IsKept, Gated}
 
@@ -28,7 +29,7 @@ module _ {O C R : Type 0} (moves : O → C → R → O → Type 0) where
 
   -- what one seat has seen begins what the other has seen, or the other way round
   abbrev pub OneHistory : Type 0
-  OneHistory = OfTwoSeats (λ v w. BeginsWith v.seen w.seen ⊎ BeginsWith w.seen v.seen)
+  OneHistory = OfTwoSeats (λ v w. IsPrefixOf w.seen v.seen ⊎ IsPrefixOf v.seen w.seen)
 
   -- where no seat is in turn, the words of the two counts have the counts of the object after the history of all turns
   abbrev pub CountsOutsideATurn : (O → ℕ × ℕ) → Type 0

@@ -1,4 +1,3 @@
-pub mod Numbers
 pub mod History
 pub mod Counts
 pub mod Rule

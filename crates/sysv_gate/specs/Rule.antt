@@ -11,9 +11,10 @@ use Rattle.sysv_gate.specs.declared.view.Turn.{Turn}
 use Rattle.sysv_gate.specs.declared.place.Place.{Place}
 use Rattle.sysv_gate.specs.declared.place.Done.{Done}
 use Rattle.sysv_gate.specs.declared.count.Count.{Count}
-use Rattle.sysv_gate.specs.Numbers.{times, once_between}
+use Rattle.sysv_lists.specs.Numbers.{times, once_between}
 use Rattle.sysv_gate.specs.Counts.{word_of, of_count}
-use Rattle.sysv_gate.specs.History.{BeginsWith, after_all, IsLegal, made_at}
+use Rattle.sysv_lists.specs.Prefix.{IsPrefixOf}
+use Rattle.sysv_gate.specs.History.{after_all, IsLegal, made_at}
 
 -- what the slot can have
 abbrev pub Spot : Type 0 → Type 0 → Type 0 → Type 0
@@ -37,8 +38,8 @@ module _ {O C R : Type 0} where
   -- are those that were made under its numbers. It is marked as worn only where the tickets have reached 2^62
   pub record Fits (opening : O) (first : ℕ) (log : List (Turn O C R)) (drawn : ℕ) (v : View O C R) : Type 0 where
     pub start : (o : O) → v.opening ≡ Some o → (o ≡ opening) × (v.first ≡ first)
-    pub seen : BeginsWith log v.seen
-    pub also : BeginsWith log v.also
+    pub seen : IsPrefixOf v.seen log
+    pub also : IsPrefixOf v.also log
     pub turn : v.in_turn ≡ true → (1 ≤ times (first + length log) v.tickets) × (v.seen ≡ log)
     pub own : (p : ℕ) → times p v.own ≡ made_at v.numbers log p
     pub worn : v.worn ≡ true → 2 ^ 62 ≤ drawn

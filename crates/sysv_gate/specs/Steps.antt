@@ -5,9 +5,10 @@ use Rattle.sysv_gate.specs.declared.view.View.{View}
 use Rattle.sysv_gate.specs.declared.view.Turn.{Turn}
 use Rattle.sysv_gate.specs.declared.place.Done.{Done}
 use Rattle.sysv_gate.specs.declared.count.Count.{Count}
-use Rattle.sysv_gate.specs.Numbers.{times}
+use Rattle.sysv_lists.specs.Numbers.{times}
 use Rattle.sysv_gate.specs.Counts.{word_of, of_count, with_count, larger}
-use Rattle.sysv_gate.specs.History.{BeginsWith, after_all, IsLegal, HasItsOwn}
+use Rattle.sysv_lists.specs.Prefix.{IsPrefixOf}
+use Rattle.sysv_gate.specs.History.{after_all, IsLegal, HasItsOwn}
 use Rattle.sysv_gate.specs.Rule.{Spot, put}
 
 module _ {O C R : Type 0} where
@@ -101,7 +102,7 @@ module _ {O C R : Type 0} where
   -- what a look tells of the log
   pub record Looks (m : Mine O C R) (n : ℕ) (m' : Mine O C R) : Type 0 where
     pub log : List (Turn O C R)
-    pub longer : BeginsWith log m.0.seen
+    pub longer : IsPrefixOf m.0.seen log
     pub count : n ≡ m.0.first + length log
     pub view : m'.0 ≡ looked n log m.0
 
@@ -126,8 +127,8 @@ module _ {O C R : Type 0} where
   -- what a look after a join tells
   pub record Gathers (moves : O → C → R → O → Type 0) (opening : O) (m m' : Mine O C R) : Type 0 where
     pub log : List (Turn O C R)
-    pub one : BeginsWith log m.0.seen
-    pub two : BeginsWith log m.0.also
+    pub one : IsPrefixOf m.0.seen log
+    pub two : IsPrefixOf m.0.also log
     pub is : m' ≡ (merged log m.0, m.1)
     pub legal : IsLegal moves opening log
     pub own : HasItsOwn m.0.numbers m.0.own log

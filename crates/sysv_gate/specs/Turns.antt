@@ -13,8 +13,9 @@ use Rattle.sysv_gate.specs.declared.place.Done.{Done}
 use Rattle.sysv_gate.specs.declared.count.Count.{Count}
 use Rattle.sysv_gate.specs.declared.count.Count.TheVariants.{Arrived, Freed}
 use Rattle.sysv_gate.specs.declared.turns.Entry.TheVariants.{Turn, Busy, Worn}
-use Rattle.sysv_gate.specs.Numbers.{times}
-use Rattle.sysv_gate.specs.History.{BeginsWith, IsLegal, after_all, HasItsOwn}
+use Rattle.sysv_lists.specs.Numbers.{times}
+use Rattle.sysv_lists.specs.Prefix.{IsPrefixOf}
+use Rattle.sysv_gate.specs.History.{IsLegal, after_all, HasItsOwn}
 use Rattle.sysv_gate.specs.Counts.{of_count}
 use Rattle.sysv_gate.specs.Rule.{Spot}
 use Rattle.sysv_gate.specs.Gates.{Gateway}
@@ -44,13 +45,13 @@ module _ {O C R : Type 0} where
   -- the seat has seen more, and waits as before
   pub record SawMore (v : View O C R) (m : Mine O C R) : Type 0 where
     pub log : List (view.Turn O C R)
-    pub longer : BeginsWith log v.seen
+    pub longer : IsPrefixOf v.seen log
     pub is : m ≡ (record v { seen = log }, [])
 
   -- the seat's turn has come
   pub record TurnCame (moves : O → C → R → O → Type 0) (counted : O → ℕ × ℕ) (opening : O) (v : View O C R) (ticket : ℕ) (m : Mine O C R) : Type 0 where
     pub log : List (view.Turn O C R)
-    pub longer : BeginsWith log v.seen
+    pub longer : IsPrefixOf v.seen log
     pub count : ticket ≡ v.first + length log
     pub view : m.0 ≡ record v { seen = log; tickets = ticket ∷ []; in_turn = true }
     pub turn : HasTurn moves counted opening m
@@ -59,7 +60,7 @@ module _ {O C R : Type 0} where
   -- waits as before
   pub record Looked (moves : O → C → R → O → Type 0) (counted : O → ℕ × ℕ) (opening : O) (m : Mine O C R) (n : ℕ) (m' : Mine O C R) : Type 0 where
     pub log : List (view.Turn O C R)
-    pub longer : BeginsWith log m.0.seen
+    pub longer : IsPrefixOf m.0.seen log
     pub count : n ≡ m.0.first + length log
     pub legal : IsLegal moves opening log
     pub mine : m.0.tickets ≡ n ∷ [] → TurnCame moves counted opening m.0 n m'

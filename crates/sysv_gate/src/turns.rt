@@ -4,7 +4,7 @@ ghost use Rattle.sysv_gate.specs.History.{Moves, AreBelow, after_all};
 ghost use Rattle.sysv_gate.specs.Counts.{of_count};
 ghost use Rattle.sysv_gate.specs.Steps.{announced_by, HasTurn};
 ghost use Rattle.sysv_gate.specs.Turns.{IsOf, IsSameToken, Waits, Looked, HasDrawn, HasWorn, SawMore, TurnCame, HasMade, Entered, Applied};
-ghost use Rattle.sysv_gate.specs.Numbers.{times};
+ghost use Rattle.sysv_lists.specs.Numbers.{times};
 
 use crate::bell::LOW_BITS;
 use crate::board::{LIMIT, OBJECT, SERVING, TICKET, Token};

@@ -55,7 +55,7 @@ module _ (heads : Slab Head) (chains : List (Option Chained)) (entries : List En
   there_seen = subst (λ ms. slice_get ms x.position ≡ Some its_message) view (message_there heads chains entries bytes its_entry s x.position entry_there)
 
   pub too_long : (most : ℕ) → most < length its_message.bytes → IsTooLong sel most messages
-  too_long most longer = record { position = x.position; message = its_message; named = named; there = there_seen; longer = longer }
+  too_long most longer = record { position = x.position; message = its_message; named = named; there = there_seen; longer = longer; short = kept_it.short }
 
   -- the head and the chain at its place go out, and its entry
   module _ (heads' : Slab Head) (chains' : List (Option Chained)) (entries' : List Entry) (head : Head) (chain : Chained)

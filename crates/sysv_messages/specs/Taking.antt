@@ -2,6 +2,7 @@
 -- its selector names, unless its text is longer than asked for.
 use Rattle.std.specs.Prelude.{◌≡◌, ℕ, ◌<◌, ◌≤◌, List, Some, length, slice_get, remove}
 use Rattle.sysv_model.specs.Message.{Message}
+use Rattle.sysv_model.specs.declared.limits.TheConstants.{MESSAGE_BYTES as most_bytes}
 use Rattle.sysv_model.specs.declared.selector.Selector.{Selector}
 use Rattle.sysv_rules.specs.Named.{IsNamed}
 use Rattle.sysv_rules.specs.Qualifies.{NoneQualifies}
@@ -17,13 +18,14 @@ pub record IsTaken (sel : Selector) (most : ℕ) (old : List Message) (m : Messa
   pub fits : length m.bytes ≤ most
   pub left : new ≡ remove old position
 
--- the message that the selector names has a longer text
+-- the message that the selector names has a longer text, which is one that a message may have
 pub record IsTooLong (sel : Selector) (most : ℕ) (messages : List Message) : Type 0 where
   pub position : ℕ
   pub message : Message
   pub named : IsNamed sel (types_of messages) position
   pub there : slice_get messages position ≡ Some message
   pub longer : most < length message.bytes
+  pub short : length message.bytes ≤ most_bytes
 
 -- why none is taken
 abbrev pub IsRefused : Selector → ℕ → List Message → NotTaken → Type 0

@@ -21,4 +21,7 @@ pub mod ForGood
 pub mod WorkedRemoval
 pub mod Control
 pub mod Shows
+pub mod Numbering
+pub mod Receives
+pub mod Crossing
 pub mod BlocksKept

@@ -7,8 +7,10 @@ pub use Rattle.sysv_model.specs.Waiting
 pub use Rattle.sysv_model.specs.Pool
 pub use Rattle.sysv_rules.specs.Permission
 pub use Rattle.sysv_rules.specs.Qualifies
+pub use Rattle.sysv_rules.specs.Digits
 pub use Rattle.sysv_pool.specs.Chain
 pub mod Slot
+pub mod Numbered
 pub mod Fits
 pub mod Blocks
 pub mod Granted
@@ -21,6 +23,7 @@ pub mod BlocksKept
 pub mod Tally
 pub mod Delivery
 pub mod Replies
+pub mod Probes
 pub mod OneReply
 pub mod QueueLaw
 pub mod StaysRight

@@ -10,7 +10,6 @@ mod laws;
 mod slot;
 mod taken;
 mod tally;
-mod waiting;
 
 pub use delivery::Delivery;
 pub use discarded::Discarded;
@@ -19,5 +18,6 @@ pub use laws::{
     worked_removal,
 };
 pub use slot::{Look, PlaceRefused, Probe, QueueSlot, TakeRefused, Unplaced};
+pub use sysv_index::Steps;
 pub use taken::Taken;
 pub use tally::Tally;

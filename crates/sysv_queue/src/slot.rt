@@ -1,31 +1,35 @@
-ghost use Rattle.std.specs.Prelude.{false, ℕ, ◌≡◌, ◌+◌, ◌^◌, ◌<◌, ◌≤◌, ◌↔◌, [], ◌∷◌, ◌++◌, length, slice_get, IfOk, IfErr, OnErr, Some, IsTrue, MatchOption, remove, option_map, vec_len, vec_capacity};
+ghost use Rattle.std.specs.Prelude.{true, false, ◌≡◌, ◌+◌, ◌^◌, ◌<◌, ◌≤◌, ◌↔◌, [], ◌∷◌, ◌++◌, length, IfOk, IfErr, OnOk, OnErr, Some, IsTrue, MatchOption, option_map};
 ghost use Rattle.sysv_model.specs.declared.limits.TheConstants.{QUEUE_MESSAGES, MESSAGE_BYTES as most_bytes};
 ghost use Rattle.sysv_model.specs.History.{Install, Place, Take, ReadStat, ReadRow, Set, Remove, Installed, Shown};
 ghost use Rattle.sysv_model.specs.History.{Probe as ProbeCall};
 ghost use Rattle.sysv_model.specs.History.{Look as LookCall};
 ghost use Rattle.sysv_model.specs.Live.{HasId, sent_to, received_from};
 ghost use Rattle.sysv_model.specs.Pool.{blocks_for};
+ghost use Rattle.sysv_rules.specs.Digits.{digits};
+ghost use Rattle.sysv_messages.specs.Taking.{IsTaken, IsRefused};
 ghost use Rattle.sysv_queue.specs.Blocks.{blocks_of};
 ghost use Rattle.sysv_queue.specs.Fits.{bytes_of};
 ghost use Rattle.sysv_queue.specs.Fits.{Fits as FitsOn};
 ghost use Rattle.sysv_queue.specs.Granted.{IsGranted, MayAsAsked, MayControl};
 ghost use Rattle.sysv_queue.specs.Barred.{Bars, BarsControl};
-ghost use Rattle.sysv_queue.specs.Named.{IsNamed};
+ghost use Rattle.sysv_queue.specs.Probes.{IsFoundByFew, IsBarred};
 ghost use Rattle.sysv_queue.specs.StandsFor.{StandsFor, MakesTurn};
 ghost use Rattle.sysv_queue.specs.Replies.{probe_reply, stat_reply, set_reply, remove_reply, look_reply, place_reply, take_reply};
 
 use crate::discarded::Discarded;
 use crate::taken::Taken;
-use crate::waiting::Waiting;
 use bitflags::Flags as _;
 use std::alloc::Global;
-use std::marker::Model;
+use std::marker::{Brand, Model};
+use std::sync::ledger::{Blank, Ledger};
+use sysv_index::Steps;
+use sysv_messages::{Messages, NotTaken};
 use sysv_model::{
-    Attributes, Cred, Errno, Flags, MAX_QBYTES, NoMemory, Perm, QBYTES_AT_CREATION, QUEUE_MESSAGES,
-    Row, SetTo, Stat,
+    Attributes, Cred, Errno, Flags, MAX_QBYTES, MESSAGE_BYTES, NoMemory, Perm, QBYTES_AT_CREATION,
+    QUEUE_MESSAGES, Row, SetTo, Stat,
 };
 use sysv_pool::Chain;
-use sysv_rules::{Selector, Want, may, may_control, select_plain};
+use sysv_rules::{Selector, Want, may, may_control};
 use thiserror::Error;
 
 /// What `probe` finds.
@@ -106,28 +110,22 @@ enum Barred {
 /// that holds its text. A slot can't be dropped: it ends by `end`.
 pub struct QueueSlot {
     live: Option<Attributes>,
-    messages: Vec<Waiting>,
-    types: Vec<i64>,
-    cbytes: u32,
+    messages: Messages,
     arrived: u64,
     freed: u64,
 }
 
 impl Model for QueueSlot {
-    ghost use Rattle.std.specs.Prelude.{◌≡◌, ◌*◌, ◌≤◌, length, vec_len, vec_capacity};
     ghost use Rattle.sysv_queue.specs.Slot.{Slot};
 
     ghost Value = { Slot };
 
-    ghost use Rattle.sysv_model.specs.declared.limits.TheConstants.{QUEUE_MESSAGES};
-    ghost use Rattle.sysv_queue.specs.Fits.{bytes_of};
-    ghost use Rattle.sysv_queue.specs.Named.{types_of};
+    ghost use Rattle.sysv_queue.specs.Numbered.{AreNumberedBelow};
 
-    ghost view = { λ s. record { live = s.live; messages = s.messages.items; arrived = s.arrived; freed = s.freed } };
+    ghost view = { λ s. record { live = s.live; messages = s.messages; arrived = s.arrived; freed = s.freed } };
 
-    // The types stand in a list of their own, where a selection reads them as they lie.
-    ghost invariant = { λ s. (vec_len s.messages ≤ QUEUE_MESSAGES) × (QUEUE_MESSAGES ≤ vec_capacity s.messages) × (QUEUE_MESSAGES ≤ vec_capacity s.types)
-        × (s.types.items ≡ types_of s.messages.items) × (s.cbytes ≡ bytes_of s.messages.items) };
+    // The arrived count is the next message's number, which is above those of all that wait.
+    ghost invariant = { λ s. AreNumberedBelow s.arrived s.messages };
 }
 
 impl QueueSlot {
@@ -135,13 +133,9 @@ impl QueueSlot {
     pub fn open(alloc: Global) -> Result<QueueSlot, NoMemory>
         ensures { IfOk result (λ slot. StandsFor [] slot) }
     {
-        let types = Vec::with_capacity(alloc, QUEUE_MESSAGES).map_err(|_| NoMemory)?;
-        let messages = Vec::with_capacity(alloc, QUEUE_MESSAGES).map_err(|_| NoMemory)?;
         Ok(QueueSlot {
             live: None,
-            messages,
-            types,
-            cbytes: 0,
+            messages: Messages::open(alloc)?,
             arrived: 0,
             freed: 0,
         })
@@ -205,7 +199,7 @@ impl QueueSlot {
         Ok(Stat {
             key: queue.key,
             perm: queue.perm,
-            cbytes: self.cbytes,
+            cbytes: self.messages.bytes(),
             qnum: self.messages.len() as u32,
             qbytes: queue.qbytes,
             lspid: queue.lspid,
@@ -261,9 +255,7 @@ impl QueueSlot {
         ensures refused { OnErr result (self.new ≡ self.old) }
     {
         self.control(id, cred)?;
-        let chain = joined(&mut self.messages);
-        self.types.clear();
-        self.cbytes = 0;
+        let chain = self.messages.take_all();
         self.change_to(None);
         Ok(Discarded { chain })
     }
@@ -290,7 +282,7 @@ impl QueueSlot {
                 key: queue.key,
                 uid: queue.perm.uid,
                 mode: queue.perm.mode,
-                cbytes: self.cbytes,
+                cbytes: self.messages.bytes(),
                 qnum: self.messages.len() as u32,
             }),
             None => None,
@@ -358,15 +350,8 @@ impl QueueSlot {
         ensures room { IsTrue result ↔ FitsOn qbytes self.now.messages size }
         ensures small { IsTrue result → bytes_of self.now.messages + size < 2 ^ 32 }
     {
-        let room = qbytes.checked_sub(self.cbytes);
+        let room = qbytes.checked_sub(self.messages.bytes());
         room.is_some_and(|room| size <= room as usize) && self.messages.len() < QUEUE_MESSAGES
-    }
-
-    /// The place of the message that `sel` names.
-    fn named(&self, sel: Selector) -> Option<usize>
-        ensures { MatchOption result ((place : ℕ) → ¬ IsNamed sel self.now.messages place) (IsNamed sel self.now.messages) }
-    {
-        select_plain(sel, &self.types)
     }
 
     /// Puts a message that fits at the end.
@@ -386,15 +371,7 @@ impl QueueSlot {
         } }
     {
         let number = self.arrived;
-        self.messages.push_reserved(Waiting {
-            number,
-            sender: cred.pid,
-            mtype,
-            len: size,
-            chain,
-        });
-        self.types.push_reserved(mtype);
-        self.cbytes += size as u32;
+        self.messages.push(number, cred.pid, mtype, chain, size);
         self.arrived += 1;
         self.live = self.live.map(|queue| Attributes {
             lspid: cred.pid,
@@ -404,28 +381,36 @@ impl QueueSlot {
         number
     }
 
-    /// Takes the message at `place` out of the slot.
-    fn release(&mut self, place: usize, cred: Cred, now: u64) -> Taken
-        requires there { place < length self.old.messages }
+    /// Takes the message that `sel` names out of the slot, if its text has at most `most` bytes.
+    fn release<L: Ledger>(
+        &mut self,
+        cred: Cred,
+        sel: Selector,
+        most: usize,
+        now: u64,
+        steps: &mut Steps<L>,
+    ) -> Result<Taken, NotTaken>
         requires count { self.old.freed < 2 ^ 63 }
-        ensures given { slice_get self.old.messages place ≡ Some result }
-        ensures after { self.new ≡ record {
+        ensures taken { IfOk result (λ taken. IsTaken sel most self.old.messages taken self.new.messages) }
+        ensures after { OnOk result (self.new ≡ record {
           live = option_map (received_from cred now) self.old.live;
-          messages = remove self.old.messages place;
+          messages = self.new.messages;
           arrived = self.old.arrived;
           freed = self.old.freed + 1;
-        } }
+        }) }
+        ensures refused { IfErr result (λ why. IsRefused sel most self.old.messages why) }
+        ensures unchanged { OnErr result (self.new ≡ self.old) }
+        ensures few { steps.new ≤ steps.old + digits (length self.old.messages) + 2 }
+        ensures some { 0 < length self.old.messages → steps.old < steps.new }
     {
-        let message = self.messages.remove(place);
-        self.types.remove(place);
-        self.cbytes -= message.len() as u32;
+        let message = self.messages.take(sel, most, steps)?;
         self.freed += 1;
         self.live = self.live.map(|queue| Attributes {
             lrpid: cred.pid,
             rtime: now,
             ..queue
         });
-        Taken { message }
+        Ok(Taken { message })
     }
 
     /// Accepts a message of type `mtype` whose text of `size` bytes, 0 to 8,192, the chain holds in as many
@@ -483,20 +468,64 @@ impl QueueSlot {
         ensures turn { MakesTurn self.old (Take id cred sel size noerror now) (take_reply result) self.new }
         ensures refused { OnErr result (self.new ≡ self.old) }
     {
+        self.take_uncounted::<Brand>(id, cred, sel, size, noerror, now, Blank::new(1))
+    }
+
+    /// `take`, with a counter of its own that it gives up.
+    fn take_uncounted<L: Ledger>(
+        &mut self,
+        id: i32,
+        cred: Cred,
+        sel: Selector,
+        size: u32,
+        noerror: bool,
+        now: u64,
+        blank: Blank,
+    ) -> Result<Taken, TakeRefused>
+        requires count { self.old.freed < 2 ^ 63 }
+        requires name { blank.name ≡ L.name }
+        requires parts { blank.parts ≡ L.parts }
+        requires some { 0 < blank.parts }
+        ensures turn { MakesTurn self.old (Take id cred sel size noerror now) (take_reply result) self.new }
+        ensures refused { OnErr result (self.new ≡ self.old) }
+    {
+        let mut steps = Steps::<L>::open(blank);
+        self.take_counted(id, cred, sel, size, noerror, now, &mut steps)
+    }
+
+    /// `take`, with a counter of the entries of the index that are read to find the message. For any
+    /// message, an exact type and a bound they are at most two more than the number of messages that
+    /// wait has binary digits, and at least one where a message waits. None is read where the identifier
+    /// is not live or read permission is not granted.
+    pub fn take_counted<L: Ledger>(
+        &mut self,
+        id: i32,
+        cred: Cred,
+        sel: Selector,
+        size: u32,
+        noerror: bool,
+        now: u64,
+        steps: &mut Steps<L>,
+    ) -> Result<Taken, TakeRefused>
+        requires { self.old.freed < 2 ^ 63 }
+        ensures turn { MakesTurn self.old (Take id cred sel size noerror now) (take_reply result) self.new }
+        ensures refused { OnErr result (self.new ≡ self.old) }
+        ensures few { IsFoundByFew sel → steps.new ≤ steps.old + digits (length self.old.messages) + 2 }
+        ensures some { ¬ IsBarred result → 0 < length self.old.messages → steps.old < steps.new }
+        ensures none { IsBarred result → steps.new ≡ steps.old }
+    {
         match self.enter(id, cred, Want::Read) {
             Ok(_) => {}
             Err(Barred::Gone) => return Err(TakeRefused::Gone),
             Err(Barred::Denied) => return Err(TakeRefused::Denied),
         }
-        let Some(place) = self.named(sel) else {
-            return Err(TakeRefused::NoMatch {
+        match self.release(cred, sel, most_taken(size, noerror), now, steps) {
+            Ok(taken) => Ok(taken),
+            Err(NotTaken::NoneQualifies) => Err(TakeRefused::NoMatch {
                 arrived: self.arrived,
-            });
-        };
-        if self.messages[place].len() > size as usize && !noerror {
-            return Err(TakeRefused::TooLong);
+            }),
+            Err(NotTaken::TooLong) => Err(TakeRefused::TooLong),
         }
-        Ok(self.release(place, cred, now))
     }
 
     /// Ends the slot, and gives one chain of the blocks of all that waits, in which no text lies. It takes
@@ -506,15 +535,11 @@ impl QueueSlot {
     {
         let QueueSlot {
             live: _,
-            mut messages,
-            types: _,
-            cbytes: _,
+            messages,
             arrived: _,
             freed: _,
         } = self;
-        let chain = joined(&mut messages);
-        messages.destroy_empty();
-        chain
+        messages.end()
     }
 
     /// The arrived count and the freed count, each of which only rises.
@@ -526,18 +551,17 @@ impl QueueSlot {
     }
 }
 
-/// Takes out all messages, and gives one chain of their blocks, in which no text lies.
-fn joined(messages: &mut Vec<Waiting>) -> Chain
-    ensures chain { result ≡ record { blocks = blocks_of messages.old.items; bytes = [] } }
-    ensures items { messages.new.items ≡ [] }
-    ensures len { vec_len messages.new ≡ 0 }
-    ensures capacity { vec_capacity messages.new ≡ vec_capacity messages.old }
+/// The most bytes of text that a receive of `size` bytes takes: each text that a message may have, where
+/// it may be cut.
+fn most_taken(size: u32, noerror: bool) -> usize
+    ensures whole { noerror ≡ false → result ≡ size }
+    ensures cut { noerror ≡ true → result ≡ most_bytes }
 {
-    let mut chain = Chain::empty();
-    while let Some(message) = messages.pop() {
-        chain = chain.join(message.into_chain());
+    if noerror {
+        MESSAGE_BYTES
+    } else {
+        size as usize
     }
-    chain
 }
 
 /// Whether the caller may do with this queue what the flags ask.

@@ -4,8 +4,8 @@ ghost use Rattle.sysv_queue.specs.Blocks.{chain_of};
 ghost use Rattle.sysv_queue.specs.Delivery.{Gives};
 
 use crate::delivery::Delivery;
-use crate::waiting::Waiting;
 use std::marker::Model;
+use sysv_messages::Waiting;
 use sysv_model::Body;
 use sysv_pool::Chain;
 
@@ -32,22 +32,16 @@ impl Taken {
         ensures chain { result.1 ≡ chain_of self.bytes }
     {
         let Taken { message } = self;
-        let Waiting {
-            number,
-            sender,
-            mtype,
+        let len = message.len().min(size as usize);
+        let delivery = Delivery {
+            mtype: message.mtype(),
             len,
-            chain,
-        } = message;
-        let len = len.min(size as usize);
+            sender: message.sender(),
+            number: message.number(),
+        };
+        let chain = message.into_chain();
         out.clear();
         chain.copy_out(len, out);
-        let delivery = Delivery {
-            mtype,
-            len,
-            sender,
-            number,
-        };
         (delivery, chain)
     }
 }

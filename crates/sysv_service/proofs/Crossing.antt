@@ -5,15 +5,10 @@ use denote.Param.Send.{IsSend, IsSync, AllSync, sendable}
 use denote.Struct.Field.{row_field}
 use denote.Struct.Tuple.{parts, type_at, TupleAt}
 use denote.Param.SendFields.{FieldsHave, declared_send, declared_sync, as_row_send, as_row_sync}
-use Rattle.std.proofs.Crossing.{Box-send, Box-sync, crosses}
+use Rattle.std.proofs.Crossing.{crosses}
 use Rattle.std.proofs.option.Option.TheSendSync as options
 use Rattle.sysv_gate.proofs.Crossing.{seat_send, gate_sync}
-use Rattle.sysv_model.proofs.attributes.Attributes.TheSendSync as attributes
-use Rattle.sysv_pool.proofs.blocks.Block.TheLaws.TheKnot as knot
-use Rattle.sysv_pool.specs.contracts.blocks.Block as block
-use Rattle.sysv_pool.specs.contracts.chain.Chain as chain
-use Rattle.sysv_queue.specs.contracts.waiting.Waiting as waiting
-use Rattle.sysv_queue.specs.contracts.slot.QueueSlot as slot
+use Rattle.sysv_queue.proofs.Crossing.{block_send, chain_send, queue_send, queue_sync}
 use Rattle.sysv_gated.specs.contracts.slot.GatedSlot as gated_slot
 use Rattle.sysv_gated.specs.contracts.pool.GatedPool as gated_pool
 use Rattle.sysv_gated.proofs.registry.GatedRegistry.TheSendSync as registries
@@ -25,34 +20,10 @@ use Rattle.sysv_bank.specs.contracts.seat.BankSeat as bank_seat
 use Rattle.sysv_bank.specs.contracts.bank.Bank as bank
 use Rattle.sysv_gate.specs.declared.object.Object.{Ghosts}
 
-pub block_send : IsSend block.the_row
-block_send = knot.send-Block (search sendable) (λ h s. options.the_send _ (Box-send h s))
-
-pub block_sync : IsSync block.the_row
-block_sync = knot.sync-Block (search sendable) (λ h s. options.the_sync _ (Box-sync h s))
-
 pub ruleset crossing = (sendable, crosses, options.the_send, options.the_field_send, options.the_sync, options.the_field_sync, declared_send, declared_sync, as_row_send, as_row_sync)
-
-pub chain_send : IsSend chain.the_row
-chain_send = search (crossing, block_send) depth 20
-
-pub chain_sync : IsSync chain.the_row
-chain_sync = search (crossing, block_sync) depth 20
 
 pub pool_send : IsSend gated_pool.the_row
 pool_send = search (crossing, block_send) depth 30
-
-waiting_send : IsSend waiting.the_row
-waiting_send = search (crossing, chain_send) depth 30
-
-waiting_sync : IsSync waiting.the_row
-waiting_sync = search (crossing, chain_sync) depth 30
-
-queue_send : IsSend slot.the_row
-queue_send = search (crossing, waiting_send, attributes.the_send) depth 30
-
-queue_sync : IsSync slot.the_row
-queue_sync = search (crossing, waiting_sync, attributes.the_sync) depth 30
 
 pub slot_send : IsSend gated_slot.the_row
 slot_send = search (crossing, queue_send) depth 30

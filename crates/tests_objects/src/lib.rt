@@ -6,6 +6,8 @@ mod clients;
 #[cfg(test)]
 mod index;
 #[cfg(test)]
+mod indexed;
+#[cfg(test)]
 mod keys;
 #[cfg(test)]
 mod messages;

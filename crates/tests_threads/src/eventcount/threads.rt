@@ -1,7 +1,7 @@
 //! Seats in several threads.
 ghost use Rattle.std.specs.Prelude.{◌≡◌, [], IfSome};
 ghost use Rattle.std.specs.Thread.{IsSync};
-ghost use Rattle.sysv_eventcount.specs.Numbers.{AreBetween};
+ghost use Rattle.sysv_lists.specs.Numbers.{AreBetween};
 ghost use Rattle.sysv_eventcount.specs.Drawn.{HasDrawn, BothHaveDrawn};
 
 use std::alloc::Global;

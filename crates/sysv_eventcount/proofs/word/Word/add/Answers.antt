@@ -7,15 +7,15 @@ use Rattle.sysv_eventcount.proofs.Keeping.{clears, adds, before_clearing}
 use Rattle.sysv_eventcount.proofs.word.Word.add.Goals as goal
 
 pub load-found-requires : goal.load-found-requires
-load-found-requires c = (search rules, search rules, clears _ _ _ _ c.seat.invariant.unspent)
+load-found-requires g c = (search rules, search rules, clears _ _ _ _ c.seat.invariant.unspent)
 
 pub fetch_add-number-requires : goal.fetch_add-number-requires
-fetch_add-number-requires c =
+fetch_add-number-requires g c =
     let below : nat_lt c.load-found.result (2 ^ 62) ≡ true = grind (arith, nat_tests) in
     (search rules, search rules, adds _ _ _ _ (ap (λ m. m.0.cleared) c.load-found.ensures.2.0 ∙ below))
 
 pub returns-clause-learned : goal.returns-clause-learned
-returns-clause-learned c =
+returns-clause-learned g c =
     let number = c.fetch_add-number.result in
     let load = c.load-found.ensures.2 in
     let step = c.fetch_add-number.ensures.2 in

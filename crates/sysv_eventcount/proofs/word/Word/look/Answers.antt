@@ -3,4 +3,4 @@ use Rattle.sysv_eventcount.proofs.Keeping.{looks}
 use Rattle.sysv_eventcount.proofs.word.Word.look.Goals as goal
 
 pub load-requires : goal.load-requires
-load-requires c = (search rules, search rules, looks _ _ _ _ c.seat.invariant.unspent)
+load-requires g c = (search rules, search rules, looks _ _ _ _ c.seat.invariant.unspent)

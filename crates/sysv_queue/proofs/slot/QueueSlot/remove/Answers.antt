@@ -14,4 +14,4 @@ pub returns-clause-turn : goal.returns-clause-turn
 returns-clause-turn c =
     let found = rw (to_z-of_z w32 c.args.id c.ranges.id) at c.in_ok-control.ensures.controls in
     let turn = removes_queue c.args.self.now c.args.id c.args.cred found.1 found.2 in
-    rw (c.change_to.ensures, c.joined-chain.ensures.items, ← c.self.view_is) (rw (← c.self.view_is) at turn)
+    rw (c.change_to.ensures, c.take_all-chain.ensures.none, ← c.self.view_is) (rw (← c.self.view_is) at turn)

@@ -1,4 +1,4 @@
-use Rattle.std.proofs.Common.{option_map, sym, ap, ◌∙◌, rules, w32, FitsSigned}
+use Rattle.std.proofs.Common.{option_map, sym, ap, rules, w32, FitsSigned}
 use Rattle.std.proofs.lemmas.Int.{to_z-of_z}
 use Rattle.sysv_model.specs.declared.attributes.Attributes.{Attributes}
 use Rattle.sysv_queue.specs.Shown.{row_of}
@@ -12,9 +12,8 @@ returns-in-Some c =
     let queue : Attributes = c.in-Some.queue in
     let id_fits : FitsSigned w32 queue.id = search rules in
     let key_fits : FitsSigned w32 queue.key = search rules in
-    let queue_messages = c.self.inside.messages in
-    let many = c.len.ensures ∙ queue_messages.ok.0 in
-    record { turn = rw (to_z-of_z w32 queue.id id_fits, to_z-of_z w32 queue.key key_fits, ← c.self.view_is) (turn_quiet _ _ _ (quiet_row _) (row_shown queue_messages.items c.self.inside.live queue _ _ c.in-Some.is c.self.invariant.4 many)) }
+    let messages = c.self.inside.messages in
+    record { turn = rw (to_z-of_z w32 queue.id id_fits, to_z-of_z w32 queue.key key_fits, ← c.self.view_is) (turn_quiet _ _ _ (quiet_row _) (row_shown messages c.self.inside.live queue _ _ c.in-Some.is c.bytes.ensures c.len.ensures.value)) }
 
 pub returns-in-None : goal.returns-in-None
-returns-in-None c = record { turn = rw (← c.self.view_is) (turn_quiet _ _ _ (quiet_row _) (sym (ap (option_map (row_of c.self.inside.messages.items)) c.in-None.is))) }
+returns-in-None c = record { turn = rw (← c.self.view_is) (turn_quiet _ _ _ (quiet_row _) (sym (ap (option_map (row_of c.self.inside.messages)) c.in-None.is))) }

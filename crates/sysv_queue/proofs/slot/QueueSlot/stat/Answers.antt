@@ -1,4 +1,4 @@
-use Rattle.std.proofs.Common.{◌∙◌, rules, w32, FitsSigned}
+use Rattle.std.proofs.Common.{rules, w32, FitsSigned}
 use Rattle.std.proofs.lemmas.Int.{to_z-of_z}
 use Rattle.sysv_model.specs.declared.attributes.Attributes.{Attributes}
 use Rattle.sysv_queue.proofs.Turns.{quiet_stat}
@@ -21,9 +21,8 @@ returns c =
     let queue : Attributes = c.in-Ok.queue in
     let key_fits : FitsSigned w32 queue.key = search rules in
     let found = rw (to_z-of_z w32 c.args.id c.ranges.id, ← c.self.view_is) at c.in-Ok.ensures.enters in
-    let queue_messages = c.self.inside.messages in
-    let many = c.len.ensures ∙ queue_messages.ok.0 in
+    let messages = c.self.inside.messages in
     record {
       turn = rw (to_z-of_z w32 queue.key key_fits, ← c.self.view_is) (turn_quiet _ _ _ (quiet_stat c.args.id c.args.cred _)
-          (found.1, found.2, stat_shown queue_messages.items c.self.inside.live queue _ _ found.0 c.self.invariant.4 many));
+          (found.1, found.2, stat_shown messages c.self.inside.live queue _ _ found.0 c.bytes.ensures c.len.ensures.value));
     }

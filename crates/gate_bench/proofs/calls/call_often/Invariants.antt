@@ -1,6 +1,0 @@
-use Rattle.std.proofs.Common.{◌≡◌}
-use Rattle.gate_bench.proofs.calls.call_often.Given as goal
-
--- it is a seat of the gate
-abbrev pub invariant-loop : goal.invariant-loop
-invariant-loop g l = l.seat.gate ≡ l.gate

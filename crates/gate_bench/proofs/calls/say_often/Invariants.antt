@@ -1,6 +1,0 @@
-use Rattle.std.proofs.Common.{◌≡◌}
-use Rattle.gate_bench.proofs.calls.say_often.Given as goal
-
--- it is a seat of the gate
-abbrev pub invariant-loop-round : goal.invariant-loop-round
-invariant-loop-round g l = l.seat.gate ≡ l.gate

@@ -1,7 +1,0 @@
-use Rattle.std.proofs.Common.{◌≡◌}
-use Rattle.std.specs.List.{All}
-use Rattle.gate_bench.proofs.calls.split_all.Given as goal
-
--- they are seats of the gate
-abbrev pub invariant-loop-task : goal.invariant-loop-task
-invariant-loop-task l = record { seat : l.seat.gate ≡ l.gate; members : All (λ m. m.seat.gate ≡ l.gate) l.members.items }

@@ -1,8 +1,0 @@
-use Rattle.std.proofs.Common.{◌≡◌}
-use Rattle.std.specs.List.{All}
-use Rattle.sysv_bank.specs.Banks.{gates_of}
-use Rattle.gate_bench.proofs.places.split_all.Given as goal
-
--- they are seats of the bank
-abbrev pub invariant-loop : goal.invariant-loop
-invariant-loop l = record { seat : gates_of l.seat ≡ l.bank; seats : All (λ s. gates_of s ≡ l.bank) l.seats.items }

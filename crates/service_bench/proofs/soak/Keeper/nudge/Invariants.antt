@@ -1,6 +1,0 @@
-use Rattle.sysv_gated.specs.Seats.{AreOf}
-use Rattle.service_bench.proofs.soak.Keeper.nudge.Given as goal
-
--- it is a pass of the service
-abbrev pub invariant-loop-key : goal.invariant-loop-key
-invariant-loop-key g l = AreOf l.service l.pass.seats

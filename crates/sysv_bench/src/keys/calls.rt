@@ -1,0 +1,57 @@
+//! Queues that are made, settled and forgotten repeatedly.
+use crate::figures::{show, show_ratio};
+use crate::watch::{Time, Watch};
+use std::alloc::Global;
+use std::io;
+use std::time::{Clock, CpuClock};
+use sysv_keys::{Begun, Registry};
+use sysv_model::Flags;
+
+/// How often a queue comes and goes, the first time; then ten times as often.
+const TIMES: u64 = 1_000_000;
+
+/// The key of those queues.
+const KEY: i32 = 7;
+
+/// The flags of a call that makes a queue.
+pub(crate) const CREATING: Flags = Flags::IPC_CREAT;
+
+// Makes, settles and forgets the queue of a key.
+fn come_and_go(registry: &mut Registry, key: i32) {
+    if let Begun::Made { id } = registry.begin(key, CREATING) {
+        registry.settle(id);
+        registry.forget(id);
+    }
+}
+
+fn come_and_go_often<R: Clock + CpuClock>(
+    rt: &R,
+    registry: &mut Registry,
+    key: i32,
+    times: u64,
+) -> Option<u64> {
+    let watch = Watch::start(rt, Time::Processor)?;
+    for _ in 0..times {
+        come_and_go(registry, key);
+    }
+    watch.nanos(rt)
+}
+
+fn time_of<R: Clock + CpuClock>(rt: &R, alloc: Global, key: i32, times: u64) -> Option<u64> {
+    let Ok(mut registry) = Registry::open(alloc) else {
+        return None;
+    };
+    come_and_go_often(rt, &mut registry, key, times)
+}
+
+/// Prints what a queue that comes and goes takes, and the ratio of ten times as many.
+pub(crate) fn measure<R: Clock + CpuClock + Print>(rt: &R, alloc: Global) -> io::Result<()> {
+    for (what, key) in [("a key", KEY), ("a private key", 0)] {
+        let once = time_of(rt, alloc, key, TIMES);
+        let often = time_of(rt, alloc, key, 10 * TIMES);
+        show(rt, what, "made, settled and forgotten", once, TIMES, "ns")?;
+        let how = "ten times as often";
+        show_ratio(rt, what, how, often, once, "times as long")?;
+    }
+    Ok(())
+}

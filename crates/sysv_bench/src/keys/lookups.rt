@@ -1,0 +1,88 @@
+//! A key that is found, among one and among 64.
+use crate::figures::{show, show_ratio};
+use crate::keys::calls::CREATING;
+use crate::watch::{Time, Watch};
+use std::alloc::Global;
+use std::io;
+use std::time::{Clock, CpuClock};
+use sysv_keys::{Begun, Registry};
+
+/// How often a key is looked up.
+const TIMES: u64 = 10_000_000;
+
+/// The most keys that have a row.
+const MOST: i32 = 64;
+
+/// How often the two are measured in turn.
+const REPEATS: u32 = 3;
+
+// Gives each key a row. Returns whether all got one.
+fn fill(registry: &mut Registry, keys: i32) -> bool {
+    for key in 0..keys {
+        let Begun::Made { id } = registry.begin(key.wrapping_mul(7919).wrapping_add(1), CREATING)
+        else {
+            return false;
+        };
+        registry.settle(id);
+    }
+    true
+}
+
+// Looks the keys up in turn. Returns `None` if one was not found.
+fn look_up<R: Clock + CpuClock>(
+    rt: &R,
+    registry: &mut Registry,
+    keys: i32,
+    times: u64,
+) -> Option<u64> {
+    let watch = Watch::start(rt, Time::Processor)?;
+    let mut found: u64 = 0;
+    let mut key: i32 = 0;
+    for _ in 0..times {
+        key = if key.wrapping_add(1) < keys {
+            key.wrapping_add(1)
+        } else {
+            0
+        };
+        if let Begun::Found { .. } = registry.begin(
+            key.wrapping_mul(7919).wrapping_add(1),
+            CREATING,
+        ) {
+            found = found.wrapping_add(1);
+        }
+    }
+    if found == times {
+        watch.nanos(rt)
+    } else {
+        None
+    }
+}
+
+/// Returns the nanoseconds of `times` look-ups among `keys` keys.
+pub(crate) fn time_among<R: Clock + CpuClock>(
+    rt: &R,
+    alloc: Global,
+    keys: i32,
+    times: u64,
+) -> Option<u64> {
+    let Ok(mut registry) = Registry::open(alloc) else {
+        return None;
+    };
+    if !fill(&mut registry, keys) {
+        return None;
+    }
+    look_up(rt, &mut registry, keys, times)
+}
+
+/// Prints what a look-up takes among one key and among all, and the ratio.
+pub(crate) fn measure<R: Clock + CpuClock + Print>(rt: &R, alloc: Global) -> io::Result<()> {
+    for _ in 0..REPEATS {
+        let one = time_among(rt, alloc, 1, TIMES);
+        let all = time_among(rt, alloc, MOST, TIMES);
+        show(rt, "a look-up", "among 1 key", one, TIMES, "ns")?;
+        show(rt, "a look-up", "among 64 keys", all, TIMES, "ns")?;
+        let how = "among 64 keys beside 1";
+        show_ratio(rt, "a look-up", how, all, one, "times as long")?;
+    }
+    Ok(())
+}

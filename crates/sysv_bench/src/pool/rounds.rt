@@ -1,0 +1,90 @@
+//! What is measured, and how long many rounds of it take.
+use crate::watch::{Time, Watch};
+use std::alloc::Global;
+use std::time::{Clock, CpuClock};
+use sysv_model::{Body, MESSAGE_BYTES, WORN};
+use sysv_pool::Pool;
+
+/// Reserves a chain, fills it with the text, copies it out and releases it. Returns `false` if one
+/// of these was refused.
+fn chain_round(pool: &mut Pool, text: &Body, out: &mut Body) -> bool {
+    let len = text.len();
+    let released = pool.released();
+    if len > MESSAGE_BYTES || released >= WORN {
+        return false;
+    }
+    let Some(mut chain) = pool.reserve(len) else {
+        return false;
+    };
+    chain.fill(text);
+    out.clear();
+    chain.copy_out(len, out);
+    match pool.release(chain) {
+        Ok(()) => true,
+        Err(chain) => chain.end() == 0,
+    }
+}
+
+/// Allocates a vector, fills it with the text, copies it out and drops it. Returns `false` if
+/// memory was refused.
+fn vec_round(alloc: Global, text: &[u8], out: &mut Body) -> bool {
+    let Ok(mut bytes) = Vec::with_capacity(alloc, text.len()) else {
+        return false;
+    };
+    if bytes.extend_from_slice(text).is_err() {
+        return false;
+    }
+    out.clear();
+    out.push_piece(&bytes)
+}
+
+/// Returns the nanoseconds of all rounds with chains.
+pub(crate) fn time_of_chains<R: Clock + CpuClock>(
+    rt: &R,
+    pool: &mut Pool,
+    text: &Body,
+    out: &mut Body,
+    rounds: u64,
+) -> Option<u64> {
+    let watch = Watch::start(rt, Time::Passed)?;
+    for _ in 0..rounds {
+        if !chain_round(pool, text, out) {
+            return None;
+        }
+    }
+    watch.nanos(rt)
+}
+
+/// Returns the nanoseconds of all rounds with vectors.
+pub(crate) fn time_of_vecs<R: Clock + CpuClock>(
+    rt: &R,
+    alloc: Global,
+    text: &[u8],
+    out: &mut Body,
+    rounds: u64,
+) -> Option<u64> {
+    let watch = Watch::start(rt, Time::Passed)?;
+    for _ in 0..rounds {
+        if !vec_round(alloc, text, out) {
+            return None;
+        }
+    }
+    watch.nanos(rt)
+}
+
+/// Returns the nanoseconds of all rounds of a plain copy.
+pub(crate) fn time_of_copies<R: Clock + CpuClock>(
+    rt: &R,
+    text: &[u8],
+    out: &mut Body,
+    rounds: u64,
+) -> Option<u64> {
+    let watch = Watch::start(rt, Time::Passed)?;
+    for _ in 0..rounds {
+        out.clear();
+        if !out.push_piece(text) {
+            return None;
+        }
+    }
+    watch.nanos(rt)
+}

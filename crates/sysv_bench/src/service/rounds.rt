@@ -1,0 +1,41 @@
+//! A ping-pong.
+ghost use Rattle.sysv_gated.specs.Seats.{AreOf};
+
+use crate::service::pairs::{receive, send};
+use std::sync::Wait;
+use sysv_model::Body;
+use sysv_service::{Pass, Service};
+
+/// One side of a ping-pong over two queues.
+#[derive(Drop)]
+pub(crate) struct Player {
+    /// Whether it begins.
+    pub(crate) serves: bool,
+    pub(crate) hears: i32,
+    pub(crate) says: i32,
+    pub(crate) times: u64,
+    pub(crate) text: Body,
+    pub(crate) out: Body,
+    /// How many rounds it finished.
+    pub(crate) done: u64,
+}
+
+impl Player {
+    pub(crate) fn act(&mut self, rt: &impl Wait, service: &Service, pass: &mut Pass)
+        requires { AreOf service.now pass.old.seats }
+        ensures { AreOf service.now pass.new.seats }
+    {
+        if self.serves {
+            send(rt, service, pass, self.says, &self.text);
+        }
+        for _ in 0..self.times {
+            if !receive(rt, service, pass, self.hears, &mut self.out) {
+                return;
+            }
+            self.done = self.done.saturating_add(1);
+            if !(self.serves && self.done == self.times) {
+                send(rt, service, pass, self.says, &self.text);
+            }
+        }
+    }
+}

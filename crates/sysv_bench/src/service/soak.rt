@@ -1,0 +1,353 @@
+//! Random calls of eight threads on twenty queues, with a count of the messages.
+ghost use Rattle.std.specs.Prelude.{◌≡◌, ◌<◌};
+ghost use Rattle.sysv_gated.specs.Seats.{AreOf};
+
+use crate::caller::{Still, USER};
+use crate::service::crew::{Left, run};
+use crate::service::part::Part;
+use crate::service::tallies::Tallies;
+use bitflags::Flags as _;
+use std::alloc::Global;
+use std::io;
+use std::sync::Wait;
+use std::thread::{Threads, sleep};
+use std::time::{Clock, CpuClock, Duration};
+use sysv_model::{Body, Cred, Flags, SetTo};
+use sysv_queue::Tally;
+use sysv_service::{Pass, Service};
+
+/// Keys from 1 on; those up to `KEPT` are never removed before the end.
+const KEYS: i32 = 20;
+
+const KEPT: i32 = 10;
+
+const SOAKERS: u64 = 8;
+
+const BLOCKS: u32 = 1024;
+
+/// How often all queues are emptied at most, so that the soak ends even if a message was lost.
+const DRAINS: u32 = 1_000_000;
+
+/// What follows the number in a payload.
+const PADDING: [u8; 200] = [b'x'; 200];
+
+const ROOT: Cred = Cred {
+    uid: 0,
+    gid: 0,
+    pid: 1,
+};
+
+/// A thread that calls at random, and what it counted.
+#[derive(Drop)]
+pub(crate) struct Soaker<'a> {
+    tallies: &'a Tallies,
+    sender: u8,
+    random: u64,
+    /// The number of its next message.
+    next: u64,
+    received: u64,
+    removed: u64,
+    text: Body,
+    out: Body,
+}
+
+impl<'a> Soaker<'a> {
+    fn open(alloc: Global, tallies: &'a Tallies, sender: u8) -> Option<Soaker<'a>> {
+        Some(Soaker {
+            tallies,
+            sender,
+            random: u64::from(sender),
+            next: 0,
+            received: 0,
+            removed: 0,
+            text: Body::open(alloc).ok()?,
+            out: Body::open(alloc).ok()?,
+        })
+    }
+
+    /// A number below `end`.
+    fn below(&mut self, end: u64) -> u64
+        requires { 0 < end }
+        ensures { result < end }
+    {
+        self.random = self
+            .random
+            .wrapping_mul(6_364_136_223_846_793_005)
+            .wrapping_add(1_442_695_040_888_963_407);
+        (self.random >> 33) % end
+    }
+
+    pub(crate) fn act(&mut self, rt: &impl Wait, service: &Service, pass: &mut Pass)
+        requires { AreOf service.now pass.old.seats }
+        ensures { AreOf service.now pass.new.seats }
+    {
+        for _ in 0..u64::MAX {
+            if self.tallies.is_over() {
+                break;
+            }
+            let key = 1 + self.below(20) as i32;
+            self.call(rt, service, pass, key);
+        }
+        self.tallies.finish();
+    }
+
+    /// Makes a call at the queue of this key.
+    fn call(&mut self, rt: &impl Wait, service: &Service, pass: &mut Pass, key: i32)
+        requires { AreOf service.now pass.old.seats }
+        ensures { AreOf service.now pass.new.seats }
+    {
+        let Some(id) = id_of(rt, service, pass, key) else {
+            return;
+        };
+        let nowait = self.below(16) > 0;
+        match self.below(32) {
+            0..=14 => self.send(rt, service, pass, key, id, nowait),
+            15..=29 => self.receive(rt, service, pass, key, id, nowait),
+            30 => self.set(rt, service, pass, id),
+            _ => self.remove(rt, service, pass, key, id),
+        }
+    }
+
+    /// Sends a message that names its sender and has a number.
+    fn send(
+        &mut self,
+        rt: &impl Wait,
+        service: &Service,
+        pass: &mut Pass,
+        key: i32,
+        id: i32,
+        nowait: bool,
+    )
+        requires { AreOf service.now pass.old.seats }
+        ensures { AreOf service.now pass.new.seats }
+    {
+        let size = self.below(200) as usize;
+        let mtype = 1 + self.below(3) as i64;
+        self.text.clear();
+        self.text.push_piece(&[self.sender]);
+        self.text.push_piece(&self.next.to_be_bytes());
+        self.text.push_piece(&PADDING[..size]);
+        let kept = key <= KEPT;
+        if !self.tallies.begin_send(kept) {
+            return;
+        }
+        let text = &self.text;
+        let flags = flags_of(nowait);
+        let sent = service.msgsnd(rt, pass, &Still, USER, id, mtype, text, flags);
+        if sent.is_ok() {
+            self.next = self.next.saturating_add(1);
+        } else {
+            self.tallies.withdraw(kept);
+        }
+    }
+
+    /// Receives a message of any type, of a type, or of a type at most that.
+    fn receive(
+        &mut self,
+        rt: &impl Wait,
+        service: &Service,
+        pass: &mut Pass,
+        key: i32,
+        id: i32,
+        nowait: bool,
+    )
+        requires { AreOf service.now pass.old.seats }
+        ensures { AreOf service.now pass.new.seats }
+    {
+        let mtype = self.below(7) as i64 - 3;
+        let flags = flags_of(nowait);
+        let given = service.msgrcv(
+            rt,
+            pass,
+            &Still,
+            USER,
+            id,
+            &mut self.out,
+            8192,
+            mtype,
+            flags,
+        );
+        let Ok(delivery) = given else {
+            return;
+        };
+        delivery.written(&mut Tally::open());
+        self.received = self.received.saturating_add(1);
+        self.tallies.count(&self.out, key <= KEPT);
+    }
+
+    /// Sets a limit into which each message fits.
+    fn set(&mut self, rt: &impl Wait, service: &Service, pass: &mut Pass, id: i32)
+        requires { AreOf service.now pass.old.seats }
+        ensures { AreOf service.now pass.new.seats }
+    {
+        let to = SetTo {
+            uid: 1000,
+            gid: 1000,
+            mode: 0o600,
+            qbytes: 256 + self.below(16_000) as u32,
+        };
+        let _ = service.msgctl_set(rt, pass, &Still, ROOT, id, to);
+    }
+
+    /// Removes the queue, if its key is not kept.
+    fn remove(&mut self, rt: &impl Wait, service: &Service, pass: &mut Pass, key: i32, id: i32)
+        requires { AreOf service.now pass.old.seats }
+        ensures { AreOf service.now pass.new.seats }
+    {
+        if key > KEPT && service.msgctl_rmid(rt, pass, USER, id).is_ok() {
+            self.removed = self.removed.saturating_add(1);
+        }
+    }
+}
+
+fn flags_of(nowait: bool) -> Flags {
+    if nowait {
+        Flags::IPC_NOWAIT
+    } else {
+        Flags::from_bits_retain(0)
+    }
+}
+
+/// The identifier of the queue of this key, which is created if there is none.
+fn id_of(rt: &impl Wait, service: &Service, pass: &mut Pass, key: i32) -> Option<i32>
+    requires { AreOf service.now pass.old.seats }
+    ensures { AreOf service.now pass.new.seats }
+{
+    let flags = Flags::from_bits_retain(512 + 0o600);
+    service.msgget(rt, pass, &Still, USER, key, flags).ok()
+}
+
+/// The thread that ends the others. Until then it sends to each queue and receives from it now and
+/// then, so that not all wait.
+#[derive(Drop)]
+pub(crate) struct Keeper<'a> {
+    soaker: Soaker<'a>,
+    /// How many milliseconds the others have.
+    millis: u64,
+}
+
+impl Keeper<'_> {
+    pub(crate) fn act<R: Wait + Clock>(&mut self, rt: &R, service: &Service, pass: &mut Pass)
+        requires { AreOf service.now pass.old.seats }
+        ensures { AreOf service.now pass.new.seats }
+    {
+        for _ in 0..self.millis {
+            sleep(rt, Duration::from_millis(1));
+            self.nudge(rt, service, pass);
+        }
+        self.soaker.tallies.end();
+        self.drain(rt, service, pass);
+        self.stop(rt, service, pass);
+    }
+
+    /// Receives a message from each queue and sends one to it, without waiting.
+    fn nudge(&mut self, rt: &impl Wait, service: &Service, pass: &mut Pass)
+        requires { AreOf service.now pass.old.seats }
+        ensures { AreOf service.now pass.new.seats }
+    {
+        for key in 1..=KEYS {
+            if let Some(id) = id_of(rt, service, pass, key) {
+                self.soaker.receive(rt, service, pass, key, id, true);
+                self.soaker.send(rt, service, pass, key, id, true);
+            }
+        }
+    }
+
+    /// Receives until all messages of the queues that are kept were received.
+    fn drain(&mut self, rt: &impl Wait, service: &Service, pass: &mut Pass)
+        requires { AreOf service.now pass.old.seats }
+        ensures { AreOf service.now pass.new.seats }
+    {
+        for _ in 0..DRAINS {
+            if self.soaker.tallies.is_drained() {
+                break;
+            }
+            self.receive_from_all(rt, service, pass);
+        }
+    }
+
+    /// Receives a message from each queue, without waiting.
+    fn receive_from_all(&mut self, rt: &impl Wait, service: &Service, pass: &mut Pass)
+        requires { AreOf service.now pass.old.seats }
+        ensures { AreOf service.now pass.new.seats }
+    {
+        for key in 1..=KEYS {
+            if let Some(id) = id_of(rt, service, pass, key) {
+                self.soaker.receive(rt, service, pass, key, id, true);
+            }
+        }
+    }
+
+    /// Stops the service until all the others have ended.
+    fn stop<R: Wait + Clock>(&mut self, rt: &R, service: &Service, pass: &mut Pass)
+        requires { AreOf service.now pass.old.seats }
+        ensures { AreOf service.now pass.new.seats }
+    {
+        for _ in 0..u64::MAX {
+            let _ = service.stop(rt, pass);
+            if self.soaker.tallies.finished() >= SOAKERS {
+                break;
+            }
+            sleep(rt, Duration::from_millis(1));
+        }
+    }
+}
+
+/// Eight threads, and the one that ends them.
+fn all_of<'a>(alloc: Global, tallies: &'a Tallies, seconds: u64) -> Option<Vec<Part<'a>>> {
+    let mut parts = Vec::new(alloc);
+    for sender in 0..SOAKERS as u8 {
+        let soaker = Soaker::open(alloc, tallies, sender)?;
+        parts.push(Part::Soaks(soaker)).ok()?;
+    }
+    let soaker = Soaker::open(alloc, tallies, SOAKERS as u8)?;
+    let millis = seconds.saturating_mul(1000);
+    parts.push(Part::Keeps(Keeper { soaker, millis })).ok()?;
+    Some(parts)
+}
+
+/// How many messages were sent and received, and how many queues were removed.
+fn sums(parts: &[Part]) -> (u64, u64, u64) {
+    let (mut sent, mut received, mut removed): (u64, u64, u64) = (0, 0, 0);
+    for part in parts {
+        let soaker = match part {
+            Part::Soaks(soaker) => soaker,
+            Part::Keeps(keeper) => &keeper.soaker,
+            _ => continue,
+        };
+        sent = sent.saturating_add(soaker.next);
+        received = received.saturating_add(soaker.received);
+        removed = removed.saturating_add(soaker.removed);
+    }
+    (sent, received, removed)
+}
+
+fn show_left(rt: &impl Print, left: &Left, tallies: &Tallies) -> io::Result<()> {
+    let (sent, received, removed) = sums(&left.parts);
+    let (kept, lost, doubled) = tallies.told();
+    let closed = left.closed;
+    println!(rt; "soak: {sent} sent, {received} received, {removed} queues removed")?;
+    println!(rt; "soak: {kept} through the queues that were kept, {lost} lost, {doubled} doubled")?;
+    println!(rt;
+        "soak: waiting {}, free {} of {BLOCKS}, held {}",
+        closed.waiting, closed.free, closed.held
+    )
+}
+
+/// Has the threads call for `seconds` seconds, and prints what became of the messages.
+pub(crate) fn soak<R: Threads + Wait + Clock + CpuClock + Print + Sync>(
+    rt: &R,
+    alloc: Global,
+    seconds: u64,
+) -> io::Result<()> {
+    let Some(tallies) = Tallies::open(alloc) else {
+        return println!(rt; "soak: no memory");
+    };
+    let Some(parts) = all_of(alloc, &tallies, seconds) else {
+        return println!(rt; "soak: no memory");
+    };
+    let Some(left) = run(rt, alloc, BLOCKS, KEYS, parts) else {
+        return println!(rt; "soak: no memory");
+    };
+    show_left(rt, &left, &tallies)
+}

@@ -1,0 +1,126 @@
+//! What the threads of a soak count together.
+
+use std::alloc::Global;
+use std::sync::atomic::Ordering::SeqCst;
+use std::sync::atomic::{AtomicBool, AtomicU64};
+use sysv_model::Body;
+
+/// How many messages of each sender are told apart.
+const NUMBERS: u64 = 1 << 24;
+
+/// The eight threads, and the one that ends them.
+const SENDERS: u64 = 9;
+
+/// The counts.
+#[derive(Drop)]
+pub(crate) struct Tallies {
+    over: AtomicBool,
+    /// The threads that ended.
+    finished: AtomicU64,
+    /// The messages that were sent, or are being sent, to queues that are kept.
+    sent: AtomicU64,
+    /// The messages that were received from queues that are kept.
+    received: AtomicU64,
+    /// The messages that came a second time, or were never sent.
+    doubled: AtomicU64,
+    /// A bit for each message of each sender that was received.
+    seen: Vec<AtomicU64>,
+}
+
+impl Tallies {
+    pub(crate) fn open(alloc: Global) -> Option<Tallies> {
+        let mut seen = Vec::new(alloc);
+        for _ in 0..SENDERS * NUMBERS / 64 {
+            seen.push(AtomicU64::new(0)).ok()?;
+        }
+        Some(Tallies {
+            over: AtomicBool::new(false),
+            finished: AtomicU64::new(0),
+            sent: AtomicU64::new(0),
+            received: AtomicU64::new(0),
+            doubled: AtomicU64::new(0),
+            seen,
+        })
+    }
+
+    pub(crate) fn is_over(&self) -> bool {
+        self.over.load(SeqCst)
+    }
+
+    /// Requests that all threads end.
+    pub(crate) fn end(&self) {
+        self.over.store(true, SeqCst);
+    }
+
+    /// Notes that a thread has ended.
+    pub(crate) fn finish(&self) {
+        self.finished.fetch_add(1, SeqCst);
+    }
+
+    pub(crate) fn finished(&self) -> u64 {
+        self.finished.load(SeqCst)
+    }
+
+    /// Counts a message that is about to be sent. Returns `false` and counts nothing once the
+    /// threads are to end.
+    pub(crate) fn begin_send(&self, kept: bool) -> bool {
+        if kept {
+            self.sent.fetch_add(1, SeqCst);
+        }
+        if self.is_over() {
+            self.withdraw(kept);
+            return false;
+        }
+        true
+    }
+
+    /// Takes back the count of a message that was not sent.
+    pub(crate) fn withdraw(&self, kept: bool) {
+        if kept {
+            self.sent.fetch_sub(1, SeqCst);
+        }
+    }
+
+    /// Counts a message that was received.
+    pub(crate) fn count(&self, text: &Body, kept: bool) {
+        if kept {
+            self.received.fetch_add(1, SeqCst);
+        }
+        if !self.is_first(text) {
+            self.doubled.fetch_add(1, SeqCst);
+        }
+    }
+
+    /// Whether the message is one that was sent, and comes for the first time.
+    fn is_first(&self, text: &Body) -> bool {
+        let [sender, number @ ..] = text.block(0) else {
+            return false;
+        };
+        let Some(number) = number.first_chunk::<8>() else {
+            return false;
+        };
+        let number = u64::from_be_bytes(*number);
+        if number >= NUMBERS {
+            return true;
+        }
+        let place = (u64::from(*sender) * NUMBERS + number) / 64;
+        let bit = 1 << (number % 64);
+        match self.seen.get(place as usize) {
+            Some(word) => word.fetch_or(bit, SeqCst) & bit == 0,
+            None => false,
+        }
+    }
+
+    /// Whether all messages of the queues that are kept were received.
+    pub(crate) fn is_drained(&self) -> bool {
+        self.sent.load(SeqCst) == self.received.load(SeqCst)
+    }
+
+    /// The messages of the queues that are kept, how many of them were lost, and how many came
+    /// twice.
+    pub(crate) fn told(&self) -> (u64, u64, u64) {
+        let sent = self.sent.load(SeqCst);
+        let lost = sent.saturating_sub(self.received.load(SeqCst));
+        (sent, lost, self.doubled.load(SeqCst))
+    }
+}

@@ -1,0 +1,61 @@
+//! A session over memory beside the calls that it makes: a msgsnd and a msgrcv of 64 bytes in turn,
+//! by one pass of a service.
+mod frames;
+
+use crate::caller::Still;
+use crate::figures::{show, show_ratio};
+use crate::service::time_of_pairs;
+use crate::watch::{Time, Watch};
+use frames::{Replies, Requests};
+use std::alloc::Global;
+use std::io;
+use std::sync::Wait;
+use std::thread::Threads;
+use std::time::{Clock, CpuClock};
+use sysv_kernel::ServiceKernel;
+use sysv_service::Service;
+use sysv_session::End;
+
+/// How many pairs are measured.
+const PAIRS: u32 = 1_000_000;
+
+/// Prints what a pair takes as two calls and by a session.
+pub(crate) fn measure<R: Threads + Wait + Clock + CpuClock + Print + Sync>(
+    rt: &R,
+    alloc: Global,
+) -> io::Result<()> {
+    let what = "a msgsnd and a msgrcv of 64 bytes";
+    let pairs = u64::from(PAIRS);
+    let calls = time_of_pairs(rt, alloc, 1, 64, pairs);
+    let session = time_of_session(rt, alloc, PAIRS);
+    show(rt, what, "calls", calls, pairs, "ns")?;
+    show(rt, what, "session", session, pairs, "ns")?;
+    let what = "a session's time";
+    let how = "by that of its calls";
+    show_ratio(rt, what, how, session, calls, "(goal: at most 2)")
+}
+
+/// Returns the nanoseconds of a session with a few pairs.
+pub(crate) fn once<R: Wait + Clock + CpuClock>(rt: &R, alloc: Global) -> Option<u64> {
+    time_of_session(rt, alloc, 10)
+}
+
+/// Returns the nanoseconds of a session with this number of pairs.
+fn time_of_session<R: Wait + Clock + CpuClock>(rt: &R, alloc: Global, pairs: u32) -> Option<u64> {
+    let Ok((service, pass)) = Service::open(alloc, 1024) else {
+        return None;
+    };
+    let mut kernel = ServiceKernel::new(rt, &service, &Still, pass);
+    let mut reader = Requests::new(pairs);
+    let mut writer = Replies::default();
+    let watch = Watch::start(rt, Time::Passed);
+    let served = kernel.serve(alloc, &mut reader, &mut writer);
+    let nanos = watch.and_then(|watch| watch.nanos(rt));
+    let pass = kernel.into_pass();
+    service.close(pass);
+    if served.end == End::Ended && served.tally.written() == u64::from(pairs) {
+        nanos
+    } else {
+        None
+    }
+}

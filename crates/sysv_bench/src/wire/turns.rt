@@ -1,0 +1,59 @@
+//! A send of 64 bytes is read and its reply is written, over memory.
+use crate::watch::{Time, Watch};
+use std::alloc::Global;
+use std::io;
+use std::io::Write;
+use std::time::{Clock, CpuClock};
+use sysv_model::{Body, Watched};
+use sysv_wire::{Op, Outcome, Reply, read_request, write_reply};
+
+/// The head and the fields of a send of 64 bytes.
+const HEAD: [u8; 22] = [
+    0, 0, 0, 82, 1, 2, 0, 0, 0, 0, 0, 0, 0, 0, 0, 0, 0, 5, 0, 0, 0, 0,
+];
+
+/// Accepts what is written to it, over what was there before.
+#[derive(Drop)]
+struct Slate {
+    bytes: [u8; 128],
+}
+
+impl Write for Slate {
+    fn write(&mut self, buf: &[u8]) -> io::Result<usize> {
+        let count = buf.len().min(128);
+        self.bytes[..count].copy_from_slice(&buf[..count]);
+        Ok(count)
+    }
+
+    fn flush(&mut self) -> io::Result<()> {
+        Ok(())
+    }
+}
+
+/// Returns the nanoseconds of all turns.
+pub(crate) fn time_of_turns<R: Clock + CpuClock>(rt: &R, alloc: Global, times: u64) -> Option<u64> {
+    let mut frame = [b'x'; 86];
+    frame[..22].copy_from_slice(&HEAD);
+    let mut text = Body::open(alloc).ok()?;
+    let mut slate = Slate { bytes: [0; 128] };
+    let watch = Watch::start(rt, Time::Passed)?;
+    for _ in 0..times {
+        if !turn(&frame, &mut text, &mut slate) {
+            return None;
+        }
+    }
+    watch.nanos(rt)
+}
+
+/// Reads the send and writes its reply. Returns whether both were done.
+fn turn(frame: &[u8], text: &mut Body, slate: &mut Slate) -> bool {
+    let mut input = frame;
+    let Ok(Some(_)) = read_request(&mut Watched::new(&mut input), text) else {
+        return false;
+    };
+    let reply = Reply {
+        op: Op::Snd.number(),
+        result: Outcome::Snd,
+    };
+    text.len() == 64 && write_reply(&mut Watched::new(slate), &reply, text).is_ok()
+}

@@ -1,7 +1,0 @@
-use Rattle.std.proofs.Common.{◌≡◌, ◌≤◌}
-use Rattle.sysv_eventcount.specs.Counter.{saw}
-use Rattle.sysv_eventcount.proofs.eventcount.Eventcount.await_at_least.Given as goal
-
--- the seat has seen more, and is else what it was
-abbrev pub invariant-loop : goal.invariant-loop
-invariant-loop g l = record { seat : l.seat ≡ saw l.seat.seen l.fn.seat; later : l.fn.seat.seen ≤ l.seat.seen }
