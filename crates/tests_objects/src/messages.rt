@@ -139,7 +139,7 @@ fn assert_receives(
 }
 
 /// So many messages wait, with so many bytes.
-fn assert_waiting(rt: &impl Abort, desk: &Desk, waiting: (usize, usize)) {
+fn assert_waiting(rt: &impl Abort, desk: &Desk, waiting: (usize, u32)) {
     assert_eq!(rt; (desk.messages.len(), desk.messages.bytes()), waiting);
 }
 
