@@ -4,7 +4,7 @@
 ghost use Rattle.std.specs.Prelude.{◌≡◌, ◌+◌, ◌<◌, ◌≤◌, length};
 ghost use Rattle.sysv_model.specs.declared.limits.TheConstants.{QUEUE_MESSAGES};
 
-use crate::parts::type_of_number;
+use crate::parts::{room, type_of_number};
 use std::alloc::Global;
 use std::marker::Brand;
 use std::process::Abort;
@@ -57,14 +57,6 @@ fn select_by_few<L: Ledger>(index: &Index, sel: Selector, steps: &mut Steps<L>) 
     ensures { steps.new ≤ steps.old + 11 }
 {
     index.select(sel, steps)
-}
-
-/// A list with room for all that an index may hold. Memory is refused once at most.
-fn room<T: Drop>(rt: &impl Abort, alloc: Global) -> Vec<T> {
-    match Vec::with_capacity(alloc, QUEUE_MESSAGES) {
-        Ok(list) => list,
-        Err(_) => Vec::with_capacity(alloc, QUEUE_MESSAGES).expect(rt, "a second try"),
-    }
 }
 
 /// The entries in the order in which they were pushed, and a list for their types.

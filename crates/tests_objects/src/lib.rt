@@ -6,8 +6,6 @@ mod clients;
 #[cfg(test)]
 mod index;
 #[cfg(test)]
-mod indexed;
-#[cfg(test)]
 mod keys;
 #[cfg(test)]
 mod messages;

@@ -4,7 +4,7 @@ ghost use Rattle.std.specs.Prelude.{◌<◌};
 use std::alloc::Global;
 use std::fmt::Debug;
 use std::process::Abort;
-use sysv_model::Body;
+use sysv_model::{Body, QUEUE_MESSAGES};
 use sysv_pool::{Chain, Pool};
 
 /// The test fails if what was found is not what is wanted.
@@ -38,6 +38,14 @@ pub(crate) fn assert_holds(rt: &impl Abort, body: &Body, text: &[u8]) {
     for (i, byte) in text.iter().enumerate() {
         assert!(rt; i < body.len());
         assert_eq!(rt; body.byte(i), *byte, "at {i}");
+    }
+}
+
+/// A list with room for all that a queue may hold. Memory is refused once at most.
+pub(crate) fn room<T: Drop>(rt: &impl Abort, alloc: Global) -> Vec<T> {
+    match Vec::with_capacity(alloc, QUEUE_MESSAGES) {
+        Ok(list) => list,
+        Err(_) => Vec::with_capacity(alloc, QUEUE_MESSAGES).expect(rt, "a second try"),
     }
 }
 

@@ -2,6 +2,7 @@
 //! refusals in their order.
 
 mod control;
+mod indexed;
 
 use crate::parts::{assert_holds, give_back, open_body, open_pool};
 use bitflags::Flags as _;

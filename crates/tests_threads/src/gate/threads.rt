@@ -1,13 +1,12 @@
 //! Seats in several threads.
-ghost use Rattle.std.specs.Prelude.{◌≡◌, IfSome};
-ghost use Rattle.std.specs.Thread.{IsSync};
+ghost use Rattle.std.specs.Prelude.{◌≡◌};
 
 use super::opened;
 use crate::parts::LIMIT;
 use crate::sum::Sum;
 use std::sync::Wait;
 use std::test::Fail;
-use std::thread::{Threads, join};
+use std::thread::{Threads, for_each_mut, join};
 use std::time::{Clock, CpuClock, Duration};
 use std::{hint, thread};
 use sysv_gate::{Awaited, Gate, Object, Seat};
@@ -15,84 +14,116 @@ use sysv_gate::{Awaited, Gate, Object, Seat};
 /// What each of the threads does so many times.
 const TIMES: u64 = 10_000;
 
-// Calls over and over, and answers the greatest sum before.
-fn call_often(rt: &impl Wait, gate: &Gate<Sum>, mut seat: Seat<Sum>) -> Option<(Seat<Sum>, u64)>
-    requires { seat.gate ≡ gate.now }
-    ensures { IfSome result (λ d. d.0.gate ≡ gate.now) }
+/// So many rounds the two counts go there and back.
+const ROUNDS: u64 = 500;
+
+/// A watcher looks so many times, every 10 milliseconds, before it takes a standstill for a lost wake.
+const PATIENCE: u64 = 300;
+
+/// What a thread does with its seat.
+#[derive(Clone, Copy)]
+enum Role {
+    Idle,
+    /// Adds 3 over and over.
+    Adds,
+    /// Raises the first count, and waits for the second, in each round.
+    Says,
+    /// Waits for the first count, and raises the second, in each round.
+    Answers,
+    /// Looks at the counts until the last round is over.
+    Watches,
+    /// Waits for a count that no call raises.
+    WaitsInVain,
+    /// Draws the last ticket, once another sleeps.
+    WearsOut,
+}
+
+/// A thread, and the number that it was told at last.
+#[derive(Drop)]
+struct Member<'b> {
+    gate: &'b Gate<Sum>,
+    seat: Seat<Sum>,
+    role: Role,
+    told: Option<u64>,
+    ghost fits: { seat.gate ≡ gate.now },
+}
+
+impl<'b> Member<'b> {
+    /// A thread with a seat that is split off.
+    fn new(gate: &'b Gate<Sum>, seat: &mut Seat<Sum>, role: Role) -> Member<'b>
+        requires { seat.old.gate ≡ gate.now }
+        ensures { seat.new.gate ≡ gate.now }
+    {
+        Member {
+            gate,
+            seat: gate.split(seat),
+            role,
+            told: None,
+        }
+    }
+
+    fn act<R: Wait + Clock>(&mut self, rt: &R) {
+        self.told = match self.role {
+            Role::Idle => None,
+            Role::Adds => add_often(rt, self.gate, &mut self.seat),
+            Role::Says => say_often(rt, self.gate, &mut self.seat),
+            Role::Answers => answer_often(rt, self.gate, &mut self.seat),
+            Role::Watches => watch(rt, self.gate, &mut self.seat),
+            Role::WaitsInVain => wait_in_vain(rt, self.gate, &mut self.seat),
+            Role::WearsOut => wear_out(rt, self.gate, &mut self.seat),
+        };
+    }
+}
+
+fn act_all<R: Threads + Wait + Clock + Sync>(rt: &R, members: &mut [Member]) {
+    for_each_mut(rt, members, 4, &|_, member| member.act(rt));
+}
+
+/// What four threads were told.
+fn told_to_four<R: Threads + Wait + Clock + Sync>(
+    rt: &R,
+    gate: &Gate<Sum>,
+    seat: &mut Seat<Sum>,
+    roles: [Role; 4],
+) -> [Option<u64>; 4]
+    requires { seat.old.gate ≡ gate.now }
+    ensures { seat.new.gate ≡ gate.now }
+{
+    let [one, two, three, four] = roles;
+    let mut members = [
+        Member::new(gate, seat, one),
+        Member::new(gate, seat, two),
+        Member::new(gate, seat, three),
+        Member::new(gate, seat, four),
+    ];
+    act_all(rt, &mut members);
+    members.map(|member| member.told)
+}
+
+// The sum before the last call.
+fn add_often(rt: &impl Wait, gate: &Gate<Sum>, seat: &mut Seat<Sum>) -> Option<u64>
+    requires { seat.old.gate ≡ gate.now }
+    ensures { seat.new.gate ≡ gate.now }
 {
     let mut last = 0;
     for _ in 0..TIMES {
-        last = gate.call(rt, &mut seat, 3).ok()?;
+        last = gate.call(rt, seat, 3).ok()?;
     }
-    Some((seat, last))
-}
-
-// The same by two threads, whose seats are joined.
-fn call_by_two<R: Threads + Wait + Sync>(
-    rt: &R,
-    gate: &Gate<Sum>,
-    one: Seat<Sum>,
-    two: Seat<Sum>,
-) -> Option<(Seat<Sum>, u64)>
-    requires one { one.gate ≡ gate.now }
-    requires two { two.gate ≡ gate.now }
-    ensures { IfSome result (λ d. d.0.gate ≡ gate.now) }
-{
-    let (first, second) = join(
-        rt,
-        || -> Option<(Seat<Sum>, u64)>
-            requires { one.gate ≡ gate.now }
-            ensures { IfSome result (λ d. d.0.gate ≡ gate.entry.now) }
-        { call_often(rt, gate, one) },
-        || -> Option<(Seat<Sum>, u64)>
-            requires { two.gate ≡ gate.now }
-            ensures { IfSome result (λ d. d.0.gate ≡ gate.entry.now) }
-        { call_often(rt, gate, two) },
-    );
-    let (mut seat, last) = first?;
-    let (other, later) = second?;
-    gate.join(&mut seat, other);
-    Some((seat, last.max(later)))
-}
-
-// The same by four.
-fn call_by_four<R: Threads + Wait + Sync>(
-    rt: &R,
-    gate: &Gate<Sum>,
-    mut first: Seat<Sum>,
-) -> Option<(Seat<Sum>, u64)>
-    requires { first.gate ≡ gate.now }
-    ensures { IfSome result (λ d. d.0.gate ≡ gate.now) }
-{
-    let second = gate.split(&mut first);
-    let third = gate.split(&mut first);
-    let fourth = gate.split(&mut first);
-    let (one, two) = join(
-        rt,
-        || -> Option<(Seat<Sum>, u64)>
-            requires { IsSync R.row × (first.gate ≡ gate.now) × (second.gate ≡ gate.now) }
-            ensures { IfSome result (λ d. d.0.gate ≡ gate.entry.now) }
-        { call_by_two(rt, gate, first, second) },
-        || -> Option<(Seat<Sum>, u64)>
-            requires { IsSync R.row × (third.gate ≡ gate.now) × (fourth.gate ≡ gate.now) }
-            ensures { IfSome result (λ d. d.0.gate ≡ gate.entry.now) }
-        { call_by_two(rt, gate, third, fourth) },
-    );
-    let (mut seat, last) = one?;
-    let (other, later) = two?;
-    gate.join(&mut seat, other);
-    Some((seat, last.max(later)))
+    Some(last)
 }
 
 #[test]
 fn four_threads_take_all_their_turns(rt: HostRuntime) -> Result<(), Fail> {
-    let (gate, seat) = opened(&rt, 7).ok_or("no memory")?;
-    let Some((seat, last)) = call_by_four(&rt, &gate, seat) else {
-        panic!(rt; "each call is served")
-    };
+    let (gate, mut seat) = opened(&rt, 7).ok_or("no memory")?;
+    let told = told_to_four(&rt, &gate, &mut seat, [Role::Adds; 4]);
     let closing = gate.close(seat);
     let sum = closing.object.ok_or("the object is at home")?.sum;
-    assert_eq!(rt; (last, closing.turns, sum), (119_997, 40_000, 120_000));
+    assert!(rt; told.contains(&Some(119_997)));
+    assert!(rt;
+        told.iter()
+            .all(|last| last.is_some_and(|last| last <= 119_997))
+    );
+    assert_eq!(rt; (closing.turns, sum), (40_000, 120_000));
     Ok(())
 }
 
@@ -180,12 +211,6 @@ fn a_waiter_sleeps(rt: HostRuntime) -> Result<(), Fail> {
     Ok(())
 }
 
-/// So many rounds the two counts go there and back.
-const ROUNDS: u64 = 500;
-
-/// A watcher looks so many times, every 10 milliseconds, before it takes a standstill for a lost wake.
-const PATIENCE: u64 = 300;
-
 // Passes some time, in each round another.
 fn dither(round: u64) {
     for _ in 0..round.wrapping_mul(977) % 4096 {
@@ -193,56 +218,43 @@ fn dither(round: u64) {
     }
 }
 
-// Raises the first count, and waits for the second.
-fn say_often(rt: &impl Wait, gate: &Gate<Sum>, mut seat: Seat<Sum>) -> Option<u64>
-    requires { seat.gate ≡ gate.now }
+// The second count after the last round.
+fn say_often(rt: &impl Wait, gate: &Gate<Sum>, seat: &mut Seat<Sum>) -> Option<u64>
+    requires { seat.old.gate ≡ gate.now }
+    ensures { seat.new.gate ≡ gate.now }
 {
     for round in 1..=ROUNDS {
         dither(round);
-        gate.call(rt, &mut seat, 1).ok()?;
-        gate.await_freed(rt, &mut seat, round);
+        gate.call(rt, seat, 1).ok()?;
+        gate.await_freed(rt, seat, round);
     }
-    Some(gate.freed(&mut seat))
+    Some(gate.freed(seat))
 }
 
-// Waits for the first count, and raises the second.
-fn answer_often(rt: &impl Wait, gate: &Gate<Sum>, mut seat: Seat<Sum>) -> Option<u64>
-    requires { seat.gate ≡ gate.now }
+// The first count after the last round.
+fn answer_often(rt: &impl Wait, gate: &Gate<Sum>, seat: &mut Seat<Sum>) -> Option<u64>
+    requires { seat.old.gate ≡ gate.now }
+    ensures { seat.new.gate ≡ gate.now }
 {
     for round in 1..=ROUNDS {
-        gate.await_arrived(rt, &mut seat, round);
+        gate.await_arrived(rt, seat, round);
         dither(round.wrapping_mul(31));
-        gate.call(rt, &mut seat, 2).ok()?;
+        gate.call(rt, seat, 2).ok()?;
     }
-    Some(gate.arrived(&mut seat))
+    Some(gate.arrived(seat))
 }
 
-fn talk<R: Threads + Wait + Sync>(
-    rt: &R,
-    gate: &Gate<Sum>,
-    one: Seat<Sum>,
-    two: Seat<Sum>,
-) -> (Option<u64>, Option<u64>)
-    requires one { one.gate ≡ gate.now }
-    requires two { two.gate ≡ gate.now }
-{
-    join(
-        rt,
-        || say_often(rt, gate, one),
-        || answer_often(rt, gate, two),
-    )
-}
-
-// Looks at the counts until the last round is over, and answers where they stood still for seconds, if they did. There it
-// wakes those who sleep, so that the rounds go on.
-fn watch<R: Wait + Clock>(rt: &R, gate: &Gate<Sum>, mut seat: Seat<Sum>) -> Option<u64>
-    requires { seat.gate ≡ gate.now }
+// The round in which the counts stood still for seconds, if they did. There it wakes those who sleep, so that the rounds go
+// on.
+fn watch<R: Wait + Clock>(rt: &R, gate: &Gate<Sum>, seat: &mut Seat<Sum>) -> Option<u64>
+    requires { seat.old.gate ≡ gate.now }
+    ensures { seat.new.gate ≡ gate.now }
 {
     let mut stood = None;
     let mut before = 0;
     let mut patience = PATIENCE;
     for _ in 0..100_000 {
-        let now = gate.freed(&mut seat);
+        let now = gate.freed(seat);
         if now >= ROUNDS {
             break;
         }
@@ -261,80 +273,43 @@ fn watch<R: Wait + Clock>(rt: &R, gate: &Gate<Sum>, mut seat: Seat<Sum>) -> Opti
     stood
 }
 
-fn talk_watched<R: Threads + Wait + Clock + Sync>(
-    rt: &R,
-    gate: &Gate<Sum>,
-    one: Seat<Sum>,
-    two: Seat<Sum>,
-    third: Seat<Sum>,
-) -> (Option<u64>, (Option<u64>, Option<u64>))
-    requires one { one.gate ≡ gate.now }
-    requires two { two.gate ≡ gate.now }
-    requires third { third.gate ≡ gate.now }
-{
-    join(
-        rt,
-        || watch(rt, gate, third),
-        || -> (Option<u64>, Option<u64>)
-            requires { IsSync R.row × (one.gate ≡ gate.now) × (two.gate ≡ gate.now) }
-        { talk(rt, gate, one, two) },
-    )
-}
-
 // A wake that is lost leaves both asleep, and the watcher tells in which round.
 #[test]
 fn no_wake_is_lost(rt: HostRuntime) -> Result<(), Fail> {
     let (gate, mut seat) = opened(&rt, 0).ok_or("no memory")?;
-    let one = gate.split(&mut seat);
-    let two = gate.split(&mut seat);
-    let third = gate.split(&mut seat);
-    let (stood, ended) = talk_watched(&rt, &gate, one, two, third);
-    let turns = gate.close(seat).turns;
-    assert_eq!(rt; stood, None);
-    assert_eq!(rt; ended, (Some(ROUNDS), Some(ROUNDS)));
-    assert_eq!(rt; turns, 2 * ROUNDS);
+    let roles = [Role::Says, Role::Answers, Role::Watches, Role::Idle];
+    let told = told_to_four(&rt, &gate, &mut seat, roles);
+    assert_eq!(rt; told, [Some(ROUNDS), Some(ROUNDS), None, None]);
+    assert_eq!(rt; gate.close(seat).turns, 2 * ROUNDS);
     Ok(())
 }
 
-// Waits for a count that no call raises.
-fn wait_in_vain(rt: &impl Wait, gate: &Gate<Sum>, mut seat: Seat<Sum>) -> Awaited
-    requires { seat.gate ≡ gate.now }
+// The count that it reached, or none if the gate was worn out first.
+fn wait_in_vain(rt: &impl Wait, gate: &Gate<Sum>, seat: &mut Seat<Sum>) -> Option<u64>
+    requires { seat.old.gate ≡ gate.now }
+    ensures { seat.new.gate ≡ gate.now }
 {
-    gate.await_arrived(rt, &mut seat, 1)
+    match gate.await_arrived(rt, seat, 1) {
+        Awaited::Reached(count) => Some(count),
+        Awaited::Worn => None,
+    }
 }
 
-// Draws the last ticket, once the other sleeps.
-fn wear_out<R: Wait + Clock>(rt: &R, gate: &Gate<Sum>, mut seat: Seat<Sum>) -> bool
-    requires { seat.gate ≡ gate.now }
+// The sum before its turn.
+fn wear_out<R: Wait + Clock>(rt: &R, gate: &Gate<Sum>, seat: &mut Seat<Sum>) -> Option<u64>
+    requires { seat.old.gate ≡ gate.now }
+    ensures { seat.new.gate ≡ gate.now }
 {
     thread::sleep(rt, Duration::from_millis(100));
-    gate.call(rt, &mut seat, 2).is_ok()
-}
-
-fn wear_out_under<R: Threads + Wait + Clock + Sync>(
-    rt: &R,
-    gate: &Gate<Sum>,
-    waiting: Seat<Sum>,
-    wearing: Seat<Sum>,
-) -> (Awaited, bool)
-    requires waiting { waiting.gate ≡ gate.now }
-    requires wearing { wearing.gate ≡ gate.now }
-{
-    join(
-        rt,
-        || wait_in_vain(rt, gate, waiting),
-        || wear_out(rt, gate, wearing),
-    )
+    gate.call(rt, seat, 2).ok()
 }
 
 #[test]
 fn a_sleeper_is_told_that_the_gate_is_worn(rt: HostRuntime) -> Result<(), Fail> {
     let (gate, mut seat) = opened(&rt, LIMIT - 1).ok_or("no memory")?;
-    let waiting = gate.split(&mut seat);
-    let wearing = gate.split(&mut seat);
-    let ended = wear_out_under(&rt, &gate, waiting, wearing);
-    let turns = gate.close(seat).turns;
-    assert_eq!(rt; ended, (Awaited::Worn, true));
-    assert_eq!(rt; turns, 1);
+    let roles = [Role::WaitsInVain, Role::WearsOut, Role::Idle, Role::Idle];
+    let told = told_to_four(&rt, &gate, &mut seat, roles);
+    assert_eq!(rt; told, [None, Some(0), None, None]);
+    assert_eq!(rt; gate.close(seat).turns, 1);
     Ok(())
 }

@@ -1,5 +1,5 @@
 use Rattle.std.proofs.Common.{◌≡◌}
-use Rattle.tests_threads.proofs.gate.threads.call_often.Given as goal
+use Rattle.tests_threads.proofs.gate.threads.add_often.Given as goal
 
 -- it is a seat of the gate
 abbrev pub invariant-loop : goal.invariant-loop

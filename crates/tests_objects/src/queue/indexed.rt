@@ -5,21 +5,16 @@ ghost use Rattle.std.specs.Prelude.{◌≡◌, ◌+◌, ◌^◌, ◌<◌, ◌≤
 ghost use Rattle.sysv_model.specs.declared.limits.TheConstants.{QUEUE_MESSAGES};
 ghost use Rattle.sysv_queue.specs.Probes.{IsFoundByFew};
 
-use crate::parts::{give_back, open_body, open_pool};
+use super::{SENDER, open_slot};
+use crate::parts::{give_back, open_body, open_pool, room, type_of_number};
 use std::alloc::Global;
 use std::marker::Brand;
 use std::process::Abort;
 use std::sync::ledger::{Blank, Ledger};
-use sysv_model::{Body, Cred, NoMemory, QUEUE_MESSAGES, Selector};
+use sysv_model::{Body, QUEUE_MESSAGES, Selector};
 use sysv_pool::Pool;
 use sysv_queue::{QueueSlot, Steps, TakeRefused, Taken, Tally};
 use sysv_rules::select_plain;
-
-const OWNER: Cred = Cred {
-    uid: 1000,
-    gid: 1000,
-    pid: 101,
-};
 
 /// A slot with queue 0, and what its callers have at hand.
 struct Desk {
@@ -30,17 +25,11 @@ struct Desk {
 
 /// Opens all of it. Memory is refused once at most.
 fn open_desk(rt: &impl Abort, alloc: Global) -> Desk {
-    let mut slot = match QueueSlot::open(alloc) {
-        Ok(slot) => slot,
-        Err(NoMemory) => match QueueSlot::open(alloc) {
-            Ok(slot) => slot,
-            Err(NoMemory) => panic!(rt; "a second try"),
-        },
-    };
-    assert!(rt; slot.install(0, 0, OWNER, 0o600, 0));
+    let mut slot = open_slot(rt, alloc);
+    assert!(rt; slot.install(0, 0, SENDER, 0o600, 0));
     Desk {
         slot,
-        pool: open_pool(rt, alloc),
+        pool: open_pool(rt, alloc, 512),
         out: open_body(rt, alloc),
     }
 }
@@ -65,7 +54,7 @@ fn send(rt: &impl Abort, desk: &mut Desk, mtype: i64) -> u64 {
     };
     let (arrived, _) = desk.slot.counts();
     assert!(rt; arrived < 1 << 63);
-    match desk.slot.place(0, OWNER, mtype, chain, 0, 7) {
+    match desk.slot.place(0, SENDER, mtype, chain, 0, 7) {
         Ok(number) => number,
         Err(refused) => {
             give_back(rt, &mut desk.pool, refused.chain);
@@ -88,20 +77,12 @@ fn finish(rt: &impl Abort, desk: &mut Desk, taken: Taken) -> (u64, i64) {
 fn receive(rt: &impl Abort, desk: &mut Desk, sel: Selector) -> Option<(u64, i64)> {
     let (arrived, freed) = desk.slot.counts();
     assert!(rt; freed < 1 << 63);
-    match desk.slot.take(0, OWNER, sel, 0, false, 9) {
+    match desk.slot.take(0, SENDER, sel, 0, false, 9) {
         Ok(taken) => Some(finish(rt, desk, taken)),
         Err(why) => {
             assert_eq!(rt; why, TakeRefused::NoMatch { arrived });
             None
         }
-    }
-}
-
-/// A list with room for all that may wait. Memory is refused once at most.
-fn room<T: Drop>(rt: &impl Abort, alloc: Global) -> Vec<T> {
-    match Vec::with_capacity(alloc, QUEUE_MESSAGES) {
-        Ok(list) => list,
-        Err(_) => Vec::with_capacity(alloc, QUEUE_MESSAGES).expect(rt, "a second try"),
     }
 }
 
@@ -167,13 +148,6 @@ fn takes_follow_the_plain_rule(rt: HostRuntime) {
     end_desk(&rt, desk);
 }
 
-/// The type of the message with this number, each of 1 to 256 once.
-fn type_of_number(number: u64) -> i64
-    requires { number < 256 }
-{
-    (number * 77 % 256) as i64 + 1
-}
-
 /// Fills the queue with a message of each type.
 fn fill(rt: &impl Abort, desk: &mut Desk)
     ensures { length desk.new.slot.messages ≡ QUEUE_MESSAGES }
@@ -204,7 +178,7 @@ fn take_by_few<L: Ledger>(
     requires freed { slot.old.freed < 2 ^ 63 }
     ensures { IsFoundByFew sel → steps.new ≤ steps.old + 11 }
 {
-    slot.take_counted(0, OWNER, sel, 0, false, 9, steps)
+    slot.take_counted(0, SENDER, sel, 0, false, 9, steps)
 }
 
 /// The same with a counter that is given up.
@@ -228,11 +202,11 @@ fn empty(rt: &impl Abort, desk: &mut Desk) {
     let (arrived, freed) = desk.slot.counts();
     assert!(rt; arrived < 1 << 63);
     assert!(rt; freed < 1 << 63);
-    match desk.slot.remove(0, OWNER) {
+    match desk.slot.remove(0, SENDER) {
         Ok(discarded) => give_back(rt, &mut desk.pool, discarded.into_chain()),
         Err(why) => panic!(rt; "{why:?}"),
     }
-    assert!(rt; desk.slot.install(0, 0, OWNER, 0o600, 0));
+    assert!(rt; desk.slot.install(0, 0, SENDER, 0o600, 0));
 }
 
 #[test]
