@@ -65,6 +65,11 @@ fn make(rt: &impl Abort, world: &mut World, actor: u32, call: Call) -> Outcome {
     go(rt, world, actor)
 }
 
+/// A call of the actor that goes through ends so.
+fn assert_makes(rt: &impl Abort, world: &mut World, actor: u32, call: Call, wanted: Outcome) {
+    assert_eq!(rt; make(rt, world, actor, call), wanted);
+}
+
 fn is_waiting(world: &World, actor: u32) -> bool {
     matches!(world.standing(actor), Some(Standing::Waits(_)))
 }
@@ -266,36 +271,6 @@ fn a_receive_takes_what_it_names(rt: HostRuntime) {
     let call = receive_of(&rt, alloc, 9, 0, Flags::MSG_EXCEPT);
     let invalid = Outcome::Refused(Errno::EINVAL);
     assert_answer(&rt, world.step(start(2, call)), (2, invalid, Some(b"")));
-    assert_is(&rt, world.end(), 1024);
-}
-
-#[test]
-fn a_stranger_is_denied(rt: HostRuntime) {
-    let alloc = rt.alloc();
-    let mut world = world_with_queue(&rt, alloc, 2);
-    let stranger = |call| Event::Start {
-        actor: 2,
-        cred: Cred {
-            uid: 2000,
-            gid: 1000,
-            pid: 9,
-        },
-        call,
-    };
-    let denied = Outcome::Refused(Errno::EACCES);
-    let call = receive_of(&rt, alloc, 9, 0, Flags::IPC_NOWAIT);
-    assert_nothing(&rt, world.step(stranger(call)));
-    assert_answer(&rt, world.step(step(2)), (2, denied, Some(b"")));
-    let call = Call::Send {
-        id: 0,
-        mtype: 1,
-        flags: Flags::IPC_NOWAIT,
-        body: body_of(&rt, alloc, b"x"),
-    };
-    assert_nothing(&rt, world.step(stranger(call)));
-    assert_answer(&rt, world.step(step(2)), (2, denied, None));
-    let none = Outcome::Refused(Errno::ENOMSG);
-    assert_receives(&rt, alloc, &mut world, (1, none, Some(b"")));
     assert_is(&rt, world.end(), 1024);
 }
 

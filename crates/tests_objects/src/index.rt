@@ -1,10 +1,10 @@
 //! Selections compared with a list kept beside the index, whose plain rule is that of the message
-//! rules, and a full index of as many types.
+//! rules.
 
 ghost use Rattle.std.specs.Prelude.{◌≡◌, ◌+◌, ◌<◌, ◌≤◌, length};
 ghost use Rattle.sysv_model.specs.declared.limits.TheConstants.{QUEUE_MESSAGES};
 
-use crate::parts::{room, type_of_number};
+use crate::parts::room;
 use std::alloc::Global;
 use std::marker::Brand;
 use std::process::Abort;
@@ -39,24 +39,6 @@ fn select_with<L: Ledger>(index: &Index, sel: Selector, blank: Blank) -> Option<
 
 fn select(index: &Index, sel: Selector) -> Option<Numbered> {
     select_with::<Brand>(index, sel, Blank::new(1))
-}
-
-/// A full index is selected from by 11 reads at most, since 256 has nine binary digits.
-fn select_full<L: Ledger>(index: &Index, sel: Selector, blank: Blank) -> Option<Numbered>
-    requires full { length index.now ≡ QUEUE_MESSAGES }
-    requires name { blank.name ≡ L.name }
-    requires parts { blank.parts ≡ L.parts }
-    requires some { 0 < blank.parts }
-{
-    let mut steps = Steps::<L>::open(blank);
-    select_by_few(index, sel, &mut steps)
-}
-
-fn select_by_few<L: Ledger>(index: &Index, sel: Selector, steps: &mut Steps<L>) -> Option<Numbered>
-    requires { length index.now ≡ QUEUE_MESSAGES }
-    ensures { steps.new ≤ steps.old + 11 }
-{
-    index.select(sel, steps)
 }
 
 /// The entries in the order in which they were pushed, and a list for their types.
@@ -147,31 +129,22 @@ fn selections_follow_the_plain_rule(rt: HostRuntime) -> Result<(), Fail> {
     Ok(())
 }
 
-#[test]
-fn a_full_index_finds_each_type(rt: HostRuntime) {
-    let mut index = open_index(&rt, rt.alloc());
-    for number in 0..256 {
-        index.push(Entry {
-            mtype: type_of_number(number),
-            number,
-            place: number as usize,
-        });
-    }
-    assert_eq!(rt; index.len(), QUEUE_MESSAGES);
-    for number in 0..256 {
-        let place = number as usize;
-        let sel = Selector::Exactly(type_of_number(number));
-        let found = select_full::<Brand>(&index, sel, Blank::new(1));
-        assert_eq!(rt; found, Some(Numbered { number, place }));
-    }
-    assert_eq!(rt; select(&index, Selector::Exactly(0)), None);
-    assert_eq!(rt; select(&index, Selector::Exactly(257)), None);
-}
-
 /// What is selected is this.
 fn assert_selects(rt: &impl Abort, index: &Index, sel: Selector, wanted: Option<Numbered>) {
     assert_eq!(rt; select(index, sel), wanted, "{sel:?}");
 }
+
+const TENTH: Entry = Entry {
+    mtype: 5,
+    number: 10,
+    place: 3,
+};
+
+const TWELFTH: Entry = Entry {
+    mtype: 2,
+    number: 12,
+    place: 0,
+};
 
 #[test]
 fn entries_come_and_go(rt: HostRuntime) {
@@ -180,31 +153,10 @@ fn entries_come_and_go(rt: HostRuntime) {
     assert_selects(&rt, &index, Selector::Any, None);
     assert_selects(&rt, &index, Selector::Exactly(5), None);
     assert_selects(&rt, &index, Selector::UpTo(9), None);
-    let (first, second) = (
-        Entry {
-            mtype: 5,
-            number: 10,
-            place: 3,
-        },
-        Entry {
-            mtype: 2,
-            number: 12,
-            place: 0,
-        },
-    );
-    index.push(first);
-    index.push(second);
+    index.push(TENTH);
+    index.push(TWELFTH);
     assert_eq!(rt; index.len(), 2);
-    let (tenth, twelfth) = (
-        Numbered {
-            number: 10,
-            place: 3,
-        },
-        Numbered {
-            number: 12,
-            place: 0,
-        },
-    );
+    let (tenth, twelfth) = (TENTH.numbered(), TWELFTH.numbered());
     assert_selects(&rt, &index, Selector::Any, Some(tenth));
     assert_selects(&rt, &index, Selector::UpTo(5), Some(twelfth));
     assert_selects(&rt, &index, Selector::UpTo(1), None);

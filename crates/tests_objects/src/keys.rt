@@ -40,6 +40,16 @@ fn assert_begins(rt: &impl Abort, registry: &mut Registry, key: i32, flags: Flag
     assert_eq!(rt; registry.begin(key, flags), wanted, "key {key}");
 }
 
+/// A begin with IPC_CREAT makes this identifier.
+fn assert_made(rt: &impl Abort, registry: &mut Registry, key: i32, id: i32) {
+    assert_begins(rt, registry, key, creating(), Begun::Made { id });
+}
+
+/// A begin is refused so.
+fn assert_refused(rt: &impl Abort, registry: &mut Registry, key: i32, flags: Flags, why: Errno) {
+    assert_begins(rt, registry, key, flags, Begun::Refused(why));
+}
+
 #[test]
 fn keys_and_private_keys(rt: HostRuntime) {
     let mut registry = open_registry(&rt, rt.alloc());
@@ -75,32 +85,14 @@ fn keys_and_private_keys(rt: HostRuntime) {
 #[test]
 fn a_full_registry_makes_no_queue(rt: HostRuntime) {
     let mut registry = open_registry(&rt, rt.alloc());
-    assert_begins(&rt, &mut registry, 9, creating(), Begun::Made { id: 0 });
+    assert_made(&rt, &mut registry, 9, 0);
     assert!(rt; registry.settle(0));
     for id in 1..64 {
         make_private(&rt, &mut registry, id);
     }
-    assert_begins(
-        &rt,
-        &mut registry,
-        IPC_PRIVATE,
-        flags(0),
-        Begun::Refused(Errno::ENOSPC),
-    );
-    assert_begins(
-        &rt,
-        &mut registry,
-        5,
-        creating(),
-        Begun::Refused(Errno::ENOSPC),
-    );
-    assert_begins(
-        &rt,
-        &mut registry,
-        5,
-        flags(0),
-        Begun::Refused(Errno::ENOENT),
-    );
+    assert_refused(&rt, &mut registry, IPC_PRIVATE, flags(0), Errno::ENOSPC);
+    assert_refused(&rt, &mut registry, 5, creating(), Errno::ENOSPC);
+    assert_refused(&rt, &mut registry, 5, flags(0), Errno::ENOENT);
     assert_begins(
         &rt,
         &mut registry,
@@ -114,7 +106,7 @@ fn a_full_registry_makes_no_queue(rt: HostRuntime) {
 #[test]
 fn a_key_is_busy_until_it_is_settled(rt: HostRuntime) {
     let mut registry = open_registry(&rt, rt.alloc());
-    assert_begins(&rt, &mut registry, -4, creating(), Begun::Made { id: 0 });
+    assert_made(&rt, &mut registry, -4, 0);
     assert_begins(&rt, &mut registry, -4, flags(0), Begun::Busy { settled: 0 });
     assert!(rt; registry.settle(0));
     assert!(rt; !registry.settle(0));
@@ -134,31 +126,19 @@ fn a_key_is_busy_until_it_is_settled(rt: HostRuntime) {
 #[test]
 fn a_forgotten_identifier_is_never_given_again(rt: HostRuntime) {
     let mut registry = open_registry(&rt, rt.alloc());
-    assert_begins(&rt, &mut registry, 7, creating(), Begun::Made { id: 0 });
-    assert_begins(&rt, &mut registry, 8, creating(), Begun::Made { id: 1 });
-    assert_begins(
-        &rt,
-        &mut registry,
-        i32::MIN,
-        creating(),
-        Begun::Made { id: 2 },
-    );
+    assert_made(&rt, &mut registry, 7, 0);
+    assert_made(&rt, &mut registry, 8, 1);
+    assert_made(&rt, &mut registry, i32::MIN, 2);
     assert!(rt; registry.settle(1));
     assert!(rt; registry.forget(1));
     assert!(rt; !registry.forget(1));
     assert!(rt; registry.forget(0));
     assert_is(&rt, registry.settled(), 3);
-    assert_begins(
-        &rt,
-        &mut registry,
-        7,
-        flags(0),
-        Begun::Refused(Errno::ENOENT),
-    );
-    assert_begins(&rt, &mut registry, 7, creating(), Begun::Made { id: 64 });
+    assert_refused(&rt, &mut registry, 7, flags(0), Errno::ENOENT);
+    assert_made(&rt, &mut registry, 7, 64);
     assert!(rt; !registry.forget(0));
     assert!(rt; !registry.settle(0));
-    assert_begins(&rt, &mut registry, 8, creating(), Begun::Made { id: 65 });
+    assert_made(&rt, &mut registry, 8, 65);
     assert_begins(
         &rt,
         &mut registry,
@@ -183,30 +163,12 @@ fn the_last_identifiers(rt: HostRuntime) {
         let key = slot as i32 + 1;
         let id = 2_147_483_584 + slot as i32;
         assert_is(&rt, slot_of_id(id), slot);
-        assert_begins(&rt, &mut registry, key, creating(), Begun::Made { id });
+        assert_made(&rt, &mut registry, key, id);
         assert!(rt; registry.forget(id));
-        assert_begins(
-            &rt,
-            &mut registry,
-            key,
-            flags(0),
-            Begun::Refused(Errno::ENOENT),
-        );
+        assert_refused(&rt, &mut registry, key, flags(0), Errno::ENOENT);
     }
-    assert_begins(
-        &rt,
-        &mut registry,
-        IPC_PRIVATE,
-        flags(0),
-        Begun::Refused(Errno::ENOSPC),
-    );
-    assert_begins(
-        &rt,
-        &mut registry,
-        1,
-        creating(),
-        Begun::Refused(Errno::ENOSPC),
-    );
+    assert_refused(&rt, &mut registry, IPC_PRIVATE, flags(0), Errno::ENOSPC);
+    assert_refused(&rt, &mut registry, 1, creating(), Errno::ENOSPC);
     assert_is(&rt, registry.settled(), 64);
 }
 
@@ -226,13 +188,7 @@ fn many_keys_come_and_go(rt: HostRuntime) {
     let mut first: i32 = 0;
     for _ in 0..200 {
         for id in first..first.wrapping_add(64) {
-            assert_begins(
-                &rt,
-                &mut registry,
-                id.wrapping_add(1),
-                creating(),
-                Begun::Made { id },
-            );
+            assert_made(&rt, &mut registry, id.wrapping_add(1), id);
         }
         for id in first..first.wrapping_add(64) {
             assert!(rt; registry.forget(id));

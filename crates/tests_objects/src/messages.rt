@@ -1,11 +1,11 @@
-//! Messages that come and go by each kind of selector, refusals, a full store, and stores that end with
-//! messages in them.
+//! Messages that come and go by each kind of selector, refusals, and stores that end with messages
+//! in them.
 
 ghost use Rattle.std.specs.Prelude.{◌≡◌, ◌+◌, ◌<◌, []};
 ghost use Rattle.std.specs.List.{All};
 ghost use Rattle.sysv_model.specs.Message.{Message};
 
-use crate::parts::{assert_holds, give_back, open_body, open_pool, type_of_number};
+use crate::parts::{assert_holds, give_back, open_body, open_pool};
 use std::alloc::Global;
 use std::marker::Brand;
 use std::process::Abort;
@@ -127,6 +127,22 @@ fn receive(
     Ok(received)
 }
 
+/// A receive of at most `most` bytes ends so.
+fn assert_receives(
+    rt: &impl Abort,
+    desk: &mut Desk,
+    sel: Selector,
+    most: usize,
+    wanted: Result<Received, NotTaken>,
+) {
+    assert_eq!(rt; receive(rt, desk, sel, most), wanted, "{sel:?}");
+}
+
+/// So many messages wait, with so many bytes.
+fn assert_waiting(rt: &impl Abort, desk: &Desk, waiting: (usize, usize)) {
+    assert_eq!(rt; (desk.messages.len(), desk.messages.bytes()), waiting);
+}
+
 #[test]
 fn messages_come_and_go(rt: HostRuntime) {
     let mut desk = open_desk(&rt, rt.alloc());
@@ -134,24 +150,30 @@ fn messages_come_and_go(rt: HostRuntime) {
     send(&rt, &mut desk, 4, 2, &[7; 130]);
     send(&rt, &mut desk, 5, 5, b"");
     send(&rt, &mut desk, 6, 9, b"last");
-    assert_eq!(rt; (desk.messages.len(), desk.messages.bytes()), (4, 139));
+    assert_waiting(&rt, &desk, (4, 139));
     assert_eq!(rt; desk.pool.free(), 507);
-    assert_eq!(rt;
-        receive(&rt, &mut desk, Selector::Exactly(4), 8192),
-        Err(NotTaken::NoneQualifies)
+    assert_receives(
+        &rt,
+        &mut desk,
+        Selector::Exactly(4),
+        8192,
+        Err(NotTaken::NoneQualifies),
     );
-    assert_eq!(rt;
-        receive(&rt, &mut desk, Selector::UpTo(8), 129),
-        Err(NotTaken::TooLong)
+    assert_receives(
+        &rt,
+        &mut desk,
+        Selector::UpTo(8),
+        129,
+        Err(NotTaken::TooLong),
     );
-    assert_eq!(rt; (desk.messages.len(), desk.messages.bytes()), (4, 139));
+    assert_waiting(&rt, &desk, (4, 139));
     let second = Received {
         number: 4,
         sender: 101,
         mtype: 2,
         len: 130,
     };
-    assert_eq!(rt; receive(&rt, &mut desk, Selector::UpTo(8), 130), Ok(second));
+    assert_receives(&rt, &mut desk, Selector::UpTo(8), 130, Ok(second));
     assert_holds(&rt, &desk.out, &[7; 130]);
     let first = Received {
         number: 3,
@@ -159,19 +181,16 @@ fn messages_come_and_go(rt: HostRuntime) {
         len: 5,
         ..second
     };
-    assert_eq!(rt;
-        receive(&rt, &mut desk, Selector::Exactly(5), 8192),
-        Ok(first)
-    );
+    assert_receives(&rt, &mut desk, Selector::Exactly(5), 8192, Ok(first));
     assert_holds(&rt, &desk.out, b"first");
     let empty = Received {
         number: 5,
         len: 0,
         ..first
     };
-    assert_eq!(rt; receive(&rt, &mut desk, Selector::Any, 0), Ok(empty));
+    assert_receives(&rt, &mut desk, Selector::Any, 0, Ok(empty));
     assert_holds(&rt, &desk.out, b"");
-    assert_eq!(rt; (desk.messages.len(), desk.messages.bytes()), (1, 4));
+    assert_waiting(&rt, &desk, (1, 4));
     assert_eq!(rt; desk.pool.free(), 511);
     end_desk(&rt, desk, 1);
 }
@@ -184,38 +203,7 @@ fn all_messages_are_taken(rt: HostRuntime) {
     let all = desk.messages.take_all();
     assert_eq!(rt; all.blocks(), 3);
     give_back(&rt, &mut desk.pool, all);
-    assert_eq!(rt; (desk.messages.len(), desk.messages.bytes()), (0, 0));
+    assert_waiting(&rt, &desk, (0, 0));
     send(&rt, &mut desk, 0, 1, &[3; 128]);
     end_desk(&rt, desk, 2);
-}
-
-#[test]
-fn a_full_store_gives_each_type(rt: HostRuntime) {
-    let mut desk = open_desk(&rt, rt.alloc());
-    for number in 0..256 {
-        send(&rt, &mut desk, number, type_of_number(number), b"x");
-    }
-    assert_eq!(rt;
-        (desk.messages.len(), desk.messages.bytes()),
-        (QUEUE_MESSAGES, 256)
-    );
-    for number in 0..256 {
-        let mtype = type_of_number(number);
-        let expected = Received {
-            number,
-            sender: 101,
-            mtype,
-            len: 1,
-        };
-        assert_eq!(rt;
-            receive(&rt, &mut desk, Selector::Exactly(mtype), 1),
-            Ok(expected)
-        );
-    }
-    assert_eq!(rt;
-        receive(&rt, &mut desk, Selector::Any, 8192),
-        Err(NotTaken::NoneQualifies)
-    );
-    assert_eq!(rt; desk.messages.len(), 0);
-    end_desk(&rt, desk, 0);
 }

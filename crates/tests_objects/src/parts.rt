@@ -1,6 +1,4 @@
 //! What all of these tests use.
-ghost use Rattle.std.specs.Prelude.{◌<◌};
-
 use std::alloc::Global;
 use std::fmt::Debug;
 use std::process::Abort;
@@ -47,11 +45,4 @@ pub(crate) fn room<T: Drop>(rt: &impl Abort, alloc: Global) -> Vec<T> {
         Ok(list) => list,
         Err(_) => Vec::with_capacity(alloc, QUEUE_MESSAGES).expect(rt, "a second try"),
     }
-}
-
-/// The type of the message with this number, each of 1 to 256 once.
-pub(crate) fn type_of_number(number: u64) -> i64
-    requires { number < 256 }
-{
-    (number * 77 % 256) as i64 + 1
 }

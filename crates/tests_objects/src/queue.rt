@@ -409,52 +409,6 @@ fn a_selector_names_one_message(rt: HostRuntime) {
 }
 
 #[test]
-fn a_bound_takes_the_lowest_type(rt: HostRuntime) {
-    let mut desk = desk_with_queue(&rt, rt.alloc());
-    assert_sends(&rt, &mut desk, i64::MAX, b"greatest", Ok(0));
-    assert_sends(&rt, &mut desk, 7, b"seven", Ok(1));
-    let receives: [(i64, &[u8], u64); 2] = [(7, b"seven", 1), (i64::MAX, b"greatest", 0)];
-    for (mtype, text, number) in receives {
-        let sel = Selector::UpTo(1 << 63);
-        assert_receives_as(
-            &rt,
-            &mut desk,
-            0,
-            RECEIVER,
-            sel,
-            Ok(got(mtype, text, number)),
-        );
-        assert_holds(&rt, &desk.out, text);
-    }
-    end_desk(&rt, desk, 0);
-}
-
-#[test]
-fn messages_that_are_not_named_stay(rt: HostRuntime) {
-    let mut desk = desk_with_queue(&rt, rt.alloc());
-    let messages: [(i64, &[u8], u64); 3] = [(5, b"a", 0), (2, b"b", 1), (5, b"c", 2)];
-    for (mtype, text, number) in messages {
-        assert_sends(&rt, &mut desk, mtype, text, Ok(number));
-    }
-    for sel in [Selector::Exactly(3), Selector::UpTo(1)] {
-        assert_receives_as(
-            &rt,
-            &mut desk,
-            0,
-            RECEIVER,
-            sel,
-            Err(TakeRefused::NoMatch { arrived: 3 }),
-        );
-        assert_counts(&rt, &desk, (3, 0));
-    }
-    for (mtype, text, number) in messages {
-        assert_receives(&rt, &mut desk, 100, false, Ok(got(mtype, text, number)));
-        assert_holds(&rt, &desk.out, text);
-    }
-    end_desk(&rt, desk, 0);
-}
-
-#[test]
 fn each_class_has_its_own_bits(rt: HostRuntime) {
     let mut desk = desk_with_shared_queue(&rt, rt.alloc());
     let callers = [
@@ -515,24 +469,21 @@ fn the_identifier_is_asked_first(rt: HostRuntime) {
 #[test]
 fn permission_is_asked_before_messages(rt: HostRuntime) {
     let mut desk = desk_with_shared_queue(&rt, rt.alloc());
-    assert_receives_as(
+    assert_refuses(&rt, &mut desk, STRANGER, Selector::Any, TakeRefused::Denied);
+    assert_refuses(
         &rt,
         &mut desk,
-        0,
-        STRANGER,
-        Selector::Any,
-        Err(TakeRefused::Denied),
-    );
-    assert_receives_as(
-        &rt,
-        &mut desk,
-        0,
         MEMBER,
         Selector::Any,
-        Err(TakeRefused::NoMatch { arrived: 0 }),
+        TakeRefused::NoMatch { arrived: 0 },
     );
     assert_counts(&rt, &desk, (0, 0));
     end_desk(&rt, desk, 0);
+}
+
+/// A receive from queue 0 is refused so.
+fn assert_refuses(rt: &impl Abort, desk: &mut Desk, cred: Cred, sel: Selector, why: TakeRefused) {
+    assert_receives_as(rt, desk, 0, cred, sel, Err(why));
 }
 
 #[test]
@@ -554,30 +505,15 @@ fn permission_is_asked_before_room_and_length(rt: HostRuntime) {
         Err(Unplaced::Denied),
     );
     assert_sends(&rt, &mut desk, 1, b"text", Err(Unplaced::Full { freed: 0 }));
-    assert_receives_as(
+    assert_refuses(&rt, &mut desk, STRANGER, Selector::Any, TakeRefused::Denied);
+    assert_refuses(
         &rt,
         &mut desk,
-        0,
-        STRANGER,
-        Selector::Any,
-        Err(TakeRefused::Denied),
-    );
-    assert_receives_as(
-        &rt,
-        &mut desk,
-        0,
         MEMBER,
         Selector::Exactly(2),
-        Err(TakeRefused::NoMatch { arrived: 2 }),
+        TakeRefused::NoMatch { arrived: 2 },
     );
-    assert_receives_as(
-        &rt,
-        &mut desk,
-        0,
-        MEMBER,
-        Selector::Any,
-        Err(TakeRefused::TooLong),
-    );
+    assert_refuses(&rt, &mut desk, MEMBER, Selector::Any, TakeRefused::TooLong);
     assert_counts(&rt, &desk, (2, 0));
     end_desk(&rt, desk, 256);
 }

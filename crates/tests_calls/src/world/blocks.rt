@@ -20,11 +20,11 @@ fn a_send_is_refused_where_no_block_is_free(rt: HostRuntime) {
     let again = Outcome::Refused(Errno::EAGAIN);
     assert_sends(&rt, alloc, &mut world, 1, &[b'x'; 8192]);
     let call = send_to(&rt, alloc, 0, 1, b"x", Flags::IPC_NOWAIT);
-    assert_is(&rt, make(&rt, &mut world, 1, call), again);
+    assert_makes(&rt, &mut world, 1, call, again);
     assert_sends_type(&rt, alloc, &mut world, 1, 2, b"");
     let call = receive_of(&rt, alloc, 0, 2, Flags::IPC_NOWAIT);
     let got = Outcome::Got { mtype: 2, len: 0 };
-    assert_is(&rt, make(&rt, &mut world, 2, call), got);
+    assert_makes(&rt, &mut world, 2, call, got);
     assert_is(&rt, world.end(), 128);
 }
 
@@ -32,16 +32,8 @@ fn a_send_is_refused_where_no_block_is_free(rt: HostRuntime) {
 fn a_send_waits_for_the_blocks_of_another_queue(rt: HostRuntime) {
     let alloc = rt.alloc();
     let mut world = world_at(&rt, alloc, 0, 0);
-    assert_is(
-        &rt,
-        make(&rt, &mut world, 1, get_or_make(1)),
-        Outcome::Id(0),
-    );
-    assert_is(
-        &rt,
-        make(&rt, &mut world, 1, get_or_make(2)),
-        Outcome::Id(1),
-    );
+    assert_makes(&rt, &mut world, 1, get_or_make(1), Outcome::Id(0));
+    assert_makes(&rt, &mut world, 1, get_or_make(2), Outcome::Id(1));
     assert_sends(&rt, alloc, &mut world, 1, &[b'x'; 8192]);
     let call = send_to(&rt, alloc, 1, 1, b"x", flags(0));
     assert_nothing(&rt, world.step(start(2, call)));
@@ -51,7 +43,7 @@ fn a_send_waits_for_the_blocks_of_another_queue(rt: HostRuntime) {
     assert!(rt; is_waiting(&world, 2));
     let call = receive_of(&rt, alloc, 0, 0, Flags::MSG_NOERROR);
     let got = Outcome::Got { mtype: 7, len: 0 };
-    assert_is(&rt, make(&rt, &mut world, 3, call), got);
+    assert_makes(&rt, &mut world, 3, call, got);
     assert_is(&rt, go(&rt, &mut world, 2), Outcome::Zero);
     assert_sends(&rt, alloc, &mut world, 1, &[b'x'; 8128]);
     let call = send_to(&rt, alloc, 1, 1, b"y", flags(0));
@@ -77,11 +69,7 @@ fn a_send_refused_at_its_place_waits_for_room(rt: HostRuntime) {
         mode: 0o600,
         qbytes: 1,
     };
-    assert_is(
-        &rt,
-        make(&rt, &mut world, 1, Call::Set { id: 0, to }),
-        Outcome::Zero,
-    );
+    assert_makes(&rt, &mut world, 1, Call::Set { id: 0, to }, Outcome::Zero);
     let call = send_to(&rt, alloc, 0, 1, b"a", flags(0));
     assert_nothing(&rt, world.step(start(2, call)));
     assert!(rt; matches!(world.standing(2), Some(Standing::At(Phase::Look(_)))));

@@ -26,7 +26,7 @@ fn gets_find_and_make_queues(rt: HostRuntime) {
         (9, 0, Outcome::Id(0)),
     ];
     for (key, bits, outcome) in gets {
-        assert_is(&rt, make(&rt, &mut world, 1, get(key, bits)), outcome);
+        assert_makes(&rt, &mut world, 1, get(key, bits), outcome);
     }
     let strange = [
         (0, Outcome::Id(0)),
@@ -39,10 +39,10 @@ fn gets_find_and_make_queues(rt: HostRuntime) {
         assert_is(&rt, go(&rt, &mut world, 2), outcome);
     }
     for id in 3..64 {
-        assert_is(&rt, make(&rt, &mut world, 1, get(0, 0)), Outcome::Id(id));
+        assert_makes(&rt, &mut world, 1, get(0, 0), Outcome::Id(id));
     }
     let full = refused(Errno::ENOSPC);
-    assert_is(&rt, make(&rt, &mut world, 1, get(0, 0)), full);
+    assert_makes(&rt, &mut world, 1, get(0, 0), full);
     assert_is(&rt, world.end(), 128);
 }
 
@@ -82,11 +82,7 @@ fn a_get_waits_until_the_key_is_settled(rt: HostRuntime) {
 #[test]
 fn a_get_waits_between_removal_and_forget(rt: HostRuntime) {
     let mut world = world_at(&rt, rt.alloc(), 0, 0);
-    assert_is(
-        &rt,
-        make(&rt, &mut world, 1, get_or_make(4)),
-        Outcome::Id(0),
-    );
+    assert_makes(&rt, &mut world, 1, get_or_make(4), Outcome::Id(0));
     assert_nothing(&rt, world.step(start(1, Call::Remove { id: 0 })));
     assert!(rt; matches!(world.standing(1), Some(Standing::At(Phase::Remove { .. }))));
     assert_nothing(&rt, world.step(step(1)));
@@ -108,11 +104,7 @@ fn a_get_waits_between_removal_and_forget(rt: HostRuntime) {
 #[test]
 fn controls_are_refused_in_their_order(rt: HostRuntime) {
     let mut world = world_at(&rt, rt.alloc(), 0, 0);
-    assert_is(
-        &rt,
-        make(&rt, &mut world, 1, get_or_make(5)),
-        Outcome::Id(0),
-    );
+    assert_makes(&rt, &mut world, 1, get_or_make(5), Outcome::Id(0));
     let too_much = SetTo {
         uid: 1,
         gid: 1,
@@ -136,19 +128,35 @@ fn controls_are_refused_in_their_order(rt: HostRuntime) {
         (Call::Stat { id: 0 }, Outcome::Refused(Errno::EINVAL)),
     ];
     for (call, outcome) in rest {
-        assert_is(&rt, make(&rt, &mut world, 1, call), outcome);
+        assert_makes(&rt, &mut world, 1, call, outcome);
     }
     assert_is(&rt, world.end(), 128);
 }
 
+/// What is told of that queue once it was set at the moment 60.
+const SHOWN: Stat = Stat {
+    key: 3,
+    perm: Perm {
+        uid: 2000,
+        gid: 7,
+        cuid: 1000,
+        cgid: 1000,
+        mode: 0o640,
+    },
+    cbytes: 0,
+    qnum: 0,
+    qbytes: 5,
+    lspid: 0,
+    lrpid: 0,
+    stime: 0,
+    rtime: 0,
+    ctime: 60,
+};
+
 #[test]
 fn a_set_queue_tells_its_attributes(rt: HostRuntime) {
     let mut world = world_at(&rt, rt.alloc(), 0, 0);
-    assert_is(
-        &rt,
-        make(&rt, &mut world, 1, get_or_make(3)),
-        Outcome::Id(0),
-    );
+    assert_makes(&rt, &mut world, 1, get_or_make(3), Outcome::Id(0));
     let to = SetTo {
         uid: 2000,
         gid: 7,
@@ -159,28 +167,12 @@ fn a_set_queue_tells_its_attributes(rt: HostRuntime) {
     let set = world.step(Event::Step { actor: 1, now: 60 });
     assert_nothing(&rt, set);
     assert_answer(&rt, world.step(step(1)), (1, Outcome::Zero, None));
-    let stat = Stat {
-        key: 3,
-        perm: Perm {
-            uid: 2000,
-            gid: 7,
-            cuid: 1000,
-            cgid: 1000,
-            mode: 0o640,
-        },
-        cbytes: 0,
-        qnum: 0,
-        qbytes: 5,
-        lspid: 0,
-        lrpid: 0,
-        stime: 0,
-        rtime: 0,
-        ctime: 60,
-    };
-    assert_is(
+    assert_makes(
         &rt,
-        make(&rt, &mut world, 1, Call::Stat { id: 0 }),
-        Outcome::Stat(stat),
+        &mut world,
+        1,
+        Call::Stat { id: 0 },
+        Outcome::Stat(SHOWN),
     );
     assert_is(&rt, world.end(), 128);
 }
@@ -193,10 +185,10 @@ fn a_preset_is_made_in_an_unused_slot_alone(rt: HostRuntime) {
     let removed = make(&rt, &mut world, 1, Call::Remove { id: 0 });
     assert_is(&rt, removed, Outcome::Zero);
     assert!(rt; !world.preset());
-    assert_is(&rt, make(&rt, &mut world, 1, private()), Outcome::Id(64));
+    assert_makes(&rt, &mut world, 1, private(), Outcome::Id(64));
     assert_is(&rt, world.end(), 128);
     let mut world = world_at(&rt, rt.alloc(), 0, 0);
-    assert_is(&rt, make(&rt, &mut world, 1, private()), Outcome::Id(0));
+    assert_makes(&rt, &mut world, 1, private(), Outcome::Id(0));
     assert!(rt; !world.preset());
     let _blocks = world.end();
     let mut world = world_at(&rt, rt.alloc(), 0, 1);

@@ -42,22 +42,14 @@ fn one_of_two_receivers_is_given_the_message(rt: HostRuntime) {
 fn a_removal_ends_all_waits(rt: HostRuntime) {
     let alloc = rt.alloc();
     let mut world = world_at(&rt, alloc, 0, 0);
-    assert_is(
-        &rt,
-        make(&rt, &mut world, 1, get_or_make(7)),
-        Outcome::Id(0),
-    );
+    assert_makes(&rt, &mut world, 1, get_or_make(7), Outcome::Id(0));
     let to = SetTo {
         uid: 1000,
         gid: 1000,
         mode: 0o600,
         qbytes: 1,
     };
-    assert_is(
-        &rt,
-        make(&rt, &mut world, 1, Call::Set { id: 0, to }),
-        Outcome::Zero,
-    );
+    assert_makes(&rt, &mut world, 1, Call::Set { id: 0, to }, Outcome::Zero);
     let call = send_waiting(&rt, alloc, 1, b"ab");
     assert_nothing(&rt, world.step(start(2, call)));
     assert_nothing(&rt, world.step(step(2)));
@@ -73,12 +65,8 @@ fn a_removal_ends_all_waits(rt: HostRuntime) {
     assert_answer(&rt, world.step(step(3)), (3, gone, Some(b"")));
     let call = send_waiting(&rt, alloc, 1, b"ab");
     let invalid = Outcome::Refused(Errno::EINVAL);
-    assert_is(&rt, make(&rt, &mut world, 2, call), invalid);
-    assert_is(
-        &rt,
-        make(&rt, &mut world, 1, get_or_make(7)),
-        Outcome::Id(64),
-    );
+    assert_makes(&rt, &mut world, 2, call, invalid);
+    assert_makes(&rt, &mut world, 1, get_or_make(7), Outcome::Id(64));
     assert_is(&rt, world.end(), 128);
 }
 
@@ -99,7 +87,7 @@ fn a_taken_message_makes_room(rt: HostRuntime) {
         mtype: 7,
         len: 8192,
     };
-    assert_is(&rt, make(&rt, &mut world, 1, call), got);
+    assert_makes(&rt, &mut world, 1, call, got);
     assert_is(&rt, go(&rt, &mut world, 2), Outcome::Zero);
     assert_is(&rt, world.end(), 1024);
 }

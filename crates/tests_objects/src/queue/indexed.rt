@@ -6,7 +6,7 @@ ghost use Rattle.sysv_model.specs.declared.limits.TheConstants.{QUEUE_MESSAGES};
 ghost use Rattle.sysv_queue.specs.Probes.{IsFoundByFew};
 
 use super::{SENDER, open_slot};
-use crate::parts::{give_back, open_body, open_pool, room, type_of_number};
+use crate::parts::{give_back, open_body, open_pool, room};
 use std::alloc::Global;
 use std::marker::Brand;
 use std::process::Abort;
@@ -146,6 +146,13 @@ fn takes_follow_the_plain_rule(rt: HostRuntime) {
     assert_eq!(rt; arrived, 300);
     assert!(rt; freed > 150 && beside.types.len() > 50);
     end_desk(&rt, desk);
+}
+
+/// The type of the message with this number, each of 1 to 256 once.
+fn type_of_number(number: u64) -> i64
+    requires { number < 256 }
+{
+    (number * 77 % 256) as i64 + 1
 }
 
 /// Fills the queue with a message of each type.

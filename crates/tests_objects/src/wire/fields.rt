@@ -200,28 +200,3 @@ fn lengths_at_the_limits(rt: HostRuntime) {
     lengths_are(&rt, text, [0x80, 0, 0, 0], TooLong, TooLong);
     lengths_are(&rt, text, [0xff, 0xff, 0xff, 0xff], TooLong, TooLong);
 }
-
-#[test]
-fn frames_that_break_off(rt: HostRuntime) {
-    let mut text = open_body(&rt, rt.alloc());
-    for (op, (fields, given)) in (0u8..8).zip(ASKED.into_iter().zip(TOLD)) {
-        let length = fields.saturating_add(2);
-        let bytes = frame(length, 1, op, 0);
-        for cut in 1..length.saturating_add(4) {
-            assert_eq!(rt;
-                asked(&mut text, &bytes, cut),
-                Err(Fault::Truncated),
-                "{op} {cut}"
-            );
-        }
-        let length = given.saturating_add(3);
-        let bytes = frame(length, 1, op, 0);
-        for cut in 1..length.saturating_add(4) {
-            assert_eq!(rt;
-                told(&mut text, &bytes, cut),
-                Err(Fault::Truncated),
-                "{op} {cut}"
-            );
-        }
-    }
-}

@@ -79,14 +79,16 @@ fn reads_and_writes_replies(
     assert_eq!(rt; (end, failed, page.written()), (Ok(None), false, bytes));
 }
 
+/// Each receive of the session.
+const RECEIVE: Ask = Ask::Rcv {
+    id: 0,
+    size: 100,
+    mtype: -5,
+    flags: Flags::IPC_NOWAIT,
+};
+
 #[test]
 fn a_session(rt: HostRuntime) {
-    let receive = Ask::Rcv {
-        id: 0,
-        size: 100,
-        mtype: -5,
-        flags: Flags::IPC_NOWAIT,
-    };
     let asks = [
         Ask::Hello(Cred {
             uid: 1000,
@@ -102,8 +104,8 @@ fn a_session(rt: HostRuntime) {
             mtype: 5,
             flags: Flags::from_bits_retain(0),
         },
-        receive,
-        receive,
+        RECEIVE,
+        RECEIVE,
     ];
     let replies = [
         (0, Outcome::Hello),
@@ -152,37 +154,41 @@ fn ends_of_ranges(rt: HostRuntime) {
     }
 }
 
+/// The attributes that are told.
+const STAT: Stat = Stat {
+    key: 7,
+    perm: Perm {
+        uid: 1000,
+        gid: 1001,
+        cuid: 1002,
+        cgid: 1003,
+        mode: 0o600,
+    },
+    cbytes: 3,
+    qnum: 1,
+    qbytes: 16384,
+    lspid: 101,
+    lrpid: 102,
+    stime: 1,
+    rtime: 2,
+    ctime: 4_294_967_299,
+};
+
+/// A row.
+const ROW: Row = Row {
+    id: 64,
+    key: 7,
+    uid: 1000,
+    mode: 0o777,
+    cbytes: 3,
+    qnum: 1,
+};
+
 #[test]
 fn attributes_and_rows(rt: HostRuntime) {
-    let stat = Stat {
-        key: 7,
-        perm: Perm {
-            uid: 1000,
-            gid: 1001,
-            cuid: 1002,
-            cgid: 1003,
-            mode: 0o600,
-        },
-        cbytes: 3,
-        qnum: 1,
-        qbytes: 16384,
-        lspid: 101,
-        lrpid: 102,
-        stime: 1,
-        rtime: 2,
-        ctime: 4_294_967_299,
-    };
-    let row = Row {
-        id: 64,
-        key: 7,
-        uid: 1000,
-        mode: 0o777,
-        cbytes: 3,
-        qnum: 1,
-    };
     let replies = [
-        (4, Outcome::Stat(stat)),
-        (7, Outcome::Row(Some(row))),
+        (4, Outcome::Stat(STAT)),
+        (7, Outcome::Row(Some(ROW))),
         (7, Outcome::Row(None)),
         (5, Outcome::Set),
         (6, Outcome::Rm),

@@ -108,7 +108,7 @@ fn a_pass_receives_its_own_message(rt: HostRuntime) {
 }
 
 #[test]
-fn a_queue_is_told_set_and_removed(rt: HostRuntime) {
+fn a_queue_is_told_and_set(rt: HostRuntime) {
     let (service, mut pass) = opened(&rt, rt.alloc(), 128, 0);
     let id = service.msgget(&rt, &mut pass, &CLOCK, USER, 7, creating());
     assert_is(&rt, id, Ok(0));
@@ -138,11 +138,16 @@ fn a_queue_is_told_set_and_removed(rt: HostRuntime) {
         Ok(Some(row)) => assert_is(&rt, (row.id, row.mode), (0, 0o640)),
         _ => panic!(rt; "no row"),
     }
-    assert_is(
-        &rt,
-        service.list_row(&rt, &mut pass, 64),
-        Err(Errno::EINVAL),
-    );
+    let row = service.list_row(&rt, &mut pass, 64);
+    assert_is(&rt, row, Err(Errno::EINVAL));
+    assert_is(&rt, service.close(pass), closed(0, 128));
+}
+
+#[test]
+fn a_queue_is_removed(rt: HostRuntime) {
+    let (service, mut pass) = opened(&rt, rt.alloc(), 128, 0);
+    let id = service.msgget(&rt, &mut pass, &CLOCK, USER, 7, creating());
+    assert_is(&rt, id, Ok(0));
     assert_is(
         &rt,
         service.msgctl_rmid(&rt, &mut pass, OTHER, 0),

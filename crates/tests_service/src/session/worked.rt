@@ -61,21 +61,6 @@ fn the_session_ended_after_each_byte(rt: HostRuntime) {
     }
 }
 
-#[test]
-fn ten_bytes_into_the_send(rt: HostRuntime) {
-    let mut reader = Pieces::new(&SESSION[..42], usize::MAX);
-    let mut page = Page::new();
-    let told = served(&rt, rt.alloc(), &mut reader, &mut page);
-    assert_served(
-        &rt,
-        &told,
-        &page,
-        End::Fault(Fault::Truncated),
-        (2, 0, 0, 0),
-        &ANSWERS[..18],
-    );
-}
-
 /// A session of these bytes ends so, before any hello.
 fn ends_unanswered(rt: &impl Abort, alloc: Global, bytes: &[u8], end: End) {
     let mut reader = Pieces::new(bytes, usize::MAX);

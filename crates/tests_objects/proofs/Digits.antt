@@ -1,8 +1,8 @@
-use Rattle.std.proofs.Common.{◌≡◌, ℕ, ◌^◌, ◌<◌, ◌≤◌, lit<, refl, sym, ap, ◌∙◌, inl, inr, arith}
+-- 256 has nine binary digits.
+use Rattle.std.proofs.Common.{◌≡◌, ℕ, ◌^◌, ◌<◌, ◌≤◌, lit<, refl, sym, inl, inr, arith}
 use Rattle.std.proofs.Math.Nat.{pow-le-pow_right}
 use Rattle.std.proofs.lemmas.Bool.{cases_lt}
 use Rattle.sysv_rules.specs.Digits.{digits, one_digits}
-use Rattle.tests_objects.proofs.index.select_by_few.Goals as goal
 
 at_least_nine : (j : ℕ) → 256 < 2 ^ j → 9 ≤ j
 at_least_nine j h = elim (cases_lt j 9) [
@@ -10,8 +10,5 @@ at_least_nine j h = elim (cases_lt j 9) [
   | inr more ↦ more
 ]
 
-nine_digits : digits 256 ≡ 9
+pub nine_digits : digits 256 ≡ 9
 nine_digits = sym (one_digits 256 9 (lit< tt, at_least_nine))
-
-pub returns : goal.returns
-returns g c = let nine = ap digits c.requires ∙ nine_digits in omega (arith, c.select.ensures.few)
