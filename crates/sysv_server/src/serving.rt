@@ -12,6 +12,7 @@ use crate::fault::ServeFault;
 use crate::session::{Sessions, Worker};
 use crate::sums::Sums;
 use std::alloc::Global;
+use std::io;
 use std::os::unix::net::{UnixListener, UnixStream};
 use std::sync::Wait;
 use std::thread::Threads;
@@ -42,8 +43,29 @@ pub fn serve_on<R: Threads + Wait + Sync>(
     ensures ok { IfOk result (λ sums. ServesOn blocks workers sessions sums) }
     ensures balance { IfOk result IsBalanced }
 {
+    let mut fault = None;
+    serve_until_fault(rt, alloc, listener, blocks, workers, sessions, &mut fault)
+}
+
+/// As `serve_on`, and leaves in `fault` why an accept failed, or `None` if none did.
+pub fn serve_until_fault<R: Threads + Wait + Sync>(
+    rt: &R,
+    alloc: Global,
+    listener: &UnixListener,
+    blocks: u32,
+    workers: u32,
+    sessions: u64,
+    fault: &mut Option<io::Error>,
+) -> Result<Sums, ServeFault>
+    requires blocks { (MIN_BLOCKS ≤ blocks) × (blocks ≤ MAX_BLOCKS) }
+    requires workers { (1 ≤ workers) × (workers ≤ MAX_WORKERS) }
+    ensures ok { IfOk result (λ sums. ServesOn blocks workers sessions sums) }
+    ensures balance { IfOk result IsBalanced }
+{
     let mut source = Accepting::new(listener, sessions);
-    serve_connections(rt, alloc, &mut source, blocks, workers)
+    let outcome = serve_connections(rt, alloc, &mut source, blocks, workers);
+    *fault = source.into_fault();
+    outcome
 }
 
 /// As `serve_on`, with the connections that a source gives. After `NoMemory` and `Thread` the source was not asked.

@@ -39,8 +39,13 @@ pub(crate) struct Serving<'a> {
 /// The most workers of a server.
 const MAX_WORKERS: u32 = 16;
 
-/// Why a word says nothing.
+/// The most bytes of a socket's path: its system call has room for one more, which is 0.
+const MAX_PATH: usize = 107;
+
+/// Why a word is not understood.
 type Bad = &'static str;
+
+const BAD_PATH: Bad = "a PATH has 1 to 107 bytes";
 
 const BAD_KEY: Bad =
     "a KEY is 1 to 2147483647, or 0x and one to eight hexadecimal digits that are not all 0";
@@ -110,9 +115,7 @@ fn task_of<'a>(matches: &ArgMatches<'a>) -> Result<Asked<'a>, Bad>
         "rcv" => receiving(words)?,
         _ => return Err(NO_COMMAND),
     };
-    let Some(path) = words.get_str("path") else {
-        return Err(NO_COMMAND);
-    };
+    let path = path_of(words)?;
     let cred = cred_of(words)?;
     Ok(Asked::Client {
         path,
@@ -120,15 +123,20 @@ fn task_of<'a>(matches: &ArgMatches<'a>) -> Result<Asked<'a>, Bad>
     })
 }
 
+/// The path of the socket. An empty one would make a socket without a name, which no file's mode guards.
+fn path_of<'a>(words: &ArgMatches<'a>) -> Result<&'a str, Bad> {
+    match words.get_str("path") {
+        Some(path) if !path.is_empty() && path.len() <= MAX_PATH => Ok(path),
+        _ => Err(BAD_PATH),
+    }
+}
+
 /// What a `serve` asks for.
 fn server<'a>(words: &ArgMatches<'a>) -> Result<Serving<'a>, Bad>
     ensures { IfOk result HasLimits }
 {
-    let Some(path) = words.get_str("path") else {
-        return Err(NO_COMMAND);
-    };
     Ok(Serving {
-        path,
+        path: path_of(words)?,
         blocks: blocks_of(words)?,
         workers: workers_of(words)?,
         sessions: sessions_of(words)?,
