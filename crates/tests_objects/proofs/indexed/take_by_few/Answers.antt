@@ -2,7 +2,7 @@ use Rattle.std.proofs.Common.{◌≡◌, ℕ, ◌^◌, ◌<◌, ◌≤◌, lit<,
 use Rattle.std.proofs.Math.Nat.{pow-le-pow_right}
 use Rattle.std.proofs.lemmas.Bool.{cases_lt}
 use Rattle.sysv_rules.specs.Digits.{digits, one_digits}
-use Rattle.sysv_queue_tests.proofs.indexed.take_by_few.Goals as goal
+use Rattle.tests_objects.proofs.indexed.take_by_few.Goals as goal
 
 at_least_nine : (j : ℕ) → 256 < 2 ^ j → 9 ≤ j
 at_least_nine j h = elim (cases_lt j 9) [

@@ -3,7 +3,7 @@ use Rattle.sysv_model.specs.declared.attributes.Attributes.{Attributes}
 use Rattle.sysv_model.specs.declared.attributes.Row.{Row}
 use Rattle.sysv_model.specs.Message.{Message}
 use Rattle.sysv_queue.specs.Shown.{row_of}
-use Rattle.sysv_queue_tests.proofs.indexed.assert_full.Goals as goal
+use Rattle.tests_objects.proofs.indexed.assert_full.Goals as goal
 
 many_shown : (messages : List Message) (live : Option Attributes) (row : Row) → Some row ≡ option_map (row_of messages) live → row.qnum ≡ length messages
 many_shown messages None row is = absurd cc
