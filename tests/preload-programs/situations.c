@@ -395,13 +395,13 @@ static void changes_user(void)
     expect(count_descriptors(is_socket) == 1, "connections are left");
 }
 
-/* The last 12 bytes of a page, and the page after it may not be touched. */
+/* The last 16 bytes of a page, and the page after it may not be touched. */
 static char *edge(void)
 {
     long page = sysconf(_SC_PAGESIZE);
     char *pages = mmap(NULL, 2 * (size_t)page, PROT_READ | PROT_WRITE, MAP_PRIVATE | MAP_ANONYMOUS, -1, 0);
     mprotect(pages + page, (size_t)page, PROT_NONE);
-    return pages + page - 12;
+    return pages + page - 16;
 }
 
 static void bad_pointers(void)
@@ -410,11 +410,11 @@ static void bad_pointers(void)
     char *last = edge();
     void *constant = mmap(NULL, 4096, PROT_READ, MAP_PRIVATE | MAP_ANONYMOUS, -1, 0);
     *(long *)(void *)last = 9;
-    expect(msgsnd(id, last, 4, 0) == 0, "a message up to the edge isn't sent");
-    expect(refused(msgsnd(id, last, 5, 0), EFAULT) && refused(msgsnd(id, NULL, 5, 0), EFAULT), "msgsnd: EFAULT");
+    expect(msgsnd(id, last, 8, 0) == 0, "a message up to the edge isn't sent");
+    expect(refused(msgsnd(id, last, 9, 0), EFAULT) && refused(msgsnd(id, NULL, 5, 0), EFAULT), "msgsnd: EFAULT");
     expect(stat_of(id).msg_qnum == 1, "a message of nowhere was sent");
     expect(refused(msgrcv(id, NULL, 5, 0, 0), EFAULT) && stat_of(id).msg_qnum == 1, "msgrcv: EFAULT, and it stays");
-    expect(msgrcv(id, last, 8192, 0, 0) == 4, "a short text isn't received into the room that is there");
+    expect(msgrcv(id, last, 8192, 0, 0) == 8, "a short text isn't received into the room that is there");
     send_text(id, 1);
     expect(refused(msgrcv(id, constant, 5, 0, 0), EFAULT), "msgrcv: EFAULT for constant memory");
     expect(refused(msgctl(id, IPC_STAT, NULL), EFAULT) && refused(msgctl(id, IPC_STAT, constant), EFAULT)
