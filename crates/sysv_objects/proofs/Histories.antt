@@ -1,5 +1,5 @@
 -- One more turn, as the histories of the objects have it.
-use Rattle.std.proofs.Common.{◌≡◌, ◌≢◌, ℕ, zero, suc, ◌+◌, ◌≤◌, ◌==◌, Bool, true, false, cond, List, [], ◌∷◌, ◌++◌, refl, sym, ap, ◌∙◌, arith}
+use Rattle.std.proofs.Common.{◌≡◌, ◌≢◌, ℕ, ◌+◌, ◌≤◌, Bool, true, false, cond, List, [], ◌∷◌, ◌++◌, refl, ap, ◌∙◌, arith}
 use Rattle.std.proofs.Math.Dec.{eqb}
 use Rattle.std.proofs.lemmas.Grind.{flat_map-append}
 use Rattle.std.proofs.lemmas.List.{append-nil}
@@ -9,7 +9,6 @@ use Rattle.sysv_objects.specs.Objects.{raises}
 use Rattle.sysv_model.specs.History.{Who, Call, Install, Probe, Look, Place, Take, ReadStat, Set, Remove, ReadRow, Reply, Entry, History, announces_arrival, announces_room, arrived, freed, then_turn}
 use Rattle.sysv_model.specs.Registry.{RegistryCall, RegistryReply}
 use Rattle.sysv_model.specs.Pool.{PoolCall, PoolReply}
-use Rattle.sysv_keys.specs.StandsFor.{then_turn as then_registry_turn}
 use Rattle.sysv_model.specs.Turn.{Deed, AtSlot, AtRegistry, AtPool, Turn, slot_entry, registry_entry, pool_entry, slot_history, registry_history, pool_history}
 
 abbrev pub turn_of : Who → Deed → Turn

@@ -1,12 +1,11 @@
 -- Legal turns, and the one legal reply after them.
-use Rattle.std.proofs.Common.{◌≡◌, ◌≢◌, ◌⊎◌, inl, inr, ℕ, Bool, true, false, cond, List, [], ◌∷◌, ◌++◌, refl, sym, ap, subst, ◌∙◌}
+use Rattle.std.proofs.Common.{◌≡◌, ◌≢◌, ◌⊎◌, inl, inr, ℕ, true, false, List, [], ◌∷◌, ◌++◌, refl, sym, subst}
 use Rattle.std.proofs.Math.Dec.{eqb}
 use Rattle.std.proofs.lemmas.Bool.Decides.{eqb_tells}
-use Rattle.std.proofs.lemmas.List.{append-nil}
 use Rattle.sysv_model.specs.History.{Who, Call, Reply, Entry, History}
-use Rattle.sysv_model.specs.Registry.{RegistryCall, RegistryReply, RegistryEntry, RegistryHistory}
-use Rattle.sysv_model.specs.Pool.{PoolCall, PoolReply, PoolEntry, PoolHistory}
-use Rattle.sysv_model.specs.Turn.{Ask, OfSlot, OfRegistry, OfPool, Deed, AtSlot, AtRegistry, AtPool, asked_by, Turn, slot_history, registry_history, pool_history}
+use Rattle.sysv_model.specs.Registry.{RegistryEntry, RegistryHistory}
+use Rattle.sysv_model.specs.Pool.{PoolEntry, PoolHistory}
+use Rattle.sysv_model.specs.Turn.{OfSlot, OfRegistry, OfPool, Deed, AtSlot, AtRegistry, AtPool, Turn, slot_history, registry_history, pool_history}
 use Rattle.sysv_queue.specs.LegalReply.{IsLegalReply, IsLegalHistory}
 use Rattle.sysv_queue.specs.OneReply.{SomeReplyIsLegal, NoTwoRepliesAreLegal}
 use Rattle.sysv_keys.specs.LegalReply.{IsLegalReply as IsLegalRegistryReply, IsLegalHistory as IsLegalRegistryHistory}

@@ -1,6 +1,6 @@
 -- A turn at a slot, at the registry or at the pool is one of the objects.
-use Rattle.std.proofs.Common.{◌≡◌, ◌≢◌, ℕ, ◌+◌, ◌≤◌, List, [], ◌∷◌, ◌++◌, Some, inl, inr, refl, sym, ap, subst, ◌∙◌, arith, length, slice_get, slice_set, length-set}
-use Rattle.sysv_model.specs.History.{Who, Actor, Call, Reply, Entry, arrived, freed, then_turn}
+use Rattle.std.proofs.Common.{◌≡◌, ℕ, ◌+◌, ◌≤◌, List, [], ◌∷◌, ◌++◌, Some, inl, inr, refl, sym, ap, subst, ◌∙◌, arith, slice_get, slice_set, length-set}
+use Rattle.sysv_model.specs.History.{Who, Actor, Call, Reply, Entry}
 use Rattle.sysv_model.specs.Registry.{RegistryCall, RegistryReply}
 use Rattle.sysv_model.specs.Pool.{PoolCall, PoolReply}
 use Rattle.sysv_model.specs.Turn.{Deed, AtSlot, AtRegistry, AtPool, Turn, slot_history, registry_history, pool_history}
@@ -12,7 +12,7 @@ use Rattle.sysv_pool.specs.StandsFor.{StandsFor as PoolStandsFor, MakesTurn as P
 use Rattle.sysv_pool.specs.LegalReply.{Legal as LegalAtPool}
 use Rattle.sysv_keys.specs.StandsFor.{Registry, StandsFor as RegistryStandsFor, MakesTurn as RegistryMakesTurn}
 use Rattle.sysv_objects.specs.LegalDeed.{IsLegalDeed}
-use Rattle.sysv_objects.specs.Objects.{Objects, CountsUpTo, raises, pool_raises}
+use Rattle.sysv_objects.specs.Objects.{Objects, raises, pool_raises}
 use Rattle.sysv_objects.specs.StandsFor.{StandsFor, Stand, MakesTurn}
 use Rattle.sysv_objects.proofs.Lists.{set_same, get_set}
 use Rattle.sysv_objects.proofs.Histories.{turn_of, at_its_slot, at_another, registry_more, not_at_registry, not_at_slot, slot_not_at_pool, registry_not_at_pool, pool_not_at_slot, pool_not_at_registry, pool_more, arrives, frees}

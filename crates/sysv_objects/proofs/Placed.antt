@@ -1,5 +1,5 @@
 -- A turn that the code makes at the slot of an identifier.
-use Rattle.std.proofs.Common.{◌≡◌, ℕ, ℤ, [], ◌+◌, ◌<◌, ◌≤◌, ◌^◌, List, Some, refl, sym, ap, subst, ◌∙◌, arith, length, get_or, slice_get, slice_set, w32, of_z, to_z, FitsSigned}
+use Rattle.std.proofs.Common.{◌≡◌, ℕ, ℤ, [], ◌+◌, ◌<◌, ◌≤◌, List, Some, refl, sym, ap, subst, ◌∙◌, arith, length, get_or, slice_get, slice_set, w32, of_z, to_z, FitsSigned}
 use Rattle.std.specs.List.{All}
 use Rattle.std.proofs.lemmas.Int.{to_z-of_z}
 use Rattle.std.proofs.lemmas.Option.{slice_get_read, slice_get_within, get_or_from_slice_get}

@@ -1,5 +1,5 @@
 -- What the objects are seen as: each slot, by its number, the registry and the pool (this profile's).
-use Rattle.std.specs.Prelude.{◌≡◌, ℕ, ◌+◌, ◌≤◌, List, Some, slice_get, sum_by}
+use Rattle.std.specs.Prelude.{◌≡◌, ℕ, ◌≤◌, List, Some, slice_get, sum_by}
 use Rattle.sysv_model.specs.History.{Call, Place, Take, Set, Remove}
 use Rattle.sysv_model.specs.Pool.{PoolCall, Reserve, Release}
 use Rattle.sysv_model.specs.Turn.{Deed, AtSlot, AtRegistry, AtPool}

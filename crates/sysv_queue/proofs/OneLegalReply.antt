@@ -1,6 +1,6 @@
 -- Each call has exactly one legal reply, since what a caller wants is permitted or not
 -- and a selector names one place or none.
-use Rattle.std.proofs.Common.{◌≡◌, ◌≢◌, ℕ, zero, suc, ℤ, ◌+◌, ◌<◌, ◌≤◌, ◌⊎◌, inl, inr, Bool, true, false, List, Option, None, Some, IsSome, refl, sym, ap, subst, ◌∙◌, arith, length, option_map, bit_and}
+use Rattle.std.proofs.Common.{◌≡◌, ◌≢◌, ℕ, ℤ, ◌+◌, ◌⊎◌, inl, inr, Bool, true, false, List, Option, None, Some, IsSome, refl, sym, ap, subst, ◌∙◌, arith, length, option_map, bit_and}
 use Rattle.std.proofs.lemmas.Bool.{cases_eq}
 use Rattle.sysv_lists.proofs.Orders.{at_most}
 use Rattle.sysv_model.specs.declared.cred.Cred.{Cred}

@@ -1,4 +1,4 @@
-use Rattle.std.proofs.Common.{◌≡◌, ◌+◌, ◌≤◌, ℕ, Option, None, Some, MatchOption, refl, sym, ap, subst, ◌∙◌, arith}
+use Rattle.std.proofs.Common.{◌≡◌, ◌+◌, ◌≤◌, Option, None, Some, MatchOption, refl, ap, ◌∙◌, arith}
 use Rattle.sysv_pool.specs.Chain.{Chained}
 use Rattle.sysv_pool.specs.State.{State as Pool}
 use Rattle.sysv_objects.proofs.Placed.{turned_at_pool, stand_at_pool}
