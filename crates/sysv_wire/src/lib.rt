@@ -15,10 +15,11 @@ mod reply;
 mod request;
 mod requests;
 
-pub use fault::{Fault, WriteFault};
+pub use fault::Fault;
 pub use frame::{MAX_MODE, MAX_REPLY, MAX_REQUEST, MIN_REPLY, MIN_REQUEST, Op, VERSION};
 pub use laws::{one_answer_to_replies, one_answer_to_requests, one_reply, one_request};
 pub use replies::{read_reply, write_reply};
 pub use reply::{Outcome, Reply};
 pub use request::{Ask, Request};
 pub use requests::{read_request, write_request};
+pub use sysv_model::WriteFault;

@@ -1,7 +1,7 @@
-//! Laws over the definitions alone.
+//! Laws on what a text prints.
 
-ghost use Rattle.sysv_texts.specs.EachText.{EachTextPrints};
-ghost use Rattle.sysv_texts.specs.OneText.{OneText};
+ghost use Rattle.sysv_script.specs.EachText.{EachTextPrints};
+ghost use Rattle.sysv_script.specs.OneText.{OneText};
 
 use sysv_core::{each_world_is_sound, one_step, some_step};
 use sysv_lines::{each_line_is_decided, one_saying};

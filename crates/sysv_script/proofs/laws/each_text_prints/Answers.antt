@@ -1,5 +1,5 @@
-use Rattle.sysv_texts.proofs.EachText as text
-use Rattle.sysv_texts.proofs.laws.each_text_prints.Goals as goal
+use Rattle.sysv_script.proofs.EachText as text
+use Rattle.sysv_script.proofs.laws.each_text_prints.Goals as goal
 
 pub returns : goal.returns
 returns c =

@@ -1,5 +1,5 @@
-use Rattle.sysv_texts.proofs.OneText as text
-use Rattle.sysv_texts.proofs.laws.one_text.Goals as goal
+use Rattle.sysv_script.proofs.OneText as text
+use Rattle.sysv_script.proofs.laws.one_text.Goals as goal
 
 pub returns : goal.returns
 returns c =

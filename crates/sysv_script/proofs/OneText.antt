@@ -1,6 +1,5 @@
 -- A text prints one thing: line by line, and so in all.
 use Rattle.std.proofs.Common.{◌≡◌, ℕ, zero, suc, ◌+◌, ◌<◌, ◌≤◌, ◌⊎◌, inl, inr, true, false, Option, None, Some, List, [], ◌∷◌, ◌++◌, length, length-append, take, refl, sym, ap, subst, ◌∙◌, append_assoc, arith}
-use Rattle.std.proofs.Math.Seq.{take-append_seam}
 use Rattle.std.specs.List.{range_with_len}
 use Rattle.std.proofs.Common.{Bool, if◌then◌else◌}
 use Rattle.sysv_steps.specs.Call.{SystemCall}
@@ -8,7 +7,7 @@ use Rattle.sysv_lines.specs.declared.names.Operation.{Operation}
 use Rattle.sysv_core.specs.declared.event.Call.{Call}
 use Rattle.sysv_core.specs.Seen.{happening_of}
 use Rattle.sysv_core.specs.Sound.{IsSound, OpensSound, StaysSound}
-use Rattle.sysv_texts.proofs.Opening.{opening_sound}
+use Rattle.sysv_script.proofs.Opening.{opening_sound}
 use Rattle.sysv_core.specs.declared.event.Event.{Event}
 use Rattle.sysv_core.specs.declared.event.Event.TheVariants.{Start, Step}
 use Rattle.sysv_core.specs.declared.event.Stepped.{Stepped}
@@ -17,10 +16,11 @@ use Rattle.sysv_model.specs.declared.cred.Cred.{Cred}
 use Rattle.sysv_core.specs.World.{World, Preset, actor_at, Presets}
 use Rattle.sysv_lines.specs.Said.{Said, Nothing, MakesPreset, GivesCred, GivesMoment, Starts, StepsOnce, Continues, AllContinue, GivesBlocks}
 use Rattle.sysv_stage.specs.Scene.{Scene, in_world, begun_scene, opening_world, LineActs, Advances, GoesOn, StartsAs, call_for, most_steps, CallRuns, StartRuns, StepsRun, OneRuns, AllRun, LineRuns, operation_of, under_way, printed}
-use Rattle.sysv_streams.specs.Faults.{IsFrontOf, bad_line_text}
-use Rattle.sysv_texts.specs.ScriptText.{BeginsWith, LineDoes, IsBad, Ending, Whole, BadLine, TooMany, Prints, Ends, Exceeds, Fails, Goes}
-use Rattle.sysv_texts.specs.Sofar.{PrintsSofar, Here, Past}
-use Rattle.sysv_texts.specs.OneText.{OneText}
+use Rattle.sysv_lists.specs.Prefix.{IsPrefixOf}
+use Rattle.sysv_streams.specs.Faults.{bad_line_text}
+use Rattle.sysv_script.specs.ScriptText.{BeginsWith, LineDoes, IsBad, Ending, Whole, BadLine, TooMany, Prints, Ends, Exceeds, Fails, Goes}
+use Rattle.sysv_script.specs.Sofar.{PrintsSofar, Here, Past}
+use Rattle.sysv_script.specs.OneText.{OneText}
 use Rattle.sysv_words.specs.OneSplit.{OneSplit}
 use Rattle.sysv_lines.specs.OneLine.{OneSaying}
 use Rattle.sysv_core.specs.OneRun.{OneStep, OnePreset}
@@ -316,21 +316,16 @@ module _ (split : OneSplit) (saying : OneSaying) where
         (ap (λ l. first ++ l) same.0 ∙ sym on.whole, same.1)
 
     -- what was printed before a line stands before what is printed in all
-    sofar : (s : Scene) (n : ℕ) (text out other : List ℕ) (end : Ending) → IsSound s.world → PrintsSofar s n text out → Prints s n text other end → (tail : List ℕ) × (other ≡ out ++ tail)
-    sofar s n text out other end sound (Here _ _ _) k = (other, refl)
-    sofar s n text out other end sound (Past _ _ _ line rest first after more few begins does p) k =
+    prefix_of : (s : Scene) (n : ℕ) (text out other : List ℕ) (end : Ending) → IsSound s.world → PrintsSofar s n text out → Prints s n text other end → IsPrefixOf out other
+    prefix_of s n text out other end sound (Here _ _ _) k = (other, refl)
+    prefix_of s n text out other end sound (Past _ _ _ line rest first after more few begins does p) k =
         let on = goes_same s n text line rest first after other end sound few begins does (opens s n text other end k) in
-        let behind = sofar after (n + 1) rest more on.behind end (does_sound s line first after sound does) p on.prints in
+        let behind = prefix_of after (n + 1) rest more on.behind end (does_sound s line first after sound does) p on.prints in
         (behind.0, on.whole ∙ (ap (λ l. first ++ l) behind.1 ∙ sym (append_assoc first more behind.0)))
-
-    front_of : (s : Scene) (n : ℕ) (text out other : List ℕ) (end : Ending) → IsSound s.world → PrintsSofar s n text out → Prints s n text other end → IsFrontOf out other
-    front_of s n text out other end sound h k =
-        let tail = sofar s n text out other end sound h k in
-        (length out, sym (ap (take (length out)) tail.1 ∙ take-append_seam out tail.0))
 
 pub one_text : OneSplit → OneSaying → OneStep → OnePreset → StaysSound → OpensSound → OneText
 one_text split saying one preset stays openings = record {
   sound = opening_sound openings 1024;
   once = λ s n text out other ending end sound h k. agrees split saying one preset stays openings s n text out other ending end sound h k;
-  sofar = λ s n text out other end sound h k. front_of split saying one preset stays openings s n text out other end sound h k;
+  sofar = λ s n text out other end sound h k. prefix_of split saying one preset stays openings s n text out other end sound h k;
 }

@@ -1,7 +1,7 @@
 -- What the text of a script has printed before one of its lines (this project's script language).
 use Rattle.std.specs.Prelude.{◌≤◌, ◌+◌, ℕ, List, [], ◌++◌}
 use Rattle.sysv_stage.specs.Scene.{Scene}
-use Rattle.sysv_texts.specs.ScriptText.{BeginsWith, LineDoes}
+use Rattle.sysv_script.specs.ScriptText.{BeginsWith, LineDoes}
 use Rattle.sysv_streams.specs.declared.fault.TheConstants.{SCRIPT_LINES}
 
 -- What a text has printed before one of its lines, whichever that is.
