@@ -1,5 +1,13 @@
 //! The frames of a session: requests and replies as bytes, read from any reader and written to any
-//! writer. `specs/` has the spelling of each, and what a reader answers to bytes that spell none.
+//! writer. `specs/` has the spelling of each, and what a reader returns for bytes that spell none.
+//!
+//! ```rust
+//! let ask = Ask::Get { key: 7, flags };
+//! let mut frame = Vec::new(rt.alloc());
+//! write_request(&mut Watched::new(&mut frame), &Request { ask }, &text)?;
+//! let mut bytes = frame.as_slice();
+//! let read = read_request(&mut Watched::new(&mut bytes), &mut text)?;
+//! ```
 #![tactic(auto)]
 
 mod fault;
