@@ -1,10 +1,9 @@
 -- How a run of a script that is under way ends, by the fault that ends it.
-use Rattle.std.proofs.Common.{◌≡◌, ◌+◌, ◌≤◌, ℕ, zero, suc, List, [], ◌∷◌, ◌++◌, Option, Some, Result, Ok, Err, length, take, refl, sym, ap, subst, ◌∙◌}
+use Rattle.std.proofs.Common.{◌≡◌, ◌+◌, ◌≤◌, ℕ, List, [], ◌++◌, Option, Some, Result, Ok, Err, take, refl, sym, ap, subst}
 use Rattle.std.specs.Prelude.{IsErrAnd, IfErr, OnOk, OnErr, ⊤, Bool, true, false, not}
 use Rattle.std.specs.Result.{result_and}
 use Rattle.std.specs.Io.KnownBytes.{Appends}
 use Rattle.std.proofs.KnownBytes.{Appends-nil, Appends-trans}
-use lib.Seq.{take-append-add}
 use Rattle.sysv_stage.specs.Scene.{Scene, opening_scene}
 use Rattle.sysv_stage.specs.declared.stage.Stage.{Stage}
 use Rattle.sysv_stage.specs.Staged.{IsSceneOf}
