@@ -5,7 +5,8 @@ use std::io;
 use std::os::unix::net::{UnixListener, UnixStream};
 use sysv_workers::Source;
 
-/// Accepts connections, up to a number of them or, where that is 0, without end. An accept that fails ends it.
+/// Accepts connections, up to a number of them or, if that is 0, without end. An accept that fails
+/// ends it.
 #[derive(Drop)]
 pub(crate) struct Accepting<'a> {
     listener: &'a UnixListener,

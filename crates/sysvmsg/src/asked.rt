@@ -66,8 +66,8 @@ const LONG_TEXT: Bad = "a TEXT has at most 8256 bytes";
 
 const NO_COMMAND: Bad = "a command is missing";
 
-/// What the words ask for, the program's name first; or why they ask for nothing, or the help or the
-/// version that they ask for.
+/// What the words ask for, the program's name first; or why they are not understood, or the help or
+/// the version that they ask for.
 pub(crate) fn read_words<'a, S: AsStr>(alloc: Global, words: &'a [S]) -> Result<Asked<'a>, Error>
     ensures { IfOk result IsWithinLimits }
 {
@@ -75,7 +75,7 @@ pub(crate) fn read_words<'a, S: AsStr>(alloc: Global, words: &'a [S]) -> Result<
     read_line(&mut line, words)
 }
 
-/// The same, by a command line.
+/// As `read_words`, by a command line.
 fn read_line<'a, S: AsStr>(line: &mut CommandLine<'a>, words: &'a [S]) -> Result<Asked<'a>, Error>
     ensures { IfOk result IsWithinLimits }
 {
@@ -86,9 +86,9 @@ fn read_line<'a, S: AsStr>(line: &mut CommandLine<'a>, words: &'a [S]) -> Result
     }
 }
 
-/// That a word is no text.
+/// The fault that a word is not UTF-8.
 pub(crate) fn no_text(alloc: Global) -> Error {
-    match fault(alloc, "a word is no text") {
+    match fault(alloc, "a word is not UTF-8") {
         Ok(error) => error,
         Err(error) => Error::from(error),
     }
@@ -123,7 +123,8 @@ fn task_of<'a>(matches: &ArgMatches<'a>) -> Result<Asked<'a>, Bad>
     })
 }
 
-/// The path of the socket. An empty one would make a socket without a name, which no file's mode guards.
+/// The path of the socket. An empty one would make a socket without a name, which no file's mode
+/// guards.
 fn path_of<'a>(words: &ArgMatches<'a>) -> Result<&'a str, Bad> {
     match words.get_str("path") {
         Some(path) if !path.is_empty() && path.len() <= MAX_PATH => Ok(path),

@@ -56,11 +56,15 @@ struct Either {
 
 const SERVER: Argument = ("path", Form::Word("PATH"), "The server's socket");
 
-const USER: Argument = ("uid", Form::Value("N"), "The user [default: 1000]");
+const USER: Argument = ("uid", Form::Value("N"), "The caller's user [default: 1000]");
 
-const GROUP: Argument = ("gid", Form::Value("N"), "The group [default: 1000]");
+const GROUP: Argument = (
+    "gid",
+    Form::Value("N"),
+    "The caller's group [default: 1000]",
+);
 
-const PROCESS: Argument = ("pid", Form::Value("N"), "The process [default: 1]");
+const PROCESS: Argument = ("pid", Form::Value("N"), "The caller's process [default: 1]");
 
 const KEY: Argument = ("key", Form::Word("KEY"), KEY_HELP);
 
@@ -89,12 +93,12 @@ Example:
         (
             "blocks",
             Form::Value("B"),
-            "The blocks of 64 bytes for all message bodies, 128 to 65536 [default: 1024]",
+            "The number of 64-byte blocks for message bodies, 128 to 65536 [default: 1024]",
         ),
         (
             "workers",
             Form::Value("W"),
-            "The workers, 1 to 16 [default: 4]",
+            "The number of workers, 1 to 16 [default: 4]",
         ),
         (
             "sessions",
@@ -122,7 +126,7 @@ Example:
         (
             "type",
             Form::Value("N"),
-            "The message's type, 1 to 9223372036854775807 [default: 1]",
+            "The type of the message, 1 to 9223372036854775807 [default: 1]",
         ),
         (
             "nowait",
@@ -149,12 +153,12 @@ Example:
         (
             "type",
             Form::Value("N"),
-            "The first message of this type, 1 to 9223372036854775807",
+            "Takes the first message of type N, 1 to 9223372036854775807",
         ),
         (
             "upto",
             Form::Value("N"),
-            "The first message of the lowest type that is at most this",
+            "Takes the first message of the lowest type that is at most N",
         ),
         (
             "size",
@@ -169,7 +173,7 @@ Example:
         (
             "noerror",
             Form::Flag,
-            "Cuts a longer body to the size (MSG_NOERROR)",
+            "Cuts a longer body to S bytes; the rest is lost (MSG_NOERROR)",
         ),
         USER,
         GROUP,

@@ -12,7 +12,8 @@ use std::sync::Wait;
 use std::thread::Threads;
 use sysv_server::{Sums, serve_until_fault};
 
-/// Serves at a path, says on standard error that it listens, and prints what the sessions add up to.
+/// Serves at a path, says on standard error that it listens, and prints what the sessions add up
+/// to.
 pub(crate) fn serve_at<R: Files + Net + Threads + Wait + Sync + Print + Eprint + AllocGlobal>(
     rt: &R,
     serving: &Serving<'_>,
@@ -34,8 +35,8 @@ pub(crate) fn serve_at<R: Files + Net + Threads + Wait + Sync + Print + Eprint +
     }
 }
 
-/// Serves the connections of a listener, prints what their sessions add up to, and says on standard error
-/// why an accept failed.
+/// Serves the connections of a listener, prints what their sessions add up to, and says on standard
+/// error why an accept failed.
 fn serve_over<R: Threads + Wait + Sync + Print + Eprint + AllocGlobal>(
     rt: &R,
     listener: &UnixListener,
