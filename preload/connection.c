@@ -23,7 +23,7 @@ enum {
     REST_SECONDS = 10,        /* how long the rest of a reply may take that has begun */
 };
 
-/* A thread's connection, or that of a single call. */
+/* The connection of a thread or of a single call. */
 struct connection {
     atomic_bool taken;
     int fd;                   /* -1: it is not open */
@@ -40,7 +40,7 @@ struct call {
     bool may_be_cancelled;
 };
 
-/* All of them are here, so that a child of fork can close the copies that it has of other threads' connections. */
+/* The connections of all threads, so that a child of fork can close its copies of them. */
 static struct connection connections[CONNECTIONS];
 static __thread struct connection *mine __attribute__((tls_model("initial-exec")));
 static __thread volatile sig_atomic_t in_call __attribute__((tls_model("initial-exec")));
@@ -48,12 +48,11 @@ static __thread volatile sig_atomic_t in_call __attribute__((tls_model("initial-
 static pthread_key_t at_thread_end;
 static pid_t process;         /* the process whose connections these are */
 static bool serves;
+static bool keeps;            /* connections after a call */
 static bool ends_by_signals;
-static struct sockaddr_un server = {.sun_family = AF_UNIX};
-static const char *path;
+static struct sockaddr_un server = {.sun_family = AF_UNIX}; /* without a path if that is too long */
 
-/* Whether the descriptor is still the connection: the program may have closed it, and opened another file by its
- * number. */
+/* Whether the descriptor still is the connection. The program may have closed it, and its number may be another file. */
 static bool is_open(const struct connection *connection)
 {
     struct stat found;
@@ -61,7 +60,7 @@ static bool is_open(const struct connection *connection)
         && found.st_ino == connection->inode;
 }
 
-/* Ends the session, also if a child of this process still has a copy of the descriptor. */
+/* Closes the connection. A shutdown ends the session even if another process has a copy of the descriptor. */
 static void end_session(struct connection *connection)
 {
     if (is_open(connection)) {
@@ -80,7 +79,7 @@ static void end_thread(void *connection)
     in_call = 0;
 }
 
-/* In a child of fork: closes its copies, which are the parent's connections, and keeps the calling thread's place. */
+/* Closes a forked child's copies of its parent's connections, and frees the places of the threads that it doesn't have. */
 static void begin_child(void)
 {
     process = getpid();
@@ -100,12 +99,13 @@ static void begin(void)
     const char *word = secure_getenv("SYSVMSG_EINTR");
     ends_by_signals = word && strcmp(word, "1") == 0;
     word = secure_getenv("SYSVMSG_PATH");
-    if (!word || !*word || !(path = strdup(word)))
+    if (!word || !*word)
         return;
-    if (strlen(path) < sizeof server.sun_path)
-        strcpy(server.sun_path, path);
+    if (strlen(word) < sizeof server.sun_path)
+        strcpy(server.sun_path, word);
     process = getpid();
-    serves = pthread_key_create(&at_thread_end, end_thread) == 0 && pthread_atfork(NULL, NULL, begin_child) == 0;
+    keeps = pthread_key_create(&at_thread_end, end_thread) == 0 && pthread_atfork(NULL, NULL, begin_child) == 0;
+    serves = true;
 }
 
 bool has_server(void)
@@ -115,7 +115,7 @@ bool has_server(void)
     return serves;
 }
 
-/* Writes to the standard error without the signal of a pipe that nobody reads. */
+/* Writes to standard error. If that is a pipe without a reader, the SIGPIPE is taken back. */
 static void write_line(const struct iovec *pieces, int count)
 {
     sigset_t pipe_signal, before, pending;
@@ -130,19 +130,19 @@ static void write_line(const struct iovec *pieces, int count)
 
 static struct iovec piece(const char *text) { return (struct iovec){(void *)text, strlen(text)}; }
 
-/* Says once in a process why calls fail. */
+/* Reports on standard error why calls fail, once per process. */
 static void say_once(const char *why)
 {
     static atomic_flag said = ATOMIC_FLAG_INIT;
     if (atomic_flag_test_and_set(&said))
         return;
-    struct iovec line[] = {piece("libsysvmsg_preload: "), piece(path), piece(": "), piece(why),
-        piece("; calls of message queues fail with EIO\n")};
+    struct iovec line[] = {piece("libsysvmsg_preload: "), piece(*server.sun_path ? server.sun_path : "SYSVMSG_PATH"),
+        piece(": "), piece(why), piece("; message queue calls fail with EIO\n")};
     write_line(line, 5);
 }
 
-/* Ends a session that broke within a call. A handler of a signal that forks within a call returns to that call in the
- * child too, where its connection is closed. There the call was interrupted and nothing is broken. */
+/* Ends a session that failed during a call. If a signal handler forks during a call, it returns to that call in the
+ * child too, whose copy of the connection is closed. There the call was interrupted, and nothing is wrong. */
 static int broken(struct connection *connection, const struct call *call, const char *why)
 {
     end_session(connection);
@@ -152,7 +152,7 @@ static int broken(struct connection *connection, const struct call *call, const 
     return EIO;
 }
 
-/* What a thread that is cancelled within a call does: the session has a request without a reply, so it is over. */
+/* Runs if a thread is cancelled during a call. A request is without its reply, so the session can't go on. */
 static void abandon(void *connection)
 {
     end_session(connection);
@@ -160,8 +160,8 @@ static void abandon(void *connection)
         in_call = 0;
 }
 
-/* Returns what recv does, after a wait for the first byte. A handled signal ends the wait if `by_signals`. Only poll
- * returns at every handled signal: recv goes on if the handler was set with SA_RESTART. */
+/* Waits for the beginning of a reply, and returns what recv returns. If `by_signals`, a handled signal ends the wait. That
+ * takes a poll, which every handled signal ends: recv is restarted if the handler has SA_RESTART. */
 static ssize_t await_bytes(int fd, struct frame *reply, bool by_signals)
 {
     ssize_t got;
@@ -195,7 +195,7 @@ static long milliseconds(void)
     return now.tv_sec * 1000L + now.tv_nsec / 1000000L;
 }
 
-/* Returns what recv does, or -1 if nothing comes until `deadline`. */
+/* Waits for more of a reply until `deadline`, and returns what recv returns, or -1 if nothing came. */
 static ssize_t await_rest(int fd, void *bytes, size_t room, long deadline)
 {
     for (;;) {
@@ -210,13 +210,13 @@ static ssize_t await_rest(int fd, void *bytes, size_t room, long deadline)
     }
 }
 
-/* How many bytes a frame has of which `got` are there. Before the length is there it is one more than `got`. */
+/* Returns the length of a frame of which the first `got` bytes have arrived. While that is unknown it is `got + 1`. */
 static size_t wanted(const struct frame *frame, size_t got)
 {
     return got < LENGTH_BYTES ? got + 1 : frame_length(frame->bytes);
 }
 
-/* Reads a reply of which the first bytes are there. Returns whether all of it came, and not more. */
+/* Reads the rest of a reply. Returns whether exactly one frame arrived. */
 static bool read_rest(int fd, struct frame *frame)
 {
     long deadline = frame->length == wanted(frame, frame->length) ? 0 : milliseconds() + REST_SECONDS * 1000L;
@@ -261,12 +261,12 @@ static int exchange(struct connection *connection, struct frame *frame, const st
         return broken(connection, call, "the server is gone");
     frame->length = (size_t)got;
     if (!read_rest(connection->fd, frame))
-        return broken(connection, call, "the server broke off a reply");
+        return broken(connection, call, "the server did not complete a reply");
     int error = frame_judge(frame);
-    return error >= 0 ? error : broken(connection, call, "what came is no reply");
+    return error >= 0 ? error : broken(connection, call, "a reply of the server is malformed");
 }
 
-/* Moves a descriptor up, or leaves it if there is no place. */
+/* Moves a descriptor up, or returns it as it is if that fails. */
 static int move_up(int fd)
 {
     struct rlimit limit = {.rlim_cur = 0};
@@ -326,7 +326,7 @@ static int begin_session(struct connection *connection, const struct call *call)
 {
     struct stat found;
     if (!*server.sun_path)
-        return broken(connection, call, "the path of a socket has at most 107 bytes");
+        return broken(connection, call, "it is longer than 107 bytes");
     connection->fd = connect_server();
     if (connection->fd < 0 || fstat(connection->fd, &found) != 0)
         return broken(connection, call, why_unconnected(errno));
@@ -335,7 +335,7 @@ static int begin_session(struct connection *connection, const struct call *call)
     return say_hello(connection, call);
 }
 
-/* Sees to it that the connection is open and was opened by the user and group that are effective now. */
+/* Opens the connection unless it is open and its hello had the present effective user and group. */
 static int make_ready(struct connection *connection, const struct call *call)
 {
     uid_t user = geteuid();
@@ -364,12 +364,12 @@ static void take_place(void)
     }
 }
 
-/* Returns the thread's connection, or `single`, which serves one call. Single ones serve a handler of a signal that came
- * within a call, a child of vfork, which shares its parent's memory and not its descriptors, and threads that found no
+/* Returns the thread's connection, or `single`, which serves one call. A single one serves a signal handler that runs
+ * during a call, a child of vfork, which shares its parent's memory but not its descriptors, and a thread that found no
  * place. */
 static struct connection *borrow(struct connection *single, const struct call *call)
 {
-    if (call->process == process && !in_call) {
+    if (keeps && call->process == process && !in_call) {
         in_call = 1;
         if (!mine)
             take_place();

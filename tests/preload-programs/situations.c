@@ -109,6 +109,25 @@ static void forks(void)
     expect(count_descriptors(is_socket) == 1, "the parent has not one connection");
 }
 
+/* The server's only worker serves the child until its end, and then the parent. */
+static void waits_for_worker(void)
+{
+    int pipe_ends[2];
+    char byte;
+    expect(pipe(pipe_ends) == 0, "pipe");
+    pid_t child = fork();
+    if (child == 0) {
+        new_queue();
+        if (write(pipe_ends[1], "", 1) != 1)
+            _exit(1);
+        usleep(300000);
+        _exit(0);
+    }
+    expect(read(pipe_ends[0], &byte, 1) == 1, "the child makes no call");
+    new_queue();
+    expect(waitpid(child, NULL, WNOHANG) == child, "the parent was served before the child had ended");
+}
+
 static int shared_queue;
 enum { PAIRS = 100, THREADS = 12, SHORT_THREADS = 60 };
 
@@ -530,7 +549,7 @@ static const struct {
     {"cancel", cancels}, {"cancel-disabled", cancels_disabled}, {"vfork", vforks}, {"call-in-handler", calls_in_handler},
     {"many-handlers", many_handlers}, {"fork-in-handler", forks_in_handler}, {"jump-out", jumps}, {"signal", signals},
     {"signal-ends-wait", signals_end_waits}, {"descriptors", descriptors}, {"few-descriptors", few_descriptors},
-    {"user", changes_user}, {"bad-pointers", bad_pointers}, {"tables", tables}, {"no-server", no_server},
+    {"user", changes_user}, {"bad-pointers", bad_pointers}, {"tables", tables}, {"no-server", no_server}, {"wait-for-worker", waits_for_worker},
 };
 
 static const struct {
