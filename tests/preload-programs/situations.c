@@ -568,7 +568,7 @@ static void server_gone(const char *server)
     expect(refused(send_text(id, 1), EIO) && refused(msgget(1, 0), EIO)
                && refused(msgctl(id, IPC_RMID, NULL), EIO),
         "a later call doesn't fail with EIO");
-    expect(refused(send_text(id, -1), EIO), "there is nobody who could refuse it otherwise");
+    expect(refused(send_text(id, -1), EIO), "a refusal of the server's doesn't fail with EIO");
 }
 
 /* The standard error is a pipe that nobody reads. */
