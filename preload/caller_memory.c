@@ -13,14 +13,18 @@ static size_t sum(const struct iovec *pieces, int count)
     return bytes;
 }
 
-/* Whether the system refuses these copies to everybody, as some sandboxes do. A plain copy is all that is left then. */
+/* Whether the system refuses these copies to everybody, as some sandboxes do. A plain copy is all
+ * that is left then. */
 static int is_refused(ssize_t copied) { return copied < 0 && errno != EFAULT; }
 
-/* Copies within this process by the system, which meets memory that is not there with EFAULT. That it reads the other
- * process and writes its caller, and never the reverse, is what checkers of memory follow. */
-static ssize_t copy(const struct iovec *to, int to_pieces, const struct iovec *from, int from_pieces)
+/* Copies within this process by the system, which meets memory that is not there with EFAULT. That
+ * it reads the other process and writes its caller, and never the reverse, is what checkers of
+ * memory follow. */
+static ssize_t copy(
+    const struct iovec *to, int to_pieces, const struct iovec *from, int from_pieces)
 {
-    return process_vm_readv(getpid(), to, (unsigned long)to_pieces, from, (unsigned long)from_pieces, 0);
+    return process_vm_readv(
+        getpid(), to, (unsigned long)to_pieces, from, (unsigned long)from_pieces, 0);
 }
 
 int copy_from_caller(const struct iovec *to, int pieces, const void *from)

@@ -1,5 +1,5 @@
-/* msgget, msgsnd, msgrcv and msgctl of the C library, over a server's socket. Loaded before a program's own libraries.
- * Without SYSVMSG_PATH each call is the C library's own. */
+/* msgget, msgsnd, msgrcv and msgctl of the C library, over a server's socket. Loaded before a
+ * program's own libraries. Without SYSVMSG_PATH each call is the C library's own. */
 #define _GNU_SOURCE
 #include <dlfcn.h>
 #include <errno.h>
@@ -27,28 +27,34 @@ _Static_assert(IPC_CREAT == 512 && IPC_EXCL == 1024 && IPC_NOWAIT == 2048, "flag
 _Static_assert(MSG_NOERROR == 4096 && MSG_EXCEPT == 8192, "flags of the protocol");
 _Static_assert(sizeof(long) == TYPE_BYTES && sizeof(key_t) == 4, "types of the protocol");
 
-/* What the program would call without this library. */
+typedef int get_function(key_t, int);
+typedef int snd_function(int, const void *, size_t, int);
+typedef ssize_t rcv_function(int, void *, size_t, long, int);
+typedef int ctl_function(int, int, struct msqid_ds *);
+typedef FILE *open_function(const char *, const char *);
+
+/* The functions that the program would call without this library. */
 static struct {
-    int (*get)(key_t, int);
-    int (*snd)(int, const void *, size_t, int);
-    ssize_t (*rcv)(int, void *, size_t, long, int);
-    int (*ctl)(int, int, struct msqid_ds *);
-    FILE *(*open)(const char *, const char *);
-    FILE *(*open64)(const char *, const char *);
+    get_function *get;
+    snd_function *snd;
+    rcv_function *rcv;
+    ctl_function *ctl;
+    open_function *open, *open64;
 } own;
 
 static void find_own(void)
 {
-    own.get = (int (*)(key_t, int))dlsym(RTLD_NEXT, "msgget");
-    own.snd = (int (*)(int, const void *, size_t, int))dlsym(RTLD_NEXT, "msgsnd");
-    own.rcv = (ssize_t (*)(int, void *, size_t, long, int))dlsym(RTLD_NEXT, "msgrcv");
-    own.ctl = (int (*)(int, int, struct msqid_ds *))dlsym(RTLD_NEXT, "msgctl");
-    own.open = (FILE *(*)(const char *, const char *))dlsym(RTLD_NEXT, "fopen");
-    own.open64 = (FILE *(*)(const char *, const char *))dlsym(RTLD_NEXT, "fopen64");
+    own.get = (get_function *)dlsym(RTLD_NEXT, "msgget");
+    own.snd = (snd_function *)dlsym(RTLD_NEXT, "msgsnd");
+    own.rcv = (rcv_function *)dlsym(RTLD_NEXT, "msgrcv");
+    own.ctl = (ctl_function *)dlsym(RTLD_NEXT, "msgctl");
+    own.open = (open_function *)dlsym(RTLD_NEXT, "fopen");
+    own.open64 = (open_function *)dlsym(RTLD_NEXT, "fopen64");
 }
 
-/* Whether the calls go to the server. What they go to otherwise is known then. It is found when the library is loaded,
- * before a handler of a signal can make a call, or earlier if another library's beginning makes one. */
+/* Whether the calls go to the server. If not, `own` has the functions to call. Both are found when
+ * the library is loaded, so that a signal handler finds them there, or earlier if the start of
+ * another library makes a call. */
 static bool is_ours(void)
 {
     static pthread_once_t found = PTHREAD_ONCE_INIT;
@@ -133,12 +139,14 @@ EXPORTED ssize_t msgrcv(int id, void *message, size_t size, long type, int flags
         return outcome(error);
     got = (long)frame_take_u64(&frame);
     size_t length = frame.length - frame.read;
-    struct iovec pieces[] = {{&got, sizeof got}, {bytes + frame.read, length < size ? length : size}};
+    struct iovec pieces[] = {
+        {&got, sizeof got}, {bytes + frame.read, length < size ? length : size}};
     return copy_to_caller(message, pieces, 2) == 0 ? (ssize_t)pieces[1].iov_len : outcome(EFAULT);
 }
 
 /* Asks for one thing of one queue or slot. */
-static int ask_of(struct frame *frame, enum operation operation, int number, unsigned char *bytes, size_t room)
+static int ask_of(
+    struct frame *frame, enum operation operation, int number, unsigned char *bytes, size_t room)
 {
     frame_begin(frame, operation, bytes, room);
     frame_put_u32(frame, (uint32_t)number);
@@ -198,7 +206,10 @@ static int ask_row(int slot, struct row *row)
     return 0;
 }
 
-static int give(void *to, void *from, size_t size) { return copy_to_caller(to, &(struct iovec){from, size}, 1); }
+static int give(void *to, void *from, size_t size)
+{
+    return copy_to_caller(to, &(struct iovec){from, size}, 1);
+}
 
 static int stat_queue(int id, struct msqid_ds *to)
 {
@@ -219,7 +230,8 @@ static int set_queue(int id, const struct msqid_ds *from)
     frame_put_u32(&frame, wanted.msg_perm.uid);
     frame_put_u32(&frame, wanted.msg_perm.gid);
     frame_put_u32(&frame, wanted.msg_perm.mode);
-    frame_put_u32(&frame, wanted.msg_qbytes < UINT32_MAX ? (uint32_t)wanted.msg_qbytes : UINT32_MAX);
+    frame_put_u32(
+        &frame, wanted.msg_qbytes < UINT32_MAX ? (uint32_t)wanted.msg_qbytes : UINT32_MAX);
     frame_end(&frame);
     return outcome(ask(&frame, false));
 }
@@ -231,7 +243,7 @@ static int remove_queue(int id)
     return outcome(ask_of(&frame, RM, id, bytes, sizeof bytes));
 }
 
-/* Adds up all rows. The server refuses the first slot that it doesn't have with EINVAL, and so tells how many it has. */
+/* Adds up all rows. The number of slots is where the server begins to refuse with EINVAL. */
 static int add_rows(struct msginfo *sums, int *slots, int *greatest)
 {
     struct row row;
@@ -249,7 +261,8 @@ static int add_rows(struct msginfo *sums, int *slots, int *greatest)
     return error == EINVAL ? 0 : error;
 }
 
-/* IPC_INFO and MSG_INFO, which differ in three fields: the limits of IPC_INFO are in MSG_INFO what is in use. */
+/* IPC_INFO and MSG_INFO, which differ in three fields: the limits of IPC_INFO are in MSG_INFO what
+ * is in use. */
 static int tell_info(int command, struct msginfo *to)
 {
     struct msginfo info;
@@ -269,8 +282,8 @@ static int tell_info(int command, struct msginfo *to)
     return error ? outcome(error) : greatest;
 }
 
-/* MSG_STAT and MSG_STAT_ANY: the queue of a slot, and its identifier as the result. MSG_STAT_ANY needs no permission.
- * To callers that have none it tells what the server's table has. */
+/* MSG_STAT and MSG_STAT_ANY: the queue of a slot, and its identifier as the result. MSG_STAT_ANY
+ * needs no permission. To callers that have none it tells what the server's table has. */
 static int stat_slot(int slot, int command, struct msqid_ds *to)
 {
     struct row row;
@@ -305,8 +318,12 @@ EXPORTED int msgctl(int id, int command, struct msqid_ds *told)
     }
 }
 
-/* ipcs and programs like it read the kernel's list of queues from this file, and use msgctl if they can't. */
-static bool is_hidden(const char *name) { return is_ours() && strcmp(name, "/proc/sysvipc/msg") == 0; }
+/* ipcs and programs like it read the kernel's list of queues from this file, and use msgctl if they
+ * can't. */
+static bool is_hidden(const char *name)
+{
+    return is_ours() && strcmp(name, "/proc/sysvipc/msg") == 0;
+}
 
 static FILE *no_file(void)
 {
@@ -314,7 +331,10 @@ static FILE *no_file(void)
     return NULL;
 }
 
-EXPORTED FILE *fopen(const char *name, const char *mode) { return is_hidden(name) ? no_file() : own.open(name, mode); }
+EXPORTED FILE *fopen(const char *name, const char *mode)
+{
+    return is_hidden(name) ? no_file() : own.open(name, mode);
+}
 
 EXPORTED FILE *fopen64(const char *name, const char *mode)
 {

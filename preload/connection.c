@@ -18,24 +18,24 @@
 #include <unistd.h>
 
 enum {
-    CONNECTIONS = 1024,       /* threads that can keep one */
-    HIGH_DESCRIPTOR = 900,    /* out of the way of programs that count or close theirs */
-    REST_SECONDS = 10,        /* how long the rest of a reply may take that has begun */
+    CONNECTIONS = 1024,    /* threads that can keep one */
+    HIGH_DESCRIPTOR = 900, /* out of the way of programs that count or close theirs */
+    REST_SECONDS = 10,     /* how long the rest of a reply may take that has begun */
 };
 
 /* The connection of a thread or of a single call. */
 struct connection {
     atomic_bool taken;
-    int fd;                   /* -1: it is not open */
-    dev_t device;             /* these two tell whether the descriptor still is the connection */
+    int fd;       /* -1: it is not open */
+    dev_t device; /* these two tell whether the descriptor still is the connection */
     ino_t inode;
-    uid_t user;               /* of the hello */
+    uid_t user; /* of the hello */
     gid_t group;
 };
 
 /* How a call was made. */
 struct call {
-    pid_t process;            /* in which it began */
+    pid_t process; /* in which it began */
     bool may_wait;
     bool may_be_cancelled;
 };
@@ -46,21 +46,23 @@ static __thread struct connection *mine __attribute__((tls_model("initial-exec")
 static __thread volatile sig_atomic_t in_call __attribute__((tls_model("initial-exec")));
 
 static pthread_key_t at_thread_end;
-static pid_t process;         /* the process whose connections these are */
+static pid_t process; /* the process whose connections these are */
 static bool serves;
-static bool keeps;            /* connections after a call */
+static bool keeps; /* connections after a call */
 static bool ends_by_signals;
 static struct sockaddr_un server = {.sun_family = AF_UNIX}; /* without a path if that is too long */
 
-/* Whether the descriptor still is the connection. The program may have closed it, and its number may be another file. */
+/* Whether the descriptor still is the connection. The program may have closed it, and its number
+ * may be another file. */
 static bool is_open(const struct connection *connection)
 {
     struct stat found;
-    return connection->fd >= 0 && fstat(connection->fd, &found) == 0 && found.st_dev == connection->device
-        && found.st_ino == connection->inode;
+    return connection->fd >= 0 && fstat(connection->fd, &found) == 0
+           && found.st_dev == connection->device && found.st_ino == connection->inode;
 }
 
-/* Closes the connection. A shutdown ends the session even if another process has a copy of the descriptor. */
+/* Closes the connection. A shutdown ends the session even if another process has a copy of the
+ * descriptor. */
 static void end_session(struct connection *connection)
 {
     if (is_open(connection)) {
@@ -79,7 +81,8 @@ static void end_thread(void *connection)
     in_call = 0;
 }
 
-/* Closes a forked child's copies of its parent's connections, and frees the places of the threads that it doesn't have. */
+/* Closes a forked child's copies of its parent's connections, and frees the places of the threads
+ * that it doesn't have. */
 static void begin_child(void)
 {
     process = getpid();
@@ -104,7 +107,8 @@ static void begin(void)
     if (strlen(word) < sizeof server.sun_path)
         strcpy(server.sun_path, word);
     process = getpid();
-    keeps = pthread_key_create(&at_thread_end, end_thread) == 0 && pthread_atfork(NULL, NULL, begin_child) == 0;
+    keeps = pthread_key_create(&at_thread_end, end_thread) == 0
+            && pthread_atfork(NULL, NULL, begin_child) == 0;
     serves = true;
 }
 
@@ -123,7 +127,8 @@ static void write_line(const struct iovec *pieces, int count)
     sigaddset(&pipe_signal, SIGPIPE);
     sigpending(&pending);
     pthread_sigmask(SIG_BLOCK, &pipe_signal, &before);
-    if (writev(STDERR_FILENO, pieces, count) < 0 && errno == EPIPE && !sigismember(&pending, SIGPIPE))
+    if (writev(STDERR_FILENO, pieces, count) < 0 && errno == EPIPE
+        && !sigismember(&pending, SIGPIPE))
         sigtimedwait(&pipe_signal, NULL, &(struct timespec){0, 0});
     pthread_sigmask(SIG_SETMASK, &before, NULL);
 }
@@ -136,13 +141,15 @@ static void say_once(const char *why)
     static atomic_flag said = ATOMIC_FLAG_INIT;
     if (atomic_flag_test_and_set(&said))
         return;
-    struct iovec line[] = {piece("libsysvmsg_preload: "), piece(*server.sun_path ? server.sun_path : "SYSVMSG_PATH"),
-        piece(": "), piece(why), piece("; message queue calls fail with EIO\n")};
+    struct iovec line[] = {piece("libsysvmsg_preload: "),
+        piece(*server.sun_path ? server.sun_path : "SYSVMSG_PATH"), piece(": "), piece(why),
+        piece("; message queue calls fail with EIO\n")};
     write_line(line, 5);
 }
 
-/* Ends a session that failed during a call. If a signal handler forks during a call, it returns to that call in the
- * child too, whose copy of the connection is closed. There the call was interrupted, and nothing is wrong. */
+/* Ends a session that failed during a call. If a signal handler forks during a call, it returns to
+ * that call in the child too, whose copy of the connection is closed. There the call was
+ * interrupted, and nothing is wrong. */
 static int broken(struct connection *connection, const struct call *call, const char *why)
 {
     end_session(connection);
@@ -152,7 +159,8 @@ static int broken(struct connection *connection, const struct call *call, const 
     return EIO;
 }
 
-/* Runs if a thread is cancelled during a call. A request is without its reply, so the session can't go on. */
+/* Runs if a thread is cancelled during a call. A request is without its reply, so the session can't
+ * go on. */
 static void abandon(void *connection)
 {
     end_session(connection);
@@ -160,8 +168,9 @@ static void abandon(void *connection)
         in_call = 0;
 }
 
-/* Waits for the beginning of a reply, and returns what recv returns. If `by_signals`, a handled signal ends the wait. That
- * takes a poll, which every handled signal ends: recv is restarted if the handler has SA_RESTART. */
+/* Waits for the beginning of a reply, and returns what recv returns. If `by_signals`, a handled
+ * signal ends the wait. That takes a poll, which every handled signal ends: recv is restarted if
+ * the handler has SA_RESTART. */
 static ssize_t await_bytes(int fd, struct frame *reply, bool by_signals)
 {
     ssize_t got;
@@ -195,12 +204,13 @@ static long milliseconds(void)
     return now.tv_sec * 1000L + now.tv_nsec / 1000000L;
 }
 
-/* Waits for more of a reply until `deadline`, and returns what recv returns, or -1 if nothing came. */
+/* Waits for more of a reply. Returns what recv returns, or -1 if nothing came until `deadline`. */
 static ssize_t await_rest(int fd, void *bytes, size_t room, long deadline)
 {
     for (;;) {
         long left = deadline - milliseconds();
-        int ready = left <= 0 ? 0 : poll(&(struct pollfd){.fd = fd, .events = POLLIN}, 1, (int)left);
+        int ready =
+            left <= 0 ? 0 : poll(&(struct pollfd){.fd = fd, .events = POLLIN}, 1, (int)left);
         if (ready == 0)
             return -1;
         if (ready > 0)
@@ -210,7 +220,8 @@ static ssize_t await_rest(int fd, void *bytes, size_t room, long deadline)
     }
 }
 
-/* Returns the length of a frame of which the first `got` bytes have arrived. While that is unknown it is `got + 1`. */
+/* Returns the length of a frame of which the first `got` bytes have arrived. While that is unknown
+ * it is `got + 1`. */
 static size_t wanted(const struct frame *frame, size_t got)
 {
     return got < LENGTH_BYTES ? got + 1 : frame_length(frame->bytes);
@@ -219,11 +230,13 @@ static size_t wanted(const struct frame *frame, size_t got)
 /* Reads the rest of a reply. Returns whether exactly one frame arrived. */
 static bool read_rest(int fd, struct frame *frame)
 {
-    long deadline = frame->length == wanted(frame, frame->length) ? 0 : milliseconds() + REST_SECONDS * 1000L;
+    long deadline =
+        frame->length == wanted(frame, frame->length) ? 0 : milliseconds() + REST_SECONDS * 1000L;
     while (frame->length < wanted(frame, frame->length)) {
         if (wanted(frame, frame->length) > frame->room)
             return false;
-        ssize_t got = await_rest(fd, frame->bytes + frame->length, frame->room - frame->length, deadline);
+        ssize_t got =
+            await_rest(fd, frame->bytes + frame->length, frame->room - frame->length, deadline);
         if (got <= 0)
             return false;
         frame->length += (size_t)got;
@@ -364,9 +377,9 @@ static void take_place(void)
     }
 }
 
-/* Returns the thread's connection, or `single`, which serves one call. A single one serves a signal handler that runs
- * during a call, a child of vfork, which shares its parent's memory but not its descriptors, and a thread that found no
- * place. */
+/* Returns the thread's connection, or `single`, which serves one call. A single one serves a signal
+ * handler that runs during a call, a child of vfork, which shares its parent's memory but not its
+ * descriptors, and a thread that found no place. */
 static struct connection *borrow(struct connection *single, const struct call *call)
 {
     if (keeps && call->process == process && !in_call) {

@@ -20,7 +20,8 @@ static uint64_t take(struct frame *frame, int bytes)
 
 void frame_begin(struct frame *frame, enum operation operation, unsigned char *bytes, size_t room)
 {
-    *frame = (struct frame){.bytes = bytes, .room = room, .length = LENGTH_BYTES, .operation = operation};
+    *frame = (struct frame){
+        .bytes = bytes, .room = room, .length = LENGTH_BYTES, .operation = operation};
     put(frame, VERSION, 1);
     put(frame, operation, 1);
 }
@@ -45,7 +46,8 @@ size_t frame_length(const unsigned char *bytes)
     return LENGTH_BYTES + length;
 }
 
-/* Returns the errno of an error byte, or -1 if the protocol has no such error. The protocol's numbers are its own. */
+/* Returns the errno of an error byte, or -1 if the protocol has no such error. The protocol's
+ * numbers are its own. */
 static int error_of(unsigned char error)
 {
     switch (error) {
@@ -72,7 +74,9 @@ static int has_fields(const struct frame *frame)
     case GET: return fields == 4;
     case RCV: return fields >= TYPE_BYTES && fields <= TYPE_BYTES + TEXT_MAX;
     case STAT: return fields == STAT_FIELDS;
-    case ROW: return fields == (frame->bytes[REPLY_HEAD] == 1 ? ROW_FIELDS : 1) && frame->bytes[REPLY_HEAD] <= 1;
+    case ROW:
+        return fields == (frame->bytes[REPLY_HEAD] == 1 ? ROW_FIELDS : 1)
+               && frame->bytes[REPLY_HEAD] <= 1;
     default: return fields == 0;
     }
 }

@@ -1,6 +1,6 @@
-/* Brings libsysvmsg_preload.so into the situations that a program can bring it into. One word names the situation; a
- * second one is the server's socket for those that stop a server or play one.
- * It ends with status 0 if all was as it should be, and else prints what was not, with status 1. */
+/* Brings libsysvmsg_preload.so into the situations that a program can bring it into. One word names
+ * the situation; a second one is the server's socket for those that stop a server or play one. It
+ * ends with status 0 if all was as it should be, and else prints what was not, with status 1. */
 #define _GNU_SOURCE
 #include <dirent.h>
 #include <errno.h>
@@ -44,7 +44,10 @@ static int new_queue(void)
     return id;
 }
 
-static int send_text(int id, long type) { return msgsnd(id, &(struct message){type, "text"}, 4, 0); }
+static int send_text(int id, long type)
+{
+    return msgsnd(id, &(struct message){type, "text"}, 4, 0);
+}
 
 static ssize_t receive_text(int id, long type, int flags)
 {
@@ -66,7 +69,8 @@ static int status_of(pid_t child)
     return WIFEXITED(status) ? WEXITSTATUS(status) : 255;
 }
 
-/* Calls a function for each open descriptor above the standard ones, and returns how often it returned true. */
+/* Calls a function for each open descriptor above the standard ones, and returns how often it
+ * returned true. */
 static int count_descriptors(bool (*is_counted)(int))
 {
     int count = 0;
@@ -85,7 +89,10 @@ static bool is_socket(int fd)
     return fstat(fd, &found) == 0 && S_ISSOCK(found.st_mode);
 }
 
-static bool is_high_socket(int fd) { return fd >= 900 && is_socket(fd) && fcntl(fd, F_GETFD) == FD_CLOEXEC; }
+static bool is_high_socket(int fd)
+{
+    return fd >= 900 && is_socket(fd) && fcntl(fd, F_GETFD) == FD_CLOEXEC;
+}
 
 /* Returns the descriptor of the connection. */
 __attribute__((noinline)) static int connection(void)
@@ -101,31 +108,34 @@ static void forks(void)
     int id = new_queue();
     pid_t child = fork();
     if (child == 0)
-        _exit(count_descriptors(is_socket) != 0 || send_text(id, 1) != 0 || count_descriptors(is_socket) != 1
-            || stat_of(id).msg_lspid != getpid());
+        _exit(count_descriptors(is_socket) != 0 || send_text(id, 1) != 0
+              || count_descriptors(is_socket) != 1 || stat_of(id).msg_lspid != getpid());
     expect(status_of(child) == 0, "the child doesn't send by a connection of its own");
     expect(stat_of(id).msg_lspid == child, "msg_lspid is not the child's");
-    expect(receive_text(id, 1, 0) == 4 && stat_of(id).msg_lrpid == getpid(), "the parent doesn't receive");
+    expect(receive_text(id, 1, 0) == 4 && stat_of(id).msg_lrpid == getpid(),
+        "the parent doesn't receive");
     expect(count_descriptors(is_socket) == 1, "the parent has not one connection");
 }
 
-/* The server's only worker serves the child until its end, and then the parent. */
+/* The server's only worker serves the child until its end, and then the parent. The pipe orders
+ * them: its second byte is there once the child is about to end. */
 static void waits_for_worker(void)
 {
     int pipe_ends[2];
-    char byte;
+    char bytes[2];
     expect(pipe(pipe_ends) == 0, "pipe");
     pid_t child = fork();
     if (child == 0) {
         new_queue();
-        if (write(pipe_ends[1], "", 1) != 1)
-            _exit(1);
+        bool told = write(pipe_ends[1], "1", 1) == 1;
         usleep(300000);
-        _exit(0);
+        _exit(!told || write(pipe_ends[1], "2", 1) != 1);
     }
-    expect(read(pipe_ends[0], &byte, 1) == 1, "the child makes no call");
+    expect(read(pipe_ends[0], bytes, 1) == 1, "the child makes no call");
     new_queue();
-    expect(waitpid(child, NULL, WNOHANG) == child, "the parent was served before the child had ended");
+    fcntl(pipe_ends[0], F_SETFL, O_NONBLOCK);
+    expect(read(pipe_ends[0], bytes, 1) == 1, "the parent was served before the child had ended");
+    expect(status_of(child) == 0, "the child failed");
 }
 
 static int shared_queue;
@@ -134,7 +144,8 @@ enum { PAIRS = 100, THREADS = 12, SHORT_THREADS = 60 };
 static void *pairs(void *type)
 {
     for (int i = 0; i < PAIRS; i++)
-        if (send_text(shared_queue, (long)type) != 0 || receive_text(shared_queue, (long)type, 0) != 4)
+        if (send_text(shared_queue, (long)type) != 0
+            || receive_text(shared_queue, (long)type, 0) != 4)
             return (void *)1;
     return NULL;
 }
@@ -153,7 +164,13 @@ static void threads(void)
     expect(count_descriptors(is_socket) == 1, "connections are left");
 }
 
-static void *one_pair(void *type) { return send_text(shared_queue, (long)type) == 0 && receive_text(shared_queue, (long)type, 0) == 4 ? NULL : type; }
+static void *one_pair(void *type)
+{
+    return send_text(shared_queue, (long)type) == 0
+                   && receive_text(shared_queue, (long)type, 0) == 4
+               ? NULL
+               : type;
+}
 
 /* Far more threads than workers, one after the other: each closes its connection at its end. */
 static void short_threads(void)
@@ -181,8 +198,8 @@ static void *call_and_pause(void *unused)
     return unused;
 }
 
-/* A child of fork has no copy of other threads' connections: what would hold the server's worker for as long as the child
- * lives. */
+/* A child of fork has no copy of other threads' connections: what would hold the server's worker
+ * for as long as the child lives. */
 static void fork_beside_threads(void)
 {
     pthread_t thread;
@@ -213,7 +230,8 @@ static void cancels(void)
     pthread_create(&thread, NULL, wait_for_message, &result);
     usleep(300000);
     pthread_cancel(thread);
-    expect(pthread_join(thread, &how) == 0 && how == PTHREAD_CANCELED && result == 77, "the thread isn't cancelled");
+    expect(pthread_join(thread, &how) == 0 && how == PTHREAD_CANCELED && result == 77,
+        "the thread isn't cancelled");
     expect(count_descriptors(is_socket) == 1, "its connection is left");
     expect(msgctl(shared_queue, IPC_RMID, NULL) == 0, "IPC_RMID");
     shared_queue = new_queue();
@@ -238,7 +256,8 @@ static void cancels_disabled(void)
     pthread_cancel(thread);
     usleep(100000);
     expect(send_text(shared_queue, 1) == 0, "msgsnd");
-    expect(pthread_join(thread, &how) == 0 && how == NULL && result == 4, "the thread didn't wait on");
+    expect(
+        pthread_join(thread, &how) == 0 && how == NULL && result == 4, "the thread didn't wait on");
 }
 
 /* A child of vfork runs on its parent's memory. */
@@ -253,7 +272,8 @@ static void vforks(void)
     }
     expect(status_of(child) == 0 && status == 0, "the child doesn't send");
     expect(stat_of(id).msg_lspid == child, "msg_lspid is not the child's");
-    expect(connection() == before && count_descriptors(is_socket) == 1, "the parent's connection is another");
+    expect(connection() == before && count_descriptors(is_socket) == 1,
+        "the parent's connection is another");
     expect(receive_text(id, 1, 0) == 4, "the parent doesn't receive");
 }
 
@@ -265,7 +285,7 @@ static void send_in_handler(int number)
     send_text(shared_queue, 1);
 }
 
-static void catch(int signal, void (*handler)(int))
+static void catch (int signal, void (*handler)(int))
 {
     sigaction(signal, &(struct sigaction){.sa_handler = handler, .sa_flags = SA_RESTART}, NULL);
 }
@@ -274,10 +294,11 @@ static void catch(int signal, void (*handler)(int))
 static void calls_in_handler(void)
 {
     shared_queue = new_queue();
-    catch(SIGALRM, send_in_handler);
+    catch (SIGALRM, send_in_handler);
     for (int i = 0; i < 3; i++) {
         ualarm(200000, 0);
-        expect(receive_text(shared_queue, 1, 0) == 4 && caught, "the message of the handler isn't received");
+        expect(receive_text(shared_queue, 1, 0) == 4 && caught,
+            "the message of the handler isn't received");
         caught = 0;
     }
     expect(count_descriptors(is_socket) == 1, "connections are left");
@@ -292,7 +313,7 @@ static void pair_in_handler(int number)
 static void many_handlers(void)
 {
     shared_queue = new_queue();
-    catch(SIGPROF, pair_in_handler);
+    catch (SIGPROF, pair_in_handler);
     for (int i = 0; i < 2000 || caught < 20; i++) {
         if (i == 100)
             setitimer(ITIMER_PROF, &(struct itimerval){{0, 1000}, {0, 1000}}, NULL);
@@ -314,7 +335,7 @@ static void fork_in_handler(int number)
 static void forks_in_handler(void)
 {
     shared_queue = new_queue();
-    catch(SIGALRM, fork_in_handler);
+    catch (SIGALRM, fork_in_handler);
     ualarm(200000, 0);
     ssize_t got = receive_text(shared_queue, 1, 0);
     if (handlers_child == 0) {
@@ -332,7 +353,7 @@ static void jump(int number) { siglongjmp(out_of_wait, number); }
 static void jumps(void)
 {
     int id = new_queue();
-    catch(SIGALRM, jump);
+    catch (SIGALRM, jump);
     ualarm(200000, 0);
     if (sigsetjmp(out_of_wait, 1) == 0)
         expect(receive_text(id, 1, 0) == 77, "the wait ended");
@@ -363,7 +384,7 @@ static void signals(void)
 static void signals_end_waits(void)
 {
     int id = new_queue();
-    catch(SIGALRM, note);
+    catch (SIGALRM, note);
     ualarm(200000, 0);
     expect(refused(receive_text(id, 1, 0), EINTR) && caught, "the wait doesn't end with EINTR");
     expect(count_descriptors(is_socket) == 0, "the connection is left");
@@ -375,7 +396,8 @@ static void descriptors(void)
     int low = open("/dev/null", O_RDONLY);
     close(low);
     int id = new_queue();
-    expect(count_descriptors(is_high_socket) == 1 && count_descriptors(is_socket) == 1, "it isn't high, or not CLOEXEC");
+    expect(count_descriptors(is_high_socket) == 1 && count_descriptors(is_socket) == 1,
+        "it isn't high, or not CLOEXEC");
     expect(open("/dev/null", O_RDONLY) == low, "a low descriptor was used");
     closefrom(3);
     expect(send_text(id, 1) == 0, "no call after all descriptors were closed");
@@ -409,7 +431,8 @@ static void changes_user(void)
     expect(setegid(1001) == 0 && seteuid(1000) == 0, "seteuid");
     expect(refused(msgctl(id, IPC_RMID, NULL), EPERM), "the user isn't the effective one");
     int own = new_queue();
-    expect(stat_of(own).msg_perm.cuid == 1000 && stat_of(own).msg_perm.cgid == 1001, "it isn't the effective user's");
+    expect(stat_of(own).msg_perm.cuid == 1000 && stat_of(own).msg_perm.cgid == 1001,
+        "it isn't the effective user's");
     expect(seteuid(0) == 0 && msgctl(id, IPC_RMID, NULL) == 0, "root is root again");
     expect(count_descriptors(is_socket) == 1, "connections are left");
 }
@@ -418,7 +441,8 @@ static void changes_user(void)
 static char *edge(void)
 {
     long page = sysconf(_SC_PAGESIZE);
-    char *pages = mmap(NULL, 2 * (size_t)page, PROT_READ | PROT_WRITE, MAP_PRIVATE | MAP_ANONYMOUS, -1, 0);
+    char *pages =
+        mmap(NULL, 2 * (size_t)page, PROT_READ | PROT_WRITE, MAP_PRIVATE | MAP_ANONYMOUS, -1, 0);
     mprotect(pages + page, (size_t)page, PROT_NONE);
     return pages + page - 16;
 }
@@ -430,15 +454,21 @@ static void bad_pointers(void)
     void *constant = mmap(NULL, 4096, PROT_READ, MAP_PRIVATE | MAP_ANONYMOUS, -1, 0);
     *(long *)(void *)last = 9;
     expect(msgsnd(id, last, 8, 0) == 0, "a message up to the edge isn't sent");
-    expect(refused(msgsnd(id, last, 9, 0), EFAULT) && refused(msgsnd(id, NULL, 5, 0), EFAULT), "msgsnd: EFAULT");
+    expect(refused(msgsnd(id, last, 9, 0), EFAULT) && refused(msgsnd(id, NULL, 5, 0), EFAULT),
+        "msgsnd: EFAULT");
     expect(stat_of(id).msg_qnum == 1, "a message of nowhere was sent");
-    expect(refused(msgrcv(id, NULL, 5, 0, 0), EFAULT) && stat_of(id).msg_qnum == 1, "msgrcv: EFAULT, and it stays");
-    expect(msgrcv(id, last, 8192, 0, 0) == 8, "a short text isn't received into the room that is there");
+    expect(refused(msgrcv(id, NULL, 5, 0, 0), EFAULT) && stat_of(id).msg_qnum == 1,
+        "msgrcv: EFAULT, and it stays");
+    expect(msgrcv(id, last, 8192, 0, 0) == 8,
+        "a short text isn't received into the room that is there");
     send_text(id, 1);
     expect(refused(msgrcv(id, constant, 5, 0, 0), EFAULT), "msgrcv: EFAULT for constant memory");
-    expect(refused(msgctl(id, IPC_STAT, NULL), EFAULT) && refused(msgctl(id, IPC_STAT, constant), EFAULT)
-        && refused(msgctl(id, IPC_SET, (void *)last), EFAULT) && refused(msgctl(0, IPC_INFO, NULL), EFAULT)
-        && refused(msgctl(0, MSG_STAT, constant), EFAULT), "msgctl: EFAULT");
+    expect(refused(msgctl(id, IPC_STAT, NULL), EFAULT)
+               && refused(msgctl(id, IPC_STAT, constant), EFAULT)
+               && refused(msgctl(id, IPC_SET, (void *)last), EFAULT)
+               && refused(msgctl(0, IPC_INFO, NULL), EFAULT)
+               && refused(msgctl(0, MSG_STAT, constant), EFAULT),
+        "msgctl: EFAULT");
     expect(send_text(id, 1) == 0 && receive_text(id, 1, 0) == 4, "calls after it fail");
 }
 
@@ -450,17 +480,22 @@ static void tables(void)
     send_text(two, 1);
     int last = msgctl(0, MSG_INFO, (struct msqid_ds *)&info), found = 0;
     expect(last >= 1 && info.msgpool == 2 && info.msgmap == 1 && info.msgtql == 4, "MSG_INFO");
-    expect(msgctl(0, IPC_INFO, (struct msqid_ds *)&info) == last && info.msgmax == 8192 && info.msgmni >= 64, "IPC_INFO");
+    expect(msgctl(0, IPC_INFO, (struct msqid_ds *)&info) == last && info.msgmax == 8192
+               && info.msgmni >= 64,
+        "IPC_INFO");
     for (int slot = 0; slot <= last; slot++) {
         int id = msgctl(slot, MSG_STAT, &told);
-        found += (id == one && told.msg_qnum == 0) || (id == two && told.msg_qnum == 1 && told.msg_perm.__key == 4711);
+        found += (id == one && told.msg_qnum == 0)
+                 || (id == two && told.msg_qnum == 1 && told.msg_perm.__key == 4711);
     }
     expect(found == 2, "MSG_STAT");
-    expect(refused(msgctl(last + 1, MSG_STAT, &told), EINVAL) && refused(msgctl(1 << 20, MSG_STAT, &told), EINVAL),
+    expect(refused(msgctl(last + 1, MSG_STAT, &told), EINVAL)
+               && refused(msgctl(1 << 20, MSG_STAT, &told), EINVAL),
         "MSG_STAT of no queue");
     if (geteuid() == 0 && seteuid(1000) == 0) {
         expect(refused(msgctl(last, MSG_STAT, &told), EACCES), "MSG_STAT asks for permission");
-        expect(msgctl(last, MSG_STAT_ANY, &told) == two && told.msg_qnum == 1, "MSG_STAT_ANY doesn't");
+        expect(
+            msgctl(last, MSG_STAT_ANY, &told) == two && told.msg_qnum == 1, "MSG_STAT_ANY doesn't");
     }
 }
 
@@ -469,11 +504,13 @@ static int listen_at(const char *path)
     struct sockaddr_un name = {.sun_family = AF_UNIX};
     int listener = socket(AF_UNIX, SOCK_STREAM, 0);
     strncpy(name.sun_path, path, sizeof name.sun_path - 1);
-    expect(bind(listener, (struct sockaddr *)&name, sizeof name) == 0 && listen(listener, 9) == 0, "bind");
+    expect(bind(listener, (struct sockaddr *)&name, sizeof name) == 0 && listen(listener, 9) == 0,
+        "bind");
     return listener;
 }
 
-/* Plays a server that answers the hello, and then the first request with these bytes; and keeps the connection. */
+/* Plays a server that answers the hello, and then the first request with these bytes; and keeps the
+ * connection. */
 static pid_t play(int listener, const void *reply, size_t size)
 {
     char bytes[256];
@@ -528,9 +565,10 @@ static void server_gone(const char *server)
     }
     expect(refused(receive_text(id, 1, 0), EIO), "the wait doesn't end with EIO");
     status_of(child);
-    expect(refused(send_text(id, 1), EIO) && refused(msgget(1, 0), EIO) && refused(msgctl(id, IPC_RMID, NULL), EIO),
+    expect(refused(send_text(id, 1), EIO) && refused(msgget(1, 0), EIO)
+               && refused(msgctl(id, IPC_RMID, NULL), EIO),
         "a later call doesn't fail with EIO");
-    expect(refused(send_text(id, -1), EIO), "there is nobody who could refuse it otherwise");
+    expect(refused(send_text(id, -1), EIO), "a refusal of the server's doesn't fail with EIO");
 }
 
 /* The standard error is a pipe that nobody reads. */
@@ -545,17 +583,33 @@ static const struct {
     const char *name;
     void (*run)(void);
 } SITUATIONS[] = {
-    {"fork", forks}, {"threads", threads}, {"short-threads", short_threads}, {"fork-beside-threads", fork_beside_threads},
-    {"cancel", cancels}, {"cancel-disabled", cancels_disabled}, {"vfork", vforks}, {"call-in-handler", calls_in_handler},
-    {"many-handlers", many_handlers}, {"fork-in-handler", forks_in_handler}, {"jump-out", jumps}, {"signal", signals},
-    {"signal-ends-wait", signals_end_waits}, {"descriptors", descriptors}, {"few-descriptors", few_descriptors},
-    {"user", changes_user}, {"bad-pointers", bad_pointers}, {"tables", tables}, {"no-server", no_server}, {"wait-for-worker", waits_for_worker},
+    {"fork", forks},
+    {"threads", threads},
+    {"short-threads", short_threads},
+    {"fork-beside-threads", fork_beside_threads},
+    {"cancel", cancels},
+    {"cancel-disabled", cancels_disabled},
+    {"vfork", vforks},
+    {"call-in-handler", calls_in_handler},
+    {"many-handlers", many_handlers},
+    {"fork-in-handler", forks_in_handler},
+    {"jump-out", jumps},
+    {"signal", signals},
+    {"signal-ends-wait", signals_end_waits},
+    {"descriptors", descriptors},
+    {"few-descriptors", few_descriptors},
+    {"user", changes_user},
+    {"bad-pointers", bad_pointers},
+    {"tables", tables},
+    {"no-server", no_server},
+    {"wait-for-worker", waits_for_worker},
 };
 
 static const struct {
     const char *name;
     void (*run)(const char *);
-} WITH_SERVER[] = {{"bad-replies", bad_replies}, {"half-reply", half_reply}, {"server-gone", server_gone}};
+} WITH_SERVER[] = {
+    {"bad-replies", bad_replies}, {"half-reply", half_reply}, {"server-gone", server_gone}};
 
 int main(int count, char **words)
 {
