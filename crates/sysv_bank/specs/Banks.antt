@@ -3,6 +3,7 @@ use Rattle.std.specs.Prelude.{◌≡◌, ℕ, ◌^◌, ◌<◌, ◌≤◌, List,
 use Rattle.std.specs.List.{All}
 use mathlib.Core.Option.{some}
 use lib.ListN.{get_elem?}
+use Rattle.sysv_lists.specs.Prefix.{IsPrefixOf}
 use Rattle.sysv_gate.specs.Gates.{Gateway, Holding, split_off}
 use Rattle.sysv_gate.specs.declared.refusals.OpenRefused.{OpenRefused}
 use Rattle.sysv_gate.specs.declared.refusals.OpenRefused.TheVariants.{NoMemory, BadStart}
@@ -38,7 +39,7 @@ module _ {O C R : Type 0} where
 
   -- each of the seats is of the gate at the same place, and there may be more gates
   abbrev pub AreOfFirst : List (Gateway O) → List (Holding O C R) → Type 0
-  AreOfFirst gates seats = (more : List (Gateway O)) × (gates ≡ gates_of seats ++ more)
+  AreOfFirst gates seats = IsPrefixOf (gates_of seats) gates
 
   -- the seat was split off
   abbrev pub IsSplit : Holding O C R → Holding O C R → Type 0

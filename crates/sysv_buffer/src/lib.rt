@@ -1,4 +1,12 @@
 //! Bounded buffers, after Reed and Kanodia: items go from one thread to another through a row of cells, in order, each once.
+//!
+//! ```rust
+//! let (buffer, mut puts, mut takes) = OneBuffer::open(rt.alloc(), 64)?;
+//! // In one thread:
+//! let put = buffer.put(&rt, &mut puts, 7);
+//! // In another:
+//! let item = buffer.take(&rt, &mut takes)?;
+//! ```
 #![tactic(auto)]
 
 mod board;

@@ -1,4 +1,3 @@
-pub mod StreamLemmas
 pub mod Talking
 pub mod WordLemmas
 pub mod Courses

@@ -14,7 +14,7 @@ use Rattle.sysv_wire.specs.declared.request.Ask.{Ask}
 use Rattle.sysv_wire.specs.Frames.{op_number}
 use Rattle.sysv_wire.specs.OneAnswer.{ReplyAt}
 use Rattle.sysv_wire.specs.Requests.{op_of}
-use Rattle.sysv_wire.specs.Streams.{AppendsPrefix}
+use Rattle.sysv_model.specs.Writing.{AppendsPrefix}
 
 -- what a reader answers is no reply to the request: none, none that can be read, or one to another operation
 abbrev pub IsNoReplyTo : Ask → Result (Option Reply) Fault → Type 0

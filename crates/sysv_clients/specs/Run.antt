@@ -9,7 +9,7 @@ use Rattle.sysv_clients.specs.Faults.{fault_line}
 use Rattle.sysv_clients.specs.Page.{page_text}
 use Rattle.sysv_clients.specs.Talk.{Exchange, Talks}
 use Rattle.sysv_model.specs.declared.limits.TheConstants.{BODY_ROOM}
-use Rattle.sysv_wire.specs.Streams.{AppendsPrefix}
+use Rattle.sysv_model.specs.Writing.{AppendsPrefix}
 
 -- what is shown of a talk that ended so: of one that a fault ended its line alone
 abbrev pub shown_text : Task → List Exchange → Result ⊤ ClientFault → List ℕ

@@ -16,7 +16,7 @@ use Rattle.sysv_wire.specs.Frames.{op_number}
 use Rattle.sysv_wire.specs.Replies.{FitsReply, error_number, outcome_text, reply_spelling}
 use Rattle.sysv_wire.specs.ReplyFaults.{ReplyFault}
 use Rattle.sysv_wire.specs.Requests.{op_of, request_spelling}
-use Rattle.sysv_wire.specs.Streams.{AppendsPrefix}
+use Rattle.sysv_model.specs.Writing.{AppendsPrefix}
 
 -- a request and what its reply answers, with its text
 pub record Exchange : Type 0 where

@@ -2,8 +2,8 @@
 ghost use Rattle.std.specs.Prelude.{OnOk, OnErr};
 ghost use Rattle.std.specs.Io.KnownBytes.{Appends};
 ghost use Rattle.sysv_clients.specs.Talk.{Exchanges, Hears};
+ghost use Rattle.sysv_model.specs.Writing.{AppendsPrefix};
 ghost use Rattle.sysv_wire.specs.Requests.{request_spelling};
-ghost use Rattle.sysv_wire.specs.Streams.{AppendsPrefix};
 
 use crate::fault::ClientFault;
 use std::io::{Read, Write};

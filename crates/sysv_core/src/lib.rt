@@ -1,5 +1,13 @@
 //! A world of queues and actors in which every call is made of atomic steps: one turn at one object
 //! each, or one look at the count for which it waits.
+//!
+//! ```rust
+//! let mut world = World::open(rt.alloc(), 2, 128)?;
+//! let call = Call::Stat { id: 0 };
+//! let start = world.step(Event::Start { actor: 1, cred: USER, call });
+//! let step = world.step(Event::Step { actor: 1, now: 0 });
+//! let free = world.end();
+//! ```
 #![tactic(auto)]
 
 mod doing;

@@ -1,5 +1,14 @@
 //! Eventcounts and sequencers, after Reed and Kanodia. An eventcount is a number that only rises: threads advance it,
-//! read it, and wait until it has reached a goal. A sequencer gives the numbers from its first on, each once.
+//! read it, and wait until it has reached a goal. A sequencer gives the numbers from its first on, each once. Together
+//! they let one thread at a time do something, in the order of the numbers:
+//!
+//! ```rust
+//! let turn = turns.ticket(&mut drawing)?;
+//! served.await_at_least(&rt, &mut serving, turn);
+//! // One thread at a time is here.
+//! let number = served.advance(&mut serving)?;
+//! served.wake(&rt);
+//! ```
 #![tactic(auto)]
 
 mod awaited;

@@ -1,5 +1,15 @@
 //! A gate round an object, after Reed and Kanodia's mutual exclusion by a sequencer and an eventcount: threads call the
 //! object one turn at a time, in the order of their tickets, and all turns make one history.
+//!
+//! ```rust
+//! let mut other = gate.split(&mut seat);
+//! // In one thread:
+//! let before = gate.call(&rt, &mut seat, 5).ok();
+//! // In another:
+//! let after = gate.call(&rt, &mut other, 7).ok();
+//! gate.join(&mut seat, other);
+//! let closing = gate.close(seat);
+//! ```
 #![tactic(auto)]
 
 mod awaited;

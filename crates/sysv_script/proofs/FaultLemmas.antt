@@ -6,7 +6,7 @@ use Rattle.std.specs.Io.KnownBytes.{Appends}
 use Rattle.std.proofs.KnownBytes.{Appends-trans}
 use Rattle.sysv_streams.specs.declared.fault.ScriptFault.{ScriptFault}
 use Rattle.sysv_streams.specs.declared.fault.ScriptFault.TheVariants.{Line, Read, Write, NoMemory, Bound}
-use Rattle.sysv_streams.specs.Streams.{AppendsPart}
+use Rattle.sysv_model.specs.Writing.{AppendsPrefix}
 use Rattle.sysv_script.proofs.StreamLemmas.{Grows-trans, Grows-part}
 use Rattle.sysv_streams.specs.Faults.{Grows, IsStreamFault, LeavesBadLine, TellsBadLine, bad_line_text, is_read_fault, is_write_fault}
 
@@ -43,7 +43,7 @@ pub tells_end : (handed ended : Result ⊤ ScriptFault) (a b c : Option (List �
 tells_end (Ok x) ended a b c composed grown all fault left = IfErr-handed ended a b c composed grown all left
 tells_end (Err y) ended a b c composed grown all fault left = subst (λ f. TellsBadLine f a c) (sym fault) tt
 
-pub grows_end : (handed : Result ⊤ ScriptFault) (a b c : Option (List ℕ)) (composed : List ℕ) → Grows a b → OnOk handed (Appends b c composed) → OnErr handed (AppendsPart b c composed) → Grows a c
+pub grows_end : (handed : Result ⊤ ScriptFault) (a b c : Option (List ℕ)) (composed : List ℕ) → Grows a b → OnOk handed (Appends b c composed) → OnErr handed (AppendsPrefix b c composed) → Grows a c
 grows_end (Ok x) a b c composed grown all part = Grows-trans a b c grown (composed, all)
 grows_end (Err y) a b c composed grown all part = Grows-trans a b c grown (Grows-part b c composed part)
 

@@ -4,3 +4,6 @@ pub mod LineLemmas
 pub mod FaultLemmas
 pub mod StreamLemmas
 pub mod Ran
+pub mod Opening
+pub mod OneText
+pub mod EachText

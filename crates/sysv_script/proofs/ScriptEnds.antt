@@ -1,32 +1,31 @@
 -- How a run of a script that is under way ends, by the fault that ends it.
-use Rattle.std.proofs.Common.{◌≡◌, ◌+◌, ◌≤◌, ℕ, zero, suc, List, [], ◌∷◌, ◌++◌, Option, Some, Result, Ok, Err, length, take, refl, sym, ap, subst, ◌∙◌}
+use Rattle.std.proofs.Common.{◌≡◌, ◌+◌, ◌≤◌, ℕ, List, [], ◌++◌, Option, Some, Result, Ok, Err, take, refl, sym, ap, subst}
 use Rattle.std.specs.Prelude.{IsErrAnd, IfErr, OnOk, OnErr, ⊤, Bool, true, false, not}
 use Rattle.std.specs.Result.{result_and}
 use Rattle.std.specs.Io.KnownBytes.{Appends}
 use Rattle.std.proofs.KnownBytes.{Appends-nil, Appends-trans}
-use lib.Seq.{take-append-add}
 use Rattle.sysv_stage.specs.Scene.{Scene, opening_scene}
 use Rattle.sysv_stage.specs.declared.stage.Stage.{Stage}
 use Rattle.sysv_stage.specs.Staged.{IsSceneOf}
-use Rattle.sysv_streams.specs.Streams.{AppendsPart}
+use Rattle.sysv_lists.specs.Prefix.{IsPrefixOf}
+use Rattle.sysv_lists.proofs.Prefixes.{prefix_self, prefix_trans}
+use Rattle.sysv_model.specs.Writing.{AppendsPrefix}
+use Rattle.sysv_streams.proofs.StreamLemmas.{prefix_after}
 use Rattle.sysv_streams.specs.Found.{IsNextLine}
-use Rattle.sysv_streams.specs.Faults.{IsFrontOf, IsFrontOf-all, IsStreamFault, IsLineFault, EndsAtLine}
-use Rattle.sysv_texts.specs.ScriptText.{IsBad, Ending, Whole, BadLine, TooMany, ScriptPrints}
-use Rattle.sysv_script.specs.Written.{WritesScript, WritesAll, WritesFront, WritesAtFault}
+use Rattle.sysv_streams.specs.Faults.{IsStreamFault, IsLineFault, EndsAtLine}
+use Rattle.sysv_script.specs.ScriptText.{IsBad, Ending, Whole, BadLine, TooMany, ScriptPrints}
+use Rattle.sysv_script.specs.Written.{WritesScript, WritesAll, WritesPrefix, WritesAtFault}
 use Rattle.sysv_words.specs.OneSplit.{OneSplit}
-use Rattle.sysv_texts.specs.OneText.{OneText}
-use Rattle.sysv_texts.specs.EachText.{EachTextPrints}
-use Rattle.sysv_script.specs.ScriptSofar.{Halt, AtEnd, Before, Runs, IsText, RunsOn, RunsNext, LeavesAll, LeavesFront, LeavesAtFault, Leaves}
+use Rattle.sysv_script.specs.OneText.{OneText}
+use Rattle.sysv_script.specs.EachText.{EachTextPrints}
+use Rattle.sysv_script.specs.ScriptSofar.{Halt, AtEnd, Before, Runs, IsText, RunsOn, RunsNext, LeavesAll, LeavesPrefix, LeavesAtFault, Leaves}
 use Rattle.sysv_streams.specs.declared.lines.Found.{Found}
 use Rattle.sysv_streams.specs.declared.fault.ScriptFault.{ScriptFault}
 use Rattle.sysv_streams.specs.declared.fault.ScriptFault.TheVariants.{Line, Read, Write, NoMemory, Bound}
 use Rattle.sysv_script.proofs.Scripting.{fails_at, stops_front}
 
-pub IsFrontOf-none : (none text : List ℕ) → none ≡ [] → IsFrontOf none text
-IsFrontOf-none none text e = (0, e)
-
 -- a fault of a stream
-pub at_stream_fault : (fault : ScriptFault) (s : Scene) (text : List ℕ) (old new : Option (List ℕ)) (composed : List ℕ) → IsStreamFault fault → LeavesFront s text old new composed → LeavesAtFault fault s text old new composed
+pub at_stream_fault : (fault : ScriptFault) (s : Scene) (text : List ℕ) (old new : Option (List ℕ)) (composed : List ℕ) → IsStreamFault fault → LeavesPrefix s text old new composed → LeavesAtFault fault s text old new composed
 at_stream_fault Read s text old new composed h part = part
 at_stream_fault Write s text old new composed h part = part
 at_stream_fault (Line n) s text old new composed h part = absurd h
@@ -72,7 +71,7 @@ RunsNext-end more s text old n now waiting left new composed e next = subst (λ 
 
 -- The writer took a prefix of what the script prints, or of what it has printed before a line.
 abbrev WritesSome : List ℕ → Option (List ℕ) → Option (List ℕ) → Type 0
-WritesSome text old new = (halt : Halt) × (out : List ℕ) × Runs opening_scene 1 text out halt × AppendsPart old new out
+WritesSome text old new = (halt : Halt) × (out : List ℕ) × Runs opening_scene 1 text out halt × AppendsPrefix old new out
 
 -- ---- what is composed at the end is written
 
@@ -86,58 +85,46 @@ all_out ending text old mid new composed left all =
     let handed = left.2 in
     (left.0, left.1, subst (Appends old new) (sym handed.2) (Appends-trans old mid new handed.0 composed handed.1 all))
 
-front_out : (text : List ℕ) (old mid new : Option (List ℕ)) (composed : List ℕ) → LeavesFront opening_scene text old mid composed → Appends mid new composed → WritesSome text old new
+front_out : (text : List ℕ) (old mid new : Option (List ℕ)) (composed : List ℕ) → LeavesPrefix opening_scene text old mid composed → Appends mid new composed → WritesSome text old new
 front_out text old mid new composed left all =
     let handed = left.2 in
-    (Before, left.0, left.1, (handed.2.0, subst (Appends old new) handed.2.1 (Appends-trans old mid new handed.0 composed handed.1 all)))
+    (Before, left.0, left.1, (handed.0 ++ composed, handed.2, Appends-trans old mid new handed.0 composed handed.1 all))
 
 -- ---- what is composed at the end is written in part
 
-take_of_take : (m n : ℕ) (text : List ℕ) → IsFrontOf (take m (take n text)) text
-take_of_take zero n text = (0, refl)
-take_of_take (suc m) zero text = (0, refl)
-take_of_take (suc m) (suc n) [] = (0, refl)
-take_of_take (suc m) (suc n) (x ∷ xs) = let rest = take_of_take m n xs in (suc rest.0, ap (λ l. x ∷ l) rest.1)
-
-front_of_front : (m : ℕ) (front text : List ℕ) → IsFrontOf front text → IsFrontOf (take m front) text
-front_of_front m front text part =
-    let found = take_of_take m part.0 text in (found.0, ap (take m) part.1 ∙ found.1)
-
-part_out : (halt : Halt) (out text : List ℕ) (old mid new : Option (List ℕ)) (handed composed : List ℕ) → Runs opening_scene 1 text out halt → Appends old mid handed → IsFrontOf (handed ++ composed) out → AppendsPart mid new composed → WritesSome text old new
+part_out : (halt : Halt) (out text : List ℕ) (old mid new : Option (List ℕ)) (handed composed : List ℕ) → Runs opening_scene 1 text out halt → Appends old mid handed → IsPrefixOf (handed ++ composed) out → AppendsPrefix mid new composed → WritesSome text old new
 part_out halt out text old mid new handed composed printed grown front part =
-    let found = front_of_front (length handed + part.0) (handed ++ composed) out front in
-    let joined : handed ++ take part.0 composed ≡ take found.0 out = sym (take-append-add handed composed part.0) ∙ found.1 in
-    (halt, out, printed, (found.0, subst (Appends old new) joined (Appends-trans old mid new handed (take part.0 composed) grown part.1)))
+    let prefix : IsPrefixOf (handed ++ part.0) (handed ++ composed) = prefix_after handed part.0 composed part.1 in
+    (halt, out, printed, (handed ++ part.0, prefix_trans (handed ++ part.0) (handed ++ composed) out prefix front, Appends-trans old mid new handed part.0 grown part.2))
 
-all_cut : (ending : Ending) (text : List ℕ) (old mid new : Option (List ℕ)) (composed : List ℕ) → LeavesAll opening_scene text ending old mid composed → AppendsPart mid new composed → WritesSome text old new
+all_cut : (ending : Ending) (text : List ℕ) (old mid new : Option (List ℕ)) (composed : List ℕ) → LeavesAll opening_scene text ending old mid composed → AppendsPrefix mid new composed → WritesSome text old new
 all_cut ending text old mid new composed left part =
     let handed = left.2 in
-    part_out (AtEnd ending) left.0 text old mid new handed.0 composed left.1 handed.1 (subst (IsFrontOf (handed.0 ++ composed)) (sym handed.2) (IsFrontOf-all (handed.0 ++ composed))) part
+    part_out (AtEnd ending) left.0 text old mid new handed.0 composed left.1 handed.1 (subst (IsPrefixOf (handed.0 ++ composed)) (sym handed.2) (prefix_self (handed.0 ++ composed))) part
 
-front_cut : (text : List ℕ) (old mid new : Option (List ℕ)) (composed : List ℕ) → LeavesFront opening_scene text old mid composed → AppendsPart mid new composed → WritesSome text old new
+front_cut : (text : List ℕ) (old mid new : Option (List ℕ)) (composed : List ℕ) → LeavesPrefix opening_scene text old mid composed → AppendsPrefix mid new composed → WritesSome text old new
 front_cut text old mid new composed left part =
     let handed = left.2 in part_out Before left.0 text old mid new handed.0 composed left.1 handed.1 handed.2 part
 
-fault_cut : (fault : ScriptFault) (text : List ℕ) (old mid new : Option (List ℕ)) (composed : List ℕ) → LeavesAtFault fault opening_scene text old mid composed → AppendsPart mid new composed → WritesSome text old new
+fault_cut : (fault : ScriptFault) (text : List ℕ) (old mid new : Option (List ℕ)) (composed : List ℕ) → LeavesAtFault fault opening_scene text old mid composed → AppendsPrefix mid new composed → WritesSome text old new
 fault_cut (Line n) text old mid new composed left part = all_cut (BadLine n) text old mid new composed left part
 fault_cut Bound text old mid new composed left part = all_cut TooMany text old mid new composed left part
 fault_cut NoMemory text old mid new composed left part = front_cut text old mid new composed left part
 fault_cut Read text old mid new composed left part = front_cut text old mid new composed left part
 fault_cut Write text old mid new composed left part = front_cut text old mid new composed left part
 
-any_cut : (r : Result ⊤ ScriptFault) (text : List ℕ) (old mid new : Option (List ℕ)) (composed : List ℕ) → Leaves r opening_scene text old mid composed → AppendsPart mid new composed → WritesSome text old new
+any_cut : (r : Result ⊤ ScriptFault) (text : List ℕ) (old mid new : Option (List ℕ)) (composed : List ℕ) → Leaves r opening_scene text old mid composed → AppendsPrefix mid new composed → WritesSome text old new
 any_cut (Ok done) text old mid new composed left part = all_cut Whole text old mid new composed left part
 any_cut (Err fault) text old mid new composed left part = fault_cut fault text old mid new composed left part
 
 -- ---- a prefix of what was printed before a line is one of what the text prints
 
-front_of_part : (text out whole : List ℕ) (ending : Ending) (old new : Option (List ℕ)) → ScriptPrints text whole ending → IsFrontOf out whole → AppendsPart old new out → WritesFront text old new
+front_of_part : (text out whole : List ℕ) (ending : Ending) (old new : Option (List ℕ)) → ScriptPrints text whole ending → IsPrefixOf out whole → AppendsPrefix old new out → WritesPrefix text old new
 front_of_part text out whole ending old new printed front part =
-    let found = front_of_front part.0 out whole front in
-    (ending, whole, printed, (found.0, subst (Appends old new) found.1 part.1))
+    (ending, whole, printed, (part.0, prefix_trans part.0 out whole part.1 front, part.2))
 
 module _ (one : OneText) (each : EachTextPrints) where
-  in_whole : (text : List ℕ) (old new : Option (List ℕ)) → WritesSome text old new → WritesFront text old new
+  in_whole : (text : List ℕ) (old new : Option (List ℕ)) → WritesSome text old new → WritesPrefix text old new
   in_whole text old new (AtEnd ending, out, printed, part) = (ending, out, printed, part)
   in_whole text old new (Before, out, printed, part) =
       let all = each text in
@@ -156,12 +143,12 @@ module _ (one : OneText) (each : EachTextPrints) where
 
   -- what is composed at the end is written, or a prefix of it
   pub writes_end : (handed ended : Result ⊤ ScriptFault) (text : List ℕ) (old mid new : Option (List ℕ)) (composed : List ℕ) →
-      OnOk handed (Appends mid new composed) → OnErr handed (AppendsPart mid new composed) → IfErr handed (λ y. y ≡ Write) →
+      OnOk handed (Appends mid new composed) → OnErr handed (AppendsPrefix mid new composed) → IfErr handed (λ y. y ≡ Write) →
       Leaves ended opening_scene text old mid composed → WritesScript (result_and handed ended) text old new
   writes_end (Ok x) ended text old mid new composed all part fault left = writes_out ended text old mid new composed left all
   writes_end (Err y) ended text old mid new composed all part fault left =
       subst (λ f. WritesAtFault f text old new) (sym fault) (in_whole text old new (any_cut ended text old mid new composed left part))
 
   -- nothing was run
-  pub writes_none : (text : List ℕ) (old : Option (List ℕ)) → WritesFront text old old
-  writes_none text old = let all = each text in (all.1, all.0, all.2, (0, Appends-nil old))
+  pub writes_none : (text : List ℕ) (old : Option (List ℕ)) → WritesPrefix text old old
+  writes_none text old = let all = each text in (all.1, all.0, all.2, ([], (all.0, refl), Appends-nil old))

@@ -2,7 +2,6 @@
 -- adds to it.
 use Rattle.std.proofs.Common.{◌≡◌, ◌+◌, ◌<◌, ◌≤◌, ℕ, suc, Bool, true, false, List, [], ◌∷◌, ◌++◌, Option, Some, None, length, length-append, take, drop, refl, sym, ap, subst, ◌∙◌, append_assoc, append-nil, arith, inl, inr, take_all}
 use Rattle.std.proofs.Math.Seq.{drop-cons}
-use lib.Seq.{take-append-add}
 use Rattle.std.proofs.lemmas.List.{take-append-drop}
 use Rattle.std.proofs.lemmas.Option.{slice_get_within, get_or_from_slice_get}
 use Rattle.std.specs.Io.KnownBytes.{Appends, Consumes, IsAtEnd}
@@ -13,12 +12,15 @@ use Rattle.sysv_stage.specs.Staged.{IsSceneOf}
 use Rattle.std.proofs.lemmas.List.Elements.{Contains-append_cases}
 use Rattle.sysv_words.specs.Words.{SplitsAt}
 use Rattle.sysv_words.specs.OneSplit.{OneSplit}
-use Rattle.sysv_streams.specs.Streams.{AppendsPart, HandsOn, TakesIn}
+use Rattle.sysv_streams.specs.Streams.{HandsOn, TakesIn}
 use Rattle.sysv_streams.specs.Found.{HasNoEnd, IsFirstLine, IsLastLine, IsNextLine, HasNoLine}
-use Rattle.sysv_streams.specs.Faults.{IsFrontOf, bad_line_text}
-use Rattle.sysv_texts.specs.ScriptText.{BeginsWith, LineDoes, IsBad, Whole, BadLine, TooMany, Prints, Ends, Exceeds, Fails, Goes}
-use Rattle.sysv_texts.specs.Sofar.{PrintsSofar, Here, Past}
-use Rattle.sysv_script.specs.ScriptSofar.{Halt, AtEnd, Before, Runs, IsText, RunsOn, LeavesAll, LeavesFront}
+use Rattle.sysv_streams.specs.Faults.{bad_line_text}
+use Rattle.sysv_streams.proofs.StreamLemmas.{prefix_after}
+use Rattle.sysv_lists.specs.Prefix.{IsPrefixOf}
+use Rattle.sysv_model.specs.Writing.{AppendsPrefix}
+use Rattle.sysv_script.specs.ScriptText.{BeginsWith, LineDoes, IsBad, Whole, BadLine, TooMany, Prints, Ends, Exceeds, Fails, Goes}
+use Rattle.sysv_script.specs.Sofar.{PrintsSofar, Here, Past}
+use Rattle.sysv_script.specs.ScriptSofar.{Halt, AtEnd, Before, Runs, IsText, RunsOn, LeavesAll, LeavesPrefix}
 use Rattle.sysv_streams.specs.declared.lines.Found.{Found}
 
 pub begins_text : (s : Scene) (now : Stage) (text waiting : List ℕ) (left old : Option (List ℕ)) (composed : List ℕ) → composed ≡ [] → IsSceneOf s now → IsText waiting left text →
@@ -149,22 +151,22 @@ stops_here s text old n now waiting left new composed on =
     subst (PrintsSofar s 1 text) (append-nil (on.handed ++ composed)) (on.prints [] Before (Here on.mid n on.rest))
 
 pub stops_part : (s : Scene) (text : List ℕ) (old : Option (List ℕ)) (n : ℕ) (now : Stage) (waiting : List ℕ) (left new newer : Option (List ℕ)) (composed none : List ℕ) →
-    AppendsPart new newer composed → none ≡ [] → RunsOn s text old n now waiting left new composed → LeavesFront s text old newer none
+    AppendsPrefix new newer composed → none ≡ [] → RunsOn s text old n now waiting left new composed → LeavesPrefix s text old newer none
 stops_part s text old n now waiting left new newer composed none part e on =
-    let front = on.handed ++ take part.0 composed in
-    let joined : front ++ none ≡ take (length on.handed + part.0) (on.handed ++ composed) =
-    ap (λ l. front ++ l) e ∙ append-nil front ∙ sym (take-append-add on.handed composed part.0) in (
+    let front = on.handed ++ part.0 in
+    let joined : front ++ none ≡ front = ap (λ l. front ++ l) e ∙ append-nil front in
+    let prefix : IsPrefixOf front (on.handed ++ composed) = prefix_after on.handed part.0 composed part.1 in (
       on.handed ++ composed,
       stops_here s text old n now waiting left new composed on,
-      (front, Appends-trans old new newer on.handed (take part.0 composed) on.grown part.1, (length on.handed + part.0, joined)),
+      (front, Appends-trans old new newer on.handed part.0 on.grown part.2, subst (λ l. IsPrefixOf l (on.handed ++ composed)) (sym joined) prefix),
     )
 
 pub stops_front : (s : Scene) (text : List ℕ) (old : Option (List ℕ)) (n : ℕ) (now : Stage) (waiting : List ℕ) (left new : Option (List ℕ)) (composed fewer : List ℕ) →
-    IsFrontOf fewer composed → RunsOn s text old n now waiting left new composed → LeavesFront s text old new fewer
+    IsPrefixOf fewer composed → RunsOn s text old n now waiting left new composed → LeavesPrefix s text old new fewer
 stops_front s text old n now waiting left new composed fewer front on = (
   on.handed ++ composed,
   stops_here s text old n now waiting left new composed on,
-  (on.handed, on.grown, (length on.handed + front.0, ap (λ l. on.handed ++ l) front.1 ∙ sym (take-append-add on.handed composed front.0))),
+  (on.handed, on.grown, prefix_after on.handed fewer composed front),
 )
 
 -- a line that is too long is bad as soon as it is, whatever follows

@@ -1,9 +1,12 @@
+pub use Rattle.sysv_words.specs.Words
 pub use Rattle.sysv_streams.specs.Streams
 pub use Rattle.sysv_streams.specs.Found
 pub use Rattle.sysv_streams.specs.Faults
 pub use Rattle.sysv_stage.specs.Scene
 pub use Rattle.sysv_stage.specs.Staged
-pub use Rattle.sysv_texts.specs.ScriptText
-pub use Rattle.sysv_texts.specs.Sofar
+pub mod ScriptText
+pub mod Sofar
+pub mod OneText
+pub mod EachText
 pub mod Written
 pub mod ScriptSofar

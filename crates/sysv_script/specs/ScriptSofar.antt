@@ -3,11 +3,11 @@
 use Rattle.std.specs.Prelude.{◌≡◌, ◌+◌, ℕ, Bool, true, false, List, [], ◌++◌, Option, Some, Result, Ok, Err, ⊤}
 use Rattle.std.specs.Io.KnownBytes.{Appends}
 use Rattle.sysv_stage.specs.Scene.{Scene}
-use Rattle.sysv_streams.specs.Faults.{IsFrontOf}
+use Rattle.sysv_lists.specs.Prefix.{IsPrefixOf}
 use Rattle.sysv_stage.specs.Staged.{IsSceneOf}
 use Rattle.sysv_stage.specs.declared.stage.Stage.{Stage}
-use Rattle.sysv_texts.specs.ScriptText.{LineDoes, IsBad, Ending, Whole, BadLine, TooMany, Prints}
-use Rattle.sysv_texts.specs.Sofar.{PrintsSofar}
+use Rattle.sysv_script.specs.ScriptText.{LineDoes, IsBad, Ending, Whole, BadLine, TooMany, Prints}
+use Rattle.sysv_script.specs.Sofar.{PrintsSofar}
 use Rattle.sysv_streams.specs.declared.fault.ScriptFault.{ScriptFault}
 use Rattle.sysv_streams.specs.declared.fault.ScriptFault.TheVariants.{Line, Read, Write, NoMemory, Bound}
 
@@ -45,16 +45,16 @@ LeavesAll s text ending old new composed =
     (out : List ℕ) × Prints s 1 text out ending × ((handed : List ℕ) × Appends old new handed × (out ≡ handed ++ composed))
 
 -- What was written, and what is composed after it, is a prefix of what the text has printed so far.
-abbrev pub LeavesFront : Scene → List ℕ → Option (List ℕ) → Option (List ℕ) → List ℕ → Type 0
-LeavesFront s text old new composed =
-    (out : List ℕ) × PrintsSofar s 1 text out × ((handed : List ℕ) × Appends old new handed × IsFrontOf (handed ++ composed) out)
+abbrev pub LeavesPrefix : Scene → List ℕ → Option (List ℕ) → Option (List ℕ) → List ℕ → Type 0
+LeavesPrefix s text old new composed =
+    (out : List ℕ) × PrintsSofar s 1 text out × ((handed : List ℕ) × Appends old new handed × IsPrefixOf (handed ++ composed) out)
 
 abbrev pub LeavesAtFault : ScriptFault → Scene → List ℕ → Option (List ℕ) → Option (List ℕ) → List ℕ → Type 0
 LeavesAtFault (Line n) s text old new composed = LeavesAll s text (BadLine n) old new composed
 LeavesAtFault Bound s text old new composed = LeavesAll s text TooMany old new composed
-LeavesAtFault NoMemory s text old new composed = LeavesFront s text old new composed
-LeavesAtFault Read s text old new composed = LeavesFront s text old new composed
-LeavesAtFault Write s text old new composed = LeavesFront s text old new composed
+LeavesAtFault NoMemory s text old new composed = LeavesPrefix s text old new composed
+LeavesAtFault Read s text old new composed = LeavesPrefix s text old new composed
+LeavesAtFault Write s text old new composed = LeavesPrefix s text old new composed
 
 abbrev pub Leaves : Result ⊤ ScriptFault → Scene → List ℕ → Option (List ℕ) → Option (List ℕ) → List ℕ → Type 0
 Leaves (Ok done) s text old new composed = LeavesAll s text Whole old new composed

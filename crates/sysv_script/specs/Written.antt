@@ -1,26 +1,26 @@
 -- What a writer took of what a script prints, by how its run ended (this project's script language).
 use Rattle.std.specs.Prelude.{ℕ, List, Option, Result, Ok, Err, ⊤}
 use Rattle.std.specs.Io.KnownBytes.{Appends}
-use Rattle.sysv_streams.specs.Streams.{AppendsPart}
+use Rattle.sysv_model.specs.Writing.{AppendsPrefix}
 use Rattle.sysv_streams.specs.declared.fault.ScriptFault.{ScriptFault}
 use Rattle.sysv_streams.specs.declared.fault.ScriptFault.TheVariants.{Line, Read, Write, NoMemory, Bound}
-use Rattle.sysv_texts.specs.ScriptText.{Ending, Whole, BadLine, TooMany, ScriptPrints}
+use Rattle.sysv_script.specs.ScriptText.{Ending, Whole, BadLine, TooMany, ScriptPrints}
 
 -- Ends so, and the writer took all that the script prints.
 abbrev pub WritesAll : List ℕ → Ending → Option (List ℕ) → Option (List ℕ) → Type 0
 WritesAll text ending old new = (out : List ℕ) × ScriptPrints text out ending × Appends old new out
 
 -- The writer took a prefix of all that the script prints.
-abbrev pub WritesFront : List ℕ → Option (List ℕ) → Option (List ℕ) → Type 0
-WritesFront text old new = (ending : Ending) × (out : List ℕ) × ScriptPrints text out ending × AppendsPart old new out
+abbrev pub WritesPrefix : List ℕ → Option (List ℕ) → Option (List ℕ) → Type 0
+WritesPrefix text old new = (ending : Ending) × (out : List ℕ) × ScriptPrints text out ending × AppendsPrefix old new out
 
 -- what the writer took, by how the run of the text ended
 abbrev pub WritesAtFault : ScriptFault → List ℕ → Option (List ℕ) → Option (List ℕ) → Type 0
 WritesAtFault (Line n) text old new = WritesAll text (BadLine n) old new
 WritesAtFault Bound text old new = WritesAll text TooMany old new
-WritesAtFault Read text old new = WritesFront text old new
-WritesAtFault Write text old new = WritesFront text old new
-WritesAtFault NoMemory text old new = WritesFront text old new
+WritesAtFault Read text old new = WritesPrefix text old new
+WritesAtFault Write text old new = WritesPrefix text old new
+WritesAtFault NoMemory text old new = WritesPrefix text old new
 
 abbrev pub WritesScript : Result ⊤ ScriptFault → List ℕ → Option (List ℕ) → Option (List ℕ) → Type 0
 WritesScript (Ok done) text old new = WritesAll text Whole old new

@@ -1,9 +1,19 @@
-//! The script language: a text of calls, one a line, that a world of queues and actors runs line by
-//! line, from a reader to a writer.
+//! The script language: a text of calls, one per line, that a world of queues and actors runs line by
+//! line, from a reader to a writer. `specs/` says what a text prints; the laws say that each text prints
+//! something, and one thing only.
+//!
+//! ```rust
+//! let mut script = b"preset\n1 snd 0 5 - =hello\n2 rcv 0 9 0 -\n".as_slice();
+//! let mut printed = Vec::new(rt.alloc());
+//! let mut reader = Watched::new(&mut script);
+//! let mut writer = Watched::new(&mut printed);
+//! run_script(rt.alloc(), &mut reader, &mut writer)?;
+//! ```
 #![tactic(auto)]
 
+mod laws;
 mod script;
 
+pub use laws::{each_text_prints, one_text};
 pub use script::run_script;
 pub use sysv_streams::{SCRIPT_LINES, ScriptFault};
-pub use sysv_texts::{each_text_prints, one_text};

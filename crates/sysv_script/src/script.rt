@@ -1,34 +1,39 @@
-//! The script language: a text of calls, one a line, that a world runs line by line.
+//! The run of a script: its lines are read and run one by one, and what they print is written.
 ghost use Rattle.std.specs.Prelude.{false, true, ◌≡◌, ◌+◌, ◌<◌, ◌≤◌, ◌++◌, ◌||◌, [], ℕ, List, Option, Some, length, take, drop, IfOk, IfErr, IsOk, OnOk, OnErr};
 ghost use Rattle.std.specs.Io.KnownBytes.{Appends, IsAtEnd};
+ghost use Rattle.sysv_lists.specs.Prefix.{IsPrefixOf};
 ghost use Rattle.sysv_model.specs.Watched.{has_failed, stream_name, stream_of};
-ghost use Rattle.sysv_streams.specs.Faults.{Grows, IsLineFault, IsFrontOf, IsStreamFault, EndsAtLine, LeavesBadLine, TellsBadLine, is_read_fault, is_write_fault};
+ghost use Rattle.sysv_model.specs.Writing.{AppendsPrefix};
+ghost use Rattle.sysv_streams.specs.Faults.{Grows, IsLineFault, IsStreamFault, EndsAtLine, LeavesBadLine, TellsBadLine, is_read_fault, is_write_fault};
 ghost use Rattle.sysv_stage.specs.Scene.{Scene, opening_scene};
-ghost use Rattle.sysv_texts.specs.ScriptText.{LineDoes, IsBad};
+ghost use Rattle.sysv_script.specs.ScriptText.{LineDoes, IsBad};
 ghost use Rattle.sysv_script.specs.Written.{WritesScript};
 ghost use Rattle.sysv_script.specs.ScriptSofar.{LineEnds, Leaves, IsText, RunsOn, RunsNext};
 ghost use Rattle.sysv_stage.specs.Staged.{IsSceneOf};
-ghost use Rattle.sysv_streams.specs.Streams.{AppendsPart};
 ghost use Rattle.sysv_streams.specs.declared.fault.TheConstants.{SCRIPT_LINES};
 ghost use Rattle.sysv_lines.specs.declared.line.TheConstants.{LINE_BYTES};
 
+use crate::laws::{each_text_prints, one_text};
 use std::alloc::Global;
 use std::io::{Read, Write};
 use sysv_lines::{Head, LINE_BYTES, line_of};
 use sysv_model::{NoMemory, Watched};
 use sysv_stage::Stage;
 use sysv_streams::{Found, Input, Output, SCRIPT_LINES, ScriptFault, next_line, read_on};
-use sysv_texts::{each_text_prints, one_text};
 use sysv_words::one_split;
 
 /// Runs the script that `reader` gives on a world of 16 actors, and writes to `writer` a line for
-/// each call that it starts. The answers to what was read are written before more is read.
+/// each call that it starts. What was read is run and its lines are written before more is read.
+/// Only `write` is called on `writer`; if it has a buffer, the caller flushes it.
 ///
-/// A bad line is one that is not understood, or is longer than 9,000 bytes, or a `preset` where slot 0 has or had a
-/// queue, or a `pool` after any other line that is not skipped. It is answered by `line N: bad`, and ends the script
-/// with `Line(N)`; a line after the millionth ends it with `Bound`. After `Read`, `Write` and `NoMemory` what was
-/// written is a prefix of the answers. Nothing but `write` is called on `writer`: one with a buffer of its own
-/// is for the caller to flush.
+/// # Errors
+///
+/// - `Line(n)` if line `n` is bad; `line N: bad` is then the last line written. A bad line is not
+///   understood, or is longer than 9,000 bytes, or is a `preset` when slot 0 has or had a queue, or
+///   a `pool` after any other line that is not skipped.
+/// - `Bound` if a line begins after the millionth.
+/// - `Read` if the reader fails, `Write` if the writer fails or takes no byte, and `NoMemory` if
+///   memory is refused. What was written is then a prefix of what the script prints.
 pub fn run_script<R: Read, W: Write>(
     alloc: Global,
     reader: &mut Watched<'_, R>,
@@ -38,10 +43,10 @@ pub fn run_script<R: Read, W: Write>(
     ensures prints { (text : List ℕ) → R.remaining (stream_of reader.old) ≡ Some text → WritesScript result text (W.contents (stream_of writer.old)) (W.contents (stream_of writer.new)) }
     // A script that ends well was read to its end.
     ensures whole { OnOk result (IsAtEnd (R.remaining (stream_of reader.new))) }
-    // What the writer took stays, and where a line is bad the last line says which.
+    // What the writer took stays, and if a line is bad, the last line says which.
     ensures grows { Grows (W.contents (stream_of writer.old)) (W.contents (stream_of writer.new)) }
     ensures bad { IfErr result (λ fault. TellsBadLine fault (W.contents (stream_of writer.old)) (W.contents (stream_of writer.new))) }
-    // The streams are the same ones, and each has failed exactly where it had before or the fault says so.
+    // The streams are the same ones, and each has failed if and only if it had before or the fault says so.
     ensures same_reader { stream_name reader.new ≡ stream_name reader.old }
     ensures same_writer { stream_name writer.new ≡ stream_name writer.old }
     ensures reader_failed { has_failed reader.new ≡ (is_read_fault result || has_failed reader.old) }
@@ -56,7 +61,7 @@ pub fn run_script<R: Read, W: Write>(
     run.end(writer).and(ended)
 }
 
-/// A script under way: what it runs on, the bytes that wait, and the answers that are composed.
+/// A script under way: what it runs on, the bytes that wait, and the lines that are composed.
 struct Run {
     stage: Stage,
     input: Input,
@@ -64,7 +69,7 @@ struct Run {
 }
 
 impl Run {
-    /// Nothing has been read.
+    /// Opens a script of which nothing has been read.
     fn open(alloc: Global) -> Result<Run, NoMemory>
         ensures { IfOk result (λ run. IsSceneOf opening_scene run.stage × (run.input ≡ []) × (run.output ≡ [])) }
     {
@@ -78,8 +83,8 @@ impl Run {
         })
     }
 
-    /// Runs the lines one by one, up to the end, the first fault or the bound. The last answers may
-    /// still have to be written.
+    /// Runs the lines one by one, up to the end, the first fault or the bound. The last lines that it
+    /// prints may still have to be written.
     fn run_lines<R: Read, W: Write>(
         &mut self,
         alloc: Global,
@@ -108,7 +113,7 @@ impl Run {
         self.expect_end(reader, writer)
     }
 
-    /// Runs the next line, which has this number. `false` where the script is at its end.
+    /// Runs the next line, which has this number. Returns `false` if the script is at its end.
     fn run_next<R: Read, W: Write>(
         &mut self,
         alloc: Global,
@@ -162,7 +167,7 @@ impl Run {
         Ok(())
     }
 
-    /// Sees that no line begins after the last that a script may have.
+    /// Checks that no line begins after the last that a script may have.
     fn expect_end<R: Read, W: Write>(
         &mut self,
         reader: &mut Watched<'_, R>,
@@ -190,10 +195,10 @@ impl Run {
         }
     }
 
-    /// Writes the last answers, and ends the world.
+    /// Writes the last lines, and ends the world.
     fn end<W: Write>(self, writer: &mut Watched<'_, W>) -> Result<(), ScriptFault>
         ensures ok { OnOk result (Appends (W.contents (stream_of writer.old)) (W.contents (stream_of writer.new)) self.output) }
-        ensures err { OnErr result (AppendsPart (W.contents (stream_of writer.old)) (W.contents (stream_of writer.new)) self.output) }
+        ensures err { OnErr result (AppendsPrefix (W.contents (stream_of writer.old)) (W.contents (stream_of writer.new)) self.output) }
         ensures fault { IfErr result (λ fault. fault ≡ ScriptFault.Write) }
         ensures empty { self.output ≡ [] → IsOk result }
         ensures same { stream_name writer.new ≡ stream_name writer.old }
@@ -209,7 +214,7 @@ impl Run {
     }
 }
 
-/// Runs one line and composes its answer. `false` where the line is bad.
+/// Runs one line and composes what it prints. Returns `false` if the line is bad.
 fn run_line(
     alloc: Global,
     stage: &mut Stage,
@@ -220,7 +225,7 @@ fn run_line(
         × LineEnds s line.now understood out after × IsSceneOf after stage.new × (output.new ≡ output.old ++ out)) }
     ensures short { IfOk result (λ understood. understood ≡ true → length line.now ≤ LINE_BYTES) }
     ensures quiet { IfOk result (λ understood. understood ≡ false → output.new ≡ output.old) }
-    ensures err { OnErr result (IsFrontOf output.new output.old) }
+    ensures err { OnErr result (IsPrefixOf output.new output.old) }
 {
     match line_of(line) {
         Some(line) => stage.run(alloc, line, output),

@@ -1,10 +1,12 @@
 //! Connections as they are accepted.
 ghost use Rattle.std.specs.Prelude.{◌≡◌};
 
+use std::io;
 use std::os::unix::net::{UnixListener, UnixStream};
 use sysv_workers::Source;
 
-/// Accepts connections, up to a number of them or, where that is 0, without end. An accept that fails ends it.
+/// Accepts connections, up to a number of them or, if that is 0, without end. An accept that fails
+/// ends it.
 #[derive(Drop)]
 pub(crate) struct Accepting<'a> {
     listener: &'a UnixListener,
@@ -12,6 +14,8 @@ pub(crate) struct Accepting<'a> {
     most: u64,
     /// How many were accepted. It stays at the greatest value.
     accepted: u64,
+    /// Why the accept that ended it failed.
+    fault: Option<io::Error>,
 }
 
 impl<'a> Accepting<'a> {
@@ -23,7 +27,13 @@ impl<'a> Accepting<'a> {
             listener,
             most,
             accepted: 0,
+            fault: None,
         }
+    }
+
+    /// Why an accept failed, if one did.
+    pub(crate) fn into_fault(self) -> Option<io::Error> {
+        self.fault
     }
 }
 
@@ -36,10 +46,15 @@ impl Source<UnixStream> for Accepting<'_> {
         if self.most != 0 && self.accepted >= self.most {
             return None;
         }
-        let Ok((stream, _address)) = self.listener.accept() else {
-            return None;
-        };
-        self.accepted = self.accepted.saturating_add(1);
-        Some(stream)
+        match self.listener.accept() {
+            Ok((stream, _address)) => {
+                self.accepted = self.accepted.saturating_add(1);
+                Some(stream)
+            }
+            Err(why) => {
+                self.fault = Some(why);
+                None
+            }
+        }
     }
 }

@@ -9,5 +9,5 @@ mod session;
 mod sums;
 
 pub use fault::ServeFault;
-pub use serving::{serve_connections, serve_on};
+pub use serving::{serve_connections, serve_on, serve_until_fault};
 pub use sums::Sums;

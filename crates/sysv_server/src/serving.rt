@@ -12,23 +12,29 @@ use crate::fault::ServeFault;
 use crate::session::{Sessions, Worker};
 use crate::sums::Sums;
 use std::alloc::Global;
+use std::io;
 use std::os::unix::net::{UnixListener, UnixStream};
 use std::sync::Wait;
 use std::thread::Threads;
 use sysv_service::{Pass, Service};
 use sysv_workers::{Source, WorkersFault, WorkersRefused, run_workers};
 
-/// Serves the connections of the listener on a new service, each as one session, and answers what the sessions add up to.
-/// `blocks` is the size of the pool, 128 to 65,536, `workers` the number of threads, 1 to 16, and `sessions` the number of
-/// connections that are accepted, 0 for any number. A server ends once that many sessions are over or, where an accept fails,
-/// those are that were accepted; then it removes the queues that are left. Every moment of its queues is 0.
+/// Serves the connections of the listener on a new service, each as one session, and returns what
+/// the sessions add up to.
 ///
-/// The clients' hellos are believed. A call that waits holds its worker. A session whose memory is refused is counted, and
-/// answers nothing.
+/// `blocks` is the size of the pool, 128 to 65,536; `workers` is the number of threads, 1 to 16; and
+/// `sessions` is the number of connections to accept, 0 for no limit. The server ends once that many
+/// sessions are over or, if an accept fails, once the accepted ones are over; then it removes the
+/// queues that are left. Every timestamp of its queues is 0.
 ///
-/// `NoMemory` comes where memory for the service, the passes or the workers is refused, and `Thread` where a thread can't be
-/// started: then nothing was accepted. `Worn` comes where 2^62 connections had gone to the workers, and `Missed` where the
-/// number of sessions that were run is not that of the connections that were accepted.
+/// The clients' hellos are believed. A call that waits holds its worker. A session whose memory is
+/// refused is counted, and gets no reply.
+///
+/// # Errors
+/// `NoMemory` if memory for the service, the passes or the workers is refused, and `Thread` if a
+/// thread cannot be started: then nothing was accepted. `Worn` if 2^62 connections had gone to the
+/// workers, and `Missed` if the number of sessions that were run is not that of the accepted
+/// connections.
 pub fn serve_on<R: Threads + Wait + Sync>(
     rt: &R,
     alloc: Global,
@@ -42,11 +48,33 @@ pub fn serve_on<R: Threads + Wait + Sync>(
     ensures ok { IfOk result (λ sums. ServesOn blocks workers sessions sums) }
     ensures balance { IfOk result IsBalanced }
 {
-    let mut source = Accepting::new(listener, sessions);
-    serve_connections(rt, alloc, &mut source, blocks, workers)
+    let mut fault = None;
+    serve_until_fault(rt, alloc, listener, blocks, workers, sessions, &mut fault)
 }
 
-/// As `serve_on`, with the connections that a source gives. After `NoMemory` and `Thread` the source was not asked.
+/// As `serve_on`, and leaves in `fault` why an accept failed, or `None` if none did.
+pub fn serve_until_fault<R: Threads + Wait + Sync>(
+    rt: &R,
+    alloc: Global,
+    listener: &UnixListener,
+    blocks: u32,
+    workers: u32,
+    sessions: u64,
+    fault: &mut Option<io::Error>,
+) -> Result<Sums, ServeFault>
+    requires blocks { (MIN_BLOCKS ≤ blocks) × (blocks ≤ MAX_BLOCKS) }
+    requires workers { (1 ≤ workers) × (workers ≤ MAX_WORKERS) }
+    ensures ok { IfOk result (λ sums. ServesOn blocks workers sessions sums) }
+    ensures balance { IfOk result IsBalanced }
+{
+    let mut source = Accepting::new(listener, sessions);
+    let outcome = serve_connections(rt, alloc, &mut source, blocks, workers);
+    *fault = source.into_fault();
+    outcome
+}
+
+/// As `serve_on`, with the connections of a source. After `NoMemory` and `Thread` the source was not
+/// asked for any.
 pub fn serve_connections<S: Source<UnixStream>, R: Threads + Wait + Sync>(
     rt: &R,
     alloc: Global,

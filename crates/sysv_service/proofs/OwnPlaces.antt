@@ -9,7 +9,7 @@ use native.Mathlib.Decide.{dec_le}
 use mathlib.Core.Option.{some, some-ne-none}
 use lib.ListN.{get_elem?}
 use Rattle.sysv_gate.specs.declared.view.Turn.{Turn}
-use Rattle.sysv_gate.specs.Numbers.{times}
+use Rattle.sysv_lists.specs.Numbers.{times}
 use Rattle.sysv_gate.specs.History.{after_all, made_at, HasItsOwn}
 use Rattle.sysv_gate.specs.Gates.{Holding, made, saw}
 use Rattle.sysv_gated.specs.Seats.{entries, TakesTurn}

@@ -1,5 +1,13 @@
 //! System V message queues (POSIX.1-2017, `msgget`, `msgsnd`, `msgrcv`, `msgctl`) as a service that threads share: each call
-//! plays the steps of the table on the gates of the objects, and waits for its turns and for the counts.
+//! plays the steps of the table on the gates of the objects, and waits for its turns and for the counts. Each thread has a
+//! pass of its own:
+//!
+//! ```rust
+//! let id = service.msgget(&rt, &mut pass, &CLOCK, USER, 7, creating());
+//! let flags = Flags::IPC_NOWAIT;
+//! let sent = service.msgsnd(&rt, &mut pass, &CLOCK, USER, 0, 5, &text, flags);
+//! let got = service.msgrcv(&rt, &mut pass, &CLOCK, USER, 0, &mut out, 8192, -9, flags);
+//! ```
 #![tactic(auto)]
 
 mod clock;

@@ -13,7 +13,7 @@ use Rattle.sysv_wire.specs.declared.reply.Outcome.TheVariants.{Hello}
 use Rattle.sysv_wire.specs.declared.reply.Reply.{Reply}
 use Rattle.sysv_wire.specs.Frames.{op_number}
 use Rattle.sysv_wire.specs.Replies.{reply_spelling}
-use Rattle.sysv_wire.specs.Streams.{AppendsPrefix}
+use Rattle.sysv_model.specs.Writing.{AppendsPrefix}
 
 abbrev pub hello_reply : Reply
 hello_reply = record { op = op_number op.Hello; result = Hello }

@@ -11,7 +11,7 @@ use Rattle.sysv_session.specs.Input.{EndsAfter, EndsBefore, asked_spelling, hell
 use Rattle.sysv_session.specs.Output.{Tallies, Writes, frames_of, hello_frame}
 use Rattle.sysv_session.specs.Session.{IsBounded}
 use Rattle.sysv_wire.specs.Requests.{FitsRequest}
-use Rattle.sysv_wire.specs.Streams.{AppendsPrefix}
+use Rattle.sysv_model.specs.Writing.{AppendsPrefix}
 
 -- a hello was read, and so many requests are taken up with it
 abbrev pub IsGreeted : Cred → (left rest : Option (List ℕ)) → ℕ → Type 0

@@ -10,7 +10,7 @@ use Rattle.sysv_session.specs.Answers.{messages_in, outcome_spelling}
 use Rattle.sysv_session.specs.Calls.{Call, IsCall, Meaning}
 use Rattle.sysv_session.specs.Input.{EndsAfter}
 use Rattle.sysv_wire.specs.Requests.{request_spelling}
-use Rattle.sysv_wire.specs.Streams.{AppendsPrefix}
+use Rattle.sysv_model.specs.Writing.{AppendsPrefix}
 
 -- a message more was written, if the outcome is one
 abbrev pub one_written : Outcome → Tallied → Tallied

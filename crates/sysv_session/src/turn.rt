@@ -7,7 +7,7 @@ ghost use Rattle.sysv_session.specs.Answers.{reply_of, message_reply as the_repl
 ghost use Rattle.sysv_session.specs.Input.{Greets, ReadsAsked};
 ghost use Rattle.sysv_session.specs.Turn.{Answers};
 ghost use Rattle.sysv_wire.specs.Replies.{IsAnswer, reply_spelling};
-ghost use Rattle.sysv_wire.specs.Streams.{AppendsPrefix};
+ghost use Rattle.sysv_model.specs.Writing.{AppendsPrefix};
 
 use crate::kernel::Outcome;
 use crate::served::End;

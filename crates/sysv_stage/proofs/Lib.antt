@@ -4,3 +4,4 @@ pub mod Going
 pub mod AllOn
 pub mod Kept
 pub mod Acting
+pub mod NoneLeft

@@ -1,6 +1,6 @@
 ghost use Rattle.std.specs.Prelude.{false, ◌≡◌, ◌+◌, ◌<◌, ◌++◌, List, ℕ, replicate, map, IfOk, OnOk, OnErr, [], ◌∷◌, ◌≤◌, length, Some};
 ghost use Rattle.std.specs.List.{range_with_len};
-ghost use Rattle.sysv_streams.specs.Faults.{IsFrontOf};
+ghost use Rattle.sysv_lists.specs.Prefix.{IsPrefixOf};
 ghost use Rattle.sysv_lines.specs.Heads.{head_text};
 ghost use Rattle.sysv_stage.specs.Scene.{Scene, opening_scene, Advances, LineRuns, LineActs, PoolGiven, StartRuns, StartsAs, call_for, GoesOn, StepsRun, OneRuns, AllRun, printed, standing_line};
 ghost use Rattle.sysv_core.specs.World.{actor_at};
@@ -74,9 +74,9 @@ impl Stage {
         ensures runs { IfOk result (λ understood. (s : Scene) → IsSceneOf s self.old →
             (after : Scene) × (out : List ℕ) × LineRuns s (said_of line.entry) understood out after
             × IsSceneOf after self.new × (output.new ≡ output.old ++ out)) }
-        // A line that is bad composes nothing, and where memory is refused a front is left.
+        // A bad line composes nothing. If memory is refused, a prefix of what was composed is left.
         ensures quiet { IfOk result (λ understood. understood ≡ false → output.new ≡ output.old) }
-        ensures err { OnErr result (IsFrontOf output.new output.old) }
+        ensures err { OnErr result (IsPrefixOf output.new output.old) }
     {
         match line {
             Line::Skipped => Ok(true),
@@ -110,7 +110,7 @@ impl Stage {
             (after : Scene) × (out : List ℕ) × LineActs s (said_of line.entry) understood out after
             × IsSceneOf after self.new × (output.new ≡ output.old ++ out)) }
         ensures quiet { IfOk result (λ understood. understood ≡ false → output.new ≡ output.old) }
-        ensures err { OnErr result (IsFrontOf output.new output.old) }
+        ensures err { OnErr result (IsPrefixOf output.new output.old) }
     {
         match line {
             Line::Preset => return Ok(self.world.preset()),
@@ -145,7 +145,7 @@ impl Stage {
         ensures runs { OnOk result ((s : Scene) → IsSceneOf s self.old → (after : Scene) × (out : List ℕ)
             × StartRuns s actor (call_asked request.entry) goes (doing_at (actor_at s.world.actors actor)) out after
             × IsSceneOf after self.new × (output.new ≡ output.old ++ out)) }
-        ensures err { OnErr result (IsFrontOf output.new output.old) }
+        ensures err { OnErr result (IsPrefixOf output.new output.old) }
     {
         if let Some(_operation) = self.under_way(actor) {
             return output.tell(Head::Busy { actor });
@@ -175,7 +175,7 @@ impl Stage {
         ensures runs { OnOk result ((s : Scene) → IsSceneOf s self.old → (after : Scene) × (out : List ℕ)
             × AllRun (range_with_len 1 SCRIPT_ACTORS) s out after
             × IsSceneOf after self.new × (output.new ≡ output.old ++ out)) }
-        ensures err { OnErr result (IsFrontOf output.new output.old) }
+        ensures err { OnErr result (IsPrefixOf output.new output.old) }
     {
         for actor in 1..SCRIPT_ACTORS + 1 {
             self.take_one_on(actor, output)?;

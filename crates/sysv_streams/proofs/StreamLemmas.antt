@@ -1,11 +1,19 @@
 -- What two reads take in, and two writes hand on, one after the other.
-use Rattle.std.proofs.Common.{Result, Ok, Err}
+use Rattle.std.proofs.Common.{◌≡◌, ℕ, List, [], ◌++◌, Option, Result, Ok, Err, refl, sym, ap, subst, ◌∙◌, append_assoc, append-nil}
 use Rattle.std.specs.Prelude.{OnErr}
-use Rattle.std.proofs.Common.{◌≡◌, ◌+◌, ℕ, List, [], ◌++◌, Option, length, take, refl, sym, ap, subst, ◌∙◌, append_assoc, append-nil, arith, take_all}
-use lib.Seq.{take-append-add}
 use Rattle.std.specs.Io.KnownBytes.{Appends}
 use Rattle.std.proofs.KnownBytes.{Appends-nil, Appends-trans, Consumes-nil, Consumes-trans}
-use Rattle.sysv_streams.specs.Streams.{AppendsPart, HandsOn, TakesIn}
+use Rattle.sysv_lists.specs.Prefix.{IsPrefixOf}
+use Rattle.sysv_lists.proofs.Prefixes.{prefix_self}
+use Rattle.sysv_model.specs.Writing.{AppendsPrefix}
+use Rattle.sysv_streams.specs.Streams.{HandsOn, TakesIn}
+
+pub prefix_none : (none text : List ℕ) → none ≡ [] → IsPrefixOf none text
+prefix_none none text e = (text, ap (λ l. l ++ text) (sym e))
+
+-- a prefix of what stands after the same bytes
+pub prefix_after : (front part whole : List ℕ) → IsPrefixOf part whole → IsPrefixOf (front ++ part) (front ++ whole)
+prefix_after front part whole b = (b.0, ap (λ l. front ++ l) b.1 ∙ sym (append_assoc front part b.0))
 
 pub HandsOn-none : (a : Option (List ℕ)) (waiting : List ℕ) → HandsOn a waiting a waiting
 HandsOn-none a waiting = ([], refl, Appends-nil a)
@@ -14,15 +22,13 @@ pub HandsOn-all : (a b c : Option (List ℕ)) (waiting rest none : List ℕ) →
 HandsOn-all a b c waiting rest none before all e =
     (waiting, sym (ap (λ l. waiting ++ l) e ∙ append-nil waiting), subst (Appends a c) (sym before.1) (Appends-trans a b c before.0 rest before.2 all))
 
-pub HandsOn-part : (a b c : Option (List ℕ)) (waiting rest : List ℕ) → HandsOn a waiting b rest → AppendsPart b c rest → AppendsPart a c waiting
+pub HandsOn-part : (a b c : Option (List ℕ)) (waiting rest : List ℕ) → HandsOn a waiting b rest → AppendsPrefix b c rest → AppendsPrefix a c waiting
 HandsOn-part a b c waiting rest before part =
-    let front = before.0 in
-    let joined : front ++ take part.0 rest ≡ take (length front + part.0) waiting =
-    sym (ap (take (length front + part.0)) before.1 ∙ take-append-add front rest part.0) in
-    (length front + part.0, subst (Appends a c) joined (Appends-trans a b c front (take part.0 rest) before.2 part.1))
+    let joined : IsPrefixOf (before.0 ++ part.0) (before.0 ++ rest) = prefix_after before.0 part.0 rest part.1 in
+    (before.0 ++ part.0, subst (IsPrefixOf (before.0 ++ part.0)) (sym before.1) joined, Appends-trans a b c before.0 part.0 before.2 part.2)
 
-pub AppendsPart-all : (a b : Option (List ℕ)) (bytes : List ℕ) → Appends a b bytes → AppendsPart a b bytes
-AppendsPart-all a b bytes all = (length bytes, subst (Appends a b) (sym (take_all (length bytes) bytes (omega arith))) all)
+pub AppendsPrefix-all : (a b : Option (List ℕ)) (bytes : List ℕ) → Appends a b bytes → AppendsPrefix a b bytes
+AppendsPrefix-all a b bytes all = (bytes, prefix_self bytes, all)
 
 pub TakesIn-none : (a : Option (List ℕ)) (waiting : List ℕ) → TakesIn a waiting a waiting
 TakesIn-none a waiting = ([], sym (append-nil waiting), Consumes-nil a)

@@ -1,10 +1,10 @@
 -- How a script ends (this project's script language): the last line that is printed for a bad line
 -- says its number, counted from 1, and a script has at most 1,000,000 lines.
-use Rattle.std.specs.Prelude.{◌≡◌, ◌≤◌, ⊤, ℕ, Bool, true, false, List, [], ◌∷◌, ◌++◌, length, take, Option, Result, Ok, Err}
-use Rattle.std.proofs.Common.{sym, take_all, arith}
+use Rattle.std.specs.Prelude.{◌≡◌, ◌≤◌, ⊤, ℕ, Bool, true, false, List, [], ◌∷◌, ◌++◌, Option, Result, Ok, Err}
 use Rattle.std.specs.Io.KnownBytes.{Appends}
 use Rattle.sysv_lines.specs.Heads.{head_text}
 use Rattle.sysv_lines.specs.declared.head.Head.TheVariants.{Bad}
+use Rattle.sysv_lists.specs.Prefix.{IsPrefixOf}
 use Rattle.sysv_streams.specs.declared.fault.TheConstants.{SCRIPT_LINES}
 use Rattle.sysv_streams.specs.declared.fault.ScriptFault.{ScriptFault}
 use Rattle.sysv_streams.specs.declared.fault.ScriptFault.TheVariants.{Line, Read, Write, NoMemory, Bound}
@@ -16,13 +16,6 @@ bad_line_text number = head_text (Bad number) ++ 10 ∷ []
 -- the text ends with the line that says that this line is bad
 abbrev pub EndsInBadLine : ℕ → List ℕ → Type 0
 EndsInBadLine number text = (answers : List ℕ) × (text ≡ answers ++ bad_line_text number)
-
--- a prefix of the text
-abbrev pub IsFrontOf : List ℕ → List ℕ → Type 0
-IsFrontOf front text = (count : ℕ) × (front ≡ take count text)
-
-pub IsFrontOf-all : (text : List ℕ) → IsFrontOf text text
-IsFrontOf-all text = (length text, sym (take_all (length text) text (omega arith)))
 
 -- the reader or the writer has failed
 abbrev pub IsStreamFault : ScriptFault → Type 0
@@ -61,7 +54,7 @@ is_write_fault (Err fault) = is_write fault
 -- Where this line ends the script it is bad, which is composed after what was; or memory was refused.
 abbrev pub EndsAtLine : ScriptFault → ℕ → (old new : List ℕ) → Type 0
 EndsAtLine (Line n) number old new = (n ≡ number) × (new ≡ old ++ bad_line_text number)
-EndsAtLine NoMemory number old new = IsFrontOf new old
+EndsAtLine NoMemory number old new = IsPrefixOf new old
 EndsAtLine Read number old new = ⊥
 EndsAtLine Write number old new = ⊥
 EndsAtLine Bound number old new = ⊥

@@ -1,11 +1,7 @@
--- What a reader and a writer of bytes have given and taken, where their bytes are known (this
--- project's words for it).
-use Rattle.std.specs.Prelude.{◌≡◌, ℕ, List, ◌++◌, Option, take}
+-- What a reader and a writer of bytes have given and taken, if their bytes are known (this project's
+-- words for it).
+use Rattle.std.specs.Prelude.{◌≡◌, ℕ, List, ◌++◌, Option}
 use Rattle.std.specs.Io.KnownBytes.{Appends, Consumes}
-
--- known bytes grow by a prefix of these bytes
-abbrev pub AppendsPart : Option (List ℕ) → Option (List ℕ) → List ℕ → Type 0
-AppendsPart old new bytes = (count : ℕ) × Appends old new (take count bytes)
 
 -- The writer takes a prefix of what waits for it, and the rest waits.
 abbrev pub HandsOn : Option (List ℕ) → List ℕ → Option (List ℕ) → List ℕ → Type 0

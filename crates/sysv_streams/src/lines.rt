@@ -1,10 +1,11 @@
-//! Where the next line of a script ends, among the bytes that wait and those that are read on.
+//! Finds the next line of a script, and reads on if its end is not there yet.
 ghost use Rattle.std.specs.Prelude.{false, true, ◌≡◌, ◌+◌, ◌<◌, ◌≤◌, ◌||◌, [], length, take, MatchOption, IfOk, IfErr, OnOk, OnErr, IfSome};
 ghost use Rattle.std.specs.Io.KnownBytes.{Appends, IsAtEnd};
 ghost use Rattle.sysv_model.specs.Watched.{has_failed, stream_name, stream_of};
+ghost use Rattle.sysv_model.specs.Writing.{AppendsPrefix};
 ghost use Rattle.sysv_streams.specs.Faults.{IsStreamFault, is_read_fault, is_write_fault};
 ghost use Rattle.sysv_streams.specs.Found.{HasNoEnd, IsFirstLine, IsNextLine, FindsLine};
-ghost use Rattle.sysv_streams.specs.Streams.{AppendsPart, HandsOn, TakesIn};
+ghost use Rattle.sysv_streams.specs.Streams.{HandsOn, TakesIn};
 ghost use Rattle.sysv_streams.specs.declared.input.TheConstants.{INPUT_ROOM};
 ghost use Rattle.sysv_lines.specs.declared.line.TheConstants.{LINE_BYTES};
 
@@ -20,11 +21,12 @@ use sysv_model::Watched;
 pub struct Found {
     /// The number of its bytes, its LF not counted.
     pub len: usize,
-    /// Whether no LF stands after it: it is the last, or longer than a line may be.
+    /// Whether no LF follows it: it is the last line, or longer than a line may be.
     pub is_last: bool,
 }
 
-/// Finds the next line, and reads on for its end where that has to be; `None` where there is none.
+/// Finds the next line, and reads on if its end is not there yet. Returns `None` if there is no
+/// line.
 pub fn next_line<R: Read, W: Write>(
     input: &mut Input,
     output: &mut Output,
@@ -35,7 +37,7 @@ pub fn next_line<R: Read, W: Write>(
     ensures answers { OnOk result (HandsOn (W.contents (stream_of writer.old)) output.old (W.contents (stream_of writer.new)) output.new) }
     ensures found { IfOk result (λ found. FindsLine found input.new (R.remaining (stream_of reader.new))) }
     ensures none_left { OnErr result (output.new ≡ []) }
-    ensures err { OnErr result (AppendsPart (W.contents (stream_of writer.old)) (W.contents (stream_of writer.new)) output.old) }
+    ensures err { OnErr result (AppendsPrefix (W.contents (stream_of writer.old)) (W.contents (stream_of writer.new)) output.old) }
     ensures fault { IfErr result IsStreamFault }
     ensures same_reader { stream_name reader.new ≡ stream_name reader.old }
     ensures same_writer { stream_name writer.new ≡ stream_name writer.old }
@@ -56,8 +58,8 @@ pub fn next_line<R: Read, W: Write>(
     }
 }
 
-/// The next line where what waits shows its end, or shows that it is too long. No LF stands in the
-/// first `seen` bytes.
+/// Returns the next line if the waiting bytes hold its end, or show that it is too long. The first
+/// `seen` bytes hold no LF.
 fn line_within(waiting: &[u8], seen: usize) -> Option<Found>
     requires within { seen ≤ length waiting.now }
     requires before { HasNoEnd (take seen waiting.now) }
@@ -78,7 +80,7 @@ fn line_within(waiting: &[u8], seen: usize) -> Option<Found>
     }
 }
 
-/// The last line, which is these bytes; `None` where there are none.
+/// Returns the last line, which is these bytes, or `None` if there are none.
 fn line_at_end(len: usize) -> Option<Found>
     ensures { MatchOption result (len ≡ 0) (λ found. (found.len ≡ len) × (found.is_last ≡ true) × (0 < len)) }
 {
@@ -88,7 +90,7 @@ fn line_at_end(len: usize) -> Option<Found>
     }
 }
 
-/// The place of the first LF, where none stands in the first `seen` bytes.
+/// Returns the place of the first LF. The first `seen` bytes hold none.
 fn line_end(waiting: &[u8], seen: usize) -> Option<usize>
     requires within { seen ≤ length waiting.now }
     requires before { HasNoEnd (take seen waiting.now) }
@@ -100,14 +102,15 @@ fn line_end(waiting: &[u8], seen: usize) -> Option<usize>
     }
 }
 
-/// The place of the first LF.
+/// Returns the place of the first LF.
 fn first_end(text: &[u8]) -> Option<usize>
     ensures { MatchOption result (HasNoEnd text.now) (λ len. IsFirstLine len text.now) }
 {
     text.iter().position(|byte| *byte == b'\n')
 }
 
-/// Writes the answers and reads once; the number of bytes that came, 0 at the end.
+/// Writes the answers and reads once. Returns the number of bytes that came, 0 at the end of the
+/// input.
 pub fn read_on<R: Read, W: Write>(
     input: &mut Input,
     output: &mut Output,
@@ -120,7 +123,7 @@ pub fn read_on<R: Read, W: Write>(
     ensures end { IfOk result (λ count. count ≡ 0 → IsAtEnd (R.remaining (stream_of reader.new))) }
     ensures answers { OnOk result (Appends (W.contents (stream_of writer.old)) (W.contents (stream_of writer.new)) output.old) }
     ensures none_left { output.new ≡ [] }
-    ensures err { OnErr result (AppendsPart (W.contents (stream_of writer.old)) (W.contents (stream_of writer.new)) output.old) }
+    ensures err { OnErr result (AppendsPrefix (W.contents (stream_of writer.old)) (W.contents (stream_of writer.new)) output.old) }
     ensures fault { IfErr result IsStreamFault }
     ensures same_reader { stream_name reader.new ≡ stream_name reader.old }
     ensures same_writer { stream_name writer.new ≡ stream_name writer.old }

@@ -3,20 +3,21 @@ ghost use Rattle.std.specs.Prelude.{◌≡◌, [], ◌∷◌, ◌++◌, ◌||◌
 ghost use Rattle.std.specs.Io.KnownBytes.{Appends};
 ghost use Rattle.sysv_lines.specs.Heads.{head_text};
 ghost use Rattle.sysv_model.specs.Watched.{has_failed, stream_name, stream_of};
+ghost use Rattle.sysv_model.specs.Writing.{AppendsPrefix};
 ghost use Rattle.sysv_streams.specs.Faults.{is_write_fault};
-ghost use Rattle.sysv_streams.specs.Streams.{AppendsPart, HandsOn};
+ghost use Rattle.sysv_streams.specs.Streams.{HandsOn};
 
 use crate::fault::ScriptFault;
 use std::alloc::Global;
 use std::io::Write;
 use std::marker::Model;
 use sysv_lines::Head;
-use sysv_model::{BLOCK_BYTES, Body, NoMemory, Watched};
+use sysv_model::{BLOCK_BYTES, Body, NoMemory, Watched, WriteFault};
 
 /// The bytes for which the output has room.
 const OUTPUT_ROOM: usize = 65536;
 
-/// The longest line: a head of at most 64 bytes, a text and its LF.
+/// The length of the longest line: a head of at most 64 bytes, a message body and an LF.
 const LONGEST: usize = 8400;
 
 /// Lines that are composed and not yet written.
@@ -36,7 +37,7 @@ impl Model for Output {
 }
 
 impl Output {
-    /// Nothing composed, with room for 65,536 bytes.
+    /// Opens an output with room for 65,536 bytes and nothing composed.
     pub fn open(alloc: Global) -> Result<Output, NoMemory>
         ensures { IfOk result (λ output. output ≡ []) }
     {
@@ -46,7 +47,7 @@ impl Output {
         }
     }
 
-    /// Composes a line that is a head alone. Where memory is refused, nothing is left composed.
+    /// Composes a line that is only a head. If memory is refused, nothing is left composed.
     pub fn tell(&mut self, head: Head) -> Result<(), NoMemory>
         ensures ok { OnOk result (self.new ≡ self.old ++ (head_text head ++ 10 ∷ [])) }
         ensures err { OnErr result (self.new ≡ []) }
@@ -60,8 +61,8 @@ impl Output {
         }
     }
 
-    /// Composes a line of a head and the bytes of a text. Where memory is refused, nothing is left
-    /// composed.
+    /// Composes a line of a head and the bytes of a message body. If memory is refused, nothing is
+    /// left composed.
     pub fn tell_text(&mut self, head: Head, text: &Body) -> Result<(), NoMemory>
         ensures ok { OnOk result (self.new ≡ self.old ++ (head_text head ++ (text.now ++ 10 ∷ []))) }
         ensures err { OnErr result (self.new ≡ []) }
@@ -75,12 +76,12 @@ impl Output {
         }
     }
 
-    /// Writes what was composed where there might be no room for one more line. Where that fails
-    /// nothing is left composed.
+    /// Writes what was composed if there might be no room for one more line. If that fails, nothing
+    /// is left composed.
     pub fn make_room<W: Write>(&mut self, writer: &mut Watched<'_, W>) -> Result<(), ScriptFault>
         ensures ok { OnOk result (HandsOn (W.contents (stream_of writer.old)) self.old (W.contents (stream_of writer.new)) self.new) }
         ensures none_left { OnErr result (self.new ≡ []) }
-        ensures err { OnErr result (AppendsPart (W.contents (stream_of writer.old)) (W.contents (stream_of writer.new)) self.old) }
+        ensures err { OnErr result (AppendsPrefix (W.contents (stream_of writer.old)) (W.contents (stream_of writer.new)) self.old) }
         ensures fault { IfErr result (λ fault. fault ≡ ScriptFault.Write) }
         ensures same { stream_name writer.new ≡ stream_name writer.old }
         ensures failed { has_failed writer.new ≡ (is_write_fault result || has_failed writer.old) }
@@ -91,24 +92,30 @@ impl Output {
         self.write_to(writer)
     }
 
-    /// Writes all that was composed, in as many writes as the writer wants. Nothing is left composed,
-    /// also where that fails.
+    /// Writes all that was composed. Nothing is left composed, also if that fails. With nothing
+    /// composed it succeeds.
     pub fn write_to<W: Write>(&mut self, writer: &mut Watched<'_, W>) -> Result<(), ScriptFault>
         ensures ok { OnOk result (Appends (W.contents (stream_of writer.old)) (W.contents (stream_of writer.new)) self.old) }
         ensures none_left { self.new ≡ [] }
-        ensures err { OnErr result (AppendsPart (W.contents (stream_of writer.old)) (W.contents (stream_of writer.new)) self.old) }
+        ensures err { OnErr result (AppendsPrefix (W.contents (stream_of writer.old)) (W.contents (stream_of writer.new)) self.old) }
         ensures fault { IfErr result (λ fault. fault ≡ ScriptFault.Write) }
         ensures empty { self.old ≡ [] → IsOk result }
         ensures same { stream_name writer.new ≡ stream_name writer.old }
         ensures failed { has_failed writer.new ≡ (is_write_fault result || has_failed writer.old) }
     {
-        let written = write_out(&self.bytes, writer);
+        if self.bytes.is_empty() {
+            return Ok(());
+        }
+        let written = writer.write_out(&self.bytes);
         self.bytes.clear();
-        written
+        match written {
+            Ok(()) => Ok(()),
+            Err(WriteFault) => Err(ScriptFault::Write),
+        }
     }
 }
 
-/// Appends a head, a text and an LF.
+/// Appends a head, a message body and an LF.
 fn append_line(bytes: &mut Vec<u8>, head: Head, text: &Body) -> Result<(), NoMemory>
     ensures { OnOk result (bytes.new.items ≡ bytes.old.items ++ (head_text head ++ (text.now ++ 10 ∷ []))) }
 {
@@ -121,7 +128,7 @@ fn append_line(bytes: &mut Vec<u8>, head: Head, text: &Body) -> Result<(), NoMem
     Ok(())
 }
 
-/// Appends the bytes of a text, block by block.
+/// Appends a message body, block by block.
 fn append_text(bytes: &mut Vec<u8>, text: &Body) -> Result<(), NoMemory>
     ensures { OnOk result (bytes.new.items ≡ bytes.old.items ++ text.now) }
 {
@@ -129,27 +136,6 @@ fn append_text(bytes: &mut Vec<u8>, text: &Body) -> Result<(), NoMemory>
     for k in 0..blocks {
         if bytes.extend_from_slice(text.block(k)).is_err() {
             return Err(NoMemory);
-        }
-    }
-    Ok(())
-}
-
-/// Writes the bytes, in as many writes as the writer wants. A write that fails or takes nothing
-/// ends it, and the writer has taken a part of them.
-fn write_out<W: Write>(bytes: &[u8], writer: &mut Watched<'_, W>) -> Result<(), ScriptFault>
-    ensures ok { OnOk result (Appends (W.contents (stream_of writer.old)) (W.contents (stream_of writer.new)) bytes.now) }
-    ensures err { OnErr result (AppendsPart (W.contents (stream_of writer.old)) (W.contents (stream_of writer.new)) bytes.now) }
-    ensures fault { IfErr result (λ fault. fault ≡ ScriptFault.Write) }
-    ensures empty { bytes.now ≡ [] → IsOk result }
-    ensures same { stream_name writer.new ≡ stream_name writer.old }
-    ensures failed { has_failed writer.new ≡ (is_write_fault result || has_failed writer.old) }
-{
-    let mut written = 0;
-    while written < bytes.len() {
-        match writer.write(&bytes[written..]) {
-            Ok(0) => return Err(ScriptFault::Write),
-            Ok(count) => written += count,
-            Err(_) => return Err(ScriptFault::Write),
         }
     }
     Ok(())

@@ -1,18 +1,15 @@
 -- What is read and written one after the other.
-use Rattle.std.proofs.Common.{◌≡◌, ℕ, ◌+◌, ◌-◌, ◌*◌, ◌≤◌, List, ◌++◌, length, take, drop, Option, Result, Ok, Err, sym, ap, subst, ◌∙◌, append_assoc, arith, length-append, take-append-drop}
+use Rattle.std.proofs.Common.{◌≡◌, ℕ, ◌+◌, ◌*◌, ◌≤◌, List, ◌++◌, length, take, drop, Option, Result, Ok, Err, sym, ap, subst, ◌∙◌, append_assoc, arith, length-append, take-append-drop}
 use borrow.Rule.Slice.PartMut.{put_mid, post_of}
-use lib.Seq.{take-append-add, take-add, take-take}
+use lib.Seq.{take-append-add, take-add}
 use Rattle.std.proofs.lemmas.List.{length-take-le, take-append-le}
 use Rattle.std.specs.Io.KnownBytes.{Appends, Consumes}
 use Rattle.std.specs.Prelude.{OnOk, OnErr}
 use Rattle.std.proofs.KnownBytes.{Appends-trans, Consumes-trans}
 use Rattle.sysv_wire.specs.declared.fault.Fault.{Fault}
 use Rattle.sysv_wire.specs.Faults.{Faults}
-use Rattle.sysv_wire.specs.Streams.{AppendsPrefix}
-
--- a prefix that was counted
-pub AppendsPrefix-take : (a b : Option (List ℕ)) (count : ℕ) (bytes : List ℕ) → Appends a b (take count bytes) → AppendsPrefix a b bytes
-AppendsPrefix-take a b count bytes so_far = (take count bytes, (drop count bytes, sym (take-append-drop count bytes)), so_far)
+use Rattle.sysv_lists.proofs.Prefixes.{prefix_longer}
+use Rattle.sysv_model.specs.Writing.{AppendsPrefix}
 
 -- something, and then a prefix of the next
 pub AppendsPrefix-after : (a b c : Option (List ℕ)) (done bytes more : List ℕ) → Appends a b done → AppendsPrefix b c bytes → AppendsPrefix a c (done ++ (bytes ++ more))
@@ -30,13 +27,6 @@ came a n k xs ys within fits =
 pub length_came : (a n k : ℕ) (xs ys : List ℕ) → a ≤ length xs → n ≤ length ys → a + n ≤ length (put_mid a k xs ys)
 length_came a n k xs ys within fits =
     omega (arith, length-take-le a xs within, length-append (take a xs) (ys ++ post_of a k xs), length-append ys (post_of a k xs))
-
--- the prefix that was written, and then a prefix of what is left
-pub went : (bytes : List ℕ) (written count : ℕ) → count ≤ length bytes - written
-    → take written bytes ++ take count (take (length bytes - written) (drop written bytes)) ≡ take (written + count) bytes
-went bytes written count fits =
-    ap (λ more. take written bytes ++ more) (take-take count (length bytes - written) (drop written bytes) fits)
-    ∙ sym (take-add written count bytes)
 
 pub OnErr-from : {T E P : Type 0} (r : Result T E) → P → OnErr r P
 OnErr-from (Ok x) p = tt
@@ -58,8 +48,7 @@ block_parts k text = sym (ap (λ l. take (k * 64) text ++ l) (take-append-drop 6
 
 -- a prefix of some bytes is one of those with more after them
 pub AppendsPrefix-longer : (a b : Option (List ℕ)) (bytes more : List ℕ) → AppendsPrefix a b bytes → AppendsPrefix a b (bytes ++ more)
-AppendsPrefix-longer a b bytes more first =
-    (first.0, (first.1.0 ++ more, ap (λ l. l ++ more) first.1.1 ∙ append_assoc first.0 first.1.0 more), first.2)
+AppendsPrefix-longer a b bytes more first = (first.0, prefix_longer first.0 bytes more first.1, first.2)
 
 -- some bytes, and then a prefix of others
 pub AppendsPrefix-next : {T E : Type 0} (r : Result T E) (a b c : Option (List ℕ)) (done bytes : List ℕ) → Appends a b done → OnErr r (AppendsPrefix b c bytes) → OnErr r (AppendsPrefix a c (done ++ bytes))

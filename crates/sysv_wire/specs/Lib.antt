@@ -1,5 +1,4 @@
 pub mod Numbers
-pub mod Streams
 pub mod Frames
 pub mod Requests
 pub mod Replies

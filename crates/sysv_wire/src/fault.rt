@@ -1,4 +1,4 @@
-//! Why a frame is not read or written.
+//! Why a frame is not read.
 use thiserror::Error;
 
 /// Why no request or no reply is read.
@@ -21,8 +21,3 @@ pub enum Fault {
     #[error("the input cannot be read")]
     Read,
 }
-
-/// A frame is not written: the writer failed, or took no byte. It took a prefix of the frame.
-#[derive(Clone, Copy, PartialEq, Eq, Debug, Error)]
-#[error("a frame cannot be written")]
-pub struct WriteFault;

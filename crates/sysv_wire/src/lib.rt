@@ -1,5 +1,13 @@
 //! The frames of a session: requests and replies as bytes, read from any reader and written to any
-//! writer. `specs/` has the spelling of each, and what a reader answers to bytes that spell none.
+//! writer. `specs/` has the spelling of each, and what a reader returns for bytes that spell none.
+//!
+//! ```rust
+//! let ask = Ask::Get { key: 7, flags };
+//! let mut frame = Vec::new(rt.alloc());
+//! write_request(&mut Watched::new(&mut frame), &Request { ask }, &text)?;
+//! let mut bytes = frame.as_slice();
+//! let read = read_request(&mut Watched::new(&mut bytes), &mut text)?;
+//! ```
 #![tactic(auto)]
 
 mod fault;
@@ -15,10 +23,11 @@ mod reply;
 mod request;
 mod requests;
 
-pub use fault::{Fault, WriteFault};
+pub use fault::Fault;
 pub use frame::{MAX_MODE, MAX_REPLY, MAX_REQUEST, MIN_REPLY, MIN_REQUEST, Op, VERSION};
 pub use laws::{one_answer_to_replies, one_answer_to_requests, one_reply, one_request};
 pub use replies::{read_reply, write_reply};
 pub use reply::{Outcome, Reply};
 pub use request::{Ask, Request};
 pub use requests::{read_request, write_request};
+pub use sysv_model::WriteFault;

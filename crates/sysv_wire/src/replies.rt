@@ -2,6 +2,7 @@
 ghost use Rattle.std.specs.Prelude.{◌≡◌, ◌≢◌, ◌≤◌, ◌+◌, ◌-◌, ◌++◌, ◌∷◌, ◌⊎◌, ◌||◌, [], ℕ, List, Option, Some, Result, Err, length, ◌==◌, ◌↔◌, true, false, IsTrue, is_err, IfOk, IfErr, OnOk, OnErr};
 ghost use Rattle.std.specs.Io.KnownBytes.{Appends, Consumes};
 ghost use Rattle.sysv_model.specs.Watched.{has_failed, stream_name, stream_of};
+ghost use Rattle.sysv_model.specs.Writing.{AppendsPrefix};
 ghost use Rattle.sysv_wire.specs.Faults.{Faults, is_read_fault};
 ghost use Rattle.sysv_wire.specs.Frames.{op_number};
 ghost use Rattle.sysv_wire.specs.Numbers.{u32_bytes};
@@ -9,18 +10,17 @@ ghost use Rattle.sysv_wire.specs.OneAnswer.{ReplyAt};
 ghost use Rattle.sysv_wire.specs.Reading.{ReadsReply};
 ghost use Rattle.sysv_wire.specs.Replies.{FitsOutcome, IsAnswer, IsAnswerLength, IsRestLength, count_fields, error_number, gives_text, outcome_fields, outcome_text, perm_fields, reply_spelling, row_fields, stat_fields, time_fields};
 ghost use Rattle.sysv_wire.specs.ReplyFaults.{AnswerFault, RestFault};
-ghost use Rattle.sysv_wire.specs.Streams.{AppendsPrefix};
 
-use crate::fault::{Fault, WriteFault};
+use crate::fault::Fault;
 use crate::fields::Fields;
 use crate::frame::{MAX_REPLY, Op, VERSION};
 use crate::input::{fill_all, read_head, read_text};
 use crate::number::only_i64;
 use crate::outcome::{errno_of, outcome_of};
-use crate::output::{write_both, write_out};
+use crate::output::write_both;
 use crate::reply::{Outcome, Reply};
 use std::io::{Read, Write};
-use sysv_model::{Body, MESSAGE_BYTES, Perm, Row, Stat, Watched};
+use sysv_model::{Body, MESSAGE_BYTES, Perm, Row, Stat, Watched, WriteFault};
 
 /// The most bytes that the fields of a reply take, its text not counted.
 const MAX_FIELDS: usize = 66;
@@ -212,7 +212,7 @@ pub fn write_reply<W: Write>(
         write_both(writer, head.bytes(), text)
     } else {
         let head = head_of(reply, &fields, 0);
-        write_out(writer, head.bytes())
+        writer.write_out(head.bytes())
     }
 }
 

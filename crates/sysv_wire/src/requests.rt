@@ -2,24 +2,24 @@
 ghost use Rattle.std.specs.Prelude.{◌≡◌, ◌≤◌, ◌+◌, ◌-◌, ◌<◌, ◌++◌, ◌∷◌, ◌⊎◌, ◌||◌, [], ℕ, List, Option, Some, Result, Err, length, is_err, IfOk, IfErr, OnOk, OnErr};
 ghost use Rattle.std.specs.Io.KnownBytes.{Appends, Consumes};
 ghost use Rattle.sysv_model.specs.Watched.{has_failed, stream_name, stream_of};
+ghost use Rattle.sysv_model.specs.Writing.{AppendsPrefix};
 ghost use Rattle.sysv_wire.specs.Faults.{Faults, Breaks, IsShorter, OpFault, is_read_fault};
 ghost use Rattle.sysv_wire.specs.Frames.{op_number};
 ghost use Rattle.sysv_wire.specs.Numbers.{u32_bytes};
 ghost use Rattle.sysv_wire.specs.OneAnswer.{RequestAt};
 ghost use Rattle.sysv_wire.specs.Reading.{ReadsRequest};
 ghost use Rattle.sysv_wire.specs.Requests.{FitsAsk, IsRequestLength, ask_fields, ask_text, fields_len, has_text, op_of, request_spelling};
-ghost use Rattle.sysv_wire.specs.Streams.{AppendsPrefix};
 
-use crate::fault::{Fault, WriteFault};
+use crate::fault::Fault;
 use crate::fields::Fields;
 use crate::frame::{MAX_REQUEST, Op, VERSION};
 use crate::input::{fill_all, read_head, read_text};
 use crate::number::{only_i32, only_u32, take_i32, take_i64, take_u32};
-use crate::output::{write_both, write_out};
+use crate::output::write_both;
 use crate::request::{Ask, Request};
 use bitflags::Flags as Set;
 use std::io::{Read, Write};
-use sysv_model::{BODY_ROOM, Body, Cred, Flags, SetTo, Watched};
+use sysv_model::{BODY_ROOM, Body, Cred, Flags, SetTo, Watched, WriteFault};
 
 /// The most bytes that the fields of a request take, its text not counted.
 const MAX_FIELDS: usize = 20;
@@ -294,7 +294,7 @@ pub fn write_request<W: Write>(
         write_both(writer, head.bytes(), text)
     } else {
         let head = head_of(op, &fields, 0);
-        write_out(writer, head.bytes())
+        writer.write_out(head.bytes())
     }
 }
 

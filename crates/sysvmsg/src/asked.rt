@@ -39,8 +39,13 @@ pub(crate) struct Serving<'a> {
 /// The most workers of a server.
 const MAX_WORKERS: u32 = 16;
 
-/// Why a word says nothing.
+/// The most bytes of a socket's path: its system call has room for one more, which is 0.
+const MAX_PATH: usize = 107;
+
+/// Why a word is not understood.
 type Bad = &'static str;
+
+const BAD_PATH: Bad = "a PATH has 1 to 107 bytes";
 
 const BAD_KEY: Bad =
     "a KEY is 1 to 2147483647, or 0x and one to eight hexadecimal digits that are not all 0";
@@ -61,8 +66,8 @@ const LONG_TEXT: Bad = "a TEXT has at most 8256 bytes";
 
 const NO_COMMAND: Bad = "a command is missing";
 
-/// What the words ask for, the program's name first; or why they ask for nothing, or the help or the
-/// version that they ask for.
+/// What the words ask for, the program's name first; or why they are not understood, or the help or
+/// the version that they ask for.
 pub(crate) fn read_words<'a, S: AsStr>(alloc: Global, words: &'a [S]) -> Result<Asked<'a>, Error>
     ensures { IfOk result IsWithinLimits }
 {
@@ -70,7 +75,7 @@ pub(crate) fn read_words<'a, S: AsStr>(alloc: Global, words: &'a [S]) -> Result<
     read_line(&mut line, words)
 }
 
-/// The same, by a command line.
+/// As `read_words`, by a command line.
 fn read_line<'a, S: AsStr>(line: &mut CommandLine<'a>, words: &'a [S]) -> Result<Asked<'a>, Error>
     ensures { IfOk result IsWithinLimits }
 {
@@ -81,9 +86,9 @@ fn read_line<'a, S: AsStr>(line: &mut CommandLine<'a>, words: &'a [S]) -> Result
     }
 }
 
-/// That a word is no text.
+/// The fault that a word is not UTF-8.
 pub(crate) fn no_text(alloc: Global) -> Error {
-    match fault(alloc, "a word is no text") {
+    match fault(alloc, "a word is not UTF-8") {
         Ok(error) => error,
         Err(error) => Error::from(error),
     }
@@ -110,9 +115,7 @@ fn task_of<'a>(matches: &ArgMatches<'a>) -> Result<Asked<'a>, Bad>
         "rcv" => receiving(words)?,
         _ => return Err(NO_COMMAND),
     };
-    let Some(path) = words.get_str("path") else {
-        return Err(NO_COMMAND);
-    };
+    let path = path_of(words)?;
     let cred = cred_of(words)?;
     Ok(Asked::Client {
         path,
@@ -120,15 +123,21 @@ fn task_of<'a>(matches: &ArgMatches<'a>) -> Result<Asked<'a>, Bad>
     })
 }
 
+/// The path of the socket. An empty one would make a socket without a name, which no file's mode
+/// guards.
+fn path_of<'a>(words: &ArgMatches<'a>) -> Result<&'a str, Bad> {
+    match words.get_str("path") {
+        Some(path) if !path.is_empty() && path.len() <= MAX_PATH => Ok(path),
+        _ => Err(BAD_PATH),
+    }
+}
+
 /// What a `serve` asks for.
 fn server<'a>(words: &ArgMatches<'a>) -> Result<Serving<'a>, Bad>
     ensures { IfOk result HasLimits }
 {
-    let Some(path) = words.get_str("path") else {
-        return Err(NO_COMMAND);
-    };
     Ok(Serving {
-        path,
+        path: path_of(words)?,
         blocks: blocks_of(words)?,
         workers: workers_of(words)?,
         sessions: sessions_of(words)?,

@@ -3,13 +3,29 @@ use clap::{Arg, ArgAction, ArgGroup, Command};
 use std::alloc::{AllocError, Global};
 
 /// The program's version.
-const VERSION: &str = "0.1.0";
+const VERSION: &str = "0.2.0";
+
+/// What the help of the whole program ends with.
+const SESSION: &str = "\
+Example:
+  $ sysvmsg serve ./q &
+  sysvmsg: serving ./q by 4 workers
+  $ sysvmsg snd ./q 7 hello --type 5
+  $ sysvmsg ipcs ./q
+  key             msqid      owner perms  bytes messages
+  0x00000007          0       1000   600      5        1
+  $ sysvmsg rcv ./q 7
+  hello
+  $ sysvmsg ipcrm ./q -Q 7
+  $ kill %1; rm ./q";
 
 /// A command.
 #[derive(Clone, Copy)]
 struct Known {
     name: &'static str,
     about: &'static str,
+    /// What its help ends with.
+    example: &'static str,
     arguments: &'static [Argument],
     either: Option<Either>,
 }
@@ -38,7 +54,7 @@ struct Either {
     required: bool,
 }
 
-const SERVER: Argument = ("path", Form::Word("PATH"), "The socket of the server");
+const SERVER: Argument = ("path", Form::Word("PATH"), "The server's socket");
 
 const USER: Argument = ("uid", Form::Value("N"), "The caller's user [default: 1000]");
 
@@ -55,132 +71,175 @@ const KEY: Argument = ("key", Form::Word("KEY"), KEY_HELP);
 const KEY_HELP: &str =
     "The queue's key, 1 to 2147483647, or 0x and one to eight hexadecimal digits, not all 0";
 
-const NOWAIT: Argument = ("nowait", Form::Flag, "Does not wait (IPC_NOWAIT)");
-
 /// All commands, in the order in which the help has them.
-const COMMANDS: [Known; 6] = [
-    Known {
-        name: "script",
-        about: "Runs the script on standard input and prints its answers",
-        arguments: &[],
-        either: None,
-    },
-    Known {
-        name: "serve",
-        about: "Serves queues on a socket, and prints what became of the messages",
-        arguments: &[
-            (
-                "path",
-                Form::Word("PATH"),
-                "The socket, which must not be there yet",
-            ),
-            (
-                "blocks",
-                Form::Value("B"),
-                "The blocks of 64 bytes for all texts, 128 to 65536 [default: 1024]",
-            ),
-            (
-                "workers",
-                Form::Value("W"),
-                "How many sessions go on at a time, 1 to 16 [default: 4]",
-            ),
-            (
-                "sessions",
-                Form::Value("N"),
-                "Ends after so many sessions, 0 for never [default: 0]",
-            ),
-        ],
-        either: None,
-    },
-    Known {
-        name: "ipcs",
-        about: "Prints a table of the queues",
-        arguments: &[SERVER, USER, GROUP, PROCESS],
-        either: None,
-    },
-    Known {
-        name: "ipcrm",
-        about: "Removes a queue",
-        arguments: &[
-            SERVER,
-            (
-                "id",
-                Form::Letter('q', "ID"),
-                "The queue's identifier, 0 to 2147483647",
-            ),
-            ("key", Form::Letter('Q', "KEY"), KEY_HELP),
-            USER,
-            GROUP,
-            PROCESS,
-        ],
-        either: Some(Either {
-            one: "id",
-            other: "key",
-            required: true,
-        }),
-    },
-    Known {
-        name: "snd",
-        about: "Sends a message, and makes the queue with mode 0600 if there is none",
-        arguments: &[
-            SERVER,
-            KEY,
-            ("text", Form::Word("TEXT"), "The text, at most 8256 bytes"),
-            (
-                "type",
-                Form::Value("N"),
-                "The message's type, 1 to 9223372036854775807 [default: 1]",
-            ),
-            NOWAIT,
-            USER,
-            GROUP,
-            PROCESS,
-        ],
-        either: None,
-    },
-    Known {
-        name: "rcv",
-        about: "Receives a message and prints its text",
-        arguments: &[
-            SERVER,
-            KEY,
-            (
-                "type",
-                Form::Value("N"),
-                "Only a message of this type, 1 to 9223372036854775807",
-            ),
-            (
-                "upto",
-                Form::Value("N"),
-                "Only a message of the lowest type, which is at most this",
-            ),
-            (
-                "size",
-                Form::Value("S"),
-                "The most bytes of text that are wanted [default: 8192]",
-            ),
-            NOWAIT,
-            (
-                "noerror",
-                Form::Flag,
-                "Cuts a text that is longer than the size (MSG_NOERROR)",
-            ),
-            USER,
-            GROUP,
-            PROCESS,
-        ],
-        either: Some(Either {
-            one: "type",
-            other: "upto",
-            required: false,
-        }),
-    },
-];
+const COMMANDS: [Known; 6] = [SERVE, SND, RCV, IPCS, IPCRM, SCRIPT];
+
+const SERVE: Known = Known {
+    name: "serve",
+    about: "Serves message queues on a Unix socket",
+    example: "\
+A worker is a thread that runs one client session at a time, from its connection to its end;
+a call that waits occupies its worker.
+
+Example:
+  $ sysvmsg serve ./q --workers 8 &
+  sysvmsg: serving ./q by 8 workers",
+    arguments: &[
+        (
+            "path",
+            Form::Word("PATH"),
+            "The socket to create, which must not exist",
+        ),
+        (
+            "blocks",
+            Form::Value("B"),
+            "The number of 64-byte blocks for message bodies, 128 to 65536 [default: 1024]",
+        ),
+        (
+            "workers",
+            Form::Value("W"),
+            "The number of workers, 1 to 16 [default: 4]",
+        ),
+        (
+            "sessions",
+            Form::Value("N"),
+            "Ends after N sessions, 0 for no limit [default: 0]",
+        ),
+    ],
+    either: None,
+};
+
+const SND: Known = Known {
+    name: "snd",
+    about: "Sends a message, and creates the queue with mode 0600 if there is none",
+    example: "\
+Example:
+  $ sysvmsg snd ./q 7 hello --type 5",
+    arguments: &[
+        SERVER,
+        KEY,
+        (
+            "text",
+            Form::Word("TEXT"),
+            "The bytes of the message, at most 8256",
+        ),
+        (
+            "type",
+            Form::Value("N"),
+            "The type of the message, 1 to 9223372036854775807 [default: 1]",
+        ),
+        (
+            "nowait",
+            Form::Flag,
+            "Fails with EAGAIN if there is no room (IPC_NOWAIT)",
+        ),
+        USER,
+        GROUP,
+        PROCESS,
+    ],
+    either: None,
+};
+
+const RCV: Known = Known {
+    name: "rcv",
+    about: "Receives a message and prints its body",
+    example: "\
+Example:
+  $ sysvmsg rcv ./q 7 --type 5
+  hello",
+    arguments: &[
+        SERVER,
+        KEY,
+        (
+            "type",
+            Form::Value("N"),
+            "Takes the first message of type N, 1 to 9223372036854775807",
+        ),
+        (
+            "upto",
+            Form::Value("N"),
+            "Takes the first message of the lowest type that is at most N",
+        ),
+        (
+            "size",
+            Form::Value("S"),
+            "The greatest body that is wanted, in bytes [default: 8192]",
+        ),
+        (
+            "nowait",
+            Form::Flag,
+            "Fails with ENOMSG if there is no such message (IPC_NOWAIT)",
+        ),
+        (
+            "noerror",
+            Form::Flag,
+            "Cuts a longer body to S bytes; the rest is lost (MSG_NOERROR)",
+        ),
+        USER,
+        GROUP,
+        PROCESS,
+    ],
+    either: Some(Either {
+        one: "type",
+        other: "upto",
+        required: false,
+    }),
+};
+
+const IPCS: Known = Known {
+    name: "ipcs",
+    about: "Prints a table of the queues",
+    example: "\
+Example:
+  $ sysvmsg ipcs ./q
+  key             msqid      owner perms  bytes messages
+  0x00000007          0       1000   600      5        1",
+    arguments: &[SERVER, USER, GROUP, PROCESS],
+    either: None,
+};
+
+const IPCRM: Known = Known {
+    name: "ipcrm",
+    about: "Removes a queue and discards its messages",
+    example: "\
+Example:
+  $ sysvmsg ipcrm ./q -Q 7",
+    arguments: &[
+        SERVER,
+        (
+            "id",
+            Form::Letter('q', "ID"),
+            "The queue's identifier, 0 to 2147483647",
+        ),
+        ("key", Form::Letter('Q', "KEY"), KEY_HELP),
+        USER,
+        GROUP,
+        PROCESS,
+    ],
+    either: Some(Either {
+        one: "id",
+        other: "key",
+        required: true,
+    }),
+};
+
+const SCRIPT: Known = Known {
+    name: "script",
+    about: "Runs the script on standard input and prints the result of each call",
+    example: "\
+Example:
+  $ printf '1 get 7 CREAT+0600\\n1 snd 0 1 - =hello\\n' | sysvmsg script
+  1 get = 0
+  1 snd = 0",
+    arguments: &[],
+    either: None,
+};
 
 /// The whole command line.
 pub(crate) fn command<'a>(alloc: Global) -> Result<Command<'a>, AllocError> {
     let mut line = Command::new(alloc, "sysvmsg")
-        .about("System V message queues")
+        .about("System V message queues on a Unix socket")
+        .after_help(SESSION)
         .version(VERSION)
         .propagate_version(true)
         .subcommand_required(true)
@@ -200,7 +259,9 @@ fn command_of<'a>(alloc: Global, known: Known) -> Result<Command<'a>, AllocError
 }
 
 fn with_arguments<'a>(alloc: Global, known: Known) -> Result<Command<'a>, AllocError> {
-    let mut command = Command::new(alloc, known.name).about(known.about);
+    let mut command = Command::new(alloc, known.name)
+        .about(known.about)
+        .after_help(known.example);
     for given in known.arguments {
         command = command.arg(argument_of(alloc, *given))?;
     }

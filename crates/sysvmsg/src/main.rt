@@ -5,8 +5,6 @@ mod asked;
 mod commands;
 mod connection;
 mod serving;
-#[cfg(test)]
-mod tests;
 
 use asked::{Asked, no_text, read_words};
 use clap::Error;
@@ -18,10 +16,10 @@ use std::{env, io};
 use sysv_model::Watched;
 use sysv_script::run_script;
 
-/// The status where a task was refused or ended by a fault.
+/// The status if a task was refused or ended by a fault.
 const FAULT: u8 = 1;
 
-/// The status where the command line is not understood.
+/// The status if the command line is not understood.
 const NOT_UNDERSTOOD: u8 = 2;
 
 fn main(rt: HostRuntime) -> ExitCode {

@@ -10,27 +10,34 @@ use std::process::ExitCode;
 use std::rt::Files;
 use std::sync::Wait;
 use std::thread::Threads;
-use sysv_server::{Sums, serve_on};
+use sysv_server::{Sums, serve_until_fault};
 
-/// Serves at a path, says on the standard error that it listens, and prints what the sessions add up to.
+/// Serves at a path, says on standard error that it listens, and prints what the sessions add up
+/// to.
 pub(crate) fn serve_at<R: Files + Net + Threads + Wait + Sync + Print + Eprint + AllocGlobal>(
     rt: &R,
     serving: &Serving<'_>,
 ) -> ExitCode
     requires { HasLimits serving.now }
 {
-    let Ok(listener) = UnixListener::bind(rt, serving.path) else {
-        return say(rt, "cannot bind");
-    };
-    let _ = eprintln!(rt;
-        "sysvmsg: serving {} by {} workers",
-        serving.path, serving.workers
-    );
-    serve_over(rt, &listener, serving)
+    match UnixListener::bind(rt, serving.path) {
+        Ok(listener) => {
+            let _ = eprintln!(rt;
+                "sysvmsg: serving {} by {} workers",
+                serving.path, serving.workers
+            );
+            serve_over(rt, &listener, serving)
+        }
+        Err(why) => {
+            let _ = eprintln!(rt; "sysvmsg: {}: {why}", serving.path);
+            say(rt, "cannot bind")
+        }
+    }
 }
 
-/// Serves the connections of a listener, and prints what their sessions add up to.
-fn serve_over<R: Threads + Wait + Sync + Print + AllocGlobal>(
+/// Serves the connections of a listener, prints what their sessions add up to, and says on standard
+/// error why an accept failed.
+fn serve_over<R: Threads + Wait + Sync + Print + Eprint + AllocGlobal>(
     rt: &R,
     listener: &UnixListener,
     serving: &Serving<'_>,
@@ -43,7 +50,20 @@ fn serve_over<R: Threads + Wait + Sync + Print + AllocGlobal>(
         workers,
         sessions,
     } = *serving;
-    match serve_on(rt, rt.alloc(), listener, blocks, workers, sessions) {
+    let mut fault = None;
+    let outcome = serve_until_fault(
+        rt,
+        rt.alloc(),
+        listener,
+        blocks,
+        workers,
+        sessions,
+        &mut fault,
+    );
+    if let Some(why) = fault {
+        let _ = eprintln!(rt; "sysvmsg: cannot accept: {why}");
+    }
+    match outcome {
         Ok(sums) => tell(rt, &sums),
         Err(_) => say(rt, "no memory"),
     }

@@ -4,6 +4,8 @@
 #[cfg(test)]
 mod clients;
 #[cfg(test)]
+mod examples;
+#[cfg(test)]
 mod index;
 #[cfg(test)]
 mod keys;

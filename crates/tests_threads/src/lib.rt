@@ -8,6 +8,8 @@ mod buffer;
 #[cfg(test)]
 mod eventcount;
 #[cfg(test)]
+mod examples;
+#[cfg(test)]
 mod gate;
 #[cfg(test)]
 mod parts;

@@ -15,7 +15,8 @@ fn a_message_goes_through_a_service(rt: HostRuntime) {
     let flags = Flags::IPC_NOWAIT;
     let sent = service.msgsnd(&rt, &mut pass, &CLOCK, USER, 0, 5, &text, flags);
     assert_eq!(rt; sent, Ok(()));
-    match service.msgrcv(&rt, &mut pass, &CLOCK, USER, 0, &mut out, 8192, -9, flags) {
+    let got = service.msgrcv(&rt, &mut pass, &CLOCK, USER, 0, &mut out, 8192, -9, flags);
+    match got {
         Ok(delivery) => {
             assert_eq!(rt; (delivery.mtype(), delivery.len()), (5, 100));
             delivery.written(&mut Tally::open());

@@ -1,7 +1,7 @@
 use Rattle.std.proofs.Common.{◌*◌, subst, sym, ◌∙◌, take, drop}
 use Rattle.std.specs.Io.KnownBytes.{Appends}
 use Rattle.std.proofs.KnownBytes.{Appends-trans}
-use Rattle.sysv_wire.specs.Streams.{AppendsPrefix}
+use Rattle.sysv_model.specs.Writing.{AppendsPrefix}
 use Rattle.sysv_wire.proofs.StreamLemmas.{AppendsPrefix-after, OnErr-from, block_more, block_parts}
 use Rattle.sysv_wire.proofs.output.write_text.Goals as goal
 

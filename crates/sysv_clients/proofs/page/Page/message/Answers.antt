@@ -1,5 +1,5 @@
 use Rattle.std.proofs.Common.{◌+◌, ◌*◌, ◌++◌, length, take, drop, ap, ◌∙◌, append_assoc, arith, length-append, length-take}
-use Rattle.sysv_clients.proofs.StreamLemmas.{block_more}
+use Rattle.sysv_wire.proofs.StreamLemmas.{block_more}
 use Rattle.sysv_clients.proofs.page.Page.message.Goals as goal
 
 pub put-requires : goal.put-requires

@@ -1,6 +1,8 @@
 use Rattle.std.proofs.Common.{[], sym, refl, ap}
 use Rattle.std.proofs.lemmas.List.{append-nil}
 use Rattle.sysv_stage.specs.Scene.{with_cred, in_world}
+use Rattle.sysv_stage.proofs.Kept.{on_err}
+use Rattle.sysv_streams.proofs.StreamLemmas.{prefix_none}
 use Rattle.sysv_stage.proofs.stage.Stage.act.Goals as goal
 
 pub returns-in-Preset-clause-runs : goal.returns-in-Preset-clause-runs
@@ -47,3 +49,11 @@ pub returns-in_ok-take_all_on-in-All-clause-runs : goal.returns-in_ok-take_all_o
 returns-in_ok-take_all_on-in-All-clause-runs c = λ s seen.
     let went = c.in_ok-take_all_on-in-All.ensures.runs s seen in
     (went.0, went.1, (rw c.in-All.is (refl, went.2)), went.3, went.4)
+
+pub returns-in_err-take_on-in-Step-clause-err : goal.returns-in_err-take_on-in-Step-clause-err
+returns-in_err-take_on-in-Step-clause-err c =
+    on_err c.from_residual-in_err-take_on-in-Step.result (prefix_none c.take_on.new.output c.args.output.now c.in_err-take_on-in-Step.ensures.err)
+
+pub returns-in_err-take_on-in-Go-clause-err : goal.returns-in_err-take_on-in-Go-clause-err
+returns-in_err-take_on-in-Go-clause-err c =
+    on_err c.from_residual-in_err-take_on-in-Go.result (prefix_none c.take_on-in-Go.new.output c.args.output.now c.in_err-take_on-in-Go.ensures.err)

@@ -1,10 +1,10 @@
-use Rattle.sysv_streams.specs.Faults.{IsFrontOf-all}
+use Rattle.sysv_lists.proofs.Prefixes.{prefix_self}
 use Rattle.sysv_stage.proofs.Acting.{acted}
 use Rattle.sysv_stage.proofs.Kept.{on_err}
 use Rattle.sysv_stage.proofs.stage.Stage.run.Goals as goal
 
 pub returns-in-Pool-clause-err : goal.returns-in-Pool-clause-err
-returns-in-Pool-clause-err c = on_err c.size_pool.result (IsFrontOf-all c.args.output.now)
+returns-in-Pool-clause-err c = on_err c.size_pool.result (prefix_self c.args.output.now)
 
 pub returns-in_default : goal.returns-in_default
 returns-in_default c = record {

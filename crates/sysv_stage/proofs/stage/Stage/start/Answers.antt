@@ -2,12 +2,13 @@ use Rattle.std.proofs.Common.{◌≡◌, None, sym, ap, subst, ◌∙◌, ◌++�
 use Rattle.sysv_lines.specs.SaidBy.{call_asked}
 use Rattle.sysv_core.specs.World.{actor_at}
 use Rattle.sysv_stage.specs.Scene.{StartRuns, StartsAs, GoesOn, call_for, most_steps, under_way, printed, operation_of}
-use Rattle.sysv_streams.specs.Faults.{IsFrontOf-all}
+use Rattle.sysv_lists.proofs.Prefixes.{prefix_self}
 use Rattle.sysv_stage.proofs.Kept.{kept, on_ok, on_err}
+use Rattle.sysv_stage.proofs.NoneLeft.{none_of}
 use Rattle.sysv_stage.proofs.stage.Stage.start.Goals as goal
 
 pub returns-in_err-call-clause-err : goal.returns-in_err-call-clause-err
-returns-in_err-call-clause-err c = on_err c.from_residual.result (IsFrontOf-all c.args.output.now)
+returns-in_err-call-clause-err c = on_err c.from_residual.result (prefix_self c.args.output.now)
 
 pub returns-clause-runs : goal.returns-clause-runs
 returns-clause-runs c = on_ok c.tell-2.result c.tell-2.ensures.told (λ told s seen.
@@ -29,3 +30,9 @@ returns-clause-runs c = on_ok c.tell-2.result c.tell-2.ensures.told (λ told s s
       kept went.0 c.go-given.new.self c.tell-2.new.self c.tell-2.ensures.kept went.2,
       line,
     ))
+
+pub returns-in-Some-clause-err : goal.returns-in-Some-clause-err
+returns-in-Some-clause-err c = none_of c.tell.result c.tell.new.self c.args.output.now c.tell.ensures.err
+
+pub returns-clause-err : goal.returns-clause-err
+returns-clause-err c = none_of c.tell-2.result c.tell-2.new.output c.args.output.now c.tell-2.ensures.err

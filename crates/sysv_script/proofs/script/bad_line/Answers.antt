@@ -1,0 +1,5 @@
+use Rattle.sysv_streams.proofs.StreamLemmas.{prefix_none}
+use Rattle.sysv_script.proofs.script.bad_line.Goals as goal
+
+pub returns-in-Err : goal.returns-in-Err
+returns-in-Err c = prefix_none c.tell.new.self c.args.output.now c.in-Err.ensures.err

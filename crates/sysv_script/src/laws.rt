@@ -1,0 +1,29 @@
+//! Laws on what a text prints.
+
+ghost use Rattle.sysv_script.specs.EachText.{EachTextPrints};
+ghost use Rattle.sysv_script.specs.OneText.{OneText};
+
+use sysv_core::{each_world_is_sound, one_step, some_step};
+use sysv_lines::{each_line_is_decided, one_saying};
+use sysv_words::one_split;
+
+/// From a scene, which is a world and its actors' credentials, a text prints one thing only and ends in
+/// one way, and what it has printed before a line is a prefix of that.
+pub fn one_text()
+    ensures { OneText }
+{
+    each_world_is_sound();
+    one_step();
+    one_saying();
+    one_split();
+}
+
+/// Each text prints something: it runs to its end, to a bad line, or to the line after the millionth.
+pub fn each_text_prints()
+    ensures { EachTextPrints }
+{
+    each_world_is_sound();
+    some_step();
+    each_line_is_decided();
+    one_split();
+}

@@ -1,9 +1,0 @@
-pub use Rattle.sysv_words.specs.Words
-pub use Rattle.sysv_streams.specs.Streams
-pub use Rattle.sysv_streams.specs.Found
-pub use Rattle.sysv_streams.specs.Faults
-pub use Rattle.sysv_stage.specs.Scene
-pub mod ScriptText
-pub mod Sofar
-pub mod OneText
-pub mod EachText

@@ -1,0 +1,18 @@
+//! The example at the head of the frames, line by line.
+use bitflags::Flags as _;
+use std::test::Fail;
+use sysv_model::{Body, Flags, Watched};
+use sysv_wire::{Ask, Request, read_request, write_request};
+
+#[test]
+fn a_request_is_written_and_read(rt: HostRuntime) -> Result<(), Fail> {
+    let mut text = Body::open(rt.alloc())?;
+    let flags = Flags::from_bits_retain(0o600);
+    let ask = Ask::Get { key: 7, flags };
+    let mut frame = Vec::new(rt.alloc());
+    write_request(&mut Watched::new(&mut frame), &Request { ask }, &text)?;
+    let mut bytes = frame.as_slice();
+    let read = read_request(&mut Watched::new(&mut bytes), &mut text)?;
+    assert_eq!(rt; read, Some(Request { ask }));
+    Ok(())
+}

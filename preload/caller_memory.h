@@ -1,0 +1,12 @@
+/* Copies from and to memory that the caller of a function named, which may not be there. */
+#ifndef CALLER_MEMORY_H
+#define CALLER_MEMORY_H
+
+#include <stddef.h>
+#include <sys/uio.h>
+
+/* Each returns 0, or EFAULT if some of the memory can't be read or written. */
+int copy_from_caller(const struct iovec *to, int pieces, const void *from);
+int copy_to_caller(void *to, const struct iovec *from, int pieces);
+
+#endif

@@ -1,0 +1,342 @@
+/* msgget, msgsnd, msgrcv and msgctl of the C library, over a server's socket. Loaded before a
+ * program's own libraries. Without SYSVMSG_PATH each call is the C library's own. */
+#define _GNU_SOURCE
+#include <dlfcn.h>
+#include <errno.h>
+#include <limits.h>
+#include <pthread.h>
+#include <stdio.h>
+#include <string.h>
+#include <sys/msg.h>
+
+#include "caller_memory.h"
+#include "connection.h"
+#include "frames.h"
+
+#define EXPORTED __attribute__((visibility("default")))
+
+#ifndef MSG_STAT_ANY
+#define MSG_STAT_ANY 13
+#endif
+
+/* The limits that the server doesn't report. */
+enum { QBYTES_FIRST = 16384, MESSAGES_MAX = 256, BLOCK_BYTES = 64 };
+
+/* Flags go to the server as they are. */
+_Static_assert(IPC_CREAT == 512 && IPC_EXCL == 1024 && IPC_NOWAIT == 2048, "flags of the protocol");
+_Static_assert(MSG_NOERROR == 4096 && MSG_EXCEPT == 8192, "flags of the protocol");
+_Static_assert(sizeof(long) == TYPE_BYTES && sizeof(key_t) == 4, "types of the protocol");
+
+typedef int get_function(key_t, int);
+typedef int snd_function(int, const void *, size_t, int);
+typedef ssize_t rcv_function(int, void *, size_t, long, int);
+typedef int ctl_function(int, int, struct msqid_ds *);
+typedef FILE *open_function(const char *, const char *);
+
+/* The functions that the program would call without this library. */
+static struct {
+    get_function *get;
+    snd_function *snd;
+    rcv_function *rcv;
+    ctl_function *ctl;
+    open_function *open, *open64;
+} own;
+
+static void find_own(void)
+{
+    own.get = (get_function *)dlsym(RTLD_NEXT, "msgget");
+    own.snd = (snd_function *)dlsym(RTLD_NEXT, "msgsnd");
+    own.rcv = (rcv_function *)dlsym(RTLD_NEXT, "msgrcv");
+    own.ctl = (ctl_function *)dlsym(RTLD_NEXT, "msgctl");
+    own.open = (open_function *)dlsym(RTLD_NEXT, "fopen");
+    own.open64 = (open_function *)dlsym(RTLD_NEXT, "fopen64");
+}
+
+/* Whether the calls go to the server. If not, `own` has the functions to call. Both are found when
+ * the library is loaded, so that a signal handler finds them there, or earlier if the start of
+ * another library makes a call. */
+static bool is_ours(void)
+{
+    static pthread_once_t found = PTHREAD_ONCE_INIT;
+    pthread_once(&found, find_own);
+    return has_server();
+}
+
+__attribute__((constructor)) static void begin_library(void) { is_ours(); }
+
+/* Returns 0, or -1 with errno set. */
+static int outcome(int error)
+{
+    if (error == 0)
+        return 0;
+    errno = error;
+    return -1;
+}
+
+EXPORTED int msgget(key_t key, int flags)
+{
+    unsigned char bytes[SMALL_ROOM];
+    struct frame frame;
+    if (!is_ours())
+        return own.get(key, flags);
+    frame_begin(&frame, GET, bytes, sizeof bytes);
+    frame_put_u32(&frame, (uint32_t)key);
+    frame_put_u32(&frame, (uint32_t)flags);
+    frame_end(&frame);
+    int error = ask(&frame, false);
+    return error ? outcome(error) : (int)frame_take_u32(&frame);
+}
+
+EXPORTED int msgsnd(int id, const void *message, size_t size, int flags)
+{
+    unsigned char bytes[SND_ROOM];
+    struct frame frame;
+    long type;
+    if (!is_ours())
+        return own.snd(id, message, size, flags);
+    pthread_testcancel();
+    if (size > TEXT_MAX)
+        return outcome(EINVAL);
+    struct iovec pieces[] = {{&type, sizeof type}, {bytes + REQUEST_HEAD + SND_FIELDS, size}};
+    if (copy_from_caller(pieces, 2, message) != 0)
+        return outcome(EFAULT);
+    frame_begin(&frame, SND, bytes, sizeof bytes);
+    frame_put_u32(&frame, (uint32_t)id);
+    frame_put_u64(&frame, (uint64_t)type);
+    frame_put_u32(&frame, (uint32_t)flags);
+    frame.length += size;
+    frame_end(&frame);
+    return outcome(ask(&frame, !(flags & IPC_NOWAIT)));
+}
+
+/* Asks for a message of at most `size` bytes. */
+static int ask_for_message(struct frame *frame, int id, size_t size, long type, int flags)
+{
+    frame_put_u32(frame, (uint32_t)id);
+    frame_put_u32(frame, size < TEXT_MAX ? (uint32_t)size : TEXT_MAX);
+    frame_put_u64(frame, (uint64_t)type);
+    frame_put_u32(frame, (uint32_t)flags);
+    frame_end(frame);
+    return ask(frame, !(flags & IPC_NOWAIT));
+}
+
+EXPORTED ssize_t msgrcv(int id, void *message, size_t size, long type, int flags)
+{
+    unsigned char bytes[RCV_ROOM];
+    struct frame frame;
+    long got;
+    if (!is_ours())
+        return own.rcv(id, message, size, type, flags);
+    pthread_testcancel();
+    if (size > SSIZE_MAX || flags & MSG_COPY)
+        return outcome(EINVAL);
+    /* A pointer to nowhere is refused before a message is taken that could not be given. */
+    if (copy_from_caller(&(struct iovec){&got, sizeof got}, 1, message) != 0)
+        return outcome(EFAULT);
+    frame_begin(&frame, RCV, bytes, sizeof bytes);
+    int error = ask_for_message(&frame, id, size, type, flags);
+    if (error != 0)
+        return outcome(error);
+    got = (long)frame_take_u64(&frame);
+    size_t length = frame.length - frame.read;
+    struct iovec pieces[] = {
+        {&got, sizeof got}, {bytes + frame.read, length < size ? length : size}};
+    return copy_to_caller(message, pieces, 2) == 0 ? (ssize_t)pieces[1].iov_len : outcome(EFAULT);
+}
+
+/* Asks for one thing of one queue or slot. */
+static int ask_of(
+    struct frame *frame, enum operation operation, int number, unsigned char *bytes, size_t room)
+{
+    frame_begin(frame, operation, bytes, room);
+    frame_put_u32(frame, (uint32_t)number);
+    frame_end(frame);
+    return ask(frame, false);
+}
+
+static int ask_stat(int id, struct msqid_ds *told)
+{
+    unsigned char bytes[SMALL_ROOM];
+    struct frame frame;
+    int error = ask_of(&frame, STAT, id, bytes, sizeof bytes);
+    if (error != 0)
+        return error;
+    memset(told, 0, sizeof *told);
+    told->msg_perm.__key = (key_t)frame_take_u32(&frame);
+    told->msg_perm.uid = frame_take_u32(&frame);
+    told->msg_perm.gid = frame_take_u32(&frame);
+    told->msg_perm.cuid = frame_take_u32(&frame);
+    told->msg_perm.cgid = frame_take_u32(&frame);
+    told->msg_perm.mode = frame_take_u16(&frame);
+    told->__msg_cbytes = frame_take_u32(&frame);
+    told->msg_qnum = frame_take_u32(&frame);
+    told->msg_qbytes = frame_take_u32(&frame);
+    told->msg_lspid = (pid_t)frame_take_u32(&frame);
+    told->msg_lrpid = (pid_t)frame_take_u32(&frame);
+    told->msg_stime = (time_t)frame_take_u64(&frame);
+    told->msg_rtime = (time_t)frame_take_u64(&frame);
+    told->msg_ctime = (time_t)frame_take_u64(&frame);
+    return 0;
+}
+
+/* The queue of a slot, if there is one. */
+struct row {
+    bool present;
+    int id;
+    struct msqid_ds told; /* key, user, mode, bytes and messages; the others are 0 */
+};
+
+static int ask_row(int slot, struct row *row)
+{
+    unsigned char bytes[SMALL_ROOM];
+    struct frame frame;
+    int error = ask_of(&frame, ROW, slot, bytes, sizeof bytes);
+    if (error != 0)
+        return error;
+    memset(row, 0, sizeof *row);
+    row->present = frame_take_u8(&frame) == 1;
+    if (!row->present)
+        return 0;
+    row->id = (int)frame_take_u32(&frame);
+    row->told.msg_perm.__key = (key_t)frame_take_u32(&frame);
+    row->told.msg_perm.uid = frame_take_u32(&frame);
+    row->told.msg_perm.mode = frame_take_u16(&frame);
+    row->told.__msg_cbytes = frame_take_u32(&frame);
+    row->told.msg_qnum = frame_take_u32(&frame);
+    return 0;
+}
+
+static int give(void *to, void *from, size_t size)
+{
+    return copy_to_caller(to, &(struct iovec){from, size}, 1);
+}
+
+static int stat_queue(int id, struct msqid_ds *to)
+{
+    struct msqid_ds told;
+    int error = ask_stat(id, &told);
+    return outcome(error ? error : give(to, &told, sizeof told));
+}
+
+static int set_queue(int id, const struct msqid_ds *from)
+{
+    unsigned char bytes[SMALL_ROOM];
+    struct frame frame;
+    struct msqid_ds wanted;
+    if (copy_from_caller(&(struct iovec){&wanted, sizeof wanted}, 1, from) != 0)
+        return outcome(EFAULT);
+    frame_begin(&frame, SET, bytes, sizeof bytes);
+    frame_put_u32(&frame, (uint32_t)id);
+    frame_put_u32(&frame, wanted.msg_perm.uid);
+    frame_put_u32(&frame, wanted.msg_perm.gid);
+    frame_put_u32(&frame, wanted.msg_perm.mode);
+    frame_put_u32(
+        &frame, wanted.msg_qbytes < UINT32_MAX ? (uint32_t)wanted.msg_qbytes : UINT32_MAX);
+    frame_end(&frame);
+    return outcome(ask(&frame, false));
+}
+
+static int remove_queue(int id)
+{
+    unsigned char bytes[SMALL_ROOM];
+    struct frame frame;
+    return outcome(ask_of(&frame, RM, id, bytes, sizeof bytes));
+}
+
+/* Adds up all rows. The number of slots is where the server begins to refuse with EINVAL. */
+static int add_rows(struct msginfo *sums, int *slots, int *greatest)
+{
+    struct row row;
+    int error;
+    memset(sums, 0, sizeof *sums);
+    *greatest = 0;
+    for (*slots = 0; (error = ask_row(*slots, &row)) == 0; ++*slots) {
+        if (!row.present)
+            continue;
+        sums->msgpool += 1;
+        sums->msgmap += (int)row.told.msg_qnum;
+        sums->msgtql += (int)row.told.__msg_cbytes;
+        *greatest = *slots;
+    }
+    return error == EINVAL ? 0 : error;
+}
+
+/* IPC_INFO and MSG_INFO, which differ in three fields: the limits of IPC_INFO are in MSG_INFO what
+ * is in use. */
+static int tell_info(int command, struct msginfo *to)
+{
+    struct msginfo info;
+    int slots, greatest;
+    int error = add_rows(&info, &slots, &greatest);
+    if (error != 0)
+        return outcome(error);
+    if (command == IPC_INFO) {
+        info.msgpool = info.msgmap = 0;
+        info.msgtql = slots * MESSAGES_MAX;
+    }
+    info.msgmax = TEXT_MAX;
+    info.msgmnb = QBYTES_FIRST;
+    info.msgmni = slots;
+    info.msgssz = BLOCK_BYTES;
+    error = give(to, &info, sizeof info);
+    return error ? outcome(error) : greatest;
+}
+
+/* MSG_STAT and MSG_STAT_ANY: the queue of a slot, and its identifier as the result. MSG_STAT_ANY
+ * needs no permission. To callers that have none it tells what the server's table has. */
+static int stat_slot(int slot, int command, struct msqid_ds *to)
+{
+    struct row row;
+    int error = ask_row(slot, &row);
+    if (error == 0 && !row.present)
+        error = EINVAL;
+    if (error != 0)
+        return outcome(error);
+    error = ask_stat(row.id, &row.told);
+    if (error == EACCES && command == MSG_STAT_ANY)
+        error = 0;
+    if (error == 0)
+        error = give(to, &row.told, sizeof row.told);
+    return error ? outcome(error) : row.id;
+}
+
+EXPORTED int msgctl(int id, int command, struct msqid_ds *told)
+{
+    if (!is_ours())
+        return own.ctl(id, command, told);
+    if (id < 0)
+        return outcome(EINVAL);
+    switch (command) {
+    case IPC_STAT: return stat_queue(id, told);
+    case IPC_SET: return set_queue(id, told);
+    case IPC_RMID: return remove_queue(id);
+    case IPC_INFO:
+    case MSG_INFO: return tell_info(command, (struct msginfo *)told);
+    case MSG_STAT:
+    case MSG_STAT_ANY: return stat_slot(id, command, told);
+    default: return outcome(EINVAL);
+    }
+}
+
+/* ipcs and programs like it read the kernel's list of queues from this file, and use msgctl if they
+ * can't. */
+static bool is_hidden(const char *name)
+{
+    return is_ours() && strcmp(name, "/proc/sysvipc/msg") == 0;
+}
+
+static FILE *no_file(void)
+{
+    errno = ENOENT;
+    return NULL;
+}
+
+EXPORTED FILE *fopen(const char *name, const char *mode)
+{
+    return is_hidden(name) ? no_file() : own.open(name, mode);
+}
+
+EXPORTED FILE *fopen64(const char *name, const char *mode)
+{
+    return is_hidden(name) ? no_file() : own.open64(name, mode);
+}

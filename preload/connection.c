@@ -1,0 +1,419 @@
+#define _GNU_SOURCE
+#include "connection.h"
+
+#include <errno.h>
+#include <fcntl.h>
+#include <poll.h>
+#include <pthread.h>
+#include <signal.h>
+#include <stdatomic.h>
+#include <stdlib.h>
+#include <string.h>
+#include <sys/resource.h>
+#include <sys/socket.h>
+#include <sys/stat.h>
+#include <sys/uio.h>
+#include <sys/un.h>
+#include <time.h>
+#include <unistd.h>
+
+enum {
+    CONNECTIONS = 1024,    /* threads that can keep one */
+    HIGH_DESCRIPTOR = 900, /* out of the way of programs that count or close theirs */
+    REST_SECONDS = 10,     /* how long the rest of a reply may take that has begun */
+};
+
+/* The connection of a thread or of a single call. */
+struct connection {
+    atomic_bool taken;
+    int fd;       /* -1: it is not open */
+    dev_t device; /* these two tell whether the descriptor still is the connection */
+    ino_t inode;
+    uid_t user; /* of the hello */
+    gid_t group;
+};
+
+/* How a call was made. */
+struct call {
+    pid_t process; /* in which it began */
+    bool may_wait;
+    bool may_be_cancelled;
+};
+
+/* The connections of all threads, so that a child of fork can close its copies of them. */
+static struct connection connections[CONNECTIONS];
+static __thread struct connection *mine __attribute__((tls_model("initial-exec")));
+static __thread volatile sig_atomic_t in_call __attribute__((tls_model("initial-exec")));
+
+static pthread_key_t at_thread_end;
+static pid_t process; /* the process whose connections these are */
+static bool serves;
+static bool keeps; /* connections after a call */
+static bool ends_by_signals;
+static struct sockaddr_un server = {.sun_family = AF_UNIX}; /* without a path if that is too long */
+
+/* Whether the descriptor still is the connection. The program may have closed it, and its number
+ * may be another file. */
+static bool is_open(const struct connection *connection)
+{
+    struct stat found;
+    return connection->fd >= 0 && fstat(connection->fd, &found) == 0
+           && found.st_dev == connection->device && found.st_ino == connection->inode;
+}
+
+/* Closes the connection. A shutdown ends the session even if another process has a copy of the
+ * descriptor. */
+static void end_session(struct connection *connection)
+{
+    if (is_open(connection)) {
+        shutdown(connection->fd, SHUT_RDWR);
+        close(connection->fd);
+    }
+    connection->fd = -1;
+}
+
+static void end_thread(void *connection)
+{
+    in_call = 1;
+    end_session(connection);
+    mine = NULL;
+    atomic_store(&((struct connection *)connection)->taken, false);
+    in_call = 0;
+}
+
+/* Closes a forked child's copies of its parent's connections, and frees the places of the threads
+ * that it doesn't have. */
+static void begin_child(void)
+{
+    process = getpid();
+    for (struct connection *each = connections; each < connections + CONNECTIONS; each++) {
+        if (!atomic_load(&each->taken))
+            continue;
+        if (is_open(each))
+            close(each->fd);
+        each->fd = -1;
+        if (each != mine)
+            atomic_store(&each->taken, false);
+    }
+}
+
+static void begin(void)
+{
+    const char *word = secure_getenv("SYSVMSG_EINTR");
+    ends_by_signals = word && strcmp(word, "1") == 0;
+    word = secure_getenv("SYSVMSG_PATH");
+    if (!word || !*word)
+        return;
+    if (strlen(word) < sizeof server.sun_path)
+        strcpy(server.sun_path, word);
+    process = getpid();
+    keeps = pthread_key_create(&at_thread_end, end_thread) == 0
+            && pthread_atfork(NULL, NULL, begin_child) == 0;
+    serves = true;
+}
+
+bool has_server(void)
+{
+    static pthread_once_t begun = PTHREAD_ONCE_INIT;
+    pthread_once(&begun, begin);
+    return serves;
+}
+
+/* Writes to standard error. If that is a pipe without a reader, the SIGPIPE is taken back. */
+static void write_line(const struct iovec *pieces, int count)
+{
+    sigset_t pipe_signal, before, pending;
+    sigemptyset(&pipe_signal);
+    sigaddset(&pipe_signal, SIGPIPE);
+    sigpending(&pending);
+    pthread_sigmask(SIG_BLOCK, &pipe_signal, &before);
+    if (writev(STDERR_FILENO, pieces, count) < 0 && errno == EPIPE
+        && !sigismember(&pending, SIGPIPE))
+        sigtimedwait(&pipe_signal, NULL, &(struct timespec){0, 0});
+    pthread_sigmask(SIG_SETMASK, &before, NULL);
+}
+
+static struct iovec piece(const char *text) { return (struct iovec){(void *)text, strlen(text)}; }
+
+/* Reports on standard error why calls fail, once per process. */
+static void say_once(const char *why)
+{
+    static atomic_flag said = ATOMIC_FLAG_INIT;
+    if (atomic_flag_test_and_set(&said))
+        return;
+    struct iovec line[] = {piece("libsysvmsg_preload: "),
+        piece(*server.sun_path ? server.sun_path : "SYSVMSG_PATH"), piece(": "), piece(why),
+        piece("; message queue calls fail with EIO\n")};
+    write_line(line, 5);
+}
+
+/* Ends a session that failed during a call. If a signal handler forks during a call, it returns to
+ * that call in the child too, whose copy of the connection is closed. There the call was
+ * interrupted, and nothing is wrong. */
+static int broken(struct connection *connection, const struct call *call, const char *why)
+{
+    end_session(connection);
+    if (getpid() != call->process)
+        return EINTR;
+    say_once(why);
+    return EIO;
+}
+
+/* Runs if a thread is cancelled during a call. A request is without its reply, so the session can't
+ * go on. */
+static void abandon(void *connection)
+{
+    end_session(connection);
+    if (connection == mine)
+        in_call = 0;
+}
+
+/* Waits for the beginning of a reply, and returns what recv returns. If `by_signals`, a handled
+ * signal ends the wait. That takes a poll, which every handled signal ends: recv is restarted if
+ * the handler has SA_RESTART. */
+static ssize_t await_bytes(int fd, struct frame *reply, bool by_signals)
+{
+    ssize_t got;
+    if (by_signals && poll(&(struct pollfd){.fd = fd, .events = POLLIN}, 1, -1) < 0) {
+        got = recv(fd, reply->bytes, reply->room, MSG_DONTWAIT);
+        if (got < 0)
+            errno = EINTR;
+        return got;
+    }
+    do
+        got = recv(fd, reply->bytes, reply->room, 0);
+    while (got < 0 && errno == EINTR);
+    return got;
+}
+
+static ssize_t await_cancellable(struct connection *connection, struct frame *reply)
+{
+    ssize_t got;
+    pthread_cleanup_push(abandon, connection);
+    pthread_setcancelstate(PTHREAD_CANCEL_ENABLE, NULL);
+    got = await_bytes(connection->fd, reply, ends_by_signals);
+    pthread_setcancelstate(PTHREAD_CANCEL_DISABLE, NULL);
+    pthread_cleanup_pop(0);
+    return got;
+}
+
+static long milliseconds(void)
+{
+    struct timespec now;
+    clock_gettime(CLOCK_MONOTONIC, &now);
+    return now.tv_sec * 1000L + now.tv_nsec / 1000000L;
+}
+
+/* Waits for more of a reply. Returns what recv returns, or -1 if nothing came until `deadline`. */
+static ssize_t await_rest(int fd, void *bytes, size_t room, long deadline)
+{
+    for (;;) {
+        long left = deadline - milliseconds();
+        int ready =
+            left <= 0 ? 0 : poll(&(struct pollfd){.fd = fd, .events = POLLIN}, 1, (int)left);
+        if (ready == 0)
+            return -1;
+        if (ready > 0)
+            return recv(fd, bytes, room, MSG_DONTWAIT);
+        if (errno != EINTR)
+            return -1;
+    }
+}
+
+/* Returns the length of a frame of which the first `got` bytes have arrived. While that is unknown
+ * it is `got + 1`. */
+static size_t wanted(const struct frame *frame, size_t got)
+{
+    return got < LENGTH_BYTES ? got + 1 : frame_length(frame->bytes);
+}
+
+/* Reads the rest of a reply. Returns whether exactly one frame arrived. */
+static bool read_rest(int fd, struct frame *frame)
+{
+    long deadline =
+        frame->length == wanted(frame, frame->length) ? 0 : milliseconds() + REST_SECONDS * 1000L;
+    while (frame->length < wanted(frame, frame->length)) {
+        if (wanted(frame, frame->length) > frame->room)
+            return false;
+        ssize_t got =
+            await_rest(fd, frame->bytes + frame->length, frame->room - frame->length, deadline);
+        if (got <= 0)
+            return false;
+        frame->length += (size_t)got;
+    }
+    return frame->length == wanted(frame, frame->length);
+}
+
+static bool write_all(int fd, const struct frame *frame)
+{
+    size_t sent = 0;
+    while (sent < frame->length) {
+        ssize_t count = send(fd, frame->bytes + sent, frame->length - sent, MSG_NOSIGNAL);
+        if (count < 0 && errno != EINTR)
+            return false;
+        sent += count > 0 ? (size_t)count : 0;
+    }
+    return true;
+}
+
+/* Sends a request and reads its reply. */
+static int exchange(struct connection *connection, struct frame *frame, const struct call *call)
+{
+    ssize_t got;
+    if (!write_all(connection->fd, frame))
+        return broken(connection, call, "the server is gone");
+    if (call->may_wait && call->may_be_cancelled)
+        got = await_cancellable(connection, frame);
+    else
+        got = await_bytes(connection->fd, frame, call->may_wait && ends_by_signals);
+    if (got < 0 && errno == EINTR) {
+        end_session(connection);
+        return EINTR;
+    }
+    if (got <= 0)
+        return broken(connection, call, "the server is gone");
+    frame->length = (size_t)got;
+    if (!read_rest(connection->fd, frame))
+        return broken(connection, call, "the server did not complete a reply");
+    int error = frame_judge(frame);
+    return error >= 0 ? error : broken(connection, call, "a reply of the server is malformed");
+}
+
+/* Moves a descriptor up, or returns it as it is if that fails. */
+static int move_up(int fd)
+{
+    struct rlimit limit = {.rlim_cur = 0};
+    getrlimit(RLIMIT_NOFILE, &limit);
+    int least = limit.rlim_cur > HIGH_DESCRIPTOR ? HIGH_DESCRIPTOR : (int)(limit.rlim_cur / 2);
+    int high = fcntl(fd, F_DUPFD_CLOEXEC, least);
+    if (high < 0)
+        return fd;
+    close(fd);
+    return high;
+}
+
+/* Returns a descriptor that is connected to the server, or -1. */
+static int connect_server(void)
+{
+    int fd = socket(AF_UNIX, SOCK_STREAM | SOCK_CLOEXEC, 0);
+    if (fd < 0)
+        return -1;
+    int status;
+    do
+        status = connect(fd, (const struct sockaddr *)&server, sizeof server);
+    while (status < 0 && errno == EINTR);
+    if (status == 0)
+        return move_up(fd);
+    int error = errno;
+    close(fd);
+    errno = error;
+    return -1;
+}
+
+static int say_hello(struct connection *connection, const struct call *call)
+{
+    unsigned char bytes[SMALL_ROOM];
+    struct frame hello;
+    frame_begin(&hello, HELLO, bytes, sizeof bytes);
+    frame_put_u32(&hello, connection->user);
+    frame_put_u32(&hello, connection->group);
+    frame_put_u32(&hello, (uint32_t)call->process);
+    frame_end(&hello);
+    int error = exchange(connection, &hello, call);
+    if (error != 0 && connection->fd >= 0)
+        return broken(connection, call, "the server refused the hello");
+    return error;
+}
+
+static const char *why_unconnected(int error)
+{
+    switch (error) {
+    case EACCES: return "this user may not connect to the server";
+    case ENOENT:
+    case ECONNREFUSED: return "there is no server";
+    default: return "no connection to the server can be made";
+    }
+}
+
+static int begin_session(struct connection *connection, const struct call *call)
+{
+    struct stat found;
+    if (!*server.sun_path)
+        return broken(connection, call, "it is longer than 107 bytes");
+    connection->fd = connect_server();
+    if (connection->fd < 0 || fstat(connection->fd, &found) != 0)
+        return broken(connection, call, why_unconnected(errno));
+    connection->device = found.st_dev;
+    connection->inode = found.st_ino;
+    return say_hello(connection, call);
+}
+
+/* Opens the connection unless it is open and its hello had the present effective user and group. */
+static int make_ready(struct connection *connection, const struct call *call)
+{
+    uid_t user = geteuid();
+    gid_t group = getegid();
+    if (is_open(connection) && connection->user == user && connection->group == group)
+        return 0;
+    end_session(connection);
+    connection->user = user;
+    connection->group = group;
+    return begin_session(connection, call);
+}
+
+/* Gives the calling thread a place for a connection, if one is left. */
+static void take_place(void)
+{
+    for (struct connection *each = connections; each < connections + CONNECTIONS; each++) {
+        if (atomic_exchange(&each->taken, true))
+            continue;
+        if (pthread_setspecific(at_thread_end, each) == 0) {
+            each->fd = -1;
+            mine = each;
+        } else {
+            atomic_store(&each->taken, false);
+        }
+        return;
+    }
+}
+
+/* Returns the thread's connection, or `single`, which serves one call. A single one serves a signal
+ * handler that runs during a call, a child of vfork, which shares its parent's memory but not its
+ * descriptors, and a thread that found no place. */
+static struct connection *borrow(struct connection *single, const struct call *call)
+{
+    if (keeps && call->process == process && !in_call) {
+        in_call = 1;
+        if (!mine)
+            take_place();
+        if (mine)
+            return mine;
+        in_call = 0;
+    }
+    single->fd = -1;
+    return single;
+}
+
+static void give_back(struct connection *connection, struct connection *single)
+{
+    if (connection == single)
+        end_session(single);
+    else
+        in_call = 0;
+}
+
+int ask(struct frame *frame, bool may_wait)
+{
+    int cancel_state, errno_before = errno;
+    struct connection single;
+    pthread_setcancelstate(PTHREAD_CANCEL_DISABLE, &cancel_state);
+    const struct call call = {getpid(), may_wait, cancel_state == PTHREAD_CANCEL_ENABLE};
+    struct connection *connection = borrow(&single, &call);
+    int error = make_ready(connection, &call);
+    if (error == 0)
+        error = exchange(connection, frame, &call);
+    give_back(connection, &single);
+    pthread_setcancelstate(cancel_state, NULL);
+    errno = errno_before;
+    return error;
+}

@@ -1,0 +1,628 @@
+/* Brings libsysvmsg_preload.so into the situations that a program can bring it into. One word names
+ * the situation; a second one is the server's socket for those that stop a server or play one. It
+ * ends with status 0 if all was as it should be, and else prints what was not, with status 1. */
+#define _GNU_SOURCE
+#include <dirent.h>
+#include <errno.h>
+#include <fcntl.h>
+#include <pthread.h>
+#include <setjmp.h>
+#include <signal.h>
+#include <stdbool.h>
+#include <stdio.h>
+#include <stdlib.h>
+#include <string.h>
+#include <sys/mman.h>
+#include <sys/msg.h>
+#include <sys/resource.h>
+#include <sys/socket.h>
+#include <sys/stat.h>
+#include <sys/time.h>
+#include <sys/un.h>
+#include <sys/wait.h>
+#include <unistd.h>
+
+struct message {
+    long type;
+    char text[64];
+};
+
+static void expect(bool holds, const char *what)
+{
+    if (holds)
+        return;
+    printf("%s (errno %d)\n", what, errno);
+    exit(1);
+}
+
+static bool refused(long result, int error) { return result == -1 && errno == error; }
+
+static int new_queue(void)
+{
+    int id = msgget(IPC_PRIVATE, 0600);
+    expect(id >= 0, "msgget");
+    return id;
+}
+
+static int send_text(int id, long type)
+{
+    return msgsnd(id, &(struct message){type, "text"}, 4, 0);
+}
+
+static ssize_t receive_text(int id, long type, int flags)
+{
+    struct message in;
+    return msgrcv(id, &in, sizeof in.text, type, flags);
+}
+
+static struct msqid_ds stat_of(int id)
+{
+    struct msqid_ds told;
+    expect(msgctl(id, IPC_STAT, &told) == 0, "IPC_STAT");
+    return told;
+}
+
+static int status_of(pid_t child)
+{
+    int status;
+    waitpid(child, &status, 0);
+    return WIFEXITED(status) ? WEXITSTATUS(status) : 255;
+}
+
+/* Calls a function for each open descriptor above the standard ones, and returns how often it
+ * returned true. */
+static int count_descriptors(bool (*is_counted)(int))
+{
+    int count = 0;
+    DIR *list = opendir("/proc/self/fd");
+    for (struct dirent *entry; (entry = readdir(list));) {
+        int fd = atoi(entry->d_name);
+        count += fd > 2 && fd != dirfd(list) && is_counted(fd);
+    }
+    closedir(list);
+    return count;
+}
+
+static bool is_socket(int fd)
+{
+    struct stat found;
+    return fstat(fd, &found) == 0 && S_ISSOCK(found.st_mode);
+}
+
+static bool is_high_socket(int fd)
+{
+    return fd >= 900 && is_socket(fd) && fcntl(fd, F_GETFD) == FD_CLOEXEC;
+}
+
+/* Returns the descriptor of the connection. */
+__attribute__((noinline)) static int connection(void)
+{
+    for (int fd = 3; fd < 2000; fd++)
+        if (is_socket(fd))
+            return fd;
+    return -1;
+}
+
+static void forks(void)
+{
+    int id = new_queue();
+    pid_t child = fork();
+    if (child == 0)
+        _exit(count_descriptors(is_socket) != 0 || send_text(id, 1) != 0
+              || count_descriptors(is_socket) != 1 || stat_of(id).msg_lspid != getpid());
+    expect(status_of(child) == 0, "the child doesn't send by a connection of its own");
+    expect(stat_of(id).msg_lspid == child, "msg_lspid is not the child's");
+    expect(receive_text(id, 1, 0) == 4 && stat_of(id).msg_lrpid == getpid(),
+        "the parent doesn't receive");
+    expect(count_descriptors(is_socket) == 1, "the parent has not one connection");
+}
+
+/* The server's only worker serves the child until its end, and then the parent. The pipe orders
+ * them: its second byte is there once the child is about to end. */
+static void waits_for_worker(void)
+{
+    int pipe_ends[2];
+    char bytes[2];
+    expect(pipe(pipe_ends) == 0, "pipe");
+    pid_t child = fork();
+    if (child == 0) {
+        new_queue();
+        bool told = write(pipe_ends[1], "1", 1) == 1;
+        usleep(300000);
+        _exit(!told || write(pipe_ends[1], "2", 1) != 1);
+    }
+    expect(read(pipe_ends[0], bytes, 1) == 1, "the child makes no call");
+    new_queue();
+    fcntl(pipe_ends[0], F_SETFL, O_NONBLOCK);
+    expect(read(pipe_ends[0], bytes, 1) == 1, "the parent was served before the child had ended");
+    expect(status_of(child) == 0, "the child failed");
+}
+
+static int shared_queue;
+enum { PAIRS = 100, THREADS = 12, SHORT_THREADS = 60 };
+
+static void *pairs(void *type)
+{
+    for (int i = 0; i < PAIRS; i++)
+        if (send_text(shared_queue, (long)type) != 0
+            || receive_text(shared_queue, (long)type, 0) != 4)
+            return (void *)1;
+    return NULL;
+}
+
+/* More threads at once than the server has workers would wait for one another's ends. */
+static void threads(void)
+{
+    pthread_t all[THREADS];
+    void *failed;
+    shared_queue = new_queue();
+    for (long i = 0; i < THREADS; i++)
+        pthread_create(&all[i], NULL, pairs, (void *)(i + 1));
+    for (int i = 0; i < THREADS; i++)
+        expect(pthread_join(all[i], &failed) == 0 && !failed, "a thread failed");
+    expect(stat_of(shared_queue).msg_qnum == 0, "messages are left");
+    expect(count_descriptors(is_socket) == 1, "connections are left");
+}
+
+static void *one_pair(void *type)
+{
+    return send_text(shared_queue, (long)type) == 0
+                   && receive_text(shared_queue, (long)type, 0) == 4
+               ? NULL
+               : type;
+}
+
+/* Far more threads than workers, one after the other: each closes its connection at its end. */
+static void short_threads(void)
+{
+    pthread_t thread;
+    void *failed;
+    shared_queue = new_queue();
+    for (long i = 1; i <= SHORT_THREADS; i++) {
+        pthread_create(&thread, NULL, one_pair, (void *)i);
+        expect(pthread_join(thread, &failed) == 0 && !failed, "a thread failed");
+    }
+    expect(count_descriptors(is_socket) == 1, "connections are left");
+}
+
+static void pause_forever(void)
+{
+    for (;;)
+        pause();
+}
+
+static void *call_and_pause(void *unused)
+{
+    send_text(shared_queue, 1);
+    pause_forever();
+    return unused;
+}
+
+/* A child of fork has no copy of other threads' connections: what would hold the server's worker
+ * for as long as the child lives. */
+static void fork_beside_threads(void)
+{
+    pthread_t thread;
+    shared_queue = new_queue();
+    pthread_create(&thread, NULL, call_and_pause, NULL);
+    expect(receive_text(shared_queue, 1, 0) == 4, "msgrcv");
+    while (count_descriptors(is_socket) != 2)
+        usleep(1000);
+    pid_t child = fork();
+    if (child == 0)
+        _exit(count_descriptors(is_socket));
+    expect(status_of(child) == 0, "the child has copies");
+}
+
+static void *wait_for_message(void *result)
+{
+    *(ssize_t *)result = receive_text(shared_queue, 1, 0);
+    return NULL;
+}
+
+/* A thread that waits is cancelled. Removing the queue ends the wait that goes on in the server. */
+static void cancels(void)
+{
+    pthread_t thread;
+    ssize_t result = 77;
+    void *how;
+    shared_queue = new_queue();
+    pthread_create(&thread, NULL, wait_for_message, &result);
+    usleep(300000);
+    pthread_cancel(thread);
+    expect(pthread_join(thread, &how) == 0 && how == PTHREAD_CANCELED && result == 77,
+        "the thread isn't cancelled");
+    expect(count_descriptors(is_socket) == 1, "its connection is left");
+    expect(msgctl(shared_queue, IPC_RMID, NULL) == 0, "IPC_RMID");
+    shared_queue = new_queue();
+    expect(one_pair((void *)2) == NULL, "calls after it fail");
+}
+
+static void *wait_uncancelled(void *result)
+{
+    pthread_setcancelstate(PTHREAD_CANCEL_DISABLE, NULL);
+    return wait_for_message(result);
+}
+
+/* A thread that doesn't want to be cancelled waits on. */
+static void cancels_disabled(void)
+{
+    pthread_t thread;
+    ssize_t result = 77;
+    void *how;
+    shared_queue = new_queue();
+    pthread_create(&thread, NULL, wait_uncancelled, &result);
+    usleep(300000);
+    pthread_cancel(thread);
+    usleep(100000);
+    expect(send_text(shared_queue, 1) == 0, "msgsnd");
+    expect(
+        pthread_join(thread, &how) == 0 && how == NULL && result == 4, "the thread didn't wait on");
+}
+
+/* A child of vfork runs on its parent's memory. */
+static void vforks(void)
+{
+    int id = new_queue(), before = connection();
+    volatile int status = 1;
+    pid_t child = vfork();
+    if (child == 0) {
+        status = send_text(id, 1);
+        _exit(status != 0);
+    }
+    expect(status_of(child) == 0 && status == 0, "the child doesn't send");
+    expect(stat_of(id).msg_lspid == child, "msg_lspid is not the child's");
+    expect(connection() == before && count_descriptors(is_socket) == 1,
+        "the parent's connection is another");
+    expect(receive_text(id, 1, 0) == 4, "the parent doesn't receive");
+}
+
+static volatile sig_atomic_t caught;
+
+static void send_in_handler(int number)
+{
+    caught = number;
+    send_text(shared_queue, 1);
+}
+
+static void catch (int signal, void (*handler)(int))
+{
+    sigaction(signal, &(struct sigaction){.sa_handler = handler, .sa_flags = SA_RESTART}, NULL);
+}
+
+/* A handler within a wait sends the very message that is waited for. */
+static void calls_in_handler(void)
+{
+    shared_queue = new_queue();
+    catch (SIGALRM, send_in_handler);
+    for (int i = 0; i < 3; i++) {
+        ualarm(200000, 0);
+        expect(receive_text(shared_queue, 1, 0) == 4 && caught,
+            "the message of the handler isn't received");
+        caught = 0;
+    }
+    expect(count_descriptors(is_socket) == 1, "connections are left");
+}
+
+static void pair_in_handler(int number)
+{
+    caught += number == SIGPROF && one_pair((void *)5L) == NULL;
+}
+
+/* Handlers interrupt calls at any place, hundreds of times. */
+static void many_handlers(void)
+{
+    shared_queue = new_queue();
+    catch (SIGPROF, pair_in_handler);
+    for (int i = 0; i < 2000 || caught < 20; i++) {
+        if (i == 100)
+            setitimer(ITIMER_PROF, &(struct itimerval){{0, 1000}, {0, 1000}}, NULL);
+        expect(one_pair((void *)6L) == NULL, "a pair fails");
+    }
+    setitimer(ITIMER_PROF, &(struct itimerval){{0, 0}, {0, 0}}, NULL);
+    expect(stat_of(shared_queue).msg_qnum == 0, "messages are left");
+}
+
+static pid_t handlers_child = -1;
+
+static void fork_in_handler(int number)
+{
+    caught = number;
+    handlers_child = fork();
+}
+
+/* A handler within a wait forks, and both processes return to the wait. The child's is over. */
+static void forks_in_handler(void)
+{
+    shared_queue = new_queue();
+    catch (SIGALRM, fork_in_handler);
+    ualarm(200000, 0);
+    ssize_t got = receive_text(shared_queue, 1, 0);
+    if (handlers_child == 0) {
+        expect(refused(got, EINTR), "the child's wait doesn't end with EINTR");
+        _exit(send_text(shared_queue, 1) != 0);
+    }
+    expect(got == 4 && status_of(handlers_child) == 0, "the parent's wait doesn't go on");
+}
+
+static sigjmp_buf out_of_wait;
+
+static void jump(int number) { siglongjmp(out_of_wait, number); }
+
+/* A handler jumps out of a wait. Removing the queue ends the wait that goes on in the server. */
+static void jumps(void)
+{
+    int id = new_queue();
+    catch (SIGALRM, jump);
+    ualarm(200000, 0);
+    if (sigsetjmp(out_of_wait, 1) == 0)
+        expect(receive_text(id, 1, 0) == 77, "the wait ended");
+    expect(msgctl(id, IPC_RMID, NULL) == 0, "IPC_RMID");
+    shared_queue = new_queue();
+    for (int i = 0; i < 20; i++)
+        expect(one_pair((void *)2L) == NULL, "calls after it fail");
+}
+
+static void note(int number) { caught = number; }
+
+/* A signal doesn't end a wait. */
+static void signals(void)
+{
+    int id = new_queue();
+    sigaction(SIGALRM, &(struct sigaction){.sa_handler = note}, NULL);
+    pid_t child = fork();
+    if (child == 0) {
+        usleep(500000);
+        _exit(send_text(id, 1) != 0);
+    }
+    ualarm(200000, 0);
+    expect(receive_text(id, 1, 0) == 4 && caught, "the wait doesn't go on");
+    expect(status_of(child) == 0, "the child doesn't send");
+}
+
+/* With SYSVMSG_EINTR=1 it does. Removing the queue ends the wait that goes on in the server. */
+static void signals_end_waits(void)
+{
+    int id = new_queue();
+    catch (SIGALRM, note);
+    ualarm(200000, 0);
+    expect(refused(receive_text(id, 1, 0), EINTR) && caught, "the wait doesn't end with EINTR");
+    expect(count_descriptors(is_socket) == 0, "the connection is left");
+    expect(msgctl(id, IPC_RMID, NULL) == 0, "IPC_RMID");
+}
+
+static void descriptors(void)
+{
+    int low = open("/dev/null", O_RDONLY);
+    close(low);
+    int id = new_queue();
+    expect(count_descriptors(is_high_socket) == 1 && count_descriptors(is_socket) == 1,
+        "it isn't high, or not CLOEXEC");
+    expect(open("/dev/null", O_RDONLY) == low, "a low descriptor was used");
+    closefrom(3);
+    expect(send_text(id, 1) == 0, "no call after all descriptors were closed");
+    int fd = connection(), pipe_ends[2];
+    expect(pipe(pipe_ends) == 0 && dup2(pipe_ends[1], fd) == fd, "dup2");
+    expect(receive_text(id, 1, 0) == 4, "no call after the descriptor became another file");
+    expect(write(fd, "x", 1) == 1, "the other file was closed");
+}
+
+static void few_descriptors(void)
+{
+    setrlimit(RLIMIT_NOFILE, &(struct rlimit){64, 64});
+    int id = new_queue();
+    expect(connection() >= 32 && connection() < 64, "it isn't in the upper half");
+    while (open("/dev/null", O_RDONLY) >= 0)
+        ;
+    expect(send_text(id, 1) == 0, "the connection doesn't last");
+}
+
+static void execs(char *self)
+{
+    new_queue();
+    execl(self, self, "after-exec", NULL);
+}
+
+static void changes_user(void)
+{
+    expect(geteuid() == 0, "only root can");
+    int id = new_queue();
+    expect(stat_of(id).msg_perm.cuid == 0, "it isn't root's");
+    expect(setegid(1001) == 0 && seteuid(1000) == 0, "seteuid");
+    expect(refused(msgctl(id, IPC_RMID, NULL), EPERM), "the user isn't the effective one");
+    int own = new_queue();
+    expect(stat_of(own).msg_perm.cuid == 1000 && stat_of(own).msg_perm.cgid == 1001,
+        "it isn't the effective user's");
+    expect(seteuid(0) == 0 && msgctl(id, IPC_RMID, NULL) == 0, "root is root again");
+    expect(count_descriptors(is_socket) == 1, "connections are left");
+}
+
+/* The last 16 bytes of a page, and the page after it may not be touched. */
+static char *edge(void)
+{
+    long page = sysconf(_SC_PAGESIZE);
+    char *pages =
+        mmap(NULL, 2 * (size_t)page, PROT_READ | PROT_WRITE, MAP_PRIVATE | MAP_ANONYMOUS, -1, 0);
+    mprotect(pages + page, (size_t)page, PROT_NONE);
+    return pages + page - 16;
+}
+
+static void bad_pointers(void)
+{
+    int id = new_queue();
+    char *last = edge();
+    void *constant = mmap(NULL, 4096, PROT_READ, MAP_PRIVATE | MAP_ANONYMOUS, -1, 0);
+    *(long *)(void *)last = 9;
+    expect(msgsnd(id, last, 8, 0) == 0, "a message up to the edge isn't sent");
+    expect(refused(msgsnd(id, last, 9, 0), EFAULT) && refused(msgsnd(id, NULL, 5, 0), EFAULT),
+        "msgsnd: EFAULT");
+    expect(stat_of(id).msg_qnum == 1, "a message of nowhere was sent");
+    expect(refused(msgrcv(id, NULL, 5, 0, 0), EFAULT) && stat_of(id).msg_qnum == 1,
+        "msgrcv: EFAULT, and it stays");
+    expect(msgrcv(id, last, 8192, 0, 0) == 8,
+        "a short text isn't received into the room that is there");
+    send_text(id, 1);
+    expect(refused(msgrcv(id, constant, 5, 0, 0), EFAULT), "msgrcv: EFAULT for constant memory");
+    expect(refused(msgctl(id, IPC_STAT, NULL), EFAULT)
+               && refused(msgctl(id, IPC_STAT, constant), EFAULT)
+               && refused(msgctl(id, IPC_SET, (void *)last), EFAULT)
+               && refused(msgctl(0, IPC_INFO, NULL), EFAULT)
+               && refused(msgctl(0, MSG_STAT, constant), EFAULT),
+        "msgctl: EFAULT");
+    expect(send_text(id, 1) == 0 && receive_text(id, 1, 0) == 4, "calls after it fail");
+}
+
+static void tables(void)
+{
+    struct msqid_ds told;
+    struct msginfo info;
+    int one = new_queue(), two = msgget(4711, IPC_CREAT | 0600);
+    send_text(two, 1);
+    int last = msgctl(0, MSG_INFO, (struct msqid_ds *)&info), found = 0;
+    expect(last >= 1 && info.msgpool == 2 && info.msgmap == 1 && info.msgtql == 4, "MSG_INFO");
+    expect(msgctl(0, IPC_INFO, (struct msqid_ds *)&info) == last && info.msgmax == 8192
+               && info.msgmni >= 64,
+        "IPC_INFO");
+    for (int slot = 0; slot <= last; slot++) {
+        int id = msgctl(slot, MSG_STAT, &told);
+        found += (id == one && told.msg_qnum == 0)
+                 || (id == two && told.msg_qnum == 1 && told.msg_perm.__key == 4711);
+    }
+    expect(found == 2, "MSG_STAT");
+    expect(refused(msgctl(last + 1, MSG_STAT, &told), EINVAL)
+               && refused(msgctl(1 << 20, MSG_STAT, &told), EINVAL),
+        "MSG_STAT of no queue");
+    if (geteuid() == 0 && seteuid(1000) == 0) {
+        expect(refused(msgctl(last, MSG_STAT, &told), EACCES), "MSG_STAT asks for permission");
+        expect(
+            msgctl(last, MSG_STAT_ANY, &told) == two && told.msg_qnum == 1, "MSG_STAT_ANY doesn't");
+    }
+}
+
+static int listen_at(const char *path)
+{
+    struct sockaddr_un name = {.sun_family = AF_UNIX};
+    int listener = socket(AF_UNIX, SOCK_STREAM, 0);
+    strncpy(name.sun_path, path, sizeof name.sun_path - 1);
+    expect(bind(listener, (struct sockaddr *)&name, sizeof name) == 0 && listen(listener, 9) == 0,
+        "bind");
+    return listener;
+}
+
+/* Plays a server that answers the hello, and then the first request with these bytes; and keeps the
+ * connection. */
+static pid_t play(int listener, const void *reply, size_t size)
+{
+    char bytes[256];
+    pid_t child = fork();
+    if (child != 0)
+        return child;
+    int peer = accept(listener, NULL, NULL);
+    if (read(peer, bytes, sizeof bytes) <= 0 || write(peer, "\0\0\0\3\1\0\0", 7) != 7)
+        _exit(1);
+    if (read(peer, bytes, sizeof bytes) <= 0 || write(peer, reply, size) != (ssize_t)size)
+        _exit(1);
+    pause_forever();
+    _exit(0);
+}
+
+static void one_bad_reply(int listener, const char *what, const void *reply, size_t size)
+{
+    pid_t player = play(listener, reply, size);
+    expect(refused(msgget(1, 0), EIO), what);
+    expect(count_descriptors(is_socket) == 1, "the connection is left"); /* the listener is one */
+    kill(player, SIGKILL);
+    status_of(player);
+}
+
+static void bad_replies(const char *path)
+{
+    int listener = listen_at(path);
+    one_bad_reply(listener, "another version", "\0\0\0\7\2\1\0\0\0\0\5", 11);
+    one_bad_reply(listener, "another operation", "\0\0\0\3\1\2\0", 7);
+    one_bad_reply(listener, "an unknown error", "\0\0\0\3\1\1\4", 7);
+    one_bad_reply(listener, "an error with fields", "\0\0\0\7\1\1\2\0\0\0\5", 11);
+    one_bad_reply(listener, "no fields", "\0\0\0\3\1\1\0", 7);
+    one_bad_reply(listener, "too short", "\0\0\0\2\1\1", 6);
+    one_bad_reply(listener, "too long", "\xff\xff\xff\xff\1\1\0\0\0\0\0", 11);
+    one_bad_reply(listener, "more than a reply", "\0\0\0\7\1\1\0\0\0\0\5\0", 12);
+}
+
+static void half_reply(const char *path)
+{
+    int listener = listen_at(path);
+    one_bad_reply(listener, "half a reply", "\0\0\0\7\1\1\0\0", 8);
+}
+
+/* The server, whose process is the second word, is killed while a call waits. */
+static void server_gone(const char *server)
+{
+    int id = new_queue();
+    pid_t child = fork();
+    if (child == 0) {
+        usleep(300000);
+        _exit(kill(atoi(server), SIGKILL) != 0);
+    }
+    expect(refused(receive_text(id, 1, 0), EIO), "the wait doesn't end with EIO");
+    status_of(child);
+    expect(refused(send_text(id, 1), EIO) && refused(msgget(1, 0), EIO)
+               && refused(msgctl(id, IPC_RMID, NULL), EIO),
+        "a later call doesn't fail with EIO");
+    expect(refused(send_text(id, -1), EIO), "a refusal of the server's doesn't fail with EIO");
+}
+
+/* The standard error is a pipe that nobody reads. */
+static void no_server(void)
+{
+    int pipe_ends[2];
+    expect(pipe(pipe_ends) == 0 && close(pipe_ends[0]) == 0 && dup2(pipe_ends[1], 2) == 2, "pipe");
+    expect(refused(msgget(1, 0), EIO) && refused(msgget(1, 0), EIO), "EIO");
+}
+
+static const struct {
+    const char *name;
+    void (*run)(void);
+} SITUATIONS[] = {
+    {"fork", forks},
+    {"threads", threads},
+    {"short-threads", short_threads},
+    {"fork-beside-threads", fork_beside_threads},
+    {"cancel", cancels},
+    {"cancel-disabled", cancels_disabled},
+    {"vfork", vforks},
+    {"call-in-handler", calls_in_handler},
+    {"many-handlers", many_handlers},
+    {"fork-in-handler", forks_in_handler},
+    {"jump-out", jumps},
+    {"signal", signals},
+    {"signal-ends-wait", signals_end_waits},
+    {"descriptors", descriptors},
+    {"few-descriptors", few_descriptors},
+    {"user", changes_user},
+    {"bad-pointers", bad_pointers},
+    {"tables", tables},
+    {"no-server", no_server},
+    {"wait-for-worker", waits_for_worker},
+};
+
+static const struct {
+    const char *name;
+    void (*run)(const char *);
+} WITH_SERVER[] = {
+    {"bad-replies", bad_replies}, {"half-reply", half_reply}, {"server-gone", server_gone}};
+
+int main(int count, char **words)
+{
+    if (count == 2 && strcmp(words[1], "exec") == 0)
+        execs(words[0]);
+    if (count == 2 && strcmp(words[1], "after-exec") == 0)
+        return count_descriptors(is_socket);
+    for (size_t i = 0; count == 2 && i < sizeof SITUATIONS / sizeof *SITUATIONS; i++)
+        if (strcmp(words[1], SITUATIONS[i].name) == 0)
+            return SITUATIONS[i].run(), 0;
+    for (size_t i = 0; count == 3 && i < sizeof WITH_SERVER / sizeof *WITH_SERVER; i++)
+        if (strcmp(words[1], WITH_SERVER[i].name) == 0)
+            return WITH_SERVER[i].run(words[2]), 0;
+    puts("no such situation");
+    return 2;
+}
