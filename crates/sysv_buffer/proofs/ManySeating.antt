@@ -70,6 +70,7 @@ module _ {T : Type 0} where
           limit = omega arith;
           producer = refl;
           puts = refl;
+          gone = omega arith;
           may_put = λ h. absurd (true≢false (sym h));
           consumer = refl;
           takes = refl;
@@ -149,7 +150,7 @@ module _ {T : Type 0} where
       let both : K b = record {
         seen = know.seen;
         told = know'.seen;
-        gone = know.gone;
+        gone = let a = know.gone in let b = know'.gone in omega arith;
         own_put = λ k h. dite (dec_le 1 (times k v.puts)) (λ d. know.own_put k d) (λ nd. know'.own_put k (omega (arith, nd, times-append k v.puts w.puts)));
         own_taken = λ k h. dite (dec_le 1 (times k v.takes)) (λ d. know.own_taken k d) (λ nd. know'.own_taken k (omega (arith, nd, times-append k v.takes w.takes)));
         waits_to_put = know.waits_to_put;

@@ -257,6 +257,7 @@ module _ {T : Type 0} where
             once = λ k. let part = at-le-sum_by (taken_at k) s.views id v at in let most = g.seats.taken_once k in omega arith;
             within = λ k h. let below = know.own_taken k h in let order = g.runs.order in omega arith;
           };
+          gone = let low = know.gone in let order = g.runs.order in omega arith;
           count = g.in_word;
           is = refl;
         },

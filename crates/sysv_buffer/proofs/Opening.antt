@@ -47,6 +47,7 @@ module _ {T : Type 0} where
           limit = omega arith;
           producer = refl;
           puts = refl;
+          gone = omega arith;
           may_put = λ h. absurd (true≢false (sym h));
           consumer = refl;
           takes = refl;

@@ -1,5 +1,5 @@
 -- How cells go out and come home while the rule holds.
-use Rattle.std.proofs.Common.{◌≡◌, ◌≢◌, ℕ, ◌+◌, ◌%◌, ◌^◌, ◌<◌, true, false, List, [], ◌∷◌, ◌++◌, ⊎_elim, length, set, refl, sym, ap, ◌∙◌, arith, length-set, length-append, Some, None}
+use Rattle.std.proofs.Common.{◌≡◌, ◌≢◌, ℕ, ◌+◌, ◌%◌, ◌^◌, ◌<◌, ◌≤◌, true, false, List, [], ◌∷◌, ◌++◌, ⊎_elim, length, set, refl, sym, ap, ◌∙◌, arith, length-set, length-append, Some, None}
 use mathlib.Core.Bool.{true≢false}
 use mathlib.Core.Logic.{dite}
 use native.Mathlib.Decide.{ℕ_discrete}
@@ -9,7 +9,7 @@ use Rattle.std.proofs.Math.Nat.{mod-lt, add-mod_right}
 use Rattle.atomic_table.proofs.Lists.{set_here, set_else, one_turn}
 use Rattle.sysv_buffer.specs.declared.view.View.{View}
 use Rattle.sysv_buffer.specs.Ring.{Homes, Runs}
-use Rattle.sysv_buffer.specs.Steps.{holding}
+use Rattle.sysv_buffer.specs.Steps.{holding, seeing}
 use Rattle.sysv_lists.proofs.Places.{at_below, there, at_snoc_place}
 use Rattle.sysv_lists.proofs.Prefixes.{prefix_self, prefix_snoc}
 
@@ -20,6 +20,27 @@ other_cell i k n less near same = let e = one_turn i k n (omega arith) near same
 module _ {T : Type 0} (n : ℕ) (put : List T) (taken : ℕ) (homes : Homes T) (p c : View T) (r : Runs n put taken homes p c) where
   cell : (i : ℕ) → (i % n) < length homes
   cell i = let low = mod-lt i {m = n} r.room in let size = r.size in omega arith
+
+  -- the producer has seen so many taken
+  pub saw : (m : ℕ) → m ≤ taken → Runs n put taken homes (seeing m p) c
+  saw m low = record {
+    room = r.room;
+    size = r.size;
+    order = r.order;
+    within = r.within;
+    limit = r.limit;
+    producer = r.producer;
+    puts = r.puts;
+    gone = low;
+    may_put = r.may_put;
+    consumer = r.consumer;
+    takes = r.takes;
+    seen = r.seen;
+    known = r.known;
+    may_take = r.may_take;
+    full = r.full;
+    free = r.free;
+  }
 
   -- there is room, and the producer takes the next cell out
   pub reached : p.holds ≡ false → length put < taken + n → length put < 2 ^ 62
@@ -35,6 +56,7 @@ module _ {T : Type 0} (n : ℕ) (put : List T) (taken : ℕ) (homes : Homes T) (
           limit = r.limit;
           producer = r.producer;
           puts = r.puts;
+          gone = r.gone;
           may_put = λ _. (more, less);
           consumer = r.consumer;
           takes = r.takes;
@@ -60,6 +82,7 @@ module _ {T : Type 0} (n : ℕ) (put : List T) (taken : ℕ) (homes : Homes T) (
         limit = omega (arith, may.1);
         producer = r.producer;
         puts = ap (λ l. l ++ x ∷ []) r.puts;
+        gone = r.gone;
         may_put = λ h. absurd (true≢false (sym h));
         consumer = r.consumer;
         takes = r.takes;
@@ -91,6 +114,7 @@ module _ {T : Type 0} (n : ℕ) (put : List T) (taken : ℕ) (homes : Homes T) (
           limit = r.limit;
           producer = r.producer;
           puts = r.puts;
+          gone = r.gone;
           may_put = r.may_put;
           consumer = r.consumer;
           takes = r.takes;
@@ -119,6 +143,7 @@ module _ {T : Type 0} (n : ℕ) (put : List T) (taken : ℕ) (homes : Homes T) (
         limit = r.limit;
         producer = r.producer;
         puts = r.puts;
+        gone = let e = r.gone in omega arith;
         may_put = λ h. let m = r.may_put h in (omega (arith, m.0), m.1);
         consumer = r.consumer;
         takes = ap (λ t. t + 1) r.takes;

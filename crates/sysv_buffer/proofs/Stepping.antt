@@ -8,9 +8,9 @@ use Rattle.sysv_buffer.specs.declared.view.View.{View}
 use Rattle.sysv_buffer.specs.declared.view.Role.{Role}
 use Rattle.sysv_buffer.specs.declared.view.Role.TheVariants.{Both, Producer, Consumer}
 use Rattle.sysv_buffer.specs.Ring.{Homes, Runs, Going, Kept, start}
-use Rattle.sysv_buffer.specs.Steps.{Mine, holding, CountsIn, Reaches, Puts, CountsOut, Looks, Takes}
+use Rattle.sysv_buffer.specs.Steps.{Mine, holding, seeing, CountsIn, Reaches, Puts, CountsOut, Looks, Takes}
 use Rattle.sysv_lists.proofs.Orders.{at_most}
-use Rattle.sysv_buffer.proofs.Running.{reached, put_in, grabbed, emptied}
+use Rattle.sysv_buffer.proofs.Running.{saw, reached, put_in, grabbed, emptied}
 
 unlike : (a b : Role) → a ≡ b → a ≡ Consumer → b ≡ Producer → ⊥
 unlike a b same x y = cc
@@ -113,24 +113,26 @@ module _ {T : Type 0} where
       let r : Runs (length s.homes) g.put g.taken s.homes me.0 g.c = subst (λ q. Runs (length s.homes) g.put g.taken s.homes q g.c) w.2 g.runs in
       let long : length me.0.put ≡ length g.put = ap length r.puts in
       let below : n ≤ length me.0.put = omega (arith, g.out_word, r.order) in
+      let v : View T = seeing n me.0 in
+      let r' : Runs (length s.homes) g.put g.taken s.homes v g.c = saw (length s.homes) g.put g.taken s.homes me.0 g.c r n (omega (arith, g.out_word)) in
       ⊎_elim
       (λ full. (
-        me.0,
+        v,
         keeps,
         tt,
-        on_out s g n g.taken s.homes (set s.views id me.0) me.0 g.c g.out_word (first_view s g id me.0 w.1) r,
+        on_out s g n g.taken s.homes (set s.views id v) v g.c g.out_word (first_view s g id v w.1) r',
         (below, (λ room. absurd (omega arith)), λ _. refl),
       ))
       (λ room.
       let k : ℕ = length me.0.put % slots in
       let same : (length g.put % length s.homes) ≡ k = ap (λ m. m % length s.homes) (sym long) ∙ ap (λ m. length me.0.put % m) size in
       let more : length g.put < g.taken + length s.homes = omega (arith, g.out_word) in
-      let go = reached (length s.homes) g.put g.taken s.homes me.0 g.c r idle more (omega arith) in (
-        holding me.0,
+      let go = reached (length s.homes) g.put g.taken s.homes v g.c r' idle more (omega arith) in (
+        holding v,
         takes k None,
         subst (λ j. get_elem? s.homes j ≡ some (some None)) same go.0,
-        on_out s g n g.taken (set s.homes k none) (set s.views id (holding me.0)) (holding me.0) g.c g.out_word (first_view s g id (holding me.0) w.1)
-            (subst (λ j. Runs (length s.homes) g.put g.taken (set s.homes j none) (holding me.0) g.c) same go.1),
+        on_out s g n g.taken (set s.homes k none) (set s.views id (holding v)) (holding v) g.c g.out_word (first_view s g id (holding v) w.1)
+            (subst (λ j. Runs (length s.homes) g.put g.taken (set s.homes j none) (holding v) g.c) same go.1),
         (below, (λ _. refl), λ full. absurd (omega arith)),
       ))
       (at_most (n + slots) (length me.0.put))
@@ -173,7 +175,7 @@ module _ {T : Type 0} where
         keeps,
         tt,
         on_in s g n g.put s.homes (set s.views id me.0) g.p me.0 g.in_word (second_view s g id me.0 w.1) r,
-        ((λ waits. absurd (omega arith)), λ _. refl),
+        ((λ waits. absurd (omega arith)), λ _. (refl, let long = ap length r.seen.1 ∙ length-append me.0.put r.seen.0 in omega (arith, g.in_word))),
       ))
       (λ waits.
       let k : ℕ = me.0.taken % slots in

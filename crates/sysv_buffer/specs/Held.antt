@@ -7,7 +7,7 @@ use Rattle.sysv_buffer.specs.Ends.{Putting, Taking}
 
 module _ {T : Type 0} where
   abbrev pub putting : InProducer T → Putting T
-  putting e = record { buffer = record { table = e.token.table_id; room = e.token.table_id.slots }; put = e.token.me.0.put }
+  putting e = record { buffer = record { table = e.token.table_id; room = e.token.table_id.slots }; put = e.token.me.0.put; gone = e.token.me.0.taken }
 
   pub record IsProducer (e : InProducer T) : Type 0 where
     pub role : e.token.me.0.role ≡ Producer
@@ -15,7 +15,7 @@ module _ {T : Type 0} where
     pub no_cell : e.token.me.1 ≡ []
 
   abbrev pub taking : InConsumer T → Taking T
-  taking e = record { buffer = record { table = e.token.table_id; room = e.token.table_id.slots }; taken = take e.token.me.0.taken e.token.me.0.put }
+  taking e = record { buffer = record { table = e.token.table_id; room = e.token.table_id.slots }; taken = take e.token.me.0.taken e.token.me.0.put; seen = e.token.me.0.put }
 
   pub record IsConsumer (e : InConsumer T) : Type 0 where
     pub role : e.token.me.0.role ≡ Consumer

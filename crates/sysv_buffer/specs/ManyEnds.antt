@@ -1,5 +1,5 @@
 -- What contracts see of a seat of a buffer of many, and what the calls do to it.
-use Rattle.std.specs.Prelude.{◌≡◌, ℕ, ◌+◌, ◌≤◌, ◌^◌, List, [], ◌∷◌, ◌++◌, length}
+use Rattle.std.specs.Prelude.{◌≡◌, ℕ, ◌+◌, ◌<◌, ◌≤◌, ◌^◌, List, [], ◌∷◌, ◌++◌, length}
 use mathlib.Core.Option.{some}
 use lib.ListN.{get_elem?}
 use Rattle.sysv_buffer.specs.Ends.{Buffered}
@@ -32,11 +32,13 @@ module _ {T : Type 0} where
   abbrev pub HasItsOwn : Holding T → Type 0
   HasItsOwn h = AreOnce h.seen h.puts × AreOnce h.seen h.takes
 
-  -- One seat has taken in another. It has seen what was put by now, which begins with what either had seen, and has the
-  -- places of both
+  -- One seat has taken in another. It has seen what was put by now, which begins with what either had seen and has at least
+  -- as many items as either had seen taken. It has the places of both
   pub record Joins (one two after : Holding T) : Type 0 where
     pub begins_one : IsPrefixOf one.seen after.seen
     pub begins_two : IsPrefixOf two.seen after.seen
+    pub gone_one : one.gone ≤ length after.seen
+    pub gone_two : two.gone ≤ length after.seen
     pub puts : after.puts ≡ one.puts ++ two.puts
     pub takes : after.takes ≡ one.takes ++ two.takes
     pub own : HasItsOwn after
@@ -64,13 +66,16 @@ module _ {T : Type 0} where
     pub takes : after.takes ≡ before.takes ++ place ∷ []
     pub at : get_elem? after.seen place ≡ some item
 
-  -- the item comes back, and a buffer is worn only where a word that was loaded has reached 2^62
+  -- The item comes back. `Full` comes only if every cell had an item when the counts were loaded, below the limit, and `Worn`
+  -- only if the count that was loaded has reached it
   abbrev pub GivesBack : T → Holding T → ManyPutRefused T → Type 0
-  GivesBack item after (refused.Full back) = (back ≡ item) × (after.gone + after.buffer.room ≤ length after.seen)
+  GivesBack item after (refused.Full back) = (back ≡ item) × (after.gone + after.buffer.room ≤ length after.seen) × (length after.seen < 2 ^ 62)
   GivesBack item after (refused.Busy back) = back ≡ item
   GivesBack item after (refused.Worn back) = (back ≡ item) × (2 ^ 62 ≤ length after.seen)
 
+  -- `Empty` comes only if all that was put was taken, below the limit, and `Worn` only if the count that was loaded has
+  -- reached it
   abbrev pub Misses : Holding T → ManyTakeRefused → Type 0
-  Misses after missed.Empty = length after.seen ≤ after.gone
+  Misses after missed.Empty = (length after.seen ≤ after.gone) × (after.gone < 2 ^ 62)
   Misses after missed.Busy = Unit {0}
   Misses after missed.Worn = 2 ^ 62 ≤ after.gone

@@ -23,6 +23,7 @@ module _ {T : Type 0} where
   pub record Rests (h : Holding T) (token : Seat (Option T) (Sight T)) : Type 0 where
     pub table : token.table_id ≡ h.buffer.table
     pub seen : token.me.0.seen ≡ h.seen
+    pub gone : token.me.0.gone ≡ h.gone
     pub puts : token.me.0.puts ≡ h.puts
     pub takes : token.me.0.takes ≡ h.takes
     pub waits : Waits [] [] token.me

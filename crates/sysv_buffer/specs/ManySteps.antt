@@ -1,5 +1,5 @@
 -- What each kind of step tells the seat that makes it, in a buffer of many.
-use Rattle.std.specs.Prelude.{◌≡◌, ℕ, ◌+◌, ◌%◌, ◌^◌, ◌<◌, ◌≤◌, true, false, List, [], ◌∷◌, ◌++◌, length, Option, Some, None}
+use Rattle.std.specs.Prelude.{◌≡◌, ℕ, ◌+◌, ◌%◌, ◌^◌, ◌<◌, ◌≤◌, true, false, List, [], ◌∷◌, ◌++◌, length, max, Option, Some, None}
 use mathlib.Core.Option.{some}
 use lib.ListN.{get_elem?}
 use Rattle.atomic_table.specs.Table.{Me, Step, rest}
@@ -27,7 +27,8 @@ module _ {T : Type 0} where
     pub once : (k : ℕ) → times k places ≤ 1
     pub within : (k : ℕ) → 1 ≤ times k places → k < length put
 
-  -- A load of IN, which shows all that was put. What the seat that was taken in last had seen is a prefix of it too
+  -- A load of IN, which shows all that was put. What the seat that was taken in last had seen is a prefix of it too, and it
+  -- has at least as many items as the seat has seen taken
   pub record Counts (m : Own T) (n : ℕ) (m' : Own T) : Type 0 where
     pub put : List T
     pub more : List T
@@ -35,6 +36,7 @@ module _ {T : Type 0} where
     pub told : IsPrefixOf m.0.told put
     pub puts : AreOnce put m.0.puts
     pub takes : AreOnce put m.0.takes
+    pub gone : m.0.gone ≤ length put
     pub count : n ≡ length put
     pub is : m' ≡ (record m.0 { seen = put }, m.1)
 
@@ -83,6 +85,6 @@ module _ {T : Type 0} where
   abbrev pub beside : Sight T → Sight T
   beside v = record v { puts = []; takes = []; put_ticket = []; take_ticket = []; fills = false; empties = false }
 
-  -- two sights in one, which is told what the other had seen
+  -- two sights in one, which is told what the other had seen, and has seen taken what either had
   abbrev pub both_of : Sight T → Sight T → Sight T
-  both_of v w = record v { told = w.seen; puts = v.puts ++ w.puts; takes = v.takes ++ w.takes }
+  both_of v w = record v { told = w.seen; gone = max v.gone w.gone; puts = v.puts ++ w.puts; takes = v.takes ++ w.takes }

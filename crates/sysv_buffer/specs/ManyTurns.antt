@@ -1,5 +1,5 @@
 -- What the parts of a call ask of a seat of a buffer of many, and what they leave.
-use Rattle.std.specs.Prelude.{◌≡◌, ℕ, ◌+◌, ◌%◌, ◌≤◌, ◌^◌, true, false, List, [], ◌∷◌, ◌++◌, length, Option, None, Some}
+use Rattle.std.specs.Prelude.{◌≡◌, ℕ, ◌+◌, ◌%◌, ◌<◌, ◌≤◌, ◌^◌, true, false, List, [], ◌∷◌, ◌++◌, length, Option, None, Some}
 use mathlib.Core.Option.{some}
 use lib.ListN.{get_elem?}
 use Rattle.atomic_table.specs.declared.shared.Seat.{Seat}
@@ -58,14 +58,14 @@ module _ {T : Type 0} where
   -- what a try for room finds
   abbrev pub FindsRoom : ℕ → Own T → Room → Own T → Type 0
   FindsRoom slots m (room.Cell cell) m' = HasRoom slots cell m' × Keeps m.0 m'.0
-  FindsRoom slots m (room.Full out) m' = Waits [] [] m' × Keeps m.0 m'.0 × (m'.0.gone + slots ≤ length m'.0.seen)
+  FindsRoom slots m (room.Full out) m' = Waits [] [] m' × Keeps m.0 m'.0 × (m'.0.gone + slots ≤ length m'.0.seen) × (length m'.0.seen < 2 ^ 62)
   FindsRoom slots m (room.Busy count) m' = Waits [] [] m' × Keeps m.0 m'.0
   FindsRoom slots m room.Worn m' = Waits [] [] m' × Keeps m.0 m'.0 × (2 ^ 62 ≤ length m'.0.seen)
 
   -- what a try for an item finds
   abbrev pub FindsItem : ℕ → Own T → Next → Own T → Type 0
   FindsItem slots m (next.Cell cell) m' = HasItem slots cell m' × Keeps m.0 m'.0
-  FindsItem slots m (next.Empty count) m' = Waits [] [] m' × Keeps m.0 m'.0 × (length m'.0.seen ≤ m'.0.gone)
+  FindsItem slots m (next.Empty count) m' = Waits [] [] m' × Keeps m.0 m'.0 × (length m'.0.seen ≤ m'.0.gone) × (m'.0.gone < 2 ^ 62)
   FindsItem slots m (next.Busy count) m' = Waits [] [] m' × Keeps m.0 m'.0
   FindsItem slots m next.Worn m' = Waits [] [] m' × Keeps m.0 m'.0 × (2 ^ 62 ≤ m'.0.gone)
 

@@ -23,9 +23,10 @@ module _ {T : Type 0} where
     pub order : taken ≤ length put
     pub within : length put ≤ taken + n
     pub limit : length put ≤ 2 ^ 62
-    -- the producer knows all that was put
+    -- the producer knows all that was put, and that so many at least were taken
     pub producer : p.role ≡ Producer
     pub puts : p.put ≡ put
+    pub gone : p.taken ≤ taken
     pub may_put : p.holds ≡ true → (length put < taken + n) × (length put < 2 ^ 62)
     -- the consumer knows how many were taken, and a prefix of what was put
     pub consumer : c.role ≡ Consumer

@@ -25,16 +25,20 @@ module _ {T : Type 0} where
   abbrev pub holding : View T → View T
   holding v = record v { holds = true }
 
+  -- an end that has seen so many taken
+  abbrev pub seeing : ℕ → View T → View T
+  seeing n v = record v { taken = n }
+
   -- the producer's load of IN
   abbrev pub CountsIn : At T → Mine T → ℕ → Mine T → Type 0
   CountsIn st m n m' = (m' ≡ m) × (n ≡ length m.0.put)
 
-  -- the producer's load of OUT, which takes the next cell out where there is room
+  -- The producer's load of OUT, which takes the next cell out if there is room. It has then seen so many taken
   abbrev pub Reaches : At T → Mine T → ℕ → Mine T → Type 0
   Reaches st m n m' =
       (n ≤ length m.0.put)
-      × (length m.0.put < n + st.slots → m' ≡ (holding m.0, (length m.0.put % st.slots, None) ∷ m.1))
-      × (n + st.slots ≤ length m.0.put → m' ≡ m)
+      × (length m.0.put < n + st.slots → m' ≡ (holding (seeing n m.0), (length m.0.put % st.slots, None) ∷ m.1))
+      × (n + st.slots ≤ length m.0.put → m' ≡ (seeing n m.0, m.1))
 
   -- the item in the cell that is out
   abbrev pub filled : View T → List (ℕ × Option T) → View T
@@ -59,9 +63,10 @@ module _ {T : Type 0} where
     pub at : get_elem? put m.0.taken ≡ some item
     pub is : m' ≡ (record m.0 { put = put; holds = true }, (m.0.taken % slots, Some item) ∷ m.1)
 
-  -- the consumer's load of IN, which takes the next item's cell out where one waits
+  -- The consumer's load of IN, which takes the next item's cell out if one waits. If none does, it has seen no more than it
+  -- has taken
   abbrev pub Looks : At T → Mine T → ℕ → Mine T → Type 0
-  Looks st m n m' = (m.0.taken < n → Grabs st.slots m m') × (n ≤ m.0.taken → m' ≡ m)
+  Looks st m n m' = (m.0.taken < n → Grabs st.slots m m') × (n ≤ m.0.taken → (m' ≡ m) × (length m.0.put ≤ m.0.taken))
 
   -- the consumer's addition to OUT, which gives the empty cell home
   abbrev pub Takes : At T → Mine T → ℕ → Mine T → Type 0

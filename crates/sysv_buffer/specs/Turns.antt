@@ -1,5 +1,5 @@
 -- What the parts of a call ask of an end, and what they leave.
-use Rattle.std.specs.Prelude.{Option, ◌≡◌, ℕ, ◌%◌, ◌≤◌, ◌^◌, false, [], ◌∷◌, length, None}
+use Rattle.std.specs.Prelude.{Option, ◌≡◌, ℕ, ◌+◌, ◌%◌, ◌<◌, ◌≤◌, ◌^◌, true, false, List, [], ◌∷◌, length, None}
 use Rattle.atomic_table.specs.declared.shared.Seat.{Seat}
 use Rattle.sysv_buffer.specs.declared.view.View.{View}
 use Rattle.sysv_buffer.specs.declared.view.Role.TheVariants.{Producer, Consumer}
@@ -8,7 +8,7 @@ use Rattle.sysv_buffer.specs.declared.turns.Reach.TheVariants.{Room, Full, WornO
 use Rattle.sysv_buffer.specs.declared.turns.Found.{Found}
 use Rattle.sysv_buffer.specs.declared.turns.Found.TheVariants.{Item, Empty, Spent}
 use Rattle.sysv_buffer.specs.Ends.{Buffered}
-use Rattle.sysv_buffer.specs.Steps.{Mine, holding, Grabs}
+use Rattle.sysv_buffer.specs.Steps.{Mine, Grabs}
 
 module _ {T : Type 0} where
   -- the token is one of this buffer
@@ -26,14 +26,29 @@ module _ {T : Type 0} where
   abbrev pub IsIdleConsumer : Mine T → Type 0
   IsIdleConsumer m = (m.0.role ≡ Consumer) × (m.0.holds ≡ false) × (m.1 ≡ [])
 
-  -- what the producer found: the next cell is out with it, or there is no room, or the buffer is worn out
-  abbrev pub Reached : ℕ → Mine T → Reach → Mine T → Type 0
-  Reached slots m (Room cell) m' = (m' ≡ (holding m.0, (cell, None) ∷ [])) × (cell ≡ length m.0.put % slots)
-  Reached slots m (Full out) m' = m' ≡ m
-  Reached slots m WornOut m' = (m' ≡ m) × (2 ^ 62 ≤ length m.0.put)
+  -- the producer holds no cell, and these items were put
+  pub record HasPut (items : List T) (m : Mine T) : Type 0 where
+    pub idle : IsIdleProducer m
+    pub put : m.0.put ≡ items
 
-  -- what the consumer found: the next item's cell is out with it, or no item waits, or the buffer is worn out
+  -- the empty cell of the next item is out with the producer, and these items were put
+  pub record HasRoom (slots cell : ℕ) (items : List T) (m : Mine T) : Type 0 where
+    pub role : m.0.role ≡ Producer
+    pub busy : m.0.holds ≡ true
+    pub out : m.1 ≡ (cell, None) ∷ []
+    pub place : cell ≡ length m.0.put % slots
+    pub put : m.0.put ≡ items
+
+  -- What the producer found: the next cell is out with it; or every cell has an item, as far as it has seen items taken; or
+  -- the buffer is worn out
+  abbrev pub Reached : ℕ → List T → Reach → Mine T → Type 0
+  Reached slots put (Room cell) m = HasRoom slots cell put m
+  Reached slots put (Full out) m = HasPut put m × (m.0.taken + slots ≤ length put) × (length put < 2 ^ 62)
+  Reached slots put WornOut m = HasPut put m × (2 ^ 62 ≤ length put)
+
+  -- What the consumer found: the next item's cell is out with it; or it has taken all that was put; or the buffer is worn
+  -- out
   abbrev pub Looked : ℕ → Mine T → Found → Mine T → Type 0
   Looked slots m (Item cell) m' = Grabs slots m m' × (cell ≡ m.0.taken % slots)
-  Looked slots m (Empty count) m' = m' ≡ m
+  Looked slots m (Empty count) m' = (m' ≡ m) × (length m.0.put ≤ m.0.taken) × (m.0.taken < 2 ^ 62)
   Looked slots m Spent m' = (m' ≡ m) × (2 ^ 62 ≤ m.0.taken)

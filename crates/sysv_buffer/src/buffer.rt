@@ -1,6 +1,6 @@
 //! Buffers of one producer and one consumer.
 ghost use Rattle.std.specs.Prelude.{◌≡◌, ◌^◌, ◌<◌, ◌≤◌, ◌⊎◌, ◌↔◌, [], ◌∷◌, ◌++◌, length, IfOk, IfErr, OnOk, OnErr, IsErrOf};
-ghost use Rattle.sysv_buffer.specs.Refusals.{HandsBack};
+ghost use Rattle.sysv_buffer.specs.Refusals.{HandsBack, FindsNone};
 ghost use Rattle.sysv_buffer.specs.declared.buffer.TheConstants.{MAX_CELLS};
 
 use crate::board::{Board, IN, OUT, lay};
@@ -41,7 +41,7 @@ impl<T: Drop> OneBuffer<T> {
         alloc: Global,
         cells: usize,
     ) -> Result<(OneBuffer<T>, Producer<T>, Consumer<T>), OpenRefused>
-        ensures ok { IfOk result (λ o. (o.0.room ≡ cells) × (o.1 ≡ record { buffer = o.0; put = [] }) × (o.2 ≡ record { buffer = o.0; taken = [] })) }
+        ensures ok { IfOk result (λ o. (o.0.room ≡ cells) × (o.1 ≡ record { buffer = o.0; put = []; gone = 0 }) × (o.2 ≡ record { buffer = o.0; taken = []; seen = [] })) }
         ensures bad_size { IsErrOf result OpenRefused.BadSize ↔ ((cells < 1) ⊎ (MAX_CELLS < cells)) }
     {
         if cells < 1 || cells > MAX_CELLS {
@@ -66,7 +66,7 @@ impl<T: Drop> OneBuffer<T> {
         requires { end.old.buffer ≡ self.now }
         ensures buffer { end.new.buffer ≡ self.now }
         ensures ok { OnOk result (end.new.put ≡ end.old.put ++ item ∷ []) }
-        ensures err { IfErr result (λ e. HandsBack item end.old.put e × (end.new.put ≡ end.old.put)) }
+        ensures err { IfErr result (λ e. HandsBack item end.new e × (end.new.put ≡ end.old.put)) }
     {
         match self.reach(&mut end.token) {
             Reach::Room(cell) => {
@@ -100,8 +100,7 @@ impl<T: Drop> OneBuffer<T> {
         requires { end.old.buffer ≡ self.now }
         ensures buffer { end.new.buffer ≡ self.now }
         ensures ok { IfOk result (λ item. end.new.taken ≡ end.old.taken ++ item ∷ []) }
-        ensures err { OnErr result (end.new.taken ≡ end.old.taken) }
-        ensures worn { IsErrOf result TakeRefused.Worn → 2 ^ 62 ≤ length end.old.taken }
+        ensures err { IfErr result (λ e. FindsNone end.new e × (end.new.taken ≡ end.old.taken)) }
     {
         match self.look(&mut end.token) {
             Found::Item(cell) => {

@@ -1,8 +1,6 @@
 //! The parts of a call, each of which makes some steps on the table.
-ghost use Rattle.std.specs.Prelude.{◌≡◌, ℕ, ◌+◌, ◌%◌, ◌<◌, ◌≤◌, true, false, List, [], ◌∷◌, ◌++◌, length, Some, None, IfSome, IfNone};
-ghost use Rattle.sysv_buffer.specs.Steps.{holding};
-ghost use Rattle.sysv_buffer.specs.Turns.{IsOf, IsSame, IsIdleProducer, IsIdleConsumer, Reached, Looked};
-ghost use Rattle.sysv_buffer.specs.declared.turns.Reach.TheVariants.{Room, WornOut};
+ghost use Rattle.std.specs.Prelude.{◌≡◌, ℕ, ◌+◌, ◌%◌, ◌^◌, ◌<◌, ◌≤◌, true, false, List, [], ◌∷◌, ◌++◌, length, Some, None, IfSome, IfNone};
+ghost use Rattle.sysv_buffer.specs.Turns.{IsOf, IsSame, HasPut, HasRoom, IsIdleProducer, IsIdleConsumer, Reached, Looked};
 ghost use Rattle.sysv_buffer.specs.declared.turns.Found.TheVariants.{Item, Spent};
 ghost use Rattle.sysv_buffer.specs.declared.view.Role.TheVariants.{Producer, Consumer};
 
@@ -47,7 +45,7 @@ impl<T> OneBuffer<T> {
         requires table { IsOf self.now token.old }
         requires idle { IsIdleProducer token.old.me }
         ensures same { IsSame token.old token.new }
-        ensures reached { Reached self.now.room token.old.me result token.new.me }
+        ensures reached { Reached self.now.room token.old.me.0.put result token.new.me }
     {
         let count = self.table.shared.load::<CountingIn>(token, IN);
         if count >= LIMIT {
@@ -119,7 +117,7 @@ impl<T> OneBuffer<T> {
         requires table { IsOf self.now token.old }
         requires idle { IsIdleProducer token.old.me }
         ensures same { IsSame token.old token.new }
-        ensures reached { Reached self.now.room token.old.me result token.new.me }
+        ensures reached { Reached self.now.room token.old.me.0.put result token.new.me }
     {
         let mut found = self.reach(token);
         for _ in 1..SPINS {
@@ -137,8 +135,8 @@ impl<T> OneBuffer<T> {
         requires table { IsOf self.now token.old }
         requires idle { IsIdleProducer token.old.me }
         ensures same { IsSame token.old token.new }
-        ensures room { IfSome result (λ cell. Reached self.now.room token.old.me (Room cell) token.new.me) }
-        ensures worn { IfNone result (Reached self.now.room token.old.me WornOut token.new.me) }
+        ensures room { IfSome result (λ cell. HasRoom self.now.room cell token.old.me.0.put token.new.me) }
+        ensures worn { IfNone result (HasPut token.old.me.0.put token.new.me × (2 ^ 62 ≤ length token.old.me.0.put)) }
     {
         for _ in rt.forever() {
             match self.spin_room(token) {

@@ -16,7 +16,7 @@ pub struct View<T> {
     pub role: Role,
     /// What was put, all of it with the producer, and as far as it has seen with the consumer.
     pub put: LinkedList<T>,
-    /// How many items the consumer has taken.
+    /// How many items were taken, all of them with the consumer, and as far as it has seen with the producer.
     pub taken: u64,
     /// Whether a cell is out with this end.
     pub holds: bool,

@@ -1,5 +1,5 @@
 -- The threads that run, one more and one fewer, and what is gathered of them.
-use Rattle.std.proofs.Common.{◌≡◌, ℕ, suc, ◌+◌, ◌<◌, ◌&&◌, Bool, false, true, List, [], ◌∷◌, ◌++◌, length, map, reverse, refl, sym, ap, ◌∙◌, subst, arith, length-append, append_assoc}
+use Rattle.std.proofs.Common.{◌≡◌, ℕ, suc, ◌+◌, ◌<◌, ◌&&◌, ◌⊎◌, inl, inr, ⊎_elim, Bool, false, true, List, [], ◌∷◌, ◌++◌, length, map, reverse, refl, sym, ap, ◌∙◌, subst, arith, length-append, append_assoc}
 use Rattle.std.specs.Prelude.{min, ◌^◌, ◌-◌}
 use Rattle.std.specs.List.{All, FoldsTo, flat_map, slice_index_or}
 use Rattle.std.proofs.lemmas.List.{append-nil, length-reverse, map-append, reverse-append, reverse-reverse, get_or_append_left}
@@ -80,6 +80,11 @@ module _ {W T J : Type 0} (job : J) (buffer : Buffered) where
   none_left [] hs on is = refl
   none_left (w ∷ left) hs on is = let long = on_length (w ∷ left) hs on in let none = ap length is in absurd (omega arith)
 
+-- of two of which not both are so, one is not
+either_false : (a b : Bool) → (a && b) ≡ false → (a ≡ false) ⊎ (b ≡ false)
+either_false true b is = inr is
+either_false false b is = inl refl
+
 both_true : (a b : Bool) → (a && b) ≡ true → (a ≡ true) × (b ≡ true)
 both_true true true is = (refl, refl)
 both_true true false is = cc
@@ -128,6 +133,10 @@ module _ {W T : Type 0} where
               let a = g.count t.0 in
               let b = feeds_of_worker d.items end t.1 in
               omega (arith, length-append g.feeds own, length-append parts (part ∷ []));
+          worn = λ is. ⊎_elim
+              (λ one. let far = g.worn one in let long = ap length j.begins_one.1 ∙ length-append h.seen j.begins_one.0 in omega arith)
+              (λ two. let far = d.worn two in let low = j.gone_two in omega arith)
+              (either_false ended end (sym tally.1 ∙ is));
           total = let a = g.total in let b = d.count in let t = tally.0 in omega arith;
         },
       )

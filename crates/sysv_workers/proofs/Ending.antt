@@ -1,6 +1,7 @@
 -- What is known of a run once all workers have ended.
-use Rattle.std.proofs.Common.{◌≡◌, ◌⊎◌, ⊎_elim, ℕ, ◌+◌, ◌≤◌, true, Bool, Option, Some, List, [], ◌∷◌, ◌++◌, length, map, refl, sym, ap, ◌∙◌, subst, arith, length-append}
-use Rattle.std.specs.Prelude.{min, ◌^◌, ◌-◌, IfSome}
+use Rattle.std.proofs.Common.{◌≡◌, ◌≢◌, ◌⊎◌, inl, inr, ⊎_elim, ℕ, ◌+◌, ◌≤◌, true, false, Bool, Option, Some, None, List, [], ◌∷◌, ◌++◌, length, map, refl, sym, ap, ◌∙◌, subst, arith, length-append}
+use Rattle.std.specs.Prelude.{min, ◌^◌, ◌-◌, IfSome, IfNone}
+use mathlib.Core.Bool.{true≢false}
 use Rattle.std.specs.List.{All, FoldsTo, flat_map}
 use Rattle.std.specs.List.Sorted.{IsPermutation}
 use Rattle.std.proofs.lemmas.List.{append-nil, map-append}
@@ -10,24 +11,28 @@ use Rattle.sysv_workers.specs.declared.feed.Feed.{Feed}
 use Rattle.sysv_workers.specs.Doing.{Gathered}
 use Rattle.sysv_workers.specs.Feeding.{counted, Reads, items_in, HasFed}
 use Rattle.sysv_workers.specs.Parts.{Part, Leads}
+use Rattle.sysv_workers.specs.Causes.{Told, HasCause}
 use Rattle.sysv_workers.specs.Running.{GivesBack, LeavesSource, Ends, Fails}
 use Rattle.sysv_workers.specs.Sources.{GivesAll}
 use Rattle.sysv_workers.specs.declared.refusals.WorkersFault.{WorkersFault}
-use Rattle.sysv_workers.specs.declared.refusals.WorkersFault.TheVariants.{BadCount, Thread, Worn, Missed}
-use Rattle.sysv_workers.proofs.Feeds.{reads_longer, reads_length}
+use Rattle.sysv_workers.specs.declared.refusals.WorkersFault.TheVariants.{BadCount, NoMemory, Thread, Worn, Missed}
+use Rattle.sysv_workers.proofs.Feeds.{reads_longer, reads_length, looks_longer}
 use Rattle.sysv_workers.proofs.Crewing.{map_length}
 use Rattle.sysv_workers.proofs.Dealing.{apart, all_dealt, items_fed}
 
 pub at_some : {A : Type 0} (P : A → Type 0) (o : Option A) (x : A) → o ≡ Some x → IfSome o P → P x
 at_some P o x is p = subst (λ (r : Option _). IfSome r P) is p
 
+pub at_none : {A : Type 0} (P : Type 0) (o : Option A) → o ≡ None → IfNone o P → P
+at_none P o is p = subst (λ (r : Option _). IfNone r P) is p
+
 module _ {W T : Type 0} (runs : W → T → W → Type 0) (fits : W → Type 0) where
   RanBy : Part W T → Type 0
   RanBy p = FoldsTo runs p.before p.items p.after
 
   -- no worker has ended yet
-  pub none_gathered : (others : List W) (h : Holding (Feed T)) (states : List W) (ran : ℕ) (ended : Bool) → h.takes ≡ [] → states ≡ others → All fits others → ran ≡ 0 → Gathered runs fits others [] h states ran ended
-  none_gathered others h states ran ended none same all zero = record {
+  pub none_gathered : (others : List W) (h : Holding (Feed T)) (states : List W) (ran : ℕ) (ended : Bool) → h.takes ≡ [] → states ≡ others → All fits others → ran ≡ 0 → ended ≡ true → Gathered runs fits others [] h states ran ended
+  none_gathered others h states ran ended none same all zero not = record {
     left = same ∙ sym (append-nil others);
     folds = λ k d low. absurd (omega arith);
     still = subst (All fits) (sym same) all;
@@ -35,6 +40,7 @@ module _ {W T : Type 0} (runs : W → T → W → Type 0) (fits : W → Type 0) 
     reads = subst (λ (ks : List ℕ). Reads h.seen ks []) (sym none) tt;
     items = refl;
     count = λ _. refl;
+    worn = λ e. absurd (true≢false (sym not ∙ e));
     total = zero;
   }
 
@@ -48,6 +54,7 @@ module _ {W T : Type 0} (runs : W → T → W → Type 0) (fits : W → Type 0) 
     reads = subst (λ (ks : List ℕ). Reads h'.seen ks g.feeds) (sym l.takes) (subst (λ (m : List (Feed T)). Reads m h.takes g.feeds) (sym l.seen) (reads_longer h.seen l.more h.takes g.feeds g.reads));
     items = g.items;
     count = g.count;
+    worn = λ e. let far = g.worn e in let low = looks_longer h h' l in omega arith;
     total = g.total;
   }
 
@@ -103,9 +110,14 @@ module _ {W T : Type 0} (runs : W → T → W → Type 0) (fits : W → Type 0) 
   rans [] = λ k d low. absurd (omega arith)
   rans (w ∷ ws) = All-cons RanBy (still_one w) (map still_one ws) refl (rans ws)
 
+  flats : (ws : List W) (ps : List (Part W T)) → flat_map (λ (p : Part W T). p.items) (map still_one ws ++ ps) ≡ flat_map (λ (p : Part W T). p.items) ps
+  unfolding still_one
+  flats [] ps = refl
+  flats (w ∷ ws) ps = flats ws ps
+
   -- the parts of those that were started, after those that were not
   pub leads : (others : List W) (parts : List (Part W T)) (h : Holding (Feed T)) (states : List W) (ran : ℕ) (ended : Bool) (rest : List W) → Gathered runs fits others parts h states ran ended → map (λ p. p.before) parts ≡ rest
-      → (all : List (Part W T)) × Leads runs (others ++ rest) all states
+      → (all : List (Part W T)) × Leads runs (others ++ rest) all states × (length (flat_map (λ p. p.items) all) ≡ length (flat_map (λ p. p.items) parts))
   unfolding RanBy
   leads others parts h states ran ended rest g began = (
     map still_one others ++ parts,
@@ -114,32 +126,77 @@ module _ {W T : Type 0} (runs : W → T → W → Type 0) (fits : W → Type 0) 
       left = map-append (λ (p : Part W T). p.after) (map still_one others) parts ∙ (ap (λ l. l ++ map (λ (p : Part W T). p.after) parts) (afters others) ∙ sym g.left);
       ran = All-append RanBy (map still_one others) parts (rans others) g.folds;
     },
+    ap length (flats others parts),
   )
 
   -- why a run is refused, once threads were started
-  pub fails_early : {S : Type 0} (before after : List W) (source : S) (why : WorkersFault) → (why ≡ Thread) ⊎ (why ≡ Missed) → GivesBack {T = T} runs before why after → All fits after → Fails {T = T} runs fits before source why after source
-  fails_early before after source why cause back all = record {
+  pub fails_early : {S : Type 0} (gives : S → Option T → S → Type 0) (before after : List W) (source : S) (why : WorkersFault) → (why ≡ Thread) ⊎ (why ≡ Missed) → GivesBack {T = T} runs before why after → All fits after → Fails {T = T} runs fits gives before source why after source
+  fails_early gives before after source why cause back all = record {
     back = back;
     still = all;
-    asked = ⊎_elim (λ (e : why ≡ Thread). subst (λ (y : WorkersFault). LeavesSource source y source) (sym e) refl) (λ (e : why ≡ Missed). subst (λ (y : WorkersFault). LeavesSource source y source) (sym e) tt) cause;
+    asked = ⊎_elim (λ (e : why ≡ Thread). subst (λ (y : WorkersFault). LeavesSource gives source y source) (sym e) refl) (λ (e : why ≡ Missed). subst (λ (y : WorkersFault). LeavesSource gives source y source) (sym e) ([], inr (refl, refl))) cause;
     count = λ is. ⊎_elim (λ (e : why ≡ Thread). let z : Thread ≡ BadCount = sym e ∙ is in cc) (λ (e : why ≡ Missed). let z : Missed ≡ BadCount = sym e ∙ is in cc) cause;
+    memory = λ is. ⊎_elim (λ (e : why ≡ Thread). let z : Thread ≡ NoMemory = sym e ∙ is in cc) (λ (e : why ≡ Missed). let z : Missed ≡ NoMemory = sym e ∙ is in cc) cause;
   }
 
-  pub fails_late : {S : Type 0} (before after : List W) (source source' : S) (why : WorkersFault) → (why ≡ Worn) ⊎ (why ≡ Missed) → (parts : List (Part W T)) × Leads runs before parts after → All fits after → Fails {T = T} runs fits before source why after source'
-  fails_late before after source source' why cause led all = record {
-    back = ⊎_elim (λ (e : why ≡ Worn). subst (λ (y : WorkersFault). GivesBack {T = T} runs before y after) (sym e) led) (λ (e : why ≡ Missed). subst (λ (y : WorkersFault). GivesBack {T = T} runs before y after) (sym e) led) cause;
+  pub fails_late : {S : Type 0} (gives : S → Option T → S → Type 0) (before after : List W) (source source' : S) (why : WorkersFault) → (why ≡ Worn) ⊎ ((why ≡ Missed) × ((given : List T) × GivesAll gives source given source')) → (parts : List (Part W T)) × Leads runs before parts after → All fits after → Fails {T = T} runs fits gives before source why after source'
+  fails_late gives before after source source' why cause led all = record {
+    back = ⊎_elim (λ (e : why ≡ Worn). subst (λ (y : WorkersFault). GivesBack {T = T} runs before y after) (sym e) led) (λ e. subst (λ (y : WorkersFault). GivesBack {T = T} runs before y after) (sym e.0) led) cause;
     still = all;
-    asked = ⊎_elim (λ (e : why ≡ Worn). subst (λ (y : WorkersFault). LeavesSource source y source') (sym e) tt) (λ (e : why ≡ Missed). subst (λ (y : WorkersFault). LeavesSource source y source') (sym e) tt) cause;
-    count = λ is. ⊎_elim (λ (e : why ≡ Worn). let z : Worn ≡ BadCount = sym e ∙ is in cc) (λ (e : why ≡ Missed). let z : Missed ≡ BadCount = sym e ∙ is in cc) cause;
+    asked = ⊎_elim (λ (e : why ≡ Worn). subst (λ (y : WorkersFault). LeavesSource gives source y source') (sym e) tt) (λ e. subst (λ (y : WorkersFault). LeavesSource gives source y source') (sym e.0) (e.1.0, inl e.1.1)) cause;
+    count = λ is. ⊎_elim (λ (e : why ≡ Worn). let z : Worn ≡ BadCount = sym e ∙ is in cc) (λ e. let z : Missed ≡ BadCount = sym e.0 ∙ is in cc) cause;
+    memory = λ is. ⊎_elim (λ (e : why ≡ Worn). let z : Worn ≡ NoMemory = sym e ∙ is in cc) (λ e. let z : Missed ≡ NoMemory = sym e.0 ∙ is in cc) cause;
   }
+
+  module _ {S : Type 0} (gives : S → Option T → S → Type 0) (before after : List W) (source source' : S) (seat : Holding (Feed T)) (marks : ℕ) where
+    -- the cause, if a thread was refused
+    pub cause_early : (why : WorkersFault) → source' ≡ source → (why ≡ Thread) ⊎ (why ≡ Missed) → (why ≡ Missed → (parts : List (Part W T)) × Leads runs before parts after × (1 ≤ length (flat_map (λ p. p.items) parts)))
+        → HasCause runs gives before source marks why after source' seat
+    cause_early why still which ran = ⊎_elim
+        (λ e. subst (λ (y : WorkersFault). HasCause runs gives before source marks y after source' seat) (sym e) tt)
+        (λ e. let m = ran e in let low = m.2 in subst (λ (y : WorkersFault). HasCause runs gives before source marks y after source' seat) (sym e) (record { parts = m.0; given = []; leads = m.1; gave = inr (refl, still); differs = inl (λ q. omega arith) }))
+        which
+
+    -- the cause, once all workers have ended
+    pub cause_late : (why : WorkersFault) (items : Option ℕ) (marked ended : Bool) (ran put m : ℕ) (parts : List (Part W T)) → m ≡ marks → Told items marked ended ran put m why
+        → (items ≡ None → 2 ^ 62 ≤ length seat.seen) → (marked ≡ false → 2 ^ 62 ≤ length seat.seen) → (ended ≡ false → 2 ^ 62 ≤ length seat.seen)
+        → ((n : ℕ) → items ≡ Some n → (given : List T) × GivesAll gives source given source' × (n ≡ counted (length given)))
+        → put ≡ length seat.seen → ran ≡ counted (length (flat_map (λ p. p.items) parts)) → Leads runs before parts after
+        → HasCause runs gives before source marks why after source' seat
+    cause_late BadCount items marked ended ran put m parts same told a b c gave is all led = told
+    cause_late NoMemory items marked ended ran put m parts same told a b c gave is all led = told
+    cause_late Thread items marked ended ran put m parts same told a b c gave is all led = absurd told
+    cause_late Worn items marked ended ran put m parts same told a b c gave is all led = ⊎_elim a (λ t. ⊎_elim b c t) told
+    cause_late Missed items marked ended ran put m parts same told a b c gave is all led =
+        let s = gave told.0 told.1 in
+        let n = s.2 in
+        record {
+          parts = parts;
+          given = s.0;
+          leads = led;
+          gave = inl s.1;
+          differs = ⊎_elim (λ d. inl (λ e. d (omega arith))) (λ d. inr (λ e. d (omega arith))) told.2;
+        }
+
+    -- and what is known of the source then
+    pub late : (why : WorkersFault) (items : Option ℕ) (marked ended : Bool) (ran put m : ℕ) → Told items marked ended ran put m why
+        → ((n : ℕ) → items ≡ Some n → (given : List T) × GivesAll gives source given source' × (n ≡ counted (length given)))
+        → (why ≡ Worn) ⊎ ((why ≡ Missed) × ((given : List T) × GivesAll gives source given source'))
+    late BadCount items marked ended ran put m told gave = absurd told
+    late NoMemory items marked ended ran put m told gave = absurd told
+    late Thread items marked ended ran put m told gave = absurd told
+    late Worn items marked ended ran put m told gave = inl refl
+    late Missed items marked ended ran put m told gave = let s = gave told.0 told.1 in inr (refl, (s.0, s.1))
 
   -- where a thread could not be started
   pub gives_up : (others rest : List W) (state : W) (part : Part W T) (more : List (Part W T)) (h : Holding (Feed T)) (states : List W) (ran : ℕ) (ended : Bool)
       → part.before ≡ state → map (λ p. p.before) more ≡ rest → Gathered runs fits others (part ∷ more) h states ran ended
-      → (ran ≡ 0 → states ≡ others ++ state ∷ rest) × ((all : List (Part W T)) × Leads runs (others ++ state ∷ rest) all states)
+      → (ran ≡ 0 → states ≡ others ++ state ∷ rest) × ((all : List (Part W T)) × Leads runs (others ++ state ∷ rest) all states × (ran ≢ 0 → 1 ≤ length (flat_map (λ p. p.items) all)))
   gives_up others rest state part more h states ran ended one two g =
       let began : map (λ (p : Part W T). p.before) (part ∷ more) ≡ state ∷ rest = ap (λ w. w ∷ map (λ (p : Part W T). p.before) more) one ∙ ap (λ l. state ∷ l) two in
-      ((λ zero. all_unchanged others (part ∷ more) h states ran ended (state ∷ rest) g zero began), leads others (part ∷ more) h states ran ended (state ∷ rest) g began)
+      let led = leads others (part ∷ more) h states ran ended (state ∷ rest) g began in
+      let total = g.total in
+      ((λ zero. all_unchanged others (part ∷ more) h states ran ended (state ∷ rest) g zero began), (led.0, led.1, λ some. let long = led.2 in omega (arith, some)))
 
   -- all items were run
   pub ends : {S : Type 0} (gives : S → Option T → S → Type 0) (before after : List W) (source source' : S) (parts : List (Part W T)) (given : List T) (h : Holding (Feed T)) (ran : ℕ) (ended : Bool) (n put : ℕ)

@@ -1,9 +1,9 @@
 -- How what was put grows, and what is read of it.
-use Rattle.std.proofs.Common.{◌≡◌, ℕ, zero, suc, ◌+◌, List, [], ◌∷◌, ◌++◌, length, map, replicate, refl, sym, ap, ◌∙◌, arith, add-one, length-append, append_assoc}
+use Rattle.std.proofs.Common.{◌≡◌, ℕ, zero, suc, ◌+◌, ◌≤◌, List, [], ◌∷◌, ◌++◌, length, map, replicate, refl, sym, ap, ◌∙◌, arith, add-one, length-append, append_assoc}
 use Rattle.std.proofs.lemmas.List.{append-nil, map-append}
 use mathlib.Core.Option.{some, some-ne-none}
 use lib.ListN.{get_elem?}
-use Rattle.sysv_buffer.specs.ManyEnds.{Holding, Puts}
+use Rattle.sysv_buffer.specs.ManyEnds.{Holding, Puts, Looks}
 use Rattle.sysv_workers.specs.declared.feed.Feed.{Feed}
 use Rattle.sysv_workers.specs.declared.feed.Feed.TheVariants.{Item, End}
 use Rattle.sysv_workers.specs.Feeding.{Reads, fed, HasFed}
@@ -49,6 +49,16 @@ module _ {T : Type 0} where
   mark_at_end xs n =
       ap (λ l. l ++ End ∷ []) (append-nil (fed xs n))
       ∙ (append_assoc (map Item xs) (replicate n End) (End ∷ []) ∙ ap (λ l. map Item xs ++ l) (replicate_push n End ∙ ap (λ k. replicate k End) (sym (add-one n))))
+
+  -- a put and a look leave the seat with no less seen
+  pub puts_longer : (f : Feed T) (h h' : Holding (Feed T)) → Puts f h h' → length h.seen ≤ length h'.seen
+  puts_longer f h h' p = let long = ap length p.seen ∙ length-append (h.seen ++ p.others) (f ∷ []) in let before = length-append h.seen p.others in omega arith
+
+  pub grown_longer : (h h' : Holding (Feed T)) (more : List (Feed T)) → h'.seen ≡ h.seen ++ more → length h.seen ≤ length h'.seen
+  grown_longer h h' more is = let long = ap length is ∙ length-append h.seen more in omega arith
+
+  pub looks_longer : (h h' : Holding (Feed T)) → Looks h h' → length h.seen ≤ length h'.seen
+  looks_longer h h' l = let long = ap length l.seen ∙ length-append h.seen l.more in omega arith
 
   -- one more item was put
   pub fed_item : (xs : List T) (x : T) (h h' : Holding (Feed T)) → HasFed xs 0 h → Puts (Item x) h h' → HasFed (xs ++ x ∷ []) 0 h'

@@ -1,5 +1,5 @@
 -- What one worker does, and what is known once some workers have ended.
-use Rattle.std.specs.Prelude.{◌≡◌, ℕ, ◌+◌, Bool, true, List, ◌++◌, length, map}
+use Rattle.std.specs.Prelude.{◌≡◌, ℕ, ◌+◌, ◌^◌, ◌≤◌, Bool, true, false, List, ◌++◌, length, map}
 use Rattle.std.specs.List.{All, FoldsTo, flat_map}
 use Rattle.sysv_buffer.specs.Ends.{Buffered}
 use Rattle.sysv_buffer.specs.ManyEnds.{Holding}
@@ -9,8 +9,17 @@ use Rattle.sysv_workers.specs.Feeding.{counted, Reads, items_in, mark}
 use Rattle.sysv_workers.specs.Parts.{Part}
 
 module _ {W T : Type 0} where
-  -- With its seat a worker took these items, and then an end mark where it has ended. The job's runs over the items led
-  -- from one state to the other
+  -- With its seat a worker took these items so far. The job's runs over the items led from one state to the other
+  pub record Doing (runs : W → T → W → Type 0) (fits : W → Type 0) (buffer : Buffered) (before after : W) (seat : Holding (Feed T)) (ran : ℕ) : Type 0 where
+    pub items : List T
+    pub folds : FoldsTo runs before items after
+    pub still : fits after
+    pub place : seat.buffer ≡ buffer
+    pub reads : Reads seat.seen seat.takes (map Item items)
+    pub count : ran ≡ counted (length items)
+
+  -- With its seat a worker took these items, and then an end mark if it has ended. If it has not, it has seen that the
+  -- buffer is worn out. The job's runs over the items led from one state to the other
   pub record Did (runs : W → T → W → Type 0) (fits : W → Type 0) (buffer : Buffered) (before : W) (ended : Bool) (after : W) (seat : Holding (Feed T)) (ran : ℕ) : Type 0 where
     pub items : List T
     pub folds : FoldsTo runs before items after
@@ -18,6 +27,7 @@ module _ {W T : Type 0} where
     pub place : seat.buffer ≡ buffer
     pub reads : Reads seat.seen seat.takes (map Item items ++ mark ended)
     pub count : ran ≡ counted (length items)
+    pub worn : ended ≡ false → 2 ^ 62 ≤ seat.gone
 
   -- Workers have ended whose parts are these. The seat has taken in their seats, and their states lie after the others
   pub record Gathered (runs : W → T → W → Type 0) (fits : W → Type 0) (others : List W) (parts : List (Part W T)) (seat : Holding (Feed T)) (states : List W) (ran : ℕ) (ended : Bool) : Type 0 where
@@ -28,4 +38,5 @@ module _ {W T : Type 0} where
     pub reads : Reads seat.seen seat.takes feeds
     pub items : items_in feeds ≡ flat_map (λ p. p.items) parts
     pub count : ended ≡ true → length feeds ≡ length (flat_map (λ p. p.items) parts) + length parts
+    pub worn : ended ≡ false → 2 ^ 62 ≤ length seat.seen
     pub total : ran ≡ counted (length (flat_map (λ p. p.items) parts))

@@ -2,7 +2,7 @@
 use Rattle.std.specs.Prelude.{◌≡◌, ◌≢◌, List, Option}
 use Rattle.std.specs.List.{All}
 use Rattle.sysv_workers.specs.Parts.{Part, Leads, AreDealt}
-use Rattle.sysv_workers.specs.Sources.{GivesAll}
+use Rattle.sysv_workers.specs.Sources.{GivesAll, Gave}
 use Rattle.sysv_workers.specs.declared.refusals.WorkersFault.{WorkersFault}
 use Rattle.sysv_workers.specs.declared.refusals.WorkersFault.TheVariants.{BadCount, NoMemory, Thread, Worn, Missed}
 
@@ -24,13 +24,14 @@ module _ {W T : Type 0} where
   GivesBack runs before Worn after = (parts : List (Part W T)) × Leads runs before parts after
   GivesBack runs before Missed after = (parts : List (Part W T)) × Leads runs before parts after
 
--- where no item could be run, nothing was taken of the source
-abbrev pub LeavesSource : {S : Type 0} → S → WorkersFault → S → Type 0
-LeavesSource source BadCount source' = source' ≡ source
-LeavesSource source NoMemory source' = source' ≡ source
-LeavesSource source Thread source' = source' ≡ source
-LeavesSource source Worn source' = Unit {0}
-LeavesSource source Missed source' = Unit {0}
+-- If no item could be run, nothing was taken of the source. Items are missed only if the source is at its end, or if it
+-- was not read
+abbrev pub LeavesSource : {S T : Type 0} → (S → Option T → S → Type 0) → S → WorkersFault → S → Type 0
+LeavesSource gives source BadCount source' = source' ≡ source
+LeavesSource gives source NoMemory source' = source' ≡ source
+LeavesSource gives source Thread source' = source' ≡ source
+LeavesSource gives source Worn source' = Unit {0}
+LeavesSource {T = T} gives source Missed source' = (given : List T) × Gave gives source given source'
 
 module _ {W T S : Type 0} where
   -- the answer of a run that had as many states as it may
@@ -39,8 +40,9 @@ module _ {W T S : Type 0} where
     pub still : All fits after
 
   -- and where it is refused
-  pub record Fails (runs : W → T → W → Type 0) (fits : W → Type 0) (before : List W) (source : S) (why : WorkersFault) (after : List W) (source' : S) : Type 0 where
+  pub record Fails (runs : W → T → W → Type 0) (fits : W → Type 0) (gives : S → Option T → S → Type 0) (before : List W) (source : S) (why : WorkersFault) (after : List W) (source' : S) : Type 0 where
     pub back : GivesBack runs before why after
     pub still : All fits after
-    pub asked : LeavesSource source why source'
+    pub asked : LeavesSource gives source why source'
     pub count : why ≢ BadCount
+    pub memory : why ≢ NoMemory

@@ -1,5 +1,5 @@
 -- What a source of items gives.
-use Rattle.std.specs.Prelude.{List, Option, Some, None}
+use Rattle.std.specs.Prelude.{◌≡◌, ◌⊎◌, List, [], Option, Some, None}
 use Rattle.std.specs.List.{FoldsTo}
 
 -- the source gave these items, one after the other, and then said that it has no more
@@ -7,3 +7,7 @@ pub record GivesAll {S T : Type 0} (gives : S → Option T → S → Type 0) (be
   pub last : S
   pub gave : FoldsTo (λ s x s'. gives s (Some x) s') before items last
   pub ended : gives last None after
+
+-- the source gave these items and is at its end, or it was not read and gave none
+abbrev pub Gave : {S T : Type 0} → (S → Option T → S → Type 0) → S → List T → S → Type 0
+Gave gives before items after = GivesAll gives before items after ⊎ ((items ≡ []) × (after ≡ before))

@@ -1,5 +1,5 @@
 //! The buffer's side of the source.
-ghost use Rattle.std.specs.Prelude.{◌≡◌, ℕ, ◌+◌, true, List, length, IfSome};
+ghost use Rattle.std.specs.Prelude.{◌≡◌, ℕ, ◌+◌, ◌^◌, ◌≤◌, true, false, List, length, IfSome, IfNone};
 ghost use Rattle.sysv_workers.specs.Feeding.{counted, HasFed};
 ghost use Rattle.sysv_workers.specs.Sources.{GivesAll};
 
@@ -26,6 +26,7 @@ pub(crate) fn put_all<T: Drop, S: Source<T>, R: Wait>(
     ensures buffer { seat.new.buffer ≡ buffer.now }
     ensures takes { seat.new.takes ≡ seat.old.takes }
     ensures gave { IfSome result (λ n. (given : List T) × GivesAll S.gives source.old given source.new × HasFed given 0 seat.new × (n ≡ counted (length given))) }
+    ensures worn { IfNone result (2 ^ 62 ≤ length seat.new.seen) }
 {
     let mut items = 0_u64;
     for _ in rt.forever() {
@@ -51,6 +52,8 @@ pub(crate) fn put_marks<T: Drop, R: Wait>(
     ensures buffer { seat.new.buffer ≡ buffer.now }
     ensures takes { seat.new.takes ≡ seat.old.takes }
     ensures marks { result ≡ true → (given : List T) → HasFed given 0 seat.old → HasFed given count seat.new }
+    ensures longer { length seat.old.seen ≤ length seat.new.seen }
+    ensures worn { result ≡ false → 2 ^ 62 ≤ length seat.new.seen }
 {
     for _ in 0..count {
         if buffer.put(rt, seat, Feed::End).is_err() {

@@ -1,10 +1,12 @@
 //! Runs of workers.
 ghost use Rattle.std.specs.Prelude.{◌≡◌, ◌+◌, ◌-◌, ◌^◌, ◌<◌, ◌≤◌, ◌⊎◌, ◌↔◌, ◌≢◌, true, min, List, [], ◌∷◌, ◌++◌, length, vec_len, vec_capacity, IfOk, IfErr, IfSome, IfNone, OnOk, Some};
-ghost use Rattle.std.specs.List.{All};
+ghost use Rattle.std.specs.List.{All, flat_map};
 ghost use Rattle.std.specs.Mem.{manually_drop_value};
 ghost use Rattle.std.specs.Thread.{IsSync};
 ghost use Rattle.sysv_workers.specs.Crews.{AreOn};
 ghost use Rattle.sysv_workers.specs.Doing.{Did};
+ghost use Rattle.sysv_workers.specs.Causes.{Told, HasCause};
+ghost use Rattle.sysv_workers.specs.Parts.{Part, Leads};
 ghost use Rattle.sysv_workers.specs.Running.{RunsAll, GivesBack, LeavesSource, Ends, Fails};
 ghost use Rattle.sysv_workers.specs.declared.workers.TheConstants.{MAX_WORKERS};
 
@@ -47,7 +49,7 @@ where
     ensures ok { IfOk result (λ after. RunsAll (J.runs job.now) S.gives states.items source.old after.items source.new) }
     ensures fits { IfOk result (λ after. All (J.fits job.now) after.items) }
     ensures err { IfErr result (λ e. GivesBack (J.runs job.now) states.items e.why e.states.items × All (J.fits job.now) e.states.items) }
-    ensures asked { IfErr result (λ e. LeavesSource source.old e.why source.new) }
+    ensures asked { IfErr result (λ e. LeavesSource S.gives source.old e.why source.new) }
 {
     let count = states.len();
     if count < 1 || count > MAX_WORKERS {
@@ -81,7 +83,7 @@ where
     requires handles { handles.items ≡ [] }
     requires room { (1 ≤ vec_len states) × (vec_len states ≤ MAX_WORKERS) × (vec_len states ≤ vec_capacity handles) }
     ensures ok { IfOk result (λ v. Ends (J.runs job.now) (J.fits job.now) S.gives states.items source.old v.items source.new) }
-    ensures err { IfErr result (λ e. Fails (J.runs job.now) (J.fits job.now) states.items source.old e.why e.states.items source.new) }
+    ensures err { IfErr result (λ e. Fails (J.runs job.now) (J.fits job.now) S.gives states.items source.old e.why e.states.items source.new) }
 {
     let kept = unsafe { ManuallyDrop::new_unchecked(states) };
     let (outcome, asked) = thread::scope(
@@ -91,10 +93,11 @@ where
             requires { IsSync R.row × (seat.buffer ≡ buffer.now) × (seat.takes ≡ []) × All (J.fits job.now) (manually_drop_value kept).items × (handles.items ≡ []) × (1 ≤ vec_len (manually_drop_value kept)) × (vec_len (manually_drop_value kept) ≤ MAX_WORKERS) × (vec_len (manually_drop_value kept) ≤ vec_capacity handles) }
             ensures source { result.1.ghost_name ≡ source.entry.ghost_name }
             ensures ok { IfOk result.0 (λ v. Ends (J.runs job.entry.now) (J.fits job.entry.now) S.gives (manually_drop_value kept).items source.entry.now v.items result.1.now) }
-            ensures err { IfErr result.0 (λ e. Fails (J.runs job.entry.now) (J.fits job.entry.now) (manually_drop_value kept).items source.entry.now e.why e.states.items result.1.now) }
+            ensures err { IfErr result.0 (λ e. Fails (J.runs job.entry.now) (J.fits job.entry.now) S.gives (manually_drop_value kept).items source.entry.now e.why e.states.items result.1.now) }
         {
             let states = ManuallyDrop::into_inner(kept);
-            let outcome = run_in(rt, scope, buffer, job, source, seat, states, handles);
+            let mut seat = seat;
+            let outcome = run_in(rt, scope, buffer, job, source, &mut seat, states, handles);
             (outcome, source)
         },
     );
@@ -122,26 +125,27 @@ fn run_in<
     buffer: &'s ManyBuffer<Feed<T>>,
     job: &'s J,
     source: &mut S,
-    mut seat: Seat<Feed<T>>,
+    seat: &mut Seat<Feed<T>>,
     mut states: Vec<W>,
     mut handles: Vec<Handle<W, T, J>>,
 ) -> Result<Vec<W>, WorkersRefused<W>>
-    requires seat { (seat.buffer ≡ buffer.now) × (seat.takes ≡ []) }
+    requires seat { (seat.old.buffer ≡ buffer.now) × (seat.old.takes ≡ []) }
     requires fits { All (J.fits job.now) states.items }
     requires handles { handles.items ≡ [] }
     requires room { (1 ≤ vec_len states) × (vec_len states ≤ MAX_WORKERS) × (vec_len states ≤ vec_capacity handles) }
     ensures ok { IfOk result (λ v. Ends (J.runs job.now) (J.fits job.now) S.gives states.items source.old v.items source.new) }
-    ensures err { IfErr result (λ e. Fails (J.runs job.now) (J.fits job.now) states.items source.old e.why e.states.items source.new) }
+    ensures err { IfErr result (λ e. Fails (J.runs job.now) (J.fits job.now) S.gives states.items source.old e.why e.states.items source.new) }
+    ensures cause { IfErr result (λ e. HasCause (J.runs job.now) S.gives states.items source.old (vec_len states) e.why e.states.items source.new seat.new) }
 {
     let count = states.len();
-    if let Some(done) = start_all(rt, scope, buffer, job, &mut seat, &mut states, &mut handles) {
+    if let Some(done) = start_all(rt, scope, buffer, job, seat, &mut states, &mut handles) {
         return Err(give_up(rt, buffer, seat, states, handles, done));
     }
-    let items = put_all(rt, buffer, &mut seat, source);
-    let marked = put_marks(rt, buffer, &mut seat, count);
+    let items = put_all(rt, buffer, seat, source);
+    let marked = put_marks(rt, buffer, seat, count);
     let mut tally = Tally::new();
-    join_all(rt, buffer, &mut seat, &mut states, &mut handles, &mut tally);
-    let put = buffer.put_count(&mut seat);
+    join_all(rt, buffer, seat, &mut states, &mut handles, &mut tally);
+    let put = buffer.put_count(seat);
     match fault(count as u64, items, marked, put, &tally) {
         None => Ok(states),
         Some(why) => Err(WorkersRefused { why, states }),
@@ -152,22 +156,23 @@ fn run_in<
 fn give_up<W, T: Drop, J: Job<W, T>, R: Threads>(
     rt: &R,
     buffer: &ManyBuffer<Feed<T>>,
-    mut seat: Seat<Feed<T>>,
+    seat: &mut Seat<Feed<T>>,
     mut states: Vec<W>,
     mut handles: Vec<Handle<W, T, J>>,
     done: Done<W, T>,
 ) -> WorkersRefused<W>
-    requires seat { (seat.buffer ≡ buffer.now) × (seat.takes ≡ []) }
+    requires seat { (seat.old.buffer ≡ buffer.now) × (seat.old.takes ≡ []) }
     requires theirs { done.seat.buffer ≡ buffer.now }
     requires on { (job : J) × (rest : List W) × AreOn job buffer.now rest handles.items }
     requires room { vec_len states + 1 + vec_len handles ≤ vec_capacity states }
     ensures back { (job : J) (state : W) (rest : List W) → AreOn job buffer.now rest handles.items → All (J.fits job) states.items → Did (J.runs job) (J.fits job) buffer.now state done.ended (manually_drop_value done.state) done.seat done.ran
-        → GivesBack (J.runs job) (states.items ++ state ∷ rest) result.why result.states.items × All (J.fits job) result.states.items }
+        → GivesBack (J.runs job) (states.items ++ state ∷ rest) result.why result.states.items × All (J.fits job) result.states.items
+        × (result.why ≡ WorkersFault.Missed → (parts : List (Part W T)) × Leads (J.runs job) (states.items ++ state ∷ rest) parts result.states.items × (1 ≤ length (flat_map (λ p. p.items) parts))) }
     ensures why { (result.why ≡ WorkersFault.Thread) ⊎ (result.why ≡ WorkersFault.Missed) }
 {
     let mut tally = Tally::new();
-    collect(buffer, &mut seat, &mut states, &mut tally, done);
-    join_all(rt, buffer, &mut seat, &mut states, &mut handles, &mut tally);
+    collect(buffer, seat, &mut states, &mut tally, done);
+    join_all(rt, buffer, seat, &mut states, &mut handles, &mut tally);
     let why = if tally.ran == 0 {
         WorkersFault::Thread
     } else {
@@ -185,7 +190,7 @@ fn fault(
     tally: &Tally,
 ) -> Option<WorkersFault>
     ensures none { IfNone result ((marked ≡ true) × (tally.now.ended ≡ true) × (items ≡ Some tally.now.ran) × (put ≡ min (tally.now.ran + marks) (2 ^ 64 - 1))) }
-    ensures some { IfSome result (λ why. (why ≡ WorkersFault.Worn) ⊎ (why ≡ WorkersFault.Missed)) }
+    ensures some { IfSome result (λ why. Told items marked tally.now.ended tally.now.ran put marks why) }
 {
     let Some(items) = items else {
         return Some(WorkersFault::Worn);

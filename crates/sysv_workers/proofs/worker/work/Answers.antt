@@ -9,4 +9,4 @@ pub returns-in-Ok-End : goal.returns-in-Ok-End
 returns-in-Ok-End g c = same_did _ _ _ _ _ _ _ _ _ _ _ _ c.left_by.ensures (ran_end _ _ _ _ _ _ _ _ _ c.loop.invariant.2 c.in-Ok-End.field-0-is c.in-Ok-End.ensures.ok c.take.ensures.buffer)
 
 pub returns-in-Err : goal.returns-in-Err
-returns-in-Err g c = same_did _ _ _ _ _ _ _ _ _ _ _ _ c.left_by-in-Err.ensures (ran_out _ _ _ _ _ _ _ _ c.loop.invariant.2 c.in-Err.ensures.worn.1 c.take.ensures.buffer)
+returns-in-Err g c = same_did _ _ _ _ _ _ _ _ _ _ _ _ c.left_by-in-Err.ensures (ran_out _ _ _ _ _ _ _ _ c.loop.invariant.2 c.in-Err.ensures.worn.1 c.take.ensures.buffer c.in-Err.ensures.worn.0)

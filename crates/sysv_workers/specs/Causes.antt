@@ -1,0 +1,38 @@
+-- Why a run is refused. The seat is the one that fed the workers, after all of them were joined: it has seen all that was
+-- put into the buffer, each item and each end mark.
+use Rattle.std.specs.Prelude.{◌≡◌, ◌≢◌, ◌⊎◌, ℕ, ◌+◌, ◌^◌, ◌≤◌, Bool, false, List, length, Option, Some, None}
+use Rattle.std.specs.List.{flat_map}
+use Rattle.sysv_buffer.specs.ManyEnds.{Holding}
+use Rattle.sysv_workers.specs.declared.feed.Feed.{Feed}
+use Rattle.sysv_workers.specs.Feeding.{counted}
+use Rattle.sysv_workers.specs.Parts.{Part, Leads}
+use Rattle.sysv_workers.specs.Sources.{Gave}
+use Rattle.sysv_workers.specs.declared.refusals.WorkersFault.{WorkersFault}
+use Rattle.sysv_workers.specs.declared.refusals.WorkersFault.TheVariants.{BadCount, NoMemory, Thread, Worn, Missed}
+
+-- What the counts at the end of a run say. `Worn` comes only if a put or a take was refused: not all items were put, or not
+-- all end marks, or a worker took none. `Missed` comes only if none was, and a count differs
+abbrev pub Told : Option ℕ → Bool → Bool → ℕ → ℕ → ℕ → WorkersFault → Type 0
+Told items marked ended ran put marks BadCount = ⊥
+Told items marked ended ran put marks NoMemory = ⊥
+Told items marked ended ran put marks Thread = ⊥
+Told items marked ended ran put marks Worn = (items ≡ None) ⊎ ((marked ≡ false) ⊎ (ended ≡ false))
+Told items marked ended ran put marks Missed = (n : ℕ) × (items ≡ Some n) × ((ran ≢ n) ⊎ (put ≢ counted (n + marks)))
+
+module _ {W T S : Type 0} where
+  -- The number of items that were run is not that of the items of the source, or the number of items and end marks that
+  -- were put is not that of the items of the source and the end marks
+  pub record Differs (runs : W → T → W → Type 0) (gives : S → Option T → S → Type 0) (before : List W) (source : S) (marks : ℕ) (after : List W) (source' : S) (seat : Holding (Feed T)) : Type 0 where
+    pub parts : List (Part W T)
+    pub given : List T
+    pub leads : Leads runs before parts after
+    pub gave : Gave gives source given source'
+    pub differs : (length (flat_map (λ p. p.items) parts) ≢ length given) ⊎ (length seat.seen ≢ counted (length given + marks))
+
+  -- A buffer is worn out only if 2^62 items and end marks were put into it
+  abbrev pub HasCause : (W → T → W → Type 0) → (S → Option T → S → Type 0) → List W → S → ℕ → WorkersFault → List W → S → Holding (Feed T) → Type 0
+  HasCause runs gives before source marks BadCount after source' seat = ⊥
+  HasCause runs gives before source marks NoMemory after source' seat = ⊥
+  HasCause runs gives before source marks Thread after source' seat = Unit {0}
+  HasCause runs gives before source marks Worn after source' seat = 2 ^ 62 ≤ length seat.seen
+  HasCause runs gives before source marks Missed after source' seat = Differs runs gives before source marks after source' seat
