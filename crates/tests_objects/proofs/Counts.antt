@@ -10,9 +10,9 @@ pub weaker : (m n : ℕ) (o : Objects) → m ≤ n → CountsUpTo m o → Counts
 weaker m n o up low = (λ number slot at. let l = low.0 number slot at in (omega (arith, l.0), omega (arith, l.1)), omega (arith, low.1))
 
 -- a turn that raises no count leaves them so
-pub stay : (n : ℕ) (old new : Objects) (deed : Deed) → raises_by deed ≡ 0 → MakesTurn old deed new → CountsUpTo n old → CountsUpTo n new
-stay n old new deed none turn low = weaker (n + raises_by deed) n new (omega (arith, none)) (turn.counts n low)
+pub stay : (n : ℕ) (old new : Objects) (deed : Deed) → MakesTurn old deed new → CountsUpTo n old → raises_by deed ≡ 0 → CountsUpTo n new
+stay n old new deed turn low none = weaker (n + raises_by deed) n new (omega (arith, none)) (turn.counts n low)
 
 -- no turn raises one by more than one
-pub rise : (n : ℕ) (old new : Objects) (deed : Deed) → raises_by deed ≤ 1 → MakesTurn old deed new → CountsUpTo n old → CountsUpTo (n + 1) new
-rise n old new deed one turn low = weaker (n + raises_by deed) (n + 1) new (omega (arith, one)) (turn.counts n low)
+pub rise : (n : ℕ) (old new : Objects) (deed : Deed) → MakesTurn old deed new → CountsUpTo n old → raises_by deed ≡ 1 → CountsUpTo (n + 1) new
+rise n old new deed turn low one = weaker (n + raises_by deed) (n + 1) new (omega (arith, one)) (turn.counts n low)
