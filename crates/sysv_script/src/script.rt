@@ -46,7 +46,7 @@ pub fn run_script<R: Read, W: Write>(
     // What the writer took stays, and if a line is bad, the last line says which.
     ensures grows { Grows (W.contents (stream_of writer.old)) (W.contents (stream_of writer.new)) }
     ensures bad { IfErr result (λ fault. TellsBadLine fault (W.contents (stream_of writer.old)) (W.contents (stream_of writer.new))) }
-    // The streams are the same ones, and each has failed if and only if it had before or the fault says so.
+    // The streams are the same ones, and each has failed in this call if and only if the fault says so.
     ensures same_reader { stream_name reader.new ≡ stream_name reader.old }
     ensures same_writer { stream_name writer.new ≡ stream_name writer.old }
     ensures reader_failed { failures_of reader.new ≡ failures_after (is_read_fault result) (failures_of reader.old) }

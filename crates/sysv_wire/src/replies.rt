@@ -1,7 +1,7 @@
 //! Replies, read and written.
-ghost use Rattle.std.specs.Prelude.{◌≡◌, ◌≢◌, ◌≤◌, ◌+◌, ◌-◌, ◌++◌, ◌∷◌, ◌⊎◌, ◌||◌, [], ℕ, List, Option, Some, Result, Err, length, ◌==◌, ◌↔◌, true, false, IsTrue, is_err, IfOk, IfErr, OnOk, OnErr};
+ghost use Rattle.std.specs.Prelude.{◌≡◌, ◌≢◌, ◌≤◌, ◌+◌, ◌-◌, ◌++◌, ◌∷◌, ◌⊎◌, [], ℕ, List, Option, Some, Result, Err, length, ◌==◌, ◌↔◌, true, false, IsTrue, is_err, IfOk, IfErr, OnOk, OnErr};
 ghost use Rattle.std.specs.Io.KnownBytes.{Appends, Consumes};
-ghost use Rattle.sysv_model.specs.Watched.{has_failed, stream_name, stream_of};
+ghost use Rattle.sysv_model.specs.Watched.{failures_of, failures_after, stream_name, stream_of};
 ghost use Rattle.sysv_model.specs.Writing.{AppendsPrefix};
 ghost use Rattle.sysv_wire.specs.Faults.{Faults, is_read_fault};
 ghost use Rattle.sysv_wire.specs.Frames.{op_number, version_number};
@@ -100,7 +100,7 @@ fn read_fields<R: Read>(
     ensures text { IfOk result (λ outcome. gives_text outcome ≡ false) }
     ensures fault { IfErr result (λ fault. Faults (RestFault op 0 rest) fault (R.remaining (stream_of reader.old)) (R.remaining (stream_of reader.new))) }
     ensures same { stream_name reader.new ≡ stream_name reader.old }
-    ensures failed { has_failed reader.new ≡ (is_read_fault result || has_failed reader.old) }
+    ensures failed { failures_of reader.new ≡ failures_after (is_read_fault result) (failures_of reader.old) }
 {
     let mut fields = [0; MAX_FIELDS];
     let fields = &mut fields[..rest];
@@ -125,7 +125,7 @@ fn read_message<R: Read>(
     ensures text { IfOk result (λ outcome. gives_text outcome ≡ true) }
     ensures fault { IfErr result (λ fault. Faults (RestFault Op.Rcv 0 rest) fault (R.remaining (stream_of reader.old)) (R.remaining (stream_of reader.new))) }
     ensures same { stream_name reader.new ≡ stream_name reader.old }
-    ensures failed { has_failed reader.new ≡ (is_read_fault result || has_failed reader.old) }
+    ensures failed { failures_of reader.new ≡ failures_after (is_read_fault result) (failures_of reader.old) }
 {
     let mut bytes = [0; 8];
     fill_all(reader, &mut bytes)?;
@@ -154,7 +154,7 @@ fn read_rest<R: Read>(
     ensures text { IfOk result (λ outcome. text.new ≡ outcome_text outcome text.new) }
     ensures fault { IfErr result (λ fault. Faults (RestFault op error rest) fault (R.remaining (stream_of reader.old)) (R.remaining (stream_of reader.new))) }
     ensures same { stream_name reader.new ≡ stream_name reader.old }
-    ensures failed { has_failed reader.new ≡ (is_read_fault result || has_failed reader.old) }
+    ensures failed { failures_of reader.new ≡ failures_after (is_read_fault result) (failures_of reader.old) }
 {
     if error != 0 {
         let error = errno_of(error)?;
@@ -181,9 +181,9 @@ pub fn read_reply<R: Read>(
     // The answer that fits what the reader had left is given, unless the reader fails.
     ensures only { (input : List ℕ) (answer : Result (Option Reply) Fault) → R.remaining (stream_of reader.old) ≡ Some input → ReplyAt input answer →
         (result ≡ answer) ⊎ (result ≡ Err Fault.Read) }
-    // The reader is the same one, and has failed exactly where it had before or the answer is `Read`.
+    // The reader is the same one, and has failed in this call exactly where the answer is `Read`.
     ensures same { stream_name reader.new ≡ stream_name reader.old }
-    ensures failed { has_failed reader.new ≡ (is_read_fault result || has_failed reader.old) }
+    ensures failed { failures_of reader.new ≡ failures_after (is_read_fault result) (failures_of reader.old) }
 {
     next_reply(reader, text)
 }
@@ -192,7 +192,7 @@ pub fn read_reply<R: Read>(
 fn next_reply<R: Read>(reader: &mut Watched<'_, R>, text: &mut Body) -> Result<Option<Reply>, Fault>
     ensures reads { ReadsReply (R.remaining (stream_of reader.old)) (R.remaining (stream_of reader.new)) result text.new }
     ensures same { stream_name reader.new ≡ stream_name reader.old }
-    ensures failed { has_failed reader.new ≡ (is_read_fault result || has_failed reader.old) }
+    ensures failed { failures_of reader.new ≡ failures_after (is_read_fault result) (failures_of reader.old) }
 {
     text.clear();
     let mut head = [0; 3];
@@ -220,9 +220,9 @@ pub fn write_reply<W: Write>(
     requires text { length text.now ≤ MESSAGE_BYTES }
     ensures ok { OnOk result (Appends (W.contents (stream_of writer.old)) (W.contents (stream_of writer.new)) (reply_spelling reply.now text.now)) }
     ensures err { OnErr result (AppendsPrefix (W.contents (stream_of writer.old)) (W.contents (stream_of writer.new)) (reply_spelling reply.now text.now)) }
-    // The writer is the same one, and has failed exactly where it had before or the answer is a fault.
+    // The writer is the same one, and has failed in this call exactly where the answer is a fault.
     ensures same { stream_name writer.new ≡ stream_name writer.old }
-    ensures failed { has_failed writer.new ≡ (is_err result || has_failed writer.old) }
+    ensures failed { failures_of writer.new ≡ failures_after (is_err result) (failures_of writer.old) }
 {
     let fields = fields_of(&reply.result);
     if takes_text(&reply.result) {
