@@ -8,9 +8,9 @@ ghost use Rattle.sysv_keys.specs.OneReply.{SomeReplyIsLegal, NoTwoRepliesAreLega
 ghost use Rattle.sysv_keys.specs.RegistryLaw.{RegistryLaw};
 ghost use Rattle.sysv_keys.specs.Unused.{UnusedSlots};
 
-/// The limits by their numerals. The identifiers of all slots in all generations are the numbers
-/// below 2^31, those that an `i32` holds and that are not negative.
-pub fn identifier_limits()
+/// The limits by their numerals. The identifiers of all slots in all generations are the numbers below
+/// 2^31: those that are not negative and that an `i32` holds.
+pub fn numerals_of_identifiers()
     ensures slots { SLOTS ≡ 256 }
     ensures last { GENERATION_LAST ≡ 8388607 }
     ensures all { SLOTS * (GENERATION_LAST + 1) ≡ 2 ^ 31 }
