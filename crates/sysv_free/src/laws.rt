@@ -1,0 +1,31 @@
+//! The law of free runs.
+
+ghost use Rattle.sysv_free.specs.OnThreads.{EveryThreadedRunObeys};
+
+use sysv_core::each_world_is_sound;
+use sysv_keys::registry_law;
+use sysv_objects::legal_turns;
+use sysv_pool::pool_law;
+use sysv_queue::{blocks_kept, queue_law, removed_for_good};
+use sysv_steps::{
+    after_removal, each_answer_is_right, each_deed_is_asked_for, each_holds_its_blocks,
+};
+
+/// The headline of threads: every list of moments leads from every opening only to worlds that obey the laws,
+/// whatever released count a call was told at its start and whatever value ended a wait, if it is at least the
+/// goal. Whether a call that waits has a reason to is the one law of the headline that is not among them.
+pub fn every_threaded_run_obeys()
+    ensures { EveryThreadedRunObeys }
+{
+    each_world_is_sound();
+    legal_turns();
+    blocks_kept();
+    pool_law();
+    each_holds_its_blocks();
+    queue_law();
+    registry_law();
+    each_deed_is_asked_for();
+    each_answer_is_right();
+    removed_for_good();
+    after_removal();
+}
