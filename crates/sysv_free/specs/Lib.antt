@@ -9,6 +9,7 @@ pub use Rattle.sysv_steps.specs.State
 pub use Rattle.sysv_steps.specs.Resume
 pub use Rattle.sysv_steps.specs.Answers
 pub use Rattle.sysv_core.specs.World
+pub use Rattle.sysv_core.specs.Run
 pub use Rattle.sysv_core.specs.AnswerLaw
 pub use Rattle.sysv_core.specs.Conserved
 pub use Rattle.sysv_core.specs.Tending
@@ -17,3 +18,4 @@ pub use Rattle.sysv_core.specs.Removed
 pub use Rattle.sysv_core.specs.LastWords
 pub mod FreeRun
 pub mod OnThreads
+pub mod RunIsFree

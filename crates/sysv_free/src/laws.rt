@@ -1,6 +1,7 @@
-//! The law of free runs.
+//! Laws of free runs.
 
 ghost use Rattle.sysv_free.specs.OnThreads.{EveryThreadedRunObeys};
+ghost use Rattle.sysv_free.specs.RunIsFree.{EachRunIsFree};
 
 use sysv_core::each_world_is_sound;
 use sysv_keys::registry_law;
@@ -29,3 +30,8 @@ pub fn every_threaded_run_obeys()
     removed_for_good();
     after_removal();
 }
+
+/// Each run of a world in which nothing is preset is a free run.
+pub fn each_run_is_free()
+    ensures { EachRunIsFree }
+{}

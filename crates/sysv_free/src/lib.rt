@@ -5,4 +5,4 @@
 
 mod laws;
 
-pub use laws::every_threaded_run_obeys;
+pub use laws::{each_run_is_free, every_threaded_run_obeys};
