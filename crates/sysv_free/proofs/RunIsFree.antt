@@ -1,6 +1,5 @@
 -- Each happening but a preset is a moment, or leaves the world as it was.
 use Rattle.std.proofs.Common.{◌≡◌, ◌⊎◌, inl, inr, ℕ, suc, List, [], ◌∷◌, ◌++◌, Option, None, Some, refl, sym, ap, subst, ◌∙◌, arith}
-use Rattle.std.specs.List.{All}
 use Rattle.sysv_model.specs.declared.cred.Cred.{Cred}
 use Rattle.sysv_model.specs.Pool.{released}
 use Rattle.sysv_model.specs.Turn.{pool_history}
@@ -8,7 +7,6 @@ use Rattle.sysv_steps.specs.Call.{SystemCall}
 use Rattle.sysv_steps.specs.State.{State, Goes, Waits, Over}
 use Rattle.sysv_steps.specs.Resume.{awaited}
 use Rattle.sysv_core.specs.World.{World, Started, Doing, Given, Happening, Preset, Start, Step, actor_at, StaysWith, value_of, Continues, StartsAt, StepsAt, Makes}
-use Rattle.sysv_core.specs.Run.{Leads}
 use Rattle.sysv_free.specs.FreeRun.{Moment, Starts, TakesTurn, Wakes, Brings, LeadsOnThreads}
 use Rattle.sysv_free.specs.RunIsFree.{IsOfCall, EachRunIsFree}
 
