@@ -1,10 +1,10 @@
--- The headline of free runs. Of the laws that a run of a world obeys, a free run obeys all but one: that who waits has
--- a reason to. That law is about a count and a wait at one and the same moment, and a free run does not say when a
--- waiting call reads its count. So on threads, too: what each queue accepted is, each message once, what it delivered,
--- discarded by removal or still holds; every answer is decided by what its call asked for and by the turns of that
--- call; no block is made or lost; an install finds its slot vacant; after a removal nothing is accepted or leaves under
--- that identifier, for good, and the sends and receives of its queue are told so (POSIX.1-2017, msgget, msgsnd, msgrcv
--- and msgctl, in this profile's steps).
+-- The headline of threads. A free run obeys every law of the headline but one: that who waits has a reason to. That
+-- law compares a count with a wait at one and the same time, and a free run does not say when a call that waits reads
+-- its count. All else holds. What each queue accepted is, each message once, what it delivered, discarded by removal
+-- or still holds; each receive takes the very message its selector names; every answer is decided by what its call
+-- asked for and by the turns of that call; no block is made or lost; each install finds its slot vacant; after a
+-- removal nothing is accepted or leaves under that identifier, for good, and the sends and receives of the queue are
+-- told so (what POSIX.1-2017 says of msgget, msgsnd, msgrcv and msgctl, in this profile's steps).
 use Rattle.std.specs.Prelude.{◌≡◌, ◌≢◌, ◌⊎◌, ℕ, List, All, AllPairs, Contains}
 use Rattle.sysv_model.specs.History.{ReadRow, Reply}
 use Rattle.sysv_model.specs.Turn.{AtSlot, Turn, slot_history, registry_history, pool_history, deeds_of}
@@ -62,4 +62,5 @@ pub record ObeysOnThreads (o : Opening) (w : World) (given : List Given) : Type 
 
 -- every list of moments leads from every opening only to worlds that obey these laws
 abbrev pub EveryThreadedRunObeys : Type 0
-EveryThreadedRunObeys = (o : Opening) (list : List Moment) (given : List Given) (w : World) → LeadsOnThreads (opening o) list given w → ObeysOnThreads o w given
+EveryThreadedRunObeys = (o : Opening) (list : List Moment) (given : List Given) (w : World) →
+    LeadsOnThreads (opening o) list given w → ObeysOnThreads o w given

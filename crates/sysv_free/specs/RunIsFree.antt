@@ -1,5 +1,6 @@
--- Free runs are more than the runs of a world, and never less: each run in which nothing is preset is a free run. A
--- start is told the released count of that moment, and a wait ends with the value of its count (this profile's).
+-- Each run of a world in which nothing is preset is a free run: a start is told the released count at that time, and
+-- a wait ends with the value of the count for which it waits. So a free run is held to no more than a run is
+-- (this profile's).
 use Rattle.std.specs.Prelude.{List, All}
 use Rattle.sysv_core.specs.World.{World, Happening, Preset, Given}
 use Rattle.sysv_core.specs.Run.{Leads}
@@ -11,4 +12,5 @@ IsOfCall Preset = ⊥
 IsOfCall happening = Unit {0}
 
 abbrev pub EachRunIsFree : Type 0
-EachRunIsFree = (w after : World) (list : List Happening) (given : List Given) → All IsOfCall list → Leads w list given after → (moments : List Moment) × LeadsOnThreads w moments given after
+EachRunIsFree = (w after : World) (list : List Happening) (given : List Given) → All IsOfCall list → Leads w list given after →
+    (moments : List Moment) × LeadsOnThreads w moments given after

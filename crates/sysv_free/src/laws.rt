@@ -12,9 +12,9 @@ use sysv_steps::{
     after_removal, each_answer_is_right, each_deed_is_asked_for, each_holds_its_blocks,
 };
 
-/// The headline of threads: every list of moments leads from every opening only to worlds that obey the laws,
-/// whatever released count a call was told at its start and whatever value ended a wait, if it is at least the
-/// goal. Whether a call that waits has a reason to is the one law of the headline that is not among them.
+/// The headline of threads: every list of moments leads from every opening only to worlds that obey the laws of
+/// the headline, except that a call that waits may do so without a reason. A call may be told any released count
+/// at its start, and any value that is at least the goal may end a wait.
 pub fn every_threaded_run_obeys()
     ensures { EveryThreadedRunObeys }
 {

@@ -1,6 +1,5 @@
-//! Free runs: what threads can make of a world. Its turns are those of a world, and what a call reads outside
-//! its turns may be anything that its step table admits. The crate has no code: its law says that a free run
-//! obeys all laws of the headline but one.
+//! Free runs: what threads can make of a world. The turns are those of a world, and what a call reads between
+//! its turns may be anything that the step table admits. The crate contains only laws.
 #![tactic(auto)]
 
 mod laws;
