@@ -1,6 +1,6 @@
 -- Both orders stay those of one set of entries as an entry comes in and as one goes out.
 use Rattle.std.proofs.Common.{◌≡◌, ◌≢◌, ℕ, suc, ◌+◌, ◌<◌, ◌≤◌, ◌≤ℤ◌, ◌==◌, Bool, not, List, [], ◌∷◌, ◌++◌, Some, length, get_or, refl, sym, ap, subst, ◌∙◌, inl, inr, arith}
-use Rattle.std.specs.List.{All, AllPairs, Contains, filter, insert, slice_get}
+use Rattle.std.specs.List.{All, AllPairs, Contains, filter, insert, remove, slice_get}
 use Rattle.std.specs.List.Sorted.{IsPermutation}
 use Rattle.std.proofs.lemmas.Bool.{cases_order}
 use Rattle.std.proofs.lemmas.Int.{ints, by_lt_z}
@@ -138,3 +138,6 @@ module _ (entries by_type : List Entry) (x : IsIndex entries by_type) where
       same = lengths.same;
       few = let a = lengths.few in let b = x.few in omega arith;
     }
+
+    pub removed_one : (position : ℕ) (e : Entry) → slice_get entries position ≡ Some e → e.number ≡ number → filter stays entries ≡ remove entries position
+    removed_one position e there is = others_present (λ (e : Entry). e.number) number entries position e there is entries_differ

@@ -1,16 +1,15 @@
 -- The message that a selector names, found among entries by type.
-use Rattle.std.proofs.Common.{◌≡◌, ◌≢◌, ℕ, ◌<◌, ◌≤◌, ◌<ℤ◌, ◌≤ℤ◌, ℤ, pos, List, [], ◌∷◌, Option, Some, None, MatchOption, length, refl, sym, ap, subst, ◌∙◌, ◌⊎◌, inl, inr, arith}
+use Rattle.std.proofs.Common.{◌≡◌, ◌≢◌, ℕ, ◌+◌, ◌<◌, ◌≤◌, ◌<ℤ◌, ◌≤ℤ◌, ℤ, pos, List, [], ◌∷◌, Option, Some, None, MatchOption, length, sym, ap, subst, ◌∙◌, ◌⊎◌, inl, inr, arith}
 use Rattle.std.specs.List.{slice_get}
 use Rattle.std.proofs.lemmas.Bool.{cases_lt}
 use Rattle.std.proofs.lemmas.Int.{ints}
 use Rattle.std.proofs.lemmas.List.{get_or-map, length-map}
-use Rattle.std.proofs.lemmas.Option.{slice_get_within, get_or_from_slice_get, same_Some}
+use Rattle.std.proofs.lemmas.Option.{slice_get_within, get_or_from_slice_get}
 use Rattle.sysv_model.specs.declared.selector.Selector.{Selector}
-use Rattle.sysv_model.specs.declared.selector.Selector.TheVariants.{Any, Exactly, UpTo}
+use Rattle.sysv_model.specs.declared.selector.Selector.TheVariants.{Any, Exactly, Except, UpTo}
 use Rattle.sysv_rules.specs.Qualifies.{Qualifies, QualifiesAt, NoneQualifies, type_at}
 use Rattle.sysv_index.specs.declared.entry.Entry.{Entry}
-use Rattle.sysv_index.specs.declared.entry.Numbered.{Numbered}
-use Rattle.sysv_index.specs.Entries.{IsBefore, IsIndex, types_of, entry_of, in_order}
+use Rattle.sysv_index.specs.Entries.{IsBefore, IsIndex, types_of}
 use Rattle.sysv_index.specs.Selected.{IsSelected, IsLowest, NoneLow, IsFirstOf, NoneOf}
 use Rattle.sysv_index.proofs.Lists.{there_is, one_there, at_place, at_places}
 use Rattle.sysv_index.proofs.Changes.{known_at, held_at}
@@ -60,35 +59,30 @@ module _ (entries by_type : List Entry) (x : IsIndex entries by_type) where
   earlier_number : (i j : ℕ) (a b : Entry) → i < j → slice_get entries i ≡ Some a → slice_get entries j ≡ Some b → a.number < b.number
   earlier_number i j a b less here there = at_places (λ (a b : Entry). a.number < b.number) entries i j a b x.rising less here there
 
-  pub lowest_named : (bound : ℕ) (found : Numbered) → IsLowest (UpTo bound) by_type found → IsSelected (UpTo bound) entries found
+  pub lowest_named : (bound : ℕ) (found : Entry) → IsLowest (UpTo bound) by_type found → IsSelected (UpTo bound) entries found
   lowest_named bound found f =
-      let e = f.entry in
-      let first = f.there in
-      let w = known_at entries by_type x 0 e first in
-      let here = type_there entries w.0 e w.1 in
-      let q = qualifies_there (UpTo bound) entries w.0 e w.1 f.low in
+      let w = known_at entries by_type x 0 found f.there in
+      let q = qualifies_there (UpTo bound) entries w.0 found w.1 f.low in
       record {
         position = w.0;
-        entry = e;
         there = w.1;
-        same = f.same;
         named = (q, (q.0, none_lower w.0 w.1, none_before w.0 w.1));
       }
     where
-      none_lower : (p : ℕ) → slice_get entries p ≡ Some f.entry → (other : ℕ) → other < length (types_of entries) → ¬ (type_at (types_of entries) other <ℤ type_at (types_of entries) p)
+      none_lower : (p : ℕ) → slice_get entries p ≡ Some found → (other : ℕ) → other < length (types_of entries) → ¬ (type_at (types_of entries) other <ℤ type_at (types_of entries) p)
       none_lower p there other within h =
           let o = entry_there entries other within in
           let k = held_at entries by_type x other o.0 o.1 in
-          not_lower f.entry o.0 (from_place 0 k.0 f.entry o.0 f.there k.1 (omega arith)) (rw (← o.2, ← type_there entries p f.entry there) h)
+          not_lower found o.0 (from_place 0 k.0 found o.0 f.there k.1 (omega arith)) (rw (← o.2, ← type_there entries p found there) h)
 
-      none_before : (p : ℕ) → slice_get entries p ≡ Some f.entry → (earlier : ℕ) → earlier < p → ¬ (type_at (types_of entries) earlier ≡ type_at (types_of entries) p)
+      none_before : (p : ℕ) → slice_get entries p ≡ Some found → (earlier : ℕ) → earlier < p → ¬ (type_at (types_of entries) earlier ≡ type_at (types_of entries) p)
       none_before p there earlier less h =
           let long = length-map entries (λ (o : Entry). o.mtype) in
-          let within = slice_get_within entries p f.entry there in
+          let within = slice_get_within entries p found there in
           let o = entry_there entries earlier (omega arith) in
           let k = held_at entries by_type x earlier o.0 o.1 in
-          not_earlier f.entry o.0 (from_place 0 k.0 f.entry o.0 f.there k.1 (omega arith)) (sym o.2 ∙ (h ∙ type_there entries p f.entry there))
-          (earlier_number earlier p o.0 f.entry less o.1 there)
+          not_earlier found o.0 (from_place 0 k.0 found o.0 f.there k.1 (omega arith)) (sym o.2 ∙ (h ∙ type_there entries p found there))
+          (earlier_number earlier p o.0 found less o.1 there)
 
   pub none_low : (bound : ℕ) → NoneLow (UpTo bound) by_type → NoneQualifies (UpTo bound) (types_of entries)
   none_low bound none place q =
@@ -98,27 +92,24 @@ module _ (entries by_type : List Entry) (x : IsIndex entries by_type) where
       let e = there_is by_type 0 (omega arith) in
       none e.0 e.1 (admits_lower e.0.mtype o.0.mtype bound (not_lower e.0 o.0 (from_place 0 k.0 e.0 o.0 e.1 k.1 (omega arith))) (subst (λ t. t ≤ℤ pos bound) o.2 q.1))
 
-  pub first_named : (mtype : ℤ) (found : Numbered) → IsFirstOf mtype by_type found → IsSelected (Exactly mtype) entries found
+  pub first_named : (mtype : ℤ) (found : Entry) → IsFirstOf mtype by_type found → IsSelected (Exactly mtype) entries found
   first_named mtype found f =
-      let e = f.entry in
-      let w = known_at entries by_type x f.position e f.there in
+      let w = known_at entries by_type x f.position found f.there in
       record {
         position = w.0;
-        entry = e;
         there = w.1;
-        same = f.same;
-        named = (qualifies_there (Exactly mtype) entries w.0 e w.1 f.asked, none_before w.0 w.1);
+        named = (qualifies_there (Exactly mtype) entries w.0 found w.1 f.asked, none_before w.0 w.1);
       }
     where
-      of_type : (p earlier : ℕ) (o : Entry) (k : ℕ) → slice_get entries p ≡ Some f.entry → earlier < p → slice_get entries earlier ≡ Some o → slice_get by_type k ≡ Some o → ¬ (o.mtype ≡ mtype)
+      of_type : (p earlier : ℕ) (o : Entry) (k : ℕ) → slice_get entries p ≡ Some found → earlier < p → slice_get entries earlier ≡ Some o → slice_get by_type k ≡ Some o → ¬ (o.mtype ≡ mtype)
       of_type p earlier o k there less here held asked = elim (cases_lt k f.position) [
         | inl low ↦
             let h = f.below k o (omega arith) low in
             not_both o.mtype mtype (subst (λ (z : Entry). z.mtype <ℤ mtype) (get_or_from_slice_get by_type k o o held) h) asked
-        | inr high ↦ not_earlier f.entry o (from_place f.position k f.entry o f.there held high) (asked ∙ sym f.asked) (earlier_number earlier p o f.entry less here there)
+        | inr high ↦ not_earlier found o (from_place f.position k found o f.there held high) (asked ∙ sym f.asked) (earlier_number earlier p o found less here there)
       ]
 
-      none_before : (p : ℕ) → slice_get entries p ≡ Some f.entry → (earlier : ℕ) → earlier < p → ¬ QualifiesAt (Exactly mtype) (types_of entries) earlier
+      none_before : (p : ℕ) → slice_get entries p ≡ Some found → (earlier : ℕ) → earlier < p → ¬ QualifiesAt (Exactly mtype) (types_of entries) earlier
       none_before p there earlier less q =
           let o = entry_there entries earlier q.0 in
           let k = held_at entries by_type x earlier o.0 o.1 in
@@ -130,38 +121,43 @@ module _ (entries by_type : List Entry) (x : IsIndex entries by_type) where
       let k = held_at entries by_type x place o.0 o.1 in
       at_place (λ (e : Entry). e.mtype ≢ mtype) by_type k.0 o.0 none k.1 (sym o.2 ∙ q.1)
 
-pub earliest_named : (by_number : List Numbered) (by_type : List Entry) (n : Numbered) → slice_get by_number 0 ≡ Some n → IsSelected Any (in_order by_number by_type) n
-earliest_named [] by_type n there = cc
-earliest_named (m ∷ ms) by_type n there = record {
-  position = 0;
-  entry = entry_of by_type m;
-  there = refl;
-  same = sym (same_Some m n there);
-  named = ((omega arith, tt), (λ earlier less. absurd (omega arith)));
-}
+pub earliest_named : (entries : List Entry) (e : Entry) → slice_get entries 0 ≡ Some e → IsSelected Any entries e
+earliest_named [] e there = cc
+earliest_named (o ∷ os) e there = record { position = 0; there = there; named = ((omega arith, tt), (λ earlier less. absurd (omega arith))) }
 
-pub none_first : (by_number : List Numbered) (by_type : List Entry) → slice_get by_number 0 ≡ None → NoneQualifies Any (types_of (in_order by_number by_type))
-none_first [] by_type there place q = let h = q.0 in omega arith
-none_first (m ∷ ms) by_type there place q = cc
+none_first : (entries : List Entry) → slice_get entries 0 ≡ None → NoneQualifies Any (types_of entries)
+none_first [] there place q = let h = q.0 in omega arith
+none_first (o ∷ os) there place q = cc
 
--- what is found by type, or that nothing is, is what the selector names, or that it names nothing
-pub earliest_selected : (by_number ns : List Numbered) (by_type entries : List Entry) (sel : Selector) (r : Option Numbered) → sel ≡ Any → ns ≡ by_number → in_order by_number by_type ≡ entries →
-    r ≡ slice_get ns 0 → MatchOption r (NoneQualifies sel (types_of entries)) (IsSelected sel entries)
-earliest_selected by_number ns by_type entries sel None is same seen first =
-    subst (λ s. NoneQualifies s (types_of entries)) (sym is)
-    (subst (λ es. NoneQualifies Any (types_of es)) seen (none_first by_number by_type (ap (λ xs. slice_get xs 0) (sym same) ∙ sym first)))
-earliest_selected by_number ns by_type entries sel (Some n) is same seen first =
-    subst (λ s. IsSelected s entries n) (sym is)
-    (subst (λ es. IsSelected Any es n) seen (earliest_named by_number by_type n (ap (λ xs. slice_get xs 0) (sym same) ∙ sym first)))
+-- one whose type differs, where no earlier one's does
+abbrev pub NoneBefore : ℤ → List Entry → ℕ → Type 0
+NoneBefore refused entries n = (earlier : ℕ) → earlier < n → ¬ QualifiesAt (Except refused) (types_of entries) earlier
+
+pub except_named : (entries : List Entry) (refused : ℤ) (p : ℕ) (e : Entry) → NoneBefore refused entries p → slice_get entries p ≡ Some e → e.mtype ≢ refused → IsSelected (Except refused) entries e
+except_named entries refused p e none there other = record { position = p; there = there; named = (qualifies_there (Except refused) entries p e there other, none) }
+
+pub none_before_next : (entries : List Entry) (refused : ℤ) (p : ℕ) (e : Entry) → NoneBefore refused entries p → slice_get entries p ≡ Some e → e.mtype ≡ refused → NoneBefore refused entries (p + 1)
+none_before_next entries refused p e none there same earlier less q = elim (cases_lt earlier p) [
+  | inl before ↦ none earlier before q
+  | inr over ↦ let here : earlier ≡ p = omega arith in q.1 (ap (λ n. type_at (types_of entries) n) here ∙ (type_there entries p e there ∙ same))
+]
+
+pub none_differs : (entries : List Entry) (refused : ℤ) (n : ℕ) → NoneBefore refused entries n → length entries ≤ n → NoneQualifies (Except refused) (types_of entries)
+none_differs entries refused n none all place q = let long = length-map entries (λ (o : Entry). o.mtype) in none place (let h = q.0 in omega arith) q
+
+-- what is found, or that nothing is, is what the selector names, or that it names nothing
+pub earliest_selected : (entries : List Entry) (sel : Selector) (r : Option Entry) → sel ≡ Any → r ≡ slice_get entries 0 → MatchOption r (NoneQualifies sel (types_of entries)) (IsSelected sel entries)
+earliest_selected entries sel None is first = subst (λ s. NoneQualifies s (types_of entries)) (sym is) (none_first entries (sym first))
+earliest_selected entries sel (Some e) is first = subst (λ s. IsSelected s entries e) (sym is) (earliest_named entries e (sym first))
 
 module _ (entries by_type ts : List Entry) (x : IsIndex entries by_type) (same : ts ≡ by_type) (sel : Selector) where
-  pub lowest_selected : (bound : ℕ) (r : Option Numbered) → sel ≡ UpTo bound → MatchOption r (NoneLow sel ts) (IsLowest sel ts) → MatchOption r (NoneQualifies sel (types_of entries)) (IsSelected sel entries)
+  pub lowest_selected : (bound : ℕ) (r : Option Entry) → sel ≡ UpTo bound → MatchOption r (NoneLow sel ts) (IsLowest sel ts) → MatchOption r (NoneQualifies sel (types_of entries)) (IsSelected sel entries)
   lowest_selected bound None is none =
       subst (λ s. NoneQualifies s (types_of entries)) (sym is) (none_low entries by_type x bound (subst (λ s. NoneLow s by_type) is (subst (λ es. NoneLow sel es) same none)))
   lowest_selected bound (Some n) is found =
       subst (λ s. IsSelected s entries n) (sym is) (lowest_named entries by_type x bound n (subst (λ s. IsLowest s by_type n) is (subst (λ es. IsLowest sel es n) same found)))
 
-  pub first_selected : (mtype asked : ℤ) (r : Option Numbered) → sel ≡ Exactly mtype → asked ≡ mtype → MatchOption r (NoneOf asked ts) (IsFirstOf asked ts) → MatchOption r (NoneQualifies sel (types_of entries)) (IsSelected sel entries)
+  pub first_selected : (mtype asked : ℤ) (r : Option Entry) → sel ≡ Exactly mtype → asked ≡ mtype → MatchOption r (NoneOf asked ts) (IsFirstOf asked ts) → MatchOption r (NoneQualifies sel (types_of entries)) (IsSelected sel entries)
   first_selected mtype asked None is equal none =
       subst (λ s. NoneQualifies s (types_of entries)) (sym is) (none_of entries by_type x mtype (subst (λ t. NoneOf t by_type) equal (subst (λ es. NoneOf asked es) same none)))
   first_selected mtype asked (Some n) is equal found =

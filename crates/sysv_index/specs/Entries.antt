@@ -1,34 +1,17 @@
 -- The entries of an index in two orders (this profile's): by acceptance number, and by type and those
 -- of one type by number.
-use Rattle.std.specs.Prelude.{◌≡◌, ℕ, ℤ, ◌<◌, ◌≤◌, ◌<ℤ◌, ◌≤ℤ◌, ◌==◌, ◌⊎◌, pos, List, [], ◌∷◌, length, map, if◌then◌else◌}
+use Rattle.std.specs.Prelude.{◌≡◌, ℕ, ℤ, ◌<◌, ◌≤◌, ◌<ℤ◌, ◌≤ℤ◌, ◌⊎◌, List, length, map}
 use Rattle.std.specs.List.{All, AllPairs, AllWithin, Contains, insert}
 use Rattle.sysv_model.specs.declared.limits.TheConstants.{QUEUE_MESSAGES}
 use Rattle.sysv_index.specs.declared.entry.Entry.{Entry}
-use Rattle.sysv_index.specs.declared.entry.Numbered.{Numbered}
 
 -- the types of the entries, in their order
 abbrev pub types_of : List Entry → List ℤ
 types_of entries = map (λ (e : Entry). e.mtype) entries
 
--- an entry without its type
-abbrev pub numbered_of : Entry → Numbered
-numbered_of e = record { number = e.number; place = e.place }
-
 -- the first entry's type is lower, or the types are one and its number is lower
 abbrev pub IsBefore : Entry → Entry → Type 0
 IsBefore a b = (a.mtype <ℤ b.mtype) ⊎ ((a.mtype ≡ b.mtype) × (a.number < b.number))
-
--- the type of the entry with this number, where the entries have one
-abbrev pub type_of : List Entry → ℕ → ℤ
-type_of [] number = pos 0
-type_of (e ∷ es) number = if e.number == number then e.mtype else type_of es number
-
-abbrev pub entry_of : List Entry → Numbered → Entry
-entry_of by_type n = record { mtype = type_of by_type n.number; number = n.number; place = n.place }
-
--- the entries in the order in which the first list has their numbers
-abbrev pub in_order : List Numbered → List Entry → List Entry
-in_order by_number by_type = map (λ n. entry_of by_type n) by_number
 
 -- each entry has a lower number than all that come after it
 abbrev pub NumbersRise : List Entry → Type 0

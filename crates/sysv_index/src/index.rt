@@ -3,13 +3,15 @@
 ghost use Rattle.std.specs.Prelude.{◌≡◌, ℕ, ◌+◌, ◌<◌, ◌≤◌, ◌<ℤ◌, ◌≤ℤ◌, ◌↔◌, ◌==◌, not, [], ◌∷◌, ◌++◌, IsTrue, IfOk, Some, MatchOption, length, filter, remove, slice_get};
 ghost use Rattle.std.specs.List.{All, AllPairs, AllWithin};
 ghost use Rattle.sysv_model.specs.declared.limits.TheConstants.{QUEUE_MESSAGES};
+ghost use Rattle.sysv_model.specs.declared.selector.Selector.TheVariants.{Except};
 ghost use Rattle.sysv_rules.specs.Qualifies.{NoneQualifies};
 ghost use Rattle.sysv_rules.specs.Digits.{digits};
 ghost use Rattle.sysv_index.specs.declared.entry.Entry.{Entry};
 ghost use Rattle.sysv_index.specs.Entries.{types_of, IsBefore, NumbersRise};
+ghost use Rattle.sysv_index.specs.Probes.{IsFoundByFew};
 ghost use Rattle.sysv_index.specs.Selected.{IsSelected, IsLowest, NoneLow, IsFirstOf, NoneOf};
 
-use crate::entry::{Entry, Numbered};
+use crate::entry::Entry;
 use crate::rows::Row;
 use crate::rows::steps::Steps;
 use std::alloc::Global;
@@ -22,22 +24,22 @@ use sysv_rules::{Selector, qualifies};
 /// entries in the order of their acceptance numbers.
 #[derive(Drop)]
 pub struct Index {
-    by_number: Row<Numbered>,
-    /// The same messages, by type and those of one type by number.
-    by_type: Row<Entry>,
+    by_number: Row,
+    /// The same entries, by type and those of one type by number.
+    by_type: Row,
 }
 
 impl Model for Index {
     ghost use Rattle.std.specs.Prelude.{List, ◌≤◌, vec_capacity};
     ghost use Rattle.sysv_model.specs.declared.limits.TheConstants.{QUEUE_MESSAGES};
     ghost use Rattle.sysv_index.specs.declared.entry.Entry.{Entry};
-    ghost use Rattle.sysv_index.specs.Entries.{in_order, IsIndex};
+    ghost use Rattle.sysv_index.specs.Entries.{IsIndex};
 
     ghost Value = { List Entry };
 
-    ghost view = { λ s. in_order s.by_number.entries.items s.by_type.entries.items };
+    ghost view = { λ s. s.by_number.entries.items };
 
-    ghost invariant = { λ s. IsIndex (in_order s.by_number.entries.items s.by_type.entries.items) s.by_type.entries.items × (QUEUE_MESSAGES ≤ vec_capacity s.by_number.entries) × (QUEUE_MESSAGES ≤ vec_capacity s.by_type.entries) };
+    ghost invariant = { λ s. IsIndex s.by_number.entries.items s.by_type.entries.items × (QUEUE_MESSAGES ≤ vec_capacity s.by_number.entries) × (QUEUE_MESSAGES ≤ vec_capacity s.by_type.entries) };
 }
 
 impl Index {
@@ -74,7 +76,7 @@ impl Index {
         requires last { All (λ (other : Entry). other.number < entry.number) self.old }
         ensures { self.new ≡ self.old ++ entry ∷ [] }
     {
-        self.by_number.push(entry.numbered());
+        self.by_number.push(entry);
         self.by_type.insert(entry);
     }
 
@@ -98,10 +100,10 @@ impl Index {
     /// The message that `sel` names (POSIX.1-2017, `msgrcv`, DESCRIPTION): of those that qualify the
     /// first, and for a bound the first of the lowest type. `None` where none qualifies. For any
     /// message, and for a bound, at most one entry is read; for an exact type the entries by type are
-    /// halved.
-    pub fn select<L: Ledger>(&self, sel: Selector, steps: &mut Steps<L>) -> Option<Numbered>
+    /// halved; for every type but one the entries by number are read up to the first that differs.
+    pub fn select<L: Ledger>(&self, sel: Selector, steps: &mut Steps<L>) -> Option<Entry>
         ensures selected { MatchOption result (NoneQualifies sel (types_of self.now)) (IsSelected sel self.now) }
-        ensures few { steps.new ≤ steps.old + digits (length self.now) + 2 }
+        ensures few { IsFoundByFew sel → steps.new ≤ steps.old + digits (length self.now) + 2 }
         ensures some { 0 < length self.now → steps.old < steps.new }
         ensures risen { steps.old ≤ steps.new }
     {
@@ -109,12 +111,13 @@ impl Index {
             Selector::Any => earliest(&self.by_number, steps),
             Selector::UpTo(_) => lowest(&self.by_type, sel, steps),
             Selector::Exactly(mtype) => first_of(&self.by_type, mtype, steps),
+            Selector::Except(refused) => first_except(&self.by_number, refused, steps),
         }
     }
 }
 
 /// The entry of the lowest number.
-fn earliest<L: Ledger>(by_number: &Row<Numbered>, steps: &mut Steps<L>) -> Option<Numbered>
+fn earliest<L: Ledger>(by_number: &Row, steps: &mut Steps<L>) -> Option<Entry>
     ensures first { result ≡ slice_get by_number.now.entries.items 0 }
     ensures few { steps.new ≤ steps.old + 1 }
     ensures risen { steps.old ≤ steps.new }
@@ -127,7 +130,7 @@ fn earliest<L: Ledger>(by_number: &Row<Numbered>, steps: &mut Steps<L>) -> Optio
 }
 
 /// The first entry of the lowest type, if that qualifies.
-fn lowest<L: Ledger>(by_type: &Row<Entry>, sel: Selector, steps: &mut Steps<L>) -> Option<Numbered>
+fn lowest<L: Ledger>(by_type: &Row, sel: Selector, steps: &mut Steps<L>) -> Option<Entry>
     ensures found { MatchOption result (NoneLow sel by_type.now.entries.items) (IsLowest sel by_type.now.entries.items) }
     ensures few { steps.new ≤ steps.old + 1 }
     ensures risen { steps.old ≤ steps.new }
@@ -138,14 +141,14 @@ fn lowest<L: Ledger>(by_type: &Row<Entry>, sel: Selector, steps: &mut Steps<L>) 
     }
     let lowest = by_type.probe(0, steps);
     if qualifies(sel, lowest.mtype) {
-        Some(lowest.numbered())
+        Some(lowest)
     } else {
         None
     }
 }
 
 /// The first entry of this type.
-fn first_of<L: Ledger>(by_type: &Row<Entry>, mtype: i64, steps: &mut Steps<L>) -> Option<Numbered>
+fn first_of<L: Ledger>(by_type: &Row, mtype: i64, steps: &mut Steps<L>) -> Option<Entry>
     requires { AllPairs IsBefore by_type.now.entries.items }
     ensures found { MatchOption result (NoneOf mtype by_type.now.entries.items) (IsFirstOf mtype by_type.now.entries.items) }
     ensures few { steps.new ≤ steps.old + digits (length by_type.now.entries.items) + 1 }
@@ -158,7 +161,7 @@ fn first_of<L: Ledger>(by_type: &Row<Entry>, mtype: i64, steps: &mut Steps<L>) -
     }
     let found = by_type.probe(at, steps);
     if found.mtype == mtype {
-        Some(found.numbered())
+        Some(found)
     } else {
         None
     }
@@ -166,7 +169,7 @@ fn first_of<L: Ledger>(by_type: &Row<Entry>, mtype: i64, steps: &mut Steps<L>) -
 
 /// The place of the first entry whose type is this or a higher one; where there is none, how many
 /// entries there are.
-fn first_from<L: Ledger>(by_type: &Row<Entry>, mtype: i64, steps: &mut Steps<L>) -> usize
+fn first_from<L: Ledger>(by_type: &Row, mtype: i64, steps: &mut Steps<L>) -> usize
     requires { AllPairs IsBefore by_type.now.entries.items }
     ensures within { result ≤ length by_type.now.entries.items }
     ensures below { AllWithin (λ (e : Entry). e.mtype <ℤ mtype) by_type.now.entries.items 0 result }
@@ -186,4 +189,19 @@ fn first_from<L: Ledger>(by_type: &Row<Entry>, mtype: i64, steps: &mut Steps<L>)
         }
     }
     low
+}
+
+/// The first entry whose type differs from this one.
+fn first_except<L: Ledger>(by_number: &Row, refused: i64, steps: &mut Steps<L>) -> Option<Entry>
+    ensures found { MatchOption result (NoneQualifies (Except refused) (types_of by_number.now.entries.items)) (IsSelected (Except refused) by_number.now.entries.items) }
+    ensures risen { steps.old ≤ steps.new }
+    ensures some { 0 < length by_number.now.entries.items → steps.old < steps.new }
+{
+    for at in 0..by_number.len() {
+        let entry = by_number.probe(at, steps);
+        if entry.mtype != refused {
+            return Some(entry);
+        }
+    }
+    None
 }

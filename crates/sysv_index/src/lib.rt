@@ -6,6 +6,6 @@ mod entry;
 mod index;
 mod rows;
 
-pub use entry::{Entry, Numbered};
+pub use entry::Entry;
 pub use index::Index;
 pub use rows::steps::Steps;

@@ -4,12 +4,11 @@ ghost use Rattle.std.specs.Prelude.{◌≡◌, ◌+◌, ◌<◌, ◌≤◌, ◌�
 ghost use Rattle.std.specs.List.{AllPairs};
 ghost use Rattle.sysv_model.specs.declared.limits.TheConstants.{QUEUE_MESSAGES};
 ghost use Rattle.sysv_index.specs.declared.entry.Entry.{Entry};
-ghost use Rattle.sysv_index.specs.declared.entry.Numbered.{Numbered};
 ghost use Rattle.sysv_index.specs.Entries.{IsBefore, IsInserted};
 
 pub mod steps;
 
-use crate::entry::{Entry, Numbered};
+use crate::entry::Entry;
 use std::alloc::{AllocError, Global};
 use std::sync::ledger::Ledger;
 use steps::Steps;
@@ -17,13 +16,13 @@ use sysv_model::QUEUE_MESSAGES;
 
 /// Entries in an order, with room for `QUEUE_MESSAGES` from its opening on.
 #[derive(Drop)]
-pub(crate) struct Row<E> {
-    entries: Vec<E>,
+pub(crate) struct Row {
+    entries: Vec<Entry>,
 }
 
-impl<E: Copy> Row<E> {
+impl Row {
     /// A row without entries.
-    pub(crate) fn open(alloc: Global) -> Result<Row<E>, AllocError>
+    pub(crate) fn open(alloc: Global) -> Result<Row, AllocError>
         ensures empty { IfOk result (λ row. row.entries.items ≡ []) }
         ensures roomy { IfOk result (λ row. QUEUE_MESSAGES ≤ vec_capacity row.entries) }
     {
@@ -47,7 +46,7 @@ impl<E: Copy> Row<E> {
     }
 
     /// Reads the entry at a place, and counts it. There is no other way to read one.
-    pub(crate) fn probe<L: Ledger>(&self, at: usize, steps: &mut Steps<L>) -> E
+    pub(crate) fn probe<L: Ledger>(&self, at: usize, steps: &mut Steps<L>) -> Entry
         requires { at < length self.now.entries.items }
         ensures read { slice_get self.now.entries.items at ≡ Some result }
         ensures counted { steps.new ≡ steps.old + 1 }
@@ -56,18 +55,8 @@ impl<E: Copy> Row<E> {
         self.entries[at]
     }
 
-    /// Takes all entries out.
-    pub(crate) fn clear(&mut self)
-        ensures empty { self.new.entries.items ≡ [] }
-        ensures roomy { vec_capacity self.new.entries ≡ vec_capacity self.old.entries }
-    {
-        self.entries.clear();
-    }
-}
-
-impl Row<Numbered> {
     /// Adds an entry at the end.
-    pub(crate) fn push(&mut self, entry: Numbered)
+    pub(crate) fn push(&mut self, entry: Entry)
         requires { length self.old.entries.items < vec_capacity self.old.entries }
         ensures pushed { self.new.entries.items ≡ self.old.entries.items ++ entry ∷ [] }
         ensures roomy { vec_capacity self.old.entries ≤ vec_capacity self.new.entries }
@@ -75,16 +64,6 @@ impl Row<Numbered> {
         self.entries.push(entry).unwrap();
     }
 
-    /// Takes the entries with this number out.
-    pub(crate) fn remove(&mut self, number: u64)
-        ensures others { self.new.entries.items ≡ filter (λ (n : Numbered). not (n.number == number)) self.old.entries.items }
-        ensures roomy { vec_capacity self.new.entries ≡ vec_capacity self.old.entries }
-    {
-        self.entries.retain(|kept| kept.number != number);
-    }
-}
-
-impl Row<Entry> {
     /// Adds an entry behind those of its type, where the row is in the order of types.
     pub(crate) fn insert(&mut self, entry: Entry)
         requires room { length self.old.entries.items < vec_capacity self.old.entries }
@@ -104,5 +83,13 @@ impl Row<Entry> {
         ensures roomy { vec_capacity self.new.entries ≡ vec_capacity self.old.entries }
     {
         self.entries.retain(|kept| kept.number != number);
+    }
+
+    /// Takes all entries out.
+    pub(crate) fn clear(&mut self)
+        ensures empty { self.new.entries.items ≡ [] }
+        ensures roomy { vec_capacity self.new.entries ≡ vec_capacity self.old.entries }
+    {
+        self.entries.clear();
     }
 }

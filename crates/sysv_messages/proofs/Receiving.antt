@@ -10,7 +10,6 @@ use Rattle.sysv_rules.specs.Named.{IsNamed}
 use Rattle.sysv_rules.specs.Qualifies.{NoneQualifies}
 use Rattle.sysv_pool.specs.Chain.{Chained}
 use Rattle.sysv_index.specs.declared.entry.Entry.{Entry}
-use Rattle.sysv_index.specs.declared.entry.Numbered.{Numbered}
 use Rattle.sysv_index.specs.Entries.{types_of as types_in}
 use Rattle.sysv_index.specs.Selected.{IsSelected}
 use Rattle.sysv_messages.specs.declared.head.Head.{Head}
@@ -28,19 +27,12 @@ pub none_there : (heads : Slab Head) (chains : List (Option Chained)) (entries :
 none_there heads chains entries messages sel view none = subst (λ types. NoneQualifies sel types) (sym (types_are heads chains entries messages view)) none
 
 module _ (heads : Slab Head) (chains : List (Option Chained)) (entries : List Entry) (bytes : ℕ) (s : IsStore heads chains entries bytes)
-    (messages : List Message) (view : messages_of heads chains entries ≡ messages) (sel : Selector) (found : Numbered) (x : IsSelected sel entries found) where
-  -- the entry that was found
-  abbrev pub its_entry : Entry
-  its_entry = record { mtype = x.entry.mtype; number = found.number; place = found.place }
-
-  pub entry_there : slice_get entries x.position ≡ Some its_entry
-  entry_there = x.there ∙ ap (λ (n : Numbered). Some (record { mtype = x.entry.mtype; number = n.number; place = n.place })) (sym x.same)
-
+    (messages : List Message) (view : messages_of heads chains entries ≡ messages) (sel : Selector) (found : Entry) (x : IsSelected sel entries found) where
   abbrev pub its_message : Message
-  its_message = message_at heads chains its_entry
+  its_message = message_at heads chains found
 
-  pub kept_it : IsKept heads chains its_entry
-  kept_it = kept_there heads chains entries bytes its_entry s x.position entry_there
+  pub kept_it : IsKept heads chains found
+  kept_it = kept_there heads chains entries bytes found s x.position x.there
 
   pub head_is : (head : Head) → get heads found.place ≡ Some head → head ≡ head_of its_message
   head_is head there = same_Some _ _ (sym there ∙ kept_it.known)
@@ -52,7 +44,7 @@ module _ (heads : Slab Head) (chains : List (Option Chained)) (entries : List En
   named = subst (λ types. IsNamed sel types x.position) (sym (types_are heads chains entries messages view)) x.named
 
   there_seen : slice_get messages x.position ≡ Some its_message
-  there_seen = subst (λ ms. slice_get ms x.position ≡ Some its_message) view (message_there heads chains entries bytes its_entry s x.position entry_there)
+  there_seen = subst (λ ms. slice_get ms x.position ≡ Some its_message) view (message_there heads chains entries bytes found s x.position x.there)
 
   pub too_long : (most : ℕ) → most < length its_message.bytes → IsTooLong sel most messages
   too_long most longer = record { position = x.position; message = its_message; named = named; there = there_seen; longer = longer; short = kept_it.short }
@@ -79,10 +71,10 @@ module _ (heads : Slab Head) (chains : List (Option Chained)) (entries : List En
     without = others ∙ ap (λ n. filter (λ (o : Entry). not (o.number == n)) entries) number_it
 
     gone : entries' ≡ remove entries x.position
-    gone = removed x.position its_entry entry_there (sym number_it)
+    gone = removed x.position found x.there (sym number_it)
 
     pub len_below : head.len ≤ bytes
-    len_below = omega (arith, len_it, bytes_there heads chains entries bytes its_entry s x.position entry_there)
+    len_below = omega (arith, len_it, bytes_there heads chains entries bytes found s x.position x.there)
 
     pub len_short : head.len ≤ most_bytes
     len_short = omega (arith, len_it, kept_it.short)
@@ -95,7 +87,7 @@ module _ (heads : Slab Head) (chains : List (Option Chained)) (entries : List En
     pub store_without : IsStore heads' chains' entries' (bytes - head.len)
     store_without =
         subst (λ n. IsStore heads' chains' entries' (bytes - n)) (sym len_it)
-        (store_left heads chains entries bytes its_entry s x.position entry_there heads' chains' entries' updates counted capacity left without gone)
+        (store_left heads chains entries bytes found s x.position x.there heads' chains' entries' updates counted capacity left without gone)
 
     message_it : record { number = head.number; sender = head.sender; mtype = head.mtype; bytes = chain.bytes } ≡ its_message
     message_it =
@@ -109,5 +101,5 @@ module _ (heads : Slab Head) (chains : List (Option Chained)) (entries : List En
       named = named;
       there = there_seen ∙ ap Some (sym (same ∙ message_it));
       fits = subst (λ (y : Message). length y.bytes ≤ most) (sym (same ∙ message_it)) (omega (arith, len_it, fits));
-      left = seen_left heads chains entries bytes its_entry s x.position entry_there heads' chains' entries' updates counted capacity left without gone ∙ ap (λ ms. remove ms x.position) view;
+      left = seen_left heads chains entries bytes found s x.position x.there heads' chains' entries' updates counted capacity left without gone ∙ ap (λ ms. remove ms x.position) view;
     }

@@ -4,6 +4,7 @@ ghost use Rattle.sysv_model.specs.declared.limits.TheConstants.{QUEUE_MESSAGES, 
 ghost use Rattle.sysv_model.specs.Message.{Message};
 ghost use Rattle.sysv_model.specs.Pool.{blocks_for};
 ghost use Rattle.sysv_rules.specs.Digits.{digits};
+ghost use Rattle.sysv_index.specs.Probes.{IsFoundByFew};
 ghost use Rattle.sysv_messages.specs.Texts.{blocks_of, bytes_of};
 ghost use Rattle.sysv_messages.specs.Taking.{IsTaken, IsRefused};
 
@@ -119,8 +120,8 @@ impl Messages {
 
     /// Takes the message that `sel` names (POSIX.1-2017, `msgrcv`, DESCRIPTION), if its text has at most
     /// `most` bytes. The first cause of `NotTaken` that stands is the refusal, which leaves all as it
-    /// was. It takes no memory. `steps` counts the entries of the index that are read to find it: at most
-    /// two more than the number of messages has binary digits.
+    /// was. It takes no memory. `steps` counts the entries of the index that are read to find it: for any
+    /// message, an exact type and a bound at most two more than the number of messages has binary digits.
     pub fn take<L: Ledger>(
         &mut self,
         sel: Selector,
@@ -130,7 +131,7 @@ impl Messages {
         ensures taken { IfOk result (λ waiting. IsTaken sel most self.old waiting self.new) }
         ensures refused { IfErr result (λ why. IsRefused sel most self.old why) }
         ensures unchanged { OnErr result (self.new ≡ self.old) }
-        ensures few { steps.new ≤ steps.old + digits (length self.old) + 2 }
+        ensures few { IsFoundByFew sel → steps.new ≤ steps.old + digits (length self.old) + 2 }
         ensures some { 0 < length self.old → steps.old < steps.new }
         ensures risen { steps.old ≤ steps.new }
     {

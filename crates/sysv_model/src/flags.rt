@@ -37,7 +37,7 @@ bitflag_items! {
         const IPC_NOWAIT = 2048;
         /// A text that is longer than the size is cut.
         const MSG_NOERROR = 4096;
-        /// Any type but the one given (this profile's: a receive refuses it).
+        /// Any type but the one given, which is above 0 (this profile's, as Linux has it).
         const MSG_EXCEPT = 8192;
     }
 }

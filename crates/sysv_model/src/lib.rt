@@ -1,6 +1,6 @@
 //! The words of System V message queues: errors, credentials, flags, message bodies, the attributes
 //! of a queue, what IPC_SET gives and IPC_STAT shows, the limits of this profile, and streams that
-//! remember whether they failed. `specs/` has the history of a slot and what a history has accepted,
+//! count their failures. `specs/` has the history of a slot and what a history has accepted,
 //! delivered, discarded and still holds.
 #![tactic(auto)]
 
@@ -9,6 +9,7 @@ mod body;
 mod cred;
 mod errno;
 mod flags;
+mod laws;
 mod limits;
 mod no_memory;
 mod selector;
@@ -19,6 +20,7 @@ pub use body::Body;
 pub use cred::Cred;
 pub use errno::Errno;
 pub use flags::Flags;
+pub use laws::{numerals_of_flags, numerals_of_limits, numerals_of_mode_bits};
 pub use limits::{
     BLOCK_BYTES, BODY_ROOM, IPC_PRIVATE, MAX_ACTORS, MAX_BLOCKS, MAX_QBYTES, MESSAGE_BYTES,
     MIN_BLOCKS, QBYTES_AT_CREATION, QUEUE_MESSAGES, WORN,

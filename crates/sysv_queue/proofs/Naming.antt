@@ -3,7 +3,7 @@ use Rattle.std.proofs.Common.{◌≡◌, ℕ, ℤ, zero, suc, ◌<◌, Bool, tru
 use Rattle.std.proofs.lemmas.List.{length-map}
 use Rattle.sysv_model.specs.Message.{Message}
 use Rattle.sysv_model.specs.declared.selector.Selector.{Selector}
-use Rattle.sysv_model.specs.declared.selector.Selector.TheVariants.{Any, Exactly, UpTo}
+use Rattle.sysv_model.specs.declared.selector.Selector.TheVariants.{Any, Exactly, Except, UpTo}
 use Rattle.sysv_rules.specs.Qualifies.{QualifiesAt, NoneQualifies, type_at}
 use Rattle.sysv_rules.specs.Named.{IsNamed as IsNamedAmong}
 use Rattle.sysv_queue.specs.Slot.{Slot}
@@ -31,6 +31,7 @@ some_message (m ∷ ms) (suc place) within = some_message ms place (omega arith)
 pub named_qualifies : (selector : Selector) (types : List ℤ) (place : ℕ) → IsNamedAmong selector types place → QualifiesAt selector types place
 named_qualifies Any types place named = named.0
 named_qualifies (Exactly asked) types place named = named.0
+named_qualifies (Except refused) types place named = named.0
 named_qualifies (UpTo bound) types place named = named.0
 
 pub none_named : (selector : Selector) (ms : List Message) → NoneQualifies selector (types_of ms) → (place : ℕ) → ¬ IsNamed selector ms place
@@ -52,6 +53,7 @@ type_of_place (x ∷ ms) (suc place) m there = type_of_place ms place m there
 pub first_of_type : (selector : Selector) (types : List ℤ) (place earlier : ℕ) → IsNamedAmong selector types place → earlier < place → ¬ (type_at types earlier ≡ type_at types place)
 first_of_type Any types place earlier named less same = named.1 earlier less (omega (arith, named.0.0), tt)
 first_of_type (Exactly asked) types place earlier named less same = named.1 earlier less (omega (arith, named.0.0), same ∙ named.0.1)
+first_of_type (Except refused) types place earlier named less same = named.1 earlier less (omega (arith, named.0.0), λ is. named.0.1 (sym same ∙ is))
 first_of_type (UpTo bound) types place earlier named less same = named.1.2 earlier less same
 
 -- two messages that a selector names are one, as it names one place

@@ -6,13 +6,14 @@ ghost use Rattle.sysv_model.specs.History.{Look as LookCall};
 ghost use Rattle.sysv_model.specs.Live.{HasId, sent_to, received_from};
 ghost use Rattle.sysv_model.specs.Pool.{blocks_for};
 ghost use Rattle.sysv_rules.specs.Digits.{digits};
+ghost use Rattle.sysv_index.specs.Probes.{IsFoundByFew};
 ghost use Rattle.sysv_messages.specs.Taking.{IsTaken, IsRefused};
 ghost use Rattle.sysv_queue.specs.Blocks.{blocks_of};
 ghost use Rattle.sysv_queue.specs.Fits.{bytes_of};
 ghost use Rattle.sysv_queue.specs.Fits.{Fits as FitsOn};
 ghost use Rattle.sysv_queue.specs.Granted.{IsGranted, MayAsAsked, MayControl};
 ghost use Rattle.sysv_queue.specs.Barred.{Bars, BarsControl};
-ghost use Rattle.sysv_queue.specs.Probes.{IsFoundByFew, IsBarred};
+ghost use Rattle.sysv_queue.specs.Probes.{IsBarred};
 ghost use Rattle.sysv_queue.specs.StandsFor.{StandsFor, MakesTurn};
 ghost use Rattle.sysv_queue.specs.Replies.{probe_reply, stat_reply, set_reply, remove_reply, look_reply, place_reply, take_reply};
 
@@ -400,7 +401,7 @@ impl QueueSlot {
         }) }
         ensures refused { IfErr result (λ why. IsRefused sel most self.old.messages why) }
         ensures unchanged { OnErr result (self.new ≡ self.old) }
-        ensures few { steps.new ≤ steps.old + digits (length self.old.messages) + 2 }
+        ensures few { IsFoundByFew sel → steps.new ≤ steps.old + digits (length self.old.messages) + 2 }
         ensures some { 0 < length self.old.messages → steps.old < steps.new }
     {
         let message = self.messages.take(sel, most, steps)?;

@@ -4,7 +4,7 @@ use Rattle.std.proofs.lemmas.Int.{by_lt_z, ints}
 use Rattle.std.specs.Ordering.{int_eq}
 use Rattle.std.proofs.lemmas.Bool.Decides.{Decides-int_eq}
 use Rattle.sysv_model.specs.declared.selector.Selector.{Selector}
-use Rattle.sysv_model.specs.declared.selector.Selector.TheVariants.{Any, Exactly, UpTo}
+use Rattle.sysv_model.specs.declared.selector.Selector.TheVariants.{Any, Exactly, Except, UpTo}
 use Rattle.sysv_rules.specs.Qualifies.{Qualifies, QualifiesAt, NoneQualifies, type_at}
 use Rattle.sysv_rules.specs.Named.{IsNamed, IsFirst}
 
@@ -19,6 +19,7 @@ above b t h k = omega (arith, ints)
 pub qualifies_or_not : (sel : Selector) (mtype : ℤ) → Qualifies sel mtype ⊎ ¬ Qualifies sel mtype
 qualifies_or_not Any mtype = inl tt
 qualifies_or_not (Exactly asked) mtype = by_test (int_eq mtype asked) mtype asked refl
+qualifies_or_not (Except refused) mtype = elim (by_test (int_eq mtype refused) mtype refused refl) [ inl same ↦ inr (λ other. other same) | inr other ↦ inl other ]
 qualifies_or_not (UpTo bound) mtype =
     by_lt_z (pos bound) mtype (λ lower. inr (above bound mtype lower)) (λ within. inl within)
 
@@ -100,6 +101,8 @@ named_or_none Any types =
     elim (first_or_none Any types (length types) (omega arith)) [ inl w ↦ inl w | inr none ↦ inr (none_qualifies Any types none) ]
 named_or_none (Exactly asked) types =
     elim (first_or_none (Exactly asked) types (length types) (omega arith)) [ inl w ↦ inl w | inr none ↦ inr (none_qualifies (Exactly asked) types none) ]
+named_or_none (Except refused) types =
+    elim (first_or_none (Except refused) types (length types) (omega arith)) [ inl w ↦ inl w | inr none ↦ inr (none_qualifies (Except refused) types none) ]
 named_or_none (UpTo bound) [] = inr (λ place q. absurd (omega (arith, q.0)))
 named_or_none (UpTo bound) (t ∷ ts) =
     let w = some_least (t ∷ ts) (length ts) in up_to bound (t ∷ ts) (length ts) w.0 refl w.1

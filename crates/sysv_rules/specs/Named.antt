@@ -1,9 +1,9 @@
 -- The place that a selector names in a list of types, which stand in the order of acceptance
--- (POSIX.1-2017, msgrcv, DESCRIPTION). Its type qualifies. For any type and for an exact one no
--- earlier place qualifies; for a bound no place has a lower type and no earlier place has the same.
+-- (POSIX.1-2017, msgrcv, DESCRIPTION). Its type qualifies. For any type, for an exact one
+-- and for every type but one no earlier place qualifies; for a bound no place has a lower type and no earlier place has the same.
 use Rattle.std.specs.Prelude.{◌≡◌, ◌<◌, ◌<ℤ◌, ℕ, ℤ, List, length}
 use Rattle.sysv_model.specs.declared.selector.Selector.{Selector}
-use Rattle.sysv_model.specs.declared.selector.Selector.TheVariants.{Any, Exactly, UpTo}
+use Rattle.sysv_model.specs.declared.selector.Selector.TheVariants.{Any, Exactly, Except, UpTo}
 use Rattle.sysv_rules.specs.Qualifies.{QualifiesAt, type_at}
 
 -- the place qualifies, and no earlier one does
@@ -20,4 +20,5 @@ IsLeast types place =
 abbrev pub IsNamed : Selector → List ℤ → ℕ → Type 0
 IsNamed Any types place = IsFirst Any types place
 IsNamed (Exactly asked) types place = IsFirst (Exactly asked) types place
+IsNamed (Except refused) types place = IsFirst (Except refused) types place
 IsNamed (UpTo bound) types place = QualifiesAt (UpTo bound) types place × IsLeast types place

@@ -1,11 +1,12 @@
 -- The types that a selector asks for (POSIX.1-2017, msgrcv, DESCRIPTION), compared as whole numbers.
-use Rattle.std.specs.Prelude.{◌≡◌, ◌<◌, ◌≤ℤ◌, ℕ, ℤ, pos, List, length, slice_index_or, ⊤}
+use Rattle.std.specs.Prelude.{◌≡◌, ◌≢◌, ◌<◌, ◌≤ℤ◌, ℕ, ℤ, pos, List, length, slice_index_or, ⊤}
 use Rattle.sysv_model.specs.declared.selector.Selector.{Selector}
-use Rattle.sysv_model.specs.declared.selector.Selector.TheVariants.{Any, Exactly, UpTo}
+use Rattle.sysv_model.specs.declared.selector.Selector.TheVariants.{Any, Exactly, Except, UpTo}
 
 abbrev pub Qualifies : Selector → ℤ → Type 0
 Qualifies Any mtype = ⊤
 Qualifies (Exactly asked) mtype = mtype ≡ asked
+Qualifies (Except refused) mtype = mtype ≢ refused
 Qualifies (UpTo bound) mtype = mtype ≤ℤ pos bound
 
 -- the type at a place of the list, from 0

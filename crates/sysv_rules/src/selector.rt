@@ -13,6 +13,7 @@ pub fn qualifies(sel: Selector, mtype: i64) -> bool
     match sel {
         Selector::Any => true,
         Selector::Exactly(asked) => mtype == asked,
+        Selector::Except(refused) => mtype != refused,
         Selector::UpTo(bound) => mtype < 0 || mtype.unsigned_abs() <= bound,
     }
 }

@@ -10,7 +10,7 @@ use sysv_wire::{Op, Reply, Request};
 
 /// What a kernel answers. A message that was received can be neither dropped nor copied.
 pub enum Outcome {
-    /// A reply, of the operation that was asked for. It is not a message.
+    /// A reply, of the request's version and of the operation that was asked for. It is not a message.
     Reply(Reply),
     /// A receive was given this message.
     Got(Delivery),
@@ -30,5 +30,5 @@ pub trait Kernel {
         requires asked { op_of request.now.ask ≢ Op.Hello }
         requires empty { given.old ≡ [] }
         ensures meaning { meaning self.old cred request.now text.now result given.new self.new }
-        ensures answer { MayAnswer request.now.ask result given.new };
+        ensures answer { MayAnswer request.now.version request.now.ask result given.new };
 }

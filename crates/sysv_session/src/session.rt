@@ -8,26 +8,28 @@ ghost use Rattle.sysv_session.specs.Turn.{Turns};
 
 use crate::kernel::Kernel;
 use crate::served::{End, SESSION_REQUESTS, Served};
-use crate::turn::{answer, read_asked, read_hello, send};
+use crate::turn::{answer, hello_reply, read_asked, read_hello, send};
 use std::alloc::Global;
 use std::io::{Read, Write};
 use sysv_model::{Body, Cred, NoMemory};
 use sysv_queue::Tally;
-use sysv_wire::{Op, Outcome as Told, Reply, Request, one_answer_to_requests, one_request};
+use sysv_wire::{Request, Version, one_answer_to_requests, one_request};
 
 /// Runs one session to its end: reads a hello and answers it, and then reads requests, asks the kernel
 /// each of them with the credentials of the hello, and writes its replies in order, each flushed before the
 /// next request is read.
 ///
-/// A request that cannot be read, and a later hello, end the session without a reply. Memory is taken
+/// The session has the version of its hello; in version 2 the reply to the hello has the number of slots.
+/// A request that cannot be read, one of another version and a later hello end the session without a reply. Memory is taken
 /// for two texts, and before anything is read; where it is refused, reader, writer and kernel are as they were.
 pub fn serve<R: Read, W: Write, K: Kernel>(
     alloc: Global,
+    slots: u32,
     reader: &mut R,
     writer: &mut W,
     kernel: &mut K,
 ) -> Served
-    ensures serves { Serves K.meaning result kernel.old kernel.new (R.remaining reader.old) (R.remaining reader.new) (W.contents writer.old) (W.contents writer.new) }
+    ensures serves { Serves K.meaning slots result kernel.old kernel.new (R.remaining reader.old) (R.remaining reader.new) (W.contents writer.old) (W.contents writer.new) }
     // It ends as its input tells, unless it is cut short.
     ensures only { (input : List ℕ) (course : Course) → R.remaining reader.old ≡ Some input → Takes input course → Follows course result }
     ensures memory { result.«end» ≡ End.NoMemory → (reader.new ≡ reader.old) × (writer.new ≡ writer.old) }
@@ -41,7 +43,7 @@ pub fn serve<R: Read, W: Write, K: Kernel>(
             requests: 0,
         };
     };
-    let end = session.run(reader, writer, kernel);
+    let end = session.run(slots, reader, writer, kernel);
     Served {
         end,
         tally: session.tally,
@@ -78,42 +80,46 @@ impl Session {
     /// Runs from the hello to the end.
     fn run<R: Read, W: Write, K: Kernel>(
         &mut self,
+        slots: u32,
         reader: &mut R,
         writer: &mut W,
         kernel: &mut K,
     ) -> End
         requires tally { self.old.tally ≡ record { written = 0; lost = 0 } }
         requires count { self.old.requests ≡ 0 }
-        ensures serves { ServesBy K.meaning result self.new.tally self.new.requests kernel.old kernel.new (R.remaining reader.old) (R.remaining reader.new)
+        ensures serves { ServesBy K.meaning slots result self.new.tally self.new.requests kernel.old kernel.new (R.remaining reader.old) (R.remaining reader.new)
             (W.contents writer.old) (W.contents writer.new) }
         ensures memory { result ≢ End.NoMemory }
     {
-        match self.greet(reader, writer) {
-            Ok(cred) => self.serve_calls(cred, reader, writer, kernel),
+        match self.greet(slots, reader, writer) {
+            Ok((version, cred)) => self.serve_calls(version, cred, reader, writer, kernel),
             Err(end) => end,
         }
     }
 
     /// Reads the hello and answers it.
-    fn greet<R: Read, W: Write>(&mut self, reader: &mut R, writer: &mut W) -> Result<Cred, End>
+    fn greet<R: Read, W: Write>(
+        &mut self,
+        slots: u32,
+        reader: &mut R,
+        writer: &mut W,
+    ) -> Result<(Version, Cred), End>
         requires { self.old.requests ≡ 0 }
-        ensures opens { Opens result (R.remaining reader.old) (R.remaining reader.new) (W.contents writer.old) (W.contents writer.new) self.new.requests }
+        ensures opens { Opens slots result (R.remaining reader.old) (R.remaining reader.new) (W.contents writer.old) (W.contents writer.new) self.new.requests }
         ensures tally { self.new.tally ≡ self.old.tally }
     {
-        let cred = read_hello(reader, &mut self.text)?;
+        let (version, cred) = read_hello(reader, &mut self.text)?;
         self.requests = 1;
         self.given.clear();
-        let reply = Reply {
-            op: Op::Hello.number(),
-            result: Told::Hello,
-        };
+        let reply = hello_reply(version, slots);
         send(writer, &reply, &self.given)?;
-        Ok(cred)
+        Ok((version, cred))
     }
 
     /// Answers requests up to the bound or the first end.
     fn serve_calls<R: Read, W: Write, K: Kernel>(
         &mut self,
+        version: Version,
         cred: Cred,
         reader: &mut R,
         writer: &mut W,
@@ -121,11 +127,11 @@ impl Session {
     ) -> End
         requires tally { self.old.tally ≡ record { written = 0; lost = 0 } }
         requires count { self.old.requests ≡ 1 }
-        ensures { Goes K.meaning cred result kernel.old kernel.new (R.remaining reader.old) (R.remaining reader.new)
+        ensures { Goes K.meaning version cred result kernel.old kernel.new (R.remaining reader.old) (R.remaining reader.new)
             (W.contents writer.old) (W.contents writer.new) self.new.tally self.new.requests }
     {
         for _ in 1..SESSION_REQUESTS {
-            if let Err(end) = self.serve_next(cred, reader, writer, kernel) {
+            if let Err(end) = self.serve_next(version, cred, reader, writer, kernel) {
                 return end;
             }
         }
@@ -135,6 +141,7 @@ impl Session {
     /// Reads the next request, asks the kernel and writes its reply.
     fn serve_next<R: Read, W: Write, K: Kernel>(
         &mut self,
+        version: Version,
         cred: Cred,
         reader: &mut R,
         writer: &mut W,
@@ -142,15 +149,21 @@ impl Session {
     ) -> Result<(), End>
         requires room { taken_in self.old.tally < 2 ^ 64 - 1 }
         requires count { self.old.requests < SESSION_REQUESTS }
-        ensures { Turns K.meaning cred result kernel.old kernel.new (R.remaining reader.old) (R.remaining reader.new)
+        ensures { Turns K.meaning version cred result kernel.old kernel.new (R.remaining reader.old) (R.remaining reader.new)
             (W.contents writer.old) (W.contents writer.new) self.old.tally self.new.tally self.old.requests self.new.requests }
     {
-        let Some(request) = read_asked(reader, &mut self.text)? else {
+        let Some(request) = read_asked(reader, version, &mut self.text)? else {
             return Err(End::Ended);
         };
         self.requests += 1;
         self.given.clear();
         let outcome = kernel.call(cred, &request, &self.text, &mut self.given);
-        answer(writer, outcome, &self.given, &mut self.tally)
+        answer(
+            writer,
+            request.version,
+            outcome,
+            &self.given,
+            &mut self.tally,
+        )
     }
 }

@@ -10,7 +10,7 @@ use std::marker::Brand;
 use std::process::Abort;
 use std::sync::ledger::{Blank, Ledger};
 use std::test::Fail;
-use sysv_index::{Entry, Index, Numbered, Steps};
+use sysv_index::{Entry, Index, Steps};
 use sysv_model::{NoMemory, QUEUE_MESSAGES, Selector};
 use sysv_rules::select_plain;
 
@@ -28,7 +28,7 @@ fn open_index(rt: &impl Abort, alloc: Global) -> Index
 }
 
 /// What is selected, with a counter that is given up.
-fn select_with<L: Ledger>(index: &Index, sel: Selector, blank: Blank) -> Option<Numbered>
+fn select_with<L: Ledger>(index: &Index, sel: Selector, blank: Blank) -> Option<Entry>
     requires name { blank.name ≡ L.name }
     requires parts { blank.parts ≡ L.parts }
     requires some { 0 < blank.parts }
@@ -37,7 +37,7 @@ fn select_with<L: Ledger>(index: &Index, sel: Selector, blank: Blank) -> Option<
     index.select(sel, &mut steps)
 }
 
-fn select(index: &Index, sel: Selector) -> Option<Numbered> {
+fn select(index: &Index, sel: Selector) -> Option<Entry> {
     select_with::<Brand>(index, sel, Blank::new(1))
 }
 
@@ -57,21 +57,17 @@ impl Beside {
     }
 
     /// What the plain rule names.
-    fn select(&mut self, sel: Selector) -> Result<Option<Numbered>, Fail> {
+    fn select(&mut self, sel: Selector) -> Result<Option<Entry>, Fail> {
         self.types.clear();
         for entry in &self.entries {
             self.types.push(entry.mtype)?;
         }
         let place = select_plain(sel, &self.types);
-        Ok(
-            place
-                .and_then(|place| self.entries.get(place))
-                .map(|entry| entry.numbered()),
-        )
+        Ok(place.and_then(|place| self.entries.get(place)).copied())
     }
 }
 
-/// All three selectors select what the plain rule names.
+/// Each kind of selector selects what the plain rule names.
 fn assert_agree(
     rt: &impl Abort,
     index: &Index,
@@ -83,6 +79,7 @@ fn assert_agree(
         Selector::Any,
         Selector::Exactly(mtype),
         Selector::UpTo(mtype.unsigned_abs()),
+        Selector::Except(mtype),
     ] {
         assert_eq!(rt; select(index, sel), beside.select(sel)?, "{mtype}");
     }
@@ -95,9 +92,10 @@ fn script(step: u64) -> (Selector, i64)
 {
     let mixed = step * 13 % 17 + step / 7;
     let mtype = (mixed % 7) as i64 + 1;
-    let sel = match mixed % 3 {
+    let sel = match mixed % 4 {
         0 => Selector::Any,
         1 => Selector::Exactly(mtype),
+        2 => Selector::Except(mtype),
         _ => Selector::UpTo(mtype.unsigned_abs()),
     };
     (sel, mtype)
@@ -130,7 +128,7 @@ fn selections_follow_the_plain_rule(rt: HostRuntime) -> Result<(), Fail> {
 }
 
 /// What is selected is this.
-fn assert_selects(rt: &impl Abort, index: &Index, sel: Selector, wanted: Option<Numbered>) {
+fn assert_selects(rt: &impl Abort, index: &Index, sel: Selector, wanted: Option<Entry>) {
     assert_eq!(rt; select(index, sel), wanted, "{sel:?}");
 }
 
@@ -153,18 +151,22 @@ fn entries_come_and_go(rt: HostRuntime) {
     assert_selects(&rt, &index, Selector::Any, None);
     assert_selects(&rt, &index, Selector::Exactly(5), None);
     assert_selects(&rt, &index, Selector::UpTo(9), None);
+    assert_selects(&rt, &index, Selector::Except(9), None);
     index.push(TENTH);
     index.push(TWELFTH);
     assert_eq!(rt; index.len(), 2);
-    let (tenth, twelfth) = (TENTH.numbered(), TWELFTH.numbered());
-    assert_selects(&rt, &index, Selector::Any, Some(tenth));
-    assert_selects(&rt, &index, Selector::UpTo(5), Some(twelfth));
+    assert_selects(&rt, &index, Selector::Any, Some(TENTH));
+    assert_selects(&rt, &index, Selector::UpTo(5), Some(TWELFTH));
     assert_selects(&rt, &index, Selector::UpTo(1), None);
-    assert_selects(&rt, &index, Selector::Exactly(5), Some(tenth));
+    assert_selects(&rt, &index, Selector::Exactly(5), Some(TENTH));
     assert_selects(&rt, &index, Selector::Exactly(4), None);
+    assert_selects(&rt, &index, Selector::Except(2), Some(TENTH));
+    assert_selects(&rt, &index, Selector::Except(4), Some(TENTH));
+    assert_selects(&rt, &index, Selector::Except(5), Some(TWELFTH));
     index.remove(10);
-    assert_selects(&rt, &index, Selector::Any, Some(twelfth));
+    assert_selects(&rt, &index, Selector::Any, Some(TWELFTH));
     assert_selects(&rt, &index, Selector::Exactly(5), None);
+    assert_selects(&rt, &index, Selector::Except(2), None);
     index.remove(11);
     assert_eq!(rt; index.len(), 1);
     index.clear();

@@ -173,6 +173,14 @@ fn messages_come_and_go(rt: HostRuntime) {
         mtype: 2,
         len: 130,
     };
+    assert_receives(
+        &rt,
+        &mut desk,
+        Selector::Except(5),
+        129,
+        Err(NotTaken::TooLong),
+    );
+    assert_waiting(&rt, &desk, (4, 139));
     assert_receives(&rt, &mut desk, Selector::UpTo(8), 130, Ok(second));
     assert_holds(&rt, &desk.out, &[7; 130]);
     let first = Received {
@@ -191,8 +199,53 @@ fn messages_come_and_go(rt: HostRuntime) {
     assert_receives(&rt, &mut desk, Selector::Any, 0, Ok(empty));
     assert_holds(&rt, &desk.out, b"");
     assert_waiting(&rt, &desk, (1, 4));
+    let last = Received {
+        number: 6,
+        mtype: 9,
+        len: 4,
+        ..second
+    };
+    let none = Err(NotTaken::NoneQualifies);
+    assert_receives(&rt, &mut desk, Selector::Except(9), 8192, none);
+    assert_receives(&rt, &mut desk, Selector::Except(5), 8192, Ok(last));
+    assert_holds(&rt, &desk.out, b"last");
+    send(&rt, &mut desk, 7, 1, b"more");
+    assert_waiting(&rt, &desk, (1, 4));
     assert_eq!(rt; desk.pool.free(), 511);
     end_desk(&rt, desk, 1);
+}
+
+/// A full store, whose only message of type 2 came last.
+fn open_full(rt: &impl Abort, alloc: Global) -> Desk {
+    let mut desk = open_desk(rt, alloc);
+    for number in 0..255 {
+        send(rt, &mut desk, number, 1, b"");
+    }
+    send(rt, &mut desk, 255, 2, b"");
+    desk
+}
+
+#[test]
+fn a_full_store_is_walked_to_its_end(rt: HostRuntime) {
+    let mut desk = open_full(&rt, rt.alloc());
+    assert_waiting(&rt, &desk, (256, 0));
+    let last = Received {
+        number: 255,
+        sender: 101,
+        mtype: 2,
+        len: 0,
+    };
+    let first = Received {
+        number: 0,
+        mtype: 1,
+        ..last
+    };
+    let none = Err(NotTaken::NoneQualifies);
+    assert_receives(&rt, &mut desk, Selector::Except(2), 0, Ok(first));
+    assert_receives(&rt, &mut desk, Selector::Except(1), 0, Ok(last));
+    assert_receives(&rt, &mut desk, Selector::Except(1), 0, none);
+    assert_waiting(&rt, &desk, (254, 0));
+    end_desk(&rt, desk, 0);
 }
 
 #[test]

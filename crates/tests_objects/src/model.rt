@@ -158,8 +158,6 @@ fn bytes_stand_in_order(rt: HostRuntime) {
 fn a_type_argument_asks_for_its_kind(rt: HostRuntime) {
     let table = [
         (0, Selector::Any),
-        (1, Selector::Exactly(1)),
-        (i64::MAX, Selector::Exactly(9_223_372_036_854_775_807)),
         (-1, Selector::UpTo(1)),
         (-i64::MAX, Selector::UpTo(9_223_372_036_854_775_807)),
         (i64::MIN, Selector::UpTo(9_223_372_036_854_775_808)),
@@ -167,5 +165,11 @@ fn a_type_argument_asks_for_its_kind(rt: HostRuntime) {
     for (mtype, sel) in table {
         assert_eq!(rt; Selector::of(mtype, Flags::IPC_NOWAIT), sel, "{mtype}");
         assert_eq!(rt; Selector::of(mtype, Flags::MSG_EXCEPT), sel, "{mtype}");
+    }
+    for mtype in [1, 5, i64::MAX] {
+        let exactly = Selector::of(mtype, Flags::IPC_NOWAIT);
+        let except = Selector::of(mtype, Flags::MSG_EXCEPT | Flags::IPC_NOWAIT);
+        assert_eq!(rt; exactly, Selector::Exactly(mtype));
+        assert_eq!(rt; except, Selector::Except(mtype));
     }
 }

@@ -384,13 +384,14 @@ fn messages_fill_a_queue(rt: HostRuntime) {
 #[test]
 fn a_selector_names_one_message(rt: HostRuntime) {
     let mut desk = desk_with_queue(&rt, rt.alloc());
-    let messages: [(i64, &[u8], u64); 3] = [(5, b"a", 0), (2, b"b", 1), (5, b"c", 2)];
+    let messages: [(i64, &[u8], u64); 4] = [(5, b"a", 0), (2, b"b", 1), (5, b"c", 2), (7, b"d", 3)];
     for (mtype, text, number) in messages {
         assert_sends(&rt, &mut desk, mtype, text, Ok(number));
     }
-    let receives: [(Selector, i64, &[u8], u64); 3] = [
+    let receives: [(Selector, i64, &[u8], u64); 4] = [
         (Selector::Exactly(5), 5, b"a", 0),
         (Selector::UpTo(4), 2, b"b", 1),
+        (Selector::Except(5), 7, b"d", 3),
         (Selector::Any, 5, b"c", 2),
     ];
     for (sel, mtype, text, number) in receives {
@@ -404,7 +405,7 @@ fn a_selector_names_one_message(rt: HostRuntime) {
         );
         assert_holds(&rt, &desk.out, text);
     }
-    assert_counts(&rt, &desk, (3, 3));
+    assert_counts(&rt, &desk, (4, 4));
     end_desk(&rt, desk, 0);
 }
 

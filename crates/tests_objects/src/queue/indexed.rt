@@ -3,7 +3,7 @@
 
 ghost use Rattle.std.specs.Prelude.{◌≡◌, ◌+◌, ◌^◌, ◌<◌, ◌≤◌, length};
 ghost use Rattle.sysv_model.specs.declared.limits.TheConstants.{QUEUE_MESSAGES};
-ghost use Rattle.sysv_queue.specs.Probes.{IsFoundByFew};
+ghost use Rattle.sysv_index.specs.Probes.{IsFoundByFew};
 
 use super::{SENDER, open_slot};
 use crate::parts::{give_back, open_body, open_pool, room};
@@ -120,9 +120,10 @@ fn script(step: u64) -> (Selector, i64)
 {
     let mixed = step * 13 % 17 + step / 7;
     let mtype = (mixed % 7) as i64 + 1;
-    let sel = match step % 3 {
+    let sel = match step % 4 {
         0 => Selector::Any,
         1 => Selector::Exactly(mtype),
+        2 => Selector::Except(mtype),
         _ => Selector::UpTo(mtype.unsigned_abs()),
     };
     (sel, mtype)
@@ -214,6 +215,19 @@ fn empty(rt: &impl Abort, desk: &mut Desk) {
         Err(why) => panic!(rt; "{why:?}"),
     }
     assert!(rt; desk.slot.install(0, 0, SENDER, 0o600, 0));
+}
+
+#[test]
+fn every_type_but_one_comes_in_order(rt: HostRuntime) {
+    let mut desk = open_desk(&rt, rt.alloc());
+    fill(&rt, &mut desk);
+    for number in 1..256 {
+        let wanted = (number, type_of_number(number));
+        assert_eq!(rt; receive(&rt, &mut desk, Selector::Except(1)), Some(wanted));
+    }
+    assert_eq!(rt; receive(&rt, &mut desk, Selector::Except(1)), None);
+    assert_eq!(rt; receive(&rt, &mut desk, Selector::Except(2)), Some((0, 1)));
+    end_desk(&rt, desk);
 }
 
 #[test]

@@ -19,8 +19,10 @@ fn assert_selects(rt: &impl Abort, types: &[i64], table: &[(i64, Option<usize>)]
 #[test]
 fn types_qualify_as_whole_numbers(rt: HostRuntime) {
     let all = [MIN, -5, 1, 5, 6, MAX];
-    let table: [(Selector, &[i64]); 6] = [
+    let table: [(Selector, &[i64]); 8] = [
         (Selector::Any, &all),
+        (Selector::Except(5), &[MIN, -5, 1, 6, MAX]),
+        (Selector::Except(0), &all),
         (Selector::Exactly(5), &[5]),
         (Selector::Exactly(MAX), &[MAX]),
         (Selector::UpTo(5), &[MIN, -5, 1, 5]),
@@ -56,6 +58,23 @@ fn the_first_that_qualifies_is_named(rt: HostRuntime) {
         (MIN, Some(1)),
     ];
     assert_selects(&rt, &[5, 2, 5, 2, 9], &table);
+}
+
+#[test]
+fn the_first_of_another_type_is_named(rt: HostRuntime) {
+    let table = [
+        (5, Some(1)),
+        (2, Some(0)),
+        (9, Some(0)),
+        (3, Some(0)),
+        (MAX, Some(0)),
+    ];
+    for (mtype, place) in table {
+        let sel = Selector::of(mtype, Flags::MSG_EXCEPT);
+        assert_eq!(rt; select_plain(sel, &[5, 2, 5, 2, 9]), place, "{mtype}");
+        assert_eq!(rt; select_plain(sel, &[mtype, mtype]), None, "{mtype}");
+        assert_eq!(rt; select_plain(sel, &[]), None, "{mtype}");
+    }
 }
 
 #[test]

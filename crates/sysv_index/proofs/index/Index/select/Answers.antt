@@ -1,12 +1,13 @@
-use Rattle.std.proofs.Common.{refl, subst, w64, FitsSigned, rules}
+use Rattle.std.proofs.Common.{refl, ap, subst, ◌∙◌, w64, FitsSigned, rules}
 use Rattle.std.proofs.lemmas.Int.{to_z-of_z}
+use Rattle.std.specs.List.{slice_get}
 use Rattle.sysv_index.specs.Entries.{IsIndex}
 use Rattle.sysv_index.proofs.Selection.{earliest_selected, lowest_selected, first_selected}
 use Rattle.sysv_index.proofs.index.Index.select.Goals as goal
 
 pub returns-in-Any-clause-selected : goal.returns-in-Any-clause-selected
 returns-in-Any-clause-selected g c =
-    earliest_selected c.self.inside.by_number.entries.items _ c.self.inside.by_type.entries.items c.args.self.now c.args.sel c.earliest.result c.in-Any.is refl c.self.view_is c.earliest.ensures.first
+    earliest_selected c.args.self.now c.args.sel c.earliest.result c.in-Any.is (c.earliest.ensures.first ∙ ap (λ es. slice_get es 0) c.self.view_is)
 
 pub returns-in-UpTo-clause-selected : goal.returns-in-UpTo-clause-selected
 returns-in-UpTo-clause-selected g c =

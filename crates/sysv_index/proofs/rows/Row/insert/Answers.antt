@@ -5,7 +5,7 @@ use Rattle.std.proofs.lemmas.List.Sorted.{IsPartitionPoint-from_clause}
 use Rattle.sysv_index.specs.declared.entry.Entry.{Entry}
 use Rattle.sysv_index.specs.Entries.{IsBefore, IsInserted}
 use Rattle.sysv_index.proofs.Halving.{parted, comes_in}
-use Rattle.sysv_index.proofs.rows.Row+Entry.insert.Goals as goal
+use Rattle.sysv_index.proofs.rows.Row.insert.Goals as goal
 
 pub returns-clause-inserted : goal.returns-clause-inserted
 returns-clause-inserted c =
