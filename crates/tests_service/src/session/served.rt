@@ -29,6 +29,9 @@ pub(super) fn assert_served(
     assert_eq!(rt; page.written(), answers);
 }
 
+/// The slots that the replies to hellos of version 2 tell.
+pub(super) const SLOTS: u32 = 256;
+
 /// Serves one session on this kernel. Memory is refused once at most, and then nothing was read or written.
 pub(super) fn served_on(
     rt: &impl Abort,
@@ -38,7 +41,7 @@ pub(super) fn served_on(
     kernel: &mut Shelf,
 ) -> Served {
     let all = (reader.front.len(), reader.rest.len());
-    let served = serve(alloc, reader, writer, kernel);
+    let served = serve(alloc, SLOTS, reader, writer, kernel);
     if served.end != End::NoMemory {
         return served;
     }
@@ -46,7 +49,7 @@ pub(super) fn served_on(
     assert_eq!(rt; (reader.front.len(), reader.rest.len()), all);
     assert_eq!(rt; (writer.written().len(), writer.flushed().len()), (0, 0));
     assert_eq!(rt; kernel.asked, 0);
-    let again = serve(alloc, reader, writer, kernel);
+    let again = serve(alloc, SLOTS, reader, writer, kernel);
     assert!(rt; again.end != End::NoMemory);
     again
 }

@@ -23,6 +23,7 @@ impl<R: Wait> Kernel for Locked<'_, R> {
         let mut asked = self.asked.lock(self.rt);
         *asked = asked.wrapping_add(1);
         Outcome::Reply(Reply {
+            version: request.version,
             op: request.ask.op().number(),
             result: Told::Refused(Errno::ENOMSG),
         })
@@ -38,7 +39,7 @@ fn a_kernel_may_wait(rt: HostRuntime) {
     };
     let mut reader = Pieces::new(SESSION, usize::MAX);
     let mut page = Page::new();
-    let told = serve(rt.alloc(), &mut reader, &mut page, &mut kernel);
+    let told = serve(rt.alloc(), 3, &mut reader, &mut page, &mut kernel);
     if told.end == End::NoMemory {
         assert_eq!(rt; counts_of(&told), (0, 0, 0, 0));
         assert_eq!(rt; reader.front.len(), 108);
