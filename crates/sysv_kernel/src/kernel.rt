@@ -13,7 +13,7 @@ use std::sync::Wait;
 use sysv_keys::SLOTS;
 use sysv_model::{Body, Cred, Flags, Row, SetTo, Stat};
 use sysv_service::{Clock, Pass, Service};
-use sysv_session::{Kernel, Outcome, Served, serve};
+use sysv_session::{Kernel, Outcome, Served, Texts, serve, serve_with};
 use sysv_wire::{Ask, MAX_MODE, Op, Outcome as Told, Reply, Request, Version};
 
 /// A service as one session asks it: with a pass of its own, the moments of a clock, and the handle to wait. Each request is
@@ -57,7 +57,24 @@ impl<'a, C: Clock, R: Wait> ServiceKernel<'a, C, R> {
         ensures service { self.new.service ≡ self.old.service }
         ensures clock { self.new.clock ≡ self.old.clock }
     {
-        serve(alloc, SLOTS as u32, reader, writer, self)
+        serve(alloc, reader, writer, self)
+    }
+
+    /// As `serve`, with two texts that are there already. It takes no memory.
+    pub fn serve_with<I: Read, O: Write>(
+        &mut self,
+        texts: &mut Texts,
+        reader: &mut I,
+        writer: &mut O,
+    ) -> Served
+        ensures serves { ServesPass (C.may self.old.clock.now) result self.old.pass self.new.pass (I.remaining reader.old) (I.remaining reader.new)
+            (O.contents writer.old) (O.contents writer.new) }
+        // It ends as its input tells, unless it is cut short.
+        ensures only { (input : List ℕ) (course : Course) → I.remaining reader.old ≡ Some input → Takes input course → Follows course result }
+        ensures service { self.new.service ≡ self.old.service }
+        ensures clock { self.new.clock ≡ self.old.clock }
+    {
+        serve_with(texts, reader, writer, self)
     }
 
     /// Its pass.
@@ -196,10 +213,17 @@ impl<'a, C: Clock, R: Wait> ServiceKernel<'a, C, R> {
 
 impl<C: Clock, R: Wait> Kernel for ServiceKernel<'_, C, R> {
     ghost use Rattle.std.specs.Prelude.{◌≡◌};
+    ghost use Rattle.sysv_keys.specs.declared.identifier.TheConstants.{SLOTS};
     ghost use Rattle.sysv_kernel.specs.Asked.{Asks};
 
     ghost meaning = { λ old cred request text outcome given new. (new.service ≡ old.service) × (new.clock ≡ old.clock)
         × Asks (C.may old.clock.now) request.version cred request.ask text old.pass outcome given new.pass };
+
+    ghost slots = { λ _. SLOTS };
+
+    fn slots(&self) -> u32 {
+        SLOTS as u32
+    }
 
     fn call(&mut self, cred: Cred, request: &Request, text: &Body, given: &mut Body) -> Outcome {
         let version = request.version;
