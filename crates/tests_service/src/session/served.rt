@@ -30,7 +30,6 @@ pub(super) fn assert_served(
 }
 
 /// The slots that the replies to hellos of version 2 tell.
-pub(super) const SLOTS: u32 = 256;
 
 /// Serves one session on this kernel. Memory is refused once at most, and then nothing was read or written.
 pub(super) fn served_on(
