@@ -41,7 +41,7 @@ use Rattle.sysv_core.proofs.Along.{slot_around}
 
 -- ---- sums over the slots
 
-same_sum : (f g : ℕ → ℕ) (from n : ℕ) → ((i : ℕ) → from ≤ i → f i ≡ g i) → sum_by f (range_with_len from n) ≡ sum_by g (range_with_len from n)
+pub same_sum : (f g : ℕ → ℕ) (from n : ℕ) → ((i : ℕ) → from ≤ i → f i ≡ g i) → sum_by f (range_with_len from n) ≡ sum_by g (range_with_len from n)
 same_sum f g from zero same = refl
 same_sum f g from (suc n) same =
     omega (arith, sum_by-cons f from (range_with_len (from + 1) n), sum_by-cons g from (range_with_len (from + 1) n), same from (omega arith), same_sum f g (from + 1) n (λ i low. same i (omega (arith, low))))

@@ -71,7 +71,7 @@ pub record Counted (turns : List Turn) (actors : List (Option Doing)) : Type 0 w
 
 -- ---- sums
 
-sum_more : {X : Type 0} (f : X → ℕ) (xs : List X) (x : X) → sum_by f (xs ++ x ∷ []) ≡ sum_by f xs + f x
+pub sum_more : {X : Type 0} (f : X → ℕ) (xs : List X) (x : X) → sum_by f (xs ++ x ∷ []) ≡ sum_by f xs + f x
 sum_more f xs x = omega (arith, sum_by-append f xs (x ∷ []), sum_by-cons f x [])
 
 none_held : (id : ℤ) (n : ℕ) → sum_by (holds id) (replicate n None) ≡ 0
@@ -85,7 +85,7 @@ held_is id call (Goes phase) = refl
 held_is id call (Waits wait) = refl
 held_is id call (Over ending) = refl
 
-not_held : (id : ℤ) (kind : Kind) (state : State) → IsLater kind state → holds_in id state ≡ 0
+pub not_held : (id : ℤ) (kind : Kind) (state : State) → IsLater kind state → holds_in id state ≡ 0
 not_held id kind (Goes (AtInstall get at)) l = let no_such = l.1 in absurd cc
 not_held id kind (Goes phase) l = refl
 not_held id kind (Waits wait) l = refl
@@ -135,7 +135,7 @@ module _ (w : World) (s : IsSound w) (c : Counted w.turns w.actors) (place : ℕ
       }
 
   -- a call that goes on without a turn, or that starts
-  stand_counts : (was : Option Doing) (state : State) → slice_get w.actors place ≡ Some was → ((id : ℤ) → holds_in id state ≡ 0) → Counted w.turns (slice_set w.actors place (doing_in call state))
+  pub stand_counts : (was : Option Doing) (state : State) → slice_get w.actors place ≡ Some was → ((id : ℤ) → holds_in id state ≡ 0) → Counted w.turns (slice_set w.actors place (doing_in call state))
   stand_counts was state there none = record {
     count = λ id. omega (arith, sum_set (holds id) w.actors place was (doing_in call state) there, held_is id call state, none id, c.count id);
     home = c.home;
@@ -149,7 +149,7 @@ Counts w = Counted w.turns w.actors
 same_counts : (w after : World) → after ≡ w → Counts w → Counts after
 same_counts w after e c = subst Counts (sym e) c
 
-continues_counts : (w after : World) (given : List Given) (place now : ℕ) (call : Started) (state : State) → IsSound w → Counts w → slice_get w.actors place ≡ Some (Some record { call = call; state = state }) →
+pub continues_counts : (w after : World) (given : List Given) (place now : ℕ) (call : Started) (state : State) → IsSound w → Counts w → slice_get w.actors place ≡ Some (Some record { call = call; state = state }) →
     Continues w (suc place) now call state given after → Counts after
 continues_counts w after given place now call (Goes phase) s c there t = subst Counts (sym t.6) (turn_counts w s c place call phase now t.0 t.1 there t.2 t.3 t.4)
 continues_counts w after given place now call (Waits wait) s c there (inl t) =

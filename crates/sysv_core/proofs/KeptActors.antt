@@ -105,7 +105,7 @@ raises_at_most (AtPool (Release blocks) reply) = omega arith
 -- a step raises the counts no further than the step number
 pub counts_on : (old : Objects) (state : State) (now : ℕ) (l : Led) (new : Objects) (n : ℕ) → StepLeads old state now l new → CountsUpTo n old → CountsUpTo (n + counted_led l) new
 counts_on old (Goes phase) now (led.To doing) new n step up = weaker (n + raises_by step.deed) (n + 1) new (omega (arith, raises_at_most step.deed)) (step.turn.counts n up)
-counts_on old (Goes phase) now (led.Over result body) new n step up = weaker (n + raises_by step.deed) (n + 1) new (omega (arith, raises_at_most step.deed)) (step.turn.counts n up)
+counts_on old (Goes phase) now (led.Over result body spare) new n step up = weaker (n + raises_by step.deed) (n + 1) new (omega (arith, raises_at_most step.deed)) (step.turn.counts n up)
 counts_on old (Goes phase) now (led.Stays doing) new n step up = absurd step.leads
 counts_on old (Waits wait) now l new n step up = weaker n (n + counted_led l) new (omega arith) (subst (CountsUpTo n) (sym step.1) up)
 counts_on old (Over ending) now l new n step up = absurd step

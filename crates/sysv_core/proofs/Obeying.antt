@@ -48,35 +48,35 @@ use Rattle.sysv_core.proofs.Lists.{get_set_same, get_set_other, same_place}
 use Rattle.sysv_core.proofs.Own.{same_who, same_itself, not_same, same_or_not, own_deed, other_deed, own_endings, other_endings, IsIn, at_actor, own_standing, other_standing}
 
 -- the call was started by an actor before this step number
-abbrev IsBefore : ℕ → Started → Type 0
+abbrev pub IsBefore : ℕ → Started → Type 0
 IsBefore n call = (place : ℕ) × (start : ℕ) × (call.who ≡ Actor (suc place) start) × (start < n)
 
 -- the actor at that place is in a call that it started
-abbrev IsOwn : List Started → ℕ → Doing → Type 0
+abbrev pub IsOwn : List Started → ℕ → Doing → Type 0
 IsOwn calls place d = Contains calls d.call × ((start : ℕ) × (d.call.who ≡ Actor (suc place) start))
 
-abbrev AreOwn : List Started → List (Option Doing) → Type 0
+abbrev pub AreOwn : List Started → List (Option Doing) → Type 0
 AreOwn calls actors = (place : ℕ) (d : Doing) → slice_get actors place ≡ Some (Some d) → IsOwn calls place d
 
-record Inv (w : World) (given : List Given) : Type 0 where
-  sound : IsSound w
-  fates : (c : Started) → Contains w.calls c → Fate w given c
-  before : (c : Started) → Contains w.calls c → IsBefore w.steps c
-  apart : AllPairs (λ (c d : Started). c.who ≢ d.who) w.calls
-  named : (c d : Started) → Contains w.calls c → Contains w.calls d → c.who ≡ d.who → c ≡ d
-  made : All (IsMade w.calls) w.turns
-  known : All (λ (g : Given). Contains w.calls g.call) given
-  doing : AreOwn w.calls w.actors
+pub record Inv (w : World) (given : List Given) : Type 0 where
+  pub sound : IsSound w
+  pub fates : (c : Started) → Contains w.calls c → Fate w given c
+  pub before : (c : Started) → Contains w.calls c → IsBefore w.steps c
+  pub apart : AllPairs (λ (c d : Started). c.who ≢ d.who) w.calls
+  pub named : (c d : Started) → Contains w.calls c → Contains w.calls d → c.who ≡ d.who → c ≡ d
+  pub made : All (IsMade w.calls) w.turns
+  pub known : All (λ (g : Given). Contains w.calls g.call) given
+  pub doing : AreOwn w.calls w.actors
 
 -- ---- one call moves
 
 -- the call stands there after these turns, and had no answer
-record Stands (turns : List Turn) (given : List Given) (call : Started) (state : State) : Type 0 where
-  plays : Plays (begun call) (deeds_of call.who turns) state
-  quiet : endings_of call.who given ≡ []
+pub record Stands (turns : List Turn) (given : List Given) (call : Started) (state : State) : Type 0 where
+  pub plays : Plays (begun call) (deeds_of call.who turns) state
+  pub quiet : endings_of call.who given ≡ []
 
 -- the turns of all other calls are the same
-abbrev OthersStay : Who → List Turn → List Turn → Type 0
+abbrev pub OthersStay : Who → List Turn → List Turn → Type 0
 OthersStay who turns more = (other : Who) → is_same other who ≡ false → deeds_of other more ≡ deeds_of other turns
 
 module _ (w : World) (given : List Given) (turns : List Turn) (calls : List Started) (place : ℕ) (was : Option Doing) (call : Started) (state : State)
@@ -155,13 +155,13 @@ module _ (w : World) (given : List Given) (i : Inv w given) (place : ℕ) (d : D
   its_state (Waits wait) e = (cc, refl)
   its_state (Over ending) e = absurd cc
 
-  stands_there : Stands w.turns given d.call d.state
+  pub stands_there : Stands w.turns given d.call d.state
   stands_there =
       let f = i.fates d.call has_it in
       let s = its_state f.state (sym f.stands ∙ where_it_stands) in
       record { plays = subst (Plays (begun d.call) (deeds_of d.call.who w.turns)) s.0 f.plays; quiet = f.answered ∙ s.1 }
 
-  goes_on : (turns : List Turn) (state : State) → IsSound (record { turns = turns; calls = w.calls; actors = slice_set w.actors place (doing_in d.call state); steps = w.steps + 1; blocks = w.blocks; generation = w.generation }) → OthersStay d.call.who w.turns turns → Stands turns given d.call state → All (IsMade w.calls) turns →
+  pub goes_on : (turns : List Turn) (state : State) → IsSound (record { turns = turns; calls = w.calls; actors = slice_set w.actors place (doing_in d.call state); steps = w.steps + 1; blocks = w.blocks; generation = w.generation }) → OthersStay d.call.who w.turns turns → Stands turns given d.call state → All (IsMade w.calls) turns →
       Inv (record { turns = turns; calls = w.calls; actors = slice_set w.actors place (doing_in d.call state); steps = w.steps + 1; blocks = w.blocks; generation = w.generation }) (given ++ given_in d.call state)
   goes_on turns state sound stay s made = record {
     sound = sound;
@@ -219,7 +219,7 @@ module _ (w : World) (given : List Given) (i : Inv w given) (place : ℕ) (there
     quiet = no_endings call.who given (λ g has. not_same call.who g.call.who (λ e. is_new g.call (All-contains (λ (x : Given). Contains w.calls x.call) given g i.known has) (sym e)));
   }
 
-  starts : IsSound (record { turns = w.turns; calls = w.calls ++ call ∷ []; actors = slice_set w.actors place (doing_in call (begun call)); steps = w.steps + 1; blocks = w.blocks; generation = w.generation }) →
+  pub starts : IsSound (record { turns = w.turns; calls = w.calls ++ call ∷ []; actors = slice_set w.actors place (doing_in call (begun call)); steps = w.steps + 1; blocks = w.blocks; generation = w.generation }) →
       Inv (record { turns = w.turns; calls = w.calls ++ call ∷ []; actors = slice_set w.actors place (doing_in call (begun call)); steps = w.steps + 1; blocks = w.blocks; generation = w.generation }) (given ++ given_in call (begun call))
   starts sound =
       let calls = w.calls ++ call ∷ [] in
@@ -280,7 +280,7 @@ is_right right call deeds (Waits wait) ending plays among = absurd among
 is_right right call deeds (Over e) ending plays (inl is) = subst (IsRightAnswer call.asked deeds) is (right call.cred call.asked call.released deeds e plays)
 is_right right call deeds (Over e) ending plays (inr none) = absurd none
 
-right_now : (w : World) (given : List Given) → Inv w given → EachAnswerIsRight → (g : Given) → Contains given g → IsRightAnswer g.call.asked (deeds_of g.call.who w.turns) g.ending
+pub right_now : (w : World) (given : List Given) → Inv w given → EachAnswerIsRight → (g : Given) → Contains given g → IsRightAnswer g.call.asked (deeds_of g.call.who w.turns) g.ending
 right_now w given i right g has =
     let one = All-contains (λ (x : Given). Contains w.calls x.call) given g i.known has in
     let name = i.before g.call one in
@@ -329,7 +329,7 @@ leads_blocks w after [] given l = ap (λ (v : World). v.blocks) l.1
 leads_blocks w after (x ∷ xs) given l = leads_blocks l.0 after xs l.2 l.4 ∙ (makes_opened w l.0 x l.1 l.3).1
 
 module _ (sound : StaysSound) where
-  turns_keep : (w after : World) (given one : List Given) (place : ℕ) (call : Started) (phase : Phase) (now : ℕ) → Inv w given → slice_get w.actors place ≡ Some (Some record { call = call; state = Goes phase }) →
+  pub turns_keep : (w after : World) (given one : List Given) (place : ℕ) (call : Started) (phase : Phase) (now : ℕ) → Inv w given → slice_get w.actors place ≡ Some (Some record { call = call; state = Goes phase }) →
       Turns w (suc place) call phase now one after → IsSound after → Inv after (given ++ one)
   turns_keep w after given one place call phase now i there t ok =
       let d : Doing = record { call = call; state = Goes phase } in
@@ -419,7 +419,7 @@ module _ (sound : StaysSound) where
   nothing_in : {X : Type 0} (x : X) → Contains [] x → ⊥
   nothing_in x has = omega (arith, has.1)
 
-  opens : (o : Opening) → AreLegal o.generation o.blocks [] → Inv (opening o) []
+  pub opens : (o : Opening) → AreLegal o.generation o.blocks [] → Inv (opening o) []
   opens o legal = record {
     sound = opening_sound o legal;
     fates = λ c has. absurd (nothing_in c has);

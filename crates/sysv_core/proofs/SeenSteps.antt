@@ -59,9 +59,9 @@ state_led call b (Over ending) (led.To doing) h = not_over doing.standing (text_
     not_over : (k : StandingKept) (text : List ℕ) → Over ending ≡ stands_at k text → None ≡ Some (stands_at k text)
     not_over (standing.At phase) text e = absurd cc
     not_over (standing.Waits wait) text e = absurd cc
-state_led call b (Over ending) (led.Over result body) h = refl
-state_led call b (Goes phase) (led.Over result body) h = absurd h
-state_led call b (Waits wait) (led.Over result body) h = absurd h
+state_led call b (Over ending) (led.Over result body spare) h = refl
+state_led call b (Goes phase) (led.Over result body spare) h = absurd h
+state_led call b (Waits wait) (led.Over result body spare) h = absurd h
 state_led call b state (led.Stays doing) h = absurd h
 
 -- what was led to is told
@@ -74,16 +74,16 @@ tells_led w call actor (Over ending) (led.To doing) young own h = not_over doing
     not_over : (k : StandingKept) (text : List ℕ) → Over ending ≡ stands_at k text → Gives w (given_in call (Over ending)) (told_by actor (led.To doing))
     not_over (standing.At phase) text e = absurd cc
     not_over (standing.Waits wait) text e = absurd cc
-tells_led w call actor (Over ending) (led.Over result body) young own h =
+tells_led w call actor (Over ending) (led.Over result body spare) young own h =
     let g : Given = record { call = call; ending = ending } in
     (young, (g, refl, record { caller = own; ending = h }))
-tells_led w call actor (Goes phase) (led.Over result body) young own h = absurd h
-tells_led w call actor (Waits wait) (led.Over result body) young own h = absurd h
+tells_led w call actor (Goes phase) (led.Over result body spare) young own h = absurd h
+tells_led w call actor (Waits wait) (led.Over result body spare) young own h = absurd h
 tells_led w call actor state (led.Stays doing) young own h = absurd h
 
 counts_led : (b : Bool) (state : State) (l : Led) (n : ℕ) → LeadsTo b state l → n + 1 ≡ n + counted_led l
 counts_led b state (led.To doing) n h = refl
-counts_led b state (led.Over result body) n h = refl
+counts_led b state (led.Over result body spare) n h = refl
 counts_led b state (led.Stays doing) n h = absurd h
 
 -- some world after the event is seen so
@@ -226,7 +226,7 @@ module _ (w : World) (seen : Seen) (s : IsSeenAs w seen) (sound : StaysSound) wh
     },
   )
   stays_here n place now wait (led.To doing) d young busy is there continues stays = absurd stays
-  stays_here n place now wait (led.Over result body) d young busy is there continues stays = absurd stays
+  stays_here n place now wait (led.Over result body spare) d young busy is there continues stays = absurd stays
 
   look_here : (n place now : ℕ) (wait : Wait) (l : Led) (d : Doing) → w.steps < WORN → n ≡ place → slice_get w.actors n ≡ Some (Some d) → d.state ≡ Waits wait → slice_get seen.states place ≡ Some (Some (Waits wait)) →
       LookLeads seen.objects wait l →

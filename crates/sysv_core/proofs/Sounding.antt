@@ -156,7 +156,7 @@ does actors place was call state at d there here = elim (same_place place at) [
   | inr apart ↦ other (sym (get_set_other actors place at (doing_in call state) apart) ∙ here)
 ]
 
-own_still : (actors : List (Option Doing)) (place : ℕ) (was : Option Doing) (call : Started) (state : State) → slice_get actors place ≡ Some was → AreOwn actors → IsOf (kind_of call.asked) state → IsToCaller call.who (suc place) → HasItsBlocks state →
+pub own_still : (actors : List (Option Doing)) (place : ℕ) (was : Option Doing) (call : Started) (state : State) → slice_get actors place ≡ Some was → AreOwn actors → IsOf (kind_of call.asked) state → IsToCaller call.who (suc place) → HasItsBlocks state →
     AreOwn (slice_set actors place (doing_in call state))
 own_still actors place was call state there all kind own blocks = λ at d here. elim (does actors place was call state at d there here) [
   | moved same c s ↦ (
@@ -170,11 +170,11 @@ own_still actors place was call state there all kind own blocks = λ at d here. 
 not_install : (kind : Kind) (state : State) (get : Getting) (id : ℤ) → IsLater kind state → state ≡ Goes (AtInstall get id) → ⊥
 not_install kind state get id l e = let bad : IsLater kind (Goes (AtInstall get id)) = subst (IsLater kind) e l in let no_such = bad.1 in cc
 
-abbrev AreInstalled : List Turn → List (Option Doing) → Type 0
+abbrev pub AreInstalled : List Turn → List (Option Doing) → Type 0
 AreInstalled turns actors = (place : ℕ) (d : Doing) (get : Getting) (id : ℤ) → slice_get actors place ≡ Some (Some d) → d.state ≡ Goes (AtInstall get id) → IsMadeIn turns (slot_of_id id)
 
 -- an actor whose call does not stand before an install
-later_installs : (turns more : List Turn) (actors : List (Option Doing)) (place : ℕ) (was : Option Doing) (call : Started) (state : State) (kind : Kind) → slice_get actors place ≡ Some was →
+pub later_installs : (turns more : List Turn) (actors : List (Option Doing)) (place : ℕ) (was : Option Doing) (call : Started) (state : State) (kind : Kind) → slice_get actors place ≡ Some was →
     ((slot : ℕ) → IsMadeIn turns slot → IsMadeIn more slot) → AreInstalled turns actors → IsLater kind state → AreInstalled more (slice_set actors place (doing_in call state))
 later_installs turns more actors place was call state kind there still all l = λ at d get id here e. elim (does actors place was call state at d there here) [
   | moved same c s ↦ absurd (not_install kind state get id l (sym s ∙ e))
@@ -190,7 +190,7 @@ module _ (more : (generation blocks : ℕ) (turns : List Turn) (who : Who) (deed
 
   module _ (w : World) (s : IsSound w) (place : ℕ) (call : Started) where
     -- after a turn of the call
-    turn_sound : (phase : Phase) (now : ℕ) (deed : Deed) (state : State) → slice_get w.actors place ≡ Some (Some record { call = call; state = Goes phase }) → asked_by deed ≡ asks phase now →
+    pub turn_sound : (phase : Phase) (now : ℕ) (deed : Deed) (state : State) → slice_get w.actors place ≡ Some (Some record { call = call; state = Goes phase }) → asked_by deed ≡ asks phase now →
         IsLegalDeed w.generation w.blocks w.turns deed → next phase deed ≡ Some state →
         IsSound (record w { turns = w.turns ++ turn_of call.who deed ∷ []; actors = slice_set w.actors place (doing_in call state); steps = w.steps + 1 })
     turn_sound phase now deed state there asked legal goes =
@@ -224,7 +224,7 @@ module _ (more : (generation blocks : ℕ) (turns : List Turn) (who : Who) (deed
         }
 
     -- once the call goes on without a turn
-    look_sound : (d : Doing) (state : State) → d.call ≡ call → slice_get w.actors place ≡ Some (Some d) → IsLater (kind_of call.asked) state → held state ≡ held d.state → IsSound (record w { actors = slice_set w.actors place (doing_in call state); steps = w.steps + 1 })
+    pub look_sound : (d : Doing) (state : State) → d.call ≡ call → slice_get w.actors place ≡ Some (Some d) → IsLater (kind_of call.asked) state → held state ≡ held d.state → IsSound (record w { actors = slice_set w.actors place (doing_in call state); steps = w.steps + 1 })
     look_sound d state is there l held_same = record {
       legal = s.legal;
       own = own_still w.actors place (Some d) call state there s.own (later_of (kind_of call.asked) state l) (subst (λ (c : Started). IsToCaller c.who (suc place)) is (s.own place d there).1) (blocks_later (kind_of call.asked) state l);

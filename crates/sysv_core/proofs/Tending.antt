@@ -41,11 +41,11 @@ use Rattle.sysv_core.proofs.Along.{slot_around, registry_around}
 -- ---- actors
 
 -- some actor's call stands so
-record SomeStands (P : State → Type 0) (actors : List (Option Doing)) : Type 0 where
-  place : ℕ
-  doing : Doing
-  there : slice_get actors place ≡ Some (Some doing)
-  stands : P doing.state
+pub record SomeStands (P : State → Type 0) (actors : List (Option Doing)) : Type 0 where
+  pub place : ℕ
+  pub doing : Doing
+  pub there : slice_get actors place ≡ Some (Some doing)
+  pub stands : P doing.state
 
 -- it is the one that moves, or it stands so still
 still_stands : (P : State → Type 0) (actors : List (Option Doing)) (place : ℕ) (was new : Option Doing) → slice_get actors place ≡ Some was → SomeStands P actors →
@@ -78,20 +78,20 @@ abbrev pub BeforeSettle : ℤ → State → Type 0
 BeforeSettle id (Goes (AtSettle at)) = at ≡ id
 BeforeSettle id state = ⊥
 
-abbrev BeforeForget : ℤ → State → Type 0
+abbrev pub BeforeForget : ℤ → State → Type 0
 BeforeForget id (Goes (AtForget at blocks)) = at ≡ id
 BeforeForget id state = ⊥
 
-abbrev Lives : ℤ → List Turn → List (Option Doing) → Type 0
+abbrev pub Lives : ℤ → List Turn → List (Option Doing) → Type 0
 Lives id turns actors = IsLive (slot_history (slot_of_id id) turns) id ⊎ SomeStands (BeforeForget id) actors
 
-abbrev Settled : ℤ → List Turn → List (Option Doing) → Type 0
+abbrev pub Settled : ℤ → List Turn → List (Option Doing) → Type 0
 Settled id turns actors = (is_settled id (registry_history turns) ≡ true) ⊎ SomeStands (BeforeSettle id) actors
 
-abbrev Tended : ℤ → List Turn → List (Option Doing) → Type 0
+abbrev pub Tended : ℤ → List Turn → List (Option Doing) → Type 0
 Tended id turns actors = SomeStands (BeforeInstall id) actors ⊎ (Lives id turns actors × Settled id turns actors)
 
-abbrev AllTended : List Turn → List (Option Doing) → Type 0
+abbrev pub AllTended : List Turn → List (Option Doing) → Type 0
 AllTended turns actors = (id key : ℤ) → is_made id key (registry_history turns) ≡ true → is_forgotten id (registry_history turns) ≡ false → Tended id turns actors
 
 -- ---- booleans and lists
@@ -136,7 +136,7 @@ keeps : (id : ℤ) (f : Attributes → Attributes) → ((a : Attributes) → (f 
 keeps id f same None lives = absurd lives
 keeps id f same (Some a) lives = same a ∙ lives
 
-abbrev IsRemovedBy : ℤ → Call → Reply → Type 0
+abbrev pub IsRemovedBy : ℤ → Call → Reply → Type 0
 IsRemovedBy id call reply = (at : ℤ) × (cred : Cred) × (messages : List Message) × (call ≡ Remove at cred) × (reply ≡ Discarded messages) × (at ≡ id)
 
 lives_on : (s : Slot) (id : ℤ) (call : Call) (reply : Reply) → Legal s call reply → HasId s.live id → HasId (live_after s.live call reply) id ⊎ IsRemovedBy id call reply
@@ -215,7 +215,7 @@ eqb_same : (a b : ℕ) → eqb a b ≡ true → a ≡ b
 eqb_same a b e = eqb-true a b e
 
 -- a queue that lives is live still after a legal turn at some slot, or that turn removed it
-live_past : (turns : List Turn) (who : Who) (slot : ℕ) (c : Call) (reply : Reply) (id : ℤ) → Legal (slot_of (slot_history slot turns)) c reply → IsLive (slot_history (slot_of_id id) turns) id →
+pub live_past : (turns : List Turn) (who : Who) (slot : ℕ) (c : Call) (reply : Reply) (id : ℤ) → Legal (slot_of (slot_history slot turns)) c reply → IsLive (slot_history (slot_of_id id) turns) id →
     IsLive (slot_history (slot_of_id id) (turns ++ turn_of who (AtSlot slot c reply) ∷ [])) id ⊎ IsRemovedBy id c reply
 live_past turns who slot c reply id legal lives =
     elim (by_slot (eqb slot (slot_of_id id)) (eqb_same slot (slot_of_id id))) [
@@ -456,7 +456,7 @@ module _ (turns : List Turn) (actors : List (Option Doing)) (place : ℕ) (call 
 
 -- ---- an actor that goes on without a turn
 
-idle_move : (turns : List Turn) (actors : List (Option Doing)) (place : ℕ) (was new : Option Doing) → slice_get actors place ≡ Some was → ((d : Doing) → was ≡ Some d → (wait : Wait) × (d.state ≡ Waits wait)) →
+pub idle_move : (turns : List Turn) (actors : List (Option Doing)) (place : ℕ) (was new : Option Doing) → slice_get actors place ≡ Some was → ((d : Doing) → was ≡ Some d → (wait : Wait) × (d.state ≡ Waits wait)) →
     AllTended turns actors → AllTended turns (slice_set actors place new)
 idle_move turns actors place was new there waits all = λ id key made kept. elim (all id key made kept) [
   | inl s ↦ inl (stays (BeforeInstall id) (λ wait p. p) s)
@@ -563,13 +563,13 @@ module _ (turns : List Turn) (actors : List (Option Doing)) (all : AllTended tur
 
 -- ---- what happens
 
-abbrev Tends : World → Type 0
+abbrev pub Tends : World → Type 0
 Tends w = AllTended w.turns w.actors
 
 same_tends : (w after : World) → after ≡ w → Tends w → Tends after
 same_tends w after e t = subst Tends (sym e) t
 
-turns_tend : (w after : World) (given : List Given) (place now : ℕ) (call : Started) (phase : Phase) → Tends w → slice_get w.actors place ≡ Some (Some record { call = call; state = Goes phase }) →
+pub turns_tend : (w after : World) (given : List Given) (place now : ℕ) (call : Started) (phase : Phase) → Tends w → slice_get w.actors place ≡ Some (Some record { call = call; state = Goes phase }) →
     Turns w (suc place) call phase now given after → Tends after
 turns_tend w after given place now call phase all there (AtSlot slot c reply, state, asked, legal, goes, gave, is) =
     subst Tends (sym is) (slot_turn w.turns w.actors place call phase there all now state slot c reply asked legal goes)
@@ -578,7 +578,7 @@ turns_tend w after given place now call phase all there (AtRegistry c reply, sta
 turns_tend w after given place now call phase all there (AtPool c reply, state, asked, legal, goes, gave, is) =
     subst Tends (sym is) (pool_turn w.turns w.actors place call phase there all state c reply goes)
 
-waiting_state : (call : Started) (wait : Wait) (d : Doing) → Some record { call = call; state = Waits wait } ≡ Some d → (w : Wait) × (d.state ≡ Waits w)
+pub waiting_state : (call : Started) (wait : Wait) (d : Doing) → Some record { call = call; state = Waits wait } ≡ Some d → (w : Wait) × (d.state ≡ Waits w)
 waiting_state call wait d e = (wait, ap (λ (x : Doing). x.state) (some_is e))
 
 continues_tend : (w after : World) (given : List Given) (place now : ℕ) (call : Started) (state : State) → Tends w → slice_get w.actors place ≡ Some (Some record { call = call; state = state }) →
@@ -635,9 +635,9 @@ forgetter : (id : ℤ) (state : State) → BeforeForget id state → HasToForget
 forgetter id (Goes (AtForget at blocks)) p = p
 forgetter id state p = absurd p
 
-pub are_tended : StaysSound → (o : Opening) (w : World) (list : List Happening) (given : List Given) → IsSound (opening o) → Leads (opening o) list given w → AreTended w
-are_tended sound o w list given s led = λ row is idle.
-    elim (leads_tend sound (opening o) w list given s (λ id key made kept. absurd cc) led row.id row.key is.made is.kept) [
+pub each_row : (w : World) → Tends w → AreTended w
+each_row w all = λ row is idle.
+    elim (all row.id row.key is.made is.kept) [
       | inl t ↦ record { place = t.place; doing = t.doing; there = t.there; tends = inl (settler row.id t.doing.state (inl t.stands)) }
       | inr both ↦ by_row row is both.0 both.1 idle
     ]
@@ -647,3 +647,6 @@ are_tended sound o w list given s led = λ row is idle.
     by_row row is lives (inl settled) (inl making) = not_both (is_settled row.id (registry_history w.turns)) settled (is.stage ∙ making)
     by_row row is (inl lives) (inl settled) (inr dead) = absurd (dead lives)
     by_row row is (inr t) (inl settled) (inr dead) = record { place = t.place; doing = t.doing; there = t.there; tends = inr (forgetter row.id t.doing.state t.stands) }
+
+pub are_tended : StaysSound → (o : Opening) (w : World) (list : List Happening) (given : List Given) → IsSound (opening o) → Leads (opening o) list given w → AreTended w
+are_tended sound o w list given s led = each_row w (leads_tend sound (opening o) w list given s (λ id key made kept. absurd cc) led)

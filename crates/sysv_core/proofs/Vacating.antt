@@ -51,32 +51,32 @@ use Rattle.sysv_core.proofs.Installing.{one, holds, Counts, Counted, slot_count,
 
 -- ---- what is known of an identifier
 
-abbrev was_removed : ℤ → List Turn → Bool
+abbrev pub was_removed : ℤ → List Turn → Bool
 was_removed id turns = list_any (λ (e : Entry). removes id e.call e.reply) (slot_history (slot_of_id id) turns)
 
-abbrev WasMade : ℤ → List Turn → Type 0
+abbrev pub WasMade : ℤ → List Turn → Type 0
 WasMade id turns = (key : ℤ) × (is_made id key (registry_history turns) ≡ true)
 
 -- the queue that lives in the slot
-record IsKnown (turns : List Turn) (slot : ℕ) (id : ℤ) : Type 0 where
-  here : slot_of_id id ≡ slot
-  installed : was_installed id turns ≡ true
-  made : WasMade id turns
+pub record IsKnown (turns : List Turn) (slot : ℕ) (id : ℤ) : Type 0 where
+  pub here : slot_of_id id ≡ slot
+  pub installed : was_installed id turns ≡ true
+  pub made : WasMade id turns
 
-record Facts (turns : List Turn) : Type 0 where
-  lives : (slot : ℕ) (a : Attributes) → live (slot_history slot turns) ≡ Some a → IsKnown turns slot a.id
-  forgot : (id : ℤ) → is_forgotten id (registry_history turns) ≡ true → was_removed id turns ≡ true
-  removed : (id : ℤ) → was_removed id turns ≡ true → was_installed id turns ≡ true
-  vacant : AllFindVacant turns
+pub record Facts (turns : List Turn) : Type 0 where
+  pub lives : (slot : ℕ) (a : Attributes) → live (slot_history slot turns) ≡ Some a → IsKnown turns slot a.id
+  pub forgot : (id : ℤ) → is_forgotten id (registry_history turns) ≡ true → was_removed id turns ≡ true
+  pub removed : (id : ℤ) → was_removed id turns ≡ true → was_installed id turns ≡ true
+  pub vacant : AllFindVacant turns
 
 -- of a call that stands there
-abbrev Fits : List Turn → State → Type 0
+abbrev pub Fits : List Turn → State → Type 0
 Fits turns (Goes (AtInstall get id)) = WasMade id turns
 Fits turns (Goes (AtForget id blocks)) = was_removed id turns ≡ true
 Fits turns (Goes (AtUnmake id)) = ⊥
 Fits turns state = Unit {0}
 
-abbrev AllFit : List Turn → List (Option Doing) → Type 0
+abbrev pub AllFit : List Turn → List (Option Doing) → Type 0
 AllFit turns actors = (place : ℕ) (d : Doing) → slice_get actors place ≡ Some (Some d) → Fits turns d.state
 
 -- ---- one more turn
@@ -96,7 +96,7 @@ removed_still id turns t e = removed_more id turns t ∙ or_left (was_removed id
 known_still : (turns : List Turn) (slot : ℕ) (id : ℤ) (t : Turn) → IsKnown turns slot id → IsKnown (turns ++ t ∷ []) slot id
 known_still turns slot id t k = record { here = k.here; installed = was_more id turns t k.installed; made = made_still id turns t k.made }
 
-fits_still : (turns : List Turn) (t : Turn) (state : State) → Fits turns state → Fits (turns ++ t ∷ []) state
+pub fits_still : (turns : List Turn) (t : Turn) (state : State) → Fits turns state → Fits (turns ++ t ∷ []) state
 fits_still turns t (Goes (AtInstall get id)) f = made_still id turns t f
 fits_still turns t (Goes (AtForget id blocks)) f = removed_still id turns t f
 fits_still turns t (Goes (AtUnmake id)) f = f
@@ -131,12 +131,12 @@ lived l call reply a e = inr (a, e, refl)
 
 -- what is asked of a turn: at a slot, that it is legal and finds the slot vacant where it installs a queue, which is
 -- that of an identifier that was made; and at the registry, that what it forgets was removed
-record IsFineAt (turns : List Turn) (slot : ℕ) (call : Call) (reply : Reply) : Type 0 where
-  legal : Legal (slot_of (slot_history slot turns)) call reply
-  finds : FindsVacant (AtSlot slot call reply)
-  installs_made : (id : ℤ) → installs id call reply ≡ true → (slot ≡ slot_of_id id) × WasMade id turns
+pub record IsFineAt (turns : List Turn) (slot : ℕ) (call : Call) (reply : Reply) : Type 0 where
+  pub legal : Legal (slot_of (slot_history slot turns)) call reply
+  pub finds : FindsVacant (AtSlot slot call reply)
+  pub installs_made : (id : ℤ) → installs id call reply ≡ true → (slot ≡ slot_of_id id) × WasMade id turns
 
-abbrev IsFine : List Turn → Deed → Type 0
+abbrev pub IsFine : List Turn → Deed → Type 0
 IsFine turns (AtSlot slot call reply) = IsFineAt turns slot call reply
 IsFine turns (AtRegistry call reply) = (id : ℤ) → forgets id call reply ≡ true → was_removed id turns ≡ true
 IsFine turns (AtPool call reply) = Unit {0}
@@ -198,7 +198,7 @@ module _ (turns : List Turn) (f : Facts turns) (who : Who) where
   removed_now (AtRegistry call reply) fine id e = absurd cc
   removed_now (AtPool call reply) fine id e = absurd cc
 
-  facts_more : (deed : Deed) → IsFine turns deed → Facts (more deed)
+  pub facts_more : (deed : Deed) → IsFine turns deed → Facts (more deed)
   facts_more deed fine = record {
     lives = lives_then deed fine;
     forgot = λ id e. removed_still id turns (turn_of who deed) (elim (forgot_before deed id e) [ inl old ↦ f.forgot id old | inr now ↦ forgot_now deed fine id now ]);
@@ -389,10 +389,10 @@ forgets_removed turns phase now call reply e fits id m = absurd cc
 
 -- ---- every actor
 
-record IsKept (w : World) : Type 0 where
-  counts : Counts w
-  facts : Facts w.turns
-  fit : AllFit w.turns w.actors
+pub record IsKept (w : World) : Type 0 where
+  pub counts : Counts w
+  pub facts : Facts w.turns
+  pub fit : AllFit w.turns w.actors
 
 module _ (for_good : RemovedForGood) (registry_law : (generation : ℕ) (h : RegistryHistory) → IsLegalRegistryHistory generation h → RegistryLaw generation h) where
   module _ (w : World) (s : IsSound w) (k : IsKept w) (place : ℕ) (call : Started) (phase : Phase) (there : slice_get w.actors place ≡ Some (Some record { call = call; state = Goes phase })) (now : ℕ) where
@@ -455,19 +455,19 @@ module _ (for_good : RemovedForGood) (registry_law : (generation : ℕ) (h : Reg
     ]
 
   -- a call that goes on without a turn, or that starts
-  stand_fits : (w : World) (k : IsKept w) (place : ℕ) (was : Option Doing) (call : Started) (state : State) → slice_get w.actors place ≡ Some was → Fits w.turns state → AllFit w.turns (slice_set w.actors place (doing_in call state))
+  pub stand_fits : (w : World) (k : IsKept w) (place : ℕ) (was : Option Doing) (call : Started) (state : State) → slice_get w.actors place ≡ Some was → Fits w.turns state → AllFit w.turns (slice_set w.actors place (doing_in call state))
   stand_fits w k place was call state there fits at e here = elim (does w.actors place was call state at e there here) [
     | moved same c st ↦ subst (Fits w.turns) (sym st) fits
     | other old ↦ k.fit at e old
   ]
 
-  resumed_fits : (turns : List Turn) (wait : Wait) (value : ℕ) → Fits turns (Goes (resume wait value))
+  pub resumed_fits : (turns : List Turn) (wait : Wait) (value : ℕ) → Fits turns (Goes (resume wait value))
   resumed_fits turns (OnSettled goal get) value = tt
   resumed_fits turns (OnFreed goal send) value = tt
   resumed_fits turns (OnReleased goal send) value = tt
   resumed_fits turns (OnArrived goal receive) value = tt
 
-  begun_fits : (turns : List Turn) (cred : Cred) (asked : SystemCall) (released : ℕ) (b : Bool) → Fits turns (cond b (Over (Refused EINVAL)) (Goes (first cred asked released)))
+  pub begun_fits : (turns : List Turn) (cred : Cred) (asked : SystemCall) (released : ℕ) (b : Bool) → Fits turns (cond b (Over (Refused EINVAL)) (Goes (first cred asked released)))
   begun_fits turns cred asked released true = tt
   begun_fits turns cred (Msgget key flags) released false = tt
   begun_fits turns cred (Msgsnd id mtype flags text) released false = tt
@@ -479,17 +479,17 @@ module _ (for_good : RemovedForGood) (registry_law : (generation : ℕ) (h : Reg
   -- ---- what happens
 
   -- the turns and the actors then
-  record IsKeptThen (turns : List Turn) (actors : List (Option Doing)) : Type 0 where
-    facts : Facts turns
-    fit : AllFit turns actors
+  pub record IsKeptThen (turns : List Turn) (actors : List (Option Doing)) : Type 0 where
+    pub facts : Facts turns
+    pub fit : AllFit turns actors
 
-  abbrev Holds : World → Type 0
+  abbrev pub Holds : World → Type 0
   Holds w = IsKeptThen w.turns w.actors
 
   same_holds : (w after : World) → after ≡ w → IsKept w → Holds after
   same_holds w after e k = subst Holds (sym e) (record { facts = k.facts; fit = k.fit })
 
-  continues_holds : (w after : World) (given : List Given) (place now : ℕ) (call : Started) (state : State) → IsSound w → IsKept w → slice_get w.actors place ≡ Some (Some record { call = call; state = state }) →
+  pub continues_holds : (w after : World) (given : List Given) (place now : ℕ) (call : Started) (state : State) → IsSound w → IsKept w → slice_get w.actors place ≡ Some (Some record { call = call; state = state }) →
       Continues w (suc place) now call state given after → Holds after
   continues_holds w after given place now call (Goes phase) s k there t =
       subst Holds (sym t.6) record { facts = facts_more w.turns k.facts call.who t.0 (fine w s k place call phase there now t.0 t.2 t.3); fit = turn_fits w s k place call phase there now t.0 t.1 t.2 t.3 t.4 }

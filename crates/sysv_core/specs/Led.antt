@@ -15,13 +15,13 @@ use Rattle.sysv_core.specs.Standing.{stands_at}
 use Rattle.sysv_core.specs.Held.{text_in}
 use Rattle.sysv_core.specs.World.{value_of}
 
--- the code's call goes on where the definitions' call stands, or is over and tells its ending, and gives
--- its body back or not
+-- the code's call goes on where the definitions' call stands, or is over and tells its ending, and answers
+-- with its body or not; a spare body is told to nobody
 abbrev pub LeadsTo : Bool → State → Led → Type 0
 LeadsTo back state (led.To doing) = state ≡ stands_at doing.standing (text_in doing.body)
-LeadsTo back (Over ending) (led.Over result body) = TellsEnding back ending result body
-LeadsTo back (Goes phase) (led.Over result body) = ⊥
-LeadsTo back (Waits wait) (led.Over result body) = ⊥
+LeadsTo back (Over ending) (led.Over result body spare) = TellsEnding back ending result body
+LeadsTo back (Goes phase) (led.Over result body spare) = ⊥
+LeadsTo back (Waits wait) (led.Over result body spare) = ⊥
 LeadsTo back state (led.Stays doing) = ⊥
 
 -- one turn of the call in that phase at its object, and what it led to
@@ -37,7 +37,7 @@ pub record TurnLeads (old : Objects) (phase : Phase) (now : ℕ) (result : Led) 
 abbrev pub Stays : State → Led → Type 0
 Stays state (led.Stays doing) = state ≡ stands_at doing.standing (text_in doing.body)
 Stays state (led.To doing) = ⊥
-Stays state (led.Over result body) = ⊥
+Stays state (led.Over result body spare) = ⊥
 
 -- the call's look at the count for which it waits: it goes on where its goal is reached, and else it stays
 abbrev pub LookLeads : Objects → Wait → Led → Type 0

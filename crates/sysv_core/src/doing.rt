@@ -19,6 +19,10 @@ pub enum Led {
     To(Doing),
     /// The call waits on, since its count is not above.
     Stays(Doing),
-    /// The call is over; a receive gives its body back.
-    Over(Outcome, Option<Body>),
+    /// The call is over. A receive answers with its body; that of a send is spare.
+    Over {
+        result: Outcome,
+        body: Option<Body>,
+        spare: Option<Body>,
+    },
 }

@@ -85,7 +85,7 @@ pub fn counted(led: &Led) -> u64
 {
     match led {
         Led::Stays(_) => 0,
-        Led::To(_) | Led::Over(..) => 1,
+        Led::To(_) | Led::Over { .. } => 1,
     }
 }
 
@@ -178,7 +178,11 @@ fn place(objects: &mut Objects, send: Sending, mut chain: Chain, body: Body, now
 {
     chain.fill(&body);
     match objects.place(send.id, send.cred, send.mtype, chain, body.len(), now) {
-        Ok(_) => Led::Over(Outcome::Zero, None),
+        Ok(_) => Led::Over {
+            result: Outcome::Zero,
+            body: None,
+            spare: Some(body),
+        },
         Err(PlaceRefused { why, chain }) => lead(send.unplaced(why, chain), Some(body), false),
     }
 }
@@ -308,8 +312,8 @@ fn count_of(objects: &Objects, wait: &Wait) -> u64
     }
 }
 
-/// What a call that stands there leads to, with the body that its driver holds; only a receive gives it
-/// back.
+/// What a call that stands there leads to, with the body that its driver holds; only a receive answers
+/// with it.
 fn lead(state: State, body: Option<Body>, back: bool) -> Led
     requires held { IsHeldOrOver (state_of state (text_in body)) body }
     requires back { back ≡ true → is_some body ≡ true }
@@ -328,7 +332,8 @@ fn lead(state: State, body: Option<Body>, back: bool) -> Led
     }
 }
 
-/// The end of a call: a body that was given no text is empty.
+/// The end of a call. A body that was given no text is empty where the call answers with it, and one with
+/// which it does not answer is spare.
 fn over(ending: Ending, body: Option<Body>, back: bool) -> Led
     requires { back ≡ true → is_some body ≡ true }
     ensures { LeadsTo back (state_of (State.Over ending) (text_in body)) result }
@@ -344,9 +349,17 @@ fn over(ending: Ending, body: Option<Body>, back: bool) -> Led
             if !given {
                 body.clear();
             }
-            Led::Over(result, Some(body))
+            Led::Over {
+                result,
+                body: Some(body),
+                spare: None,
+            }
         }
-        _ => Led::Over(result, None),
+        spare => Led::Over {
+            result,
+            body: None,
+            spare,
+        },
     }
 }
 

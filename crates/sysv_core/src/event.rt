@@ -13,8 +13,8 @@ pub enum Call {
         /// that is there they say which permissions are asked.
         flags: Flags,
     },
-    /// `msgsnd`: the text in `body` as a message of type `mtype` (POSIX.1-2017, `msgsnd`). It does not
-    /// give the body back.
+    /// `msgsnd`: the text in `body` as a message of type `mtype` (POSIX.1-2017, `msgsnd`). Its answer does
+    /// not have the body, which `World::spare` gives back.
     Send {
         /// The queue, from 0; a negative one is refused.
         id: i32,
@@ -35,8 +35,8 @@ pub enum Call {
         /// 0 for the first message, a positive type for the first of it, a negative one for the first
         /// of the lowest type that is at most its absolute value.
         mtype: i64,
-        /// With MSG_NOERROR a longer text is cut, and with IPC_NOWAIT the call does not wait for a
-        /// message; MSG_EXCEPT is refused.
+        /// With MSG_NOERROR a longer text is cut, with IPC_NOWAIT the call does not wait for a
+        /// message, and with MSG_EXCEPT a positive type asks for the first message of any other.
         flags: Flags,
         /// What it holds is dropped at the start.
         body: Body,

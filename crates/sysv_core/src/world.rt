@@ -1,4 +1,4 @@
-ghost use Rattle.std.specs.Prelude.{ℕ, List, false, IsTrue, ◌≡◌, ◌≢◌, ◌+◌, ◌^◌, ◌<◌, ◌≤◌, ◌⊎◌, ◌↔◌, ◌++◌, ◌∷◌, [], length, IfOk, IfErr, MatchResult, Err, MatchOption, Some, None, slice_set, slice_get, replicate};
+ghost use Rattle.std.specs.Prelude.{ℕ, List, false, IsTrue, ◌≡◌, ◌≢◌, ◌+◌, ◌^◌, ◌<◌, ◌≤◌, ◌⊎◌, ◌↔◌, ◌++◌, ◌∷◌, [], length, IfOk, IfErr, IfSome, MatchResult, Err, MatchOption, Some, None, slice_set, slice_get, replicate};
 ghost use Rattle.sysv_model.specs.declared.limits.TheConstants.{MAX_ACTORS as most_actors, MIN_BLOCKS as least_blocks, MAX_BLOCKS as most_blocks, WORN as worn};
 ghost use Rattle.sysv_keys.specs.declared.identifier.TheConstants.{GENERATION_LAST as last_generation};
 ghost use Rattle.sysv_core.specs.Headline.{StandsWithPreset, StandsWithEvent, StandsWithEvents, LawsHold};
@@ -16,7 +16,7 @@ use crate::preset::preset_queue;
 use std::alloc::Global;
 use std::marker::Model;
 use sysv_keys::{GENERATION_LAST, unused_slots};
-use sysv_model::{Cred, MAX_ACTORS, MAX_BLOCKS, MIN_BLOCKS, WORN};
+use sysv_model::{Body, Cred, MAX_ACTORS, MAX_BLOCKS, MIN_BLOCKS, WORN};
 use sysv_objects::{Objects, legal_turns};
 use thiserror::Error;
 
@@ -38,6 +38,8 @@ pub struct World {
     objects: Objects,
     actors: Vec<Option<Doing>>,
     steps: u64,
+    /// The body of the last send that was answered, until it is asked for.
+    spare: Option<Body>,
 }
 
 impl Model for World {
@@ -94,6 +96,7 @@ impl World {
                 objects,
                 actors,
                 steps: first_step,
+                spare: None,
             }),
             Err(_) => {
                 end_all(actors).end();
@@ -169,6 +172,17 @@ impl World {
         Ok(answers)
     }
 
+    /// The body of the last send that was answered, emptied, for another call; an answer never has it.
+    /// `None` once it was given here. It takes no memory.
+    pub fn spare(&mut self) -> Option<Body>
+        ensures empty { IfSome result (λ body. body ≡ []) }
+        ensures kept { self.new ≡ self.old }
+    {
+        let mut body = self.spare.take()?;
+        body.clear();
+        Some(body)
+    }
+
     /// Where the call of `actor` stands: before a step, or in a wait. `None` where the actor is idle, and
     /// for a number that no actor has. Actors count from 1.
     pub fn standing(&self, actor: u32) -> Option<&Standing>
@@ -192,6 +206,7 @@ impl World {
             objects,
             actors,
             steps: _steps,
+            spare: _spare,
         } = self;
         objects.end(end_all(actors))
     }
@@ -211,7 +226,8 @@ impl World {
         }
         self.steps += 1;
         let released = self.objects.released();
-        settle(&mut self.actors, actor, place, begin(cred, call, released))
+        let led = begin(cred, call, released);
+        settle(&mut self.actors, &mut self.spare, actor, place, led)
     }
 
     /// Makes one step of the actor's call, which is counted unless the call waits on.
@@ -229,7 +245,7 @@ impl World {
         };
         let led = advance(&mut self.objects, doing, now);
         self.steps += counted(&led);
-        settle(&mut self.actors, actor, place, led)
+        settle(&mut self.actors, &mut self.spare, actor, place, led)
     }
 
     /// Where the actor stands in the list, if there is such an actor.
@@ -243,7 +259,14 @@ impl World {
 }
 
 /// The actor at that place, which is in no call, goes on with its call, or is idle and its answer is given.
-fn settle(actors: &mut Vec<Option<Doing>>, actor: u32, place: usize, led: Led) -> Stepped
+/// A body that is spare is kept in the place of the one before.
+fn settle(
+    actors: &mut Vec<Option<Doing>>,
+    kept: &mut Option<Body>,
+    actor: u32,
+    place: usize,
+    led: Led,
+) -> Stepped
     requires { slice_get actors.old.items place ≡ Some None }
     ensures kept { actors.new.items ≡ slice_set actors.old.items place (doing_led led) }
     ensures told { result ≡ told_by actor led }
@@ -255,11 +278,20 @@ fn settle(actors: &mut Vec<Option<Doing>>, actor: u32, place: usize, led: Led) -
             }
             Stepped::Nothing
         }
-        Led::Over(result, body) => Stepped::Answer(Answer {
-            actor,
+        Led::Over {
             result,
             body,
-        }),
+            spare,
+        } => {
+            if spare.is_some() {
+                *kept = spare;
+            }
+            Stepped::Answer(Answer {
+                actor,
+                result,
+                body,
+            })
+        }
     }
 }
 

@@ -5,11 +5,11 @@ ghost use Rattle.sysv_keys.specs.Identifier.{slot_of_id};
 ghost use Rattle.sysv_keys.specs.declared.identifier.TheConstants.{SLOTS};
 
 /// The slots in which queues lie, and so the most queues at a time.
-pub const SLOTS: usize = 64;
+pub const SLOTS: usize = 256;
 
 /// The last generation of a slot. Once an identifier of this generation is forgotten, its slot is
 /// retired.
-pub const GENERATION_LAST: u32 = 33_554_431;
+pub const GENERATION_LAST: u32 = 8_388_607;
 
 /// The slot, below `SLOTS`, in which the queue of this identifier lies (this profile's). An
 /// identifier is not negative; that of a negative number is of no use.

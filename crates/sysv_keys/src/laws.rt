@@ -1,11 +1,20 @@
 //! Laws over the definitions alone.
 
-ghost use Rattle.std.specs.Prelude.{ℕ, [], ◌∷◌, ◌++◌};
+ghost use Rattle.std.specs.Prelude.{◌≡◌, ℕ, ◌*◌, ◌+◌, ◌^◌, [], ◌∷◌, ◌++◌};
 ghost use Rattle.sysv_model.specs.Registry.{RegistryEntry, RegistryHistory};
+ghost use Rattle.sysv_keys.specs.declared.identifier.TheConstants.{SLOTS, GENERATION_LAST};
 ghost use Rattle.sysv_keys.specs.LegalReply.{IsLegalReply, IsLegalHistory};
 ghost use Rattle.sysv_keys.specs.OneReply.{SomeReplyIsLegal, NoTwoRepliesAreLegal};
 ghost use Rattle.sysv_keys.specs.RegistryLaw.{RegistryLaw};
 ghost use Rattle.sysv_keys.specs.Unused.{UnusedSlots};
+
+/// The limits by their numerals. The identifiers of all slots in all generations are the numbers below
+/// 2^31: those that are not negative and that an `i32` holds.
+pub fn numerals_of_identifiers()
+    ensures slots { SLOTS ≡ 256 }
+    ensures last { GENERATION_LAST ≡ 8388607 }
+    ensures all { SLOTS * (GENERATION_LAST + 1) ≡ 2 ^ 31 }
+{}
 
 /// After each history of legal replies each call has one legal reply, and no two.
 pub fn one_legal_reply()

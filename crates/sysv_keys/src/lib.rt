@@ -9,5 +9,7 @@ mod laws;
 mod registry;
 
 pub use identifier::{GENERATION_LAST, SLOTS, slot_of_id};
-pub use laws::{legal_history, one_legal_reply, registry_law, unused_slots};
+pub use laws::{
+    legal_history, numerals_of_identifiers, one_legal_reply, registry_law, unused_slots,
+};
 pub use registry::{Begun, Registry, RegistryRefused};

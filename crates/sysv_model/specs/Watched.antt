@@ -1,5 +1,6 @@
--- A stream that is watched (this project's word): a reader or a writer that is borrowed, and whether it has failed since.
-use Rattle.std.specs.Prelude.{◌≡◌, ◌≢◌, ℕ, Bool, true, false, not, ◌&&◌, ◌==◌, List, length, Result, Ok, Err}
+-- A stream that is watched (this project's word): a reader or a writer that is borrowed, and how often it has failed
+-- since.
+use Rattle.std.specs.Prelude.{◌≡◌, ◌≢◌, ℕ, Bool, true, false, not, ◌&&◌, ◌==◌, ◌+◌, ◌%◌, ◌^◌, List, length, Result, Ok, Err}
 use Rattle.std.specs.Borrow.{GName}
 use Rattle.std.proofs.lemmas.Bool.{and_left, ne_eqb}
 use Rattle.sysv_model.specs.declared.watched.Watched.{Watched}
@@ -13,9 +14,14 @@ module _ {S : Type 0} where
   abbrev pub stream_name : Watched S → GName
   stream_name watched = watched.stream.ghost_name
 
-  -- a read, a write or a flush of it has failed
-  abbrev pub has_failed : Watched S → Bool
-  has_failed watched = watched.failed
+  -- how many reads, writes and flushes of it have failed, modulo 2 ^ 64
+  abbrev pub failures_of : Watched S → ℕ
+  failures_of watched = watched.failures
+
+-- the count after a call that failed or did not: a failure changes it
+abbrev pub failures_after : Bool → ℕ → ℕ
+failures_after true failures = (failures + 1) % 2 ^ 64
+failures_after false failures = failures
 
 -- a write took no byte of some
 abbrev pub takes_none : ℕ → List ℕ → Bool

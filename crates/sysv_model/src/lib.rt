@@ -1,6 +1,6 @@
 //! The words of System V message queues: errors, credentials, flags, message bodies, the attributes
 //! of a queue, what IPC_SET gives and IPC_STAT shows, the limits of this profile, and streams that
-//! remember whether they failed. `specs/` has the history of a slot and what a history has accepted,
+//! count their failures. `specs/` has the history of a slot and what a history has accepted,
 //! delivered, discarded and still holds.
 #![tactic(auto)]
 

@@ -1,5 +1,5 @@
-//! Streams that remember whether they failed.
-ghost use Rattle.std.specs.Prelude.{◌≡◌, ◌||◌, false, is_err, OnErr, OnOk};
+//! Streams that count their failures.
+ghost use Rattle.std.specs.Prelude.{◌≡◌, true, is_err, OnErr, OnOk};
 ghost use Rattle.std.specs.Io.{ReadsAtMost, WritesAtMost};
 ghost use Rattle.std.specs.Io.KnownBytes.{Appends, Keeps, ReadConsumes, WriteAppends};
 
@@ -12,39 +12,49 @@ use thiserror::Error;
 #[error("the bytes cannot be written")]
 pub struct WriteFault;
 
-/// A reader or a writer that is borrowed, and whether a read, a write or a flush of it has failed since. What
+/// A reader or a writer that is borrowed, and how many of its reads, writes and flushes have failed since. What
 /// is read and written is the stream's own: this gives and takes the same bytes, and the same errors.
 #[derive(Drop)]
 pub struct Watched<'a, S> {
     stream: &'a mut S,
-    failed: bool,
+    failures: u64,
 }
 
 impl<'a, S> Watched<'a, S> {
-    ghost use Rattle.sysv_model.specs.Watched.{has_failed, stream_name, stream_of};
+    ghost use Rattle.sysv_model.specs.Watched.{failures_of, failures_after, stream_name, stream_of};
 
-    /// Watches a stream, which has not failed yet.
+    /// Watches a stream, of which no failure is counted yet.
     pub fn new(stream: &'a mut S) -> Watched<'a, S>
         ensures stream { stream_of result ≡ stream.old }
         ensures same { stream_name result ≡ stream.entry.ghost_name }
-        ensures failed { has_failed result ≡ false }
+        ensures failed { failures_of result ≡ 0 }
     {
         Watched {
             stream,
-            failed: false,
+            failures: 0,
         }
     }
 
-    /// Whether a read, a write or a flush has failed. A write that takes no byte of some has failed too.
-    pub fn has_failed(&self) -> bool
-        ensures { result ≡ has_failed self.now }
+    /// How many reads, writes and flushes have failed. A write that takes no byte of some has failed too. The
+    /// count goes on at 0 after the greatest number, so that each failure changes it.
+    pub fn failures(&self) -> u64
+        ensures { result ≡ failures_of self.now }
     {
-        self.failed
+        self.failures
+    }
+
+    /// Counts one more failure.
+    fn fail(&mut self)
+        ensures stream { stream_of self.new ≡ stream_of self.old }
+        ensures same { stream_name self.new ≡ stream_name self.old }
+        ensures failed { failures_of self.new ≡ failures_after true (failures_of self.old) }
+    {
+        self.failures = self.failures.wrapping_add(1);
     }
 }
 
 impl<S: Read> Read for Watched<'_, S> {
-    ghost use Rattle.sysv_model.specs.Watched.{has_failed, stream_name, stream_of};
+    ghost use Rattle.sysv_model.specs.Watched.{failures_of, failures_after, stream_name, stream_of};
 
     ghost remaining = { λ watched. S.remaining (stream_of watched) };
 
@@ -52,18 +62,18 @@ impl<S: Read> Read for Watched<'_, S> {
         ensures bound { ReadsAtMost result buf.new }
         ensures bytes { ReadConsumes (S.remaining (stream_of self.old)) (S.remaining (stream_of self.new)) result buf.new }
         ensures same { stream_name self.new ≡ stream_name self.old }
-        ensures failed { has_failed self.new ≡ (is_err result || has_failed self.old) }
+        ensures failed { failures_of self.new ≡ failures_after (is_err result) (failures_of self.old) }
     {
         let result = self.stream.read(buf);
         if result.is_err() {
-            self.failed = true;
+            self.fail();
         }
         result
     }
 }
 
 impl<S: Write> Write for Watched<'_, S> {
-    ghost use Rattle.sysv_model.specs.Watched.{has_failed, stream_name, stream_of, write_failed};
+    ghost use Rattle.sysv_model.specs.Watched.{failures_of, failures_after, stream_name, stream_of, write_failed};
 
     ghost contents = { λ watched. S.contents (stream_of watched) };
 
@@ -71,16 +81,16 @@ impl<S: Write> Write for Watched<'_, S> {
         ensures bound { WritesAtMost result buf.now }
         ensures bytes { WriteAppends (S.contents (stream_of self.old)) (S.contents (stream_of self.new)) result buf.now }
         ensures same { stream_name self.new ≡ stream_name self.old }
-        ensures failed { has_failed self.new ≡ (write_failed result buf.now || has_failed self.old) }
+        ensures failed { failures_of self.new ≡ failures_after (write_failed result buf.now) (failures_of self.old) }
     {
         match self.stream.write(buf) {
             Ok(0) if !buf.is_empty() => {
-                self.failed = true;
+                self.fail();
                 Ok(0)
             }
             Ok(count) => Ok(count),
             Err(error) => {
-                self.failed = true;
+                self.fail();
                 Err(error)
             }
         }
@@ -89,18 +99,18 @@ impl<S: Write> Write for Watched<'_, S> {
     fn flush(&mut self) -> io::Result<()>
         ensures bytes { Keeps (S.contents (stream_of self.old)) (S.contents (stream_of self.new)) }
         ensures same { stream_name self.new ≡ stream_name self.old }
-        ensures failed { has_failed self.new ≡ (is_err result || has_failed self.old) }
+        ensures failed { failures_of self.new ≡ failures_after (is_err result) (failures_of self.old) }
     {
         let result = self.stream.flush();
         if result.is_err() {
-            self.failed = true;
+            self.fail();
         }
         result
     }
 }
 
 impl<S: Write> Watched<'_, S> {
-    ghost use Rattle.sysv_model.specs.Watched.{has_failed, stream_name, stream_of};
+    ghost use Rattle.sysv_model.specs.Watched.{failures_of, failures_after, stream_name, stream_of};
     ghost use Rattle.sysv_model.specs.Writing.{AppendsPrefix};
 
     /// Writes all the bytes, in as many writes as the writer wants.
@@ -113,7 +123,7 @@ impl<S: Write> Watched<'_, S> {
         ensures ok { OnOk result (Appends (S.contents (stream_of self.old)) (S.contents (stream_of self.new)) bytes.now) }
         ensures err { OnErr result (AppendsPrefix (S.contents (stream_of self.old)) (S.contents (stream_of self.new)) bytes.now) }
         ensures same { stream_name self.new ≡ stream_name self.old }
-        ensures failed { has_failed self.new ≡ (is_err result || has_failed self.old) }
+        ensures failed { failures_of self.new ≡ failures_after (is_err result) (failures_of self.old) }
     {
         let mut written = 0;
         while written < bytes.len() {

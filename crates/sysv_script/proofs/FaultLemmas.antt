@@ -1,11 +1,12 @@
 -- What a fault that is passed on leaves.
-use Rattle.std.proofs.Common.{◌≡◌, ℕ, Bool, true, false, ◌||◌, List, [], ◌++◌, Result, Ok, Err, Option, ap, sym, subst, ◌∙◌, append_assoc}
+use Rattle.std.proofs.Common.{◌≡◌, ℕ, true, false, List, [], ◌++◌, Result, Ok, Err, Option, ap, sym, subst, ◌∙◌, append_assoc}
 use Rattle.std.specs.Prelude.{IfErr, IsOk, OnOk, OnErr, IsErrAnd, ⊤}
 use Rattle.std.specs.Result.{result_and}
 use Rattle.std.specs.Io.KnownBytes.{Appends}
 use Rattle.std.proofs.KnownBytes.{Appends-trans}
 use Rattle.sysv_streams.specs.declared.fault.ScriptFault.{ScriptFault}
 use Rattle.sysv_streams.specs.declared.fault.ScriptFault.TheVariants.{Line, Read, Write, NoMemory, Bound}
+use Rattle.sysv_model.specs.Watched.{failures_after}
 use Rattle.sysv_model.specs.Writing.{AppendsPrefix}
 use Rattle.sysv_script.proofs.StreamLemmas.{Grows-trans, Grows-part}
 use Rattle.sysv_streams.specs.Faults.{Grows, IsStreamFault, LeavesBadLine, TellsBadLine, bad_line_text, is_read_fault, is_write_fault}
@@ -47,21 +48,24 @@ pub grows_end : (handed : Result ⊤ ScriptFault) (a b c : Option (List ℕ)) (c
 grows_end (Ok x) a b c composed grown all part = Grows-trans a b c grown (composed, all)
 grows_end (Err y) a b c composed grown all part = Grows-trans a b c grown (Grows-part b c composed part)
 
--- where the reader failed nothing is composed, so no later fault of the writer hides it
-pub reader_ended : (handed ended : Result ⊤ ScriptFault) (was now : Bool) (composed : List ℕ) → IfErr handed (λ f. f ≡ Write) → (composed ≡ [] → IsOk handed) →
-    IfErr ended (λ f. IsStreamFault f → composed ≡ []) → now ≡ (is_read_fault ended || was) → now ≡ (is_read_fault (result_and handed ended) || was)
+-- where a stream failed nothing is composed, so no later fault of the writer hides it
+pub reader_ended : (handed ended : Result ⊤ ScriptFault) (was now : ℕ) (composed : List ℕ) → IfErr handed (λ f. f ≡ Write) → (composed ≡ [] → IsOk handed) →
+    IfErr ended (λ f. IsStreamFault f → composed ≡ []) → now ≡ failures_after (is_read_fault ended) was → now ≡ failures_after (is_read_fault (result_and handed ended)) was
 reader_ended (Ok x) ended was now composed fault empty left is = is
-reader_ended (Err y) (Ok x) was now composed fault empty left is = subst (λ f. now ≡ (is_read_fault {T = ⊤} (Err f) || was)) (sym fault) is
+reader_ended (Err y) (Ok x) was now composed fault empty left is = subst (λ f. now ≡ failures_after (is_read_fault {T = ⊤} (Err f)) was) (sym fault) is
 reader_ended (Err y) (Err Read) was now composed fault empty left is = let never : false ≡ true = empty (left tt) in absurd cc
-reader_ended (Err y) (Err Write) was now composed fault empty left is = subst (λ f. now ≡ (is_read_fault {T = ⊤} (Err f) || was)) (sym fault) is
-reader_ended (Err y) (Err (Line n)) was now composed fault empty left is = subst (λ f. now ≡ (is_read_fault {T = ⊤} (Err f) || was)) (sym fault) is
-reader_ended (Err y) (Err NoMemory) was now composed fault empty left is = subst (λ f. now ≡ (is_read_fault {T = ⊤} (Err f) || was)) (sym fault) is
-reader_ended (Err y) (Err Bound) was now composed fault empty left is = subst (λ f. now ≡ (is_read_fault {T = ⊤} (Err f) || was)) (sym fault) is
+reader_ended (Err y) (Err Write) was now composed fault empty left is = let never : false ≡ true = empty (left tt) in absurd cc
+reader_ended (Err y) (Err (Line n)) was now composed fault empty left is = subst (λ f. now ≡ failures_after (is_read_fault {T = ⊤} (Err f)) was) (sym fault) is
+reader_ended (Err y) (Err NoMemory) was now composed fault empty left is = subst (λ f. now ≡ failures_after (is_read_fault {T = ⊤} (Err f)) was) (sym fault) is
+reader_ended (Err y) (Err Bound) was now composed fault empty left is = subst (λ f. now ≡ failures_after (is_read_fault {T = ⊤} (Err f)) was) (sym fault) is
 
--- the writer failed in the run or at its end
-pub writer_ended : (handed ended : Result ⊤ ScriptFault) (was mid now : Bool) → IfErr handed (λ f. f ≡ Write) → mid ≡ (is_write_fault ended || was) →
-    now ≡ (is_write_fault handed || mid) → now ≡ (is_write_fault (result_and handed ended) || was)
-writer_ended (Ok x) ended was mid now fault first second = second ∙ first
-writer_ended (Err y) ended was mid now fault first second =
-    let failed : now ≡ true = subst (λ f. now ≡ (is_write_fault {T = ⊤} (Err f) || mid)) fault second in
-    subst (λ f. now ≡ (is_write_fault {T = ⊤} (Err f) || was)) (sym fault) failed
+-- the writer failed in the run or at its end, and not in both
+pub writer_ended : (handed ended : Result ⊤ ScriptFault) (was mid now : ℕ) (composed : List ℕ) → (composed ≡ [] → IsOk handed) → IfErr ended (λ f. IsStreamFault f → composed ≡ []) →
+    mid ≡ failures_after (is_write_fault ended) was → now ≡ failures_after (is_write_fault handed) mid → now ≡ failures_after (is_write_fault (result_and handed ended)) was
+writer_ended (Ok x) ended was mid now composed empty left first second = second ∙ first
+writer_ended (Err y) (Ok x) was mid now composed empty left first second = second ∙ ap (failures_after (is_write_fault {T = ⊤} (Err y))) first
+writer_ended (Err y) (Err Read) was mid now composed empty left first second = let never : false ≡ true = empty (left tt) in absurd cc
+writer_ended (Err y) (Err Write) was mid now composed empty left first second = let never : false ≡ true = empty (left tt) in absurd cc
+writer_ended (Err y) (Err (Line n)) was mid now composed empty left first second = second ∙ ap (failures_after (is_write_fault {T = ⊤} (Err y))) first
+writer_ended (Err y) (Err NoMemory) was mid now composed empty left first second = second ∙ ap (failures_after (is_write_fault {T = ⊤} (Err y))) first
+writer_ended (Err y) (Err Bound) was mid now composed empty left first second = second ∙ ap (failures_after (is_write_fault {T = ⊤} (Err y))) first

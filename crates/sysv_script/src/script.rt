@@ -1,8 +1,8 @@
 //! The run of a script: its lines are read and run one by one, and what they print is written.
-ghost use Rattle.std.specs.Prelude.{false, true, ◌≡◌, ◌+◌, ◌<◌, ◌≤◌, ◌++◌, ◌||◌, [], ℕ, List, Option, Some, length, take, drop, IfOk, IfErr, IsOk, OnOk, OnErr};
+ghost use Rattle.std.specs.Prelude.{false, true, ◌≡◌, ◌+◌, ◌<◌, ◌≤◌, ◌++◌, [], ℕ, List, Option, Some, length, take, drop, IfOk, IfErr, IsOk, OnOk, OnErr};
 ghost use Rattle.std.specs.Io.KnownBytes.{Appends, IsAtEnd};
 ghost use Rattle.sysv_lists.specs.Prefix.{IsPrefixOf};
-ghost use Rattle.sysv_model.specs.Watched.{has_failed, stream_name, stream_of};
+ghost use Rattle.sysv_model.specs.Watched.{failures_of, failures_after, stream_name, stream_of};
 ghost use Rattle.sysv_model.specs.Writing.{AppendsPrefix};
 ghost use Rattle.sysv_streams.specs.Faults.{Grows, IsLineFault, IsStreamFault, EndsAtLine, LeavesBadLine, TellsBadLine, is_read_fault, is_write_fault};
 ghost use Rattle.sysv_stage.specs.Scene.{Scene, opening_scene};
@@ -46,11 +46,11 @@ pub fn run_script<R: Read, W: Write>(
     // What the writer took stays, and if a line is bad, the last line says which.
     ensures grows { Grows (W.contents (stream_of writer.old)) (W.contents (stream_of writer.new)) }
     ensures bad { IfErr result (λ fault. TellsBadLine fault (W.contents (stream_of writer.old)) (W.contents (stream_of writer.new))) }
-    // The streams are the same ones, and each has failed if and only if it had before or the fault says so.
+    // The streams are the same ones, and each has failed in this call if and only if the fault says so.
     ensures same_reader { stream_name reader.new ≡ stream_name reader.old }
     ensures same_writer { stream_name writer.new ≡ stream_name writer.old }
-    ensures reader_failed { has_failed reader.new ≡ (is_read_fault result || has_failed reader.old) }
-    ensures writer_failed { has_failed writer.new ≡ (is_write_fault result || has_failed writer.old) }
+    ensures reader_failed { failures_of reader.new ≡ failures_after (is_read_fault result) (failures_of reader.old) }
+    ensures writer_failed { failures_of writer.new ≡ failures_after (is_write_fault result) (failures_of writer.old) }
 {
     one_text();
     each_text_prints();
@@ -100,8 +100,8 @@ impl Run {
         ensures none_left { IfErr result (λ fault. IsStreamFault fault → self.new.output ≡ []) }
         ensures same_reader { stream_name reader.new ≡ stream_name reader.old }
         ensures same_writer { stream_name writer.new ≡ stream_name writer.old }
-        ensures reader_failed { has_failed reader.new ≡ (is_read_fault result || has_failed reader.old) }
-        ensures writer_failed { has_failed writer.new ≡ (is_write_fault result || has_failed writer.old) }
+        ensures reader_failed { failures_of reader.new ≡ failures_after (is_read_fault result) (failures_of reader.old) }
+        ensures writer_failed { failures_of writer.new ≡ failures_after (is_write_fault result) (failures_of writer.old) }
     {
         for passed in 0..SCRIPT_LINES {
             match self.run_next(alloc, reader, writer, passed + 1) {
@@ -132,8 +132,8 @@ impl Run {
         ensures none_left { IfErr result (λ fault. IsStreamFault fault → self.new.output ≡ []) }
         ensures same_reader { stream_name reader.new ≡ stream_name reader.old }
         ensures same_writer { stream_name writer.new ≡ stream_name writer.old }
-        ensures reader_failed { has_failed reader.new ≡ (is_read_fault result || has_failed reader.old) }
-        ensures writer_failed { has_failed writer.new ≡ (is_write_fault result || has_failed writer.old) }
+        ensures reader_failed { failures_of reader.new ≡ failures_after (is_read_fault result) (failures_of reader.old) }
+        ensures writer_failed { failures_of writer.new ≡ failures_after (is_write_fault result) (failures_of writer.old) }
     {
         one_split();
         let Some(found) = next_line(&mut self.input, &mut self.output, reader, writer)? else {
@@ -182,8 +182,8 @@ impl Run {
         ensures none_left { IfErr result (λ fault. IsStreamFault fault → self.new.output ≡ []) }
         ensures same_reader { stream_name reader.new ≡ stream_name reader.old }
         ensures same_writer { stream_name writer.new ≡ stream_name writer.old }
-        ensures reader_failed { has_failed reader.new ≡ (is_read_fault result || has_failed reader.old) }
-        ensures writer_failed { has_failed writer.new ≡ (is_write_fault result || has_failed writer.old) }
+        ensures reader_failed { failures_of reader.new ≡ failures_after (is_read_fault result) (failures_of reader.old) }
+        ensures writer_failed { failures_of writer.new ≡ failures_after (is_write_fault result) (failures_of writer.old) }
     {
         if !self.input.waiting().is_empty() {
             return Err(ScriptFault::Bound);
@@ -202,7 +202,7 @@ impl Run {
         ensures fault { IfErr result (λ fault. fault ≡ ScriptFault.Write) }
         ensures empty { self.output ≡ [] → IsOk result }
         ensures same { stream_name writer.new ≡ stream_name writer.old }
-        ensures failed { has_failed writer.new ≡ (is_write_fault result || has_failed writer.old) }
+        ensures failed { failures_of writer.new ≡ failures_after (is_write_fault result) (failures_of writer.old) }
     {
         let Run {
             stage,

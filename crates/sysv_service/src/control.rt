@@ -169,7 +169,7 @@ impl Service {
     }
 
     /// The row of the live queue in this slot, if one is live (this profile's, for `ipcs`). No permission is asked. `EINVAL`
-    /// comes exactly where the slot is not 0 to 63, and then nothing was done.
+    /// comes exactly where the slot is not 0 to 255, and then nothing was done.
     pub fn list_row(
         &self,
         rt: &impl MayWait,

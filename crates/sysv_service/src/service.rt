@@ -13,7 +13,7 @@ use std::marker::Model;
 use sysv_gated::{Gates, GatesRefused, NoMemory};
 use sysv_pool::Chain;
 
-/// The queues of a system: 64 slots, the registry of their keys and the pool of blocks, which threads share by reference.
+/// The queues of a system: 256 slots, the registry of their keys and the pool of blocks, which threads share by reference.
 /// Each thread calls it with a pass of its own. It can't be dropped: it ends by `close`.
 pub struct Service {
     pub(crate) gates: Gates,
@@ -39,7 +39,7 @@ impl Service {
     }
 
     /// As `open`, where the tickets of all gates begin at `first`, at most 2^62, and the identifiers of all slots with this
-    /// generation, at most 33,554,431. `BadSize` comes exactly where one of the three is out of its range.
+    /// generation, at most 8,388,607. `BadSize` comes exactly where one of the three is out of its range.
     pub fn open_at(
         alloc: Global,
         blocks: u32,

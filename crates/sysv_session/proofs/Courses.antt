@@ -8,13 +8,15 @@ use Rattle.sysv_queue.specs.Tally.{Tallied}
 use Rattle.sysv_session.specs.declared.served.End.{End}
 use Rattle.sysv_session.specs.declared.served.End.TheVariants as «end»
 use Rattle.sysv_session.specs.Calls.{Call, IsCall, Meaning}
-use Rattle.sysv_session.specs.Course.{Asked, Asks, Course, EndsAsTold, IsCutShort, LaterAt, Takes, is_hello, later, stop_answer}
+use Rattle.sysv_session.specs.Course.{Asked, Asks, Course, EndsAsTold, IsCutShort, LaterAt, Takes, is_hello, is_version, later, or_hello, stop_answer}
 use Rattle.sysv_session.specs.Course.Course.{NoRequest, NoHello, BadFirst, Greeted}
-use Rattle.sysv_session.specs.Input.{EndsAfter, EndsBefore, LaterFault, asked_spelling, hello_of, hello_spelling}
+use Rattle.sysv_session.specs.Input.{EndsAfter, EndsBefore, IsOfAnother, LaterFault, asked_spelling, hello_of, hello_spelling}
 use Rattle.sysv_session.specs.Session.{ServesBy}
 use Rattle.sysv_wire.specs.declared.fault.Fault.{Fault}
 use Rattle.sysv_wire.specs.declared.fault.Fault.TheVariants.{Truncated, TooLong, BadOp, BadField, Read}
 use Rattle.sysv_wire.specs.declared.frame.Op.TheVariants as op
+use Rattle.sysv_wire.specs.declared.frame.Version.{Version}
+use Rattle.sysv_wire.specs.declared.frame.Version.TheVariants.{One, Two}
 use Rattle.sysv_wire.specs.declared.request.Ask.{Ask}
 use Rattle.sysv_wire.specs.declared.request.Ask.TheVariants.{Hello, Get, Snd, Rcv, Stat, Set, Rm, Row}
 use Rattle.sysv_wire.specs.declared.request.Request.{Request}
@@ -33,42 +35,64 @@ no_hello (Set id to) other = refl
 no_hello (Rm id) other = refl
 no_hello (Row slot) other = refl
 
-later_asked : (request : Request) → is_hello request.ask ≡ false → later (Ok (Some request)) ≡ Ok (Some request)
-later_asked request other = ap (λ (b : Bool). let r : Result (Option Request) Fault = if b then Err BadOp else Ok (Some request) in r) other
+same_version : (version : Version) → is_version version version ≡ true
+same_version One = refl
+same_version Two = refl
 
-one_later : OneAnswerToRequests → (input : List ℕ) (a b : Result (Option Request) Fault) → LaterAt input a → LaterAt input b → a ≡ b
-one_later one input a b x y = x.2 ∙ ap later (one input x.0 y.0 x.1 y.1) ∙ sym y.2
+other_version : (version other : Version) → other ≢ version → is_version version other ≡ false
+other_version One One apart = absurd (apart refl)
+other_version One Two apart = refl
+other_version Two One apart = refl
+other_version Two Two apart = absurd (apart refl)
+
+-- what is read after a hello of a request of the same version, or of another one
+later_by : (version : Version) (request : Request) (b : Bool) → is_version version request.version ≡ b
+    → later version (Ok (Some request)) ≡ (let r : Result (Option Request) Fault = if b then or_hello request else Err BadField in r)
+later_by version request b e = ap (λ (b : Bool). let r : Result (Option Request) Fault = if b then or_hello request else Err BadField in r) e
+
+later_same : (version : Version) (request : Request) → request.version ≡ version → later version (Ok (Some request)) ≡ or_hello request
+later_same version request same = later_by version request true (ap (is_version version) same ∙ same_version version)
+
+later_other : (version : Version) (request : Request) → request.version ≢ version → later version (Ok (Some request)) ≡ Err BadField
+later_other version request apart = later_by version request false (other_version version request.version apart)
+
+later_asked : (version : Version) (request : Request) → request.version ≡ version → is_hello request.ask ≡ false → later version (Ok (Some request)) ≡ Ok (Some request)
+later_asked version request same other =
+    later_same version request same ∙ ap (λ (b : Bool). let r : Result (Option Request) Fault = if b then Err BadOp else Ok (Some request) in r) other
+
+one_later : OneAnswerToRequests → (version : Version) (input : List ℕ) (a b : Result (Option Request) Fault) → LaterAt version input a → LaterAt version input b → a ≡ b
+one_later one version input a b x y = x.2 ∙ ap (later version) (one input x.0 y.0 x.1 y.1) ∙ sym y.2
 
 -- what is read where these requests come next
 next_of : List Asked → Option Fault → Result (Option Request) Fault
 next_of [] stop = stop_answer stop
 next_of (asked ∷ more) stop = Ok (Some asked.request)
 
-reads_next : (input : List ℕ) (asked : List Asked) (stop : Option Fault) → Asks input asked stop → LaterAt input (next_of asked stop)
+reads_next : (version : Version) (input : List ℕ) (asked : List Asked) (stop : Option Fault) → Asks version input asked stop → LaterAt version input (next_of asked stop)
 unfolding next_of
-reads_next input [] stop asks = asks
-reads_next input (asked ∷ more) stop asks =
-    (Ok (Some asked.request), (asked.text, asks.0, asks.1.1, asks.2), sym (later_asked asked.request (no_hello asked.request.ask asks.1.0)))
+reads_next version input [] stop asks = asks
+reads_next version input (asked ∷ more) stop asks =
+    (Ok (Some asked.request), (asked.text, asks.0, asks.1.1.1, asks.2), sym (later_asked version asked.request asks.1.0 (no_hello asked.request.ask asks.1.1.0)))
 
 none_stops : (stop : Option Fault) (request : Request) → stop_answer stop ≡ Ok (Some request) → ⊥
 none_stops None request same = cc
 none_stops (Some fault) request same = cc
 
 -- the calls that were made are the first that the input asks
-past : OneAnswerToRequests → OneRequest → (calls : List Call) (behind : List ℕ) (asked : List Asked) (stop : Option Fault) → AllByRecursion IsCall calls
-    → Asks (asked_spelling calls ++ behind) asked stop → (more : List Asked) × (length asked ≡ length calls + length more) × Asks behind more stop
-past oneA oneR [] behind asked stop are asks = (asked, sym (zero-add (length asked)), asks)
-past oneA oneR (call ∷ calls) behind [] stop are asks =
-    let here : LaterAt (asked_spelling (call ∷ calls) ++ behind) (Ok (Some call.request)) = (
+past : OneAnswerToRequests → OneRequest → (version : Version) (calls : List Call) (behind : List ℕ) (asked : List Asked) (stop : Option Fault) → AllByRecursion (IsCall version) calls
+    → Asks version (asked_spelling calls ++ behind) asked stop → (more : List Asked) × (length asked ≡ length calls + length more) × Asks version behind more stop
+past oneA oneR version [] behind asked stop are asks = (asked, sym (zero-add (length asked)), asks)
+past oneA oneR version (call ∷ calls) behind [] stop are asks =
+    let here : LaterAt version (asked_spelling (call ∷ calls) ++ behind) (Ok (Some call.request)) = (
       Ok (Some call.request),
-      (call.text, asked_spelling calls ++ behind, are.0.0.1, append_assoc (request_spelling call.request call.text) (asked_spelling calls) behind),
-      sym (later_asked call.request (no_hello call.request.ask are.0.0.0)),
+      (call.text, asked_spelling calls ++ behind, are.0.0.1.1, append_assoc (request_spelling call.request call.text) (asked_spelling calls) behind),
+      sym (later_asked version call.request are.0.0.0 (no_hello call.request.ask are.0.0.1.0)),
     ) in
-    absurd (none_stops stop call.request (one_later oneA _ _ _ asks here))
-past oneA oneR (call ∷ calls) behind (asked ∷ more) stop are asks =
-    let same = oneR call.request asked.request call.text asked.text (asked_spelling calls ++ behind) asks.0 are.0.0.1 asks.1.1
+    absurd (none_stops stop call.request (one_later oneA version _ _ _ asks here))
+past oneA oneR version (call ∷ calls) behind (asked ∷ more) stop are asks =
+    let same = oneR call.request asked.request call.text asked.text (asked_spelling calls ++ behind) asks.0 are.0.0.1.1 asks.1.1.1
     (sym (append_assoc (request_spelling call.request call.text) (asked_spelling calls) behind) ∙ asks.2) in
-    let rest = past oneA oneR calls behind more stop are.1 (subst (λ (l : List ℕ). Asks l more stop) (sym same.2) asks.3) in
+    let rest = past oneA oneR version calls behind more stop are.1 (subst (λ (l : List ℕ). Asks version l more stop) (sym same.2) asks.3) in
     (rest.0, omega (arith, rest.1), rest.2)
 
 -- the first request that a course of an input begins with
@@ -76,14 +100,14 @@ TellsFirst : Course → Result (Option Request) Fault → Type 0
 TellsFirst NoRequest answer = answer ≡ Ok None
 TellsFirst NoHello answer = (request : Request) × (is_hello request.ask ≡ false) × (answer ≡ Ok (Some request))
 TellsFirst (BadFirst fault) answer = answer ≡ Err fault
-TellsFirst (Greeted cred asked stop) answer = answer ≡ Ok (Some (hello_of cred))
+TellsFirst (Greeted version cred asked stop) answer = answer ≡ Ok (Some (hello_of version cred))
 
 reads_first : OneAnswerToRequests → (input : List ℕ) (answer : Result (Option Request) Fault) → RequestAt input answer → (course : Course) → Takes input course → TellsFirst course answer
 unfolding TellsFirst
 reads_first oneA input answer here NoRequest takes = oneA input answer (Ok None) here takes
 reads_first oneA input answer here NoHello takes = (takes.0, takes.1, oneA input answer (Ok (Some takes.0)) here takes.2)
 reads_first oneA input answer here (BadFirst fault) takes = oneA input answer (Err fault) here takes
-reads_first oneA input answer here (Greeted cred asked stop) takes = oneA input answer (Ok (Some (hello_of cred))) here ([], takes.0, takes.1, takes.2)
+reads_first oneA input answer here (Greeted version cred asked stop) takes = oneA input answer (Ok (Some (hello_of version cred))) here ([], takes.0, takes.1, takes.2)
 
 -- a session that reads nothing takes the course of an input without requests
 told_nothing : (course : Course) (requests : ℕ) → requests ≡ 0 → TellsFirst course (Ok None) → EndsAsTold course «end».Ended requests
@@ -91,15 +115,15 @@ unfolding TellsFirst
 told_nothing NoRequest requests none first = (refl, none)
 told_nothing NoHello requests none first = let e = first.2 in cc
 told_nothing (BadFirst fault) requests none first = cc
-told_nothing (Greeted cred asked stop) requests none first = cc
+told_nothing (Greeted version cred asked stop) requests none first = cc
 
 told_other : (course : Course) (request : Request) (requests : ℕ) → requests ≡ 0 → is_hello request.ask ≡ false → TellsFirst course (Ok (Some request)) → EndsAsTold course «end».NoHello requests
 unfolding TellsFirst
 told_other NoRequest request requests none other first = cc
 told_other NoHello request requests none other first = (refl, none)
 told_other (BadFirst fault) request requests none other first = cc
-told_other (Greeted cred asked stop) request requests none other first =
-    let same : request ≡ hello_of cred = cc in
+told_other (Greeted version cred asked stop) request requests none other first =
+    let same : request ≡ hello_of version cred = cc in
     let yes : is_hello request.ask ≡ true = ap (λ (r : Request). is_hello r.ask) same in
     cc
 
@@ -108,7 +132,7 @@ unfolding TellsFirst
 told_bad NoRequest fault requests none first = cc
 told_bad NoHello fault requests none first = let e = first.2 in cc
 told_bad (BadFirst other) fault requests none first = let same : fault ≡ other = cc in (ap (λ (f : Fault). let e : End = «end».Fault f in e) same, none)
-told_bad (Greeted cred asked stop) fault requests none first = cc
+told_bad (Greeted version cred asked stop) fault requests none first = cc
 
 -- a fault is told of the first bytes of the input, unless the reader failed
 fault_at : (fault : Fault) (input : List ℕ) (rest : Option (List ℕ)) → Faults RequestFault fault (Some input) rest → RequestAt input (Err fault) ⊎ IsCutShort («end».Fault fault)
@@ -121,20 +145,29 @@ fault_at BadOp input (Some left) found = inl (found.0, left, found.2, found.1)
 fault_at BadField input (Some left) found = inl (found.0, left, found.2, found.1)
 fault_at Read input (Some left) found = inr tt
 
-as_later : (fault : Fault) (input : List ℕ) → RequestAt input (Err fault) ⊎ IsCutShort («end».Fault fault) → LaterAt input (Err fault) ⊎ IsCutShort («end».Fault fault)
-as_later fault input (inl here) = inl (Err fault, here, refl)
-as_later fault input (inr cut) = inr cut
+as_later : (version : Version) (fault : Fault) (input : List ℕ) → RequestAt input (Err fault) ⊎ IsCutShort («end».Fault fault) → LaterAt version input (Err fault) ⊎ IsCutShort («end».Fault fault)
+as_later version fault input (inl here) = inl (Err fault, here, refl)
+as_later version fault input (inr cut) = inr cut
 
-later_fault_at : (fault : Fault) (input : List ℕ) (rest : Option (List ℕ)) → Faults LaterFault fault (Some input) rest → LaterAt input (Err fault) ⊎ IsCutShort («end».Fault fault)
-later_fault_at Truncated input rest found = as_later Truncated input (fault_at Truncated input rest found)
-later_fault_at TooLong input rest found = as_later TooLong input (fault_at TooLong input rest found)
-later_fault_at BadOp input None found = absurd found.1
-later_fault_at BadOp input (Some left) found = elim found.2 [
+-- a request of another version is refused
+other_at : (version : Version) (input left taken : List ℕ) → IsOfAnother version taken → input ≡ taken ++ left → LaterAt version input (Err BadField)
+other_at version input left taken another parts =
+    (Ok (Some another.0), (another.1, left, another.3, parts ∙ ap (λ (l : List ℕ). l ++ left) another.4), sym (later_other version another.0 another.2))
+
+later_fault_at : (version : Version) (fault : Fault) (input : List ℕ) (rest : Option (List ℕ)) → Faults (LaterFault version) fault (Some input) rest → LaterAt version input (Err fault) ⊎ IsCutShort («end».Fault fault)
+later_fault_at version Truncated input rest found = as_later version Truncated input (fault_at Truncated input rest found)
+later_fault_at version TooLong input rest found = as_later version TooLong input (fault_at TooLong input rest found)
+later_fault_at version BadOp input None found = absurd found.1
+later_fault_at version BadOp input (Some left) found = elim found.2 [
   | inl why ↦ inl (Err BadOp, (found.0, left, why, found.1), refl)
-  | inr hello ↦ inl (Ok (Some (hello_of hello.0)), ([], left, hello.1, found.1 ∙ ap (λ (l : List ℕ). l ++ left) hello.2), refl)
+  | inr hello ↦ inl (Ok (Some (hello_of version hello.0)), ([], left, hello.1, found.1 ∙ ap (λ (l : List ℕ). l ++ left) hello.2), sym (later_same version (hello_of version hello.0) refl))
 ]
-later_fault_at BadField input rest found = as_later BadField input (fault_at BadField input rest found)
-later_fault_at Read input rest found = inr tt
+later_fault_at version BadField input None found = absurd found.1
+later_fault_at version BadField input (Some left) found = elim found.2 [
+  | inl why ↦ inl (Err BadField, (found.0, left, why, found.1), refl)
+  | inr another ↦ inl (other_at version input left found.0 another found.1)
+]
+later_fault_at version Read input rest found = inr tt
 
 -- the end of an input
 none_at : (input : List ℕ) (rest : Option (List ℕ)) → Consumes (Some input) rest [] → IsAtEnd rest → input ≡ []
@@ -160,64 +193,68 @@ before oneA «end».Write input rest requests none ends course takes = absurd en
 before oneA «end».Bound input rest requests none ends course takes = absurd ends
 
 -- the requests are used up where nothing more is read
-told_none : (cred : Cred) (asked more : List Asked) (stop : Option Fault) (n requests : ℕ) → next_of more stop ≡ Ok None → length asked ≡ n + length more → requests ≡ 1 + n
-    → EndsAsTold (Greeted cred asked stop) «end».Ended requests
+told_none : (version : Version) (cred : Cred) (asked more : List Asked) (stop : Option Fault) (n requests : ℕ) → next_of more stop ≡ Ok None → length asked ≡ n + length more → requests ≡ 1 + n
+    → EndsAsTold (Greeted version cred asked stop) «end».Ended requests
 unfolding next_of
-told_none cred asked [] None n requests next len counts = (refl, omega (arith, len, counts))
-told_none cred asked [] (Some fault) n requests next len counts = cc
-told_none cred asked (one ∷ more) stop n requests next len counts = cc
+told_none version cred asked [] None n requests next len counts = (refl, omega (arith, len, counts))
+told_none version cred asked [] (Some fault) n requests next len counts = cc
+told_none version cred asked (one ∷ more) stop n requests next len counts = cc
 
-told_fault : (cred : Cred) (asked more : List Asked) (stop : Option Fault) (fault : Fault) (n requests : ℕ) → next_of more stop ≡ Err fault → length asked ≡ n + length more → requests ≡ 1 + n
-    → EndsAsTold (Greeted cred asked stop) («end».Fault fault) requests
+told_fault : (version : Version) (cred : Cred) (asked more : List Asked) (stop : Option Fault) (fault : Fault) (n requests : ℕ) → next_of more stop ≡ Err fault → length asked ≡ n + length more → requests ≡ 1 + n
+    → EndsAsTold (Greeted version cred asked stop) («end».Fault fault) requests
 unfolding next_of
-told_fault cred asked [] None fault n requests next len counts = cc
-told_fault cred asked [] (Some other) fault n requests next len counts =
+told_fault version cred asked [] None fault n requests next len counts = cc
+told_fault version cred asked [] (Some other) fault n requests next len counts =
     let same : fault ≡ other = cc in (ap (λ (f : Fault). let e : End = «end».Fault f in e) same, omega (arith, len, counts))
-told_fault cred asked (one ∷ more) stop fault n requests next len counts = cc
+told_fault version cred asked (one ∷ more) stop fault n requests next len counts = cc
 
-later_bad : OneAnswerToRequests → (cred : Cred) (asked more : List Asked) (stop : Option Fault) (fault : Fault) (n requests : ℕ) (left : List ℕ) → Asks left more stop → length asked ≡ n + length more → requests ≡ 1 + n
-    → LaterAt left (Err fault) ⊎ IsCutShort («end».Fault fault) → EndsAsTold (Greeted cred asked stop) («end».Fault fault) requests ⊎ IsCutShort («end».Fault fault)
-later_bad oneA cred asked more stop fault n requests left asks len counts (inl here) =
-    inl (told_fault cred asked more stop fault n requests (one_later oneA left _ _ (reads_next left more stop asks) here) len counts)
-later_bad oneA cred asked more stop fault n requests left asks len counts (inr cut) = inr cut
+later_bad : OneAnswerToRequests → (version : Version) (cred : Cred) (asked more : List Asked) (stop : Option Fault) (fault : Fault) (n requests : ℕ) (left : List ℕ) → Asks version left more stop → length asked ≡ n + length more → requests ≡ 1 + n
+    → LaterAt version left (Err fault) ⊎ IsCutShort («end».Fault fault) → EndsAsTold (Greeted version cred asked stop) («end».Fault fault) requests ⊎ IsCutShort («end».Fault fault)
+later_bad oneA version cred asked more stop fault n requests left asks len counts (inl here) =
+    inl (told_fault version cred asked more stop fault n requests (one_later oneA version left _ _ (reads_next version left more stop asks) here) len counts)
+later_bad oneA version cred asked more stop fault n requests left asks len counts (inr cut) = inr cut
 
-finishes : OneAnswerToRequests → (cred : Cred) (asked more : List Asked) (stop : Option Fault) (why : End) (n requests : ℕ) (left : List ℕ) (rest : Option (List ℕ)) → Asks left more stop
-    → length asked ≡ n + length more → requests ≡ 1 + n → EndsAfter why (Some left) rest → EndsAsTold (Greeted cred asked stop) why requests ⊎ IsCutShort why
-finishes oneA cred asked more stop «end».Ended n requests left rest asks len counts ends =
-    inl (told_none cred asked more stop n requests (one_later oneA left _ _ (reads_next left more stop asks) (Ok None, none_at left rest ends.0 ends.1, refl)) len counts)
-finishes oneA cred asked more stop «end».NoMemory n requests left rest asks len counts ends = absurd ends
-finishes oneA cred asked more stop «end».NoHello n requests left rest asks len counts ends = absurd ends
-finishes oneA cred asked more stop («end».Fault fault) n requests left rest asks len counts ends =
-    later_bad oneA cred asked more stop fault n requests left asks len counts (later_fault_at fault left rest ends)
-finishes oneA cred asked more stop «end».Write n requests left rest asks len counts ends = inr tt
-finishes oneA cred asked more stop «end».Bound n requests left rest asks len counts ends = inr tt
+finishes : OneAnswerToRequests → (version : Version) (cred : Cred) (asked more : List Asked) (stop : Option Fault) (why : End) (n requests : ℕ) (left : List ℕ) (rest : Option (List ℕ)) → Asks version left more stop
+    → length asked ≡ n + length more → requests ≡ 1 + n → EndsAfter version why (Some left) rest → EndsAsTold (Greeted version cred asked stop) why requests ⊎ IsCutShort why
+finishes oneA version cred asked more stop «end».Ended n requests left rest asks len counts ends =
+    inl (told_none version cred asked more stop n requests (one_later oneA version left _ _ (reads_next version left more stop asks) (Ok None, none_at left rest ends.0 ends.1, refl)) len counts)
+finishes oneA version cred asked more stop «end».NoMemory n requests left rest asks len counts ends = absurd ends
+finishes oneA version cred asked more stop «end».NoHello n requests left rest asks len counts ends = absurd ends
+finishes oneA version cred asked more stop («end».Fault fault) n requests left rest asks len counts ends =
+    later_bad oneA version cred asked more stop fault n requests left asks len counts (later_fault_at version fault left rest ends)
+finishes oneA version cred asked more stop «end».Write n requests left rest asks len counts ends = inr tt
+finishes oneA version cred asked more stop «end».Bound n requests left rest asks len counts ends = inr tt
 
 -- a session with a hello
-after : OneAnswerToRequests → OneRequest → (cred : Cred) (calls : List Call) (why : End) (requests : ℕ) (input : List ℕ) (behind rest : Option (List ℕ)) → FitsRequest (hello_of cred) []
-    → AllByRecursion IsCall calls → Consumes (Some input) behind (hello_spelling cred ++ asked_spelling calls) → EndsAfter why behind rest → requests ≡ 1 + length calls
+after : OneAnswerToRequests → OneRequest → (version : Version) (cred : Cred) (calls : List Call) (why : End) (requests : ℕ) (input : List ℕ) (behind rest : Option (List ℕ)) → FitsRequest (hello_of version cred) []
+    → AllByRecursion (IsCall version) calls → Consumes (Some input) behind (hello_spelling version cred ++ asked_spelling calls) → EndsAfter version why behind rest → requests ≡ 1 + length calls
     → (course : Course) → Takes input course → EndsAsTold course why requests ⊎ IsCutShort why
 unfolding TellsFirst
-after oneA oneR cred calls why requests input None rest known are reads ends counts course takes = absurd reads
-after oneA oneR cred calls why requests input (Some left) rest known are reads ends counts course takes =
-    let whole : input ≡ hello_spelling cred ++ (asked_spelling calls ++ left) = reads ∙ append_assoc (hello_spelling cred) (asked_spelling calls) left in
-    greeted course takes whole (reads_first oneA input (Ok (Some (hello_of cred))) ([], asked_spelling calls ++ left, known, whole) course takes)
+after oneA oneR version cred calls why requests input None rest known are reads ends counts course takes = absurd reads
+after oneA oneR version cred calls why requests input (Some left) rest known are reads ends counts course takes =
+    let whole : input ≡ hello_spelling version cred ++ (asked_spelling calls ++ left) = reads ∙ append_assoc (hello_spelling version cred) (asked_spelling calls) left in
+    greeted course takes whole (reads_first oneA input (Ok (Some (hello_of version cred))) ([], asked_spelling calls ++ left, known, whole) course takes)
   where
-    greeted : (course : Course) → Takes input course → input ≡ hello_spelling cred ++ (asked_spelling calls ++ left) → TellsFirst course (Ok (Some (hello_of cred))) → EndsAsTold course why requests ⊎ IsCutShort why
+    greeted : (course : Course) → Takes input course → input ≡ hello_spelling version cred ++ (asked_spelling calls ++ left) → TellsFirst course (Ok (Some (hello_of version cred))) → EndsAsTold course why requests ⊎ IsCutShort why
     greeted NoRequest takes whole first = cc
     greeted NoHello takes whole first =
-        let same : hello_of cred ≡ first.0 = let e = first.2 in cc in
+        let same : hello_of version cred ≡ first.0 = let e = first.2 in cc in
         let yes : is_hello first.0.ask ≡ true = sym (ap (λ (r : Request). is_hello r.ask) same) in
         let no = first.1 in cc
     greeted (BadFirst fault) takes whole first = cc
-    greeted (Greeted other asked stop) takes whole first =
-        let same = oneR (hello_of cred) (hello_of other) [] [] (asked_spelling calls ++ left) takes.0 known takes.1 (sym whole ∙ takes.2) in
-        let rest_of = past oneA oneR calls left asked stop are (subst (λ (l : List ℕ). Asks l asked stop) (sym same.2) takes.3) in
-        finishes oneA other asked rest_of.0 stop why (length calls) requests left rest rest_of.2 rest_of.1 counts ends
+    greeted (Greeted second other asked stop) takes whole first =
+        let same = oneR (hello_of version cred) (hello_of second other) [] [] (asked_spelling calls ++ left) takes.0 known takes.1 (sym whole ∙ takes.2) in
+        let versions : second ≡ version = sym (ap (λ (r : Request). r.version) same.0) in
+        let next : Asks version (asked_spelling calls ++ left) asked stop =
+        subst (λ (v : Version). Asks v (asked_spelling calls ++ left) asked stop) versions (subst (λ (l : List ℕ). Asks second l asked stop) (sym same.2) takes.3) in
+        let rest_of = past oneA oneR version calls left asked stop are next in
+        subst (λ (v : Version). EndsAsTold (Greeted v other asked stop) why requests ⊎ IsCutShort why) (sym versions)
+        (finishes oneA version other asked rest_of.0 stop why (length calls) requests left rest rest_of.2 rest_of.1 counts ends)
 
-pub follows : {K : Type 0} → OneAnswerToRequests → OneRequest → (Means : Meaning K) (why : End) (tally : Tallied) (requests : ℕ) (old new : K) (input : List ℕ) (left rest taken more : Option (List ℕ))
-    → left ≡ Some input → ServesBy Means why tally requests old new left rest taken more → (course : Course) → Takes input course → EndsAsTold course why requests ⊎ IsCutShort why
-follows oneA oneR Means why tally requests old new input left rest taken more known (inl stays) course takes =
+pub follows : {K : Type 0} → OneAnswerToRequests → OneRequest → (Means : Meaning K) (slots : ℕ) (why : End) (tally : Tallied) (requests : ℕ) (old new : K) (input : List ℕ) (left rest taken more : Option (List ℕ))
+    → left ≡ Some input → ServesBy Means slots why tally requests old new left rest taken more → (course : Course) → Takes input course → EndsAsTold course why requests ⊎ IsCutShort why
+follows oneA oneR Means slots why tally requests old new input left rest taken more known (inl stays) course takes =
     before oneA why input rest requests stays.counts (subst (λ (l : Option (List ℕ)). EndsBefore why l rest) known stays.ends) course takes
-follows oneA oneR Means why tally requests old new input left rest taken more known (inr talks) course takes =
-    after oneA oneR talks.cred talks.calls why requests input talks.unread rest talks.known talks.are_calls
-    (subst (λ (l : Option (List ℕ)). Consumes l talks.unread (hello_spelling talks.cred ++ asked_spelling talks.calls)) known talks.reads) talks.ends talks.counts course takes
+follows oneA oneR Means slots why tally requests old new input left rest taken more known (inr talks) course takes =
+    after oneA oneR talks.version talks.cred talks.calls why requests input talks.unread rest talks.known talks.are_calls
+    (subst (λ (l : Option (List ℕ)). Consumes l talks.unread (hello_spelling talks.version talks.cred ++ asked_spelling talks.calls)) known talks.reads) talks.ends talks.counts course takes

@@ -1,4 +1,5 @@
 pub mod ListLemmas
 pub mod Talking
 pub mod Whole
+pub mod LaterLemmas
 pub mod Courses

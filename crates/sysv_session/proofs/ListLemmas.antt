@@ -26,8 +26,8 @@ asked_more calls call =
     flat_map-append (λ (c : Call). request_spelling c.request c.text) calls (call ∷ [])
     ∙ ap (λ l. asked_spelling calls ++ l) (append-nil (request_spelling call.request call.text))
 
-pub frames_more : (calls : List Call) (call : Call) → frames_of (calls ++ call ∷ []) ≡ frames_of calls ++ outcome_spelling call.outcome call.given ∷ []
-frames_more calls call = map-append (λ (c : Call). outcome_spelling c.outcome c.given) calls (call ∷ [])
+pub frames_more : (calls : List Call) (call : Call) → frames_of (calls ++ call ∷ []) ≡ frames_of calls ++ outcome_spelling call.request.version call.outcome call.given ∷ []
+frames_more calls call = map-append (λ (c : Call). outcome_spelling c.request.version c.outcome c.given) calls (call ∷ [])
 
 pub concat_more : (frames : List (List ℕ)) (frame : List ℕ) → concat (frames ++ frame ∷ []) ≡ concat frames ++ frame
 concat_more frames frame = concat-append frames (frame ∷ []) ∙ ap (λ l. concat frames ++ l) (append-nil frame)

@@ -7,6 +7,7 @@ use Rattle.sysv_model.specs.declared.cred.Cred.{Cred}
 use Rattle.sysv_queue.specs.Tally.{Tallied, taken_in}
 use Rattle.sysv_session.specs.declared.served.End.{End}
 use Rattle.sysv_session.specs.declared.served.End.TheVariants.{Ended, NoMemory, NoHello, Fault, Write, Bound}
+use Rattle.sysv_wire.specs.declared.frame.Version.{Version}
 use Rattle.sysv_session.specs.Calls.{Meaning}
 use Rattle.sysv_session.specs.Input.{hello_spelling}
 use Rattle.sysv_session.specs.Output.{Writes, hello_frame, frames_of}
@@ -25,47 +26,49 @@ writes_after Bound frame frames taken more most first second = Appends-trans tak
 
 module _ {K : Type 0} where
   -- a hello that was answered, and then calls
-  pub greeted : (Means : Meaning K) (cred : Cred) (why : End) (old new : K) (left mid rest taken more most : Option (List ℕ)) (tally : Tallied) (few many : ℕ)
-      → Opens (Ok cred) left mid taken more few → Goes Means cred why old new mid rest more most tally many → ServesBy Means why tally many old new left rest taken most
-  greeted Means cred why old new left mid rest taken more most tally few many hello goes = inr (record {
+  pub greeted : (Means : Meaning K) (slots : ℕ) (version : Version) (cred : Cred) (why : End) (old new : K) (left mid rest taken more most : Option (List ℕ)) (tally : Tallied) (few many : ℕ)
+      → Opens slots (Ok (version, cred)) left mid taken more few → Goes Means version cred why old new mid rest more most tally many → ServesBy Means slots why tally many old new left rest taken most
+  greeted Means slots version cred why old new left mid rest taken more most tally few many hello goes = inr (record {
+    version = version;
     cred = cred;
     known = hello.0.0;
     calls = goes.calls;
     are_calls = goes.are_calls;
     leads = goes.leads;
     unread = goes.unread;
-    reads = Consumes-trans left mid goes.unread (hello_spelling cred) _ hello.0.1 goes.reads;
+    reads = Consumes-trans left mid goes.unread (hello_spelling version cred) _ hello.0.1 goes.reads;
     ends = goes.ends;
-    writes = writes_after why hello_frame (frames_of goes.calls) taken more most hello.1 goes.writes;
+    writes = writes_after why (hello_frame version slots) (frames_of goes.calls) taken more most hello.1 goes.writes;
     tallies = goes.tallies;
     counts = goes.counts;
     bounded = goes.bounded;
   })
 
   -- nothing was read but why there is no hello
-  silent : (Means : Meaning K) (why : End) (k : K) (left rest taken more : Option (List ℕ)) (tally : Tallied) (many : ℕ)
-      → tally ≡ record { written = 0; lost = 0 } → IsSilent why left rest taken more many → ServesBy Means why tally many k k left rest taken more
-  silent Means why k left rest taken more tally many none quiet = inl (record { kernel = refl; ends = quiet.0; writes = quiet.1; tallies = none; counts = quiet.2 })
+  silent : (Means : Meaning K) (slots : ℕ) (why : End) (k : K) (left rest taken more : Option (List ℕ)) (tally : Tallied) (many : ℕ)
+      → tally ≡ record { written = 0; lost = 0 } → IsSilent why left rest taken more many → ServesBy Means slots why tally many k k left rest taken more
+  silent Means slots why k left rest taken more tally many none quiet = inl (record { kernel = refl; ends = quiet.0; writes = quiet.1; tallies = none; counts = quiet.2 })
 
   -- a session without calls
-  pub not_greeted : (Means : Meaning K) (why : End) (k : K) (left rest taken more : Option (List ℕ)) (tally : Tallied) (many : ℕ)
-      → tally ≡ record { written = 0; lost = 0 } → Opens (Err why) left rest taken more many → ServesBy Means why tally many k k left rest taken more
-  not_greeted Means Ended k left rest taken more tally many none hello = silent Means Ended k left rest taken more tally many none hello
-  not_greeted Means NoMemory k left rest taken more tally many none hello = absurd hello
-  not_greeted Means NoHello k left rest taken more tally many none hello = silent Means NoHello k left rest taken more tally many none hello
-  not_greeted Means (Fault fault) k left rest taken more tally many none hello = silent Means (Fault fault) k left rest taken more tally many none hello
-  not_greeted Means Write k left rest taken more tally many none hello = inr (record {
-    cred = hello.0;
-    known = hello.1.0;
+  pub not_greeted : (Means : Meaning K) (slots : ℕ) (why : End) (k : K) (left rest taken more : Option (List ℕ)) (tally : Tallied) (many : ℕ)
+      → tally ≡ record { written = 0; lost = 0 } → Opens slots (Err why) left rest taken more many → ServesBy Means slots why tally many k k left rest taken more
+  not_greeted Means slots Ended k left rest taken more tally many none hello = silent Means slots Ended k left rest taken more tally many none hello
+  not_greeted Means slots NoMemory k left rest taken more tally many none hello = absurd hello
+  not_greeted Means slots NoHello k left rest taken more tally many none hello = silent Means slots NoHello k left rest taken more tally many none hello
+  not_greeted Means slots (Fault fault) k left rest taken more tally many none hello = silent Means slots (Fault fault) k left rest taken more tally many none hello
+  not_greeted Means slots Write k left rest taken more tally many none hello = inr (record {
+    version = hello.0;
+    cred = hello.1;
+    known = hello.2.0;
     calls = [];
     are_calls = tt;
     leads = refl;
     unread = rest;
-    reads = subst (Consumes left rest) (sym (append-nil (hello_spelling hello.0))) hello.1.1;
+    reads = subst (Consumes left rest) (sym (append-nil (hello_spelling hello.0 hello.1))) hello.2.1;
     ends = refl;
-    writes = ([], hello_frame, taken, refl, Appends-nil taken, hello.2);
+    writes = ([], hello_frame hello.0 slots, taken, refl, Appends-nil taken, hello.3);
     tallies = (ap taken_in none, ap (λ (t : Tallied). t.written) none);
-    counts = hello.1.2;
+    counts = hello.2.2;
     bounded = tt;
   })
-  not_greeted Means Bound k left rest taken more tally many none hello = absurd hello
+  not_greeted Means slots Bound k left rest taken more tally many none hello = absurd hello

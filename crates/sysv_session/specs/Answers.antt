@@ -4,6 +4,7 @@ use Rattle.sysv_model.specs.declared.limits.TheConstants.{MESSAGE_BYTES}
 use Rattle.sysv_session.specs.declared.kernel.Outcome.{Outcome}
 use Rattle.sysv_session.specs.declared.kernel.Outcome.TheVariants.{Reply, Got}
 use Rattle.sysv_wire.specs.declared.frame.Op.TheVariants as op
+use Rattle.sysv_wire.specs.declared.frame.Version.{Version}
 use Rattle.sysv_wire.specs.declared.reply.Outcome.TheVariants.{Rcv}
 use Rattle.sysv_wire.specs.declared.reply.Reply.{Reply as Answer}
 use Rattle.sysv_wire.specs.declared.request.Ask.{Ask}
@@ -16,25 +17,29 @@ use Rattle.sysv_wire.specs.Requests.{FitsRequest, ask_text, op_of}
 abbrev pub IsAsked : Request → List ℕ → Type 0
 IsAsked request text = (op_of request.ask ≢ op.Hello) × FitsRequest request text × (text ≡ ask_text (op_of request.ask) text)
 
--- A reply is of the operation that was asked for, one that the operation may give, and no message. A message is given
--- to a receive alone, and the text is all that was given of it.
-abbrev pub MayAnswer : Ask → Outcome → List ℕ → Type 0
-MayAnswer ask (Reply reply) given =
-    (reply.op ≡ op_number (op_of ask)) × IsAnswer reply.op reply.result × (gives_text reply.result ≡ false) × (length given ≤ MESSAGE_BYTES)
-MayAnswer ask (Got delivery) given = (op_of ask ≡ op.Rcv) × (delivery.len ≡ length given) × (length given ≤ MESSAGE_BYTES)
+-- the same in a session of this version
+abbrev pub IsAskedIn : Version → Request → List ℕ → Type 0
+IsAskedIn version request text = (request.version ≡ version) × IsAsked request text
+
+-- A reply has the version of its request, is of the operation that was asked for, one that the operation may give, and no
+-- message. A message is given to a receive alone, and the text is all that was given of it.
+abbrev pub MayAnswer : Version → Ask → Outcome → List ℕ → Type 0
+MayAnswer version ask (Reply reply) given = (reply.version ≡ version) × (reply.op ≡ op_number (op_of ask))
+    × IsAnswer reply.version reply.op reply.result × (gives_text reply.result ≡ false) × (length given ≤ MESSAGE_BYTES)
+MayAnswer version ask (Got delivery) given = (op_of ask ≡ op.Rcv) × (delivery.len ≡ length given) × (length given ≤ MESSAGE_BYTES)
 
 -- the reply that gives a message, of this type
-abbrev pub message_reply : ℤ → Answer
-message_reply mtype = record { op = op_number op.Rcv; result = Rcv mtype }
+abbrev pub message_reply : Version → ℤ → Answer
+message_reply version mtype = record { version = version; op = op_number op.Rcv; result = Rcv mtype }
 
--- the reply that an outcome is written as: a message as a receive's, with its type
-abbrev pub reply_of : Outcome → Answer
-reply_of (Reply reply) = reply
-reply_of (Got delivery) = message_reply delivery.mtype
+-- the reply that an outcome is written as in this version: a message as a receive's, with its type
+abbrev pub reply_of : Version → Outcome → Answer
+reply_of version (Reply reply) = reply
+reply_of version (Got delivery) = message_reply version delivery.mtype
 
 -- the frame of that reply, with the text of a message
-abbrev pub outcome_spelling : Outcome → List ℕ → List ℕ
-outcome_spelling outcome given = reply_spelling (reply_of outcome) given
+abbrev pub outcome_spelling : Version → Outcome → List ℕ → List ℕ
+outcome_spelling version outcome given = reply_spelling (reply_of version outcome) given
 
 -- the outcome is a message
 abbrev pub is_message : Outcome → Bool

@@ -2,7 +2,8 @@
 use Rattle.std.specs.Prelude.{◌≡◌, ℕ, List, [], ◌∷◌, count_by}
 use Rattle.sysv_model.specs.declared.cred.Cred.{Cred}
 use Rattle.sysv_session.specs.declared.kernel.Outcome.{Outcome}
-use Rattle.sysv_session.specs.Answers.{IsAsked, MayAnswer, is_message}
+use Rattle.sysv_session.specs.Answers.{IsAskedIn, MayAnswer, is_message}
+use Rattle.sysv_wire.specs.declared.frame.Version.{Version}
 use Rattle.sysv_wire.specs.declared.request.Request.{Request}
 
 -- one call: what was asked and what came of it, each with its text
@@ -12,9 +13,9 @@ pub record Call : Type 0 where
   pub outcome : Outcome
   pub given : List ℕ
 
--- what may be asked was asked, and what may be answered came of it
-abbrev pub IsCall : Call → Type 0
-IsCall call = IsAsked call.request call.text × MayAnswer call.request.ask call.outcome call.given
+-- what may be asked in a session of this version was asked, and what may be answered came of it
+abbrev pub IsCall : Version → Call → Type 0
+IsCall version call = IsAskedIn version call.request call.text × MayAnswer call.request.version call.request.ask call.outcome call.given
 
 -- How a kernel's calls go: the kernel before, who calls, what is asked and what comes of it, each with its text, and the
 -- kernel after.

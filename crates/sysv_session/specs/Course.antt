@@ -5,10 +5,12 @@ use Rattle.sysv_model.specs.declared.cred.Cred.{Cred}
 use Rattle.sysv_session.specs.declared.served.End.{End}
 use Rattle.sysv_session.specs.declared.served.End.TheVariants as «end»
 use Rattle.sysv_session.specs.declared.served.Served.{Served}
-use Rattle.sysv_session.specs.Answers.{IsAsked}
+use Rattle.sysv_session.specs.Answers.{IsAskedIn}
 use Rattle.sysv_session.specs.Input.{hello_of, hello_spelling}
 use Rattle.sysv_wire.specs.declared.fault.Fault.{Fault}
 use Rattle.sysv_wire.specs.declared.fault.Fault.TheVariants.{Truncated, TooLong, BadOp, BadField, Read}
+use Rattle.sysv_wire.specs.declared.frame.Version.{Version}
+use Rattle.sysv_wire.specs.declared.frame.Version.TheVariants.{One, Two}
 use Rattle.sysv_wire.specs.declared.request.Ask.{Ask}
 use Rattle.sysv_wire.specs.declared.request.Ask.TheVariants.{Hello, Get, Snd, Rcv, Stat, Set, Rm, Row}
 use Rattle.sysv_wire.specs.declared.request.Request.{Request}
@@ -25,15 +27,25 @@ is_hello (Set id to) = false
 is_hello (Rm id) = false
 is_hello (Row slot) = false
 
--- a request after the hello is read as any request, but another hello is refused
-abbrev pub later : Result (Option Request) Fault → Result (Option Request) Fault
-later (Ok None) = Ok None
-later (Ok (Some request)) = if is_hello request.ask then Err BadOp else Ok (Some request)
-later (Err fault) = Err fault
+abbrev pub is_version : Version → Version → Bool
+is_version One One = true
+is_version One Two = false
+is_version Two One = false
+is_version Two Two = true
 
--- This is read next after the hello.
-abbrev pub LaterAt : List ℕ → Result (Option Request) Fault → Type 0
-LaterAt input answer = (first : Result (Option Request) Fault) × RequestAt input first × (answer ≡ later first)
+-- a request of the session's version is read as any request, but another hello is refused
+abbrev pub or_hello : Request → Result (Option Request) Fault
+or_hello request = if is_hello request.ask then Err BadOp else Ok (Some request)
+
+-- after a hello of this version, a request of another version is refused
+abbrev pub later : Version → Result (Option Request) Fault → Result (Option Request) Fault
+later version (Ok None) = Ok None
+later version (Ok (Some request)) = if is_version version request.version then or_hello request else Err BadField
+later version (Err fault) = Err fault
+
+-- This is read next after a hello of this version.
+abbrev pub LaterAt : Version → List ℕ → Result (Option Request) Fault → Type 0
+LaterAt version input answer = (first : Result (Option Request) Fault) × RequestAt input first × (answer ≡ later version first)
 
 -- what stops the requests: the end of the input, or a fault
 abbrev pub stop_answer : Option Fault → Result (Option Request) Fault
@@ -45,31 +57,33 @@ pub record Asked : Type 0 where
   pub request : Request
   pub text : List ℕ
 
--- The input is these requests, none of them a hello, and then this stops them.
-abbrev pub Asks : List ℕ → List Asked → Option Fault → Type 0
-Asks input [] stop = LaterAt input (stop_answer stop)
-Asks input (asked ∷ more) stop = (rest : List ℕ) × IsAsked asked.request asked.text × (input ≡ request_spelling asked.request asked.text ++ rest) × Asks rest more stop
+-- The input is these requests of this version, none of them a hello, and then this stops them.
+abbrev pub Asks : Version → List ℕ → List Asked → Option Fault → Type 0
+Asks version input [] stop = LaterAt version input (stop_answer stop)
+Asks version input (asked ∷ more) stop = (rest : List ℕ) × IsAskedIn version asked.request asked.text
+    × (input ≡ request_spelling asked.request asked.text ++ rest) × Asks version rest more stop
 
 -- the course of an input
 pub data Course : Type 0 where
   NoRequest : Course
   NoHello : Course
   BadFirst : (fault : Fault) → Course
-  Greeted : (cred : Cred) (asked : List Asked) (stop : Option Fault) → Course
+  Greeted : (version : Version) (cred : Cred) (asked : List Asked) (stop : Option Fault) → Course
 
 abbrev pub Takes : List ℕ → Course → Type 0
 Takes input NoRequest = RequestAt input (Ok None)
 Takes input NoHello = (request : Request) × (is_hello request.ask ≡ false) × RequestAt input (Ok (Some request))
 Takes input (BadFirst fault) = RequestAt input (Err fault)
-Takes input (Greeted cred asked stop) = (rest : List ℕ) × FitsRequest (hello_of cred) [] × (input ≡ hello_spelling cred ++ rest) × Asks rest asked stop
+Takes input (Greeted version cred asked stop) =
+    (rest : List ℕ) × FitsRequest (hello_of version cred) [] × (input ≡ hello_spelling version cred ++ rest) × Asks version rest asked stop
 
 -- A session of that course ends so, after so many requests, where neither memory nor a stream failed.
 abbrev pub EndsAsTold : Course → End → ℕ → Type 0
 EndsAsTold NoRequest why requests = (why ≡ «end».Ended) × (requests ≡ 0)
 EndsAsTold NoHello why requests = (why ≡ «end».NoHello) × (requests ≡ 0)
 EndsAsTold (BadFirst fault) why requests = (why ≡ «end».Fault fault) × (requests ≡ 0)
-EndsAsTold (Greeted cred asked None) why requests = (why ≡ «end».Ended) × (requests ≡ 1 + length asked)
-EndsAsTold (Greeted cred asked (Some fault)) why requests = (why ≡ «end».Fault fault) × (requests ≡ 1 + length asked)
+EndsAsTold (Greeted version cred asked None) why requests = (why ≡ «end».Ended) × (requests ≡ 1 + length asked)
+EndsAsTold (Greeted version cred asked (Some fault)) why requests = (why ≡ «end».Fault fault) × (requests ≡ 1 + length asked)
 
 -- Memory was refused, the reader or the writer failed, or the session had as many requests as it may have.
 abbrev pub IsCutShort : End → Type 0

@@ -9,22 +9,30 @@ use Rattle.sysv_session.specs.declared.served.End.TheVariants.{Ended, NoMemory, 
 use Rattle.sysv_session.specs.Answers.{outcome_spelling}
 use Rattle.sysv_session.specs.Calls.{Call, messages_of}
 use Rattle.sysv_wire.specs.declared.frame.Op.TheVariants as op
-use Rattle.sysv_wire.specs.declared.reply.Outcome.TheVariants.{Hello}
+use Rattle.sysv_wire.specs.declared.frame.Version.{Version}
+use Rattle.sysv_wire.specs.declared.frame.Version.TheVariants.{One, Two}
+use Rattle.sysv_wire.specs.declared.reply.Outcome.{Outcome}
+use Rattle.sysv_wire.specs.declared.reply.Outcome.TheVariants.{Hello, HelloSlots}
 use Rattle.sysv_wire.specs.declared.reply.Reply.{Reply}
 use Rattle.sysv_wire.specs.Frames.{op_number}
 use Rattle.sysv_wire.specs.Replies.{reply_spelling}
 use Rattle.sysv_model.specs.Writing.{AppendsPrefix}
 
-abbrev pub hello_reply : Reply
-hello_reply = record { op = op_number op.Hello; result = Hello }
+-- what answers a hello of this version, where there are so many slots
+abbrev pub hello_outcome : Version → ℕ → Outcome
+hello_outcome One slots = Hello
+hello_outcome Two slots = HelloSlots slots
+
+abbrev pub hello_reply : Version → ℕ → Reply
+hello_reply version slots = record { version = version; op = op_number op.Hello; result = hello_outcome version slots }
 
 -- the frame that answers a hello
-abbrev pub hello_frame : List ℕ
-hello_frame = reply_spelling hello_reply []
+abbrev pub hello_frame : Version → ℕ → List ℕ
+hello_frame version slots = reply_spelling (hello_reply version slots) []
 
 -- the frames that answer the calls, in order
 abbrev pub frames_of : List Call → List (List ℕ)
-frames_of calls = map (λ call. outcome_spelling call.outcome call.given) calls
+frames_of calls = map (λ call. outcome_spelling call.request.version call.outcome call.given) calls
 
 -- The frames before the last are written whole, and then a prefix of the last, perhaps all of it.
 abbrev pub BreaksOff : List (List ℕ) → Option (List ℕ) → Option (List ℕ) → Type 0

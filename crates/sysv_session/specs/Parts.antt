@@ -10,36 +10,39 @@ use Rattle.sysv_session.specs.Calls.{Call, IsCall, Leads, Meaning}
 use Rattle.sysv_session.specs.Input.{EndsAfter, EndsBefore, asked_spelling, hello_of, hello_spelling}
 use Rattle.sysv_session.specs.Output.{Tallies, Writes, frames_of, hello_frame}
 use Rattle.sysv_session.specs.Session.{IsBounded}
+use Rattle.sysv_wire.specs.declared.frame.Version.{Version}
 use Rattle.sysv_wire.specs.Requests.{FitsRequest}
 use Rattle.sysv_model.specs.Writing.{AppendsPrefix}
 
 -- a hello was read, and so many requests are taken up with it
-abbrev pub IsGreeted : Cred → (left rest : Option (List ℕ)) → ℕ → Type 0
-IsGreeted cred left rest many = FitsRequest (hello_of cred) [] × Consumes left rest (hello_spelling cred) × (many ≡ 1)
+abbrev pub IsGreeted : Version → Cred → (left rest : Option (List ℕ)) → ℕ → Type 0
+IsGreeted version cred left rest many =
+    FitsRequest (hello_of version cred) [] × Consumes left rest (hello_spelling version cred) × (many ≡ 1)
 
 -- no hello was read, and nothing was written
 abbrev pub IsSilent : End → (left rest taken more : Option (List ℕ)) → ℕ → Type 0
 IsSilent why left rest taken more many = EndsBefore why left rest × (more ≡ taken) × (many ≡ 0)
 
 -- A hello is read and answered; or the writer fails at the answer; or no hello is read.
-abbrev pub Opens : Result Cred End → (left rest taken more : Option (List ℕ)) → ℕ → Type 0
-Opens (Ok cred) left rest taken more many = IsGreeted cred left rest many × Appends taken more hello_frame
-Opens (Err Ended) left rest taken more many = IsSilent Ended left rest taken more many
-Opens (Err NoMemory) left rest taken more many = ⊥
-Opens (Err NoHello) left rest taken more many = IsSilent NoHello left rest taken more many
-Opens (Err (Fault fault)) left rest taken more many = IsSilent (Fault fault) left rest taken more many
-Opens (Err Write) left rest taken more many = (cred : Cred) × IsGreeted cred left rest many × AppendsPrefix taken more hello_frame
-Opens (Err Bound) left rest taken more many = ⊥
+abbrev pub Opens : ℕ → Result (Version × Cred) End → (left rest taken more : Option (List ℕ)) → ℕ → Type 0
+Opens slots (Ok caller) left rest taken more many = IsGreeted caller.0 caller.1 left rest many × Appends taken more (hello_frame caller.0 slots)
+Opens slots (Err Ended) left rest taken more many = IsSilent Ended left rest taken more many
+Opens slots (Err NoMemory) left rest taken more many = ⊥
+Opens slots (Err NoHello) left rest taken more many = IsSilent NoHello left rest taken more many
+Opens slots (Err (Fault fault)) left rest taken more many = IsSilent (Fault fault) left rest taken more many
+Opens slots (Err Write) left rest taken more many =
+    (version : Version) × (cred : Cred) × IsGreeted version cred left rest many × AppendsPrefix taken more (hello_frame version slots)
+Opens slots (Err Bound) left rest taken more many = ⊥
 
 module _ {K : Type 0} where
   -- what follows a hello that was answered
-  pub record Goes (Means : Meaning K) (cred : Cred) (why : End) (old new : K) (left rest taken more : Option (List ℕ)) (tally : Tallied) (many : ℕ) : Type 0 where
+  pub record Goes (Means : Meaning K) (version : Version) (cred : Cred) (why : End) (old new : K) (left rest taken more : Option (List ℕ)) (tally : Tallied) (many : ℕ) : Type 0 where
     pub calls : List Call
-    pub are_calls : AllByRecursion IsCall calls
+    pub are_calls : AllByRecursion (IsCall version) calls
     pub leads : Leads Means cred old calls new
     pub unread : Option (List ℕ)
     pub reads : Consumes left unread (asked_spelling calls)
-    pub ends : EndsAfter why unread rest
+    pub ends : EndsAfter version why unread rest
     pub writes : Writes why (frames_of calls) taken more
     pub tallies : Tallies why calls tally
     pub counts : many ≡ 1 + length calls

@@ -9,6 +9,7 @@ use Rattle.sysv_session.specs.declared.served.End.TheVariants.{Ended, NoMemory, 
 use Rattle.sysv_session.specs.Answers.{messages_in, outcome_spelling}
 use Rattle.sysv_session.specs.Calls.{Call, IsCall, Meaning}
 use Rattle.sysv_session.specs.Input.{EndsAfter}
+use Rattle.sysv_wire.specs.declared.frame.Version.{Version}
 use Rattle.sysv_wire.specs.Requests.{request_spelling}
 use Rattle.sysv_model.specs.Writing.{AppendsPrefix}
 
@@ -20,39 +21,39 @@ one_written outcome tally = record { written = tally.written + messages_in outco
 abbrev pub one_lost : Outcome → Tallied → Tallied
 one_lost outcome tally = record { written = tally.written; lost = tally.lost + messages_in outcome }
 
--- an outcome is written whole, as its frame, and counted as written
-abbrev pub Answers : Result ⊤ End → Outcome → List ℕ → (old new : Option (List ℕ)) → (before after : Tallied) → Type 0
-Answers (Ok done) outcome given old new before after = Appends old new (outcome_spelling outcome given) × (after ≡ one_written outcome before)
-Answers (Err Write) outcome given old new before after = AppendsPrefix old new (outcome_spelling outcome given) × (after ≡ one_lost outcome before)
-Answers (Err Ended) outcome given old new before after = ⊥
-Answers (Err NoMemory) outcome given old new before after = ⊥
-Answers (Err NoHello) outcome given old new before after = ⊥
-Answers (Err (Fault fault)) outcome given old new before after = ⊥
-Answers (Err Bound) outcome given old new before after = ⊥
+-- an outcome is written whole, as its frame of this version, and counted as written
+abbrev pub Answers : Result ⊤ End → Version → Outcome → List ℕ → (old new : Option (List ℕ)) → (before after : Tallied) → Type 0
+Answers (Ok done) version outcome given old new before after = Appends old new (outcome_spelling version outcome given) × (after ≡ one_written outcome before)
+Answers (Err Write) version outcome given old new before after = AppendsPrefix old new (outcome_spelling version outcome given) × (after ≡ one_lost outcome before)
+Answers (Err Ended) version outcome given old new before after = ⊥
+Answers (Err NoMemory) version outcome given old new before after = ⊥
+Answers (Err NoHello) version outcome given old new before after = ⊥
+Answers (Err (Fault fault)) version outcome given old new before after = ⊥
+Answers (Err Bound) version outcome given old new before after = ⊥
 
 module _ {K : Type 0} where
   -- a request was read and the kernel was asked, and its outcome was written, or it broke off
-  pub record Takes (Means : Meaning K) (cred : Cred) (result : Result ⊤ End) (old new : K) (left rest : Option (List ℕ)) (taken more : Option (List ℕ)) (before after : Tallied) (few many : ℕ) : Type 0 where
+  pub record Takes (Means : Meaning K) (version : Version) (cred : Cred) (result : Result ⊤ End) (old new : K) (left rest : Option (List ℕ)) (taken more : Option (List ℕ)) (before after : Tallied) (few many : ℕ) : Type 0 where
     pub call : Call
-    pub is_call : IsCall call
+    pub is_call : IsCall version call
     pub means : Means old cred call.request call.text call.outcome call.given new
     pub reads : Consumes left rest (request_spelling call.request call.text)
-    pub answers : Answers result call.outcome call.given taken more before after
+    pub answers : Answers result call.request.version call.outcome call.given taken more before after
     pub counts : many ≡ few + 1
 
   -- nothing was asked and nothing written
-  pub record Rests (why : End) (old new : K) (left rest : Option (List ℕ)) (taken more : Option (List ℕ)) (before after : Tallied) (few many : ℕ) : Type 0 where
+  pub record Rests (version : Version) (why : End) (old new : K) (left rest : Option (List ℕ)) (taken more : Option (List ℕ)) (before after : Tallied) (few many : ℕ) : Type 0 where
     pub kernel : new ≡ old
-    pub ends : EndsAfter why left rest
+    pub ends : EndsAfter version why left rest
     pub writes : more ≡ taken
     pub tally : after ≡ before
     pub counts : many ≡ few
 
-  abbrev pub Turns : Meaning K → Cred → Result ⊤ End → (old new : K) → (left rest : Option (List ℕ)) → (taken more : Option (List ℕ)) → (before after : Tallied) → (few many : ℕ) → Type 0
-  Turns Means cred (Ok done) old new left rest taken more before after few many = Takes Means cred (Ok done) old new left rest taken more before after few many
-  Turns Means cred (Err Write) old new left rest taken more before after few many = Takes Means cred (Err Write) old new left rest taken more before after few many
-  Turns Means cred (Err Ended) old new left rest taken more before after few many = Rests Ended old new left rest taken more before after few many
-  Turns Means cred (Err (Fault fault)) old new left rest taken more before after few many = Rests (Fault fault) old new left rest taken more before after few many
-  Turns Means cred (Err NoMemory) old new left rest taken more before after few many = ⊥
-  Turns Means cred (Err NoHello) old new left rest taken more before after few many = ⊥
-  Turns Means cred (Err Bound) old new left rest taken more before after few many = ⊥
+  abbrev pub Turns : Meaning K → Version → Cred → Result ⊤ End → (old new : K) → (left rest : Option (List ℕ)) → (taken more : Option (List ℕ)) → (before after : Tallied) → (few many : ℕ) → Type 0
+  Turns Means version cred (Ok done) old new left rest taken more before after few many = Takes Means version cred (Ok done) old new left rest taken more before after few many
+  Turns Means version cred (Err Write) old new left rest taken more before after few many = Takes Means version cred (Err Write) old new left rest taken more before after few many
+  Turns Means version cred (Err Ended) old new left rest taken more before after few many = Rests version Ended old new left rest taken more before after few many
+  Turns Means version cred (Err (Fault fault)) old new left rest taken more before after few many = Rests version (Fault fault) old new left rest taken more before after few many
+  Turns Means version cred (Err NoMemory) old new left rest taken more before after few many = ⊥
+  Turns Means version cred (Err NoHello) old new left rest taken more before after few many = ⊥
+  Turns Means version cred (Err Bound) old new left rest taken more before after few many = ⊥

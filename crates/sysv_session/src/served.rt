@@ -17,7 +17,8 @@ pub enum End {
     NoMemory,
     /// The first request was another than hello. Nothing was written.
     NoHello,
-    /// A request could not be read; a later hello is `BadOp`. It has no reply.
+    /// A request could not be read; a later one of another version is `BadField`, and a later hello of the session's
+    /// version is `BadOp`. It has no reply.
     Fault(Fault),
     /// The writer failed, took no byte, or could not be flushed: the last reply may not have been written.
     Write,

@@ -1,5 +1,5 @@
 //! A session, from its hello to its end.
-ghost use Rattle.std.specs.Prelude.{◌≡◌, ◌≢◌, ◌<◌, ◌-◌, ◌^◌, List, ℕ, [], Some, IfOk};
+ghost use Rattle.std.specs.Prelude.{◌≡◌, ◌≢◌, ◌<◌, ◌-◌, ◌^◌, List, ℕ, [], Some};
 ghost use Rattle.sysv_queue.specs.Tally.{taken_in};
 ghost use Rattle.sysv_session.specs.Session.{Serves, ServesBy};
 ghost use Rattle.sysv_session.specs.Course.{Course, Follows, Takes};
@@ -8,40 +8,59 @@ ghost use Rattle.sysv_session.specs.Turn.{Turns};
 
 use crate::kernel::Kernel;
 use crate::served::{End, SESSION_REQUESTS, Served};
-use crate::turn::{answer, read_asked, read_hello, send};
+use crate::turn::{answer, hello_reply, read_asked, read_hello, send};
 use std::alloc::Global;
 use std::io::{Read, Write};
 use sysv_model::{Body, Cred, NoMemory};
 use sysv_queue::Tally;
-use sysv_wire::{Op, Outcome as Told, Reply, Request, one_answer_to_requests, one_request};
+use sysv_wire::{Request, Version, one_answer_to_requests, one_request};
 
 /// Runs one session to its end: reads a hello and answers it, and then reads requests, asks the kernel
 /// each of them with the credentials of the hello, and writes its replies in order, each flushed before the
 /// next request is read.
 ///
-/// A request that cannot be read, and a later hello, end the session without a reply. Memory is taken
-/// for two texts, and before anything is read; where it is refused, reader, writer and kernel are as they were.
+/// The session has the version of its hello; in version 2 the reply to the hello has the number of slots.
+/// A request that cannot be read, one of another version and a later hello end the session without a reply.
+/// Memory is taken for two texts, and before anything is read; where it is refused, reader, writer and kernel
+/// are as they were.
 pub fn serve<R: Read, W: Write, K: Kernel>(
     alloc: Global,
     reader: &mut R,
     writer: &mut W,
     kernel: &mut K,
 ) -> Served
-    ensures serves { Serves K.meaning result kernel.old kernel.new (R.remaining reader.old) (R.remaining reader.new) (W.contents writer.old) (W.contents writer.new) }
+    ensures serves { Serves K.meaning (K.slots kernel.old) result kernel.old kernel.new (R.remaining reader.old) (R.remaining reader.new) (W.contents writer.old) (W.contents writer.new) }
     // It ends as its input tells, unless it is cut short.
     ensures only { (input : List ℕ) (course : Course) → R.remaining reader.old ≡ Some input → Takes input course → Follows course result }
     ensures memory { result.«end» ≡ End.NoMemory → (reader.new ≡ reader.old) × (writer.new ≡ writer.old) }
 {
-    one_request();
-    one_answer_to_requests();
-    let Ok(mut session) = Session::open(alloc) else {
+    let Ok(mut texts) = Texts::open(alloc) else {
         return Served {
             end: End::NoMemory,
             tally: Tally::open(),
             requests: 0,
         };
     };
-    let end = session.run(reader, writer, kernel);
+    serve_with(&mut texts, reader, writer, kernel)
+}
+
+/// As `serve`, with two texts that are there already, whatever they hold. It takes no memory.
+pub fn serve_with<R: Read, W: Write, K: Kernel>(
+    texts: &mut Texts,
+    reader: &mut R,
+    writer: &mut W,
+    kernel: &mut K,
+) -> Served
+    ensures serves { Serves K.meaning (K.slots kernel.old) result kernel.old kernel.new (R.remaining reader.old) (R.remaining reader.new) (W.contents writer.old) (W.contents writer.new) }
+    // It ends as its input tells, unless it is cut short.
+    ensures only { (input : List ℕ) (course : Course) → R.remaining reader.old ≡ Some input → Takes input course → Follows course result }
+    ensures memory { result.«end» ≢ End.NoMemory }
+{
+    one_request();
+    one_answer_to_requests();
+    let slots = kernel.slots();
+    let mut session = Session::open(texts);
+    let end = session.run(slots, reader, writer, kernel);
     Served {
         end,
         tally: session.tally,
@@ -49,71 +68,87 @@ pub fn serve<R: Read, W: Write, K: Kernel>(
     }
 }
 
+/// The two texts of a session: that of a request, and that of its reply. They may serve one session after
+/// another.
+#[derive(Drop)]
+pub struct Texts {
+    asked: Body,
+    given: Body,
+}
+
+impl Texts {
+    /// Two texts. `NoMemory` where the memory for them is refused.
+    pub fn open(alloc: Global) -> Result<Texts, NoMemory> {
+        let asked = Body::open(alloc)?;
+        let given = Body::open(alloc)?;
+        Ok(Texts { asked, given })
+    }
+}
+
 /// A session under way.
 #[derive(Drop)]
-struct Session {
-    /// The text of the request.
-    text: Body,
-    /// The text of its reply.
-    given: Body,
+struct Session<'a> {
+    texts: &'a mut Texts,
     tally: Tally,
     requests: u32,
 }
 
-impl Session {
+impl<'a> Session<'a> {
     /// Nothing was read.
-    fn open(alloc: Global) -> Result<Session, NoMemory>
-        ensures { IfOk result (λ session. (session.tally ≡ record { written = 0; lost = 0 }) × (session.requests ≡ 0)) }
+    fn open(texts: &'a mut Texts) -> Session<'a>
+        ensures tally { result.tally ≡ record { written = 0; lost = 0 } }
+        ensures count { result.requests ≡ 0 }
     {
-        let text = Body::open(alloc)?;
-        let given = Body::open(alloc)?;
-        Ok(Session {
-            text,
-            given,
+        Session {
+            texts,
             tally: Tally::open(),
             requests: 0,
-        })
+        }
     }
 
     /// Runs from the hello to the end.
     fn run<R: Read, W: Write, K: Kernel>(
         &mut self,
+        slots: u32,
         reader: &mut R,
         writer: &mut W,
         kernel: &mut K,
     ) -> End
         requires tally { self.old.tally ≡ record { written = 0; lost = 0 } }
         requires count { self.old.requests ≡ 0 }
-        ensures serves { ServesBy K.meaning result self.new.tally self.new.requests kernel.old kernel.new (R.remaining reader.old) (R.remaining reader.new)
+        ensures serves { ServesBy K.meaning slots result self.new.tally self.new.requests kernel.old kernel.new (R.remaining reader.old) (R.remaining reader.new)
             (W.contents writer.old) (W.contents writer.new) }
         ensures memory { result ≢ End.NoMemory }
     {
-        match self.greet(reader, writer) {
-            Ok(cred) => self.serve_calls(cred, reader, writer, kernel),
+        match self.greet(slots, reader, writer) {
+            Ok((version, cred)) => self.serve_calls(version, cred, reader, writer, kernel),
             Err(end) => end,
         }
     }
 
     /// Reads the hello and answers it.
-    fn greet<R: Read, W: Write>(&mut self, reader: &mut R, writer: &mut W) -> Result<Cred, End>
+    fn greet<R: Read, W: Write>(
+        &mut self,
+        slots: u32,
+        reader: &mut R,
+        writer: &mut W,
+    ) -> Result<(Version, Cred), End>
         requires { self.old.requests ≡ 0 }
-        ensures opens { Opens result (R.remaining reader.old) (R.remaining reader.new) (W.contents writer.old) (W.contents writer.new) self.new.requests }
+        ensures opens { Opens slots result (R.remaining reader.old) (R.remaining reader.new) (W.contents writer.old) (W.contents writer.new) self.new.requests }
         ensures tally { self.new.tally ≡ self.old.tally }
     {
-        let cred = read_hello(reader, &mut self.text)?;
+        let (version, cred) = read_hello(reader, &mut self.texts.asked)?;
         self.requests = 1;
-        self.given.clear();
-        let reply = Reply {
-            op: Op::Hello.number(),
-            result: Told::Hello,
-        };
-        send(writer, &reply, &self.given)?;
-        Ok(cred)
+        self.texts.given.clear();
+        let reply = hello_reply(version, slots);
+        send(writer, &reply, &self.texts.given)?;
+        Ok((version, cred))
     }
 
     /// Answers requests up to the bound or the first end.
     fn serve_calls<R: Read, W: Write, K: Kernel>(
         &mut self,
+        version: Version,
         cred: Cred,
         reader: &mut R,
         writer: &mut W,
@@ -121,11 +156,11 @@ impl Session {
     ) -> End
         requires tally { self.old.tally ≡ record { written = 0; lost = 0 } }
         requires count { self.old.requests ≡ 1 }
-        ensures { Goes K.meaning cred result kernel.old kernel.new (R.remaining reader.old) (R.remaining reader.new)
+        ensures { Goes K.meaning version cred result kernel.old kernel.new (R.remaining reader.old) (R.remaining reader.new)
             (W.contents writer.old) (W.contents writer.new) self.new.tally self.new.requests }
     {
         for _ in 1..SESSION_REQUESTS {
-            if let Err(end) = self.serve_next(cred, reader, writer, kernel) {
+            if let Err(end) = self.serve_next(version, cred, reader, writer, kernel) {
                 return end;
             }
         }
@@ -135,6 +170,7 @@ impl Session {
     /// Reads the next request, asks the kernel and writes its reply.
     fn serve_next<R: Read, W: Write, K: Kernel>(
         &mut self,
+        version: Version,
         cred: Cred,
         reader: &mut R,
         writer: &mut W,
@@ -142,15 +178,21 @@ impl Session {
     ) -> Result<(), End>
         requires room { taken_in self.old.tally < 2 ^ 64 - 1 }
         requires count { self.old.requests < SESSION_REQUESTS }
-        ensures { Turns K.meaning cred result kernel.old kernel.new (R.remaining reader.old) (R.remaining reader.new)
+        ensures { Turns K.meaning version cred result kernel.old kernel.new (R.remaining reader.old) (R.remaining reader.new)
             (W.contents writer.old) (W.contents writer.new) self.old.tally self.new.tally self.old.requests self.new.requests }
     {
-        let Some(request) = read_asked(reader, &mut self.text)? else {
+        let Some(request) = read_asked(reader, version, &mut self.texts.asked)? else {
             return Err(End::Ended);
         };
         self.requests += 1;
-        self.given.clear();
-        let outcome = kernel.call(cred, &request, &self.text, &mut self.given);
-        answer(writer, outcome, &self.given, &mut self.tally)
+        self.texts.given.clear();
+        let outcome = kernel.call(cred, &request, &self.texts.asked, &mut self.texts.given);
+        answer(
+            writer,
+            request.version,
+            outcome,
+            &self.texts.given,
+            &mut self.tally,
+        )
     }
 }

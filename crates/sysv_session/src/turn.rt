@@ -5,7 +5,9 @@ ghost use Rattle.sysv_model.specs.declared.limits.TheConstants.{MESSAGE_BYTES};
 ghost use Rattle.sysv_queue.specs.Tally.{taken_in};
 ghost use Rattle.sysv_session.specs.Answers.{reply_of, message_reply as the_reply};
 ghost use Rattle.sysv_session.specs.Input.{Greets, ReadsAsked};
+ghost use Rattle.sysv_session.specs.Output.{hello_reply as the_hello_reply};
 ghost use Rattle.sysv_session.specs.Turn.{Answers};
+ghost use Rattle.sysv_wire.specs.Reading.{ReadsRequest};
 ghost use Rattle.sysv_wire.specs.Replies.{IsAnswer, reply_spelling};
 ghost use Rattle.sysv_model.specs.Writing.{AppendsPrefix};
 
@@ -15,39 +17,71 @@ use std::io::{Read, Write};
 use sysv_model::{Body, Cred, Watched};
 use sysv_queue::{Delivery, Tally};
 use sysv_wire::{
-    Ask, Fault, Op, Outcome as Told, Reply, Request, WriteFault, read_request, write_reply,
+    Ask, Fault, Op, Outcome as Told, Reply, Request, Version, WriteFault, read_request, write_reply,
 };
 
-/// Reads the first request, and says who calls.
-pub(crate) fn read_hello<R: Read>(reader: &mut R, text: &mut Body) -> Result<Cred, End>
+/// Reads a request of either version; `None` at the end.
+fn read_any<R: Read>(reader: &mut R, text: &mut Body) -> Result<Option<Request>, Fault>
+    ensures { ReadsRequest (R.remaining reader.old) (R.remaining reader.new) result text.new }
+{
+    read_request(&mut Watched::new(reader), text)
+}
+
+/// Reads the first request, and says in which version and who calls.
+pub(crate) fn read_hello<R: Read>(reader: &mut R, text: &mut Body) -> Result<(Version, Cred), End>
     ensures { Greets result (R.remaining reader.old) (R.remaining reader.new) }
 {
-    let mut reader = Watched::new(reader);
-    match read_request(&mut reader, text)? {
+    match read_any(reader, text)? {
         Some(
             Request {
+                version,
                 ask: Ask::Hello(cred),
             },
-        ) => Ok(cred),
+        ) => Ok((version, cred)),
         Some(_) => Err(End::NoHello),
         None => Err(End::Ended),
     }
 }
 
-/// Reads a later request; `None` at the end.
-pub(crate) fn read_asked<R: Read>(reader: &mut R, text: &mut Body) -> Result<Option<Request>, Fault>
-    ensures { ReadsAsked (R.remaining reader.old) (R.remaining reader.new) result text.new }
+/// The reply to a hello of this version.
+pub(crate) fn hello_reply(version: Version, slots: u32) -> Reply
+    ensures reply { result ≡ the_hello_reply version slots }
+    ensures answer { IsAnswer result.version result.op result.result }
 {
-    let mut reader = Watched::new(reader);
-    match read_request(&mut reader, text)? {
-        Some(Request { ask: Ask::Hello(_) }) => Err(Fault::BadOp),
+    let result = match version {
+        Version::One => Told::Hello,
+        Version::Two => Told::HelloSlots { slots },
+    };
+    Reply {
+        version,
+        op: Op::Hello.number(),
+        result,
+    }
+}
+
+/// Reads a later request of a session of this version; `None` at the end.
+pub(crate) fn read_asked<R: Read>(
+    reader: &mut R,
+    version: Version,
+    text: &mut Body,
+) -> Result<Option<Request>, Fault>
+    ensures { ReadsAsked version (R.remaining reader.old) (R.remaining reader.new) result text.new }
+{
+    match read_any(reader, text)? {
+        Some(request) if request.version != version => Err(Fault::BadField),
+        Some(
+            Request {
+                ask: Ask::Hello(_),
+                ..
+            },
+        ) => Err(Fault::BadOp),
         found => Ok(found),
     }
 }
 
 /// Writes a reply, and flushes it.
 pub(crate) fn send<W: Write>(writer: &mut W, reply: &Reply, text: &Body) -> Result<(), WriteFault>
-    requires answer { IsAnswer reply.now.op reply.now.result }
+    requires answer { IsAnswer reply.now.version reply.now.op reply.now.result }
     requires text { length text.now ≤ MESSAGE_BYTES }
     ensures ok { OnOk result (Appends (W.contents writer.old) (W.contents writer.new) (reply_spelling reply.now text.now)) }
     ensures err { OnErr result (AppendsPrefix (W.contents writer.old) (W.contents writer.new) (reply_spelling reply.now text.now)) }
@@ -61,10 +95,11 @@ pub(crate) fn send<W: Write>(writer: &mut W, reply: &Reply, text: &Body) -> Resu
 }
 
 /// The reply that gives a message.
-fn message_reply(delivery: &Delivery) -> Reply
-    ensures { result ≡ the_reply delivery.now.mtype }
+fn message_reply(version: Version, delivery: &Delivery) -> Reply
+    ensures { result ≡ the_reply version delivery.now.mtype }
 {
     Reply {
+        version,
         op: Op::Rcv.number(),
         result: Told::Rcv {
             mtype: delivery.mtype(),
@@ -76,15 +111,16 @@ fn message_reply(delivery: &Delivery) -> Reply
 /// whole and flushed, else as lost.
 fn deliver<W: Write>(
     writer: &mut W,
+    version: Version,
     delivery: Delivery,
     given: &Body,
     tally: &mut Tally,
 ) -> Result<(), End>
     requires text { length given.now ≤ MESSAGE_BYTES }
     requires room { taken_in tally.old < 2 ^ 64 - 1 }
-    ensures { Answers result (Outcome.Got delivery) given.now (W.contents writer.old) (W.contents writer.new) tally.old tally.new }
+    ensures { Answers result version (Outcome.Got delivery) given.now (W.contents writer.old) (W.contents writer.new) tally.old tally.new }
 {
-    let reply = message_reply(&delivery);
+    let reply = message_reply(version, &delivery);
     match send(writer, &reply, given) {
         Ok(()) => {
             delivery.written(tally);
@@ -97,23 +133,24 @@ fn deliver<W: Write>(
     }
 }
 
-/// Writes what the kernel answered.
+/// Writes what the kernel answered to a request of this version.
 pub(crate) fn answer<W: Write>(
     writer: &mut W,
+    version: Version,
     outcome: Outcome,
     given: &Body,
     tally: &mut Tally,
 ) -> Result<(), End>
-    requires reply { IsAnswer (reply_of outcome).op (reply_of outcome).result }
+    requires reply { IsAnswer (reply_of version outcome).version (reply_of version outcome).op (reply_of version outcome).result }
     requires text { length given.now ≤ MESSAGE_BYTES }
     requires room { taken_in tally.old < 2 ^ 64 - 1 }
-    ensures { Answers result outcome given.now (W.contents writer.old) (W.contents writer.new) tally.old tally.new }
+    ensures { Answers result version outcome given.now (W.contents writer.old) (W.contents writer.new) tally.old tally.new }
 {
     match outcome {
         Outcome::Reply(reply) => {
             send(writer, &reply, given)?;
             Ok(())
         }
-        Outcome::Got(delivery) => deliver(writer, delivery, given, tally),
+        Outcome::Got(delivery) => deliver(writer, version, delivery, given, tally),
     }
 }

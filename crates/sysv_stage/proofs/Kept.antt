@@ -6,8 +6,8 @@ use Rattle.sysv_stage.specs.Scene.{Scene}
 use Rattle.sysv_stage.specs.Staged.{IsSceneOf}
 use Rattle.sysv_stage.specs.declared.stage.Stage.{Stage}
 
--- a stage whose spare body alone has changed is seen as before
-pub kept : (s : Scene) (old new : Stage) → new ≡ record old { spare = new.spare } → IsSceneOf s old → IsSceneOf s new
+-- a stage whose spare bodies alone have changed is seen as before
+pub kept : (s : Scene) (old new : Stage) → new ≡ record old { spares = new.spares } → IsSceneOf s old → IsSceneOf s new
 kept s old new e seen = subst (IsSceneOf s) (sym e) (record { world = seen.world; creds = seen.creds; moment = seen.moment; fresh = seen.fresh })
 
 pub on_ok : {P Q : Type 0} (r : Result ⊤ NoMemory) → OnOk r P → (P → Q) → OnOk r Q

@@ -22,8 +22,8 @@ const SCRIPT_BLOCKS: u32 = 1024;
 /// The most steps that a call of a script makes before the next line.
 const MAX_STEPS: u32 = 16;
 
-/// The world of a script, its actors' credentials, the moment of each step, and a body for the next
-/// receive.
+/// The world of a script, its actors' credentials, the moment of each step, and the bodies that no call
+/// under way has.
 pub struct Stage {
     world: World,
     /// The credentials of actor A stand at place A - 1.
@@ -31,7 +31,8 @@ pub struct Stage {
     moment: u64,
     /// Every line so far was one that is skipped.
     fresh: bool,
-    spare: Option<Body>,
+    /// At most one for each actor, since a body is opened only where there is none.
+    spares: Vec<Body>,
 }
 
 impl Stage {
@@ -39,14 +40,14 @@ impl Stage {
     pub fn open(alloc: Global) -> Result<Stage, NoMemory>
         ensures { IfOk result (λ stage. IsSceneOf opening_scene stage) }
     {
-        let spare = Some(Body::open(alloc)?);
+        let spares = Vec::with_capacity(alloc, SCRIPT_ACTORS as usize).map_err(|_| NoMemory)?;
         let world = World::open(alloc, SCRIPT_ACTORS, SCRIPT_BLOCKS).map_err(|_| NoMemory)?;
         Ok(Stage {
             world,
             creds: first_creds(),
             moment: 0,
             fresh: true,
-            spare,
+            spares,
         })
     }
 
@@ -57,7 +58,7 @@ impl Stage {
             creds: _creds,
             moment: _moment,
             fresh: _fresh,
-            spare: _spare,
+            spares: _spares,
         } = self;
         let _blocks = world.end();
     }
@@ -228,7 +229,7 @@ impl Stage {
     fn call_of(&mut self, alloc: Global, request: Request<'_>) -> Result<Call, NoMemory>
         requires { RequestFits request }
         ensures call { IfOk result (λ call. call ≡ call_for (call_asked request.entry)) }
-        ensures kept { self.new ≡ record self.old { spare = self.new.spare } }
+        ensures kept { self.new ≡ record self.old { spares = self.new.spares } }
     {
         match request {
             Request::Get { key, flags } => Ok(Call::Get { key, flags }),
@@ -241,7 +242,8 @@ impl Stage {
                 flags,
                 text,
             } => {
-                let body = body_of(alloc, text)?;
+                let mut body = self.spare_body(alloc)?;
+                fill(&mut body, text);
                 Ok(Call::Send {
                     id,
                     mtype,
@@ -267,12 +269,12 @@ impl Stage {
         }
     }
 
-    /// The spare body, or a new one where it is away.
+    /// A spare body, or a new one where there is none.
     fn spare_body(&mut self, alloc: Global) -> Result<Body, NoMemory>
         ensures empty { IfOk result (λ body. body ≡ []) }
-        ensures kept { self.new ≡ record self.old { spare = self.new.spare } }
+        ensures kept { self.new ≡ record self.old { spares = self.new.spares } }
     {
-        match self.spare.take() {
+        match self.spares.pop() {
             Some(mut body) => {
                 body.clear();
                 Ok(body)
@@ -317,7 +319,7 @@ impl Stage {
         self.world.step(event)
     }
 
-    /// Composes the line of an answer, and takes a receive's body back.
+    /// Composes the line of an answer, and keeps the body of a send or a receive that was answered.
     fn tell(
         &mut self,
         actor: u32,
@@ -327,7 +329,7 @@ impl Stage {
     ) -> Result<(), NoMemory>
         ensures told { OnOk result ((s : Scene) → IsSceneOf s self.old → output.new ≡ output.old ++ printed s.world actor operation stepped) }
         ensures err { OnErr result (output.new ≡ []) }
-        ensures kept { self.new ≡ record self.old { spare = self.new.spare } }
+        ensures kept { self.new ≡ record self.old { spares = self.new.spares } }
     {
         match stepped {
             Stepped::Nothing => output.tell(self.stands(actor)),
@@ -344,7 +346,10 @@ impl Stage {
                     told: told_of(outcome),
                 };
                 match body {
-                    None => output.tell(head),
+                    None => {
+                        self.keep_spare();
+                        output.tell(head)
+                    }
                     Some(body) => self.tell_body(head, body, output),
                 }
             }
@@ -365,20 +370,29 @@ impl Stage {
     fn tell_body(&mut self, head: Head, body: Body, output: &mut Output) -> Result<(), NoMemory>
         ensures told { OnOk result (output.new ≡ output.old ++ (head_text head ++ (body ++ 10 ∷ []))) }
         ensures err { OnErr result (output.new ≡ []) }
-        ensures kept { self.new ≡ record self.old { spare = self.new.spare } }
+        ensures kept { self.new ≡ record self.old { spares = self.new.spares } }
     {
         let told = output.tell_text(head, &body);
-        self.spare = Some(body);
+        let _kept = self.spares.push(body);
         told
+    }
+
+    /// Keeps the body of a send that was answered.
+    fn keep_spare(&mut self)
+        ensures { self.new ≡ record self.old { spares = self.new.spares } }
+    {
+        if let Some(body) = self.world.spare() {
+            let _kept = self.spares.push(body);
+        }
     }
 }
 
-/// A body that holds this text and nothing else.
-fn body_of(alloc: Global, text: Text<'_>) -> Result<Body, NoMemory>
-    requires { FitsBody text }
-    ensures { IfOk result (λ body. body ≡ text_bytes text.entry) }
+/// Puts a text into an empty body.
+fn fill(body: &mut Body, text: Text<'_>)
+    requires empty { body.old ≡ [] }
+    requires fits { FitsBody text }
+    ensures { body.new ≡ text_bytes text.entry }
 {
-    let mut body = Body::open(alloc)?;
     match text {
         Text::Given(bytes) => {
             let _fits = body.push_piece(bytes);
@@ -389,7 +403,6 @@ fn body_of(alloc: Global, text: Text<'_>) -> Result<Body, NoMemory>
             }
         }
     }
-    Ok(body)
 }
 
 /// The credentials that the actors 1 to 16 have at first.

@@ -1,7 +1,7 @@
 -- A receive that plays to its end is answered right. As long as it is under way, no message was taken for
 -- it, its identifier was not found gone, and it remembers whether it was found live; one that does not wait
 -- has met no want of a message.
-use Rattle.std.proofs.Common.{◌≡◌, ℕ, ℤ, ◌+◌, inl, inr, Bool, true, false, List, [], ◌∷◌, ◌++◌, Some, cond, refl, sym, ap, subst, ◌∙◌, take, length}
+use Rattle.std.proofs.Common.{◌≡◌, ℕ, ℤ, ◌+◌, ◌≤◌, inl, inr, Bool, true, false, List, [], ◌∷◌, ◌++◌, Some, cond, refl, sym, ap, subst, ◌∙◌, arith, take, length}
 use Rattle.std.specs.List.{list_any, flat_map}
 use Rattle.std.proofs.lemmas.Grind.{flat_map-append}
 use Rattle.sysv_model.specs.declared.cred.Cred.{Cred}
@@ -60,6 +60,7 @@ module _ (id : ℤ) (size : ℕ) (mtype : ℤ) (flags : Flags) where
   refused_at_once : is_refused (Msgrcv id size mtype flags) ≡ true → IsRight [] (Refused EINVAL)
   refused_at_once r = record {
     got = λ mtype text. (λ e. cc, λ t. absurd (never t.1));
+    once = omega arith;
     none = (λ e. cc, λ t. cc);
     long = (λ e. cc, λ t. cc);
     denied = (λ e. cc, λ t. cc);
@@ -87,6 +88,7 @@ module _ (id : ℤ) (size : ℕ) (mtype : ℤ) (flags : Flags) where
         let k : list_any found_live (with Gone) ≡ true = kept found_live deeds (AtSlot slot call Gone) refl ∙ l in
         record {
           got = λ mtype text. (λ e. cc, λ t. absurd (never (sym m ∙ t.1)));
+          once = omega (arith, ap length m);
           none = (λ e. cc, λ t. apart _ t.1 (n ∙ u.none (u.nowait ∙ t.0)));
           long = (λ e. cc, λ t. apart _ t z);
           denied = (λ e. cc, λ t. apart _ t d);
@@ -103,6 +105,7 @@ module _ (id : ℤ) (size : ℕ) (mtype : ℤ) (flags : Flags) where
         let k : list_any found_live (with Gone) ≡ false = kept found_live deeds (AtSlot slot call Gone) refl ∙ l in
         record {
           got = λ mtype text. (λ e. cc, λ t. absurd (never (sym m ∙ t.1)));
+          once = omega (arith, ap length m);
           none = (λ e. cc, λ t. apart _ t.1 (n ∙ u.none (u.nowait ∙ t.0)));
           long = (λ e. cc, λ t. apart _ t z);
           denied = (λ e. cc, λ t. apart _ t d);
@@ -120,6 +123,7 @@ module _ (id : ℤ) (size : ℕ) (mtype : ℤ) (flags : Flags) where
         let g : list_any found_gone (with Denied) ≡ false = kept found_gone deeds (AtSlot slot call Denied) refl ∙ u.gone in
         record {
           got = λ mtype text. (λ e. cc, λ t. absurd (never (sym m ∙ t.1)));
+          once = omega (arith, ap length m);
           none = (λ e. cc, λ t. apart _ t.1 (n ∙ u.none (u.nowait ∙ t.0)));
           long = (λ e. cc, λ t. apart _ t z);
           denied = (λ e. d, λ t. refl);
@@ -137,6 +141,7 @@ module _ (id : ℤ) (size : ℕ) (mtype : ℤ) (flags : Flags) where
         let g : list_any found_gone (with (NoMatch arrived)) ≡ false = kept found_gone deeds (AtSlot slot call (NoMatch arrived)) refl ∙ u.gone in
         record {
           got = λ mtype text. (λ e. cc, λ t. absurd (never (sym m ∙ t.1)));
+          once = omega (arith, ap length m);
           none = (λ e. (sym u.nowait ∙ nowait, n), λ t. refl);
           long = (λ e. cc, λ t. apart _ t z);
           denied = (λ e. cc, λ t. apart _ t d);
@@ -171,6 +176,7 @@ module _ (id : ℤ) (size : ℕ) (mtype : ℤ) (flags : Flags) where
         let g : list_any found_gone (with TooLong) ≡ false = kept found_gone deeds (AtSlot slot call TooLong) refl ∙ u.gone in
         record {
           got = λ mtype text. (λ e. cc, λ t. absurd (never (sym m ∙ t.1)));
+          once = omega (arith, ap length m);
           none = (λ e. cc, λ t. apart _ t.1 (n ∙ u.none (u.nowait ∙ t.0)));
           long = (λ e. z, λ t. refl);
           denied = (λ e. cc, λ t. apart _ t d);
@@ -188,6 +194,7 @@ module _ (id : ℤ) (size : ℕ) (mtype : ℤ) (flags : Flags) where
         let g : list_any found_gone (with (Taken m)) ≡ false = kept found_gone deeds (AtSlot slot call (Taken m)) refl ∙ u.gone in
         record {
           got = λ mtype text. (λ e. (m, l, cc, cc), λ t. same_got size m t.0 mtype text (only m t.0 (sym l ∙ t.1)) t.2 t.3);
+          once = omega (arith, ap length l);
           none = (λ e. cc, λ t. apart _ t.1 (n ∙ u.none (u.nowait ∙ t.0)));
           long = (λ e. cc, λ t. apart _ t z);
           denied = (λ e. cc, λ t. apart _ t d);
@@ -222,6 +229,7 @@ module _ (id : ℤ) (size : ℕ) (mtype : ℤ) (flags : Flags) where
           λ e. let w = (r.got type text).0 e in (w.0, t ∙ w.1, w.2, w.3),
           λ w. (r.got type text).1 (w.0, sym t ∙ w.1, w.2, w.3),
         );
+        once = omega (arith, ap length t, r.once);
         none = (λ e. ((r.none.0 e).0, n ∙ (r.none.0 e).1), λ w. r.none.1 (w.0, sym n ∙ w.1));
         long = (λ e. z ∙ r.long.0 e, λ w. r.long.1 (sym z ∙ w));
         denied = (λ e. d ∙ r.denied.0 e, λ w. r.denied.1 (sym d ∙ w));

@@ -15,17 +15,17 @@ use Rattle.sysv_steps.specs.Tended.{EachIsTended}
 use Rattle.sysv_steps.specs.AfterRemoval.{EachIsToldOfRemoval}
 use Rattle.sysv_steps.specs.WorkedPlays.{caller, PlaysTo, EndsIn, makes, finds_it_busy, is_given_one, installs, settles, is_made, making, new_alone, wants_a_new_one, finds_one, is_denied, is_there, receives, finds_none, finds_it_gone, waiting, sends, finds_it_full, removes, discards, forgets, releases, WorkedPlays}
 
-new_making : EndsIn makes is_made (Id (pos 67))
+new_making : EndsIn makes is_made (Id (pos 259))
 new_making =
-    steps settles 0 (Over (Id (pos 67)))
-    (steps installs 90 (Goes (AtSettle (pos 67)))
-    (steps is_given_one 0 (Goes (AtInstall making (pos 67)))
+    steps settles 0 (Over (Id (pos 259)))
+    (steps installs 90 (Goes (AtSettle (pos 259)))
+    (steps is_given_one 0 (Goes (AtInstall making (pos 259)))
     (resumes 5 (steps finds_it_busy 0 (Waits (OnSettled 5 making)) begins refl refl) (omega arith)) refl refl) refl refl) refl refl
 
 is_new : EndsIn wants_a_new_one is_there (Refused EEXIST)
 is_new =
     steps is_denied 0 (Over (Refused EEXIST))
-    (steps finds_one 0 (Goes (AtProbe (record { cred = caller; key = pos 7; flags = new_alone }) (pos 67) 5)) begins refl refl) refl refl
+    (steps finds_one 0 (Goes (AtProbe (record { cred = caller; key = pos 7; flags = new_alone }) (pos 259) 5)) begins refl refl) refl refl
 
 first_wait : PlaysTo receives (finds_none ∷ []) (Waits (OnArrived 3 waiting))
 first_wait = steps finds_none 90 (Waits (OnArrived 3 waiting)) begins refl refl
@@ -33,8 +33,8 @@ first_wait = steps finds_none 90 (Waits (OnArrived 3 waiting)) begins refl refl
 then_gone : EndsIn receives (finds_none ∷ finds_it_gone ∷ []) (Refused EIDRM)
 then_gone = steps finds_it_gone 91 (Over (Refused EIDRM)) (resumes 3 first_wait (omega arith)) refl refl
 
-its_removal : PlaysTo removes (discards ∷ []) (Goes (AtForget (pos 67) 1))
-its_removal = steps discards 0 (Goes (AtForget (pos 67) 1)) begins refl refl
+its_removal : PlaysTo removes (discards ∷ []) (Goes (AtForget (pos 259) 1))
+its_removal = steps discards 0 (Goes (AtForget (pos 259) 1)) begins refl refl
 
 -- ---- what is refused
 
@@ -70,7 +70,7 @@ another_goal w =
     let same : 2 ≡ w.0 = cc in
     omega (arith, same, w.1)
 
-untended_there : ((reply : RegistryReply) × Contains [] (AtRegistry (Forget (pos 67)) reply)) → ⊥
+untended_there : ((reply : RegistryReply) × Contains [] (AtRegistry (Forget (pos 259)) reply)) → ⊥
 untended_there f = omega (arith, f.1.1)
 
 pub worked_plays : EachAnswerIsRight → EachIsToldOfRemoval → EachIsTended → WorkedPlays
@@ -82,7 +82,7 @@ worked_plays right told tends = record {
   exists_denied = λ p. let r = right caller wants_a_new_one 0 is_there (Refused EACCES) p in denied_there ((r.refused EACCES).0 refl);
   removed = then_gone;
   removed_invalid = λ p. let r = right caller receives 0 (finds_none ∷ finds_it_gone ∷ []) (Refused EINVAL) p in invalid_there (r.invalid.0 refl);
-  removed_told = told caller receives 0 (finds_none ∷ finds_it_gone ∷ []) (Refused EIDRM) tt then_gone (finds_none ∷ []) [] 3 (Take (pos 67) caller Any 9 true 91) refl;
+  removed_told = told caller receives 0 (finds_none ∷ finds_it_gone ∷ []) (Refused EIDRM) tt then_gone (finds_none ∷ []) [] 3 (Take (pos 259) caller Any 9 true 91) refl;
   removed_untold = λ t. let e = t.removed refl in cc;
   waits = first_wait;
   waits_longer = another_goal;
@@ -91,6 +91,6 @@ worked_plays right told tends = record {
   full_waits = λ p. let r = right caller (sends IPC_CREAT) 0 (finds_it_full ∷ []) (Refused EAGAIN) p in let e = (r.again.0 refl).0 in cc;
   gone = steps releases 0 (Over Zero) (steps forgets 0 (Goes (AtRemoveGiveback 1)) its_removal refl refl) refl refl;
   gone_early = λ p. let r = right caller removes 0 (discards ∷ []) Zero p in let e = r.forgotten.0 refl in cc;
-  tended = tends caller removes 0 (discards ∷ []) (Goes (AtForget (pos 67) 1)) its_removal;
-  untended = λ t. elim (t.removed [] [] 3 caller _ (pos 67) refl) [ inl h ↦ h | inr h ↦ untended_there h ];
+  tended = tends caller removes 0 (discards ∷ []) (Goes (AtForget (pos 259) 1)) its_removal;
+  untended = λ t. elim (t.removed [] [] 3 caller _ (pos 259) refl) [ inl h ↦ h | inr h ↦ untended_there h ];
 }

@@ -1,7 +1,7 @@
 -- What a user of System V queues checks of an answer, by what was asked and by the call's own deeds
 -- (POSIX.1-2017, msgget, msgsnd, msgrcv and msgctl, each RETURN VALUE and ERRORS; that a retry asks again is
 -- this profile's). Each sentence is an exactly-where.
-use Rattle.std.specs.Prelude.{◌≡◌, ℕ, ℤ, ◌≤◌, ◌⊎◌, ◌↔◌, Bool, true, false, List, [], ◌∷◌, take, count_by}
+use Rattle.std.specs.Prelude.{◌≡◌, ℕ, ℤ, ◌≤◌, ◌⊎◌, ◌↔◌, Bool, true, false, List, [], ◌∷◌, length, take, count_by}
 use Rattle.std.specs.List.{list_any, flat_map}
 use Rattle.sysv_model.specs.declared.cred.Cred.{Cred}
 use Rattle.sysv_model.specs.declared.attributes.Stat.{Stat}
@@ -168,6 +168,8 @@ pub record IsRightReceive (asked : SystemCall) (size : ℕ) (flags : Flags) (dee
   -- asked for
   pub got : (mtype : ℤ) (text : List ℕ) → (ending ≡ Got mtype text)
       ↔ ((m : Message) × (flat_map taken_by deeds ≡ m ∷ []) × (mtype ≡ m.mtype) × (text ≡ take size m.bytes))
+  -- and also a receive that is refused has taken no two
+  pub once : length (flat_map taken_by deeds) ≤ 1
   -- ENOMSG exactly where no message was named and the call does not wait
   pub none : (ending ≡ Refused ENOMSG) ↔ ((does_not_wait flags ≡ true) × some found_none deeds)
   -- E2BIG exactly where the message was too long

@@ -1,21 +1,21 @@
 -- The start of a call. One whose own arguments are refused ends at once with EINVAL (POSIX.1-2017,
--- msgsnd and msgrcv, ERRORS; that a receive refuses MSG_EXCEPT is this profile's), and any other goes to
--- its first step. A send reads the released count at its start.
+-- msgsnd and msgrcv, ERRORS), and any other goes to its first step. A send reads the released count at
+-- its start.
 use Rattle.std.specs.Prelude.{ℕ, pos, ◌||◌, Bool, false, length, int_lt, nat_lt, if◌then◌else◌}
 use Rattle.sysv_model.specs.declared.cred.Cred.{Cred}
 use Rattle.sysv_model.specs.declared.errno.Errno.TheVariants.{EINVAL}
-use Rattle.sysv_model.specs.declared.flags.TheConstants.Flags.{IPC_NOWAIT, MSG_NOERROR, MSG_EXCEPT}
+use Rattle.sysv_model.specs.declared.flags.TheConstants.Flags.{IPC_NOWAIT, MSG_NOERROR}
 use Rattle.sysv_model.specs.declared.limits.TheConstants.{MESSAGE_BYTES}
 use Rattle.sysv_model.specs.HasFlag.{has_flag}
 use Rattle.sysv_model.specs.Selector.{selector_for}
 use Rattle.sysv_steps.specs.Call.{SystemCall, Msgget, Msgsnd, Msgrcv, MsgctlStat, MsgctlSet, MsgctlRmid}
 use Rattle.sysv_steps.specs.State.{Phase, AtBegin, AtLook, AtTake, AtStat, AtSet, AtRemove, State, Goes, Over, Refused}
 
--- a type below 1, a text of more than 8,192 bytes, an identifier below 0; for a receive MSG_EXCEPT
+-- a type below 1, a text of more than 8,192 bytes, an identifier below 0
 abbrev pub is_refused : SystemCall → Bool
 is_refused (Msgget key flags) = false
 is_refused (Msgsnd id mtype flags text) = int_lt mtype (pos 1) || nat_lt MESSAGE_BYTES (length text) || int_lt id (pos 0)
-is_refused (Msgrcv id size mtype flags) = has_flag MSG_EXCEPT flags || int_lt id (pos 0)
+is_refused (Msgrcv id size mtype flags) = int_lt id (pos 0)
 is_refused (MsgctlStat id) = int_lt id (pos 0)
 is_refused (MsgctlSet id to) = int_lt id (pos 0)
 is_refused (MsgctlRmid id) = int_lt id (pos 0)

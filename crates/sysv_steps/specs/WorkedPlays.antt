@@ -29,7 +29,7 @@ PlaysTo asked deeds state = Plays (begin caller asked 0) deeds state
 abbrev pub EndsIn : SystemCall → List Deed → Ending → Type 0
 EndsIn asked deeds ending = PlaysTo asked deeds (Over ending)
 
--- another call is making the queue of key 7; once four changes have become five, identifier 67 is made for
+-- another call is making the queue of key 7; once four changes have become five, identifier 259 is made for
 -- this one, in slot 3
 abbrev pub makes : SystemCall
 makes = Msgget (pos 7) IPC_CREAT
@@ -38,13 +38,13 @@ abbrev pub finds_it_busy : Deed
 finds_it_busy = AtRegistry (Begin (pos 7) IPC_CREAT) (Busy 4)
 
 abbrev pub is_given_one : Deed
-is_given_one = AtRegistry (Begin (pos 7) IPC_CREAT) (Made (pos 67))
+is_given_one = AtRegistry (Begin (pos 7) IPC_CREAT) (Made (pos 259))
 
 abbrev pub installs : Deed
-installs = AtSlot 3 (Install (pos 67) (pos 7) caller 512 90) (Installed true)
+installs = AtSlot 3 (Install (pos 259) (pos 7) caller 512 90) (Installed true)
 
 abbrev pub settles : Deed
-settles = AtRegistry (Settle (pos 67)) (Changed true)
+settles = AtRegistry (Settle (pos 259)) (Changed true)
 
 abbrev pub is_made : List Deed
 is_made = finds_it_busy ∷ is_given_one ∷ installs ∷ settles ∷ []
@@ -60,50 +60,50 @@ abbrev pub wants_a_new_one : SystemCall
 wants_a_new_one = Msgget (pos 7) new_alone
 
 abbrev pub finds_one : Deed
-finds_one = AtRegistry (Begin (pos 7) new_alone) (Found (pos 67) 5)
+finds_one = AtRegistry (Begin (pos 7) new_alone) (Found (pos 259) 5)
 
 abbrev pub is_denied : Deed
-is_denied = AtSlot 3 (Probe (pos 67) caller new_alone) Denied
+is_denied = AtSlot 3 (Probe (pos 259) caller new_alone) Denied
 
 abbrev pub is_there : List Deed
 is_there = finds_one ∷ is_denied ∷ []
 
 -- no message waits, two have arrived, and the queue is removed
 abbrev pub receives : SystemCall
-receives = Msgrcv (pos 67) 9 (pos 0) MSG_NOERROR
+receives = Msgrcv (pos 259) 9 (pos 0) MSG_NOERROR
 
 abbrev pub finds_none : Deed
-finds_none = AtSlot 3 (Take (pos 67) caller Any 9 true 90) (NoMatch 2)
+finds_none = AtSlot 3 (Take (pos 259) caller Any 9 true 90) (NoMatch 2)
 
 abbrev pub finds_it_gone : Deed
-finds_it_gone = AtSlot 3 (Take (pos 67) caller Any 9 true 91) Gone
+finds_it_gone = AtSlot 3 (Take (pos 259) caller Any 9 true 91) Gone
 
 abbrev pub waiting : Receiving
-waiting = record { cred = caller; id = pos 67; selector = Any; size = 9; noerror = true; nowait = false; seen = true }
+waiting = record { cred = caller; id = pos 259; selector = Any; size = 9; noerror = true; nowait = false; seen = true }
 
 -- a text of one byte, and no room
 abbrev pub sends : Flags → SystemCall
-sends flags = Msgsnd (pos 67) (pos 5) flags (104 ∷ [])
+sends flags = Msgsnd (pos 259) (pos 5) flags (104 ∷ [])
 
 abbrev pub finds_it_full : Deed
-finds_it_full = AtSlot 3 (Look (pos 67) caller 1) (Full 6)
+finds_it_full = AtSlot 3 (Look (pos 259) caller 1) (Full 6)
 
 -- one message of one byte is discarded, then the identifier goes, and then its block comes back
 abbrev pub removes : SystemCall
-removes = MsgctlRmid (pos 67)
+removes = MsgctlRmid (pos 259)
 
 abbrev pub discards : Deed
-discards = AtSlot 3 (Remove (pos 67) caller) (Discarded (record { number = 0; sender = 101; mtype = pos 5; bytes = 104 ∷ [] } ∷ []))
+discards = AtSlot 3 (Remove (pos 259) caller) (Discarded (record { number = 0; sender = 101; mtype = pos 5; bytes = 104 ∷ [] } ∷ []))
 
 abbrev pub forgets : Deed
-forgets = AtRegistry (Forget (pos 67)) (Changed true)
+forgets = AtRegistry (Forget (pos 259)) (Changed true)
 
 abbrev pub releases : Deed
 releases = AtPool (Release 1) Released
 
 pub record WorkedPlays : Type 0 where
   -- the identifier that was made, no other, and no error
-  pub made : EndsIn makes is_made (Id (pos 67))
+  pub made : EndsIn makes is_made (Id (pos 259))
   pub made_another : ¬ EndsIn makes is_made (Id (pos 3))
   pub made_none : ¬ EndsIn makes is_made (Refused ENOSPC)
   -- a queue that is there is not new, whoever may use it
@@ -124,5 +124,5 @@ pub record WorkedPlays : Type 0 where
   -- a removal is over once its identifier has gone and its block is back, and not before
   pub gone : EndsIn removes (discards ∷ forgets ∷ releases ∷ []) Zero
   pub gone_early : ¬ EndsIn removes (discards ∷ []) Zero
-  pub tended : IsTended (discards ∷ []) (Goes (AtForget (pos 67) 1))
+  pub tended : IsTended (discards ∷ []) (Goes (AtForget (pos 259) 1))
   pub untended : ¬ IsTended (discards ∷ []) (Over Zero)

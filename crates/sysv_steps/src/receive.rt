@@ -40,12 +40,12 @@ pub struct Receiving {
 }
 
 impl Receiving {
-    /// The start of a receive. It is refused with EINVAL where MSG_EXCEPT is set (this profile's) or the
-    /// identifier is negative (POSIX.1-2017, `msgrcv`, ERRORS), and else goes to its take.
+    /// The start of a receive. It is refused with EINVAL where the identifier is negative
+    /// (POSIX.1-2017, `msgrcv`, ERRORS), and else goes to its take.
     pub fn begin(cred: Cred, id: i32, size: u32, mtype: i64, flags: Flags) -> State
         ensures { (text : List ℕ) (released : ℕ) → begins cred (Msgrcv id size mtype flags) released ≡ state_of result text }
     {
-        if flags.contains(Flags::MSG_EXCEPT) || id < 0 {
+        if id < 0 {
             return State::Over(Ending::Refused(Errno::EINVAL));
         }
         State::Goes(Phase::Take(Receiving {

@@ -1,7 +1,7 @@
 //! The bytes of a script that were read and wait to be run.
-ghost use Rattle.std.specs.Prelude.{◌≡◌, ◌+◌, ◌<◌, ◌≤◌, [], ◌++◌, ◌||◌, length, take, drop, slice_range, vec_len, IfOk, IfErr, OnOk};
+ghost use Rattle.std.specs.Prelude.{◌≡◌, ◌+◌, ◌<◌, ◌≤◌, [], ◌++◌, length, take, drop, slice_range, vec_len, IfOk, IfErr, OnOk};
 ghost use Rattle.std.specs.Io.KnownBytes.{Consumes, IsAtEnd};
-ghost use Rattle.sysv_model.specs.Watched.{has_failed, stream_name, stream_of};
+ghost use Rattle.sysv_model.specs.Watched.{failures_of, failures_after, stream_name, stream_of};
 ghost use Rattle.sysv_streams.specs.Faults.{is_read_fault};
 ghost use Rattle.sysv_streams.specs.Streams.{TakesIn};
 ghost use Rattle.sysv_streams.specs.declared.input.TheConstants.{INPUT_ROOM};
@@ -80,7 +80,7 @@ impl Input {
         ensures end { IfOk result (λ count. count ≡ 0 → IsAtEnd (R.remaining (stream_of reader.new))) }
         ensures err { IfErr result (λ fault. fault ≡ ScriptFault.Read) }
         ensures same { stream_name reader.new ≡ stream_name reader.old }
-        ensures failed { has_failed reader.new ≡ (is_read_fault result || has_failed reader.old) }
+        ensures failed { failures_of reader.new ≡ failures_after (is_read_fault result) (failures_of reader.old) }
     {
         let len = self.end - self.start;
         self.buffer.copy_within(self.start..self.end, 0);

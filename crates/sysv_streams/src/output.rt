@@ -1,8 +1,8 @@
 //! The answers that are composed and wait to be written.
-ghost use Rattle.std.specs.Prelude.{◌≡◌, [], ◌∷◌, ◌++◌, ◌||◌, IfOk, IfErr, IsOk, OnOk, OnErr};
+ghost use Rattle.std.specs.Prelude.{◌≡◌, [], ◌∷◌, ◌++◌, IfOk, IfErr, IsOk, OnOk, OnErr};
 ghost use Rattle.std.specs.Io.KnownBytes.{Appends};
 ghost use Rattle.sysv_lines.specs.Heads.{head_text};
-ghost use Rattle.sysv_model.specs.Watched.{has_failed, stream_name, stream_of};
+ghost use Rattle.sysv_model.specs.Watched.{failures_of, failures_after, stream_name, stream_of};
 ghost use Rattle.sysv_model.specs.Writing.{AppendsPrefix};
 ghost use Rattle.sysv_streams.specs.Faults.{is_write_fault};
 ghost use Rattle.sysv_streams.specs.Streams.{HandsOn};
@@ -84,7 +84,7 @@ impl Output {
         ensures err { OnErr result (AppendsPrefix (W.contents (stream_of writer.old)) (W.contents (stream_of writer.new)) self.old) }
         ensures fault { IfErr result (λ fault. fault ≡ ScriptFault.Write) }
         ensures same { stream_name writer.new ≡ stream_name writer.old }
-        ensures failed { has_failed writer.new ≡ (is_write_fault result || has_failed writer.old) }
+        ensures failed { failures_of writer.new ≡ failures_after (is_write_fault result) (failures_of writer.old) }
     {
         if self.bytes.len() <= OUTPUT_ROOM - LONGEST {
             return Ok(());
@@ -101,7 +101,7 @@ impl Output {
         ensures fault { IfErr result (λ fault. fault ≡ ScriptFault.Write) }
         ensures empty { self.old ≡ [] → IsOk result }
         ensures same { stream_name writer.new ≡ stream_name writer.old }
-        ensures failed { has_failed writer.new ≡ (is_write_fault result || has_failed writer.old) }
+        ensures failed { failures_of writer.new ≡ failures_after (is_write_fault result) (failures_of writer.old) }
     {
         if self.bytes.is_empty() {
             return Ok(());

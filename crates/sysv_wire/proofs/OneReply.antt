@@ -7,13 +7,16 @@ use Rattle.sysv_model.specs.declared.attributes.Row.{Row as Line}
 use Rattle.sysv_model.specs.declared.attributes.Stat.{Stat as Told}
 use Rattle.sysv_model.specs.declared.errno.Errno.{Errno}
 use Rattle.sysv_model.specs.declared.errno.Errno.TheVariants.{EPERM, ENOENT, E2BIG, EAGAIN, EACCES, EEXIST, EINVAL, ENOSPC, ENOMSG, EIDRM, EOVERFLOW}
-use Rattle.sysv_wire.specs.declared.frame.TheConstants.{VERSION}
+use Rattle.sysv_wire.specs.declared.frame.Version.{Version}
+use Rattle.sysv_wire.specs.declared.frame.Version.TheVariants.{One, Two}
+use Rattle.sysv_wire.specs.Frames.{version_number}
 use Rattle.sysv_wire.specs.declared.reply.Outcome.{Outcome}
-use Rattle.sysv_wire.specs.declared.reply.Outcome.TheVariants.{Refused, Hello, Get, Snd, Rcv, Stat, Set, Rm, Row}
+use Rattle.sysv_wire.specs.declared.reply.Outcome.TheVariants.{Refused, Hello, HelloSlots, Get, Snd, Rcv, Stat, Set, Rm, Row}
 use Rattle.sysv_wire.specs.declared.reply.Reply.{Reply}
 use Rattle.sysv_wire.specs.Numbers.{u16_bytes, u32_bytes, u64_bytes, i32_bytes, i64_bytes}
 use Rattle.sysv_wire.specs.OneSpelling.{OneReply}
 use Rattle.sysv_wire.specs.Replies.{FitsPerm, FitsStat, FitsRow, FitsOutcome, IsAnswer, error_number, perm_fields, count_fields, time_fields, stat_fields, row_fields, outcome_fields, outcome_text, gives_text}
+use Rattle.sysv_wire.proofs.OneRequest.{version_same}
 use Rattle.sysv_wire.proofs.Apart.{fronts_alike, rests_alike, frames_alike, u16_same, u32_same, u64_same, u16_step, u32_step, u64_step, i32_step, i64_step}
 
 errno_at : ℕ → Errno
@@ -140,35 +143,38 @@ row_same r s p q e =
     ap (λ n. line n r.key r.uid r.mode r.cbytes r.qnum) v.0 ∙ ap (λ n. line s.id n r.uid r.mode r.cbytes r.qnum) w.0 ∙ ap (λ n. line s.id s.key n r.mode r.cbytes r.qnum) x.0
     ∙ ap (λ n. line s.id s.key s.uid n r.cbytes r.qnum) y.0 ∙ ap (λ n. line s.id s.key s.uid s.mode n r.qnum) z.0 ∙ ap (λ n. line s.id s.key s.uid s.mode s.cbytes n) u
 
-pub row_number : (n : ℕ) (r : Option Line) → IsAnswer n (Row r) → n ≡ 7
-row_number n None h = h
-row_number n (Some r) h = h.0
+pub row_number : (v : Version) (n : ℕ) (r : Option Line) → IsAnswer v n (Row r) → n ≡ 7
+row_number v n None h = h
+row_number v n (Some r) h = h.0
 
 -- A reply's operation, its error and what is after it tell what is answered, and the text.
-outcome_same : (n : ℕ) (a b : Outcome) (text other : List ℕ) → IsAnswer n a → IsAnswer n b → FitsOutcome a → FitsOutcome b → error_number a ≡ error_number b
+outcome_same : (v : Version) (n : ℕ) (a b : Outcome) (text other : List ℕ) → IsAnswer v n a → IsAnswer v n b → FitsOutcome a → FitsOutcome b → error_number a ≡ error_number b
     → outcome_fields a ++ outcome_text a text ≡ outcome_fields b ++ outcome_text b other → (a ≡ b) × (outcome_text a text ≡ outcome_text b other)
-outcome_same n (Refused e) (Refused f) text other h k p q err same = (ap Refused (errno_same e f err), refl)
-outcome_same n (Refused e) b text other h k p q err same = absurd (some_error e err)
-outcome_same n a (Refused f) text other h k p q err same = absurd (some_error f (sym err))
-outcome_same n Hello Hello text other h k p q err same = (refl, refl)
-outcome_same n (Get i) (Get j) text other h k p q err same = (ap Get (i32_step i j [] [] p q same).0, refl)
-outcome_same n Snd Snd text other h k p q err same = (refl, refl)
-outcome_same n (Rcv i) (Rcv j) text other h k p q err same = let s = i64_step i j text other p q same in (ap Rcv s.0, s.1)
-outcome_same n (Stat s) (Stat t) text other h k p q err same =
+outcome_same v n (Refused e) (Refused f) text other h k p q err same = (ap Refused (errno_same e f err), refl)
+outcome_same v n (Refused e) b text other h k p q err same = absurd (some_error e err)
+outcome_same v n a (Refused f) text other h k p q err same = absurd (some_error f (sym err))
+outcome_same v n Hello Hello text other h k p q err same = (refl, refl)
+outcome_same v n (HelloSlots i) (HelloSlots j) text other h k p q err same = (ap HelloSlots (u32_step i j [] [] p q same).0, refl)
+outcome_same v n Hello (HelloSlots j) text other h k p q err same = let both : One ≡ Two = sym h.0 ∙ k.0 in absurd cc
+outcome_same v n (HelloSlots i) Hello text other h k p q err same = let both : One ≡ Two = sym k.0 ∙ h.0 in absurd cc
+outcome_same v n (Get i) (Get j) text other h k p q err same = (ap Get (i32_step i j [] [] p q same).0, refl)
+outcome_same v n Snd Snd text other h k p q err same = (refl, refl)
+outcome_same v n (Rcv i) (Rcv j) text other h k p q err same = let s = i64_step i j text other p q same in (ap Rcv s.0, s.1)
+outcome_same v n (Stat s) (Stat t) text other h k p q err same =
     (ap Stat (stat_same s t p q (sym (append-nil (stat_fields s)) ∙ same ∙ append-nil (stat_fields t))), refl)
-outcome_same n Set Set text other h k p q err same = (refl, refl)
-outcome_same n Rm Rm text other h k p q err same = (refl, refl)
-outcome_same n (Row None) (Row None) text other h k p q err same = (refl, refl)
-outcome_same n (Row (Some r)) (Row (Some s)) text other h k p q err same =
+outcome_same v n Set Set text other h k p q err same = (refl, refl)
+outcome_same v n Rm Rm text other h k p q err same = (refl, refl)
+outcome_same v n (Row None) (Row None) text other h k p q err same = (refl, refl)
+outcome_same v n (Row (Some r)) (Row (Some s)) text other h k p q err same =
     let tails : row_fields r ++ [] ≡ row_fields s ++ [] = cc (same) in
     (ap (λ x. Row (Some x)) (row_same r s p q (sym (append-nil (row_fields r)) ∙ tails ∙ append-nil (row_fields s))), refl)
-outcome_same n (Row None) (Row (Some s)) text other h k p q err same =
+outcome_same v n (Row None) (Row (Some s)) text other h k p q err same =
     let marks : ◌≡◌ {A = ℕ} 0 1 = cc (same) in absurd (omega (arith, marks))
-outcome_same n (Row (Some r)) (Row None) text other h k p q err same =
+outcome_same v n (Row (Some r)) (Row None) text other h k p q err same =
     let marks : ◌≡◌ {A = ℕ} 1 0 = cc (same) in absurd (omega (arith, marks))
-outcome_same n (Row r) b text other h k p q err same = let w = row_number n r h in absurd (omega (arith, w, k))
-outcome_same n a (Row s) text other h k p q err same = let w = row_number n s k in absurd (omega (arith, h, w))
-outcome_same n a b text other h k p q err same = absurd (omega (arith, h, k))
+outcome_same v n (Row r) b text other h k p q err same = let w = row_number v n r h in absurd (omega (arith, w, k))
+outcome_same v n a (Row s) text other h k p q err same = let w = row_number v n s k in absurd (omega (arith, h, w))
+outcome_same v n a b text other h k p q err same = absurd (omega (arith, h, k))
 
 short_text : (a : Outcome) (text : List ℕ) → length text ≤ 8192 → length (outcome_text a text) ≤ 8192
 short_text a text h = elim (gives_text a) as (λ b. length (cond b text []) ≤ 8192) [ true ↦ h | false ↦ omega arith ]
@@ -177,6 +183,7 @@ short_fields : (a : Outcome) → length (outcome_fields a) ≤ 66
 unfolding stat_fields perm_fields count_fields time_fields row_fields u16_bytes u32_bytes u64_bytes i32_bytes i64_bytes
 short_fields (Refused e) = omega arith
 short_fields Hello = omega arith
+short_fields (HelloSlots k) = omega arith
 short_fields (Get i) = omega arith
 short_fields Snd = omega arith
 short_fields (Rcv m) = omega arith
@@ -186,19 +193,21 @@ short_fields Rm = omega arith
 short_fields (Row None) = omega arith
 short_fields (Row (Some r)) = omega arith
 
-pub short_reply : (n : ℕ) (a : Outcome) (text : List ℕ) → length text ≤ 8192 → length (VERSION ∷ n ∷ error_number a ∷ (outcome_fields a ++ outcome_text a text)) < 2 ^ 32
-short_reply n a text h =
+pub short_reply : (v : Version) (n : ℕ) (a : Outcome) (text : List ℕ) → length text ≤ 8192 → length (version_number v ∷ n ∷ error_number a ∷ (outcome_fields a ++ outcome_text a text)) < 2 ^ 32
+short_reply v n a text h =
     omega (arith, length-append (outcome_fields a) (outcome_text a text), short_fields a, short_text a text h)
 
-abbrev replied : ℕ → Outcome → Reply
-replied n a = record { op = n; result = a }
+abbrev replied : Version → ℕ → Outcome → Reply
+replied v n a = record { version = v; op = n; result = a }
 
 pub one_reply : OneReply
 one_reply a b text other behind rest p q e =
-    let f = frames_alike (VERSION ∷ a.op ∷ error_number a.result ∷ (outcome_fields a.result ++ outcome_text a.result text)) (VERSION ∷ b.op ∷ error_number b.result ∷ (outcome_fields b.result ++ outcome_text b.result other)) behind rest
-    (short_reply a.op a.result text p.2) (short_reply b.op b.result other q.2) e in
+    let f = frames_alike (version_number a.version ∷ a.op ∷ error_number a.result ∷ (outcome_fields a.result ++ outcome_text a.result text)) (version_number b.version ∷ b.op ∷ error_number b.result ∷ (outcome_fields b.result ++ outcome_text b.result other)) behind rest
+    (short_reply a.version a.op a.result text p.2) (short_reply b.version b.op b.result other q.2) e in
+    let versions : a.version ≡ b.version = version_same a.version b.version (cc (f.0)) in
     let ops : a.op ≡ b.op = cc (f.0) in
     let errors : error_number a.result ≡ error_number b.result = cc (f.0) in
     let contents : outcome_fields a.result ++ outcome_text a.result text ≡ outcome_fields b.result ++ outcome_text b.result other = cc (f.0) in
-    let same = outcome_same a.op a.result b.result text other p.0 (subst (λ (n : ℕ). IsAnswer n b.result) (sym ops) q.0) p.1 q.1 errors contents in
-    (ap (λ (n : ℕ). replied n a.result) ops ∙ ap (λ x. replied b.op x) same.0, same.1, f.1)
+    let answers : IsAnswer a.version a.op b.result = subst (λ (n : ℕ). IsAnswer a.version n b.result) (sym ops) (subst (λ (v : Version). IsAnswer v b.op b.result) (sym versions) q.0) in
+    let same = outcome_same a.version a.op a.result b.result text other p.0 answers p.1 q.1 errors contents in
+    (ap (λ (v : Version). replied v a.op a.result) versions ∙ ap (λ (n : ℕ). replied b.version n a.result) ops ∙ ap (λ x. replied b.version b.op x) same.0, same.1, f.1)

@@ -5,11 +5,12 @@ use Rattle.sysv_model.specs.declared.cred.Cred.{Cred}
 use Rattle.sysv_model.specs.declared.flags.Flags.{Flags}
 use Rattle.sysv_wire.specs.declared.frame.Op.{Op}
 use Rattle.sysv_wire.specs.declared.frame.Op.TheVariants as op
-use Rattle.sysv_wire.specs.declared.frame.TheConstants.{VERSION}
+use Rattle.sysv_wire.specs.declared.frame.Version.{Version}
+use Rattle.sysv_wire.specs.declared.frame.Version.TheVariants.{One, Two}
 use Rattle.sysv_wire.specs.declared.request.Ask.{Ask}
 use Rattle.sysv_wire.specs.declared.request.Ask.TheVariants.{Hello, Get, Snd, Rcv, Stat, Set, Rm, Row}
 use Rattle.sysv_wire.specs.declared.request.Request.{Request}
-use Rattle.sysv_wire.specs.Frames.{op_number}
+use Rattle.sysv_wire.specs.Frames.{op_number, version_number}
 use Rattle.sysv_wire.specs.OneSpelling.{OneRequest}
 use Rattle.sysv_wire.specs.Requests.{FitsAsk, ask_fields, ask_text, fields_len, has_text, op_of}
 use Rattle.sysv_wire.proofs.RequestLemmas.{length-ask_fields}
@@ -19,8 +20,8 @@ abbrev pub op_at : ℕ → Op
 op_at n =
     cond (eqb n 0) op.Hello (cond (eqb n 1) op.Get (cond (eqb n 2) op.Snd (cond (eqb n 3) op.Rcv (cond (eqb n 4) op.Stat (cond (eqb n 5) op.Set (cond (eqb n 6) op.Rm op.Row))))))
 
-abbrev asked : Ask → Request
-asked a = record { ask = a }
+abbrev asked : Version → Ask → Request
+asked v a = record { version = v; ask = a }
 
 pub op_back : (o : Op) → op_at (op_number o) ≡ o
 op_back op.Hello = refl
@@ -31,6 +32,18 @@ op_back op.Stat = refl
 op_back op.Set = refl
 op_back op.Rm = refl
 op_back op.Row = refl
+
+pub version_at : ℕ → Version
+version_at n = cond (eqb n 1) One Two
+
+pub version_back : (v : Version) → version_at (version_number v) ≡ v
+unfolding version_at
+version_back One = refl
+version_back Two = refl
+
+-- one number, one version
+pub version_same : (v other : Version) → version_number v ≡ version_number other → v ≡ other
+version_same v other e = sym (version_back v) ∙ ap version_at e ∙ version_back other
 
 -- one number, one operation
 pub op_same : (o other : Op) → op_number o ≡ op_number other → o ≡ other
@@ -93,17 +106,18 @@ short_fields op.Set = omega arith
 short_fields op.Rm = omega arith
 short_fields op.Row = omega arith
 
-short_request : (a : Ask) (text : List ℕ) → length text ≤ 8256 → length (VERSION ∷ op_number (op_of a) ∷ (ask_fields a ++ ask_text (op_of a) text)) < 2 ^ 32
-short_request a text h =
+short_request : (v : Version) (a : Ask) (text : List ℕ) → length text ≤ 8256 → length (version_number v ∷ op_number (op_of a) ∷ (ask_fields a ++ ask_text (op_of a) text)) < 2 ^ 32
+short_request v a text h =
     omega (arith, length-append (ask_fields a) (ask_text (op_of a) text), length-ask_fields a, short_fields (op_of a), short_text (op_of a) text h)
 
 pub one_request : OneRequest
 one_request a b text other behind rest p q e =
-    let f = frames_alike (VERSION ∷ op_number (op_of a.ask) ∷ (ask_fields a.ask ++ ask_text (op_of a.ask) text)) (VERSION ∷ op_number (op_of b.ask) ∷ (ask_fields b.ask ++ ask_text (op_of b.ask) other)) behind rest
-    (short_request a.ask text p.1) (short_request b.ask other q.1) e in
+    let f = frames_alike (version_number a.version ∷ op_number (op_of a.ask) ∷ (ask_fields a.ask ++ ask_text (op_of a.ask) text)) (version_number b.version ∷ op_number (op_of b.ask) ∷ (ask_fields b.ask ++ ask_text (op_of b.ask) other)) behind rest
+    (short_request a.version a.ask text p.1) (short_request b.version b.ask other q.1) e in
+    let versions : a.version ≡ b.version = version_same a.version b.version (cc (f.0)) in
     let numbers : op_number (op_of a.ask) ≡ op_number (op_of b.ask) = cc (f.0) in
     let ops : op_of a.ask ≡ op_of b.ask = op_same (op_of a.ask) (op_of b.ask) numbers in
     let contents : ask_fields a.ask ++ ask_text (op_of a.ask) text ≡ ask_fields b.ask ++ ask_text (op_of b.ask) other = cc (f.0) in
     let len : length (ask_fields a.ask) ≡ length (ask_fields b.ask) = length-ask_fields a.ask ∙ ap fields_len ops ∙ sym (length-ask_fields b.ask) in
     let asks = ask_same a.ask b.ask p.0 q.0 ops (fronts_alike (ask_fields a.ask) (ask_fields b.ask) _ _ len contents) in
-    (ap asked asks, rests_alike (ask_fields a.ask) (ask_fields b.ask) _ _ len contents, f.1)
+    (ap (λ v. asked v a.ask) versions ∙ ap (asked b.version) asks, rests_alike (ask_fields a.ask) (ask_fields b.ask) _ _ len contents, f.1)

@@ -11,39 +11,41 @@ use Rattle.sysv_wire.specs.declared.fault.Fault.{Fault}
 use Rattle.sysv_wire.specs.declared.fault.Fault.TheVariants.{Truncated, TooLong, BadOp, BadField, Read}
 use Rattle.sysv_wire.specs.declared.frame.Op.{Op}
 use Rattle.sysv_wire.specs.declared.frame.Op.TheVariants as op
+use Rattle.sysv_wire.specs.declared.frame.Version.{Version}
+use Rattle.sysv_wire.specs.declared.frame.Version.TheVariants.{One, Two}
 use Rattle.sysv_wire.specs.declared.reply.Outcome.{Outcome}
-use Rattle.sysv_wire.specs.declared.reply.Outcome.TheVariants.{Refused, Hello, Get, Snd, Rcv, Stat, Set, Rm, Row}
+use Rattle.sysv_wire.specs.declared.reply.Outcome.TheVariants.{Refused, Hello, HelloSlots, Get, Snd, Rcv, Stat, Set, Rm, Row}
 use Rattle.sysv_wire.specs.declared.reply.Reply.{Reply}
-use Rattle.sysv_wire.specs.Frames.{op_number, frame}
+use Rattle.sysv_wire.specs.Frames.{op_number, version_number, frame}
 use Rattle.sysv_wire.specs.Numbers.{u16_bytes, u32_bytes, u64_bytes, i32_bytes, i64_bytes}
 use Rattle.sysv_wire.specs.OneAnswer.{ReplyAt, OneAnswerToReplies}
 use Rattle.sysv_wire.specs.Reading.{ReadsReply}
-use Rattle.sysv_wire.specs.Replies.{FitsReply, FitsOutcome, IsAnswer, IsAnswerLength, IsRestLength, error_number, perm_fields, count_fields, time_fields, stat_fields, row_fields, outcome_fields, outcome_text, reply_spelling}
+use Rattle.sysv_wire.specs.Replies.{FitsReply, FitsOutcome, IsAnswer, IsAnswerLength, IsRestLength, error_number, hello_len, perm_fields, count_fields, time_fields, stat_fields, row_fields, outcome_fields, outcome_text, reply_spelling}
 use Rattle.sysv_wire.specs.ReplyFaults.{IsNoError, IsWideAt, IsBadMark, IsBadAnswer, IsReplyRest, ReplyFault}
 use Rattle.sysv_wire.proofs.Apart.{rests_alike, frames_alike, u16_step}
-use Rattle.sysv_wire.proofs.OneRequest.{op_at, op_back}
+use Rattle.sysv_wire.proofs.OneRequest.{op_at, op_back, version_at, version_back}
 use Rattle.sysv_wire.proofs.OneReply.{some_error, row_number, short_reply, one_reply}
 use Rattle.sysv_wire.proofs.ReplyLemmas.{HasModeAt, row_mode, stat_mode}
 use Rattle.sysv_wire.proofs.RequestLemmas.{frame_whole}
-use Rattle.sysv_wire.proofs.RequestAnswer.{at_least, not_at_least, the_same, not_the_same, number_small}
+use Rattle.sysv_wire.proofs.RequestAnswer.{has_version, version_known, version_unknown, at_least, not_at_least, the_same, not_the_same, number_small}
 
 data Verdict : Type 0 where
   Whole : Verdict
   End : Verdict
   Told : Fault → Verdict
 
-fits_answer : Op → ℕ → Bool
-fits_answer op.Hello n = eqb n 0
-fits_answer op.Get n = eqb n 4
-fits_answer op.Snd n = eqb n 0
-fits_answer op.Rcv n = leb 8 n
-fits_answer op.Stat n = eqb n 66
-fits_answer op.Set n = eqb n 0
-fits_answer op.Rm n = eqb n 0
-fits_answer op.Row n = cond (eqb n 1) true (eqb n 23)
+fits_answer : Version → Op → ℕ → Bool
+fits_answer v op.Hello n = eqb n (hello_len v)
+fits_answer v op.Get n = eqb n 4
+fits_answer v op.Snd n = eqb n 0
+fits_answer v op.Rcv n = leb 8 n
+fits_answer v op.Stat n = eqb n 66
+fits_answer v op.Set n = eqb n 0
+fits_answer v op.Rm n = eqb n 0
+fits_answer v op.Row n = cond (eqb n 1) true (eqb n 23)
 
-fits_rest : Op → ℕ → ℕ → Bool
-fits_rest o e n = cond (eqb e 0) (fits_answer o n) (eqb n 0)
+fits_rest : Version → Op → ℕ → ℕ → Bool
+fits_rest v o e n = cond (eqb e 0) (fits_answer v o n) (eqb n 0)
 
 one_of : (n : ℕ) → (n ≡ 1) ⊎ (n ≡ 23) → cond (eqb n 1) true (eqb n 23) ≡ true
 one_of n h = grind (arith, nat_tests)
@@ -54,48 +56,56 @@ none_of n h =
     let b : n ≢ 23 = λ e. h (inr e) in
     grind (arith, nat_tests)
 
-answer_fits : (o : Op) (n : ℕ) → IsAnswerLength o n → fits_answer o n ≡ true
+answer_fits : (v : Version) (o : Op) (n : ℕ) → IsAnswerLength v o n → fits_answer v o n ≡ true
 unfolding fits_answer
-answer_fits op.Hello n h = the_same n 0 h
-answer_fits op.Get n h = the_same n 4 h
-answer_fits op.Snd n h = the_same n 0 h
-answer_fits op.Rcv n h = at_least 8 n h
-answer_fits op.Stat n h = the_same n 66 h
-answer_fits op.Set n h = the_same n 0 h
-answer_fits op.Rm n h = the_same n 0 h
-answer_fits op.Row n h = one_of n h
+answer_fits v op.Hello n h = the_same n (hello_len v) h
+answer_fits v op.Get n h = the_same n 4 h
+answer_fits v op.Snd n h = the_same n 0 h
+answer_fits v op.Rcv n h = at_least 8 n h
+answer_fits v op.Stat n h = the_same n 66 h
+answer_fits v op.Set n h = the_same n 0 h
+answer_fits v op.Rm n h = the_same n 0 h
+answer_fits v op.Row n h = one_of n h
 
-answer_fits_not : (o : Op) (n : ℕ) → ¬ IsAnswerLength o n → fits_answer o n ≡ false
+answer_fits_not : (v : Version) (o : Op) (n : ℕ) → ¬ IsAnswerLength v o n → fits_answer v o n ≡ false
 unfolding fits_answer
-answer_fits_not op.Hello n h = not_the_same n 0 h
-answer_fits_not op.Get n h = not_the_same n 4 h
-answer_fits_not op.Snd n h = not_the_same n 0 h
-answer_fits_not op.Rcv n h = not_at_least 8 n h
-answer_fits_not op.Stat n h = not_the_same n 66 h
-answer_fits_not op.Set n h = not_the_same n 0 h
-answer_fits_not op.Rm n h = not_the_same n 0 h
-answer_fits_not op.Row n h = none_of n h
+answer_fits_not v op.Hello n h = not_the_same n (hello_len v) h
+answer_fits_not v op.Get n h = not_the_same n 4 h
+answer_fits_not v op.Snd n h = not_the_same n 0 h
+answer_fits_not v op.Rcv n h = not_at_least 8 n h
+answer_fits_not v op.Stat n h = not_the_same n 66 h
+answer_fits_not v op.Set n h = not_the_same n 0 h
+answer_fits_not v op.Rm n h = not_the_same n 0 h
+answer_fits_not v op.Row n h = none_of n h
 
-rest_fits_by : (b : Bool) (o : Op) (n : ℕ) → MatchBool b (IsAnswerLength o n) (n ≡ 0) → cond b (fits_answer o n) (eqb n 0) ≡ true
-rest_fits_by true o n h = answer_fits o n h
-rest_fits_by false o n h = the_same n 0 h
+rest_fits_by : (b : Bool) (v : Version) (o : Op) (n : ℕ) → MatchBool b (IsAnswerLength v o n) (n ≡ 0) → cond b (fits_answer v o n) (eqb n 0) ≡ true
+rest_fits_by true v o n h = answer_fits v o n h
+rest_fits_by false v o n h = the_same n 0 h
 
-rest_fits_not_by : (b : Bool) (o : Op) (n : ℕ) → ¬ MatchBool b (IsAnswerLength o n) (n ≡ 0) → cond b (fits_answer o n) (eqb n 0) ≡ false
-rest_fits_not_by true o n h = answer_fits_not o n h
-rest_fits_not_by false o n h = not_the_same n 0 h
+rest_fits_not_by : (b : Bool) (v : Version) (o : Op) (n : ℕ) → ¬ MatchBool b (IsAnswerLength v o n) (n ≡ 0) → cond b (fits_answer v o n) (eqb n 0) ≡ false
+rest_fits_not_by true v o n h = answer_fits_not v o n h
+rest_fits_not_by false v o n h = not_the_same n 0 h
 
-rest_fits : (o : Op) (e n : ℕ) → IsRestLength o e n → fits_rest (op_at (op_number o)) e n ≡ true
+-- the length that the numbers of a version and an operation want
+rest_at : ℕ → ℕ → ℕ → ℕ → Bool
+rest_at v o e n = fits_rest (version_at v) (op_at o) e n
+
+rest_at_is : (v : Version) (o : Op) (e n : ℕ) → rest_at (version_number v) (op_number o) e n ≡ fits_rest v o e n
+unfolding rest_at
+rest_at_is v o e n = ap (λ x. fits_rest x (op_at (op_number o)) e n) (version_back v) ∙ ap (λ x. fits_rest v x e n) (op_back o)
+
+rest_fits : (v : Version) (o : Op) (e n : ℕ) → IsRestLength v o e n → rest_at (version_number v) (op_number o) e n ≡ true
 unfolding fits_rest
-rest_fits o e n h = ap (λ x. fits_rest x e n) (op_back o) ∙ rest_fits_by (eqb e 0) o n h
+rest_fits v o e n h = rest_at_is v o e n ∙ rest_fits_by (eqb e 0) v o n h
 
-rest_fits_not : (o : Op) (e n : ℕ) → ¬ IsRestLength o e n → fits_rest (op_at (op_number o)) e n ≡ false
+rest_fits_not : (v : Version) (o : Op) (e n : ℕ) → ¬ IsRestLength v o e n → rest_at (version_number v) (op_number o) e n ≡ false
 unfolding fits_rest
-rest_fits_not o e n h = ap (λ x. fits_rest x e n) (op_back o) ∙ rest_fits_not_by (eqb e 0) o n h
+rest_fits_not v o e n h = rest_at_is v o e n ∙ rest_fits_not_by (eqb e 0) v o n h
 
 verdict_of : ℕ → ℕ → ℕ → ℕ → ℕ → Verdict
 verdict_of len n v o e =
     cond (eqb len 0) End (cond (ltb len 4) (Told Truncated) (cond (ltb 8203 n) (Told TooLong) (cond (ltb n 3) (Told BadField) (cond (ltb len 7) (Told Truncated)
-    (cond (eqb v 1) (cond (ltb 7 o) (Told BadOp) (cond (fits_rest (op_at o) e (n - 3)) (cond (ltb len (4 + n)) (Told Truncated) Whole) (Told BadField))) (Told BadField))))))
+    (cond (has_version v) (cond (ltb 7 o) (Told BadOp) (cond (rest_at v o e (n - 3)) (cond (ltb len (4 + n)) (Told Truncated) Whole) (Told BadField))) (Told BadField))))))
 
 v_part : (len n v o e : ℕ) → 0 < len → len < 4 → verdict_of len n v o e ≡ Told Truncated
 unfolding verdict_of
@@ -113,23 +123,23 @@ v_head : (len n v o e : ℕ) → 4 ≤ len → 3 ≤ n → n ≤ 8203 → len < 
 unfolding verdict_of
 v_head len n v o e a b c d = grind (arith, nat_tests)
 
-v_version : (len n v o e : ℕ) → 7 ≤ len → 3 ≤ n → n ≤ 8203 → v ≢ 1 → verdict_of len n v o e ≡ Told BadField
+v_version : (len n v o e : ℕ) → 7 ≤ len → 3 ≤ n → n ≤ 8203 → has_version v ≡ false → verdict_of len n v o e ≡ Told BadField
 unfolding verdict_of
 v_version len n v o e a b c d = grind (arith, nat_tests)
 
-v_op : (len n v o e : ℕ) → 7 ≤ len → 3 ≤ n → n ≤ 8203 → v ≡ 1 → 7 < o → verdict_of len n v o e ≡ Told BadOp
+v_op : (len n v o e : ℕ) → 7 ≤ len → 3 ≤ n → n ≤ 8203 → has_version v ≡ true → 7 < o → verdict_of len n v o e ≡ Told BadOp
 unfolding verdict_of
 v_op len n v o e a b c d f = grind (arith, nat_tests)
 
-v_length : (len n v o e : ℕ) → 7 ≤ len → 3 ≤ n → n ≤ 8203 → v ≡ 1 → o ≤ 7 → fits_rest (op_at o) e (n - 3) ≡ false → verdict_of len n v o e ≡ Told BadField
+v_length : (len n v o e : ℕ) → 7 ≤ len → 3 ≤ n → n ≤ 8203 → has_version v ≡ true → o ≤ 7 → rest_at v o e (n - 3) ≡ false → verdict_of len n v o e ≡ Told BadField
 unfolding verdict_of
 v_length len n v o e a b c d f g = grind (arith, nat_tests)
 
-v_rest : (len n v o e : ℕ) → 7 ≤ len → 3 ≤ n → n ≤ 8203 → v ≡ 1 → o ≤ 7 → fits_rest (op_at o) e (n - 3) ≡ true → len < 4 + n → verdict_of len n v o e ≡ Told Truncated
+v_rest : (len n v o e : ℕ) → 7 ≤ len → 3 ≤ n → n ≤ 8203 → has_version v ≡ true → o ≤ 7 → rest_at v o e (n - 3) ≡ true → len < 4 + n → verdict_of len n v o e ≡ Told Truncated
 unfolding verdict_of
 v_rest len n v o e a b c d f g h = grind (arith, nat_tests)
 
-v_whole : (len n v o e : ℕ) → 7 ≤ len → 3 ≤ n → n ≤ 8203 → v ≡ 1 → o ≤ 7 → fits_rest (op_at o) e (n - 3) ≡ true → 4 + n ≤ len → verdict_of len n v o e ≡ Whole
+v_whole : (len n v o e : ℕ) → 7 ≤ len → 3 ≤ n → n ≤ 8203 → has_version v ≡ true → o ≤ 7 → rest_at v o e (n - 3) ≡ true → 4 + n ≤ len → verdict_of len n v o e ≡ Whole
 unfolding verdict_of
 v_whole len n v o e a b c d f g h = grind (arith, nat_tests)
 
@@ -150,45 +160,56 @@ verdict_op n v o e rest most =
     verdict_head n (v ∷ o ∷ e ∷ rest) (omega arith) ∙ ap (λ l. verdict_of l n v o e) len
 
 -- a reply has a length that its operation wants with its error
-reply_fits : (m : ℕ) (a : Outcome) (text : List ℕ) → IsAnswer m a → length text ≤ 8192 → fits_rest (op_at m) (error_number a) (length (outcome_fields a ++ outcome_text a text)) ≡ true
+reply_fits : (v : Version) (m : ℕ) (a : Outcome) (text : List ℕ) → IsAnswer v m a → length text ≤ 8192 → fits_rest v (op_at m) (error_number a) (length (outcome_fields a ++ outcome_text a text)) ≡ true
 unfolding fits_rest fits_answer stat_fields perm_fields count_fields time_fields row_fields u16_bytes u32_bytes u64_bytes i32_bytes i64_bytes
-reply_fits m (Refused e) text h k = ap (λ b. cond b (fits_answer (op_at m) 0) true) (not_the_same (number_of e) 0 (some_error e))
-reply_fits m Hello text h k = ap (λ x. fits_rest (op_at x) 0 0) h
-reply_fits m (Get i) text h k = ap (λ x. fits_rest (op_at x) 0 4) h
-reply_fits m Snd text h k = ap (λ x. fits_rest (op_at x) 0 0) h
-reply_fits m (Rcv t) text h k =
-    let n = length (i64_bytes t ++ text) in ap (λ x. fits_rest (op_at x) 0 n) h ∙ at_least 8 n (omega (arith, length-append (i64_bytes t) text))
-reply_fits m (Stat s) text h k = ap (λ x. fits_rest (op_at x) 0 66) h.0
-reply_fits m Set text h k = ap (λ x. fits_rest (op_at x) 0 0) h
-reply_fits m Rm text h k = ap (λ x. fits_rest (op_at x) 0 0) h
-reply_fits m (Row None) text h k = ap (λ x. fits_rest (op_at x) 0 1) h
-reply_fits m (Row (Some r)) text h k = ap (λ x. fits_rest (op_at x) 0 23) h.0
+reply_fits v m (Refused e) text h k = ap (λ b. cond b (fits_answer v (op_at m) 0) true) (not_the_same (number_of e) 0 (some_error e))
+reply_fits v m Hello text h k = ap (λ w. fits_rest w (op_at m) 0 0) h.0 ∙ ap (λ x. fits_rest One (op_at x) 0 0) h.1
+reply_fits v m (HelloSlots i) text h k = ap (λ w. fits_rest w (op_at m) 0 4) h.0 ∙ ap (λ x. fits_rest Two (op_at x) 0 4) h.1
+reply_fits v m (Get i) text h k = ap (λ x. fits_rest v (op_at x) 0 4) h
+reply_fits v m Snd text h k = ap (λ x. fits_rest v (op_at x) 0 0) h
+reply_fits v m (Rcv t) text h k =
+    let n = length (i64_bytes t ++ text) in ap (λ x. fits_rest v (op_at x) 0 n) h ∙ at_least 8 n (omega (arith, length-append (i64_bytes t) text))
+reply_fits v m (Stat s) text h k = ap (λ x. fits_rest v (op_at x) 0 66) h.0
+reply_fits v m Set text h k = ap (λ x. fits_rest v (op_at x) 0 0) h
+reply_fits v m Rm text h k = ap (λ x. fits_rest v (op_at x) 0 0) h
+reply_fits v m (Row None) text h k = ap (λ x. fits_rest v (op_at x) 0 1) h
+reply_fits v m (Row (Some r)) text h k = ap (λ x. fits_rest v (op_at x) 0 23) h.0
 
-number_fits : (m : ℕ) (a : Outcome) → IsAnswer m a → m ≤ 7
-number_fits m (Refused e) h = h
-number_fits m (Row r) h = omega (arith, row_number m r h)
-number_fits m a h = omega (arith, h)
+number_fits : (v : Version) (m : ℕ) (a : Outcome) → IsAnswer v m a → m ≤ 7
+number_fits v m (Refused e) h = h
+number_fits v m (Row r) h = omega (arith, row_number v m r h)
+number_fits v m a h = omega (arith, h)
 
 reply_small : (a : Outcome) (text : List ℕ) → length text ≤ 8192 → length (outcome_fields a ++ outcome_text a text) ≤ 8200
 unfolding stat_fields perm_fields count_fields time_fields row_fields u16_bytes u32_bytes u64_bytes i32_bytes i64_bytes
 reply_small (Rcv t) text k = omega (arith, k)
+reply_small (HelloSlots i) text k = omega arith
 reply_small (Row None) text k = omega arith
 reply_small (Row (Some r)) text k = omega arith
 reply_small a text k = omega arith
 
+whole_fits : (r : Reply) (text : List ℕ) (n : ℕ) → n ≡ length (outcome_fields r.result ++ outcome_text r.result text) → FitsReply r text
+    → rest_at (version_number r.version) r.op (error_number r.result) n ≡ true
+unfolding rest_at
+whole_fits r text n left h =
+    ap (λ w. fits_rest w (op_at r.op) (error_number r.result) n) (version_back r.version) ∙ ap (fits_rest r.version (op_at r.op) (error_number r.result)) left
+    ∙ reply_fits r.version r.op r.result text h.0 h.2
+
 whole_verdict : (r : Reply) (text rest : List ℕ) → FitsReply r text → verdict (reply_spelling r text ++ rest) ≡ Whole
 unfolding frame
 whole_verdict r text rest h =
+    let v = version_number r.version in
     let e = error_number r.result in
     let behind = outcome_fields r.result ++ outcome_text r.result text in
     let n = 3 + length behind in
-    let len : length (1 ∷ r.op ∷ e ∷ behind) ≡ n = omega arith in
+    let len : length (v ∷ r.op ∷ e ∷ behind) ≡ n = omega arith in
     let most : n ≤ 8203 = omega (arith, reply_small r.result text h.2) in
     let left : n - 3 ≡ length behind = omega arith in
-    let parts : reply_spelling r text ++ rest ≡ u32_bytes n ++ (1 ∷ r.op ∷ e ∷ (behind ++ rest)) =
-    append_assoc (u32_bytes (length (1 ∷ r.op ∷ e ∷ behind))) (1 ∷ r.op ∷ e ∷ behind) rest ∙ ap (λ m. u32_bytes m ++ (1 ∷ r.op ∷ e ∷ (behind ++ rest))) len in
-    ap verdict parts ∙ verdict_op n 1 r.op e (behind ++ rest) most
-    ∙ v_whole (7 + length (behind ++ rest)) n 1 r.op e (omega arith) (omega arith) most refl (number_fits r.op r.result h.0) (ap (fits_rest (op_at r.op) e) left ∙ reply_fits r.op r.result text h.0 h.2) (omega (arith, length-append behind rest))
+    let parts : reply_spelling r text ++ rest ≡ u32_bytes n ++ (v ∷ r.op ∷ e ∷ (behind ++ rest)) =
+    append_assoc (u32_bytes (length (v ∷ r.op ∷ e ∷ behind))) (v ∷ r.op ∷ e ∷ behind) rest ∙ ap (λ m. u32_bytes m ++ (v ∷ r.op ∷ e ∷ (behind ++ rest))) len in
+    ap verdict parts ∙ verdict_op n v r.op e (behind ++ rest) most
+    ∙ v_whole (7 + length (behind ++ rest)) n v r.op e (omega arith) (omega arith) most (version_known v (r.version, refl)) (number_fits r.version r.op r.result h.0)
+    (whole_fits r text (n - 3) left h) (omega (arith, length-append behind rest))
 
 -- ---- fields that no reply has
 
@@ -213,45 +234,45 @@ short_not wide =
     let len = wide.4 in
     omega (arith, all, len, length-append wide.0 (u16_bytes wide.1 ++ wide.2))
 
-bad_not : (o : Op) (a : Outcome) (text bytes : List ℕ) → IsAnswer (op_number o) a → FitsOutcome a → error_number a ≡ 0 → bytes ≡ outcome_fields a ++ outcome_text a text → IsBadAnswer o bytes → ⊥
-bad_not op.Hello a text bytes h fits err same bad = bad
-bad_not op.Get a text bytes h fits err same bad = bad
-bad_not op.Snd a text bytes h fits err same bad = bad
-bad_not op.Rcv a text bytes h fits err same bad = bad
-bad_not op.Set a text bytes h fits err same bad = bad
-bad_not op.Rm a text bytes h fits err same bad = bad
-bad_not op.Stat (Stat s) text bytes h fits err same bad =
+bad_not : (v : Version) (o : Op) (a : Outcome) (text bytes : List ℕ) → IsAnswer v (op_number o) a → FitsOutcome a → error_number a ≡ 0 → bytes ≡ outcome_fields a ++ outcome_text a text → IsBadAnswer o bytes → ⊥
+bad_not v op.Hello a text bytes h fits err same bad = bad
+bad_not v op.Get a text bytes h fits err same bad = bad
+bad_not v op.Snd a text bytes h fits err same bad = bad
+bad_not v op.Rcv a text bytes h fits err same bad = bad
+bad_not v op.Set a text bytes h fits err same bad = bad
+bad_not v op.Rm a text bytes h fits err same bad = bad
+bad_not v op.Stat (Stat s) text bytes h fits err same bad =
     wide_not 20 bytes s.perm.mode (stat_mode s bytes (same ∙ append-nil (stat_fields s))) h.1 fits.perm.mode bad
-bad_not op.Stat (Refused e) text bytes h fits err same bad = some_error e err
-bad_not op.Stat (Row r) text bytes h fits err same bad = absurd (omega (arith, row_number 4 r h))
-bad_not op.Stat a text bytes h fits err same bad = absurd (omega (arith, h))
-bad_not op.Row (Refused e) text bytes h fits err same bad = some_error e err
-bad_not op.Row (Row None) text bytes h fits err same (inl mark) = subst IsBadMark same mark refl
-bad_not op.Row (Row None) text bytes h fits err same (inr wide) = short_not (subst (IsWideAt 13) same wide)
-bad_not op.Row (Row (Some r)) text bytes h fits err same (inl mark) = mark_not r (subst IsBadMark same mark)
-bad_not op.Row (Row (Some r)) text bytes h fits err same (inr wide) =
+bad_not v op.Stat (Refused e) text bytes h fits err same bad = some_error e err
+bad_not v op.Stat (Row r) text bytes h fits err same bad = absurd (omega (arith, row_number v 4 r h))
+bad_not v op.Stat a text bytes h fits err same bad = absurd (omega (arith, h))
+bad_not v op.Row (Refused e) text bytes h fits err same bad = some_error e err
+bad_not v op.Row (Row None) text bytes h fits err same (inl mark) = subst IsBadMark same mark refl
+bad_not v op.Row (Row None) text bytes h fits err same (inr wide) = short_not (subst (IsWideAt 13) same wide)
+bad_not v op.Row (Row (Some r)) text bytes h fits err same (inl mark) = mark_not r (subst IsBadMark same mark)
+bad_not v op.Row (Row (Some r)) text bytes h fits err same (inr wide) =
     wide_not 13 (1 ∷ (row_fields r ++ [])) r.mode (row_mode r 1 (row_fields r ++ []) (append-nil (row_fields r))) h.1 fits.mode (subst (IsWideAt 13) same wide)
-bad_not op.Row a text bytes h fits err same bad = absurd (omega (arith, h))
+bad_not v op.Row a text bytes h fits err same bad = absurd (omega (arith, h))
 
 no_error_not : (a : Outcome) (e : ℕ) → e ≡ error_number a → IsNoError e → ⊥
 no_error_not (Refused f) e same h = h.1 f (sym same)
 no_error_not a e same h = h.0 same
 
-late_case : (o : Op) (e : ℕ) (a : Outcome) (text bytes : List ℕ) → IsAnswer (op_number o) a → FitsOutcome a → e ≡ error_number a → bytes ≡ outcome_fields a ++ outcome_text a text
+late_case : (v : Version) (o : Op) (e : ℕ) (a : Outcome) (text bytes : List ℕ) → IsAnswer v (op_number o) a → FitsOutcome a → e ≡ error_number a → bytes ≡ outcome_fields a ++ outcome_text a text
     → IsNoError e ⊎ ((e ≡ 0) × IsBadAnswer o bytes) → ⊥
-late_case o e a text bytes h fits errors fields (inl unknown) = no_error_not a e errors unknown
-late_case o e a text bytes h fits errors fields (inr bad) = bad_not o a text bytes h fits (sym errors ∙ bad.0) fields bad.1
+late_case v o e a text bytes h fits errors fields (inl unknown) = no_error_not a e errors unknown
+late_case v o e a text bytes h fits errors fields (inr bad) = bad_not v o a text bytes h fits (sym errors ∙ bad.0) fields bad.1
 
 late_not : (r : Reply) (text rest taken behind : List ℕ) → FitsReply r text → IsReplyRest BadField taken → taken ++ behind ≡ reply_spelling r text ++ rest → ⊥
-late_not r text rest taken behind fits (n, o, e, bytes, low, high, wanted, why, spelled) both =
-    let len : n ≡ length (1 ∷ op_number o ∷ e ∷ bytes) = omega (arith, why.0) in
-    let whole : taken ≡ frame (1 ∷ op_number o ∷ e ∷ bytes) = spelled ∙ frame_whole n (1 ∷ op_number o ∷ e ∷ bytes) len in
-    let f = frames_alike (1 ∷ op_number o ∷ e ∷ bytes) (1 ∷ r.op ∷ error_number r.result ∷ (outcome_fields r.result ++ outcome_text r.result text)) behind rest
-    (omega (arith, len, high)) (short_reply r.op r.result text fits.2) (sym (ap (λ l. l ++ behind) whole) ∙ both) in
+late_not r text rest taken behind fits (n, v, o, e, bytes, low, high, wanted, why, spelled) both =
+    let len : n ≡ length (version_number v ∷ op_number o ∷ e ∷ bytes) = omega (arith, why.0) in
+    let whole : taken ≡ frame (version_number v ∷ op_number o ∷ e ∷ bytes) = spelled ∙ frame_whole n (version_number v ∷ op_number o ∷ e ∷ bytes) len in
+    let f = frames_alike (version_number v ∷ op_number o ∷ e ∷ bytes) (version_number r.version ∷ r.op ∷ error_number r.result ∷ (outcome_fields r.result ++ outcome_text r.result text)) behind rest
+    (omega (arith, len, high)) (short_reply r.version r.op r.result text fits.2) (sym (ap (λ l. l ++ behind) whole) ∙ both) in
     let ops : op_number o ≡ r.op = cc (f.0) in
     let errors : e ≡ error_number r.result = cc (f.0) in
     let fields : bytes ≡ outcome_fields r.result ++ outcome_text r.result text = cc (f.0) in
-    late_case o e r.result text bytes (subst (λ (x : ℕ). IsAnswer x r.result) (sym ops) fits.0) fits.1 errors fields why.1
+    late_case r.version o e r.result text bytes (subst (λ (x : ℕ). IsAnswer r.version x r.result) (sym ops) fits.0) fits.1 errors fields why.1
 
 -- ---- the answers
 
@@ -267,9 +288,9 @@ broken_verdict input (inl (inr h)) =
     let n = h.0 in
     let part = h.1 in
     ap verdict h.5 ∙ verdict_head n part (omega (arith, h.3)) ∙ v_head (4 + length part) n (get_or part 0 0) (get_or part 1 0) (get_or part 2 0) (omega arith) h.2 h.3 (omega (arith, h.4))
-broken_verdict input (inr (n, o, e, part, low, high, wanted, why, spelled)) =
-    ap verdict spelled ∙ verdict_op n 1 (op_number o) e part high
-    ∙ v_rest (7 + length part) n 1 (op_number o) e (omega arith) low high refl (number_small o) (rest_fits o e (n - 3) wanted) (omega (arith, why))
+broken_verdict input (inr (n, v, o, e, part, low, high, wanted, why, spelled)) =
+    ap verdict spelled ∙ verdict_op n (version_number v) (op_number o) e part high
+    ∙ v_rest (7 + length part) n (version_number v) (op_number o) e (omega arith) low high (version_known (version_number v) (v, refl)) (number_small o) (rest_fits v o e (n - 3) wanted) (omega (arith, why))
 
 long_verdict : (input taken rest : List ℕ) → ReplyFault TooLong taken → input ≡ taken ++ rest → verdict input ≡ Told TooLong
 long_verdict input taken rest h e =
@@ -282,7 +303,7 @@ behind_head n v o x taken rest e = ap (λ l. l ++ rest) e ∙ append_assoc (u32_
 
 op_verdict : (input taken rest : List ℕ) → ReplyFault BadOp taken → input ≡ taken ++ rest → verdict input ≡ Told BadOp
 op_verdict input taken rest (n, v, o, x, head, why) e =
-    ap verdict (e ∙ behind_head n v o x taken rest head.2) ∙ verdict_op n v o x rest head.1 ∙ v_op (7 + length rest) n v o x (omega arith) head.0 head.1 why.0 why.1
+    ap verdict (e ∙ behind_head n v o x taken rest head.2) ∙ verdict_op n v o x rest head.1 ∙ v_op (7 + length rest) n v o x (omega arith) head.0 head.1 (version_known v why.0) why.1
 
 -- all of a reply is there, and its fields have no meaning
 record Late (input : List ℕ) : Type 0 where
@@ -293,20 +314,21 @@ record Late (input : List ℕ) : Type 0 where
   told : verdict input ≡ Whole
 
 late_verdict : (input taken rest : List ℕ) → IsReplyRest BadField taken → input ≡ taken ++ rest → verdict input ≡ Whole
-late_verdict input taken rest (n, o, x, bytes, low, high, wanted, why, spelled) e =
-    let parts : taken ++ rest ≡ u32_bytes n ++ (1 ∷ op_number o ∷ x ∷ (bytes ++ rest)) = ap (λ l. l ++ rest) spelled ∙ append_assoc (u32_bytes n) (1 ∷ op_number o ∷ x ∷ bytes) rest in
-    ap verdict (e ∙ parts) ∙ verdict_op n 1 (op_number o) x (bytes ++ rest) high
-    ∙ v_whole (7 + length (bytes ++ rest)) n 1 (op_number o) x (omega arith) low high refl (number_small o) (rest_fits o x (n - 3) wanted) (omega (arith, why.0, length-append bytes rest))
+late_verdict input taken rest (n, v, o, x, bytes, low, high, wanted, why, spelled) e =
+    let parts : taken ++ rest ≡ u32_bytes n ++ (version_number v ∷ op_number o ∷ x ∷ (bytes ++ rest)) = ap (λ l. l ++ rest) spelled ∙ append_assoc (u32_bytes n) (version_number v ∷ op_number o ∷ x ∷ bytes) rest in
+    ap verdict (e ∙ parts) ∙ verdict_op n (version_number v) (op_number o) x (bytes ++ rest) high
+    ∙ v_whole (7 + length (bytes ++ rest)) n (version_number v) (op_number o) x (omega arith) low high (version_known (version_number v) (v, refl)) (number_small o) (rest_fits v o x (n - 3) wanted) (omega (arith, why.0, length-append bytes rest))
 
 field_verdict : (input taken rest : List ℕ) → ReplyFault BadField taken → input ≡ taken ++ rest → (verdict input ≡ Told BadField) ⊎ Late input
 field_verdict input taken rest (inl (inl h)) e =
     let n = h.0 in
     inl (ap verdict (e ∙ ap (λ l. l ++ rest) h.3) ∙ verdict_head n rest h.1 ∙ v_short (4 + length rest) n (get_or rest 0 0) (get_or rest 1 0) (get_or rest 2 0) (omega arith) h.2)
 field_verdict input taken rest (inl (inr (n, v, o, x, head, inl other))) e =
-    inl (ap verdict (e ∙ behind_head n v o x taken rest head.2) ∙ verdict_op n v o x rest head.1 ∙ v_version (7 + length rest) n v o x (omega arith) head.0 head.1 other)
-field_verdict input taken rest (inl (inr (n, v, o, x, head, inr (same, (named, number, wrong))))) e =
+    inl (ap verdict (e ∙ behind_head n v o x taken rest head.2) ∙ verdict_op n v o x rest head.1 ∙ v_version (7 + length rest) n v o x (omega arith) head.0 head.1 (version_unknown v other))
+field_verdict input taken rest (inl (inr (n, v, o, x, head, inr (w, same, (named, number, wrong))))) e =
     inl (ap verdict (e ∙ behind_head n v o x taken rest head.2) ∙ verdict_op n v o x rest head.1
-    ∙ v_length (7 + length rest) n v o x (omega arith) head.0 head.1 same (omega (arith, number, number_small named)) (ap (λ y. fits_rest (op_at y) x (n - 3)) (sym number) ∙ rest_fits_not named x (n - 3) wrong))
+    ∙ v_length (7 + length rest) n v o x (omega arith) head.0 head.1 (version_known v (w, same)) (omega (arith, number, number_small named))
+    (ap (λ y. rest_at y o x (n - 3)) (sym same) ∙ ap (λ y. rest_at (version_number w) y x (n - 3)) (sym number) ∙ rest_fits_not w named x (n - 3) wrong))
 field_verdict input taken rest (inr late) e = inr (record { taken = taken; rest = rest; why = late; parts = e; told = late_verdict input taken rest late e })
 
 -- where fields have no meaning, no other answer fits

@@ -1,21 +1,22 @@
 -- Replies whose fields have no meaning, those that break off, and those that are whole.
-use Rattle.std.proofs.Common.{◌≡◌, ℕ, ℤ, ◌+◌, ◌-◌, ◌^◌, ◌<◌, ◌≤◌, List, [], ◌∷◌, ◌++◌, length, get_or, Option, Some, Ok, cond, true, false, refl, sym, ap, subst, ◌∙◌, append_assoc, append-nil, arith, length-append, inr}
+use Rattle.std.proofs.Common.{◌≡◌, ℕ, ℤ, ◌+◌, ◌-◌, ◌^◌, ◌<◌, ◌≤◌, List, [], ◌∷◌, ◌++◌, length, get_or, Option, Some, Ok, cond, true, false, refl, sym, ap, subst, ◌∙◌, append_assoc, append-nil, arith, length-append, inl, inr}
 use Rattle.std.specs.Io.KnownBytes.{Consumes}
 use Rattle.std.proofs.KnownBytes.{Consumes-trans}
 use Rattle.sysv_wire.specs.declared.fault.Fault.{Fault}
 use Rattle.sysv_wire.specs.declared.fault.Fault.TheVariants.{Truncated, TooLong, BadOp, BadField, Read}
 use Rattle.sysv_wire.specs.declared.frame.Op.{Op}
 use Rattle.sysv_wire.specs.declared.reply.Outcome.{Outcome}
-use Rattle.sysv_wire.specs.declared.reply.Outcome.TheVariants.{Refused, Hello, Get, Snd, Rcv, Stat, Set, Rm, Row}
+use Rattle.sysv_wire.specs.declared.reply.Outcome.TheVariants.{Refused, Hello, HelloSlots, Get, Snd, Rcv, Stat, Set, Rm, Row}
 use Rattle.sysv_wire.specs.Faults.{Faults, Breaks, IsShorter}
-use Rattle.sysv_wire.specs.Frames.{op_number, frame}
+use Rattle.sysv_wire.specs.Frames.{op_number, version_number, frame}
 use Rattle.sysv_wire.specs.Reading.{ReadsReply}
 use Rattle.sysv_model.specs.declared.attributes.Row.{Row as Line}
 use Rattle.sysv_model.specs.declared.attributes.Stat.{Stat as Told}
-use Rattle.sysv_wire.specs.declared.frame.TheConstants.{VERSION, MAX_REPLY, MAX_MODE}
+use Rattle.sysv_wire.specs.declared.frame.TheConstants.{MAX_REPLY, MAX_MODE}
+use Rattle.sysv_wire.specs.declared.frame.Version.{Version}
 use Rattle.sysv_wire.specs.Numbers.{u16_bytes, u32_bytes, i32_bytes, i64_bytes}
 use Rattle.sysv_wire.specs.Replies.{FitsOutcome, IsAnswer, IsRestLength, perm_fields, count_fields, time_fields, stat_fields, row_fields, outcome_fields, outcome_text, gives_text, error_number, reply_spelling}
-use Rattle.sysv_wire.specs.ReplyFaults.{IsWideAt, RestFault, ReplyFault}
+use Rattle.sysv_wire.specs.ReplyFaults.{AnswerFault, IsWideAt, RestFault, ReplyFault}
 use Rattle.sysv_wire.proofs.RequestLemmas.{frame_whole}
 use Rattle.sysv_wire.proofs.StreamLemmas.{Faults-after}
 
@@ -72,25 +73,36 @@ rest_broken op error n m done fault a b c fits first second =
     Faults-after (Breaks (IsShorter n)) (RestFault op error m) fault a b c done first second (breaks_rest op error n m done fault fits)
 
 -- a head of three bytes, and what is after it
-head_then : (n : ℕ) (op : Op) (version number error : ℕ) (head taken : List ℕ) → head ≡ version ∷ number ∷ error ∷ [] → version ≡ VERSION → op_number op ≡ number
-    → (u32_bytes n ++ head) ++ taken ≡ u32_bytes n ++ (VERSION ∷ op_number op ∷ error ∷ taken)
-head_then n op version number error head taken h v o =
-    append_assoc (u32_bytes n) head taken ∙ ap (λ l. u32_bytes n ++ (l ++ taken)) (h ∙ ap (λ x. x ∷ number ∷ error ∷ []) v ∙ ap (λ x. VERSION ∷ x ∷ error ∷ []) (sym o))
+head_then : (n : ℕ) (version : Version) (op : Op) (byte number error : ℕ) (head taken : List ℕ) → head ≡ byte ∷ number ∷ error ∷ [] → version_number version ≡ byte → op_number op ≡ number
+    → (u32_bytes n ++ head) ++ taken ≡ u32_bytes n ++ (version_number version ∷ op_number op ∷ error ∷ taken)
+head_then n version op byte number error head taken h v o =
+    append_assoc (u32_bytes n) head taken ∙ ap (λ l. u32_bytes n ++ (l ++ taken)) (h ∙ ap (λ x. x ∷ number ∷ error ∷ []) (sym v) ∙ ap (λ x. version_number version ∷ x ∷ error ∷ []) (sym o))
 
-faults_reply : (n : ℕ) (op : Op) (error : ℕ) (fault : Fault) → 3 ≤ n → n ≤ MAX_REPLY → IsRestLength op error (n - 3) → (taken : List ℕ) → RestFault op error (n - 3) fault taken
-    → ReplyFault fault (u32_bytes n ++ (VERSION ∷ op_number op ∷ error ∷ taken))
-faults_reply n op error Truncated low high wanted taken why = inr (n, op, error, taken, low, high, wanted, why, refl)
-faults_reply n op error BadField low high wanted taken why = inr (n, op, error, taken, low, high, wanted, why, refl)
-faults_reply n op error Read low high wanted taken why = tt
-faults_reply n op error TooLong low high wanted taken why = absurd why
-faults_reply n op error BadOp low high wanted taken why = absurd why
+faults_reply : (n : ℕ) (version : Version) (op : Op) (error : ℕ) (fault : Fault) → 3 ≤ n → n ≤ MAX_REPLY → IsRestLength version op error (n - 3) → (taken : List ℕ) → RestFault op error (n - 3) fault taken
+    → ReplyFault fault (u32_bytes n ++ (version_number version ∷ op_number op ∷ error ∷ taken))
+faults_reply n version op error Truncated low high wanted taken why = inr (n, version, op, error, taken, low, high, wanted, why, refl)
+faults_reply n version op error BadField low high wanted taken why = inr (n, version, op, error, taken, low, high, wanted, why, refl)
+faults_reply n version op error Read low high wanted taken why = tt
+faults_reply n version op error TooLong low high wanted taken why = absurd why
+faults_reply n version op error BadOp low high wanted taken why = absurd why
 
-pub reply_broken : (n rest : ℕ) (op : Op) (version number error : ℕ) (head : List ℕ) (fault : Fault) (a b c : Option (List ℕ)) → head ≡ version ∷ number ∷ error ∷ [] → version ≡ VERSION → op_number op ≡ number
-    → 3 ≤ n → n ≤ MAX_REPLY → rest ≡ n - 3 → IsRestLength op error rest → Consumes a b (u32_bytes n ++ head) → Faults (RestFault op error rest) fault b c → Faults ReplyFault fault a c
-reply_broken n rest op version number error head fault a b c h v o low high e wanted first second =
+pub reply_broken : (n rest : ℕ) (version : Version) (op : Op) (byte number error : ℕ) (head : List ℕ) (fault : Fault) (a b c : Option (List ℕ)) → head ≡ byte ∷ number ∷ error ∷ [] → version_number version ≡ byte → op_number op ≡ number
+    → 3 ≤ n → n ≤ MAX_REPLY → rest ≡ n - 3 → IsRestLength version op error rest → Consumes a b (u32_bytes n ++ head) → Faults (RestFault op error rest) fault b c → Faults ReplyFault fault a c
+reply_broken n rest version op byte number error head fault a b c h v o low high e wanted first second =
     Faults-after (RestFault op error rest) ReplyFault fault a b c (u32_bytes n ++ head) first second
-    (λ taken why. subst (ReplyFault fault) (sym (head_then n op version number error head taken h v o))
-    (faults_reply n op error fault low high (subst (IsRestLength op error) e wanted) taken (subst (λ (k : ℕ). RestFault op error k fault taken) e why)))
+    (λ taken why. subst (ReplyFault fault) (sym (head_then n version op byte number error head taken h v o))
+    (faults_reply n version op error fault low high (subst (IsRestLength version op error) e wanted) taken (subst (λ (k : ℕ). RestFault op error k fault taken) e why)))
+
+-- a head that is refused
+pub reply_refused : (n byte number error : ℕ) (head : List ℕ) (fault : Fault) (a b : Option (List ℕ)) → head ≡ byte ∷ number ∷ error ∷ [] → 3 ≤ n → n ≤ MAX_REPLY → AnswerFault n byte number error fault
+    → Consumes a b (u32_bytes n ++ head) → Faults ReplyFault fault a b
+reply_refused n byte number error head BadOp a b h low high why first =
+    (u32_bytes n ++ head, first, (n, byte, number, error, (low, high, ap (λ l. u32_bytes n ++ l) h), why), tt)
+reply_refused n byte number error head BadField a b h low high why first =
+    (u32_bytes n ++ head, first, inl (inr (n, byte, number, error, (low, high, ap (λ l. u32_bytes n ++ l) h), why)), tt)
+reply_refused n byte number error head Truncated a b h low high why first = absurd why
+reply_refused n byte number error head TooLong a b h low high why first = absurd why
+reply_refused n byte number error head Read a b h low high why first = absurd why
 
 -- three bytes, one after the other
 pub triple_is : (head : List ℕ) → length head ≡ 3 → head ≡ get_or head 0 0 ∷ get_or head 1 0 ∷ get_or head 2 0 ∷ []
@@ -105,6 +117,7 @@ text_short : (a : Outcome) (text : List ℕ) (n : ℕ) → text ≡ outcome_text
 unfolding i64_bytes
 text_short (Rcv t) text n empty len most = omega (arith, len, most, length-append (i64_bytes t) text)
 text_short (Refused e) text n empty len most = let none = ap length empty in omega (arith, none)
+text_short (HelloSlots k) text n empty len most = let none = ap length empty in omega (arith, none)
 text_short Hello text n empty len most = let none = ap length empty in omega (arith, none)
 text_short (Get i) text n empty len most = let none = ap length empty in omega (arith, none)
 text_short Snd text n empty len most = let none = ap length empty in omega (arith, none)
@@ -114,39 +127,39 @@ text_short Rm text n empty len most = let none = ap length empty in omega (arith
 text_short (Row r) text n empty len most = let none = ap length empty in omega (arith, none)
 
 -- a reply that was read is spelled by what was taken
-pub reply_read : (result : Outcome) (n rest : ℕ) (op : Op) (version number error told : ℕ) (head text : List ℕ) (a b c : Option (List ℕ)) → head ≡ version ∷ number ∷ error ∷ [] → version ≡ VERSION → op_number op ≡ number
-    → 3 ≤ n → n ≤ MAX_REPLY → rest ≡ n - 3 → told ≡ op_number op → rest ≡ length (outcome_fields result ++ outcome_text result text) → IsAnswer (op_number op) result → FitsOutcome result → error_number result ≡ error → text ≡ outcome_text result text
-    → Consumes a b (u32_bytes n ++ head) → Consumes b c (outcome_fields result ++ outcome_text result text) → ReadsReply a c (Ok (Some record { op = told; result = result })) text
-reply_read result n rest op version number error told head text a b c h v o low high e t len answer fits err empty first second =
+pub reply_read : (result : Outcome) (n rest : ℕ) (version : Version) (op : Op) (byte number error told : ℕ) (head text : List ℕ) (a b c : Option (List ℕ)) → head ≡ byte ∷ number ∷ error ∷ [] → version_number version ≡ byte → op_number op ≡ number
+    → 3 ≤ n → n ≤ MAX_REPLY → rest ≡ n - 3 → told ≡ op_number op → rest ≡ length (outcome_fields result ++ outcome_text result text) → IsAnswer version (op_number op) result → FitsOutcome result → error_number result ≡ error → text ≡ outcome_text result text
+    → Consumes a b (u32_bytes n ++ head) → Consumes b c (outcome_fields result ++ outcome_text result text) → ReadsReply a c (Ok (Some record { version = version; op = told; result = result })) text
+reply_read result n rest version op byte number error told head text a b c h v o low high e t len answer fits err empty first second =
     let behind = outcome_fields result ++ outcome_text result text in
-    let whole : (u32_bytes n ++ head) ++ behind ≡ frame (VERSION ∷ told ∷ error_number result ∷ behind) =
-    head_then n op version number error head behind h v o ∙ ap (λ x. u32_bytes n ++ (VERSION ∷ op_number op ∷ x ∷ behind)) (sym err)
-    ∙ ap (λ x. u32_bytes n ++ (VERSION ∷ x ∷ error_number result ∷ behind)) (sym t)
-    ∙ frame_whole n (VERSION ∷ told ∷ error_number result ∷ behind) (omega arith) in
-    (subst (Consumes a c) whole (Consumes-trans a b c (u32_bytes n ++ head) behind first second), (subst (λ (x : ℕ). IsAnswer x result) (sym t) answer, fits, text_short result text rest empty len (omega (arith, e, high))), empty)
+    let whole : (u32_bytes n ++ head) ++ behind ≡ frame (version_number version ∷ told ∷ error_number result ∷ behind) =
+    head_then n version op byte number error head behind h v o ∙ ap (λ x. u32_bytes n ++ (version_number version ∷ op_number op ∷ x ∷ behind)) (sym err)
+    ∙ ap (λ x. u32_bytes n ++ (version_number version ∷ x ∷ error_number result ∷ behind)) (sym t)
+    ∙ frame_whole n (version_number version ∷ told ∷ error_number result ∷ behind) (omega arith) in
+    (subst (Consumes a c) whole (Consumes-trans a b c (u32_bytes n ++ head) behind first second), (subst (λ (x : ℕ). IsAnswer version x result) (sym t) answer, fits, text_short result text rest empty len (omega (arith, e, high))), empty)
 
 -- the head of a reply and its fields, and then its text
-spelled_head : (number error : ℕ) (fields text : List ℕ) → (u32_bytes (3 + length fields + length text) ++ (VERSION ∷ number ∷ error ∷ fields)) ++ text ≡ frame (VERSION ∷ number ∷ error ∷ (fields ++ text))
-spelled_head number error fields text =
-    append_assoc (u32_bytes (3 + length fields + length text)) (VERSION ∷ number ∷ error ∷ fields) text
-    ∙ frame_whole (3 + length fields + length text) (VERSION ∷ number ∷ error ∷ (fields ++ text)) (omega (arith, length-append fields text))
+spelled_head : (version number error : ℕ) (fields text : List ℕ) → (u32_bytes (3 + length fields + length text) ++ (version ∷ number ∷ error ∷ fields)) ++ text ≡ frame (version ∷ number ∷ error ∷ (fields ++ text))
+spelled_head version number error fields text =
+    append_assoc (u32_bytes (3 + length fields + length text)) (version ∷ number ∷ error ∷ fields) text
+    ∙ frame_whole (3 + length fields + length text) (version ∷ number ∷ error ∷ (fields ++ text)) (omega (arith, length-append fields text))
 
-reply_is : (number : ℕ) (result : Outcome) (fields text head : List ℕ) → fields ≡ outcome_fields result
-    → head ≡ u32_bytes (3 + length fields + length (outcome_text result text)) ++ (VERSION ∷ number ∷ error_number result ∷ fields) → head ++ outcome_text result text ≡ reply_spelling record { op = number; result = result } text
-reply_is number result fields text head f h =
-    ap (λ l. l ++ outcome_text result text) h ∙ spelled_head number (error_number result) fields (outcome_text result text)
-    ∙ ap (λ l. frame (VERSION ∷ number ∷ error_number result ∷ (l ++ outcome_text result text))) f
+reply_is : (version : Version) (number : ℕ) (result : Outcome) (fields text head : List ℕ) → fields ≡ outcome_fields result
+    → head ≡ u32_bytes (3 + length fields + length (outcome_text result text)) ++ (version_number version ∷ number ∷ error_number result ∷ fields) → head ++ outcome_text result text ≡ reply_spelling record { version = version; op = number; result = result } text
+reply_is version number result fields text head f h =
+    ap (λ l. l ++ outcome_text result text) h ∙ spelled_head (version_number version) number (error_number result) fields (outcome_text result text)
+    ∙ ap (λ l. frame (version_number version ∷ number ∷ error_number result ∷ (l ++ outcome_text result text))) f
 
-pub reply_with_text : (number : ℕ) (result : Outcome) (fields text head bytes : List ℕ) (size : ℕ) → fields ≡ outcome_fields result → gives_text result ≡ true
-    → bytes ≡ head → size ≡ length text → head ≡ u32_bytes (3 + length fields + size) ++ (VERSION ∷ number ∷ error_number result ∷ fields) → bytes ++ text ≡ reply_spelling record { op = number; result = result } text
-reply_with_text number result fields text head bytes size f has b s h =
+pub reply_with_text : (version : Version) (number : ℕ) (result : Outcome) (fields text head bytes : List ℕ) (size : ℕ) → fields ≡ outcome_fields result → gives_text result ≡ true
+    → bytes ≡ head → size ≡ length text → head ≡ u32_bytes (3 + length fields + size) ++ (version_number version ∷ number ∷ error_number result ∷ fields) → bytes ++ text ≡ reply_spelling record { version = version; op = number; result = result } text
+reply_with_text version number result fields text head bytes size f has b s h =
     let kept : outcome_text result text ≡ text = ap (λ x. cond x text []) has in
-    let all : head ≡ u32_bytes (3 + length fields + length (outcome_text result text)) ++ (VERSION ∷ number ∷ error_number result ∷ fields) = rw kept (rw (← s) h) in
-    ap (λ l. l ++ text) b ∙ ap (λ l. head ++ l) (sym kept) ∙ reply_is number result fields text head f all
+    let all : head ≡ u32_bytes (3 + length fields + length (outcome_text result text)) ++ (version_number version ∷ number ∷ error_number result ∷ fields) = rw kept (rw (← s) h) in
+    ap (λ l. l ++ text) b ∙ ap (λ l. head ++ l) (sym kept) ∙ reply_is version number result fields text head f all
 
-pub reply_without_text : (number : ℕ) (result : Outcome) (fields text head bytes : List ℕ) → fields ≡ outcome_fields result → gives_text result ≡ false
-    → bytes ≡ head → head ≡ u32_bytes (3 + length fields + 0) ++ (VERSION ∷ number ∷ error_number result ∷ fields) → bytes ≡ reply_spelling record { op = number; result = result } text
-reply_without_text number result fields text head bytes f has b h =
+pub reply_without_text : (version : Version) (number : ℕ) (result : Outcome) (fields text head bytes : List ℕ) → fields ≡ outcome_fields result → gives_text result ≡ false
+    → bytes ≡ head → head ≡ u32_bytes (3 + length fields + 0) ++ (version_number version ∷ number ∷ error_number result ∷ fields) → bytes ≡ reply_spelling record { version = version; op = number; result = result } text
+reply_without_text version number result fields text head bytes f has b h =
     let none : outcome_text result text ≡ [] = ap (λ x. cond x text []) has in
-    let all : head ≡ u32_bytes (3 + length fields + length (outcome_text result text)) ++ (VERSION ∷ number ∷ error_number result ∷ fields) = rw none h in
-    b ∙ sym (append-nil head) ∙ ap (λ l. head ++ l) (sym none) ∙ reply_is number result fields text head f all
+    let all : head ≡ u32_bytes (3 + length fields + length (outcome_text result text)) ++ (version_number version ∷ number ∷ error_number result ∷ fields) = rw none h in
+    b ∙ sym (append-nil head) ∙ ap (λ l. head ++ l) (sym none) ∙ reply_is version number result fields text head f all

@@ -12,8 +12,10 @@ use Rattle.sysv_wire.specs.declared.frame.Op.TheVariants as op
 use Rattle.sysv_wire.specs.declared.request.Ask.{Ask}
 use Rattle.sysv_wire.specs.declared.request.Ask.TheVariants.{Hello, Get, Snd, Rcv, Stat, Set, Rm, Row}
 use Rattle.sysv_wire.specs.declared.request.Request.{Request}
+use Rattle.sysv_wire.specs.declared.frame.Version.{Version}
+use Rattle.sysv_wire.specs.declared.frame.Version.TheVariants.{One, Two}
 use Rattle.sysv_wire.specs.Faults.{RequestFault}
-use Rattle.sysv_wire.specs.Frames.{op_number, frame}
+use Rattle.sysv_wire.specs.Frames.{IsNoVersion, IsVersion, op_number, version_number, frame}
 use Rattle.sysv_wire.specs.Numbers.{u32_bytes}
 use Rattle.sysv_wire.specs.OneAnswer.{RequestAt, OneAnswerToRequests}
 use Rattle.sysv_wire.specs.Reading.{ReadsRequest}
@@ -29,10 +31,26 @@ data Verdict : Type 0 where
 fits_op : Op → ℕ → Bool
 fits_op o n = cond (has_text o) (leb (2 + fields_len o) n) (eqb n (2 + fields_len o))
 
+-- a version has this number
+pub has_version : ℕ → Bool
+has_version v = cond (eqb v 1) true (eqb v 2)
+
+pub version_known : (v : ℕ) → IsVersion v → has_version v ≡ true
+unfolding has_version
+version_known v (One, e) = ap has_version (sym e)
+version_known v (Two, e) = ap has_version (sym e)
+
+pub version_unknown : (v : ℕ) → IsNoVersion v → has_version v ≡ false
+unfolding has_version
+version_unknown v h =
+    let a : v ≢ 1 = h.0 in
+    let b : v ≢ 2 = h.1 in
+    grind (arith, nat_tests)
+
 verdict_of : ℕ → ℕ → ℕ → ℕ → Verdict
 verdict_of len n v o =
     cond (eqb len 0) End (cond (ltb len 4) (Told Truncated) (cond (ltb 8274 n) (Told TooLong) (cond (ltb n 2) (Told BadField) (cond (ltb len 6) (Told Truncated)
-    (cond (eqb v 1) (cond (ltb 7 o) (Told BadOp) (cond (fits_op (op_at o) n) (cond (ltb len (4 + n)) (Told Truncated) Whole) (Told BadField))) (Told BadField))))))
+    (cond (has_version v) (cond (ltb 7 o) (Told BadOp) (cond (fits_op (op_at o) n) (cond (ltb len (4 + n)) (Told Truncated) Whole) (Told BadField))) (Told BadField))))))
 
 v_part : (len n v o : ℕ) → 0 < len → len < 4 → verdict_of len n v o ≡ Told Truncated
 unfolding verdict_of
@@ -50,23 +68,23 @@ v_head : (len n v o : ℕ) → 4 ≤ len → 2 ≤ n → n ≤ 8274 → len < 6 
 unfolding verdict_of
 v_head len n v o a b c d = grind (arith, nat_tests)
 
-v_version : (len n v o : ℕ) → 6 ≤ len → 2 ≤ n → n ≤ 8274 → v ≢ 1 → verdict_of len n v o ≡ Told BadField
+v_version : (len n v o : ℕ) → 6 ≤ len → 2 ≤ n → n ≤ 8274 → has_version v ≡ false → verdict_of len n v o ≡ Told BadField
 unfolding verdict_of
 v_version len n v o a b c d = grind (arith, nat_tests)
 
-v_op : (len n v o : ℕ) → 6 ≤ len → 2 ≤ n → n ≤ 8274 → v ≡ 1 → 7 < o → verdict_of len n v o ≡ Told BadOp
+v_op : (len n v o : ℕ) → 6 ≤ len → 2 ≤ n → n ≤ 8274 → has_version v ≡ true → 7 < o → verdict_of len n v o ≡ Told BadOp
 unfolding verdict_of
 v_op len n v o a b c d e = grind (arith, nat_tests)
 
-v_length : (len n v o : ℕ) → 6 ≤ len → 2 ≤ n → n ≤ 8274 → v ≡ 1 → o ≤ 7 → fits_op (op_at o) n ≡ false → verdict_of len n v o ≡ Told BadField
+v_length : (len n v o : ℕ) → 6 ≤ len → 2 ≤ n → n ≤ 8274 → has_version v ≡ true → o ≤ 7 → fits_op (op_at o) n ≡ false → verdict_of len n v o ≡ Told BadField
 unfolding verdict_of
 v_length len n v o a b c d e f = grind (arith, nat_tests)
 
-v_rest : (len n v o : ℕ) → 6 ≤ len → 2 ≤ n → n ≤ 8274 → v ≡ 1 → o ≤ 7 → fits_op (op_at o) n ≡ true → len < 4 + n → verdict_of len n v o ≡ Told Truncated
+v_rest : (len n v o : ℕ) → 6 ≤ len → 2 ≤ n → n ≤ 8274 → has_version v ≡ true → o ≤ 7 → fits_op (op_at o) n ≡ true → len < 4 + n → verdict_of len n v o ≡ Told Truncated
 unfolding verdict_of
 v_rest len n v o a b c d e f g = grind (arith, nat_tests)
 
-v_whole : (len n v o : ℕ) → 6 ≤ len → 2 ≤ n → n ≤ 8274 → v ≡ 1 → o ≤ 7 → fits_op (op_at o) n ≡ true → 4 + n ≤ len → verdict_of len n v o ≡ Whole
+v_whole : (len n v o : ℕ) → 6 ≤ len → 2 ≤ n → n ≤ 8274 → has_version v ≡ true → o ≤ 7 → fits_op (op_at o) n ≡ true → 4 + n ≤ len → verdict_of len n v o ≡ Whole
 unfolding verdict_of
 v_whole len n v o a b c d e f g = grind (arith, nat_tests)
 
@@ -149,15 +167,16 @@ request_length (Row i) text h = let l = length-append (ask_fields (Row i)) [] in
 whole_verdict : (r : Request) (text rest : List ℕ) → length text ≤ 8256 → verdict (request_spelling r text ++ rest) ≡ Whole
 unfolding frame
 whole_verdict r text rest h =
+    let v = version_number r.version in
     let o = op_number (op_of r.ask) in
     let behind = ask_fields r.ask ++ ask_text (op_of r.ask) text in
     let n = 2 + length behind in
     let sizes = request_length r.ask text h in
-    let len : length (1 ∷ o ∷ behind) ≡ n = omega arith in
-    let parts : request_spelling r text ++ rest ≡ u32_bytes n ++ (1 ∷ o ∷ (behind ++ rest)) =
-    append_assoc (u32_bytes (length (1 ∷ o ∷ behind))) (1 ∷ o ∷ behind) rest ∙ ap (λ m. u32_bytes m ++ (1 ∷ o ∷ (behind ++ rest))) len in
-    ap verdict parts ∙ verdict_op n 1 o (behind ++ rest) sizes.1
-    ∙ v_whole (6 + length (behind ++ rest)) n 1 o (omega arith) (omega arith) sizes.1 refl (number_small (op_of r.ask)) (fits_when (op_of r.ask) n sizes.0) (omega (arith, length-append behind rest))
+    let len : length (v ∷ o ∷ behind) ≡ n = omega arith in
+    let parts : request_spelling r text ++ rest ≡ u32_bytes n ++ (v ∷ o ∷ (behind ++ rest)) =
+    append_assoc (u32_bytes (length (v ∷ o ∷ behind))) (v ∷ o ∷ behind) rest ∙ ap (λ m. u32_bytes m ++ (v ∷ o ∷ (behind ++ rest))) len in
+    ap verdict parts ∙ verdict_op n v o (behind ++ rest) sizes.1
+    ∙ v_whole (6 + length (behind ++ rest)) n v o (omega arith) (omega arith) sizes.1 (version_known v (r.version, refl)) (number_small (op_of r.ask)) (fits_when (op_of r.ask) n sizes.0) (omega (arith, length-append behind rest))
 
 code : Result (Option Request) Fault → Verdict
 code (Ok (Some r)) = Whole
@@ -173,10 +192,11 @@ broken_verdict input (inl (inr h)) =
     ap verdict h.5 ∙ verdict_head n part (omega (arith, h.3)) ∙ v_head (4 + length part) n (get_or part 0 0) (get_or part 1 0) (omega arith) h.2 h.3 (omega (arith, h.4))
 broken_verdict input (inr h) =
     let n = h.0 in
-    let o = h.1 in
-    let part = h.2 in
-    ap verdict h.6 ∙ verdict_op n 1 (op_number o) part h.3
-    ∙ v_rest (6 + length part) n 1 (op_number o) (omega arith) (omega (arith, h.5)) h.3 refl (number_small o) (fits_when o n h.4) (omega (arith, h.5))
+    let v = version_number h.1 in
+    let o = h.2 in
+    let part = h.3 in
+    ap verdict h.7 ∙ verdict_op n v (op_number o) part h.4
+    ∙ v_rest (6 + length part) n v (op_number o) (omega arith) (omega (arith, h.6)) h.4 (version_known v (h.1, refl)) (number_small o) (fits_when o n h.5) (omega (arith, h.6))
 
 long_verdict : (input taken rest : List ℕ) → RequestFault TooLong taken → input ≡ taken ++ rest → verdict input ≡ Told TooLong
 long_verdict input taken rest h e =
@@ -193,17 +213,17 @@ op_verdict input taken rest h e =
     let v = h.1 in
     let o = h.2 in
     let head = h.3 in
-    ap verdict (e ∙ behind_head n v o taken rest head.2) ∙ verdict_op n v o rest head.1 ∙ v_op (6 + length rest) n v o (omega arith) head.0 head.1 h.4.0 h.4.1
+    ap verdict (e ∙ behind_head n v o taken rest head.2) ∙ verdict_op n v o rest head.1 ∙ v_op (6 + length rest) n v o (omega arith) head.0 head.1 (version_known v h.4.0) h.4.1
 
 field_verdict : (input taken rest : List ℕ) → RequestFault BadField taken → input ≡ taken ++ rest → verdict input ≡ Told BadField
 field_verdict input taken rest (inl h) e =
     let n = h.0 in
     ap verdict (e ∙ ap (λ l. l ++ rest) h.3) ∙ verdict_head n rest h.1 ∙ v_short (4 + length rest) n (get_or rest 0 0) (get_or rest 1 0) (omega arith) h.2
 field_verdict input taken rest (inr (n, v, o, head, inl other)) e =
-    ap verdict (e ∙ behind_head n v o taken rest head.2) ∙ verdict_op n v o rest head.1 ∙ v_version (6 + length rest) n v o (omega arith) head.0 head.1 other
+    ap verdict (e ∙ behind_head n v o taken rest head.2) ∙ verdict_op n v o rest head.1 ∙ v_version (6 + length rest) n v o (omega arith) head.0 head.1 (version_unknown v other)
 field_verdict input taken rest (inr (n, v, o, head, inr (same, (named, number, wrong)))) e =
     ap verdict (e ∙ behind_head n v o taken rest head.2) ∙ verdict_op n v o rest head.1
-    ∙ v_length (6 + length rest) n v o (omega arith) head.0 head.1 same (omega (arith, number, number_small named)) (ap (λ x. fits_op (op_at x) n) (sym number) ∙ fits_not named n wrong)
+    ∙ v_length (6 + length rest) n v o (omega arith) head.0 head.1 (version_known v same) (omega (arith, number, number_small named)) (ap (λ x. fits_op (op_at x) n) (sym number) ∙ fits_not named n wrong)
 
 answer_verdict : (input : List ℕ) (a : Result (Option Request) Fault) → RequestAt input a → verdict input ≡ code a
 unfolding verdict verdict_of code

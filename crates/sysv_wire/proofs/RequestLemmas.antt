@@ -5,9 +5,10 @@ use Rattle.std.proofs.KnownBytes.{Consumes-trans}
 use Rattle.sysv_wire.specs.declared.fault.Fault.{Fault}
 use Rattle.sysv_wire.specs.declared.fault.Fault.TheVariants.{Truncated, TooLong, BadOp, BadField, Read}
 use Rattle.sysv_wire.specs.declared.frame.Op.{Op}
-use Rattle.sysv_wire.specs.declared.frame.TheConstants.{VERSION, MAX_REQUEST}
+use Rattle.sysv_wire.specs.declared.frame.TheConstants.{MAX_REQUEST}
+use Rattle.sysv_wire.specs.declared.frame.Version.{Version}
 use Rattle.sysv_wire.specs.Faults.{Faults, Breaks, IsShorter, RequestFault}
-use Rattle.sysv_wire.specs.Frames.{op_number, frame}
+use Rattle.sysv_wire.specs.Frames.{op_number, version_number, frame}
 use Rattle.sysv_wire.specs.Numbers.{u32_bytes, i32_bytes, i64_bytes}
 use Rattle.sysv_wire.specs.Reading.{ReadsRequest}
 use Rattle.sysv_wire.specs.Requests.{FitsAsk, IsRequestLength, fields_len, ask_fields, ask_text, has_text, op_of, request_spelling}
@@ -27,34 +28,34 @@ pub broken_later : (n m : ℕ) (done : List ℕ) (fault : Fault) (a b c : Option
 broken_later n m done fault a b c fits first second =
     Faults-after (Breaks (IsShorter n)) (Breaks (IsShorter m)) fault a b c done first second (breaks_later n m done fault fits)
 
-breaks_request : (n : ℕ) (op : Op) (fault : Fault) → n ≤ MAX_REQUEST → IsRequestLength op n → (taken : List ℕ) → Breaks (IsShorter (n - 2)) fault taken
-    → RequestFault fault (u32_bytes n ++ (VERSION ∷ op_number op ∷ taken))
-breaks_request n op Truncated most wanted taken why = inr (n, op, taken, most, wanted, omega arith, refl)
-breaks_request n op Read most wanted taken why = tt
-breaks_request n op TooLong most wanted taken why = absurd why
-breaks_request n op BadOp most wanted taken why = absurd why
-breaks_request n op BadField most wanted taken why = absurd why
+breaks_request : (n : ℕ) (version : Version) (op : Op) (fault : Fault) → n ≤ MAX_REQUEST → IsRequestLength op n → (taken : List ℕ) → Breaks (IsShorter (n - 2)) fault taken
+    → RequestFault fault (u32_bytes n ++ (version_number version ∷ op_number op ∷ taken))
+breaks_request n version op Truncated most wanted taken why = inr (n, version, op, taken, most, wanted, omega arith, refl)
+breaks_request n version op Read most wanted taken why = tt
+breaks_request n version op TooLong most wanted taken why = absurd why
+breaks_request n version op BadOp most wanted taken why = absurd why
+breaks_request n version op BadField most wanted taken why = absurd why
 
 -- a head of two bytes, and what is after it
-head_then : (n : ℕ) (op : Op) (version number : ℕ) (head taken : List ℕ) → head ≡ version ∷ number ∷ [] → version ≡ VERSION → op_number op ≡ number
-    → (u32_bytes n ++ head) ++ taken ≡ u32_bytes n ++ (VERSION ∷ op_number op ∷ taken)
-head_then n op version number head taken h v o =
-    append_assoc (u32_bytes n) head taken ∙ ap (λ l. u32_bytes n ++ (l ++ taken)) (h ∙ ap (λ x. x ∷ number ∷ []) v ∙ ap (λ x. VERSION ∷ x ∷ []) (sym o))
+head_then : (n : ℕ) (version : Version) (op : Op) (byte number : ℕ) (head taken : List ℕ) → head ≡ byte ∷ number ∷ [] → version_number version ≡ byte → op_number op ≡ number
+    → (u32_bytes n ++ head) ++ taken ≡ u32_bytes n ++ (version_number version ∷ op_number op ∷ taken)
+head_then n version op byte number head taken h v o =
+    append_assoc (u32_bytes n) head taken ∙ ap (λ l. u32_bytes n ++ (l ++ taken)) (h ∙ ap (λ x. x ∷ number ∷ []) (sym v) ∙ ap (λ x. version_number version ∷ x ∷ []) (sym o))
 
-pub request_broken : (n : ℕ) (op : Op) (version number : ℕ) (head : List ℕ) (fault : Fault) (a b c : Option (List ℕ)) → head ≡ version ∷ number ∷ [] → version ≡ VERSION → op_number op ≡ number
+pub request_broken : (n : ℕ) (version : Version) (op : Op) (byte number : ℕ) (head : List ℕ) (fault : Fault) (a b c : Option (List ℕ)) → head ≡ byte ∷ number ∷ [] → version_number version ≡ byte → op_number op ≡ number
     → n ≤ MAX_REQUEST → IsRequestLength op n → Consumes a b (u32_bytes n ++ head) → Faults (Breaks (IsShorter (n - 2))) fault b c → Faults RequestFault fault a c
-request_broken n op version number head fault a b c h v o most wanted first second =
+request_broken n version op byte number head fault a b c h v o most wanted first second =
     Faults-after (Breaks (IsShorter (n - 2))) RequestFault fault a b c (u32_bytes n ++ head) first second
-    (λ taken why. subst (RequestFault fault) (sym (head_then n op version number head taken h v o)) (breaks_request n op fault most wanted taken why))
+    (λ taken why. subst (RequestFault fault) (sym (head_then n version op byte number head taken h v o)) (breaks_request n version op fault most wanted taken why))
 
 pub frame_whole : (n : ℕ) (content : List ℕ) → n ≡ length content → u32_bytes n ++ content ≡ frame content
 unfolding frame
 frame_whole n content e = ap (λ m. u32_bytes m ++ content) e
 
-pub request_whole : (n : ℕ) (op : Op) (version number : ℕ) (head rest : List ℕ) (a b c : Option (List ℕ)) → head ≡ version ∷ number ∷ [] → version ≡ VERSION → op_number op ≡ number
-    → n ≡ 2 + length rest → Consumes a b (u32_bytes n ++ head) → Consumes b c rest → Consumes a c (frame (VERSION ∷ op_number op ∷ rest))
-request_whole n op version number head rest a b c h v o len first second =
-    subst (Consumes a c) (head_then n op version number head rest h v o ∙ frame_whole n (VERSION ∷ op_number op ∷ rest) (omega arith)) (Consumes-trans a b c (u32_bytes n ++ head) rest first second)
+pub request_whole : (n : ℕ) (version : Version) (op : Op) (byte number : ℕ) (head rest : List ℕ) (a b c : Option (List ℕ)) → head ≡ byte ∷ number ∷ [] → version_number version ≡ byte → op_number op ≡ number
+    → n ≡ 2 + length rest → Consumes a b (u32_bytes n ++ head) → Consumes b c rest → Consumes a c (frame (version_number version ∷ op_number op ∷ rest))
+request_whole n version op byte number head rest a b c h v o len first second =
+    subst (Consumes a c) (head_then n version op byte number head rest h v o ∙ frame_whole n (version_number version ∷ op_number op ∷ rest) (omega arith)) (Consumes-trans a b c (u32_bytes n ++ head) rest first second)
 
 -- two bytes, one after the other
 pub pair_is : (head : List ℕ) → length head ≡ 2 → head ≡ get_or head 0 0 ∷ get_or head 1 0 ∷ []
@@ -91,38 +92,38 @@ text_short (Set i t) text n empty len most = let none = ap length empty in omega
 text_short (Rm i) text n empty len most = let none = ap length empty in omega (arith, none)
 text_short (Row i) text n empty len most = let none = ap length empty in omega (arith, none)
 
-pub request_read : (ask : Ask) (n : ℕ) (op : Op) (version number : ℕ) (head text : List ℕ) (a b c : Option (List ℕ)) → head ≡ version ∷ number ∷ [] → version ≡ VERSION → op_number op ≡ number
+pub request_read : (ask : Ask) (n : ℕ) (version : Version) (op : Op) (byte number : ℕ) (head text : List ℕ) (a b c : Option (List ℕ)) → head ≡ byte ∷ number ∷ [] → version_number version ≡ byte → op_number op ≡ number
     → n ≤ 8274 → FitsAsk ask → n ≡ 2 + length (ask_fields ask ++ ask_text op text) → op_of ask ≡ op → text ≡ ask_text op text → Consumes a b (u32_bytes n ++ head) → Consumes b c (ask_fields ask ++ ask_text op text)
-    → ReadsRequest a c (Ok (Some record { ask = ask })) text
-request_read ask n op version number head text a b c h v o most fits len same empty first second = (
-  subst (λ x. Consumes a c (frame (VERSION ∷ op_number x ∷ (ask_fields ask ++ ask_text x text)))) (sym same)
-      (request_whole n op version number head (ask_fields ask ++ ask_text op text) a b c h v o len first second),
+    → ReadsRequest a c (Ok (Some record { version = version; ask = ask })) text
+request_read ask n version op byte number head text a b c h v o most fits len same empty first second = (
+  subst (λ x. Consumes a c (frame (version_number version ∷ op_number x ∷ (ask_fields ask ++ ask_text x text)))) (sym same)
+      (request_whole n version op byte number head (ask_fields ask ++ ask_text op text) a b c h v o len first second),
   (fits, text_short ask text n (subst (λ x. text ≡ ask_text x text) (sym same) empty) (subst (λ x. n ≡ 2 + length (ask_fields ask ++ ask_text x text)) (sym same) len) most),
   subst (λ x. text ≡ ask_text x text) (sym same) empty,
 )
 
 -- what the head and the text of a request spell
-pub request_is : (ask : Ask) (op : Op) (fields text head : List ℕ) → op ≡ op_of ask → fields ≡ ask_fields ask
-    → head ≡ u32_bytes (2 + length fields + length (ask_text op text)) ++ (VERSION ∷ op_number op ∷ fields) → head ++ ask_text op text ≡ request_spelling record { ask = ask } text
-request_is ask op fields text head o f h =
-    ap (λ l. l ++ ask_text op text) h ∙ spelled_head VERSION (op_number op) fields (ask_text op text)
-    ∙ ap (λ l. frame (VERSION ∷ op_number op ∷ (l ++ ask_text op text))) f
-    ∙ ap (λ x. frame (VERSION ∷ op_number x ∷ (ask_fields ask ++ ask_text x text))) o
+pub request_is : (version : Version) (ask : Ask) (op : Op) (fields text head : List ℕ) → op ≡ op_of ask → fields ≡ ask_fields ask
+    → head ≡ u32_bytes (2 + length fields + length (ask_text op text)) ++ (version_number version ∷ op_number op ∷ fields) → head ++ ask_text op text ≡ request_spelling record { version = version; ask = ask } text
+request_is version ask op fields text head o f h =
+    ap (λ l. l ++ ask_text op text) h ∙ spelled_head (version_number version) (op_number op) fields (ask_text op text)
+    ∙ ap (λ l. frame (version_number version ∷ op_number op ∷ (l ++ ask_text op text))) f
+    ∙ ap (λ x. frame (version_number version ∷ op_number x ∷ (ask_fields ask ++ ask_text x text))) o
 
 -- the same where the operation has a text, and where it has none
-pub request_with_text : (ask : Ask) (op : Op) (fields text head bytes : List ℕ) (size : ℕ) → op ≡ op_of ask → fields ≡ ask_fields ask → has_text op ≡ true
-    → bytes ≡ head → size ≡ length text → head ≡ u32_bytes (2 + length fields + size) ++ (VERSION ∷ op_number op ∷ fields) → bytes ++ text ≡ request_spelling record { ask = ask } text
-request_with_text ask op fields text head bytes size o f has b s h =
+pub request_with_text : (version : Version) (ask : Ask) (op : Op) (fields text head bytes : List ℕ) (size : ℕ) → op ≡ op_of ask → fields ≡ ask_fields ask → has_text op ≡ true
+    → bytes ≡ head → size ≡ length text → head ≡ u32_bytes (2 + length fields + size) ++ (version_number version ∷ op_number op ∷ fields) → bytes ++ text ≡ request_spelling record { version = version; ask = ask } text
+request_with_text version ask op fields text head bytes size o f has b s h =
     let kept : ask_text op text ≡ text = ap (λ x. cond x text []) has in
-    let all : head ≡ u32_bytes (2 + length fields + length (ask_text op text)) ++ (VERSION ∷ op_number op ∷ fields) = rw kept (rw (← s) h) in
-    ap (λ l. l ++ text) b ∙ ap (λ l. head ++ l) (sym kept) ∙ request_is ask op fields text head o f all
+    let all : head ≡ u32_bytes (2 + length fields + length (ask_text op text)) ++ (version_number version ∷ op_number op ∷ fields) = rw kept (rw (← s) h) in
+    ap (λ l. l ++ text) b ∙ ap (λ l. head ++ l) (sym kept) ∙ request_is version ask op fields text head o f all
 
-pub request_without_text : (ask : Ask) (op : Op) (fields text head bytes : List ℕ) → op ≡ op_of ask → fields ≡ ask_fields ask → has_text op ≡ false
-    → bytes ≡ head → head ≡ u32_bytes (2 + length fields + 0) ++ (VERSION ∷ op_number op ∷ fields) → bytes ≡ request_spelling record { ask = ask } text
-request_without_text ask op fields text head bytes o f has b h =
+pub request_without_text : (version : Version) (ask : Ask) (op : Op) (fields text head bytes : List ℕ) → op ≡ op_of ask → fields ≡ ask_fields ask → has_text op ≡ false
+    → bytes ≡ head → head ≡ u32_bytes (2 + length fields + 0) ++ (version_number version ∷ op_number op ∷ fields) → bytes ≡ request_spelling record { version = version; ask = ask } text
+request_without_text version ask op fields text head bytes o f has b h =
     let none : ask_text op text ≡ [] = ap (λ x. cond x text []) has in
-    let all : head ≡ u32_bytes (2 + length fields + length (ask_text op text)) ++ (VERSION ∷ op_number op ∷ fields) = rw none h in
-    b ∙ sym (append-nil head) ∙ ap (λ l. head ++ l) (sym none) ∙ request_is ask op fields text head o f all
+    let all : head ≡ u32_bytes (2 + length fields + length (ask_text op text)) ++ (version_number version ∷ op_number op ∷ fields) = rw none h in
+    b ∙ sym (append-nil head) ∙ ap (λ l. head ++ l) (sym none) ∙ request_is version ask op fields text head o f all
 
 -- a request with a text is at least as long as its head and its fields
 pub text_length : (op : Op) (n : ℕ) → has_text op ≡ true → IsRequestLength op n → 2 + fields_len op ≤ n

@@ -6,8 +6,9 @@ use Rattle.std.specs.Io.KnownBytes.{Consumes, IsAtEnd}
 use Rattle.sysv_wire.specs.declared.fault.Fault.{Fault}
 use Rattle.sysv_wire.specs.declared.fault.Fault.TheVariants.{Truncated, TooLong, BadOp, BadField, Read}
 use Rattle.sysv_wire.specs.declared.frame.Op.{Op}
-use Rattle.sysv_wire.specs.declared.frame.TheConstants.{VERSION, MIN_REQUEST, MAX_REQUEST}
-use Rattle.sysv_wire.specs.Frames.{op_number}
+use Rattle.sysv_wire.specs.declared.frame.TheConstants.{MIN_REQUEST, MAX_REQUEST}
+use Rattle.sysv_wire.specs.declared.frame.Version.{Version}
+use Rattle.sysv_wire.specs.Frames.{IsNoVersion, IsVersion, op_number, version_number}
 use Rattle.sysv_wire.specs.Numbers.{u32_bytes}
 use Rattle.sysv_wire.specs.Requests.{IsRequestLength}
 
@@ -73,14 +74,15 @@ HeadFault least most BadField taken = (n : ℕ) × (n < 2 ^ 32) × LengthFault l
 HeadFault least most BadOp taken = ⊥
 HeadFault least most Read taken = ⊤
 
--- another version, or a length that is not the operation's
+-- no version, or a length that is not the operation's
 abbrev pub IsBadRequest : ℕ → ℕ → ℕ → Type 0
-IsBadRequest n version number = (version ≢ VERSION) ⊎ ((version ≡ VERSION) × ((op : Op) × (op_number op ≡ number) × ¬ IsRequestLength op n))
+IsBadRequest n version number =
+    IsNoVersion version ⊎ (IsVersion version × ((op : Op) × (op_number op ≡ number) × ¬ IsRequestLength op n))
 
 -- why a request with this length, version and operation is refused
 abbrev pub OpFault : ℕ → ℕ → ℕ → Fault → Type 0
 OpFault n version number BadField = IsBadRequest n version number
-OpFault n version number BadOp = (version ≡ VERSION) × (7 < number)
+OpFault n version number BadOp = IsVersion version × (7 < number)
 OpFault n version number Truncated = ⊥
 OpFault n version number TooLong = ⊥
 OpFault n version number Read = ⊥
@@ -92,8 +94,8 @@ IsRequestHead n version number taken =
 
 -- a request's head, and not all of the rest
 abbrev pub IsPartRequest : List ℕ → Type 0
-IsPartRequest taken = (n : ℕ) × (op : Op) × (part : List ℕ) × (n ≤ MAX_REQUEST) × IsRequestLength op n
-    × (2 + length part < n) × (taken ≡ u32_bytes n ++ (VERSION ∷ op_number op ∷ part))
+IsPartRequest taken = (n : ℕ) × (version : Version) × (op : Op) × (part : List ℕ) × (n ≤ MAX_REQUEST) × IsRequestLength op n
+    × (2 + length part < n) × (taken ≡ u32_bytes n ++ (version_number version ∷ op_number op ∷ part))
 
 -- why a request is refused: for its length, for what is judged with it, or as the input ends within it
 abbrev pub RequestFault : Fault → List ℕ → Type 0

@@ -11,11 +11,13 @@ use Rattle.sysv_model.specs.declared.attributes.Stat.{Stat as Told}
 use Rattle.sysv_model.specs.declared.limits.TheConstants.{MESSAGE_BYTES}
 use Rattle.sysv_wire.specs.declared.frame.Op.{Op}
 use Rattle.sysv_wire.specs.declared.frame.Op.TheVariants as op
-use Rattle.sysv_wire.specs.declared.frame.TheConstants.{VERSION, MAX_MODE}
+use Rattle.sysv_wire.specs.declared.frame.TheConstants.{MAX_MODE}
+use Rattle.sysv_wire.specs.declared.frame.Version.{Version}
+use Rattle.sysv_wire.specs.declared.frame.Version.TheVariants.{One, Two}
 use Rattle.sysv_wire.specs.declared.reply.Outcome.{Outcome}
-use Rattle.sysv_wire.specs.declared.reply.Outcome.TheVariants.{Refused, Hello, Get, Snd, Rcv, Stat, Set, Rm, Row}
+use Rattle.sysv_wire.specs.declared.reply.Outcome.TheVariants.{Refused, Hello, HelloSlots, Get, Snd, Rcv, Stat, Set, Rm, Row}
 use Rattle.sysv_wire.specs.declared.reply.Reply.{Reply}
-use Rattle.sysv_wire.specs.Frames.{op_number, frame}
+use Rattle.sysv_wire.specs.Frames.{op_number, version_number, frame}
 use Rattle.sysv_wire.specs.Numbers.{u16_bytes, u32_bytes, u64_bytes, i32_bytes, i64_bytes}
 
 -- the numbers are in the ranges of their types
@@ -50,6 +52,7 @@ pub record FitsRow (row : Line) : Type 0 where
 abbrev pub error_number : Outcome → ℕ
 error_number (Refused error) = number_of error
 error_number Hello = 0
+error_number (HelloSlots slots) = 0
 error_number (Get id) = 0
 error_number Snd = 0
 error_number (Rcv mtype) = 0
@@ -82,6 +85,7 @@ row_fields row = i32_bytes row.id ++ (i32_bytes row.key ++ (u32_bytes row.uid ++
 abbrev pub outcome_fields : Outcome → List ℕ
 outcome_fields (Refused error) = []
 outcome_fields Hello = []
+outcome_fields (HelloSlots slots) = u32_bytes slots
 outcome_fields (Get id) = i32_bytes id
 outcome_fields Snd = []
 outcome_fields (Rcv mtype) = i64_bytes mtype
@@ -96,6 +100,7 @@ abbrev pub gives_text : Outcome → Bool
 gives_text (Rcv mtype) = true
 gives_text (Refused error) = false
 gives_text Hello = false
+gives_text (HelloSlots slots) = false
 gives_text (Get id) = false
 gives_text Snd = false
 gives_text (Stat stat) = false
@@ -110,41 +115,49 @@ outcome_text outcome text = if gives_text outcome then text else []
 -- the one spelling of a reply
 abbrev pub reply_spelling : Reply → List ℕ → List ℕ
 reply_spelling reply text =
-    frame (VERSION ∷ reply.op ∷ error_number reply.result ∷ (outcome_fields reply.result ++ outcome_text reply.result text))
+    frame (version_number reply.version ∷ reply.op ∷ error_number reply.result ∷ (outcome_fields reply.result ++ outcome_text reply.result text))
 
--- The operation with this number may answer so: any may be refused, and modes have nine bits.
-abbrev pub IsAnswer : ℕ → Outcome → Type 0
-IsAnswer number (Refused error) = number ≤ 7
-IsAnswer number Hello = number ≡ op_number op.Hello
-IsAnswer number (Get id) = number ≡ op_number op.Get
-IsAnswer number Snd = number ≡ op_number op.Snd
-IsAnswer number (Rcv mtype) = number ≡ op_number op.Rcv
-IsAnswer number (Stat stat) = (number ≡ op_number op.Stat) × (stat.perm.mode ≤ MAX_MODE)
-IsAnswer number Set = number ≡ op_number op.Set
-IsAnswer number Rm = number ≡ op_number op.Rm
-IsAnswer number (Row None) = number ≡ op_number op.Row
-IsAnswer number (Row (Some row)) = (number ≡ op_number op.Row) × (row.mode ≤ MAX_MODE)
+-- The operation with this number may answer so in this version: any may be refused, a hello has the
+-- number of slots in version 2 alone, and modes have nine bits.
+abbrev pub IsAnswer : Version → ℕ → Outcome → Type 0
+IsAnswer version number (Refused error) = number ≤ 7
+IsAnswer version number Hello = (version ≡ One) × (number ≡ op_number op.Hello)
+IsAnswer version number (HelloSlots slots) = (version ≡ Two) × (number ≡ op_number op.Hello)
+IsAnswer version number (Get id) = number ≡ op_number op.Get
+IsAnswer version number Snd = number ≡ op_number op.Snd
+IsAnswer version number (Rcv mtype) = number ≡ op_number op.Rcv
+IsAnswer version number (Stat stat) = (number ≡ op_number op.Stat) × (stat.perm.mode ≤ MAX_MODE)
+IsAnswer version number Set = number ≡ op_number op.Set
+IsAnswer version number Rm = number ≡ op_number op.Rm
+IsAnswer version number (Row None) = number ≡ op_number op.Row
+IsAnswer version number (Row (Some row)) = (number ≡ op_number op.Row) × (row.mode ≤ MAX_MODE)
+
+-- the bytes after the error of a hello's reply: in version 2 the number of slots
+abbrev pub hello_len : Version → ℕ
+hello_len One = 0
+hello_len Two = 4
 
 -- what an operation gives takes this many bytes after the error: a receive's has its text after its
 -- fields, and a row may be there or not
-abbrev pub IsAnswerLength : Op → ℕ → Type 0
-IsAnswerLength op.Hello n = n ≡ 0
-IsAnswerLength op.Get n = n ≡ 4
-IsAnswerLength op.Snd n = n ≡ 0
-IsAnswerLength op.Rcv n = 8 ≤ n
-IsAnswerLength op.Stat n = n ≡ 66
-IsAnswerLength op.Set n = n ≡ 0
-IsAnswerLength op.Rm n = n ≡ 0
-IsAnswerLength op.Row n = (n ≡ 1) ⊎ (n ≡ 23)
+abbrev pub IsAnswerLength : Version → Op → ℕ → Type 0
+IsAnswerLength version op.Hello n = n ≡ hello_len version
+IsAnswerLength version op.Get n = n ≡ 4
+IsAnswerLength version op.Snd n = n ≡ 0
+IsAnswerLength version op.Rcv n = 8 ≤ n
+IsAnswerLength version op.Stat n = n ≡ 66
+IsAnswerLength version op.Set n = n ≡ 0
+IsAnswerLength version op.Rm n = n ≡ 0
+IsAnswerLength version op.Row n = (n ≡ 1) ⊎ (n ≡ 23)
 
 -- a reply of the operation with this error may have so many bytes after the error
-abbrev pub IsRestLength : Op → ℕ → ℕ → Type 0
-IsRestLength o error n = MatchBool (error == 0) (IsAnswerLength o n) (n ≡ 0)
+abbrev pub IsRestLength : Version → Op → ℕ → ℕ → Type 0
+IsRestLength version o error n = MatchBool (error == 0) (IsAnswerLength version o n) (n ≡ 0)
 
 -- the numbers are in the ranges of their types
 abbrev pub FitsOutcome : Outcome → Type 0
 FitsOutcome (Refused error) = ⊤
 FitsOutcome Hello = ⊤
+FitsOutcome (HelloSlots slots) = slots < 2 ^ 32
 FitsOutcome (Get id) = FitsSigned w32 id
 FitsOutcome Snd = ⊤
 FitsOutcome (Rcv mtype) = FitsSigned w64 mtype
@@ -156,4 +169,4 @@ FitsOutcome (Row (Some row)) = FitsRow row
 
 -- the reply is one that its operation may give, and it and its text can be sent
 abbrev pub FitsReply : Reply → List ℕ → Type 0
-FitsReply reply text = IsAnswer reply.op reply.result × FitsOutcome reply.result × (length text ≤ MESSAGE_BYTES)
+FitsReply reply text = IsAnswer reply.version reply.op reply.result × FitsOutcome reply.result × (length text ≤ MESSAGE_BYTES)

@@ -9,21 +9,22 @@ use Rattle.sysv_wire.specs.declared.fault.Fault.{Fault}
 use Rattle.sysv_wire.specs.declared.fault.Fault.TheVariants.{Truncated, TooLong, BadOp, BadField, Read}
 use Rattle.sysv_wire.specs.declared.frame.Op.{Op}
 use Rattle.sysv_wire.specs.declared.frame.Op.TheVariants as op
-use Rattle.sysv_wire.specs.declared.frame.TheConstants.{VERSION, MIN_REPLY, MAX_REPLY, MAX_MODE}
+use Rattle.sysv_wire.specs.declared.frame.TheConstants.{MIN_REPLY, MAX_REPLY, MAX_MODE}
+use Rattle.sysv_wire.specs.declared.frame.Version.{Version}
 use Rattle.sysv_wire.specs.Faults.{HeadFault}
-use Rattle.sysv_wire.specs.Frames.{op_number}
+use Rattle.sysv_wire.specs.Frames.{IsNoVersion, IsVersion, op_number, version_number}
 use Rattle.sysv_wire.specs.Numbers.{u16_bytes, u32_bytes}
 use Rattle.sysv_wire.specs.Replies.{IsRestLength}
 
--- another version, or a length that is not the operation's with this error
+-- no version, or a length that is not the operation's in that version with this error
 abbrev pub IsBadReply : ℕ → ℕ → ℕ → ℕ → Type 0
-IsBadReply n version number error =
-    (version ≢ VERSION) ⊎ ((version ≡ VERSION) × ((op : Op) × (op_number op ≡ number) × ¬ IsRestLength op error (n - MIN_REPLY)))
+IsBadReply n byte number error = IsNoVersion byte
+    ⊎ ((version : Version) × (version_number version ≡ byte) × ((op : Op) × (op_number op ≡ number) × ¬ IsRestLength version op error (n - MIN_REPLY)))
 
 -- why a reply with this length, version, operation and error is refused before the rest is read
 abbrev pub AnswerFault : ℕ → ℕ → ℕ → ℕ → Fault → Type 0
 AnswerFault n version number error BadField = IsBadReply n version number error
-AnswerFault n version number error BadOp = (version ≡ VERSION) × (7 < number)
+AnswerFault n version number error BadOp = IsVersion version × (7 < number)
 AnswerFault n version number error Truncated = ⊥
 AnswerFault n version number error TooLong = ⊥
 AnswerFault n version number error Read = ⊥
@@ -70,8 +71,9 @@ IsReplyHead n version number error taken =
 
 -- a reply's head, and what was taken of the rest
 abbrev pub IsReplyRest : Fault → List ℕ → Type 0
-IsReplyRest fault taken = (n : ℕ) × (op : Op) × (error : ℕ) × (rest : List ℕ) × (MIN_REPLY ≤ n) × (n ≤ MAX_REPLY) × IsRestLength op error (n - MIN_REPLY)
-    × RestFault op error (n - MIN_REPLY) fault rest × (taken ≡ u32_bytes n ++ (VERSION ∷ op_number op ∷ error ∷ rest))
+IsReplyRest fault taken = (n : ℕ) × (version : Version) × (op : Op) × (error : ℕ) × (rest : List ℕ) × (MIN_REPLY ≤ n) × (n ≤ MAX_REPLY)
+    × IsRestLength version op error (n - MIN_REPLY) × RestFault op error (n - MIN_REPLY) fault rest
+    × (taken ≡ u32_bytes n ++ (version_number version ∷ op_number op ∷ error ∷ rest))
 
 -- why a reply is refused: for its length, for what is judged with it, or for the rest
 abbrev pub ReplyFault : Fault → List ℕ → Type 0

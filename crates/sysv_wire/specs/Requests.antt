@@ -6,11 +6,10 @@ use Rattle.std.specs.Int.RustNames.{FitsSigned}
 use Rattle.sysv_model.specs.declared.limits.TheConstants.{BODY_ROOM}
 use Rattle.sysv_wire.specs.declared.frame.Op.{Op}
 use Rattle.sysv_wire.specs.declared.frame.Op.TheVariants as op
-use Rattle.sysv_wire.specs.declared.frame.TheConstants.{VERSION}
 use Rattle.sysv_wire.specs.declared.request.Ask.{Ask}
 use Rattle.sysv_wire.specs.declared.request.Ask.TheVariants.{Hello, Get, Snd, Rcv, Stat, Set, Rm, Row}
 use Rattle.sysv_wire.specs.declared.request.Request.{Request}
-use Rattle.sysv_wire.specs.Frames.{op_number, frame}
+use Rattle.sysv_wire.specs.Frames.{op_number, version_number, frame}
 use Rattle.sysv_wire.specs.Numbers.{u32_bytes, i32_bytes, i64_bytes}
 
 -- the operation that is asked for
@@ -53,7 +52,7 @@ ask_text o text = if has_text o then text else []
 -- the one spelling of a request
 abbrev pub request_spelling : Request → List ℕ → List ℕ
 request_spelling request text =
-    frame (VERSION ∷ op_number (op_of request.ask) ∷ (ask_fields request.ask ++ ask_text (op_of request.ask) text))
+    frame (version_number request.version ∷ op_number (op_of request.ask) ∷ (ask_fields request.ask ++ ask_text (op_of request.ask) text))
 
 -- the bytes that the fields of an operation take, without a text
 abbrev pub fields_len : Op → ℕ

@@ -1,9 +1,6 @@
 //! What all frames have: their limits, their version and their operation.
 ghost use Rattle.std.specs.Prelude.{◌≡◌, ◌<◌, IfSome, IfNone};
-ghost use Rattle.sysv_wire.specs.Frames.{op_number};
-
-/// The version of the frames, their first byte after the length.
-pub const VERSION: u8 = 1;
+ghost use Rattle.sysv_wire.specs.Frames.{IsNoVersion, op_number, version_number};
 
 /// The least length of a request.
 pub const MIN_REQUEST: u32 = 2;
@@ -19,6 +16,39 @@ pub const MAX_REPLY: u32 = 8203;
 
 /// The greatest mode of a queue, nine bits.
 pub const MAX_MODE: u16 = 0o777;
+
+/// The version of a frame, which is the first byte after its length.
+#[derive(Clone, Copy, PartialEq, Eq, Debug)]
+pub enum Version {
+    /// Version 1.
+    One,
+    /// Version 2: the reply to a hello has the number of slots.
+    Two,
+}
+
+impl Version {
+    /// The version's number, 1 or 2.
+    pub fn number(self) -> u8
+        ensures { result ≡ version_number self }
+    {
+        match self {
+            Version::One => 1,
+            Version::Two => 2,
+        }
+    }
+
+    /// The version with this number, if it is 1 or 2.
+    pub fn of(number: u8) -> Option<Version>
+        ensures some { IfSome result (λ version. version_number version ≡ number) }
+        ensures none { IfNone result (IsNoVersion number) }
+    {
+        match number {
+            1 => Some(Version::One),
+            2 => Some(Version::Two),
+            _ => None,
+        }
+    }
+}
 
 /// What a request asks for and a reply answers.
 #[derive(Clone, Copy, PartialEq, Eq, Debug)]

@@ -1,7 +1,7 @@
 //! Bytes from a reader, by its `read` alone.
-ghost use Rattle.std.specs.Prelude.{◌≡◌, ◌<◌, ◌≤◌, ◌++◌, ◌||◌, [], ℕ, List, take, length, ⊤, IfOk, IfErr, OnOk, MatchOption};
+ghost use Rattle.std.specs.Prelude.{◌≡◌, ◌<◌, ◌≤◌, ◌++◌, [], ℕ, List, take, length, ⊤, IfOk, IfErr, OnOk, MatchOption};
 ghost use Rattle.std.specs.Io.KnownBytes.{Consumes, IsAtEnd};
-ghost use Rattle.sysv_model.specs.Watched.{has_failed, stream_name, stream_of};
+ghost use Rattle.sysv_model.specs.Watched.{failures_of, failures_after, stream_name, stream_of};
 ghost use Rattle.sysv_wire.specs.Faults.{Faults, Breaks, HeadFault, LengthFault, IsPartLength, IsShorter, is_read_fault};
 ghost use Rattle.sysv_wire.specs.Numbers.{u32_bytes};
 
@@ -17,7 +17,7 @@ pub(crate) fn fill<R: Read>(reader: &mut Watched<'_, R>, bytes: &mut [u8]) -> Re
     ensures end { IfOk result (λ count. count < length bytes.new → IsAtEnd (R.remaining (stream_of reader.new))) }
     ensures fault { IfErr result (λ fault. Faults (Breaks (λ _. ⊥)) fault (R.remaining (stream_of reader.old)) (R.remaining (stream_of reader.new))) }
     ensures same { stream_name reader.new ≡ stream_name reader.old }
-    ensures failed { has_failed reader.new ≡ (is_read_fault result || has_failed reader.old) }
+    ensures failed { failures_of reader.new ≡ failures_after (is_read_fault result) (failures_of reader.old) }
 {
     let mut count = 0;
     while count < bytes.len() {
@@ -35,7 +35,7 @@ pub(crate) fn fill_all<R: Read>(reader: &mut Watched<'_, R>, bytes: &mut [u8]) -
     ensures taken { OnOk result (Consumes (R.remaining (stream_of reader.old)) (R.remaining (stream_of reader.new)) bytes.new) }
     ensures fault { IfErr result (λ fault. Faults (Breaks (IsShorter (length bytes.old))) fault (R.remaining (stream_of reader.old)) (R.remaining (stream_of reader.new))) }
     ensures same { stream_name reader.new ≡ stream_name reader.old }
-    ensures failed { has_failed reader.new ≡ (is_read_fault result || has_failed reader.old) }
+    ensures failed { failures_of reader.new ≡ failures_after (is_read_fault result) (failures_of reader.old) }
 {
     let len = bytes.len();
     if fill(reader, bytes)? < len {
@@ -51,7 +51,7 @@ fn read_length<R: Read>(reader: &mut Watched<'_, R>) -> Result<Option<u32>, Faul
         (λ n. Consumes (R.remaining (stream_of reader.old)) (R.remaining (stream_of reader.new)) (u32_bytes n))) }
     ensures fault { IfErr result (λ fault. Faults (Breaks IsPartLength) fault (R.remaining (stream_of reader.old)) (R.remaining (stream_of reader.new))) }
     ensures same { stream_name reader.new ≡ stream_name reader.old }
-    ensures failed { has_failed reader.new ≡ (is_read_fault result || has_failed reader.old) }
+    ensures failed { failures_of reader.new ≡ failures_after (is_read_fault result) (failures_of reader.old) }
 {
     let mut bytes = [0; 4];
     match fill(reader, &mut bytes)? {
@@ -90,7 +90,7 @@ pub(crate) fn read_head<R: Read>(
         (λ n. Consumes (R.remaining (stream_of reader.old)) (R.remaining (stream_of reader.new)) (u32_bytes n ++ head.new) × (length head.old ≤ n) × (n ≤ most))) }
     ensures fault { IfErr result (λ fault. Faults (HeadFault (length head.old) most) fault (R.remaining (stream_of reader.old)) (R.remaining (stream_of reader.new))) }
     ensures same { stream_name reader.new ≡ stream_name reader.old }
-    ensures failed { has_failed reader.new ≡ (is_read_fault result || has_failed reader.old) }
+    ensures failed { failures_of reader.new ≡ failures_after (is_read_fault result) (failures_of reader.old) }
 {
     let Some(length) = read_length(reader)? else {
         return Ok(None);
@@ -111,7 +111,7 @@ pub(crate) fn read_text<R: Read>(
     ensures taken { OnOk result (Consumes (R.remaining (stream_of reader.old)) (R.remaining (stream_of reader.new)) text.new × (length text.new ≡ len)) }
     ensures fault { IfErr result (λ fault. Faults (Breaks (IsShorter len)) fault (R.remaining (stream_of reader.old)) (R.remaining (stream_of reader.new))) }
     ensures same { stream_name reader.new ≡ stream_name reader.old }
-    ensures failed { has_failed reader.new ≡ (is_read_fault result || has_failed reader.old) }
+    ensures failed { failures_of reader.new ≡ failures_after (is_read_fault result) (failures_of reader.old) }
 {
     let mut piece = [0; BLOCK_BYTES];
     let mut left = len;

@@ -4,7 +4,11 @@
 //! ```rust
 //! let ask = Ask::Get { key: 7, flags };
 //! let mut frame = Vec::new(rt.alloc());
-//! write_request(&mut Watched::new(&mut frame), &Request { ask }, &text)?;
+//! let request = Request {
+//!     version: Version::Two,
+//!     ask,
+//! };
+//! write_request(&mut Watched::new(&mut frame), &request, &text)?;
 //! let mut bytes = frame.as_slice();
 //! let read = read_request(&mut Watched::new(&mut bytes), &mut text)?;
 //! ```
@@ -24,7 +28,7 @@ mod request;
 mod requests;
 
 pub use fault::Fault;
-pub use frame::{MAX_MODE, MAX_REPLY, MAX_REQUEST, MIN_REPLY, MIN_REQUEST, Op, VERSION};
+pub use frame::{MAX_MODE, MAX_REPLY, MAX_REQUEST, MIN_REPLY, MIN_REQUEST, Op, Version};
 pub use laws::{one_answer_to_replies, one_answer_to_requests, one_reply, one_request};
 pub use replies::{read_reply, write_reply};
 pub use reply::{Outcome, Reply};

@@ -2,11 +2,12 @@
 ghost use Rattle.std.specs.Prelude.{◌≡◌, ◌≢◌, ◌≤◌, ◌+◌, ◌++◌, ◌∷◌, ◌⊎◌, [], length, false, IfOk, IfErr};
 ghost use Rattle.sysv_model.specs.Errors.{number_of};
 ghost use Rattle.sysv_wire.specs.Frames.{op_number};
+ghost use Rattle.sysv_wire.specs.declared.frame.Version.{Version as Versions};
 ghost use Rattle.sysv_wire.specs.Replies.{FitsOutcome, FitsPerm, FitsRow, FitsStat, IsAnswer, IsAnswerLength, error_number, gives_text, outcome_fields, perm_fields, row_fields, stat_fields};
 ghost use Rattle.sysv_wire.specs.ReplyFaults.{IsBadAnswer, IsBadMark, IsNoError, IsWideAt};
 
 use crate::fault::Fault;
-use crate::frame::{MAX_MODE, Op};
+use crate::frame::{MAX_MODE, Op, Version};
 use crate::number::{only_i32, only_u32, only_u64, take_i32, take_u16, take_u32, take_u64};
 use crate::reply::Outcome;
 use sysv_model::{Errno, Perm, Row, Stat};
@@ -34,10 +35,10 @@ pub(crate) fn errno_of(number: u8) -> Result<Errno, Fault>
 }
 
 /// What an operation gives whose answer has no text, from the fields.
-pub(crate) fn outcome_of(op: Op, fields: &[u8]) -> Result<Outcome, Fault>
-    requires len { IsAnswerLength op (length fields.now) }
+pub(crate) fn outcome_of(version: Version, op: Op, fields: &[u8]) -> Result<Outcome, Fault>
+    requires len { IsAnswerLength version op (length fields.now) }
     requires other { op ≢ Op.Rcv }
-    ensures answer { IfOk result (λ outcome. IsAnswer (op_number op) outcome) }
+    ensures answer { IfOk result (λ outcome. IsAnswer version (op_number op) outcome) }
     ensures fits { IfOk result FitsOutcome }
     ensures error { IfOk result (λ outcome. error_number outcome ≡ 0) }
     ensures text { IfOk result (λ outcome. gives_text outcome ≡ false) }
@@ -45,7 +46,7 @@ pub(crate) fn outcome_of(op: Op, fields: &[u8]) -> Result<Outcome, Fault>
     ensures err { IfErr result (λ fault. (fault ≡ Fault.BadField) × IsBadAnswer op fields.now) }
 {
     match op {
-        Op::Hello => Ok(Outcome::Hello),
+        Op::Hello => Ok(hello_of(version, fields)),
         Op::Get => Ok(Outcome::Get {
             id: only_i32(fields),
         }),
@@ -67,10 +68,27 @@ pub(crate) fn outcome_of(op: Op, fields: &[u8]) -> Result<Outcome, Fault>
     }
 }
 
+/// What a hello's fields say in this version.
+fn hello_of(version: Version, fields: &[u8]) -> Outcome
+    requires { IsAnswerLength version Op.Hello (length fields.now) }
+    ensures answer { IsAnswer version 0 result }
+    ensures fits { FitsOutcome result }
+    ensures error { error_number result ≡ 0 }
+    ensures text { gives_text result ≡ false }
+    ensures spelled { fields.now ≡ outcome_fields result }
+{
+    match version {
+        Version::One => Outcome::Hello,
+        Version::Two => Outcome::HelloSlots {
+            slots: only_u32(fields),
+        },
+    }
+}
+
 /// What a row's mark and the bytes after it say.
 fn marked_row(mark: u8, rest: &[u8]) -> Result<Outcome, Fault>
     requires { (length rest.now ≡ 0) ⊎ (length rest.now ≡ 22) }
-    ensures answer { IfOk result (λ outcome. IsAnswer 7 outcome) }
+    ensures answer { (version : Versions) → IfOk result (λ outcome. IsAnswer version 7 outcome) }
     ensures fits { IfOk result FitsOutcome }
     ensures error { IfOk result (λ outcome. error_number outcome ≡ 0) }
     ensures text { IfOk result (λ outcome. gives_text outcome ≡ false) }

@@ -1,7 +1,7 @@
 //! Message bodies, and frames that end with one, to a writer.
-ghost use Rattle.std.specs.Prelude.{◌≡◌, ◌++◌, ◌||◌, is_err, OnOk, OnErr};
+ghost use Rattle.std.specs.Prelude.{◌≡◌, ◌++◌, is_err, OnOk, OnErr};
 ghost use Rattle.std.specs.Io.KnownBytes.{Appends};
-ghost use Rattle.sysv_model.specs.Watched.{has_failed, stream_name, stream_of};
+ghost use Rattle.sysv_model.specs.Watched.{failures_of, failures_after, stream_name, stream_of};
 ghost use Rattle.sysv_model.specs.Writing.{AppendsPrefix};
 
 use std::io::Write;
@@ -15,7 +15,7 @@ pub(crate) fn write_text<W: Write>(
     ensures ok { OnOk result (Appends (W.contents (stream_of writer.old)) (W.contents (stream_of writer.new)) text.now) }
     ensures err { OnErr result (AppendsPrefix (W.contents (stream_of writer.old)) (W.contents (stream_of writer.new)) text.now) }
     ensures same { stream_name writer.new ≡ stream_name writer.old }
-    ensures failed { has_failed writer.new ≡ (is_err result || has_failed writer.old) }
+    ensures failed { failures_of writer.new ≡ failures_after (is_err result) (failures_of writer.old) }
 {
     let blocks = text.len().div_ceil(BLOCK_BYTES) as u32;
     for k in 0..blocks {
@@ -33,7 +33,7 @@ pub(crate) fn write_both<W: Write>(
     ensures ok { OnOk result (Appends (W.contents (stream_of writer.old)) (W.contents (stream_of writer.new)) (front.now ++ text.now)) }
     ensures err { OnErr result (AppendsPrefix (W.contents (stream_of writer.old)) (W.contents (stream_of writer.new)) (front.now ++ text.now)) }
     ensures same { stream_name writer.new ≡ stream_name writer.old }
-    ensures failed { has_failed writer.new ≡ (is_err result || has_failed writer.old) }
+    ensures failed { failures_of writer.new ≡ failures_after (is_err result) (failures_of writer.old) }
 {
     writer.write_out(front)?;
     write_text(writer, text)

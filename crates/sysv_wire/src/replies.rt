@@ -1,19 +1,20 @@
 //! Replies, read and written.
-ghost use Rattle.std.specs.Prelude.{◌≡◌, ◌≢◌, ◌≤◌, ◌+◌, ◌-◌, ◌++◌, ◌∷◌, ◌⊎◌, ◌||◌, [], ℕ, List, Option, Some, Result, Err, length, ◌==◌, ◌↔◌, true, false, IsTrue, is_err, IfOk, IfErr, OnOk, OnErr};
+ghost use Rattle.std.specs.Prelude.{◌≡◌, ◌≢◌, ◌≤◌, ◌+◌, ◌-◌, ◌++◌, ◌∷◌, ◌⊎◌, [], ℕ, List, Option, Some, Result, Err, length, ◌==◌, ◌↔◌, true, false, IsTrue, is_err, IfOk, IfErr, OnOk, OnErr};
 ghost use Rattle.std.specs.Io.KnownBytes.{Appends, Consumes};
-ghost use Rattle.sysv_model.specs.Watched.{has_failed, stream_name, stream_of};
+ghost use Rattle.sysv_model.specs.Watched.{failures_of, failures_after, stream_name, stream_of};
 ghost use Rattle.sysv_model.specs.Writing.{AppendsPrefix};
 ghost use Rattle.sysv_wire.specs.Faults.{Faults, is_read_fault};
-ghost use Rattle.sysv_wire.specs.Frames.{op_number};
+ghost use Rattle.sysv_wire.specs.Frames.{op_number, version_number};
+ghost use Rattle.sysv_wire.specs.declared.frame.Version.{Version as Versions};
 ghost use Rattle.sysv_wire.specs.Numbers.{u32_bytes};
 ghost use Rattle.sysv_wire.specs.OneAnswer.{ReplyAt};
 ghost use Rattle.sysv_wire.specs.Reading.{ReadsReply};
-ghost use Rattle.sysv_wire.specs.Replies.{FitsOutcome, IsAnswer, IsAnswerLength, IsRestLength, count_fields, error_number, gives_text, outcome_fields, outcome_text, perm_fields, reply_spelling, row_fields, stat_fields, time_fields};
+ghost use Rattle.sysv_wire.specs.Replies.{FitsOutcome, IsAnswer, IsAnswerLength, IsRestLength, count_fields, error_number, gives_text, hello_len as the_hello_len, outcome_fields, outcome_text, perm_fields, reply_spelling, row_fields, stat_fields, time_fields};
 ghost use Rattle.sysv_wire.specs.ReplyFaults.{AnswerFault, RestFault};
 
 use crate::fault::Fault;
 use crate::fields::Fields;
-use crate::frame::{MAX_REPLY, Op, VERSION};
+use crate::frame::{MAX_REPLY, Op, Version};
 use crate::input::{fill_all, read_head, read_text};
 use crate::number::only_i64;
 use crate::outcome::{errno_of, outcome_of};
@@ -29,39 +30,49 @@ const MAX_FIELDS: usize = 66;
 const MAX_REST: usize = 8200;
 
 /// Judges the version, the operation and then the length that the operation wants with this error; the
-/// operation, and the bytes after the error.
-fn judge(length: u32, version: u8, number: u8, error: u8) -> Result<(Op, usize), Fault>
+/// version, the operation, and the bytes after the error.
+fn judge(length: u32, version: u8, number: u8, error: u8) -> Result<(Version, Op, usize), Fault>
     requires { 3 ≤ length }
-    ensures version { OnOk result (version ≡ VERSION) }
-    ensures op { IfOk result (λ found. op_number found.0 ≡ number) }
-    ensures rest { IfOk result (λ found. (found.1 ≡ length - 3) × IsRestLength found.0 error found.1) }
+    ensures version { IfOk result (λ found. version_number found.0 ≡ version) }
+    ensures op { IfOk result (λ found. op_number found.1 ≡ number) }
+    ensures rest { IfOk result (λ found. (found.2 ≡ length - 3) × IsRestLength found.0 found.1 error found.2) }
     ensures fault { IfErr result (AnswerFault length version number error) }
 {
-    if version != VERSION {
+    let Some(version) = Version::of(version) else {
         return Err(Fault::BadField);
-    }
+    };
     let Some(op) = Op::of(number) else {
         return Err(Fault::BadOp);
     };
     let rest = length as usize - 3;
     let is_wanted = if error == 0 {
-        may_take(op, rest)
+        may_take(version, op, rest)
     } else {
         rest == 0
     };
     if is_wanted {
-        Ok((op, rest))
+        Ok((version, op, rest))
     } else {
         Err(Fault::BadField)
     }
 }
 
+/// The bytes after the error of a hello's reply.
+fn hello_len(version: Version) -> usize
+    ensures { result ≡ the_hello_len version }
+{
+    match version {
+        Version::One => 0,
+        Version::Two => 4,
+    }
+}
+
 /// Whether what an operation gives may take so many bytes.
-fn may_take(op: Op, rest: usize) -> bool
-    ensures { IsTrue result ↔ IsAnswerLength op rest }
+fn may_take(version: Version, op: Op, rest: usize) -> bool
+    ensures { IsTrue result ↔ IsAnswerLength version op rest }
 {
     match op {
-        Op::Hello => rest == 0,
+        Op::Hello => rest == hello_len(version),
         Op::Get => rest == 4,
         Op::Snd => rest == 0,
         Op::Rcv => rest >= 8,
@@ -73,23 +84,28 @@ fn may_take(op: Op, rest: usize) -> bool
 }
 
 /// Reads so many bytes, which are the fields of what an operation other than a receive gives.
-fn read_fields<R: Read>(reader: &mut Watched<'_, R>, op: Op, rest: usize) -> Result<Outcome, Fault>
-    requires len { IsAnswerLength op rest }
+fn read_fields<R: Read>(
+    reader: &mut Watched<'_, R>,
+    version: Version,
+    op: Op,
+    rest: usize,
+) -> Result<Outcome, Fault>
+    requires len { IsAnswerLength version op rest }
     requires other { op ≢ Op.Rcv }
     ensures taken { IfOk result (λ outcome. Consumes (R.remaining (stream_of reader.old)) (R.remaining (stream_of reader.new)) (outcome_fields outcome)) }
     ensures len { IfOk result (λ outcome. length (outcome_fields outcome) ≡ rest) }
-    ensures answer { IfOk result (λ outcome. IsAnswer (op_number op) outcome) }
+    ensures answer { IfOk result (λ outcome. IsAnswer version (op_number op) outcome) }
     ensures fits { IfOk result FitsOutcome }
     ensures error { IfOk result (λ outcome. error_number outcome ≡ 0) }
     ensures text { IfOk result (λ outcome. gives_text outcome ≡ false) }
     ensures fault { IfErr result (λ fault. Faults (RestFault op 0 rest) fault (R.remaining (stream_of reader.old)) (R.remaining (stream_of reader.new))) }
     ensures same { stream_name reader.new ≡ stream_name reader.old }
-    ensures failed { has_failed reader.new ≡ (is_read_fault result || has_failed reader.old) }
+    ensures failed { failures_of reader.new ≡ failures_after (is_read_fault result) (failures_of reader.old) }
 {
     let mut fields = [0; MAX_FIELDS];
     let fields = &mut fields[..rest];
     fill_all(reader, fields)?;
-    outcome_of(op, fields)
+    outcome_of(version, op, fields)
 }
 
 /// Reads so many bytes, which are the type and the text of a message.
@@ -103,13 +119,13 @@ fn read_message<R: Read>(
     requires empty { text.old ≡ [] }
     ensures taken { IfOk result (λ outcome. Consumes (R.remaining (stream_of reader.old)) (R.remaining (stream_of reader.new)) (outcome_fields outcome ++ text.new)) }
     ensures len { IfOk result (λ outcome. length (outcome_fields outcome ++ text.new) ≡ rest) }
-    ensures answer { IfOk result (λ outcome. IsAnswer 3 outcome) }
+    ensures answer { (version : Versions) → IfOk result (λ outcome. IsAnswer version 3 outcome) }
     ensures fits { IfOk result FitsOutcome }
     ensures error { IfOk result (λ outcome. error_number outcome ≡ 0) }
     ensures text { IfOk result (λ outcome. gives_text outcome ≡ true) }
     ensures fault { IfErr result (λ fault. Faults (RestFault Op.Rcv 0 rest) fault (R.remaining (stream_of reader.old)) (R.remaining (stream_of reader.new))) }
     ensures same { stream_name reader.new ≡ stream_name reader.old }
-    ensures failed { has_failed reader.new ≡ (is_read_fault result || has_failed reader.old) }
+    ensures failed { failures_of reader.new ≡ failures_after (is_read_fault result) (failures_of reader.old) }
 {
     let mut bytes = [0; 8];
     fill_all(reader, &mut bytes)?;
@@ -121,23 +137,24 @@ fn read_message<R: Read>(
 /// Reads what stands after the error of a reply.
 fn read_rest<R: Read>(
     reader: &mut Watched<'_, R>,
+    version: Version,
     op: Op,
     error: u8,
     rest: usize,
     text: &mut Body,
 ) -> Result<Outcome, Fault>
-    requires len { IsRestLength op error rest }
+    requires len { IsRestLength version op error rest }
     requires most { rest ≤ MAX_REST }
     requires empty { text.old ≡ [] }
     ensures taken { IfOk result (λ outcome. Consumes (R.remaining (stream_of reader.old)) (R.remaining (stream_of reader.new)) (outcome_fields outcome ++ outcome_text outcome text.new)) }
     ensures len { IfOk result (λ outcome. rest ≡ length (outcome_fields outcome ++ outcome_text outcome text.new)) }
-    ensures answer { IfOk result (λ outcome. IsAnswer (op_number op) outcome) }
+    ensures answer { IfOk result (λ outcome. IsAnswer version (op_number op) outcome) }
     ensures fits { IfOk result FitsOutcome }
     ensures error { IfOk result (λ outcome. error_number outcome ≡ error) }
     ensures text { IfOk result (λ outcome. text.new ≡ outcome_text outcome text.new) }
     ensures fault { IfErr result (λ fault. Faults (RestFault op error rest) fault (R.remaining (stream_of reader.old)) (R.remaining (stream_of reader.new))) }
     ensures same { stream_name reader.new ≡ stream_name reader.old }
-    ensures failed { has_failed reader.new ≡ (is_read_fault result || has_failed reader.old) }
+    ensures failed { failures_of reader.new ≡ failures_after (is_read_fault result) (failures_of reader.old) }
 {
     if error != 0 {
         let error = errno_of(error)?;
@@ -145,7 +162,7 @@ fn read_rest<R: Read>(
     }
     match op {
         Op::Rcv => read_message(reader, rest, text),
-        _ => read_fields(reader, op, rest),
+        _ => read_fields(reader, version, op, rest),
     }
 }
 
@@ -164,9 +181,9 @@ pub fn read_reply<R: Read>(
     // The answer that fits what the reader had left is given, unless the reader fails.
     ensures only { (input : List ℕ) (answer : Result (Option Reply) Fault) → R.remaining (stream_of reader.old) ≡ Some input → ReplyAt input answer →
         (result ≡ answer) ⊎ (result ≡ Err Fault.Read) }
-    // The reader is the same one, and has failed exactly where it had before or the answer is `Read`.
+    // The reader is the same one, and has failed in this call exactly where the answer is `Read`.
     ensures same { stream_name reader.new ≡ stream_name reader.old }
-    ensures failed { has_failed reader.new ≡ (is_read_fault result || has_failed reader.old) }
+    ensures failed { failures_of reader.new ≡ failures_after (is_read_fault result) (failures_of reader.old) }
 {
     next_reply(reader, text)
 }
@@ -175,16 +192,17 @@ pub fn read_reply<R: Read>(
 fn next_reply<R: Read>(reader: &mut Watched<'_, R>, text: &mut Body) -> Result<Option<Reply>, Fault>
     ensures reads { ReadsReply (R.remaining (stream_of reader.old)) (R.remaining (stream_of reader.new)) result text.new }
     ensures same { stream_name reader.new ≡ stream_name reader.old }
-    ensures failed { has_failed reader.new ≡ (is_read_fault result || has_failed reader.old) }
+    ensures failed { failures_of reader.new ≡ failures_after (is_read_fault result) (failures_of reader.old) }
 {
     text.clear();
     let mut head = [0; 3];
     let Some(length) = read_head(reader, MAX_REPLY, &mut head)? else {
         return Ok(None);
     };
-    let (op, rest) = judge(length, head[0], head[1], head[2])?;
-    let result = read_rest(reader, op, head[2], rest, text)?;
+    let (version, op, rest) = judge(length, head[0], head[1], head[2])?;
+    let result = read_rest(reader, version, op, head[2], rest, text)?;
     Ok(Some(Reply {
+        version,
         op: op.number(),
         result,
     }))
@@ -198,13 +216,13 @@ pub fn write_reply<W: Write>(
     reply: &Reply,
     text: &Body,
 ) -> Result<(), WriteFault>
-    requires answer { IsAnswer reply.now.op reply.now.result }
+    requires answer { IsAnswer reply.now.version reply.now.op reply.now.result }
     requires text { length text.now ≤ MESSAGE_BYTES }
     ensures ok { OnOk result (Appends (W.contents (stream_of writer.old)) (W.contents (stream_of writer.new)) (reply_spelling reply.now text.now)) }
     ensures err { OnErr result (AppendsPrefix (W.contents (stream_of writer.old)) (W.contents (stream_of writer.new)) (reply_spelling reply.now text.now)) }
-    // The writer is the same one, and has failed exactly where it had before or the answer is a fault.
+    // The writer is the same one, and has failed in this call exactly where the answer is a fault.
     ensures same { stream_name writer.new ≡ stream_name writer.old }
-    ensures failed { has_failed writer.new ≡ (is_err result || has_failed writer.old) }
+    ensures failed { failures_of writer.new ≡ failures_after (is_err result) (failures_of writer.old) }
 {
     let fields = fields_of(&reply.result);
     if takes_text(&reply.result) {
@@ -230,6 +248,7 @@ fn error_of(outcome: &Outcome) -> u8
     match outcome {
         Outcome::Refused(error) => error.number(),
         Outcome::Hello => 0,
+        Outcome::HelloSlots { .. } => 0,
         Outcome::Get { .. } => 0,
         Outcome::Snd => 0,
         Outcome::Rcv { .. } => 0,
@@ -245,11 +264,11 @@ fn error_of(outcome: &Outcome) -> u8
 fn head_of(reply: &Reply, fields: &Fields, text_len: usize) -> Fields
     requires fields { length fields.now ≤ MAX_FIELDS }
     requires text { text_len ≤ MESSAGE_BYTES }
-    ensures { result ≡ u32_bytes (3 + length fields.now + text_len) ++ (VERSION ∷ reply.now.op ∷ error_number reply.now.result ∷ fields.now) }
+    ensures { result ≡ u32_bytes (3 + length fields.now + text_len) ++ (version_number reply.now.version ∷ reply.now.op ∷ error_number reply.now.result ∷ fields.now) }
 {
     let mut frame = Fields::new();
     frame.put_u32((3 + fields.bytes().len() + text_len) as u32);
-    frame.put_u8(VERSION);
+    frame.put_u8(reply.version.number());
     frame.put_u8(reply.op);
     frame.put_u8(error_of(&reply.result));
     frame.put(fields.bytes());
@@ -265,6 +284,7 @@ fn fields_of(outcome: &Outcome) -> Fields
     match *outcome {
         Outcome::Refused(_) => {}
         Outcome::Hello => {}
+        Outcome::HelloSlots { slots } => fields.put_u32(slots),
         Outcome::Get { id } => fields.put_i32(id),
         Outcome::Snd => {}
         Outcome::Rcv { mtype } => fields.put_i64(mtype),

@@ -1,9 +1,12 @@
 //! What a server answers.
+use crate::frame::Version;
 use sysv_model::{Errno, Row, Stat};
 
 /// One reply. The text of a receive's stands beside it, in a `Body`.
 #[derive(Clone, Copy, PartialEq, Eq, Debug)]
 pub struct Reply {
+    /// The version of its frame, that of the request.
+    pub version: Version,
     /// The number of the operation that is answered, 0 to 7.
     pub op: u8,
     /// What is answered.
@@ -15,8 +18,13 @@ pub struct Reply {
 pub enum Outcome {
     /// The operation is refused.
     Refused(Errno),
-    /// The caller is known.
+    /// The caller is known, in version 1.
     Hello,
+    /// The caller is known, in version 2.
+    HelloSlots {
+        /// The number of queue slots: a row may be asked for each number below it.
+        slots: u32,
+    },
     /// `msgget`.
     Get {
         /// The queue's identifier.

@@ -2,12 +2,14 @@
 ghost use Rattle.std.specs.Prelude.{◌≡◌};
 ghost use Rattle.sysv_wire.specs.Requests.{op_of};
 
-use crate::frame::Op;
+use crate::frame::{Op, Version};
 use sysv_model::{Cred, Flags, SetTo};
 
 /// One request. The text of a send stands beside it, in a `Body`.
 #[derive(Clone, Copy, PartialEq, Eq, Debug)]
 pub struct Request {
+    /// The version of its frame.
+    pub version: Version,
     /// What is asked for.
     pub ask: Ask,
 }

@@ -1,10 +1,10 @@
 //! Requests, read and written.
-ghost use Rattle.std.specs.Prelude.{◌≡◌, ◌≤◌, ◌+◌, ◌-◌, ◌<◌, ◌++◌, ◌∷◌, ◌⊎◌, ◌||◌, [], ℕ, List, Option, Some, Result, Err, length, is_err, IfOk, IfErr, OnOk, OnErr};
+ghost use Rattle.std.specs.Prelude.{◌≡◌, ◌≤◌, ◌+◌, ◌-◌, ◌<◌, ◌++◌, ◌∷◌, ◌⊎◌, [], ℕ, List, Option, Some, Result, Err, length, is_err, IfOk, IfErr, OnOk, OnErr};
 ghost use Rattle.std.specs.Io.KnownBytes.{Appends, Consumes};
-ghost use Rattle.sysv_model.specs.Watched.{has_failed, stream_name, stream_of};
+ghost use Rattle.sysv_model.specs.Watched.{failures_of, failures_after, stream_name, stream_of};
 ghost use Rattle.sysv_model.specs.Writing.{AppendsPrefix};
 ghost use Rattle.sysv_wire.specs.Faults.{Faults, Breaks, IsShorter, OpFault, is_read_fault};
-ghost use Rattle.sysv_wire.specs.Frames.{op_number};
+ghost use Rattle.sysv_wire.specs.Frames.{op_number, version_number};
 ghost use Rattle.sysv_wire.specs.Numbers.{u32_bytes};
 ghost use Rattle.sysv_wire.specs.OneAnswer.{RequestAt};
 ghost use Rattle.sysv_wire.specs.Reading.{ReadsRequest};
@@ -12,7 +12,7 @@ ghost use Rattle.sysv_wire.specs.Requests.{FitsAsk, IsRequestLength, ask_fields,
 
 use crate::fault::Fault;
 use crate::fields::Fields;
-use crate::frame::{MAX_REQUEST, Op, VERSION};
+use crate::frame::{MAX_REQUEST, Op, Version};
 use crate::input::{fill_all, read_head, read_text};
 use crate::number::{only_i32, only_u32, take_i32, take_i64, take_u32};
 use crate::output::write_both;
@@ -45,14 +45,14 @@ fn takes_text(op: Op) -> bool
 }
 
 /// Judges the version, the operation and then the length that the operation wants.
-fn judge(length: u32, version: u8, number: u8) -> Result<Op, Fault>
-    ensures version { OnOk result (version ≡ VERSION) }
-    ensures op { IfOk result (λ op. (op_number op ≡ number) × IsRequestLength op length) }
+fn judge(length: u32, version: u8, number: u8) -> Result<(Version, Op), Fault>
+    ensures version { IfOk result (λ found. version_number found.0 ≡ version) }
+    ensures op { IfOk result (λ found. (op_number found.1 ≡ number) × IsRequestLength found.1 length) }
     ensures fault { IfErr result (OpFault length version number) }
 {
-    if version != VERSION {
+    let Some(version) = Version::of(version) else {
         return Err(Fault::BadField);
-    }
+    };
     let Some(op) = Op::of(number) else {
         return Err(Fault::BadOp);
     };
@@ -64,7 +64,7 @@ fn judge(length: u32, version: u8, number: u8) -> Result<Op, Fault>
         length == least
     };
     if is_wanted {
-        Ok(op)
+        Ok((version, op))
     } else {
         Err(Fault::BadField)
     }
@@ -220,7 +220,7 @@ fn read_ask<R: Read>(
     ensures text { OnOk result (text.new ≡ ask_text op text.new) }
     ensures fault { IfErr result (λ fault. Faults (Breaks (IsShorter (whole - 2))) fault (R.remaining (stream_of reader.old)) (R.remaining (stream_of reader.new))) }
     ensures same { stream_name reader.new ≡ stream_name reader.old }
-    ensures failed { has_failed reader.new ≡ (is_read_fault result || has_failed reader.old) }
+    ensures failed { failures_of reader.new ≡ failures_after (is_read_fault result) (failures_of reader.old) }
 {
     let mut fields = [0; MAX_FIELDS];
     let len = len_of(op);
@@ -247,9 +247,9 @@ pub fn read_request<R: Read>(
     // The answer that fits what the reader had left is given, unless the reader fails.
     ensures only { (input : List ℕ) (answer : Result (Option Request) Fault) → R.remaining (stream_of reader.old) ≡ Some input → RequestAt input answer →
         (result ≡ answer) ⊎ (result ≡ Err Fault.Read) }
-    // The reader is the same one, and has failed exactly where it had before or the answer is `Read`.
+    // The reader is the same one, and has failed in this call exactly where the answer is `Read`.
     ensures same { stream_name reader.new ≡ stream_name reader.old }
-    ensures failed { has_failed reader.new ≡ (is_read_fault result || has_failed reader.old) }
+    ensures failed { failures_of reader.new ≡ failures_after (is_read_fault result) (failures_of reader.old) }
 {
     next_request(reader, text)
 }
@@ -261,16 +261,16 @@ fn next_request<R: Read>(
 ) -> Result<Option<Request>, Fault>
     ensures reads { ReadsRequest (R.remaining (stream_of reader.old)) (R.remaining (stream_of reader.new)) result text.new }
     ensures same { stream_name reader.new ≡ stream_name reader.old }
-    ensures failed { has_failed reader.new ≡ (is_read_fault result || has_failed reader.old) }
+    ensures failed { failures_of reader.new ≡ failures_after (is_read_fault result) (failures_of reader.old) }
 {
     text.clear();
     let mut head = [0; 2];
     let Some(length) = read_head(reader, MAX_REQUEST, &mut head)? else {
         return Ok(None);
     };
-    let op = judge(length, head[0], head[1])?;
+    let (version, op) = judge(length, head[0], head[1])?;
     let ask = read_ask(reader, length, op, text)?;
-    Ok(Some(Request { ask }))
+    Ok(Some(Request { version, ask }))
 }
 
 /// Writes one request, and with a send the text, by `write` alone; with any other request the text is
@@ -283,30 +283,30 @@ pub fn write_request<W: Write>(
 ) -> Result<(), WriteFault>
     ensures ok { OnOk result (Appends (W.contents (stream_of writer.old)) (W.contents (stream_of writer.new)) (request_spelling request.now text.now)) }
     ensures err { OnErr result (AppendsPrefix (W.contents (stream_of writer.old)) (W.contents (stream_of writer.new)) (request_spelling request.now text.now)) }
-    // The writer is the same one, and has failed exactly where it had before or the answer is a fault.
+    // The writer is the same one, and has failed in this call exactly where the answer is a fault.
     ensures same { stream_name writer.new ≡ stream_name writer.old }
-    ensures failed { has_failed writer.new ≡ (is_err result || has_failed writer.old) }
+    ensures failed { failures_of writer.new ≡ failures_after (is_err result) (failures_of writer.old) }
 {
     let op = request.ask.op();
     let fields = fields_of(&request.ask);
     if takes_text(op) {
-        let head = head_of(op, &fields, text.len());
+        let head = head_of(request.version, op, &fields, text.len());
         write_both(writer, head.bytes(), text)
     } else {
-        let head = head_of(op, &fields, 0);
+        let head = head_of(request.version, op, &fields, 0);
         writer.write_out(head.bytes())
     }
 }
 
 /// The length, the version, the operation and the fields of a request, whose text has this many bytes.
-fn head_of(op: Op, fields: &Fields, text_len: usize) -> Fields
+fn head_of(version: Version, op: Op, fields: &Fields, text_len: usize) -> Fields
     requires fields { length fields.now ≤ MAX_FIELDS }
     requires text { text_len ≤ BODY_ROOM }
-    ensures { result ≡ u32_bytes (2 + length fields.now + text_len) ++ (VERSION ∷ op_number op ∷ fields.now) }
+    ensures { result ≡ u32_bytes (2 + length fields.now + text_len) ++ (version_number version ∷ op_number op ∷ fields.now) }
 {
     let mut frame = Fields::new();
     frame.put_u32((2 + fields.bytes().len() + text_len) as u32);
-    frame.put_u8(VERSION);
+    frame.put_u8(version.number());
     frame.put_u8(op.number());
     frame.put(fields.bytes());
     frame

@@ -204,12 +204,12 @@ fn a_get_begins(rt: HostRuntime) {
     let get = getting(Flags::IPC_CREAT);
     let begun = |begun| show(get.begun(begun));
     assert!(rt; show(Getting::begin(USER, 7, Flags::IPC_CREAT)) == Shown::Begin(get));
-    assert!(rt; begun(Begun::Made { id: 67 }) == Shown::Install { get, id: 67 });
+    assert!(rt; begun(Begun::Made { id: 259 }) == Shown::Install { get, id: 259 });
     assert!(rt;
-        begun(Begun::Found { id: 67, settled: 5 })
+        begun(Begun::Found { id: 259, settled: 5 })
             == Shown::Probe {
                 get,
-                id: 67,
+                id: 259,
                 settled: 5
             }
     );
@@ -220,9 +220,9 @@ fn a_get_begins(rt: HostRuntime) {
 
 #[test]
 fn a_get_makes_a_queue(rt: HostRuntime) {
-    assert!(rt; show(Getting::installed(67, true)) == Shown::Settle { id: 67 });
-    assert!(rt; show(Getting::settled(67)) == Shown::Id(67));
-    assert!(rt; show(Getting::installed(67, false)) == Shown::Unmake { id: 67 });
+    assert!(rt; show(Getting::installed(259, true)) == Shown::Settle { id: 259 });
+    assert!(rt; show(Getting::settled(259)) == Shown::Id(259));
+    assert!(rt; show(Getting::installed(259, false)) == Shown::Unmake { id: 259 });
     assert!(rt; show(Getting::unmade()) == Shown::Refused(Errno::ENOSPC));
 }
 
@@ -230,18 +230,18 @@ fn a_get_makes_a_queue(rt: HostRuntime) {
 fn a_get_probes_what_it_found(rt: HostRuntime) {
     let get = getting(Flags::IPC_CREAT);
     let wait = Wait::Settled { above: 5, get };
-    let probed = |found| show(get.probed(67, 5, found));
+    let probed = |found| show(get.probed(259, 5, found));
     assert!(rt; probed(Probe::Gone) == Shown::Waits(wait));
     assert!(rt; probed(Probe::Denied) == Shown::Refused(Errno::EACCES));
-    assert!(rt; probed(Probe::Granted) == Shown::Id(67));
+    assert!(rt; probed(Probe::Granted) == Shown::Id(259));
     let get = getting(Flags::IPC_CREAT | Flags::IPC_EXCL);
     let wait = Wait::Settled { above: 5, get };
-    let probed = |found| show(get.probed(67, 5, found));
+    let probed = |found| show(get.probed(259, 5, found));
     assert!(rt; probed(Probe::Gone) == Shown::Waits(wait));
     assert!(rt; probed(Probe::Denied) == Shown::Refused(Errno::EEXIST));
     assert!(rt; probed(Probe::Granted) == Shown::Refused(Errno::EEXIST));
     let old = getting(Flags::IPC_EXCL);
-    assert!(rt; show(old.probed(67, 5, Probe::Granted)) == Shown::Id(67));
+    assert!(rt; show(old.probed(259, 5, Probe::Granted)) == Shown::Id(259));
 }
 
 #[test]
@@ -264,8 +264,8 @@ fn the_attributes_are_told(rt: HostRuntime) {
         rtime: 11,
         ctime: 12,
     };
-    let read = Shown::Stat { cred: USER, id: 67 };
-    assert!(rt; show(begin_stat(USER, 67)) == read);
+    let read = Shown::Stat { cred: USER, id: 259 };
+    assert!(rt; show(begin_stat(USER, 259)) == read);
     assert!(rt; show(begin_stat(USER, -1)) == Shown::Refused(Errno::EINVAL));
     assert!(rt; show(stat_told(Ok(stat))) == Shown::Told(stat));
     assert!(rt; show(stat_told(Err(Errno::EACCES))) == Shown::Refused(Errno::EACCES));
@@ -281,10 +281,10 @@ fn a_queue_is_changed(rt: HostRuntime) {
     };
     let set = Shown::Set {
         cred: USER,
-        id: 67,
+        id: 259,
         to,
     };
-    assert!(rt; show(begin_set(USER, 67, to)) == set);
+    assert!(rt; show(begin_set(USER, 259, to)) == set);
     assert!(rt; show(begin_set(USER, -1, to)) == Shown::Refused(Errno::EINVAL));
     assert!(rt; show(set_done(Ok(()))) == Shown::SetGiveback);
     assert!(rt; show(set_done(Err(Errno::EPERM))) == Shown::Refused(Errno::EPERM));
@@ -296,10 +296,10 @@ fn a_queue_is_changed(rt: HostRuntime) {
 
 #[test]
 fn a_removal_begins(rt: HostRuntime) {
-    let remove = Shown::Remove { cred: USER, id: 67 };
-    assert!(rt; show(begin_remove(USER, 67)) == remove);
+    let remove = Shown::Remove { cred: USER, id: 259 };
+    assert!(rt; show(begin_remove(USER, 259)) == remove);
     assert!(rt; show(begin_remove(USER, -1)) == Shown::Refused(Errno::EINVAL));
-    assert!(rt; show(removed(67, Err(Errno::EPERM))) == Shown::Refused(Errno::EPERM));
+    assert!(rt; show(removed(259, Err(Errno::EPERM))) == Shown::Refused(Errno::EPERM));
 }
 
 #[test]
@@ -467,7 +467,14 @@ fn a_receive_begins(rt: HostRuntime) {
     let begin = |id, flags| show(Receiving::begin(USER, id, 9, -4, flags));
     assert!(rt; begin(0, Flags::IPC_NOWAIT) == Shown::Take(receiving(false)));
     assert!(rt; begin(-1, Flags::IPC_NOWAIT) == Shown::Refused(Errno::EINVAL));
-    assert!(rt; begin(0, Flags::MSG_EXCEPT) == Shown::Refused(Errno::EINVAL));
+    let except = Flags::IPC_NOWAIT.union(Flags::MSG_EXCEPT);
+    assert!(rt; begin(0, except) == Shown::Take(receiving(false)));
+    let another = Receiving {
+        selector: Selector::Except(5),
+        ..receiving(false)
+    };
+    let begun = show(Receiving::begin(USER, 0, 9, 5, except));
+    assert!(rt; begun == Shown::Take(another));
 }
 
 #[test]

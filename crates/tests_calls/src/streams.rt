@@ -28,7 +28,7 @@ fn lines_are_found_one_by_one(rt: HostRuntime) {
         read_on(&mut input, &mut output, &mut reader, &mut writer),
         Ok(0)
     );
-    assert!(rt; !reader.has_failed() && !writer.has_failed());
+    assert!(rt; reader.failures() == 0 && writer.failures() == 0);
 }
 
 #[test]
@@ -46,6 +46,6 @@ fn answers_are_written(rt: HostRuntime) {
     assert!(rt; written.is_empty());
     let mut writer = Watched::new(&mut written);
     assert!(rt; output.write_to(&mut writer).is_ok());
-    assert!(rt; !writer.has_failed());
+    assert!(rt; writer.failures() == 0);
     assert!(rt; written.as_slice() == b"1 worn\nline 2: badhello\n".as_slice());
 }

@@ -268,9 +268,50 @@ fn a_receive_takes_what_it_names(rt: HostRuntime) {
         assert_nothing(&rt, world.step(start(2, call)));
         assert_ends(&rt, &mut world, (2, outcome, Some(text)));
     }
-    let call = receive_of(&rt, alloc, 9, 0, Flags::MSG_EXCEPT);
+    assert_is(&rt, world.end(), 1024);
+}
+
+#[test]
+fn a_receive_takes_every_type_but_one(rt: HostRuntime) {
+    let alloc = rt.alloc();
+    let mut world = world_with_queue(&rt, alloc, 2);
+    let sent: [(i64, &[u8]); 3] = [(5, b"a"), (2, b"b"), (5, b"c")];
+    for (mtype, text) in sent {
+        assert_sends_type(&rt, alloc, &mut world, 1, mtype, text);
+    }
+    let flags = Flags::IPC_NOWAIT.union(Flags::MSG_EXCEPT);
+    let none = Outcome::Refused(Errno::ENOMSG);
+    let got = |mtype| Outcome::Got { mtype, len: 1 };
+    let receives: [(i64, Outcome, &[u8]); 4] = [
+        (5, got(2), b"b"),
+        (5, none, b""),
+        (0, got(5), b"a"),
+        (-5, got(5), b"c"),
+    ];
+    for (mtype, outcome, text) in receives {
+        let call = receive_of(&rt, alloc, 9, mtype, flags);
+        assert_nothing(&rt, world.step(start(2, call)));
+        assert_ends(&rt, &mut world, (2, outcome, Some(text)));
+    }
+    assert_is(&rt, world.end(), 1024);
+}
+
+#[test]
+fn the_body_of_a_send_comes_back_once(rt: HostRuntime) {
+    let alloc = rt.alloc();
+    let mut world = world_with_queue(&rt, alloc, 2);
+    assert!(rt; world.spare().is_none());
+    assert_nothing(&rt, world.step(send(&rt, alloc, 1, 5, b"kept")));
+    assert!(rt; world.spare().is_none());
+    assert_ends(&rt, &mut world, (1, Outcome::Zero, None));
+    assert!(rt; matches!(world.spare(), Some(body) if body.len() == 0));
+    assert!(rt; world.spare().is_none());
+    let got = Outcome::Got { mtype: 5, len: 4 };
+    assert_receives(&rt, alloc, &mut world, (2, got, Some(b"kept")));
+    assert!(rt; world.spare().is_none());
     let invalid = Outcome::Refused(Errno::EINVAL);
-    assert_answer(&rt, world.step(start(2, call)), (2, invalid, Some(b"")));
+    assert_answer(&rt, world.step(send(&rt, alloc, 1, 0, b"x")), (1, invalid, None));
+    assert!(rt; world.spare().is_some());
     assert_is(&rt, world.end(), 1024);
 }
 
@@ -305,7 +346,7 @@ fn a_size_out_of_range_opens_no_world(rt: HostRuntime) {
             Err(why) => assert_eq!(rt; why, OpenRefused::BadSize, "{actors} {blocks}"),
         }
     }
-    for (first_step, generation) in [((1 << 62) + 1, 0), (0, 33_554_432)] {
+    for (first_step, generation) in [((1 << 62) + 1, 0), (0, 8_388_608)] {
         match World::open_at(rt.alloc(), 2, 128, first_step, generation) {
             Ok(_) => panic!(rt; "a world from step {first_step} and generation {generation}"),
             Err(why) => assert_eq!(rt; why, OpenRefused::BadSize, "{first_step} {generation}"),

@@ -87,7 +87,7 @@ fn a_full_registry_makes_no_queue(rt: HostRuntime) {
     let mut registry = open_registry(&rt, rt.alloc());
     assert_made(&rt, &mut registry, 9, 0);
     assert!(rt; registry.settle(0));
-    for id in 1..64 {
+    for id in 1..256 {
         make_private(&rt, &mut registry, id);
     }
     assert_refused(&rt, &mut registry, IPC_PRIVATE, flags(0), Errno::ENOSPC);
@@ -98,9 +98,9 @@ fn a_full_registry_makes_no_queue(rt: HostRuntime) {
         &mut registry,
         9,
         creating(),
-        Begun::Found { id: 0, settled: 64 },
+        Begun::Found { id: 0, settled: 256 },
     );
-    assert_is(&rt, registry.settled(), 64);
+    assert_is(&rt, registry.settled(), 256);
 }
 
 #[test]
@@ -117,7 +117,7 @@ fn a_key_is_busy_until_it_is_settled(rt: HostRuntime) {
         flags(0),
         Begun::Found { id: 0, settled: 1 },
     );
-    assert!(rt; !registry.settle(64));
+    assert!(rt; !registry.settle(256));
     assert!(rt; !registry.settle(1));
     assert!(rt; !registry.settle(-1));
     assert_is(&rt, registry.settled(), 1);
@@ -135,10 +135,10 @@ fn a_forgotten_identifier_is_never_given_again(rt: HostRuntime) {
     assert!(rt; registry.forget(0));
     assert_is(&rt, registry.settled(), 3);
     assert_refused(&rt, &mut registry, 7, flags(0), Errno::ENOENT);
-    assert_made(&rt, &mut registry, 7, 64);
+    assert_made(&rt, &mut registry, 7, 256);
     assert!(rt; !registry.forget(0));
     assert!(rt; !registry.settle(0));
-    assert_made(&rt, &mut registry, 8, 65);
+    assert_made(&rt, &mut registry, 8, 257);
     assert_begins(
         &rt,
         &mut registry,
@@ -152,16 +152,16 @@ fn a_forgotten_identifier_is_never_given_again(rt: HostRuntime) {
         &mut registry,
         IPC_PRIVATE,
         flags(0),
-        Begun::Made { id: 66 },
+        Begun::Made { id: 258 },
     );
 }
 
 #[test]
 fn the_last_identifiers(rt: HostRuntime) {
-    let mut registry = registry_at(&rt, rt.alloc(), 33_554_431);
-    for slot in 0..64_usize {
+    let mut registry = registry_at(&rt, rt.alloc(), 8_388_607);
+    for slot in 0..256_usize {
         let key = slot as i32 + 1;
-        let id = 2_147_483_584 + slot as i32;
+        let id = 2_147_483_392 + slot as i32;
         assert_is(&rt, slot_of_id(id), slot);
         assert_made(&rt, &mut registry, key, id);
         assert!(rt; registry.forget(id));
@@ -169,12 +169,12 @@ fn the_last_identifiers(rt: HostRuntime) {
     }
     assert_refused(&rt, &mut registry, IPC_PRIVATE, flags(0), Errno::ENOSPC);
     assert_refused(&rt, &mut registry, 1, creating(), Errno::ENOSPC);
-    assert_is(&rt, registry.settled(), 64);
+    assert_is(&rt, registry.settled(), 256);
 }
 
 #[test]
 fn generations_past_the_last_are_refused(rt: HostRuntime) {
-    for generation in [33_554_432, u32::MAX] {
+    for generation in [8_388_608, u32::MAX] {
         match Registry::open_at(rt.alloc(), generation) {
             Ok(_) => panic!(rt; "a registry"),
             Err(why) => assert_is(&rt, why, RegistryRefused::BadStart),
@@ -186,14 +186,14 @@ fn generations_past_the_last_are_refused(rt: HostRuntime) {
 fn many_keys_come_and_go(rt: HostRuntime) {
     let mut registry = open_registry(&rt, rt.alloc());
     let mut first: i32 = 0;
-    for _ in 0..200 {
-        for id in first..first.wrapping_add(64) {
+    for _ in 0..50 {
+        for id in first..first.wrapping_add(256) {
             assert_made(&rt, &mut registry, id.wrapping_add(1), id);
         }
-        for id in first..first.wrapping_add(64) {
+        for id in first..first.wrapping_add(256) {
             assert!(rt; registry.forget(id));
         }
-        first = first.wrapping_add(64);
+        first = first.wrapping_add(256);
     }
     assert_is(&rt, registry.settled(), 12_800);
 }

@@ -172,8 +172,8 @@ fn two_queues_lie_in_two_slots(rt: HostRuntime) {
     assert!(rt; !objects.is_unused(0));
     assert_is(&rt, objects.settled(), 2);
     assert_is(&rt, objects.probe(1, USER, creating()), Probe::Granted);
-    assert_is(&rt, objects.probe(65, USER, creating()), Probe::Gone);
-    assert!(rt; !install(&mut objects, 64, 9, 0));
+    assert_is(&rt, objects.probe(257, USER, creating()), Probe::Gone);
+    assert!(rt; !install(&mut objects, 256, 9, 0));
     assert_is(&rt, objects.stat(0, USER).map(|stat| stat.key), Ok(7));
     assert_is(&rt, objects.stat(1, USER).map(|stat| stat.key), Ok(8));
     assert_is(&rt, objects.stat(2, USER), Err(Errno::EINVAL));
@@ -201,19 +201,19 @@ fn a_message_goes_through_its_slot(rt: HostRuntime) {
 
 #[test]
 fn a_queue_is_changed_removed_and_forgotten(rt: HostRuntime) {
-    let mut objects = objects_at(&rt, rt.alloc(), 33_554_431);
-    make(&rt, &mut objects, 7, 2_147_483_584, 0);
-    set(&rt, &mut objects, 2_147_483_584, 0);
-    assert_is(&rt, counts(&objects, 2_147_483_584), (1, 1));
-    match remove(&mut objects, 2_147_483_585, 1) {
+    let mut objects = objects_at(&rt, rt.alloc(), 8_388_607);
+    make(&rt, &mut objects, 7, 2_147_483_392, 0);
+    set(&rt, &mut objects, 2_147_483_392, 0);
+    assert_is(&rt, counts(&objects, 2_147_483_392), (1, 1));
+    match remove(&mut objects, 2_147_483_393, 1) {
         Ok(_) => panic!(rt; "a removal"),
         Err(why) => assert_is(&rt, why, Errno::EINVAL),
     }
-    let Ok(chain) = remove(&mut objects, 2_147_483_584, 2) else {
+    let Ok(chain) = remove(&mut objects, 2_147_483_392, 2) else {
         panic!(rt; "no removal");
     };
-    assert!(rt; forget(&mut objects, 2_147_483_584, 3));
-    assert!(rt; !forget(&mut objects, 2_147_483_584, 3));
+    assert!(rt; forget(&mut objects, 2_147_483_392, 3));
+    assert!(rt; !forget(&mut objects, 2_147_483_392, 3));
     assert_is(&rt, objects.settled(), 2);
     end(&rt, objects, chain, 3);
 }

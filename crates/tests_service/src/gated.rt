@@ -139,7 +139,7 @@ fn ended(rt: &impl Abort, closed: GatesClosed) -> (u64, u64, u64) {
         registry,
         pool,
     } = closed;
-    assert_eq!(rt; slots.len(), 64);
+    assert_eq!(rt; slots.len(), 256);
     assert!(rt; slots.iter().all(|closing| closing.object.is_some()));
     assert!(rt; registry.object.is_some());
     assert!(rt; pool.object.is_some());
@@ -282,8 +282,8 @@ fn what_is_out_of_range_is_refused(rt: HostRuntime) {
         (127, 0, 0),
         (65_537, 0, 0),
         (128, LIMIT + 1, 0),
-        (128, 0, 33_554_432),
-        (127, LIMIT + 1, 33_554_432),
+        (128, 0, 8_388_608),
+        (127, LIMIT + 1, 8_388_608),
     ];
     for (blocks, first, generation) in refused {
         match Gates::open_at(rt.alloc(), blocks, first, generation) {

@@ -40,7 +40,7 @@ all
 2 snd ! EIDRM
 3 rcv ! EIDRM
 2 snd ! EINVAL
-1 get = 64
+1 get = 256
 ",
     ),
     // a limit below what waits, and who may raise it
@@ -118,7 +118,7 @@ go 2
 1 rm at forget
 2 get waits
 1 rm = 0
-2 get = 64
+2 get = 256
 ",
     ),
     // who may set and remove, and what a removed identifier answers

@@ -36,8 +36,8 @@ fn run<R: Read, W: Write>(
     let mut reader = Watched::new(reader);
     let mut writer = Watched::new(writer);
     let end = run_script(alloc, &mut reader, &mut writer);
-    assert_eq!(rt; reader.has_failed(), end == Err(ScriptFault::Read));
-    assert_eq!(rt; writer.has_failed(), end == Err(ScriptFault::Write));
+    assert_eq!(rt; reader.failures() > 0, end == Err(ScriptFault::Read));
+    assert_eq!(rt; writer.failures() > 0, end == Err(ScriptFault::Write));
     end
 }
 

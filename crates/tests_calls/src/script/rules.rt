@@ -3,7 +3,7 @@
 use super::language::run;
 
 /// Scripts with what they print. In each the queue is of user and group 1000 and has mode 0600.
-const RUNS: [(&[u8], &[u8]); 13] = [
+const RUNS: [(&[u8], &[u8]); 14] = [
     // by an exact type, by a bound, and the first that is left
     (
         b"preset
@@ -21,6 +21,26 @@ const RUNS: [(&[u8], &[u8]); 13] = [
 1 snd = 0
 2 rcv = 1 type 5 =a
 2 rcv = 1 type 2 =b
+2 rcv = 1 type 5 =c
+",
+    ),
+    // by every type but one; with 0 and with a bound the flag has no effect
+    (
+        b"preset
+1 snd 0 5 - =a
+1 snd 0 2 - =b
+1 snd 0 5 - =c
+2 rcv 0 9 5 NOWAIT+EXCEPT
+2 rcv 0 9 5 NOWAIT+EXCEPT
+2 rcv 0 9 0 NOWAIT+EXCEPT
+2 rcv 0 9 -5 NOWAIT+EXCEPT
+",
+        b"1 snd = 0
+1 snd = 0
+1 snd = 0
+2 rcv = 1 type 2 =b
+2 rcv ! ENOMSG
+2 rcv = 1 type 5 =a
 2 rcv = 1 type 5 =c
 ",
     ),
@@ -182,7 +202,7 @@ as 3 1000 2000 7
 ",
         b"3 rcv ! EACCES
 3 rcv ! EINVAL
-3 rcv ! EINVAL
+3 rcv ! EACCES
 1 snd = 0
 3 rcv ! EACCES
 3 rcv ! E2BIG

@@ -12,7 +12,7 @@ fn runs_a_script(rt: HostRuntime) {
     let mut reader = Watched::new(&mut script);
     let mut writer = Watched::new(&mut written);
     let ended = run_script(rt.alloc(), &mut reader, &mut writer);
-    assert!(rt; !reader.has_failed() && !writer.has_failed());
+    assert!(rt; reader.failures() == 0 && writer.failures() == 0);
     match ended {
         Ok(()) => assert!(rt; written.as_slice() == answers),
         Err(fault) => {

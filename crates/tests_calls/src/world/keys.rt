@@ -38,7 +38,7 @@ fn gets_find_and_make_queues(rt: HostRuntime) {
         assert_nothing(&rt, world.step(event));
         assert_is(&rt, go(&rt, &mut world, 2), outcome);
     }
-    for id in 3..64 {
+    for id in 3..256 {
         assert_makes(&rt, &mut world, 1, get(0, 0), Outcome::Id(id));
     }
     let full = refused(Errno::ENOSPC);
@@ -97,7 +97,7 @@ fn a_get_waits_between_removal_and_forget(rt: HostRuntime) {
     }
     assert!(rt; is_waiting(&world, 2));
     assert_is(&rt, go(&rt, &mut world, 1), Outcome::Zero);
-    assert_is(&rt, go(&rt, &mut world, 2), Outcome::Id(64));
+    assert_is(&rt, go(&rt, &mut world, 2), Outcome::Id(256));
     assert_is(&rt, world.end(), 128);
 }
 
@@ -185,7 +185,7 @@ fn a_preset_is_made_in_an_unused_slot_alone(rt: HostRuntime) {
     let removed = make(&rt, &mut world, 1, Call::Remove { id: 0 });
     assert_is(&rt, removed, Outcome::Zero);
     assert!(rt; !world.preset());
-    assert_makes(&rt, &mut world, 1, private(), Outcome::Id(64));
+    assert_makes(&rt, &mut world, 1, private(), Outcome::Id(256));
     assert_is(&rt, world.end(), 128);
     let mut world = world_at(&rt, rt.alloc(), 0, 0);
     assert_makes(&rt, &mut world, 1, private(), Outcome::Id(0));
@@ -199,12 +199,12 @@ fn a_preset_is_made_in_an_unused_slot_alone(rt: HostRuntime) {
 #[test]
 fn the_last_generation(rt: HostRuntime) {
     let alloc = rt.alloc();
-    let mut world = world_at(&rt, alloc, 0, 33_554_431);
-    let id = 2_147_483_584;
+    let mut world = world_at(&rt, alloc, 0, 8_388_607);
+    let id = 2_147_483_392;
     let calls = [
         (private(), 3, Outcome::Id(id)),
         (Call::Remove { id }, 3, Outcome::Zero),
-        (private(), 3, Outcome::Id(2_147_483_585)),
+        (private(), 3, Outcome::Id(2_147_483_393)),
     ];
     for (call, steps, outcome) in calls {
         let mut events = match Vec::with_capacity(alloc, 4) {

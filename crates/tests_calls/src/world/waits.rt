@@ -66,7 +66,7 @@ fn a_removal_ends_all_waits(rt: HostRuntime) {
     let call = send_waiting(&rt, alloc, 1, b"ab");
     let invalid = Outcome::Refused(Errno::EINVAL);
     assert_makes(&rt, &mut world, 2, call, invalid);
-    assert_makes(&rt, &mut world, 1, get_or_make(7), Outcome::Id(64));
+    assert_makes(&rt, &mut world, 1, get_or_make(7), Outcome::Id(256));
     assert_is(&rt, world.end(), 128);
 }
 

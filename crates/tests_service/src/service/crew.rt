@@ -55,7 +55,7 @@ fn count_live(rt: &impl Wait, service: &Service, pass: &mut Pass) -> u32
     ensures { AreOf service.now pass.new.seats }
 {
     let mut live: u32 = 0;
-    for slot in 0..64 {
+    for slot in 0..256 {
         if matches!(&service.list_row(rt, pass, slot), Ok(Some(_))) {
             live = live.saturating_add(1);
         }

@@ -96,7 +96,7 @@ fn a_pass_receives_its_own_message(rt: HostRuntime) {
     );
     assert_is(
         &rt,
-        send(&rt, rt.alloc(), &service, &mut pass, 64, 5, b"ping"),
+        send(&rt, rt.alloc(), &service, &mut pass, 256, 5, b"ping"),
         Err(Errno::EINVAL),
     );
     assert_is(
@@ -138,7 +138,7 @@ fn a_queue_is_told_and_set(rt: HostRuntime) {
         Ok(Some(row)) => assert_is(&rt, (row.id, row.mode), (0, 0o640)),
         _ => panic!(rt; "no row"),
     }
-    let row = service.list_row(&rt, &mut pass, 64);
+    let row = service.list_row(&rt, &mut pass, 256);
     assert_is(&rt, row, Err(Errno::EINVAL));
     assert_is(&rt, service.close(pass), closed(0, 128));
 }
@@ -161,7 +161,7 @@ fn a_queue_is_removed(rt: HostRuntime) {
         Err(Errno::EINVAL),
     );
     let id = service.msgget(&rt, &mut pass, &CLOCK, USER, 7, creating());
-    assert_is(&rt, id, Ok(64));
+    assert_is(&rt, id, Ok(256));
     assert_is(&rt, service.close(pass), closed(0, 128));
 }
 
@@ -330,7 +330,7 @@ fn sizes_out_of_range_open_no_service(rt: HostRuntime) {
         (127, 0, 0),
         (65_537, 0, 0),
         (128, (1 << 62) + 1, 0),
-        (128, 0, 33_554_432),
+        (128, 0, 8_388_608),
     ] {
         match Service::open_at(rt.alloc(), blocks, first, generation) {
             Err(why) => assert_is(&rt, why, GatesRefused::BadSize),

@@ -1,6 +1,6 @@
-use Rattle.std.proofs.Common.{◌≡◌, ◌||◌, Result, sym, subst}
+use Rattle.std.proofs.Common.{◌≡◌, Result, sym, subst}
 use Rattle.std.specs.Prelude.{IfErr, ⊤}
-use Rattle.sysv_model.specs.Watched.{has_failed, stream_of}
+use Rattle.sysv_model.specs.Watched.{failures_of, failures_after, stream_of}
 use Rattle.sysv_streams.specs.declared.fault.ScriptFault.{ScriptFault}
 use Rattle.sysv_streams.specs.Faults.{TellsBadLine, is_read_fault, is_write_fault}
 use Rattle.sysv_script.specs.Written.{WritesScript}
@@ -28,10 +28,10 @@ returns-clause-bad g c =
 
 pub returns-clause-reader_failed : goal.returns-clause-reader_failed
 returns-clause-reader_failed g c =
-    subst (λ (r : Result ⊤ ScriptFault). has_failed c.run_lines-ended.new.reader ≡ (is_read_fault r || has_failed c.args.reader.now)) (sym c.and.ensures)
+    subst (λ (r : Result ⊤ ScriptFault). failures_of c.run_lines-ended.new.reader ≡ failures_after (is_read_fault r) (failures_of c.args.reader.now)) (sym c.and.ensures)
     (reader_ended c.end.result c.run_lines-ended.result _ _ _ c.end.ensures.fault c.end.ensures.empty c.run_lines-ended.ensures.none_left c.run_lines-ended.ensures.reader_failed)
 
 pub returns-clause-writer_failed : goal.returns-clause-writer_failed
 returns-clause-writer_failed g c =
-    subst (λ (r : Result ⊤ ScriptFault). has_failed c.end.new.writer ≡ (is_write_fault r || has_failed c.args.writer.now)) (sym c.and.ensures)
-    (writer_ended c.end.result c.run_lines-ended.result _ _ _ c.end.ensures.fault c.run_lines-ended.ensures.writer_failed c.end.ensures.failed)
+    subst (λ (r : Result ⊤ ScriptFault). failures_of c.end.new.writer ≡ failures_after (is_write_fault r) (failures_of c.args.writer.now)) (sym c.and.ensures)
+    (writer_ended c.end.result c.run_lines-ended.result _ _ _ _ c.end.ensures.empty c.run_lines-ended.ensures.none_left c.run_lines-ended.ensures.writer_failed c.end.ensures.failed)

@@ -1,5 +1,5 @@
 use Rattle.std.proofs.Common.{◌≡◌, ◌-◌, ◌≤◌, length, take}
-use Rattle.sysv_model.specs.Watched.{has_failed, stream_name, stream_of}
+use Rattle.sysv_model.specs.Watched.{failures_of, stream_name, stream_of}
 use Rattle.sysv_streams.specs.Found.{HasNoEnd}
 use Rattle.sysv_streams.specs.Streams.{HandsOn, TakesIn}
 use Rattle.sysv_streams.specs.declared.input.TheConstants.{INPUT_ROOM}
@@ -13,8 +13,8 @@ invariant-loop-found g l = record {
   answers : HandsOn (g.W.Write.contents (stream_of l.initial.writer)) l.initial.output (g.W.Write.contents (stream_of l.writer)) l.output;
   same_reader : stream_name l.reader ≡ stream_name l.initial.reader;
   same_writer : stream_name l.writer ≡ stream_name l.initial.writer;
-  reader_failed : has_failed l.reader ≡ has_failed l.initial.reader;
-  writer_failed : has_failed l.writer ≡ has_failed l.initial.writer;
+  reader_failed : failures_of l.reader ≡ failures_of l.initial.reader;
+  writer_failed : failures_of l.writer ≡ failures_of l.initial.writer;
 }
 
 abbrev pub decreases-loop-found : goal.decreases-loop-found

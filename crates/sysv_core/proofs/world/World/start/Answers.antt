@@ -24,8 +24,8 @@ returns-clause-single c = λ w s.
     let stands : ObjectsStandFor w.generation w.turns c.self.inside.objects = subst (λ (v : Seen). ObjectsStandFor w.generation w.turns v.objects) (sym c.self.view_is) s.objects in
     let idle = kept_none x (sym c.is_some.ensures ∙ c.if-is_some.false) in
     let there = seen_at c.self.inside.actors.items c.args.self.now.states view c.in-Some.place c.in-Some.ensures.1 x c.index.ensures ∙ ap Some idle in
-    let begins = start_idle w c.args.self.now s c.each_world_is_sound.ensures.stays c.args.actor c.in-Some.place c.args.cred c.args.call c.released-released.result c.begin.result (search rules) c.in-Some.ensures.0 there c.begin.ensures (c.released-released.ensures w.generation w.turns stands) in
-    let states = seen_settled c.self.inside.actors.items c.args.self.now.states view c.in-Some.place c.in-Some.ensures.1 c.settle.new.actors.items c.begin.result c.settle.ensures.kept in
+    let begins = start_idle w c.args.self.now s c.each_world_is_sound.ensures.stays c.args.actor c.in-Some.place c.args.cred c.args.call c.released-released.result c.begin-led.result (search rules) c.in-Some.ensures.0 there c.begin-led.ensures (c.released-released.ensures w.generation w.turns stands) in
+    let states = seen_settled c.self.inside.actors.items c.args.self.now.states view c.in-Some.place c.in-Some.ensures.1 c.settle.new.actors.items c.begin-led.result c.settle.ensures.kept in
     let same = same_seen _ _ _ _ _ _ (ap (λ (v : Seen). v.objects) c.self.view_is) states (ap (λ (v : Seen). v.steps + 1) c.self.view_is) in
     moves_as w (Start c.args.actor c.args.cred c.args.call) _ _ _ _ c.settle.ensures.told same begins
 

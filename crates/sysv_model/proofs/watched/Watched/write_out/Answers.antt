@@ -1,7 +1,7 @@
-use Rattle.std.proofs.Common.{◌+◌, ◌≤◌, ◌-◌, ◌||◌, length, drop, ap, subst, ◌∙◌, arith, length-take}
+use Rattle.std.proofs.Common.{◌+◌, ◌≤◌, ◌-◌, length, drop, ap, subst, ◌∙◌, arith, length-take}
 use Rattle.std.specs.Io.KnownBytes.{Appends}
 use Rattle.std.proofs.KnownBytes.{Appends-trans, Appends-kept}
-use Rattle.sysv_model.specs.Watched.{has_failed, takes_none-some}
+use Rattle.sysv_model.specs.Watched.{failures_of, failures_after, takes_none-some}
 use Rattle.sysv_model.proofs.Writing.{went, AppendsPrefix-take}
 use Rattle.sysv_model.proofs.watched.Watched.write_out.Goals as goal
 
@@ -15,7 +15,7 @@ loop-written-preserved g c =
       within = omega arith;
       so_far = subst (Appends _ _) (went bytes written c.in-Ok.count fits) (Appends-trans _ _ _ _ _ c.loop-written.invariant.so_far c.in-Ok.ensures.bytes);
       same = c.in-Ok.ensures.same ∙ c.loop-written.invariant.same;
-      failed = c.in-Ok.ensures.failed ∙ ap (λ b. b || has_failed c.loop-written.self) (takes_none-some c.in-Ok.count _ c.in-Ok.count-test.1) ∙ c.loop-written.invariant.failed;
+      failed = c.in-Ok.ensures.failed ∙ ap (λ b. failures_after b (failures_of c.loop-written.self)) (takes_none-some c.in-Ok.count _ c.in-Ok.count-test.1) ∙ c.loop-written.invariant.failed;
     }
 
 pub returns-in-Ok-eq0-clause-err : goal.returns-in-Ok-eq0-clause-err

@@ -1,7 +1,7 @@
 -- What was written so far is in the writer, and less is left each time.
 use Rattle.std.proofs.Common.{◌≡◌, ◌-◌, ◌≤◌, length, take}
 use Rattle.std.specs.Io.KnownBytes.{Appends}
-use Rattle.sysv_model.specs.Watched.{has_failed, stream_name, stream_of}
+use Rattle.sysv_model.specs.Watched.{failures_of, stream_name, stream_of}
 use Rattle.sysv_model.proofs.watched.Watched.write_out.Given as goal
 
 abbrev pub invariant-loop-written : goal.invariant-loop-written
@@ -9,7 +9,7 @@ invariant-loop-written g l = record {
   within : l.written ≤ length l.bytes;
   so_far : Appends (g.S.Write.contents (stream_of l.initial.self)) (g.S.Write.contents (stream_of l.self)) (take l.written l.bytes);
   same : stream_name l.self ≡ stream_name l.initial.self;
-  failed : has_failed l.self ≡ has_failed l.initial.self;
+  failed : failures_of l.self ≡ failures_of l.initial.self;
 }
 
 abbrev pub decreases-loop-written : goal.decreases-loop-written

@@ -1,5 +1,5 @@
 use Rattle.std.proofs.Common.{◌≡◌, ◌+◌, ℕ, List}
-use Rattle.sysv_model.specs.Watched.{has_failed, stream_name, stream_of}
+use Rattle.sysv_model.specs.Watched.{failures_of, stream_name, stream_of}
 use Rattle.sysv_stage.specs.Scene.{Scene}
 use Rattle.sysv_stage.specs.Staged.{IsSceneOf}
 use Rattle.sysv_streams.specs.Faults.{Grows}
@@ -13,6 +13,6 @@ invariant-loop-passed g l = record {
       RunsOn s text (g.W.Write.contents (stream_of l.initial.writer)) (l.passed + 1) l.self.stage l.self.input (g.R.Read.remaining (stream_of l.reader)) (g.W.Write.contents (stream_of l.writer)) l.self.output;
   same_reader : stream_name l.reader ≡ stream_name l.initial.reader;
   same_writer : stream_name l.writer ≡ stream_name l.initial.writer;
-  reader_failed : has_failed l.reader ≡ has_failed l.initial.reader;
-  writer_failed : has_failed l.writer ≡ has_failed l.initial.writer;
+  reader_failed : failures_of l.reader ≡ failures_of l.initial.reader;
+  writer_failed : failures_of l.writer ≡ failures_of l.initial.writer;
 }

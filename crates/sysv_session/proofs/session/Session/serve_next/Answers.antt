@@ -3,5 +3,5 @@ use Rattle.sysv_session.proofs.session.Session.serve_next.Goals as goal
 
 pub returns : goal.returns
 returns g c =
-    taken_turn g.K.Kernel.meaning c.args.cred c.answer.result c.in-Some.request _ c.call-outcome.result _ _ _ _ _ _ _ _ _ _
+    taken_turn g.K.Kernel.meaning c.args.version c.args.cred c.answer.result c.in-Some.request _ c.call-outcome.result _ _ _ _ _ _ _ _ _ _
     (rw c.in-Some.is at c.in_ok-request.ensures) c.call-outcome.ensures.meaning c.call-outcome.ensures.answer c.answer.ensures

@@ -1,0 +1,37 @@
+//! Laws of free runs.
+
+ghost use Rattle.sysv_free.specs.OnThreads.{EveryThreadedRunObeys};
+ghost use Rattle.sysv_free.specs.RunIsFree.{EachRunIsFree};
+
+use sysv_core::each_world_is_sound;
+use sysv_keys::registry_law;
+use sysv_objects::legal_turns;
+use sysv_pool::pool_law;
+use sysv_queue::{blocks_kept, queue_law, removed_for_good};
+use sysv_steps::{
+    after_removal, each_answer_is_right, each_deed_is_asked_for, each_holds_its_blocks,
+};
+
+/// The headline of threads: every list of moments leads from every opening only to worlds that obey the laws of
+/// the headline, except that a call that waits may do so without a reason. A call may be told any released count
+/// at its start, and any value that is at least the goal may end a wait.
+pub fn every_threaded_run_obeys()
+    ensures { EveryThreadedRunObeys }
+{
+    each_world_is_sound();
+    legal_turns();
+    blocks_kept();
+    pool_law();
+    each_holds_its_blocks();
+    queue_law();
+    registry_law();
+    each_deed_is_asked_for();
+    each_answer_is_right();
+    removed_for_good();
+    after_removal();
+}
+
+/// Each run of a world in which nothing is preset is a free run.
+pub fn each_run_is_free()
+    ensures { EachRunIsFree }
+{}

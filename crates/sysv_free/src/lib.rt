@@ -1,0 +1,7 @@
+//! Free runs: what threads can make of a world. The turns are those of a world, and what a call reads between
+//! its turns may be anything that the step table admits. The crate contains only laws.
+#![tactic(auto)]
+
+mod laws;
+
+pub use laws::{each_run_is_free, every_threaded_run_obeys};

@@ -1,0 +1,14 @@
+-- Any request that is refused is refused after the hello too.
+use Rattle.std.proofs.Common.{ℕ, List, Option, inl}
+use Rattle.sysv_session.specs.Input.{LaterFault}
+use Rattle.sysv_wire.specs.declared.fault.Fault.{Fault}
+use Rattle.sysv_wire.specs.declared.fault.Fault.TheVariants.{Truncated, TooLong, BadOp, BadField, Read}
+use Rattle.sysv_wire.specs.declared.frame.Version.{Version}
+use Rattle.sysv_wire.specs.Faults.{Faults, RequestFault}
+
+pub refused_later : (version : Version) (fault : Fault) (old new : Option (List ℕ)) → Faults RequestFault fault old new → Faults (LaterFault version) fault old new
+refused_later version Truncated old new found = found
+refused_later version TooLong old new found = found
+refused_later version BadOp old new found = (found.0, found.1, inl found.2, found.3)
+refused_later version BadField old new found = (found.0, found.1, inl found.2, found.3)
+refused_later version Read old new found = found
