@@ -181,6 +181,7 @@ static int ask_stat(int id, struct msqid_ds *told)
 
 /* The queue of a slot, if there is one. */
 struct row {
+    int slots; /* how many the server has */
     bool present;
     int id;
     struct msqid_ds told; /* key, user, mode, bytes and messages; the others are 0 */
@@ -194,6 +195,7 @@ static int ask_row(int slot, struct row *row)
     if (error != 0)
         return error;
     memset(row, 0, sizeof *row);
+    row->slots = frame.slots;
     row->present = frame_take_u8(&frame) == 1;
     if (!row->present)
         return 0;
@@ -243,22 +245,26 @@ static int remove_queue(int id)
     return outcome(ask_of(&frame, RM, id, bytes, sizeof bytes));
 }
 
-/* Adds up all rows. The number of slots is where the server begins to refuse with EINVAL. */
+/* Adds up the rows of all slots. */
 static int add_rows(struct msginfo *sums, int *slots, int *greatest)
 {
     struct row row;
-    int error;
+    int slot = 0;
     memset(sums, 0, sizeof *sums);
     *greatest = 0;
-    for (*slots = 0; (error = ask_row(*slots, &row)) == 0; ++*slots) {
-        if (!row.present)
-            continue;
-        sums->msgpool += 1;
-        sums->msgmap += (int)row.told.msg_qnum;
-        sums->msgtql += (int)row.told.__msg_cbytes;
-        *greatest = *slots;
-    }
-    return error == EINVAL ? 0 : error;
+    do {
+        int error = ask_row(slot, &row);
+        if (error != 0)
+            return error;
+        if (row.present) {
+            sums->msgpool += 1;
+            sums->msgmap += (int)row.told.msg_qnum;
+            sums->msgtql += (int)row.told.__msg_cbytes;
+            *greatest = slot;
+        }
+    } while (++slot < row.slots);
+    *slots = row.slots;
+    return 0;
 }
 
 /* IPC_INFO and MSG_INFO, which differ in three fields: the limits of IPC_INFO are in MSG_INFO what

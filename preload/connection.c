@@ -31,6 +31,7 @@ struct connection {
     ino_t inode;
     uid_t user; /* of the hello */
     gid_t group;
+    int slots; /* of the reply to the hello */
 };
 
 /* How a call was made. */
@@ -320,9 +321,14 @@ static int say_hello(struct connection *connection, const struct call *call)
     frame_put_u32(&hello, (uint32_t)call->process);
     frame_end(&hello);
     int error = exchange(connection, &hello, call);
-    if (error != 0 && connection->fd >= 0)
-        return broken(connection, call, "the server refused the hello");
-    return error;
+    if (error != 0)
+        return connection->fd < 0 ? error
+                                  : broken(connection, call, "the server refused the hello");
+    uint32_t slots = frame_take_u32(&hello);
+    if (slots > SLOTS_MAX)
+        return broken(connection, call, "a reply of the server is malformed");
+    connection->slots = (int)slots;
+    return 0;
 }
 
 static const char *why_unconnected(int error)
@@ -390,7 +396,6 @@ static struct connection *borrow(struct connection *single, const struct call *c
             return mine;
         in_call = 0;
     }
-    single->fd = -1;
     return single;
 }
 
@@ -405,13 +410,14 @@ static void give_back(struct connection *connection, struct connection *single)
 int ask(struct frame *frame, bool may_wait)
 {
     int cancel_state, errno_before = errno;
-    struct connection single;
+    struct connection single = {.fd = -1};
     pthread_setcancelstate(PTHREAD_CANCEL_DISABLE, &cancel_state);
     const struct call call = {getpid(), may_wait, cancel_state == PTHREAD_CANCEL_ENABLE};
     struct connection *connection = borrow(&single, &call);
     int error = make_ready(connection, &call);
     if (error == 0)
         error = exchange(connection, frame, &call);
+    frame->slots = connection->slots;
     give_back(connection, &single);
     pthread_setcancelstate(cancel_state, NULL);
     errno = errno_before;

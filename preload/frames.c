@@ -2,7 +2,7 @@
 
 #include <errno.h>
 
-enum { VERSION = 1 };
+enum { VERSION = 2 };
 
 static void put(struct frame *frame, uint64_t value, int bytes)
 {
@@ -71,6 +71,7 @@ static int has_fields(const struct frame *frame)
 {
     size_t fields = frame->length - REPLY_HEAD;
     switch (frame->operation) {
+    case HELLO: return fields == HELLO_FIELDS;
     case GET: return fields == 4;
     case RCV: return fields >= TYPE_BYTES && fields <= TYPE_BYTES + TEXT_MAX;
     case STAT: return fields == STAT_FIELDS;

@@ -13,6 +13,8 @@ enum {
     LENGTH_BYTES = 4,                /* what a frame begins with */
     REQUEST_HEAD = LENGTH_BYTES + 2, /* a request up to its fields */
     REPLY_HEAD = LENGTH_BYTES + 3,   /* a reply up to its fields */
+    HELLO_FIELDS = 4,                /* those of the reply to a hello */
+    SLOTS_MAX = 65536,               /* the most that a server may say it has */
     SND_FIELDS = 16,                 /* those of a send without the text */
     TYPE_BYTES = 8, /* the field of a received message that comes before its text */
     STAT_FIELDS = 66,
@@ -27,6 +29,7 @@ struct frame {
     size_t room;
     size_t length; /* the bytes of the frame */
     size_t read;   /* the bytes of a reply that were taken from it */
+    int slots;     /* of a reply: how many slots its server has */
     enum operation operation;
 };
 

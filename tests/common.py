@@ -12,7 +12,8 @@ ERRORS = {
     42: "ENOMSG", 43: "EIDRM", 75: "EOVERFLOW",
 }
 CREAT, EXCL, NOWAIT, NOERROR, EXCEPT = 512, 1024, 2048, 4096, 8192
-HELLO, GET, SND, RCV, STAT, SET, RM = range(7)
+HELLO, GET, SND, RCV, STAT, SET, RM, ROW = range(8)
+SLOTS = 256
 
 
 def built_program():
@@ -24,29 +25,31 @@ def built_program():
     return os.path.join(TOP, "crates/sysvmsg/out/sysvmsg")
 
 
-def frame(operation, fields):
-    return struct.pack(">IBB", len(fields) + 2, 1, operation) + fields
+def frame(operation, fields, version=2):
+    return struct.pack(">IBB", len(fields) + 2, version, operation) + fields
 
 
-def hello(uid, gid, pid):
-    return frame(HELLO, struct.pack(">III", uid, gid, pid))
+def hello(uid, gid, pid, version=2):
+    return frame(HELLO, struct.pack(">III", uid, gid, pid), version)
 
 
 class Session:
-    """One connection, with the credentials of its hello."""
+    """One connection, with the version and the credentials of its hello."""
 
-    def __init__(self, path, uid=1000, gid=1000, pid=1):
+    def __init__(self, path, uid=1000, gid=1000, pid=1, version=2):
+        self.version = version
         self.peer = socket.socket(socket.AF_UNIX)
         self.peer.connect(path)
         self.stream = self.peer.makefile("rb")
-        assert self.ask(HELLO, struct.pack(">III", uid, gid, pid)) == b""
+        slots = self.ask(HELLO, struct.pack(">III", uid, gid, pid))
+        assert slots == (b"" if version == 1 else struct.pack(">I", SLOTS))
 
     def ask(self, operation, fields):
         """The fields of the reply, or the name of its error."""
-        self.peer.sendall(frame(operation, fields))
+        self.peer.sendall(frame(operation, fields, self.version))
         length, version, told, error = struct.unpack(">IBBB", self.stream.read(7))
         rest = self.stream.read(length - 3)
-        assert (version, told) == (1, operation)
+        assert (version, told) == (self.version, operation)
         return ERRORS[error] if error else rest
 
     def get(self, key, flags):

@@ -282,6 +282,29 @@ static void linux_receives(int id)
     says("msgrcv, the least type takes any message", receive(id, TEXT, LONG_MIN, IPC_NOWAIT) == 4);
 }
 
+/* Linux's MSG_EXCEPT is the server's too. */
+static void except_sentences(int id)
+{
+    send(id, 5, 1, 0);
+    send(id, 2, 2, 0);
+    send(id, 5, 3, 0);
+    says("msgrcv, Linux's MSG_EXCEPT takes the first message of any other type",
+        receive(id, TEXT, 5, MSG_EXCEPT | IPC_NOWAIT) == 2 && in.type == 2);
+    says("msgrcv, and ENOMSG if there is none",
+        refused(receive(id, TEXT, 5, MSG_EXCEPT | IPC_NOWAIT), ENOMSG));
+    says("msgrcv, and E2BIG if it is longer than the size",
+        refused(receive(id, 0, 6, MSG_EXCEPT | IPC_NOWAIT), E2BIG));
+    says("msgrcv, with type 0 it has no effect",
+        receive(id, TEXT, 0, MSG_EXCEPT | IPC_NOWAIT) == 1 && in.type == 5);
+    says("msgrcv, nor with a negative type",
+        refused(receive(id, TEXT, -4, MSG_EXCEPT | IPC_NOWAIT), ENOMSG)
+            && receive(id, TEXT, -5, MSG_EXCEPT | IPC_NOWAIT) == 3 && in.type == 5);
+    pid_t child = soon(act_send, id);
+    says("msgrcv, and it waits until another type is sent",
+        receive(id, TEXT, 5, MSG_EXCEPT) == 4 && in.type == 3);
+    status_of(child);
+}
+
 static void wait_sentences(int id)
 {
     pid_t child = soon(act_send, id);
@@ -408,6 +431,7 @@ int main(int count, char **words)
     on_queue(many_messages);
     on_queue(receive_sentences);
     on_queue(linux_receives);
+    on_queue(except_sentences);
     on_queue(wait_sentences);
     on_queue(signal_sentences);
     on_queue(control_sentences);

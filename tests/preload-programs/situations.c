@@ -481,7 +481,7 @@ static void tables(void)
     int last = msgctl(0, MSG_INFO, (struct msqid_ds *)&info), found = 0;
     expect(last >= 1 && info.msgpool == 2 && info.msgmap == 1 && info.msgtql == 4, "MSG_INFO");
     expect(msgctl(0, IPC_INFO, (struct msqid_ds *)&info) == last && info.msgmax == 8192
-               && info.msgmni >= 64,
+               && info.msgmni == 256 && info.msgtql == 256 * 256,
         "IPC_INFO");
     for (int slot = 0; slot <= last; slot++) {
         int id = msgctl(slot, MSG_STAT, &told);
@@ -509,49 +509,66 @@ static int listen_at(const char *path)
     return listener;
 }
 
-/* Plays a server that answers the hello, and then the first request with these bytes; and keeps the
- * connection. */
-static pid_t play(int listener, const void *reply, size_t size)
+/* Plays a server that answers the hello and the first request with these bytes, or the hello alone
+ * if there are none for the request; and keeps the connection. */
+static pid_t play(
+    int listener, const void *hello, size_t hello_size, const void *reply, size_t reply_size)
 {
     char bytes[256];
     pid_t child = fork();
     if (child != 0)
         return child;
     int peer = accept(listener, NULL, NULL);
-    if (read(peer, bytes, sizeof bytes) <= 0 || write(peer, "\0\0\0\3\1\0\0", 7) != 7)
+    if (read(peer, bytes, sizeof bytes) <= 0
+        || write(peer, hello, hello_size) != (ssize_t)hello_size)
         _exit(1);
-    if (read(peer, bytes, sizeof bytes) <= 0 || write(peer, reply, size) != (ssize_t)size)
+    if (reply_size > 0
+        && (read(peer, bytes, sizeof bytes) <= 0
+            || write(peer, reply, reply_size) != (ssize_t)reply_size))
         _exit(1);
     pause_forever();
     _exit(0);
 }
 
-static void one_bad_reply(int listener, const char *what, const void *reply, size_t size)
+static void fails_with_eio(pid_t player, const char *what)
 {
-    pid_t player = play(listener, reply, size);
     expect(refused(msgget(1, 0), EIO), what);
     expect(count_descriptors(is_socket) == 1, "the connection is left"); /* the listener is one */
     kill(player, SIGKILL);
     status_of(player);
 }
 
+static void one_bad_hello(int listener, const char *what, const void *hello, size_t size)
+{
+    fails_with_eio(play(listener, hello, size, NULL, 0), what);
+}
+
+static void one_bad_reply(int listener, const char *what, const void *reply, size_t size)
+{
+    fails_with_eio(play(listener, "\0\0\0\7\2\0\0\0\0\1\0", 11, reply, size), what);
+}
+
 static void bad_replies(const char *path)
 {
     int listener = listen_at(path);
-    one_bad_reply(listener, "another version", "\0\0\0\7\2\1\0\0\0\0\5", 11);
-    one_bad_reply(listener, "another operation", "\0\0\0\3\1\2\0", 7);
-    one_bad_reply(listener, "an unknown error", "\0\0\0\3\1\1\4", 7);
-    one_bad_reply(listener, "an error with fields", "\0\0\0\7\1\1\2\0\0\0\5", 11);
-    one_bad_reply(listener, "no fields", "\0\0\0\3\1\1\0", 7);
-    one_bad_reply(listener, "too short", "\0\0\0\2\1\1", 6);
-    one_bad_reply(listener, "too long", "\xff\xff\xff\xff\1\1\0\0\0\0\0", 11);
-    one_bad_reply(listener, "more than a reply", "\0\0\0\7\1\1\0\0\0\0\5\0", 12);
+    one_bad_hello(listener, "a hello of another version", "\0\0\0\3\1\0\0", 7);
+    one_bad_hello(listener, "a hello without slots", "\0\0\0\3\2\0\0", 7);
+    one_bad_hello(listener, "too many slots", "\0\0\0\7\2\0\0\0\1\0\1", 11);
+    one_bad_hello(listener, "a hello that is refused", "\0\0\0\3\2\0\1", 7);
+    one_bad_reply(listener, "another version", "\0\0\0\7\1\1\0\0\0\0\5", 11);
+    one_bad_reply(listener, "another operation", "\0\0\0\3\2\2\0", 7);
+    one_bad_reply(listener, "an unknown error", "\0\0\0\3\2\1\4", 7);
+    one_bad_reply(listener, "an error with fields", "\0\0\0\7\2\1\2\0\0\0\5", 11);
+    one_bad_reply(listener, "no fields", "\0\0\0\3\2\1\0", 7);
+    one_bad_reply(listener, "too short", "\0\0\0\2\2\1", 6);
+    one_bad_reply(listener, "too long", "\xff\xff\xff\xff\2\1\0\0\0\0\0", 11);
+    one_bad_reply(listener, "more than a reply", "\0\0\0\7\2\1\0\0\0\0\5\0", 12);
 }
 
 static void half_reply(const char *path)
 {
     int listener = listen_at(path);
-    one_bad_reply(listener, "half a reply", "\0\0\0\7\1\1\0\0", 8);
+    one_bad_reply(listener, "half a reply", "\0\0\0\7\2\1\0\0", 8);
 }
 
 /* The server, whose process is the second word, is killed while a call waits. */

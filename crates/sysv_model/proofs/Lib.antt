@@ -1,2 +1,3 @@
+pub mod Boxed
 pub mod Snoc
 pub mod Writing

@@ -1,5 +1,6 @@
 pub mod Errors
 pub mod Blocks
+pub mod Body
 pub mod Message
 pub mod HasFlag
 pub mod Selector

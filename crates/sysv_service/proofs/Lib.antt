@@ -1,8 +1,10 @@
 pub mod Crossing
 pub mod Running
 pub mod Staying
+pub mod Delivering
 pub mod Opening
 pub mod SlotBySlot
 pub mod OwnPlaces
 pub mod Owning
+pub mod Answering
 pub mod Retrying

@@ -1,6 +1,6 @@
 -- How a stop goes on by one slot.
 use Rattle.std.specs.Prelude.{⊤}
-use Rattle.std.proofs.Common.{◌≡◌, ◌<◌, ◌⊎◌, ℕ, suc, ◌+◌, ◌||◌, arith, inl, inr, ⊎_elim, Bool, true, false, Option, Some, None, Result, Ok, Err, ◌≢◌, refl, sym, subst, ◌∙◌}
+use Rattle.std.proofs.Common.{◌≡◌, ◌<◌, ℕ, suc, ◌+◌, ◌||◌, arith, inl, inr, Bool, true, false, Option, Some, None, Result, Ok, Err, ◌≢◌, refl, sym, subst, ◌∙◌}
 use Rattle.sysv_keys.specs.declared.identifier.TheConstants.{SLOTS}
 use Rattle.sysv_model.specs.declared.attributes.Row.{Row}
 use Rattle.sysv_model.specs.declared.errno.Errno.{Errno}
@@ -38,7 +38,7 @@ module _ (slot : ℕ) (before : Pass) where
       let at : TellsRow slot before (Err why) after = subst (λ r. TellsRow slot before r after) is tells in
       elim at [
         | inl out ↦ absurd (omega (arith, there, out.0))
-        | inr worn ↦ is_worn after (inr (worn.0, refl, worn.2))
+        | inr worn ↦ is_worn after (inr (worn.0, refl, worn.2, worn.3))
       ]
 
   pub vacant_at : (told : Result (Option Row) Errno) (after : Pass) → told ≡ Ok None → TellsRow slot before told after → StopsAt slot before 0 false after

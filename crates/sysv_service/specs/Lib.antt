@@ -9,4 +9,6 @@ pub mod Told
 pub mod Stopped
 pub mod Closing
 pub mod OwnTurns
+pub mod RightAnswers
+pub mod Delivered
 pub mod Retried

@@ -1,5 +1,5 @@
 //! The words of all calls: limits, errors, flags, bodies and selectors.
-use crate::parts::open_body;
+use crate::parts::{assert_holds, open_body};
 use bitflags::Flags as Set;
 use std::alloc::Global;
 use std::process::Abort;
@@ -130,6 +130,29 @@ fn a_text_is_read_by_blocks(rt: HostRuntime) {
         assert_eq!(rt; body.block(k).len(), len, "block {k}");
     }
     assert_eq!(rt; body.block(2), b"xx".as_slice());
+}
+
+#[test]
+fn pieces_lie_across_blocks(rt: HostRuntime) {
+    let mut body = open_body(&rt, rt.alloc());
+    let mut text = [0; 8256];
+    for (i, byte) in text.iter_mut().enumerate() {
+        *byte = (i % 251) as u8;
+    }
+    let mut done = 0;
+    for len in [1, 62, 3, 64, 62, 64, 65, 128, 7807] {
+        assert!(rt; done <= text.len() && len <= text.len() - done);
+        assert!(rt; body.push_piece(&text[done..done + len]));
+        done += len;
+        assert!(rt; done <= text.len());
+        assert_holds(&rt, &body, &text[..done]);
+    }
+    assert_eq!(rt; body.len(), 8256);
+    body.truncate(100);
+    assert!(rt; body.push_piece(b"more"));
+    assert_eq!(rt; body.len(), 104);
+    assert_eq!(rt; body.byte(99), 99);
+    assert_eq!(rt; body.byte(100), b'm');
 }
 
 #[test]
