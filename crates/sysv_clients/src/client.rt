@@ -21,11 +21,11 @@ use sysv_wire::{Outcome, one_answer_to_replies, one_reply};
 /// shown, else 1. The text of a `snd` has at most 8,256 bytes.
 ///
 /// Memory is taken first, for two texts and for a message or the head of a table; where it is refused, nothing
-/// is written to the server or read. More is taken for each row of an `ipcs`, and where that is refused, the talk
-/// ends after the row's reply. The server is spoken to in version 2. A hello and the requests of the task are written, each flushed before its
-/// reply is read. The first that is refused, cannot be written or has no reply ends the talk: a reply to
-/// another operation or of another version is none. An `ipcs` asks for as many rows as the hello's reply says,
-/// but at most for `MAX_ROWS`. What earlier requests did stays done.
+/// is written to the server or read. More is taken for each row of an `ipcs`, and where that is refused, the
+/// talk ends after the row's reply. A hello and the requests of the task are written, all of version 2, each
+/// flushed before its reply is read. The first that is refused, cannot be written or has no reply ends the
+/// talk: a reply to another operation or of another version is none. An `ipcs` asks for as many rows as the
+/// hello's reply says, but at most for `MAX_ROWS`. What earlier requests did stays done.
 ///
 /// Then the screen is written, and flushed: the table of an `ipcs`, the text and an LF of a `rcv`, nothing of
 /// the others, and of a fault its line alone. Where the screen fails it has taken a prefix of that.
