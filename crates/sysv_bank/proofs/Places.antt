@@ -2,11 +2,13 @@
 use Rattle.std.proofs.Common.{◌≡◌, ℕ, zero, suc, ◌+◌, ◌<◌, ◌≤◌, List, [], ◌∷◌, ◌++◌, map, length, set, get_or, reverse, sym, refl, ap, ◌∙◌, subst, arith, length-append, append_assoc}
 use Rattle.std.specs.Prelude.{Result, Ok, Err, IfOk, IfErr, OnOk}
 use Rattle.std.proofs.lemmas.List.{append-nil, map-append, map-set, length-map, reverse-append, reverse-reverse, nil_from_length}
+use mathlib.Core.Logic.{dite}
+use native.Mathlib.Decide.{ℕ_discrete}
 use mathlib.Core.Option.{some, some-injective, some-ne-none}
 use lib.ListN.{get_elem?}
 use Rattle.atomic_table.proofs.Lists.{at_map, at_index, set_again}
-use Rattle.sysv_gate.specs.Gates.{Gateway, Holding, parted}
-use Rattle.sysv_bank.specs.Banks.{Each2, Each3, ChangesAt, gates_of, AreOfFirst, IsSplit}
+use Rattle.sysv_gate.specs.Gates.{Gateway, Holding, KnowsItsOwn, parted, IsSplit}
+use Rattle.sysv_bank.specs.Banks.{Each2, Each3, ChangesAt, gates_of, AreOfFirst, EachKnowsItsOwn}
 
 pub if_ok : {T E : Type 0} (r : Result T E) (P Q : T → Type 0) → IfOk r P → ((x : T) → P x → Q x) → IfOk r Q
 if_ok (Ok x) P Q is goes = goes x is
@@ -93,6 +95,21 @@ module _ {O C R : Type 0} where
 
     pub gate_there : (h : Gateway O) → get_elem? gates p ≡ some h → h ≡ g
     gate_there h at = some-injective h g (sym at ∙ at_g)
+
+  -- each seat before the place knows its own turns
+  abbrev pub KnownBefore : (O → C → R → O → Type 0) → List (Holding O C R) → ℕ → Type 0
+  KnownBefore moves seats place = (k : ℕ) (h : Holding O C R) → k < place → get_elem? seats k ≡ some h → KnowsItsOwn moves h
+
+  module _ (moves : O → C → R → O → Type 0) (seats : List (Holding O C R)) (place : ℕ) where
+    pub known_next : (b : Holding O C R) → KnownBefore moves seats place → b ≡ get_or seats place b → place < length seats → KnowsItsOwn moves b → KnownBefore moves seats (place + 1)
+    known_next b known here inside knows k h less at = dite (ℕ_discrete k place)
+        (λ same.
+        let there : get_elem? seats place ≡ some h = subst (λ n. get_elem? seats n ≡ some h) same at in
+        subst (KnowsItsOwn moves) (some-injective b h (sym (at_index seats place b inside here) ∙ there)) knows)
+        (λ other. known k h (omega arith) at)
+
+    pub all_known : KnownBefore moves seats place → length seats ≤ place → EachKnowsItsOwn moves seats
+    all_known known all k h at = let inside = at_below seats k h at in known k h (omega arith) at
 
   -- the seats that are left are of the first gates
   pub first_gates : (gates : List (Gateway O)) (all part others : List (Holding O C R)) → gates_of all ≡ gates → all ≡ part ++ others → AreOfFirst gates part

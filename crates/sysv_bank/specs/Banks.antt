@@ -1,10 +1,10 @@
 -- What is so of a bank and its seats, place by place.
-use Rattle.std.specs.Prelude.{◌≡◌, ℕ, ◌^◌, ◌<◌, ◌≤◌, List, [], ◌∷◌, ◌++◌, map, slice_set, Vec}
+use Rattle.std.specs.Prelude.{◌≡◌, ℕ, ◌^◌, ◌<◌, ◌≤◌, List, [], ◌∷◌, map, slice_set, Vec}
 use Rattle.std.specs.List.{All}
 use mathlib.Core.Option.{some}
 use lib.ListN.{get_elem?}
 use Rattle.sysv_lists.specs.Prefix.{IsPrefixOf}
-use Rattle.sysv_gate.specs.Gates.{Gateway, Holding, split_off}
+use Rattle.sysv_gate.specs.Gates.{Gateway, Holding, KnowsItsOwn}
 use Rattle.sysv_gate.specs.declared.refusals.OpenRefused.{OpenRefused}
 use Rattle.sysv_gate.specs.declared.refusals.OpenRefused.TheVariants.{NoMemory, BadStart}
 
@@ -41,9 +41,9 @@ module _ {O C R : Type 0} where
   abbrev pub AreOfFirst : List (Gateway O) → List (Holding O C R) → Type 0
   AreOfFirst gates seats = IsPrefixOf (gates_of seats) gates
 
-  -- the seat was split off
-  abbrev pub IsSplit : Holding O C R → Holding O C R → Type 0
-  IsSplit h other = (number : ℕ) × (other ≡ split_off number h)
+  -- each of the seats has seen a legal history, and knows just the turns of its own in it
+  abbrev pub EachKnowsItsOwn : (O → C → R → O → Type 0) → List (Holding O C R) → Type 0
+  EachKnowsItsOwn moves seats = (place : ℕ) (h : Holding O C R) → get_elem? seats place ≡ some h → KnowsItsOwn moves h
 
 module _ {O : Type 0} where
   -- the gates were opened with these objects, and with this first ticket

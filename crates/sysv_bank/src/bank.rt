@@ -4,10 +4,10 @@ ghost use mathlib.Core.Option.{some};
 ghost use lib.ListN.{get_elem?};
 ghost use Rattle.std.specs.List.{All};
 ghost use Rattle.sysv_gate.specs.History.{Moves, AreUpTo};
-ghost use Rattle.sysv_gate.specs.Gates.{Holding, opened, parted, Joins};
+ghost use Rattle.sysv_gate.specs.Gates.{Holding, opened, parted, IsSplit, Joins};
 ghost use Rattle.sysv_gate.specs.declared.closing.Closing.{Closing as Closed};
 ghost use Rattle.sysv_gate.specs.Closings.{Closes};
-ghost use Rattle.sysv_bank.specs.Banks.{gates_of, AreOfFirst, AreOpened, ChangesAt, Each2, Each3, IsSplit, GivesBack};
+ghost use Rattle.sysv_bank.specs.Banks.{gates_of, AreOfFirst, AreOpened, ChangesAt, Each2, Each3, GivesBack};
 ghost use Rattle.sysv_bank.specs.Making.{all_objects, IsMaking};
 
 use crate::opening::Making;
@@ -72,7 +72,7 @@ impl<O: Object> Bank<O> {
     }
 
     /// Gives a new seat, each of whose seats has seen what the one at the same place of this seat has seen, and has made
-    /// no turn. `NoMemory` leaves all as it is.
+    /// no turn: none that it has seen was made under its number. `NoMemory` leaves all as it is.
     pub fn split(&self, alloc: Global, seat: &mut BankSeat<O>) -> Result<BankSeat<O>, NoMemory>
         requires { gates_of seat.old ≡ self.now }
         ensures gates { gates_of seat.new ≡ self.now }

@@ -4,10 +4,12 @@
 
 mod bank;
 mod calls;
+mod laws;
 mod opening;
 mod refusals;
 mod seat;
 
 pub use bank::Bank;
+pub use laws::each_seat_of_a_bank_knows_its_own;
 pub use refusals::NoMemory;
 pub use seat::BankSeat;

@@ -1,7 +1,7 @@
 -- The replies worked by hand are the legal ones.
-use Rattle.std.proofs.Common.{◌≡◌, ℕ, ℤ, pos, zero, suc, ◌<◌, ◌≤◌, ◌<ℤ◌, ◌≤ℤ◌, ◌^◌, inl, inr, false, List, [], ◌∷◌, Some, refl, arith, slice_get}
+use Rattle.std.proofs.Common.{◌≡◌, ◌≢◌, ℕ, ℤ, pos, zero, suc, ◌<◌, ◌≤◌, ◌<ℤ◌, ◌≤ℤ◌, ◌^◌, inl, inr, false, List, [], ◌∷◌, Some, refl, arith, slice_get}
 use Rattle.std.proofs.lemmas.Int.{ints}
-use Rattle.sysv_model.specs.declared.selector.Selector.TheVariants.{Any, Exactly, UpTo}
+use Rattle.sysv_model.specs.declared.selector.Selector.TheVariants.{Any, Exactly, Except, UpTo}
 use Rattle.sysv_model.specs.Live.{live}
 use Rattle.sysv_rules.specs.Qualifies.{QualifiesAt, type_at}
 use Rattle.sysv_rules.specs.Named.{IsNamed}
@@ -75,6 +75,40 @@ none_up_to_one zero q = let s : pos 5 ≤ℤ pos 1 = q.1 in omega (arith, ints)
 none_up_to_one (suc zero) q = let s : pos 2 ≤ℤ pos 1 = q.1 in omega (arith, ints)
 none_up_to_one (suc (suc place)) q = let within = q.0 in omega arith
 
+-- every type but one
+no_other_before : (earlier : ℕ) → earlier < 1 → ¬ QualifiesAt (Except (pos 5)) the_types earlier
+no_other_before zero below q = q.1 refl
+no_other_before (suc earlier) below q = omega arith
+
+but_five_named : IsNamed (Except (pos 5)) the_types 1
+but_five_named = ((omega arith, λ same. let s : pos 2 ≡ pos 5 = same in omega (arith, ints)), no_other_before)
+
+first_differs : (refused : ℤ) → pos 5 ≢ refused → IsNamed (Except refused) the_types 0
+first_differs refused differs = ((omega arith, differs), λ earlier below q. omega arith)
+
+but_two_named : IsNamed (Except (pos 2)) the_types 0
+but_two_named = first_differs (pos 2) (λ same. omega (arith, ints, same))
+
+but_three_named : IsNamed (Except (pos 3)) the_types 0
+but_three_named = first_differs (pos 3) (λ same. omega (arith, ints, same))
+
+-- the message of the type that is left out is not given, nor a later one
+never_excepted : (place : ℕ) → IsNamed (Except (pos 5)) the_types place → slice_get (hello_message ∷ empty_message ∷ []) place ≡ Some hello_message → ⊥
+never_excepted zero named there = named.0.1 refl
+never_excepted (suc zero) named there =
+    let same : Some empty_message ≡ Some hello_message = there in
+    let first : hello_message ≡ empty_message = cc in
+    not_again first
+never_excepted (suc (suc place)) named there = let within = named.0.0 in omega arith
+
+never_later : (place : ℕ) → IsNamed (Except (pos 3)) the_types place → slice_get (hello_message ∷ empty_message ∷ []) place ≡ Some empty_message → ⊥
+never_later zero named there =
+    let same : Some hello_message ≡ Some empty_message = there in
+    let first : hello_message ≡ empty_message = cc in
+    not_again first
+never_later (suc zero) named there = named.1 0 (omega arith) but_three_named.0
+never_later (suc (suc place)) named there = let within = named.0.0 in omega arith
+
 -- any message is the first
 first_named : IsNamed Any the_types 0
 first_named = ((omega arith, tt), λ earlier below q. omega arith)
@@ -101,6 +135,11 @@ worked_selection = record {
   exactly_two = (refl, receiver_reads, (1, two_named, refl), inl (omega arith));
   exactly_three = (refl, receiver_reads, λ place named. no_three place named.0, refl);
   up_to_one = (refl, receiver_reads, λ place named. none_up_to_one place named.0, refl);
+  except_five = (refl, receiver_reads, (1, but_five_named, refl), inl (omega arith));
+  except_two = (refl, receiver_reads, (0, but_two_named, refl), inl (omega arith));
+  except_three = (refl, receiver_reads, (0, but_three_named, refl), inl (omega arith));
+  not_excepted = λ legal. never_excepted legal.2.0 legal.2.1 legal.2.2;
+  not_later = λ legal. never_later legal.2.0 legal.2.1 legal.2.2;
   too_long = (refl, receiver_reads, (hello_message, (0, first_named, refl), four_short));
   not_cut = λ legal. four_short legal.3;
   cut = (refl, receiver_reads, (0, first_named, refl), inr refl);

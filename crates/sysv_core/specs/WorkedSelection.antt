@@ -4,7 +4,7 @@
 use Rattle.std.specs.Prelude.{ℕ, pos, ◌^◌, true, false}
 use Rattle.sysv_model.specs.declared.cred.Cred.{Cred}
 use Rattle.sysv_model.specs.declared.selector.Selector.{Selector}
-use Rattle.sysv_model.specs.declared.selector.Selector.TheVariants.{Any, Exactly, UpTo}
+use Rattle.sysv_model.specs.declared.selector.Selector.TheVariants.{Any, Exactly, Except, UpTo}
 use Rattle.sysv_model.specs.History.{Call, Look, Take, Reply, Denied, Full, Fits, NoMatch, TooLong, Taken}
 use Rattle.sysv_queue.specs.LegalReply.{IsLegalReply}
 use Rattle.sysv_core.specs.WorkedRun.{receiver, hello_message, empty_message, after_turns}
@@ -37,6 +37,12 @@ pub record WorkedSelection : Type 0 where
   pub exactly_two : IsReply (takes receiver (Exactly (pos 2)) 100) (Taken empty_message)
   pub exactly_three : IsReply (takes receiver (Exactly (pos 3)) 100) (NoMatch 2)
   pub up_to_one : IsReply (takes receiver (UpTo 1) 100) (NoMatch 2)
+  -- the earliest of every type but one, and of that type none
+  pub except_five : IsReply (takes receiver (Except (pos 5)) 100) (Taken empty_message)
+  pub except_two : IsReply (takes receiver (Except (pos 2)) 100) (Taken hello_message)
+  pub except_three : IsReply (takes receiver (Except (pos 3)) 100) (Taken hello_message)
+  pub not_excepted : ¬ IsReply (takes receiver (Except (pos 5)) 100) (Taken hello_message)
+  pub not_later : ¬ IsReply (takes receiver (Except (pos 3)) 100) (Taken empty_message)
   -- a longer text stays, and is given only with leave to cut it
   pub too_long : IsReply (takes receiver Any 4) TooLong
   pub not_cut : ¬ IsReply (takes receiver Any 4) (Taken hello_message)

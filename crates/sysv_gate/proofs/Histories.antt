@@ -33,6 +33,12 @@ module _ {O C R : Type 0} where
   made_at-nobody (u ∷ us) zero = refl
   made_at-nobody (u ∷ us) (suc p) = made_at-nobody us p
 
+  -- who made no turn has made none before
+  pub made_at-front : (numbers : List ℕ) (ts us : List (Turn O C R)) → ((p : ℕ) → made_at numbers (ts ++ us) p ≡ 0) → (p : ℕ) → made_at numbers ts p ≡ 0
+  made_at-front numbers [] us none p = refl
+  made_at-front numbers (t ∷ ts) us none zero = none zero
+  made_at-front numbers (t ∷ ts) us none (suc p) = made_at-front numbers ts us (λ q. none (suc q)) p
+
   pub made_at-append : (one two : List ℕ) (ts : List (Turn O C R)) (p : ℕ) → made_at (one ++ two) ts p ≡ made_at one ts p + made_at two ts p
   made_at-append one two [] p = omega arith
   made_at-append one two (u ∷ us) zero = times-append u.by one two

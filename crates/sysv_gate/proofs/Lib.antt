@@ -5,6 +5,7 @@ pub mod Announcing
 pub mod Stepping
 pub mod Opening
 pub mod Turning
+pub mod Resting
 pub mod Seating
 pub mod AtTheEnd
 pub mod Agreeing

@@ -23,7 +23,7 @@ use Rattle.sysv_lists.proofs.Sums.{sum_by-set_at}
 use Rattle.sysv_lists.proofs.Counting.{times-one, times-append, times-one-le}
 use Rattle.sysv_gate.proofs.Counting.{another}
 use Rattle.sysv_lists.proofs.Prefixes.{prefix_self}
-use Rattle.sysv_gate.proofs.Histories.{made_at-nobody, made_at-append}
+use Rattle.sysv_gate.proofs.Histories.{made_at-nobody, made_at-front, made_at-append}
 use Rattle.sysv_gate.proofs.Keeping.{own_turns, stays, still_alone, not_alone}
 use Rattle.sysv_gate.proofs.Announcing.{none_yet, larger_up_to, counts_on, counts_more}
 use Rattle.sysv_gate.proofs.Stepping.{on_serving, told_on}
@@ -97,13 +97,15 @@ module _ {O C R : Type 0} (moves : O → C → R → O → Type 0) (counted : O 
   pub names : (slots id : ℕ) (me : M) (o : O) → me.0.opening ≡ Some o → me.0.numbers ≡ [] → me.0.in_turn ≡ false → Allows Holds slots id me 16 (λ n. n) (Names (step slots 16 0 0 none) me)
   names slots id me o knows empty idle s held _ at _ =
       let w : V = named id me.0 in
+      let kept = held.2.2 in
+      let fits = kept.each id me.0 at in
       let log : Log = held.2.0 in (
         w,
         keeps,
         tt,
         on_serving moves counted opening first s log (get_or s.words 16 0) s.homes (set s.views id w) held.0 held.1 held.2.1
             (naming_keeps log (get_or s.words 32 0) id s.homes s.views me.0 o held.2.2 at knows empty idle) (told_on moves counted opening first s log id me.0 w held.2.3 at refl (λ _. idle) refl),
-        (id, refl),
+        (id, refl, made_at-front (id ∷ []) me.0.seen fits.seen.0 (λ p. subst (λ (l : Log). made_at (id ∷ []) l p ≡ 0) fits.seen.1 (kept.known id (kept.nameless id me.0 at o knows empty) p))),
       )
 
   -- a seat comes that has seen what another has

@@ -167,6 +167,7 @@ module _ {O C R : Type 0} (moves : O → C → R → O → Type 0) (counted : O 
       × (get_or s.words 16 0 ≡ first + length log) × IsLegal moves opening log
       × (b ≡ true → (last : Option (Done C R)) × (carried_after me.1 a ≡ (0, put (after_all opening log) last) ∷ [])) × (b ≡ false → carried_after me.1 a ≡ me.1)
       × (b ≡ true → BeginsTurn log me.0)
+      × HasItsOwn me.0.numbers me.0.own log
   looks_as true id me s held at idle bare holds =
       let n : ℕ = get_or s.words 16 0 in
       let log : Log = held.2.0 in
@@ -189,7 +190,8 @@ module _ {O C R : Type 0} (moves : O → C → R → O → Type 0) (counted : O 
         kept.legal,
         (λ _. (home.0, ap (λ (xs : List (ℕ × Spot O C R)). (0, put (after_all opening log) home.0) ∷ xs) bare)),
         (λ turn. absurd (true≢false turn)),
-        λ _. at_first s log id me.0 held.2.3 at (nobody_in_turn moves opening first log drawn id s.homes s.views me.0 kept at has idle),
+        (λ _. at_first s log id me.0 held.2.3 at (nobody_in_turn moves opening first log drawn id s.homes s.views me.0 kept at has idle)),
+        own_turns moves opening first log drawn id s.homes s.views me.0 kept at,
       )
   looks_as false id me s held at idle bare holds =
       let n : ℕ = get_or s.words 16 0 in
@@ -211,7 +213,8 @@ module _ {O C R : Type 0} (moves : O → C → R → O → Type 0) (counted : O 
         kept.legal,
         (λ turn. absurd (true≢false (sym turn))),
         (λ _. refl),
-        λ turn. absurd (true≢false (sym turn)),
+        (λ turn. absurd (true≢false (sym turn))),
+        own_turns moves opening first log drawn id s.homes s.views me.0 kept at,
       )
 
   pub looks : (slots id : ℕ) (me : M) → me.0.in_turn ≡ false → me.1 ≡ [] → Allows Holds slots id me 16 (λ n. n) (Turns moves counted (step slots 16 0 0 none) me)
@@ -231,7 +234,7 @@ module _ {O C R : Type 0} (moves : O → C → R → O → Type 0) (counted : O 
             let same : opening ≡ o = sym start.0 in
             let due : n ≡ me.0.first + length log = went.5 ∙ ap (λ (m : ℕ). m + length log) (sym start.1) in
             let legal : IsLegal moves o log = subst (λ (p : O). IsLegal moves p log) same went.6 in (
-              record { log = log; longer = went.4; count = due; view = refl },
+              record { log = log; longer = went.4; count = due; view = refl; own = went.10 },
               legal,
               (λ turn.
                   let out = went.7 turn in

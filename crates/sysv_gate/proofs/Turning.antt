@@ -46,6 +46,7 @@ module _ {O C R : Type 0} where
           longer = told.0.longer;
           count = told.0.count;
           legal = subst (λ (v : View O C R). IsLegal moves o v.seen) view told.1;
+          own = told.0.own;
           mine = λ held.
               let now = one_held n m.0.tickets held in record {
                 log = log;
@@ -67,6 +68,9 @@ module _ {O C R : Type 0} where
 
     pub look_legal : (m : Mine O C R) (n : ℕ) (m' : Mine O C R) → m.0.tickets ≡ [] → Looked moves counted o m n m' → IsLegal moves o m'.0.seen
     look_legal m n m' empty look = subst (λ (x : Mine O C R). IsLegal moves o x.0.seen) (sym (look.other (ap (times n) empty))) look.legal
+
+    pub look_own : (m : Mine O C R) (n : ℕ) (m' : Mine O C R) → m.0.tickets ≡ [] → Looked moves counted o m n m' → HasItsOwn m'.0.numbers m'.0.own m'.0.seen
+    look_own m n m' empty look = subst (λ (x : Mine O C R). HasItsOwn x.0.numbers x.0.own x.0.seen) (sym (look.other (ap (times n) empty))) look.own
 
     pub look_count : (m : Mine O C R) (n : ℕ) (m' : Mine O C R) → m.0.tickets ≡ [] → Looked moves counted o m n m' → n ≡ m'.0.first + length m'.0.seen
     look_count m n m' empty look = subst (λ (x : Mine O C R). n ≡ x.0.first + length x.0.seen) (sym (look.other (ap (times n) empty))) look.count

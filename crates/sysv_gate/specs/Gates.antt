@@ -67,6 +67,12 @@ module _ {O C R : Type 0} where
     pub own : HasItsOwn after.numbers after.own after.seen
     pub counts : (count : Count) → of_count count before.read ≤ of_count count (counted (after_all before.gate.opening (before.seen ++ others)))
 
+  -- What is so of every seat: the history that it has seen is legal, and of its own turns it has just those that the seat
+  -- knows of, each once
+  pub record KnowsItsOwn (moves : O → C → R → O → Type 0) (h : Holding O C R) : Type 0 where
+    pub legal : IsLegal moves h.gate.opening h.seen
+    pub own : HasItsOwn h.numbers h.own h.seen
+
   -- a seat from which another was split off is not alone
   abbrev pub parted : Holding O C R → Holding O C R
   parted h = record h { alone = false }
@@ -74,6 +80,10 @@ module _ {O C R : Type 0} where
   -- the seat that was split off: it has a number of its own, has seen and read what its origin has, and has made no turn
   abbrev pub split_off : ℕ → Holding O C R → Holding O C R
   split_off number h = record h { number = number; numbers = number ∷ []; own = []; alone = false }
+
+  -- a seat was split off, and none of the turns that it has seen was made under its number
+  abbrev pub IsSplit : Holding O C R → Holding O C R → Type 0
+  IsSplit h other = (number : ℕ) × (other ≡ split_off number h) × HasItsOwn other.numbers other.own other.seen
 
   -- One seat has taken in another. It has seen a legal history that begins with what either had seen, and has the turns
   -- and the numbers of both, and what either had read of the counts
@@ -85,8 +95,9 @@ module _ {O C R : Type 0} where
     pub legal : IsLegal moves one.gate.opening seen
     pub own : HasItsOwn after.numbers after.own seen
 
-  -- the seat has seen more, which is legal, and is else what it was
+  -- the seat has seen more, which is legal and has no more of its own turns, and is else what it was
   pub record SeesMore (moves : O → C → R → O → Type 0) (before after : Holding O C R) : Type 0 where
     pub others : List (Turn O C R)
     pub seen : after ≡ saw others before
     pub legal : IsLegal moves after.gate.opening after.seen
+    pub own : HasItsOwn after.numbers after.own after.seen

@@ -1,10 +1,11 @@
 -- How a seat is kept between two calls: no slot is out with it, it has no ticket and no turn, its number is one of its
--- numbers, and it knows the gate's key.
+-- numbers, it knows the gate's key, and it has seen a legal history, in which its own turns are those under its numbers.
 use Rattle.std.specs.Prelude.{◌≡◌, ◌≤◌, false, [], Some}
 use Rattle.sysv_gate.specs.declared.seat.Seat.TheInside.{Inside}
 use Rattle.atomic_table.specs.declared.shared.Seat.{Seat}
 use Rattle.sysv_gate.specs.declared.view.View.{View}
 use Rattle.sysv_gate.specs.Rule.{Spot}
+use Rattle.sysv_gate.specs.History.{IsLegal, HasItsOwn}
 use Rattle.sysv_gate.specs.Gates.{Holding}
 use Rattle.sysv_lists.specs.Numbers.{times}
 
@@ -21,7 +22,7 @@ module _ {O C R : Type 0} where
     alone = s.token.me.0.alone;
   }
 
-  pub record IsAtRest (s : Inside O C R) : Type 0 where
+  pub record IsAtRest (moves : O → C → R → O → Type 0) (s : Inside O C R) : Type 0 where
     pub no_slot : s.token.me.1 ≡ []
     pub no_ticket : s.token.me.0.tickets ≡ []
     pub no_turn : s.token.me.0.in_turn ≡ false
@@ -29,6 +30,8 @@ module _ {O C R : Type 0} where
     pub opening : s.token.me.0.opening ≡ Some s.key.value.opening.value
     pub first : s.token.me.0.first ≡ s.key.value.first
     pub named : 1 ≤ times s.token.me.0.number s.token.me.0.numbers
+    pub legal : IsLegal moves s.key.value.opening.value s.token.me.0.seen
+    pub own : HasItsOwn s.token.me.0.numbers s.token.me.0.own s.token.me.0.seen
 
   -- the token of a seat between two calls
   pub record Rests (h : Holding O C R) (token : Seat (Spot O C R) (View O C R)) : Type 0 where

@@ -8,7 +8,7 @@ use Rattle.sysv_gate.specs.declared.count.Count.{Count}
 use Rattle.sysv_lists.specs.Numbers.{times}
 use Rattle.sysv_gate.specs.Counts.{word_of, of_count, with_count, larger}
 use Rattle.sysv_lists.specs.Prefix.{IsPrefixOf}
-use Rattle.sysv_gate.specs.History.{after_all, IsLegal, HasItsOwn}
+use Rattle.sysv_gate.specs.History.{after_all, IsLegal, made_at, HasItsOwn}
 use Rattle.sysv_gate.specs.Rule.{Spot, put}
 
 module _ {O C R : Type 0} where
@@ -88,8 +88,9 @@ module _ {O C R : Type 0} where
   abbrev pub Draws : At O C R → Mine O C R → ℕ → Mine O C R → Type 0
   Draws st m n m' = (n ≡ st.first → (m' ≡ (drew n m.0, m.1)) × (m.0.worn ≡ false)) × (¬ (n ≡ st.first) → m' ≡ m)
 
+  -- no turn that the seat has seen was made under the number that it gets
   abbrev pub Names : At O C R → Mine O C R → ℕ → Mine O C R → Type 0
-  Names st m n m' = (number : ℕ) × (m' ≡ (named number m.0, m.1))
+  Names st m n m' = (number : ℕ) × (m' ≡ (named number m.0, m.1)) × ((p : ℕ) → made_at (number ∷ []) m.0.seen p ≡ 0)
 
   -- What a seat knows that has the turn, and with it the object after all that it has seen. It has read no more of the
   -- counts than they are then, and has announced nothing yet
@@ -105,6 +106,7 @@ module _ {O C R : Type 0} where
     pub longer : IsPrefixOf m.0.seen log
     pub count : n ≡ m.0.first + length log
     pub view : m'.0 ≡ looked n log m.0
+    pub own : HasItsOwn m.0.numbers m.0.own log
 
   module _ (moves : O → C → R → O → Type 0) (counted : O → ℕ × ℕ) where
     abbrev pub Turns : At O C R → Mine O C R → ℕ → Mine O C R → Type 0

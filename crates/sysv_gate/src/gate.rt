@@ -1,7 +1,7 @@
 //! Gates.
 ghost use Rattle.std.specs.Prelude.{◌≡◌, ℕ, ◌^◌, ◌≤◌, false, IfOk, IfErr, OnOk};
 ghost use Rattle.sysv_gate.specs.History.{Moves, AreUpTo};
-ghost use Rattle.sysv_gate.specs.Gates.{opened, marked, parted, split_off, Answers, Joins};
+ghost use Rattle.sysv_gate.specs.Gates.{opened, marked, parted, Answers, IsSplit, Joins};
 ghost use Rattle.sysv_gate.specs.Refusals.{HandsBack, Refuses};
 ghost use Rattle.sysv_gate.specs.Closings.{Closes};
 ghost use Rattle.sysv_gate.specs.declared.refusals.OpenRefused.TheVariants.{NoMemory};
@@ -139,12 +139,13 @@ impl<O: Object> Gate<O> {
         self.ring();
     }
 
-    /// Gives a new seat, which has seen what this one has seen, and has made no turn. It may go to another thread.
+    /// Gives a new seat, which has seen what this one has seen, and has made no turn: none that it has seen was made
+    /// under its number. It may go to another thread.
     pub fn split(&self, seat: &mut Seat<O>) -> Seat<O>
         requires { seat.old.gate ≡ self.now }
         ensures gate { result.gate ≡ self.now }
         ensures same { seat.new ≡ parted seat.old }
-        ensures new { (n : ℕ) × (result ≡ split_off n seat.old) }
+        ensures new { IsSplit seat.old result }
     {
         let mut token = self.table.shared.split_seat::<Sharing>(&mut seat.token);
         self.table.shared.load::<Naming>(&mut token, SERVING);

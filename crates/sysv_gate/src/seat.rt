@@ -20,10 +20,11 @@ impl<O: Object> Model for Seat<O> {
     ghost Value = { Holding O O.Call O.Reply };
 
     ghost use Rattle.sysv_gate.specs.Held.{held, IsAtRest};
+    ghost use Rattle.sysv_gate.specs.History.{Moves};
 
     ghost view = { held };
 
-    ghost invariant = { IsAtRest };
+    ghost invariant = { IsAtRest (Moves O.meaning O.counted) };
 }
 
 impl<O: Object> Drop for Seat<O> {

@@ -1,5 +1,5 @@
 -- What a gate answered is a turn of the object.
-use Rattle.std.proofs.Common.{◌≡◌, ℕ, List, [], ◌∷◌, ◌++◌, false, Result, Ok, Err, IfOk, refl, subst}
+use Rattle.std.proofs.Common.{◌≡◌, ℕ, List, [], ◌∷◌, ◌++◌, false, Result, Ok, Err, IfOk, OnOk, refl, subst}
 use Rattle.sysv_gate.specs.declared.view.Turn.{Turn}
 use Rattle.sysv_gate.specs.History.{Moves, IsLegal, after_all}
 use Rattle.sysv_gate.specs.Gates.{Holding, Answers, made, saw}
@@ -40,6 +40,13 @@ pub if_ok : {T E : Type 0} (r : Result T E) (P Q : T → Type 0) → IfOk r P �
 if_ok (Ok x) P Q is goes = goes x is
 if_ok (Err e) P Q is goes = tt
 
+pub fact_of : {T E : Type 0} (r : Result T E) (W : Type 0) (x : T) → r ≡ Ok x → OnOk r W → W
+fact_of r W x is ok = subst (λ s. OnOk s W) is ok
+
+pub if_ok_too : {T E : Type 0} (r : Result T E) (P Q : T → Type 0) (W : Type 0) → IfOk r P → OnOk r W → ((x : T) → P x → W → Q x) → IfOk r Q
+if_ok_too (Ok x) P Q W is also goes = goes x is also
+if_ok_too (Err e) P Q W is also goes = tt
+
 pub slot_answers : (number : ℕ) (before : Seats) (call : SlotCall) (reply : SlotReply) (after : Seats) →
     ChangesAt number before.slots after.slots (λ b a. Answers (Moves SlotMoves slot_counts) slot_counts b call reply a × (b.worn ≡ false)) → after.registry ≡ before.registry → after.pool ≡ before.pool →
     SlotAnswers number before call reply after
@@ -54,7 +61,7 @@ slot_answers number before call reply after c registry pool =
           is = c.is;
           at = c.at;
           others = c.others;
-          change = record { call = call; reply = reply; answers = c.change.0; entered = refl };
+          change = record { call = call; reply = reply; answers = c.change.0; fresh = c.change.1; entered = refl };
         },
         registry,
         pool,
@@ -63,17 +70,17 @@ slot_answers number before call reply after c registry pool =
     }
 
 pub registry_answers : (before : Seats) (call : RegistryCall) (reply : RegistryReply) (after : Seats) →
-    Answers (Moves RegistryMoves registry_counts) registry_counts before.registry call reply after.registry → after.slots ≡ before.slots → after.pool ≡ before.pool →
+    Answers (Moves RegistryMoves registry_counts) registry_counts before.registry call reply after.registry → before.registry.worn ≡ false → after.slots ≡ before.slots → after.pool ≡ before.pool →
     RegistryAnswers before call reply after
-registry_answers before call reply after a slots pool = record {
-  turn = (record { call = call; reply = reply; answers = a; entered = refl }, slots, pool);
+registry_answers before call reply after a fresh slots pool = record {
+  turn = (record { call = call; reply = reply; answers = a; fresh = fresh; entered = refl }, slots, pool);
   fits = (turn_meant RegistryMoves registry_counts before.registry call reply after.registry a).fits;
 }
 
 pub pool_answers : (before : Seats) (call : PoolCall) (reply : PoolReply) (after : Seats) →
-    Answers (Moves PoolMoves pool_counts) pool_counts before.pool call reply after.pool → after.slots ≡ before.slots → after.registry ≡ before.registry →
+    Answers (Moves PoolMoves pool_counts) pool_counts before.pool call reply after.pool → before.pool.worn ≡ false → after.slots ≡ before.slots → after.registry ≡ before.registry →
     PoolAnswers before call reply after
-pool_answers before call reply after a slots registry = record {
-  turn = (record { call = call; reply = reply; answers = a; entered = refl }, slots, registry);
+pool_answers before call reply after a fresh slots registry = record {
+  turn = (record { call = call; reply = reply; answers = a; fresh = fresh; entered = refl }, slots, registry);
   fits = (turn_meant PoolMoves pool_counts before.pool call reply after.pool a).fits;
 }

@@ -3,3 +3,4 @@ pub mod Answering
 pub mod Vacancy
 pub mod Histories
 pub mod Closing
+pub mod Obeying

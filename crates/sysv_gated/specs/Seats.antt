@@ -1,6 +1,6 @@
 -- What is seen of the gates of all objects and of a seat at each of them, and what a turn of a seat's own is (this
 -- profile's).
-use Rattle.std.specs.Prelude.{◌≡◌, ℕ, List, [], ◌∷◌, ◌++◌}
+use Rattle.std.specs.Prelude.{◌≡◌, ℕ, false, List, [], ◌∷◌, ◌++◌}
 use Rattle.sysv_model.specs.History.{Seat, Entry, History}
 use Rattle.sysv_model.specs.Registry.{RegistryEntry, RegistryHistory}
 use Rattle.sysv_model.specs.Pool.{PoolEntry, PoolHistory}
@@ -84,11 +84,12 @@ object_of seat = after_all seat.gate.opening seat.seen
 -- ---- turns
 
 -- A turn of the seat's own was answered: the history that it has seen goes on by turns of others, and then by this one, whose
--- entry is the one given
+-- entry is the one given. Its gate was not marked worn out before
 pub record TakesTurn {O C R E : Type 0} (moves : O → C → R → O → Type 0) (counted : O → ℕ × ℕ) (entry : O → Turn O C R → E) (e : E) (before after : Holding O C R) : Type 0 where
   pub call : C
   pub reply : R
   pub answers : Answers (Moves moves counted) counted before call reply after
+  pub fresh : before.worn ≡ false
   pub entered : entry (after_all before.gate.opening (before.seen ++ answers.others)) (record { by = before.number; call = call; reply = reply; after = answers.object }) ≡ e
 
 -- the turn was made at its object, and nothing was done at any other

@@ -11,11 +11,15 @@ use Rattle.sysv_pool.specs.PoolLaw.{PoolLaw}
 use Rattle.sysv_queue.specs.QueueLaw.{QueueLaw}
 use Rattle.sysv_pool.specs.StandsFor.{StandsFor as PoolStandsFor}
 use Rattle.sysv_queue.specs.StandsFor.{StandsFor as SlotStandsFor}
+use mathlib.Core.Option.{some}
+use lib.ListN.{get_elem?}
 use Rattle.sysv_gate.specs.History.{Moves, IsLegal}
+use Rattle.sysv_gate.specs.Gates.{KnowsItsOwn}
 use Rattle.sysv_gated.specs.SlotTurns.{slot_counts, SlotMoves}
 use Rattle.sysv_gated.specs.RegistryTurns.{registry_counts, RegistryMoves}
 use Rattle.sysv_gated.specs.PoolTurns.{pool_counts, PoolMoves}
-use Rattle.sysv_gated.specs.Seats.{SlotSeat, RegistrySeat, PoolSeat, slot_entry, registry_entry, pool_entry, slot_seen, registry_seen, pool_seen, object_of, TakesTurn}
+use Rattle.sysv_gated.specs.Opened.{AreOpen}
+use Rattle.sysv_gated.specs.Seats.{SlotSeat, RegistrySeat, PoolSeat, Gates, Seats, AreOf, slot_entry, registry_entry, pool_entry, slot_seen, registry_seen, pool_seen, object_of, TakesTurn}
 
 pub record SeenHistories : Type 0 where
   pub slots : (seat : SlotSeat) → SlotStandsFor [] seat.gate.opening → IsLegal (Moves SlotMoves slot_counts) seat.gate.opening seat.seen → SlotStandsFor (slot_seen seat) (object_of seat)
@@ -29,6 +33,24 @@ pub record SeenHistoriesObey : Type 0 where
   pub registry : (generation : ℕ) (seat : RegistrySeat) → RegistryStandsFor generation [] seat.gate.opening → IsLegal (Moves RegistryMoves registry_counts) seat.gate.opening seat.seen →
       RegistryLaw generation (registry_seen seat)
   pub pool : (seat : PoolSeat) → PoolStandsFor [] seat.gate.opening → IsLegal (Moves PoolMoves pool_counts) seat.gate.opening seat.seen → PoolLaw (object_of seat).size (pool_seen seat)
+
+-- ---- the seats at all objects
+
+-- each of the seats has seen a legal history, and knows just the turns of its own in it
+pub record EachKnowsItsOwn (seats : Seats) : Type 0 where
+  pub slots : (slot : ℕ) (seat : SlotSeat) → get_elem? seats.slots slot ≡ some seat → KnowsItsOwn (Moves SlotMoves slot_counts) seat
+  pub registry : KnowsItsOwn (Moves RegistryMoves registry_counts) seats.registry
+  pub pool : KnowsItsOwn (Moves PoolMoves pool_counts) seats.pool
+
+-- what each of the seats has seen obeys the law of its object, whose identifiers began with this generation
+pub record EachObeys (generation : ℕ) (seats : Seats) : Type 0 where
+  pub slots : (slot : ℕ) (seat : SlotSeat) → get_elem? seats.slots slot ≡ some seat → QueueLaw (slot_seen seat)
+  pub registry : RegistryLaw generation (registry_seen seats.registry)
+  pub pool : PoolLaw (object_of seats.pool).size (pool_seen seats.pool)
+
+-- so do seats of gates at whose objects nothing had happened when they were opened
+abbrev pub ObeysIfOpen : Seats → Type 0
+ObeysIfOpen seats = (generation blocks first : ℕ) (gates : Gates) → AreOpen generation blocks first gates → AreOf gates seats → EachObeys generation seats
 
 pub record OwnTurnsAreLast : Type 0 where
   pub slots : (before after : SlotSeat) (e : Entry) → TakesTurn SlotMoves slot_counts slot_entry e before after → (others : History) × (slot_seen after ≡ (slot_seen before ++ others) ++ e ∷ [])

@@ -1,9 +1,9 @@
 -- How the seats at all objects are split and joined, and what the gates give back when they are closed (this profile's).
 use Rattle.std.specs.Prelude.{◌≡◌, map}
 use Rattle.sysv_gate.specs.History.{Moves}
-use Rattle.sysv_gate.specs.Gates.{parted, Joins}
+use Rattle.sysv_gate.specs.Gates.{parted, IsSplit, Joins}
 use Rattle.sysv_gate.specs.Closings.{Closes}
-use Rattle.sysv_bank.specs.Banks.{Each2, Each3, IsSplit}
+use Rattle.sysv_bank.specs.Banks.{Each2, Each3}
 use Rattle.sysv_gated.specs.declared.opening.GatesClosed.{GatesClosed}
 use Rattle.sysv_gated.specs.SlotTurns.{slot_counts, SlotMoves}
 use Rattle.sysv_gated.specs.RegistryTurns.{registry_counts, RegistryMoves}

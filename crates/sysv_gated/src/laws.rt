@@ -1,7 +1,10 @@
 //! Laws over the definitions alone.
 
-ghost use Rattle.sysv_gated.specs.SeenHistories.{SeenHistories, SeenHistoriesObey, OwnTurnsAreLast};
+ghost use Rattle.sysv_gated.specs.SeenHistories.{SeenHistories, SeenHistoriesObey, EachKnowsItsOwn, ObeysIfOpen, OwnTurnsAreLast};
 
+use crate::seats::Seats;
+use sysv_bank::each_seat_of_a_bank_knows_its_own;
+use sysv_gate::each_seat_knows_its_own;
 use sysv_keys::registry_law;
 use sysv_pool::pool_law;
 use sysv_queue::queue_law;
@@ -19,6 +22,18 @@ pub fn seen_histories_obey()
     queue_law();
     registry_law();
     pool_law();
+}
+
+/// What every seat has seen is legal, whatever calls were made with it, and it knows just the turns of its own in it, each
+/// once. So what it has seen obeys the law of its object.
+pub fn each_seat_obeys(seats: &Seats)
+    ensures knows { EachKnowsItsOwn seats.now }
+    ensures obeys { ObeysIfOpen seats.now }
+{
+    each_seat_of_a_bank_knows_its_own(&seats.slots);
+    each_seat_knows_its_own(&seats.registry);
+    each_seat_knows_its_own(&seats.pool);
+    seen_histories_obey();
 }
 
 /// A turn of the seat's own is the last entry of what it has seen then, after all that it had seen before.

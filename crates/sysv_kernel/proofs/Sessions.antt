@@ -21,9 +21,9 @@ module _ {K S C : Type 0} (service : K → S) (clock : K → C) (pass : K → Pa
       let onward : Leads (asks_with (may (clock old))) cred (pass h.0) calls (pass new) = subst (λ c. Leads (asks_with (may c)) cred (pass h.0) calls (pass new)) h.1.1 rest.2 in
       (rest.0 ∙ h.1.0, rest.1 ∙ h.1.1, (pass h.0, h.1.2, onward))
 
-  pub serves : (served : Served) (old new : K) (left rest taken more : Option (List ℕ)) → Serves ByPass served old new left rest taken more →
-      (service new ≡ service old) × (clock new ≡ clock old) × Serves (asks_with (may (clock old))) served (pass old) (pass new) left rest taken more
-  serves served old new left rest taken more h =
+  pub serves : (slots : ℕ) (served : Served) (old new : K) (left rest taken more : Option (List ℕ)) → Serves ByPass slots served old new left rest taken more →
+      (service new ≡ service old) × (clock new ≡ clock old) × Serves (asks_with (may (clock old))) slots served (pass old) (pass new) left rest taken more
+  serves slots served old new left rest taken more h =
       elim h [
         | inl stays ↦ (
           ap service stays.kernel,
@@ -41,6 +41,7 @@ module _ {K S C : Type 0} (service : K → S) (clock : K → C) (pass : K → Pa
               led.0,
               led.1,
               inr (record {
+                version = talks.version;
                 cred = talks.cred;
                 known = talks.known;
                 calls = talks.calls;

@@ -4,17 +4,17 @@ ghost use Rattle.std.specs.Prelude.{◌≡◌, ◌≤◌, ℕ, List, [], Some};
 ghost use Rattle.sysv_gated.specs.Seats.{AreOf};
 ghost use Rattle.sysv_session.specs.Answers.{MayAnswer};
 ghost use Rattle.sysv_session.specs.Course.{Course, Follows, Takes};
-ghost use Rattle.sysv_session.specs.Session.{Serves};
-ghost use Rattle.sysv_kernel.specs.Asked.{Gets, Sends, Receives, Stats, Sets, Removes, Shows, asks_with};
+ghost use Rattle.sysv_kernel.specs.Asked.{Gets, Sends, Receives, Stats, Sets, Removes, ServesPass, Shows};
 ghost use Rattle.sysv_kernel.specs.Replies.{reply as the_reply, shown_stat as stat_shown, shown_row as row_shown};
 
 use std::alloc::Global;
 use std::io::{Read, Write};
 use std::sync::Wait;
+use sysv_keys::SLOTS;
 use sysv_model::{Body, Cred, Flags, Row, SetTo, Stat};
 use sysv_service::{Clock, Pass, Service};
-use sysv_session::{Kernel, Outcome, Served, serve};
-use sysv_wire::{Ask, MAX_MODE, Op, Outcome as Told, Reply, Request};
+use sysv_session::{Kernel, Outcome, Served, Texts, serve, serve_with};
+use sysv_wire::{Ask, MAX_MODE, Op, Outcome as Told, Reply, Request, Version};
 
 /// A service as one session asks it: with a pass of its own, the moments of a clock, and the handle to wait. Each request is
 /// one call of the service. It can be neither dropped nor copied: it ends by `into_pass`.
@@ -42,14 +42,15 @@ impl<'a, C: Clock, R: Wait> ServiceKernel<'a, C, R> {
         }
     }
 
-    /// Runs one session, as `sysv_session::serve` does, with this kernel.
+    /// Runs one session, as `sysv_session::serve` does, with this kernel. A hello of version 2 is told that there are
+    /// `sysv_keys::SLOTS` slots.
     pub fn serve<I: Read, O: Write>(
         &mut self,
         alloc: Global,
         reader: &mut I,
         writer: &mut O,
     ) -> Served
-        ensures serves { Serves (asks_with (C.may self.old.clock.now)) result self.old.pass self.new.pass (I.remaining reader.old) (I.remaining reader.new)
+        ensures serves { ServesPass (C.may self.old.clock.now) result self.old.pass self.new.pass (I.remaining reader.old) (I.remaining reader.new)
             (O.contents writer.old) (O.contents writer.new) }
         // It ends as its input tells, unless it is cut short.
         ensures only { (input : List ℕ) (course : Course) → I.remaining reader.old ≡ Some input → Takes input course → Follows course result }
@@ -57,6 +58,23 @@ impl<'a, C: Clock, R: Wait> ServiceKernel<'a, C, R> {
         ensures clock { self.new.clock ≡ self.old.clock }
     {
         serve(alloc, reader, writer, self)
+    }
+
+    /// As `serve`, with two texts that are there already. It takes no memory.
+    pub fn serve_with<I: Read, O: Write>(
+        &mut self,
+        texts: &mut Texts,
+        reader: &mut I,
+        writer: &mut O,
+    ) -> Served
+        ensures serves { ServesPass (C.may self.old.clock.now) result self.old.pass self.new.pass (I.remaining reader.old) (I.remaining reader.new)
+            (O.contents writer.old) (O.contents writer.new) }
+        // It ends as its input tells, unless it is cut short.
+        ensures only { (input : List ℕ) (course : Course) → I.remaining reader.old ≡ Some input → Takes input course → Follows course result }
+        ensures service { self.new.service ≡ self.old.service }
+        ensures clock { self.new.clock ≡ self.old.clock }
+    {
+        serve_with(texts, reader, writer, self)
     }
 
     /// Its pass.
@@ -73,9 +91,9 @@ impl<'a, C: Clock, R: Wait> ServiceKernel<'a, C, R> {
         pass
     }
 
-    fn get(&mut self, cred: Cred, key: i32, flags: Flags) -> Outcome
-        ensures gets { Gets (C.may self.old.clock.now) cred key flags self.old.pass result self.new.pass }
-        ensures answer { MayAnswer (Ask.Get key flags) result [] }
+    fn get(&mut self, version: Version, cred: Cred, key: i32, flags: Flags) -> Outcome
+        ensures gets { Gets (C.may self.old.clock.now) version cred key flags self.old.pass result self.new.pass }
+        ensures answer { MayAnswer version (Ask.Get key flags) result [] }
         ensures service { self.new.service ≡ self.old.service }
         ensures clock { self.new.clock ≡ self.old.clock }
     {
@@ -83,14 +101,22 @@ impl<'a, C: Clock, R: Wait> ServiceKernel<'a, C, R> {
             .service
             .msgget(self.rt, &mut self.pass, self.clock, cred, key, flags);
         match told {
-            Ok(id) => reply(Op::Get, Told::Get { id }),
-            Err(why) => reply(Op::Get, Told::Refused(why)),
+            Ok(id) => reply(version, Op::Get, Told::Get { id }),
+            Err(why) => reply(version, Op::Get, Told::Refused(why)),
         }
     }
 
-    fn send(&mut self, cred: Cred, id: i32, mtype: i64, flags: Flags, text: &Body) -> Outcome
-        ensures sends { Sends (C.may self.old.clock.now) cred id mtype flags text.now self.old.pass result self.new.pass }
-        ensures answer { MayAnswer (Ask.Snd id mtype flags) result [] }
+    fn send(
+        &mut self,
+        version: Version,
+        cred: Cred,
+        id: i32,
+        mtype: i64,
+        flags: Flags,
+        text: &Body,
+    ) -> Outcome
+        ensures sends { Sends (C.may self.old.clock.now) version cred id mtype flags text.now self.old.pass result self.new.pass }
+        ensures answer { MayAnswer version (Ask.Snd id mtype flags) result [] }
         ensures service { self.new.service ≡ self.old.service }
         ensures clock { self.new.clock ≡ self.old.clock }
     {
@@ -99,13 +125,14 @@ impl<'a, C: Clock, R: Wait> ServiceKernel<'a, C, R> {
             .service
             .msgsnd(self.rt, pass, self.clock, cred, id, mtype, text, flags);
         match told {
-            Ok(()) => reply(Op::Snd, Told::Snd),
-            Err(why) => reply(Op::Snd, Told::Refused(why)),
+            Ok(()) => reply(version, Op::Snd, Told::Snd),
+            Err(why) => reply(version, Op::Snd, Told::Refused(why)),
         }
     }
 
     fn receive(
         &mut self,
+        version: Version,
         cred: Cred,
         id: i32,
         size: u32,
@@ -113,8 +140,8 @@ impl<'a, C: Clock, R: Wait> ServiceKernel<'a, C, R> {
         flags: Flags,
         given: &mut Body,
     ) -> Outcome
-        ensures receives { Receives (C.may self.old.clock.now) cred id size mtype flags self.old.pass result given.new self.new.pass }
-        ensures answer { MayAnswer (Ask.Rcv id size mtype flags) result given.new }
+        ensures receives { Receives (C.may self.old.clock.now) version cred id size mtype flags self.old.pass result given.new self.new.pass }
+        ensures answer { MayAnswer version (Ask.Rcv id size mtype flags) result given.new }
         ensures service { self.new.service ≡ self.old.service }
         ensures clock { self.new.clock ≡ self.old.clock }
     {
@@ -124,26 +151,26 @@ impl<'a, C: Clock, R: Wait> ServiceKernel<'a, C, R> {
         );
         match told {
             Ok(delivery) => Outcome::Got(delivery),
-            Err(why) => reply(Op::Rcv, Told::Refused(why)),
+            Err(why) => reply(version, Op::Rcv, Told::Refused(why)),
         }
     }
 
-    fn stat(&mut self, cred: Cred, id: i32) -> Outcome
-        ensures stats { Stats cred id self.old.pass result self.new.pass }
-        ensures answer { MayAnswer (Ask.Stat id) result [] }
+    fn stat(&mut self, version: Version, cred: Cred, id: i32) -> Outcome
+        ensures stats { Stats version cred id self.old.pass result self.new.pass }
+        ensures answer { MayAnswer version (Ask.Stat id) result [] }
         ensures service { self.new.service ≡ self.old.service }
         ensures clock { self.new.clock ≡ self.old.clock }
     {
         let told = self.service.msgctl_stat(self.rt, &mut self.pass, cred, id);
         match told {
-            Ok(stat) => reply(Op::Stat, Told::Stat(shown_stat(stat))),
-            Err(why) => reply(Op::Stat, Told::Refused(why)),
+            Ok(stat) => reply(version, Op::Stat, Told::Stat(shown_stat(stat))),
+            Err(why) => reply(version, Op::Stat, Told::Refused(why)),
         }
     }
 
-    fn set(&mut self, cred: Cred, id: i32, to: SetTo) -> Outcome
-        ensures sets { Sets (C.may self.old.clock.now) cred id to self.old.pass result self.new.pass }
-        ensures answer { MayAnswer (Ask.Set id to) result [] }
+    fn set(&mut self, version: Version, cred: Cred, id: i32, to: SetTo) -> Outcome
+        ensures sets { Sets (C.may self.old.clock.now) version cred id to self.old.pass result self.new.pass }
+        ensures answer { MayAnswer version (Ask.Set id to) result [] }
         ensures service { self.new.service ≡ self.old.service }
         ensures clock { self.new.clock ≡ self.old.clock }
     {
@@ -151,70 +178,79 @@ impl<'a, C: Clock, R: Wait> ServiceKernel<'a, C, R> {
             .service
             .msgctl_set(self.rt, &mut self.pass, self.clock, cred, id, to);
         match told {
-            Ok(()) => reply(Op::Set, Told::Set),
-            Err(why) => reply(Op::Set, Told::Refused(why)),
+            Ok(()) => reply(version, Op::Set, Told::Set),
+            Err(why) => reply(version, Op::Set, Told::Refused(why)),
         }
     }
 
-    fn remove(&mut self, cred: Cred, id: i32) -> Outcome
-        ensures removes { Removes cred id self.old.pass result self.new.pass }
-        ensures answer { MayAnswer (Ask.Rm id) result [] }
+    fn remove(&mut self, version: Version, cred: Cred, id: i32) -> Outcome
+        ensures removes { Removes version cred id self.old.pass result self.new.pass }
+        ensures answer { MayAnswer version (Ask.Rm id) result [] }
         ensures service { self.new.service ≡ self.old.service }
         ensures clock { self.new.clock ≡ self.old.clock }
     {
         let told = self.service.msgctl_rmid(self.rt, &mut self.pass, cred, id);
         match told {
-            Ok(()) => reply(Op::Rm, Told::Rm),
-            Err(why) => reply(Op::Rm, Told::Refused(why)),
+            Ok(()) => reply(version, Op::Rm, Told::Rm),
+            Err(why) => reply(version, Op::Rm, Told::Refused(why)),
         }
     }
 
-    fn row(&mut self, slot: u32) -> Outcome
-        ensures shows { Shows slot self.old.pass result self.new.pass }
-        ensures answer { MayAnswer (Ask.Row slot) result [] }
+    fn row(&mut self, version: Version, slot: u32) -> Outcome
+        ensures shows { Shows version slot self.old.pass result self.new.pass }
+        ensures answer { MayAnswer version (Ask.Row slot) result [] }
         ensures service { self.new.service ≡ self.old.service }
         ensures clock { self.new.clock ≡ self.old.clock }
     {
         let told = self.service.list_row(self.rt, &mut self.pass, slot);
         match told {
-            Ok(Some(row)) => reply(Op::Row, Told::Row(Some(shown_row(row)))),
-            Ok(None) => reply(Op::Row, Told::Row(None)),
-            Err(why) => reply(Op::Row, Told::Refused(why)),
+            Ok(Some(row)) => reply(version, Op::Row, Told::Row(Some(shown_row(row)))),
+            Ok(None) => reply(version, Op::Row, Told::Row(None)),
+            Err(why) => reply(version, Op::Row, Told::Refused(why)),
         }
     }
 }
 
 impl<C: Clock, R: Wait> Kernel for ServiceKernel<'_, C, R> {
     ghost use Rattle.std.specs.Prelude.{◌≡◌};
+    ghost use Rattle.sysv_keys.specs.declared.identifier.TheConstants.{SLOTS};
     ghost use Rattle.sysv_kernel.specs.Asked.{Asks};
 
     ghost meaning = { λ old cred request text outcome given new. (new.service ≡ old.service) × (new.clock ≡ old.clock)
-        × Asks (C.may old.clock.now) cred request.ask text old.pass outcome given new.pass };
+        × Asks (C.may old.clock.now) request.version cred request.ask text old.pass outcome given new.pass };
+
+    ghost slots = { λ _. SLOTS };
+
+    fn slots(&self) -> u32 {
+        SLOTS as u32
+    }
 
     fn call(&mut self, cred: Cred, request: &Request, text: &Body, given: &mut Body) -> Outcome {
+        let version = request.version;
         match request.ask {
             Ask::Hello(_) => unreachable!(),
-            Ask::Get { key, flags } => self.get(cred, key, flags),
-            Ask::Snd { id, mtype, flags } => self.send(cred, id, mtype, flags, text),
+            Ask::Get { key, flags } => self.get(version, cred, key, flags),
+            Ask::Snd { id, mtype, flags } => self.send(version, cred, id, mtype, flags, text),
             Ask::Rcv {
                 id,
                 size,
                 mtype,
                 flags,
-            } => self.receive(cred, id, size, mtype, flags, given),
-            Ask::Stat { id } => self.stat(cred, id),
-            Ask::Set { id, to } => self.set(cred, id, to),
-            Ask::Rm { id } => self.remove(cred, id),
-            Ask::Row { slot } => self.row(slot),
+            } => self.receive(version, cred, id, size, mtype, flags, given),
+            Ask::Stat { id } => self.stat(version, cred, id),
+            Ask::Set { id, to } => self.set(version, cred, id, to),
+            Ask::Rm { id } => self.remove(version, cred, id),
+            Ask::Row { slot } => self.row(version, slot),
         }
     }
 }
 
-/// The reply of an operation.
-fn reply(op: Op, told: Told) -> Outcome
-    ensures { result ≡ the_reply op told }
+/// The reply of an operation, in the version of its request.
+fn reply(version: Version, op: Op, told: Told) -> Outcome
+    ensures { result ≡ the_reply version op told }
 {
     Outcome::Reply(Reply {
+        version,
         op: op.number(),
         result: told,
     })

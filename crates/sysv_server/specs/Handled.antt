@@ -3,9 +3,8 @@ use Rattle.std.specs.Prelude.{◌≡◌, ℕ, List, Option, None, Some, map, fla
 use Rattle.std.specs.List.{FoldsTo}
 use Rattle.sysv_queue.specs.Tally.{Tallied}
 use Rattle.sysv_session.specs.declared.served.Served.{Served}
-use Rattle.sysv_session.specs.Session.{Serves}
 use Rattle.sysv_service.specs.Ran.{Pass}
-use Rattle.sysv_kernel.specs.Asked.{asks_with}
+use Rattle.sysv_kernel.specs.Asked.{ServesPass}
 use Rattle.sysv_server.specs.declared.sums.Sums.{Sums}
 use Rattle.sysv_server.specs.Added.{added, all_added, one_session}
 
@@ -18,7 +17,7 @@ zero_moment now = now ≡ 0
 abbrev pub Talks : Pass → Option Served → Pass → Type 0
 Talks before None after = after ≡ before
 Talks before (Some served) after =
-    (left rest taken more : Option (List ℕ)) × Serves (asks_with zero_moment) served before after left rest taken more
+    (left rest taken more : Option (List ℕ)) × ServesPass zero_moment served before after left rest taken more
 
 -- what became of the messages of a session
 abbrev pub tally_of : Option Served → Tallied

@@ -1,8 +1,7 @@
 //! One session on a connection, and the workers that run them.
 ghost use Rattle.std.specs.Prelude.{◌≡◌, ℕ, List, Option, IfSome, IfNone};
 ghost use Rattle.sysv_gated.specs.Seats.{AreOf};
-ghost use Rattle.sysv_session.specs.Session.{Serves};
-ghost use Rattle.sysv_kernel.specs.Asked.{asks_with};
+ghost use Rattle.sysv_kernel.specs.Asked.{ServesPass};
 ghost use Rattle.sysv_server.specs.Added.{nothing};
 
 use crate::sums::Sums;
@@ -89,7 +88,7 @@ fn converse<C: Clock, R: Wait>(
     kernel: &mut ServiceKernel<'_, C, R>,
     stream: &UnixStream,
 ) -> Option<Served>
-    ensures some { IfSome result (λ told. (left rest taken more : Option (List ℕ)) × Serves (asks_with (C.may kernel.old.clock.now)) told kernel.old.pass kernel.new.pass left rest taken more) }
+    ensures some { IfSome result (λ told. (left rest taken more : Option (List ℕ)) × ServesPass (C.may kernel.old.clock.now) told kernel.old.pass kernel.new.pass left rest taken more) }
     ensures none { IfNone result (kernel.new.pass ≡ kernel.old.pass) }
     ensures service { kernel.new.service ≡ kernel.old.service }
     ensures clock { kernel.new.clock ≡ kernel.old.clock }

@@ -5,4 +5,5 @@ pub mod Opening
 pub mod SlotBySlot
 pub mod OwnPlaces
 pub mod Owning
+pub mod Answering
 pub mod Retrying

@@ -38,7 +38,7 @@ module _ (slot : ℕ) (before : Pass) where
       let at : TellsRow slot before (Err why) after = subst (λ r. TellsRow slot before r after) is tells in
       elim at [
         | inl out ↦ absurd (omega (arith, there, out.0))
-        | inr worn ↦ is_worn after (inr (worn.0, refl, worn.2))
+        | inr worn ↦ is_worn after (inr (worn.0, refl, worn.2, worn.3))
       ]
 
   pub vacant_at : (told : Result (Option Row) Errno) (after : Pass) → told ≡ Ok None → TellsRow slot before told after → StopsAt slot before 0 false after

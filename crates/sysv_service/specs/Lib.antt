@@ -9,4 +9,5 @@ pub mod Told
 pub mod Stopped
 pub mod Closing
 pub mod OwnTurns
+pub mod RightAnswers
 pub mod Retried

@@ -35,8 +35,8 @@ TellsGot (Refused why) (Err told) out = (told ≡ why) × (out ≡ [])
 TellsGot ending result out = ⊥
 
 -- the row of a slot is told in a turn at it; a slot that is not there is refused, and nothing was done; else its gate is
--- worn out
+-- worn out. The pass keeps the chains that it kept in each case
 abbrev pub TellsRow : ℕ → Pass → Result (Option Row) Errno → Pass → Type 0
 TellsRow slot before (Ok row) after = (slot < SLOTS) × Makes before (AtSlot slot ReadRow (Shown row)) after
 TellsRow slot before (Err why) after =
-    ((SLOTS ≤ slot) × (why ≡ EINVAL) × (after ≡ before)) ⊎ ((slot < SLOTS) × (why ≡ EOVERFLOW) × FindsWorn before.seats (OfSlot slot ReadRow) after.seats)
+    ((SLOTS ≤ slot) × (why ≡ EINVAL) × (after ≡ before)) ⊎ ((slot < SLOTS) × (why ≡ EOVERFLOW) × FindsWorn before.seats (OfSlot slot ReadRow) after.seats × (after.held ≡ before.held))

@@ -1,11 +1,32 @@
 //! Laws over the definitions alone.
 
-ghost use Rattle.sysv_service.specs.OwnTurns.{EachPlaysItsOwn};
+ghost use Rattle.sysv_gated.specs.SeenHistories.{ObeysIfOpen};
+ghost use Rattle.sysv_service.specs.OwnTurns.{EachPlaysItsOwn, KnowTheirOwn};
+ghost use Rattle.sysv_service.specs.RightAnswers.{EachRunAnswersRight};
 ghost use Rattle.sysv_service.specs.Ran.{no_moment};
 ghost use Rattle.sysv_service.specs.Retried.{EachRetryIsAtItsGoal};
 
 use crate::clock::Clock;
-use sysv_steps::each_plays_apart;
+use crate::pass::Pass;
+use sysv_gated::each_seat_obeys;
+use sysv_steps::{each_answer_is_right, each_plays_apart};
+
+/// Whatever calls were made with a pass, and whether it was opened, split off or joined, each of its seats knows just the
+/// turns of its own in what it has seen, and what it has seen of each object obeys the law of that object.
+pub fn each_pass_obeys(pass: &Pass)
+    ensures knows { KnowTheirOwn pass.now.seats }
+    ensures obeys { ObeysIfOpen pass.now.seats }
+{
+    each_seat_obeys(&pass.seats);
+}
+
+/// A call that found no gate worn out answers as the calls of System V queues do, by the turns that it made alone.
+pub fn each_run_answers_right<C: Clock>(clock: &C)
+    ensures stamped { EachRunAnswersRight (C.may clock.now) }
+    ensures unstamped { EachRunAnswersRight no_moment }
+{
+    each_answer_is_right();
+}
 
 /// A call adds to the turns that its pass knows as its own, at each object, just the turns that it made there, in order. Where
 /// it found no gate worn out, the step table taken along these lists leads to where the call stands, and uses them up.

@@ -24,6 +24,6 @@ mod waiting;
 
 pub use clock::Clock;
 pub use closing::Closed;
-pub use laws::{each_plays_its_own, each_retry_is_at_its_goal};
+pub use laws::{each_pass_obeys, each_plays_its_own, each_retry_is_at_its_goal, each_run_answers_right};
 pub use pass::Pass;
 pub use service::Service;

@@ -1,5 +1,5 @@
 //! What answers the requests of a session.
-ghost use Rattle.std.specs.Prelude.{◌≡◌, ◌≢◌, []};
+ghost use Rattle.std.specs.Prelude.{◌≡◌, ◌≢◌, ℕ, []};
 ghost use Rattle.sysv_session.specs.Answers.{MayAnswer};
 ghost use Rattle.sysv_session.specs.Calls.{Meaning};
 ghost use Rattle.sysv_wire.specs.Requests.{op_of};
@@ -22,6 +22,13 @@ pub trait Kernel {
     /// Which calls there may be: the kernel before, who calls, the request and its text, the outcome and
     /// its text, and the kernel after.
     ghost meaning: { Meaning Self };
+
+    /// How many slots for queues it has: a row may be asked for each number below.
+    ghost slots: { Self → ℕ };
+
+    /// The number of its slots, which the reply to a hello of version 2 tells.
+    fn slots(&self) -> u32
+        ensures { result ≡ slots self.now };
 
     /// Answers one request, any but a hello, for a caller who is believed. `text` is the text of a send,
     /// and empty with any other request. `given` is empty, and holds the text of the message where a receive was given

@@ -1,5 +1,5 @@
 //! A session, from its hello to its end.
-ghost use Rattle.std.specs.Prelude.{◌≡◌, ◌≢◌, ◌<◌, ◌-◌, ◌^◌, List, ℕ, [], Some, IfOk};
+ghost use Rattle.std.specs.Prelude.{◌≡◌, ◌≢◌, ◌<◌, ◌-◌, ◌^◌, List, ℕ, [], Some};
 ghost use Rattle.sysv_queue.specs.Tally.{taken_in};
 ghost use Rattle.sysv_session.specs.Session.{Serves, ServesBy};
 ghost use Rattle.sysv_session.specs.Course.{Course, Follows, Takes};
@@ -20,29 +20,46 @@ use sysv_wire::{Request, Version, one_answer_to_requests, one_request};
 /// next request is read.
 ///
 /// The session has the version of its hello; in version 2 the reply to the hello has the number of slots.
-/// A request that cannot be read, one of another version and a later hello end the session without a reply. Memory is taken
-/// for two texts, and before anything is read; where it is refused, reader, writer and kernel are as they were.
+/// A request that cannot be read, one of another version and a later hello end the session without a reply.
+/// Memory is taken for two texts, and before anything is read; where it is refused, reader, writer and kernel
+/// are as they were.
 pub fn serve<R: Read, W: Write, K: Kernel>(
     alloc: Global,
-    slots: u32,
     reader: &mut R,
     writer: &mut W,
     kernel: &mut K,
 ) -> Served
-    ensures serves { Serves K.meaning slots result kernel.old kernel.new (R.remaining reader.old) (R.remaining reader.new) (W.contents writer.old) (W.contents writer.new) }
+    ensures serves { Serves K.meaning (K.slots kernel.old) result kernel.old kernel.new (R.remaining reader.old) (R.remaining reader.new) (W.contents writer.old) (W.contents writer.new) }
     // It ends as its input tells, unless it is cut short.
     ensures only { (input : List ℕ) (course : Course) → R.remaining reader.old ≡ Some input → Takes input course → Follows course result }
     ensures memory { result.«end» ≡ End.NoMemory → (reader.new ≡ reader.old) × (writer.new ≡ writer.old) }
 {
-    one_request();
-    one_answer_to_requests();
-    let Ok(mut session) = Session::open(alloc) else {
+    let Ok(mut texts) = Texts::open(alloc) else {
         return Served {
             end: End::NoMemory,
             tally: Tally::open(),
             requests: 0,
         };
     };
+    serve_with(&mut texts, reader, writer, kernel)
+}
+
+/// As `serve`, with two texts that are there already, whatever they hold. It takes no memory.
+pub fn serve_with<R: Read, W: Write, K: Kernel>(
+    texts: &mut Texts,
+    reader: &mut R,
+    writer: &mut W,
+    kernel: &mut K,
+) -> Served
+    ensures serves { Serves K.meaning (K.slots kernel.old) result kernel.old kernel.new (R.remaining reader.old) (R.remaining reader.new) (W.contents writer.old) (W.contents writer.new) }
+    // It ends as its input tells, unless it is cut short.
+    ensures only { (input : List ℕ) (course : Course) → R.remaining reader.old ≡ Some input → Takes input course → Follows course result }
+    ensures memory { result.«end» ≢ End.NoMemory }
+{
+    one_request();
+    one_answer_to_requests();
+    let slots = kernel.slots();
+    let mut session = Session::open(texts);
     let end = session.run(slots, reader, writer, kernel);
     Served {
         end,
@@ -51,30 +68,42 @@ pub fn serve<R: Read, W: Write, K: Kernel>(
     }
 }
 
+/// The two texts of a session: that of a request, and that of its reply. They may serve one session after
+/// another.
+#[derive(Drop)]
+pub struct Texts {
+    asked: Body,
+    given: Body,
+}
+
+impl Texts {
+    /// Two texts. `NoMemory` where the memory for them is refused.
+    pub fn open(alloc: Global) -> Result<Texts, NoMemory> {
+        let asked = Body::open(alloc)?;
+        let given = Body::open(alloc)?;
+        Ok(Texts { asked, given })
+    }
+}
+
 /// A session under way.
 #[derive(Drop)]
-struct Session {
-    /// The text of the request.
-    text: Body,
-    /// The text of its reply.
-    given: Body,
+struct Session<'a> {
+    texts: &'a mut Texts,
     tally: Tally,
     requests: u32,
 }
 
-impl Session {
+impl<'a> Session<'a> {
     /// Nothing was read.
-    fn open(alloc: Global) -> Result<Session, NoMemory>
-        ensures { IfOk result (λ session. (session.tally ≡ record { written = 0; lost = 0 }) × (session.requests ≡ 0)) }
+    fn open(texts: &'a mut Texts) -> Session<'a>
+        ensures tally { result.tally ≡ record { written = 0; lost = 0 } }
+        ensures count { result.requests ≡ 0 }
     {
-        let text = Body::open(alloc)?;
-        let given = Body::open(alloc)?;
-        Ok(Session {
-            text,
-            given,
+        Session {
+            texts,
             tally: Tally::open(),
             requests: 0,
-        })
+        }
     }
 
     /// Runs from the hello to the end.
@@ -108,11 +137,11 @@ impl Session {
         ensures opens { Opens slots result (R.remaining reader.old) (R.remaining reader.new) (W.contents writer.old) (W.contents writer.new) self.new.requests }
         ensures tally { self.new.tally ≡ self.old.tally }
     {
-        let (version, cred) = read_hello(reader, &mut self.text)?;
+        let (version, cred) = read_hello(reader, &mut self.texts.asked)?;
         self.requests = 1;
-        self.given.clear();
+        self.texts.given.clear();
         let reply = hello_reply(version, slots);
-        send(writer, &reply, &self.given)?;
+        send(writer, &reply, &self.texts.given)?;
         Ok((version, cred))
     }
 
@@ -152,17 +181,17 @@ impl Session {
         ensures { Turns K.meaning version cred result kernel.old kernel.new (R.remaining reader.old) (R.remaining reader.new)
             (W.contents writer.old) (W.contents writer.new) self.old.tally self.new.tally self.old.requests self.new.requests }
     {
-        let Some(request) = read_asked(reader, version, &mut self.text)? else {
+        let Some(request) = read_asked(reader, version, &mut self.texts.asked)? else {
             return Err(End::Ended);
         };
         self.requests += 1;
-        self.given.clear();
-        let outcome = kernel.call(cred, &request, &self.text, &mut self.given);
+        self.texts.given.clear();
+        let outcome = kernel.call(cred, &request, &self.texts.asked, &mut self.texts.given);
         answer(
             writer,
             request.version,
             outcome,
-            &self.given,
+            &self.texts.given,
             &mut self.tally,
         )
     }

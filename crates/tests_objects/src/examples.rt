@@ -2,7 +2,7 @@
 use bitflags::Flags as _;
 use std::test::Fail;
 use sysv_model::{Body, Flags, Watched};
-use sysv_wire::{Ask, Request, read_request, write_request};
+use sysv_wire::{Ask, Request, Version, read_request, write_request};
 
 #[test]
 fn a_request_is_written_and_read(rt: HostRuntime) -> Result<(), Fail> {
@@ -10,9 +10,13 @@ fn a_request_is_written_and_read(rt: HostRuntime) -> Result<(), Fail> {
     let flags = Flags::from_bits_retain(0o600);
     let ask = Ask::Get { key: 7, flags };
     let mut frame = Vec::new(rt.alloc());
-    write_request(&mut Watched::new(&mut frame), &Request { ask }, &text)?;
+    let request = Request {
+        version: Version::Two,
+        ask,
+    };
+    write_request(&mut Watched::new(&mut frame), &request, &text)?;
     let mut bytes = frame.as_slice();
     let read = read_request(&mut Watched::new(&mut bytes), &mut text)?;
-    assert_eq!(rt; read, Some(Request { ask }));
+    assert_eq!(rt; read, Some(request));
     Ok(())
 }

@@ -13,6 +13,7 @@ use std::rt::Files;
 use std::sync::Wait;
 use std::thread::Threads;
 use std::{fs, thread};
+use sysv_keys::SLOTS;
 use sysv_server::{ServeFault, Sums, serve_on};
 
 /// A hello of user and group 1000, pid 101.
@@ -175,6 +176,41 @@ fn breaking(rt: &impl Net, path: &str) -> bool {
     talks(rt, path, &[HELLO, &CREATE[..5]], &[KNOWN]) & talks(rt, path, &[], &[])
 }
 
+/// A hello of version 2, of user and group 1000, pid 101.
+const SECOND_HELLO: &[u8] = &[
+    0x00, 0x00, 0x00, 0x0e, 0x02, 0x00, 0x00, 0x00, 0x03, 0xe8, 0x00, 0x00, 0x03, 0xe8, 0x00, 0x00,
+    0x00, 0x65,
+];
+
+/// A get of key 7 in version 2, and the reply that gives identifier 0.
+const SECOND_GET: &[u8] = &[
+    0x00, 0x00, 0x00, 0x0a, 0x02, 0x01, 0x00, 0x00, 0x00, 0x07, 0x00, 0x00, 0x03, 0x80,
+];
+
+const SECOND_FOUND: &[u8] = &[
+    0x00, 0x00, 0x00, 0x07, 0x02, 0x01, 0x00, 0x00, 0x00, 0x00, 0x00,
+];
+
+/// Nothing more comes.
+fn ends(stream: &mut UnixStream) -> bool {
+    let mut byte = [0u8; 1];
+    matches!(stream.read(&mut byte), Ok(0))
+}
+
+/// A session of version 2 and one of version 1 at once, and then a request of version 1 in the first.
+fn both_versions(rt: &impl Net, path: &str) -> bool {
+    let [a, b, c, d] = (SLOTS as u32).to_be_bytes();
+    let known = [0x00, 0x00, 0x00, 0x07, 0x02, 0x00, 0x00, a, b, c, d];
+    let Ok(mut second) = UnixStream::connect(rt, path) else {
+        return false;
+    };
+    asks(&mut second, &[SECOND_HELLO], &[&known])
+        & talks(rt, path, &[HELLO, CREATE], &[KNOWN, FOUND])
+        & asks(&mut second, &[SECOND_GET], &[SECOND_FOUND])
+        & asks(&mut second, &[FIND], &[])
+        & ends(&mut second)
+}
+
 /// The clients of a test.
 #[derive(Clone, Copy)]
 enum Clients {
@@ -184,6 +220,7 @@ enum Clients {
     Vanishing,
     Breaking,
     Asking,
+    BothVersions,
 }
 
 impl Clients {
@@ -196,6 +233,7 @@ impl Clients {
             Clients::Vanishing => vanishing(rt, path),
             Clients::Breaking => breaking(rt, path),
             Clients::Asking => five_sessions(rt, alloc, path),
+            Clients::BothVersions => both_versions(rt, path),
         }
     }
 }
@@ -285,4 +323,9 @@ fn clients_go_away_early(rt: HostRuntime) {
 #[test]
 fn a_server_and_its_clients(rt: HostRuntime) {
     adds_up(&rt, rt.alloc(), 1, Clients::Asking, sums(5, 0, 0));
+}
+
+#[test]
+fn sessions_of_both_versions(rt: HostRuntime) {
+    adds_up(&rt, rt.alloc(), 2, Clients::BothVersions, sums(2, 0, 0));
 }

@@ -47,7 +47,7 @@ fn versions_and_operations_of_requests(rt: HostRuntime) {
     for version in 0..=255u8 {
         for op in 0..=255u8 {
             let bytes = frame(2, version, op, 0);
-            let fault = if version == 1 && op > 7 {
+            let fault = if matches!(version, 1 | 2) && op > 7 {
                 Fault::BadOp
             } else {
                 Fault::BadField
@@ -63,10 +63,10 @@ fn versions_and_operations_of_replies(rt: HostRuntime) {
     for version in 0..=255u8 {
         for op in 0..=255u8 {
             let bytes = frame(3, version, op, 22);
-            let fault = if version == 1 && op > 7 {
+            let fault = if matches!(version, 1 | 2) && op > 7 {
                 Some(Fault::BadOp)
             } else {
-                bad_field_unless(version == 1)
+                bad_field_unless(matches!(version, 1 | 2))
             };
             assert_eq!(rt; told(&mut text, &bytes, 7).err(), fault, "{version} {op}");
         }
@@ -79,10 +79,12 @@ fn lengths_of_requests(rt: HostRuntime) {
     for (op, fields) in (0u8..8).zip(ASKED) {
         let wanted = fields.saturating_add(2);
         for length in 2..90u8 {
-            let bytes = frame(length, 1, op, 0);
-            let answer = asked(&mut text, &bytes, length.saturating_add(4));
-            let fault = bad_field_unless(length == wanted || (op == 2 && length > wanted));
-            assert_eq!(rt; answer.err(), fault, "{op} {length}");
+            for version in [1, 2] {
+                let bytes = frame(length, version, op, 0);
+                let answer = asked(&mut text, &bytes, length.saturating_add(4));
+                let fault = bad_field_unless(length == wanted || (op == 2 && length > wanted));
+                assert_eq!(rt; answer.err(), fault, "{version} {op} {length}");
+            }
         }
     }
 }
@@ -91,12 +93,15 @@ fn lengths_of_requests(rt: HostRuntime) {
 fn lengths_of_replies(rt: HostRuntime) {
     let mut text = open_body(&rt, rt.alloc());
     for (op, fields) in (0u8..8).zip(TOLD) {
-        let wanted = fields.saturating_add(3);
         for length in 3..90u8 {
-            let bytes = frame(length, 1, op, 0);
-            let answer = told(&mut text, &bytes, length.saturating_add(4));
-            let fault = bad_field_unless(length == wanted || (op == 3 && length > wanted));
-            assert_eq!(rt; answer.err(), fault, "{op} {length}");
+            for version in [1, 2] {
+                let slots = if version == 2 && op == 0 { 4 } else { 0 };
+                let wanted = fields.saturating_add(3).saturating_add(slots);
+                let bytes = frame(length, version, op, 0);
+                let answer = told(&mut text, &bytes, length.saturating_add(4));
+                let fault = bad_field_unless(length == wanted || (op == 3 && length > wanted));
+                assert_eq!(rt; answer.err(), fault, "{version} {op} {length}");
+            }
         }
     }
 }

@@ -5,7 +5,7 @@ use std::alloc::Global;
 use std::process::Abort;
 use sysv_model::{Cred, Errno, Flags, MESSAGE_BYTES, Perm, Row, SetTo, Stat, Watched};
 use sysv_wire::{
-    Ask, Outcome, Reply, Request, read_reply, read_request, write_reply, write_request,
+    Ask, Outcome, Reply, Request, Version, read_reply, read_request, write_reply, write_request,
 };
 use tests_kit::worked::{ANSWERS, SESSION};
 use tests_kit::{Page, Pieces};
@@ -34,14 +34,21 @@ pub(super) const TOLD: &[u8] = &[
 ];
 
 /// Reads the requests one by one in pieces of a size, and writes each again.
-fn reads_and_writes(rt: &impl Abort, alloc: Global, bytes: &[u8], asks: &[Ask], piece: usize) {
+fn reads_and_writes(
+    rt: &impl Abort,
+    alloc: Global,
+    version: Version,
+    bytes: &[u8],
+    asks: &[Ask],
+    piece: usize,
+) {
     let mut text = open_body(rt, alloc);
     let mut pieces = Pieces::new(bytes, piece);
     let mut reader = Watched::new(&mut pieces);
     let mut page = Page::taking(piece, 512, false);
     let mut writer = Watched::new(&mut page);
     for ask in asks {
-        let request = Request { ask: *ask };
+        let request = Request { version, ask: *ask };
         let read = read_request(&mut reader, &mut text);
         let written = write_request(&mut writer, &request, &text);
         assert_eq!(rt; (read, written), (Ok(Some(request)), Ok(())));
@@ -115,12 +122,56 @@ fn a_session(rt: HostRuntime) {
         (3, Outcome::Refused(Errno::ENOMSG)),
     ]
     .map(|(op, outcome)| Reply {
+        version: Version::One,
         op,
         result: outcome,
     });
     for piece in [1, 2, 3, 5, 200] {
-        reads_and_writes(&rt, rt.alloc(), SESSION, &asks, piece);
+        reads_and_writes(&rt, rt.alloc(), Version::One, SESSION, &asks, piece);
         reads_and_writes_replies(&rt, rt.alloc(), ANSWERS, &replies, piece);
+    }
+}
+
+/// A hello and a get of version 2.
+pub(super) const SECOND: &[u8] = &[
+    0x00, 0x00, 0x00, 0x0e, 0x02, 0x00, 0x00, 0x00, 0x03, 0xe8, 0x00, 0x00, 0x03, 0xe8, 0x00, 0x00,
+    0x00, 0x65, 0x00, 0x00, 0x00, 0x0a, 0x02, 0x01, 0x00, 0x00, 0x00, 0x07, 0x00, 0x00, 0x03, 0x80,
+];
+
+/// The replies to them, the first with 256 slots, and a hello's with the most slots that a reply can have.
+pub(super) const SECOND_ANSWERS: &[u8] = &[
+    0x00, 0x00, 0x00, 0x07, 0x02, 0x00, 0x00, 0x00, 0x00, 0x01, 0x00, 0x00, 0x00, 0x00, 0x07, 0x02,
+    0x01, 0x00, 0x00, 0x00, 0x00, 0x00, 0x00, 0x00, 0x00, 0x07, 0x02, 0x00, 0x00, 0xff, 0xff, 0xff,
+    0xff, 0x00, 0x00, 0x00, 0x03, 0x02, 0x00, 0x01,
+];
+
+#[test]
+fn a_session_of_version_2(rt: HostRuntime) {
+    let asks = [
+        Ask::Hello(Cred {
+            uid: 1000,
+            gid: 1000,
+            pid: 101,
+        }),
+        Ask::Get {
+            key: 7,
+            flags: Flags::from_bits_retain(0o1600),
+        },
+    ];
+    let replies = [
+        (0, Outcome::HelloSlots { slots: 256 }),
+        (1, Outcome::Get { id: 0 }),
+        (0, Outcome::HelloSlots { slots: u32::MAX }),
+        (0, Outcome::Refused(Errno::EPERM)),
+    ]
+    .map(|(op, outcome)| Reply {
+        version: Version::Two,
+        op,
+        result: outcome,
+    });
+    for piece in [1, 2, 3, 5, 200] {
+        reads_and_writes(&rt, rt.alloc(), Version::Two, SECOND, &asks, piece);
+        reads_and_writes_replies(&rt, rt.alloc(), SECOND_ANSWERS, &replies, piece);
     }
 }
 
@@ -150,7 +201,7 @@ fn ends_of_ranges(rt: HostRuntime) {
         Ask::Row { slot: 3 },
     ];
     for piece in [1, 7, 200] {
-        reads_and_writes(&rt, rt.alloc(), OTHERS, &asks, piece);
+        reads_and_writes(&rt, rt.alloc(), Version::One, OTHERS, &asks, piece);
     }
 }
 
@@ -195,6 +246,7 @@ fn attributes_and_rows(rt: HostRuntime) {
         (7, Outcome::Refused(Errno::EAGAIN)),
     ]
     .map(|(op, outcome)| Reply {
+        version: Version::One,
         op,
         result: outcome,
     });

@@ -4,8 +4,8 @@ use bitflags::Flags as Set;
 use std::process::Abort;
 use sysv_model::{Body, Flags, Watched};
 use sysv_wire::{
-    Ask, Fault, Outcome, Reply, Request, WriteFault, read_reply, read_request, write_reply,
-    write_request,
+    Ask, Fault, Outcome, Reply, Request, Version, WriteFault, read_reply, read_request,
+    write_reply, write_request,
 };
 use tests_kit::worked::{ANSWERS, SESSION};
 use tests_kit::{Page, Pieces};
@@ -76,6 +76,7 @@ fn a_writer_fails_within_a_request(rt: HostRuntime) {
     let mut text = open_body(&rt, rt.alloc());
     assert!(rt; text.push_piece(b"hi"));
     let request = Request {
+        version: Version::One,
         ask: Ask::Snd {
             id: 0,
             mtype: 5,
@@ -97,6 +98,7 @@ fn a_writer_fails_within_a_reply(rt: HostRuntime) {
     assert!(rt; text.push_piece(b"hi"));
     assert!(rt; text.len() <= 8192);
     let reply = Reply {
+        version: Version::One,
         op: 3,
         result: Outcome::Rcv { mtype: 5 },
     };
@@ -125,7 +127,10 @@ fn the_longest_text(rt: HostRuntime) {
             mtype: 9,
             flags: Flags::from_bits_retain(0),
         };
-        let request = Request { ask };
+        let request = Request {
+            version: Version::One,
+            ask,
+        };
         assert_eq!(rt; read_request(&mut reader, &mut text), Ok(Some(request)));
         assert_eq!(rt; text.len(), 8256);
         assert_eq!(rt; read_request(&mut reader, &mut text), Ok(None));

@@ -13,7 +13,7 @@ use sysv_model::{Body, Cred, Errno, Flags, MESSAGE_BYTES, Selector};
 use sysv_pool::{Chain, Pool};
 use sysv_queue::{PlaceRefused, QueueSlot, TakeRefused, Unplaced};
 use sysv_session::{Kernel, Outcome};
-use sysv_wire::{Ask, Op, Outcome as Told, Reply, Request};
+use sysv_wire::{Ask, Op, Outcome as Told, Reply, Request, Version};
 use tests_kit::open_pool;
 
 /// The most that a count reaches here.
@@ -145,12 +145,19 @@ impl Kernel for Shelf {
 
     ghost meaning = { λ _ _ _ _ _ _ _. ⊤ };
 
+    ghost slots = { λ _. 256 };
+
+    fn slots(&self) -> u32 {
+        256
+    }
+
     fn call(&mut self, cred: Cred, request: &Request, text: &Body, given: &mut Body) -> Outcome {
         self.asked = self.asked.wrapping_add(1);
         match request.ask {
             Ask::Get { key, flags } => {
                 let result = self.get(cred, key, flags);
                 Outcome::Reply(Reply {
+                    version: request.version,
                     op: Op::Get.number(),
                     result,
                 })
@@ -158,21 +165,23 @@ impl Kernel for Shelf {
             Ask::Snd { id, mtype, .. } => {
                 let result = self.send(cred, id, mtype, text);
                 Outcome::Reply(Reply {
+                    version: request.version,
                     op: Op::Snd.number(),
                     result,
                 })
             }
             Ask::Rcv { .. } => self.receive(cred, &request.ask, given),
-            _ => refusal(request.ask.op(), Errno::EINVAL),
+            _ => refusal(request.version, request.ask.op(), Errno::EINVAL),
         }
     }
 }
 
 /// The refusal of an operation.
-fn refusal(op: Op, why: Errno) -> Outcome
-    ensures { result ≡ Outcome.Reply (record { op = op_number op; result = Told.Refused why }) }
+fn refusal(version: Version, op: Op, why: Errno) -> Outcome
+    ensures { result ≡ Outcome.Reply (record { version = version; op = op_number op; result = Told.Refused why }) }
 {
     Outcome::Reply(Reply {
+        version,
         op: op.number(),
         result: Told::Refused(why),
     })

@@ -19,10 +19,17 @@ impl<R: Wait> Kernel for Locked<'_, R> {
 
     ghost meaning = { λ _ _ _ _ _ _ _. ⊤ };
 
+    ghost slots = { λ _. 3 };
+
+    fn slots(&self) -> u32 {
+        3
+    }
+
     fn call(&mut self, _cred: Cred, request: &Request, _text: &Body, _given: &mut Body) -> Outcome {
         let mut asked = self.asked.lock(self.rt);
         *asked = asked.wrapping_add(1);
         Outcome::Reply(Reply {
+            version: request.version,
             op: request.ask.op().number(),
             result: Told::Refused(Errno::ENOMSG),
         })

@@ -128,3 +128,46 @@ fn bad_frames_after_the_hello(rt: HostRuntime) {
         ends_after_hello(&rt, rt.alloc(), bytes, End::Fault(fault));
     }
 }
+
+/// A hello and a get of version 2.
+const SECOND: &[u8] = &[
+    0x00, 0x00, 0x00, 0x0e, 0x02, 0x00, 0x00, 0x00, 0x03, 0xe8, 0x00, 0x00, 0x03, 0xe8, 0x00, 0x00,
+    0x00, 0x65, 0x00, 0x00, 0x00, 0x0a, 0x02, 0x01, 0x00, 0x00, 0x00, 0x07, 0x00, 0x00, 0x03, 0x80,
+];
+
+/// The replies to them.
+const SECOND_ANSWERS: &[u8] = &[
+    0x00, 0x00, 0x00, 0x07, 0x02, 0x00, 0x00, 0x00, 0x00, 0x01, 0x00, 0x00, 0x00, 0x00, 0x07, 0x02,
+    0x01, 0x00, 0x00, 0x00, 0x00, 0x00,
+];
+
+#[test]
+fn a_session_of_version_2(rt: HostRuntime) {
+    for piece in [1, 2, 3, 7, 64] {
+        let mut reader = Pieces::new(SECOND, piece);
+        let mut page = Page::new();
+        let told = served(&rt, rt.alloc(), &mut reader, &mut page);
+        assert_served(&rt, &told, &page, End::Ended, (2, 0, 0, 0), SECOND_ANSWERS);
+    }
+}
+
+/// A session of a hello of version 2 and these bytes ends so, with the hello's reply alone.
+fn ends_after_second_hello(rt: &impl Abort, alloc: Global, bytes: &[u8], fault: Fault) {
+    let mut reader = Pieces::both(&SECOND[..18], bytes);
+    let mut page = Page::new();
+    let told = served(rt, alloc, &mut reader, &mut page);
+    let end = End::Fault(fault);
+    assert_served(rt, &told, &page, end, (1, 0, 0, 0), &SECOND_ANSWERS[..11]);
+    assert_eq!(rt; page.flushed().len(), 1);
+}
+
+#[test]
+fn requests_of_the_other_version(rt: HostRuntime) {
+    let alloc = rt.alloc();
+    ends_after_hello(&rt, alloc, &SECOND[18..], End::Fault(Fault::BadField));
+    ends_after_hello(&rt, alloc, &SECOND[..18], End::Fault(Fault::BadField));
+    ends_after_second_hello(&rt, alloc, &SESSION[18..32], Fault::BadField);
+    ends_after_second_hello(&rt, alloc, &SESSION[..18], Fault::BadField);
+    ends_after_second_hello(&rt, alloc, &SECOND[..18], Fault::BadOp);
+    ends_after_second_hello(&rt, alloc, &[0, 0, 0, 2, 3, 1], Fault::BadField);
+}

@@ -1,4 +1,5 @@
-use Rattle.std.proofs.Common.{rules, ap, ◌∙◌, Some}
+use Rattle.std.proofs.Common.{rules, ap, sym, subst, ◌∙◌, Some}
+use Rattle.sysv_gate.specs.History.{Moves, IsLegal, HasItsOwn}
 use Rattle.sysv_gate.proofs.Seating.{joins, merges, gathered, still_named, joins_holding}
 use Rattle.sysv_gate.proofs.gate.Gate.join.Goals as goal
 
@@ -26,6 +27,8 @@ invariant_of-seat g c =
       opening = ap (λ m. m.0.opening) is ∙ rest.opening;
       first = ap (λ m. m.0.first) is ∙ rest.first;
       named = still_named v w _ slots _ is rest.named;
+      legal = subst (λ m. IsLegal (Moves g.O.Object.meaning g.O.Object.counted) c.seat.inside.key.value.opening.value m.0.seen) (sym is) told.legal;
+      own = subst (λ m. HasItsOwn m.0.numbers m.0.own m.0.seen) (sym is) told.own;
     }
 
 pub returns-clause-joined : goal.returns-clause-joined

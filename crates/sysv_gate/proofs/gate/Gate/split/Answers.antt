@@ -1,4 +1,5 @@
 use Rattle.std.proofs.Common.{rules, ap, ◌∙◌}
+use Rattle.sysv_gate.proofs.Resting.{parted_rests}
 use Rattle.sysv_gate.proofs.Seating.{splits, names}
 use Rattle.sysv_gate.proofs.gate.Gate.split.Goals as goal
 
@@ -9,3 +10,6 @@ pub load-requires : goal.load-requires
 load-requires g c =
     let is = c.split_seat-token.ensures.4 in
     (search rules, search rules, names _ g.O.Object.counted _ _ _ _ _ c.seat.inside.key.value.opening.value (ap (λ m. m.0.opening) is ∙ c.seat.invariant.opening) (ap (λ m. m.0.numbers) is) (ap (λ m. m.0.in_turn) is))
+
+pub invariant_of-seat : goal.invariant_of-seat
+invariant_of-seat g c = parted_rests _ c.seat.inside c.seat.invariant c.split_seat-token.new.seat c.split_seat-token.ensures.2

@@ -1,5 +1,6 @@
 -- The kernel's calls are those of the service with its pass.
 use Rattle.std.proofs.Common.{Bor}
+use Rattle.sysv_keys.specs.declared.identifier.TheConstants.{SLOTS}
 use Rattle.sysv_kernel.specs.declared.kernel.ServiceKernel.{ServiceKernel}
 use Rattle.sysv_kernel.proofs.Sessions.{serves}
 use Rattle.sysv_kernel.proofs.kernel.ServiceKernel.serve.Goals as goal
@@ -11,6 +12,6 @@ returns g c =
     (λ (k : ServiceKernel g.row.C.Denot g.row.R.Denot g.C.Clock). k.clock)
     (λ (k : ServiceKernel g.row.C.Denot g.row.R.Denot g.C.Clock). k.pass)
     (λ (clock : Bor g.row.C.Denot). g.C.Clock.may clock.now)
-    c.serve.result c.args.self.now c.serve.new.kernel (g.I.Read.remaining c.args.reader.now) (g.I.Read.remaining c.serve.new.reader)
+    SLOTS c.serve.result c.args.self.now c.serve.new.kernel (g.I.Read.remaining c.args.reader.now) (g.I.Read.remaining c.serve.new.reader)
     (g.O.Write.contents c.args.writer.now) (g.O.Write.contents c.serve.new.writer) c.serve.ensures.serves in
     record { serves = done.2; only = c.serve.ensures.only; service = done.0; clock = done.1 }

@@ -1,0 +1,17 @@
+-- The kernel's calls are those of the service with its pass.
+use Rattle.std.proofs.Common.{Bor}
+use Rattle.sysv_keys.specs.declared.identifier.TheConstants.{SLOTS}
+use Rattle.sysv_kernel.specs.declared.kernel.ServiceKernel.{ServiceKernel}
+use Rattle.sysv_kernel.proofs.Sessions.{serves}
+use Rattle.sysv_kernel.proofs.kernel.ServiceKernel.serve_with.Goals as goal
+
+pub returns : goal.returns
+returns g c =
+    let done =
+    serves (λ (k : ServiceKernel g.row.C.Denot g.row.R.Denot g.C.Clock). k.service)
+    (λ (k : ServiceKernel g.row.C.Denot g.row.R.Denot g.C.Clock). k.clock)
+    (λ (k : ServiceKernel g.row.C.Denot g.row.R.Denot g.C.Clock). k.pass)
+    (λ (clock : Bor g.row.C.Denot). g.C.Clock.may clock.now)
+    SLOTS c.serve_with.result c.args.self.now c.serve_with.new.kernel (g.I.Read.remaining c.args.reader.now) (g.I.Read.remaining c.serve_with.new.reader)
+    (g.O.Write.contents c.args.writer.now) (g.O.Write.contents c.serve_with.new.writer) c.serve_with.ensures.serves in
+    record { serves = done.2; only = c.serve_with.ensures.only; service = done.0; clock = done.1 }
