@@ -63,6 +63,7 @@ fn control<R: Abort + Wait>(rt: &R, service: &Service, pass: &mut Pass)
 fn service(rt: HostRuntime) {
     let (service, mut pass) = opened(&rt, rt.alloc(), 128, 0);
     let Ok(mut other) = service.split_pass(rt.alloc(), &mut pass) else {
+        assert_is(&rt, service.close(pass), closed(0, 128));
         return;
     };
     let text = body_of(&rt, rt.alloc(), b"ping");
