@@ -1,7 +1,8 @@
 /* Refuses growths of memory in a program that is run with this library loaded before its own: the one that GROWTH numbers,
  * counted from 1, and where ONWARD is set every later one too. Only what the program's own code asks for is counted, and
- * not what the C library asks for itself. The file TOLD has the number of growths that were asked for so far, however the
- * program ends. */
+ * not what the C library asks for itself. Where MARK is set, those after the first growth of that many bytes are counted
+ * and no others. The file TOLD has the number of growths that were asked for so far, however the program ends; -1 until
+ * the mark. */
 #define _GNU_SOURCE
 #include <dlfcn.h>
 #include <errno.h>
@@ -16,6 +17,8 @@ static atomic_long asked;
 static int told = -1;
 static long growth;
 static int onward;
+static size_t mark;
+static atomic_int marked;
 static ElfW(Addr) code_begin, code_end;
 static void *(*next_malloc)(size_t);
 static void *(*next_realloc)(void *, size_t);
@@ -51,15 +54,30 @@ __attribute__((constructor)) static void begin(void)
     dl_iterate_phdr(find_code, NULL);
     growth = word ? atol(word) : 0;
     onward = getenv("ONWARD") != NULL;
+    const char *bytes = getenv("MARK");
+    mark = bytes ? strtoul(bytes, NULL, 10) : 0;
+    marked = mark == 0;
     if (name)
         told = open(name, O_WRONLY | O_CREAT | O_TRUNC, 0600);
-    tell(0);
+    tell(marked ? 0 : -1);
 }
 
-static int is_refused(void *caller)
+/* Whether the growth is not counted: it is before the mark, or is the mark. */
+static int is_before(size_t size)
+{
+    if (marked)
+        return 0;
+    if (size == mark) {
+        marked = 1;
+        tell(0);
+    }
+    return 1;
+}
+
+static int is_refused(void *caller, size_t size)
 {
     ElfW(Addr) at = (ElfW(Addr))caller;
-    if (at < code_begin || at >= code_end)
+    if (at < code_begin || at >= code_end || is_before(size))
         return 0;
     long number = atomic_fetch_add(&asked, 1) + 1;
     tell(number);
@@ -71,7 +89,7 @@ static int is_refused(void *caller)
 
 void *malloc(size_t size)
 {
-    if (is_refused(__builtin_return_address(0)))
+    if (is_refused(__builtin_return_address(0), size))
         return NULL;
     if (!next_malloc)
         *(void **)&next_malloc = dlsym(RTLD_NEXT, "malloc");
@@ -80,7 +98,7 @@ void *malloc(size_t size)
 
 void *realloc(void *block, size_t size)
 {
-    if (is_refused(__builtin_return_address(0)))
+    if (is_refused(__builtin_return_address(0), size))
         return NULL;
     if (!next_realloc)
         *(void **)&next_realloc = dlsym(RTLD_NEXT, "realloc");

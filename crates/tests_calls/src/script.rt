@@ -3,6 +3,7 @@
 mod calls;
 mod ends;
 mod failing;
+mod growths;
 mod language;
 mod rules;
 mod whole;

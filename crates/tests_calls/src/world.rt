@@ -2,7 +2,9 @@
 //! list of events with its answers.
 
 mod blocks;
+mod growths;
 mod keys;
+mod no_growths;
 mod waits;
 
 use crate::parts::{assert_is, open_body};
@@ -384,37 +386,6 @@ fn six_calls(rt: &impl Abort, alloc: Global) -> Vec<Event> {
         }
     }
     events
-}
-
-#[test]
-fn six_calls_have_six_answers(rt: HostRuntime) {
-    let alloc = rt.alloc();
-    let mut world = world_with_queue(&rt, alloc, 16);
-    let events = six_calls(&rt, alloc);
-    let answers = match world.run(alloc, events) {
-        Ok(answers) => answers,
-        Err(back) => {
-            assert_is(&rt, back.len(), 19);
-            match world.run(alloc, back) {
-                Ok(answers) => answers,
-                Err(_) => panic!(rt; "a second try"),
-            }
-        }
-    };
-    let no_message = Outcome::Refused(Errno::ENOMSG);
-    let wants: [Want<'_>; 6] = [
-        (1, no_message, Some(b"")),
-        (1, Outcome::Zero, None),
-        (1, Outcome::Zero, None),
-        (2, Outcome::Got { mtype: 5, len: 5 }, Some(b"hello")),
-        (2, Outcome::Got { mtype: 2, len: 0 }, Some(b"")),
-        (2, no_message, Some(b"")),
-    ];
-    assert_is(&rt, answers.len(), wants.len());
-    for (answer, want) in answers.iter().zip(wants) {
-        assert_answers(&rt, answer, want);
-    }
-    assert_is(&rt, world.end(), 1024);
 }
 
 #[test]

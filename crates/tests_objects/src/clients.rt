@@ -1,4 +1,6 @@
 //! Clients over bytes that are worked by hand.
+mod growths;
+
 use crate::parts::assert_is;
 use std::alloc::Global;
 use std::io;

@@ -6,6 +6,8 @@ mod clients;
 #[cfg(test)]
 mod examples;
 #[cfg(test)]
+mod growths;
+#[cfg(test)]
 mod index;
 #[cfg(test)]
 mod keys;
@@ -13,6 +15,8 @@ mod keys;
 mod messages;
 #[cfg(test)]
 mod model;
+#[cfg(test)]
+mod no_growths;
 #[cfg(test)]
 mod objects;
 #[cfg(test)]

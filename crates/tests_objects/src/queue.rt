@@ -3,6 +3,7 @@
 
 mod control;
 mod indexed;
+mod no_growths;
 
 use crate::parts::{assert_holds, give_back, open_body, open_pool};
 use bitflags::Flags as _;

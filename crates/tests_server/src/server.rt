@@ -1,6 +1,8 @@
 //! Servers on a socket, whose clients write their frames by hand.
 ghost use Rattle.std.specs.Prelude.{◌≤◌};
 
+mod growths;
+
 use crate::commands::five_sessions;
 use std::alloc::Global;
 use std::io::{Read, Write};

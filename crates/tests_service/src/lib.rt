@@ -4,6 +4,10 @@
 #[cfg(test)]
 mod gated;
 #[cfg(test)]
+mod growths;
+#[cfg(test)]
+mod no_growths;
+#[cfg(test)]
 mod parts;
 #[cfg(test)]
 mod service;

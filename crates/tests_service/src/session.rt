@@ -1,6 +1,7 @@
 //! Sessions, with readers and writers of many habits, over a queue that is real and over a service.
 
 mod failing;
+mod growths;
 mod served;
 mod serving;
 mod shelf;

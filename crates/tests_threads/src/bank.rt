@@ -94,26 +94,6 @@ fn a_worn_place_serves_nothing(rt: HostRuntime) -> Result<(), Fail> {
     Ok(())
 }
 
-// Where memory fails, which a run can ask for, the objects come back in their order.
-#[test]
-fn opening_answers_or_lacks_memory(rt: HostRuntime) {
-    let Ok(objects) = Vec::from_array(rt.alloc(), [Sum::new(10), Sum::new(20), Sum::new(30)]) else {
-        return;
-    };
-    match Bank::open(rt.alloc(), objects, 0) {
-        Ok((bank, seat)) => assert_is(&rt, bank.close(seat).len(), 3),
-        Err(OpenRefused::NoMemory(back)) => {
-            let mut sums = back.iter().map(|sum| sum.sum);
-            assert_is(
-                &rt,
-                (sums.next(), sums.next(), sums.next(), sums.next()),
-                (Some(10), Some(20), Some(30), None),
-            );
-        }
-        Err(OpenRefused::BadStart(_)) => panic!(rt; "the start is 0"),
-    }
-}
-
 #[test]
 fn a_start_above_the_limit_is_refused(rt: HostRuntime) -> Result<(), Fail> {
     let objects = Vec::from_array(rt.alloc(), [Sum::new(10)]).map_err(|_| "no memory")?;

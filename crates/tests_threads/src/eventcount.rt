@@ -170,16 +170,3 @@ fn a_sequencer_above_the_limit_is_refused(rt: HostRuntime) {
     let opened = Sequencer::open(rt.alloc(), LIMIT + 1);
     assert!(rt; matches!(&opened, Err(OpenRefused::BadStart)));
 }
-
-// Where memory fails, which a run can ask for, `NoMemory` is the only other answer.
-#[test]
-fn open_answers_or_lacks_memory(rt: HostRuntime) {
-    match Eventcount::open(rt.alloc(), 7) {
-        Ok((count, mut seat)) => assert_eq!(rt; count.read(&mut seat), 7),
-        Err(refused) => assert!(rt; matches!(&refused, OpenRefused::NoMemory)),
-    }
-    match Sequencer::open(rt.alloc(), 7) {
-        Ok((turns, mut seat)) => assert!(rt; matches!(&turns.ticket(&mut seat), Ok(7))),
-        Err(refused) => assert!(rt; matches!(&refused, OpenRefused::NoMemory)),
-    }
-}

@@ -71,19 +71,6 @@ fn a_start_above_the_limit_is_refused(rt: HostRuntime) {
     }
 }
 
-// Where memory fails, which a run can ask for, the object comes back.
-#[test]
-fn opening_answers_or_lacks_memory(rt: HostRuntime) {
-    match Gate::open(rt.alloc(), Sum::new(7)) {
-        Ok((gate, mut seat)) => {
-            assert!(rt; matches!(&gate.try_call(&mut seat, 1), Ok(7)));
-            assert_is(&rt, gate.close(seat).turns, 1);
-        }
-        Err(OpenRefused::NoMemory(back)) => assert_is(&rt, back.sum, 7),
-        Err(OpenRefused::BadStart(_)) => panic!(rt; "the start is 0"),
-    }
-}
-
 // A gate is opened and closed: not every opening lacks memory.
 #[test]
 fn always_no_memory(rt: HostRuntime) -> Result<(), Fail> {

@@ -12,6 +12,10 @@ mod examples;
 #[cfg(test)]
 mod gate;
 #[cfg(test)]
+mod growths;
+#[cfg(test)]
+mod no_growths;
+#[cfg(test)]
 mod parts;
 #[cfg(test)]
 mod sum;

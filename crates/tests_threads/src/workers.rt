@@ -8,6 +8,7 @@ use std::sync::Wait;
 use std::thread::Threads;
 use sysv_workers::{Job, Source, WorkersFault, WorkersRefused, run_workers};
 
+mod growths;
 mod marks;
 mod refused;
 mod together;

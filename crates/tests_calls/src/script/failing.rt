@@ -129,17 +129,3 @@ fn stops_in_a_line_that_never_ends(rt: HostRuntime) -> Result<(), Fail> {
     }
     Ok(())
 }
-
-#[test]
-fn says_that_memory_was_refused(rt: HostRuntime) -> Result<(), Fail> {
-    let mut reader = SCRIPT;
-    let mut writer = Page::taking(512, 512, false);
-    match run(&rt, rt.alloc(), &mut reader, &mut writer) {
-        Ok(()) => assert!(rt; writer.written() == ANSWERS),
-        Err(fault) => {
-            assert_eq!(rt; fault, ScriptFault::NoMemory);
-            assert!(rt; is_front(writer.written(), ANSWERS));
-        }
-    }
-    Ok(())
-}

@@ -1,0 +1,36 @@
+//! A run of events, where a growth of it may be refused: then the events come back, and the world is as it was.
+use super::*;
+use tests_kit::mark;
+
+// What came back is run again, with the answers of a first run.
+#[test]
+fn run_of_events(rt: HostRuntime) {
+    let alloc = rt.alloc();
+    let mut world = world_with_queue(&rt, alloc, 16);
+    let events = six_calls(&rt, alloc);
+    let _marked = mark(alloc);
+    let answers = match world.run(alloc, events) {
+        Ok(answers) => answers,
+        Err(back) => {
+            assert_is(&rt, back.len(), 19);
+            match world.run(alloc, back) {
+                Ok(answers) => answers,
+                Err(_) => panic!(rt; "a second try"),
+            }
+        }
+    };
+    let no_message = Outcome::Refused(Errno::ENOMSG);
+    let wants: [Want<'_>; 6] = [
+        (1, no_message, Some(b"")),
+        (1, Outcome::Zero, None),
+        (1, Outcome::Zero, None),
+        (2, Outcome::Got { mtype: 5, len: 5 }, Some(b"hello")),
+        (2, Outcome::Got { mtype: 2, len: 0 }, Some(b"")),
+        (2, no_message, Some(b"")),
+    ];
+    assert_is(&rt, answers.len(), wants.len());
+    for (answer, want) in answers.iter().zip(wants) {
+        assert_answers(&rt, answer, want);
+    }
+    assert_is(&rt, world.end(), 1024);
+}

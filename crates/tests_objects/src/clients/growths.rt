@@ -1,0 +1,34 @@
+//! A client, where a growth of it may be refused: then it shows so, and nothing was read or written.
+use super::*;
+use tests_kit::mark;
+
+#[test]
+fn run_of_client(rt: HostRuntime) {
+    let mut talk = Talk::new(&rt, rt.alloc(), &[WELCOME, GOT, MESSAGE]);
+    let command = Command {
+        cred: WHO,
+        task: Task::Receive {
+            key: 7,
+            size: 8192,
+            mtype: 0,
+            nowait: false,
+            noerror: false,
+        },
+    };
+    let _marked = mark(rt.alloc());
+    let status = run_client(
+        rt.alloc(),
+        &command,
+        &mut talk.replies,
+        &mut talk.requests,
+        &mut talk.screen,
+    );
+    if status == 0 {
+        assert!(rt; talk.screen.text() == b"abc\n".as_slice());
+        assert_is(&rt, talk.replies.read, talk.replies.len());
+    } else {
+        assert_is(&rt, status, 1);
+        assert!(rt; talk.screen.text() == b"sysvmsg: no memory\n".as_slice());
+        assert_is(&rt, (talk.replies.read, talk.requests.len()), (0, 0));
+    }
+}

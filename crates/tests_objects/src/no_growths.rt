@@ -1,0 +1,57 @@
+//! Calls of the registry and of the pool, which take no memory: a run counts the growths after the mark, refuses each, and
+//! wants none.
+
+use crate::parts::{assert_holds, assert_is, give_back, open_body, open_pool};
+use sysv_keys::{Begun, Registry};
+use sysv_model::IPC_PRIVATE;
+use tests_kit::{creating, mark};
+
+// All slots are taken, and all are given again.
+#[test]
+fn registry(rt: HostRuntime) {
+    let Ok(mut registry) = Registry::open(rt.alloc()) else {
+        return;
+    };
+    let _marked = mark(rt.alloc());
+    for round in 0..2 {
+        for slot in 0..256 {
+            let key = if slot % 2 == 0 { IPC_PRIVATE } else { slot };
+            let id = slot + 256 * round;
+            let begun = registry.begin(key, creating());
+            assert_is(&rt, begun, Begun::Made { id });
+            assert!(rt; registry.settle(id));
+        }
+        for slot in 0..256 {
+            assert!(rt; registry.forget(slot + 256 * round));
+        }
+    }
+    assert_is(&rt, registry.settled(), 1024);
+}
+
+#[test]
+fn pool(rt: HostRuntime) {
+    let mut text = open_body(&rt, rt.alloc());
+    let mut out = open_body(&rt, rt.alloc());
+    let mut pool = open_pool(&rt, rt.alloc(), 128);
+    let _marked = mark(rt.alloc());
+    assert!(rt; text.push_piece(b"hello"));
+    let size = text.len();
+    assert!(rt; size <= 8192);
+    let Some(mut chain) = pool.reserve(size) else {
+        panic!(rt; "no blocks")
+    };
+    chain.fill(&text);
+    chain.copy_out(size, &mut out);
+    assert_holds(&rt, &out, b"hello");
+    assert_is(&rt, pool.free(), 127);
+    give_back(&rt, &mut pool, chain);
+    let Some(chain) = pool.reserve(8192) else {
+        panic!(rt; "no blocks")
+    };
+    if let Some(more) = pool.reserve(1) {
+        assert_is(&rt, more.end(), 0);
+    }
+    give_back(&rt, &mut pool, chain);
+    assert_is(&rt, (pool.free(), pool.released()), (128, 2));
+    pool.end();
+}

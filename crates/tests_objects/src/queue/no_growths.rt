@@ -1,0 +1,44 @@
+//! Calls of a slot, which take no memory: a run counts the growths after the mark, refuses each, and wants none.
+use super::*;
+use crate::parts::assert_is;
+use tests_kit::{creating, mark};
+
+/// The queue's attributes are changed and told.
+fn assert_is_set(rt: &impl Abort, slot: &mut QueueSlot) {
+    let to = SetTo {
+        uid: 1000,
+        gid: 1000,
+        mode: 0o640,
+        qbytes: 300,
+    };
+    assert_eq!(rt; slot.set(0, SENDER, to, 80), Ok(()));
+    let stat = slot.stat(0, SENDER).map(|stat| (stat.qnum, stat.qbytes));
+    assert_eq!(rt; stat, Ok((0, 300)));
+    let row = slot.row().map(|row| (row.key, row.mode));
+    assert_eq!(rt; row, Some((7, 0o640)));
+}
+
+// It holds as many messages as it may, which go by each selector.
+#[test]
+fn slot(rt: HostRuntime) {
+    let mut desk = open_desk(&rt, rt.alloc());
+    let _marked = mark(rt.alloc());
+    assert!(rt; desk.slot.install(0, 7, SENDER, 0o600, 50));
+    assert_is(&rt, desk.slot.probe(0, RECEIVER, creating()), Probe::Granted);
+    assert_is_set(&rt, &mut desk.slot);
+    for number in 0..256_u16 {
+        let mtype = i64::from(number % 7) + 1;
+        assert!(rt; send(&rt, &mut desk, mtype, b"x").is_ok());
+    }
+    assert!(rt; matches!(&desk.slot.look(0, SENDER, 1), Look::Full { .. }));
+    for sel in [Selector::Any, Selector::Exactly(5), Selector::UpTo(3), Selector::Except(1)] {
+        for _ in 0..32 {
+            assert!(rt; take_as(&rt, &mut desk, 0, RECEIVER, sel, 9, false).is_ok());
+        }
+    }
+    match desk.slot.remove(0, SENDER) {
+        Ok(discarded) => give_back(&rt, &mut desk.pool, discarded.into_chain()),
+        Err(why) => panic!(rt; "{why}"),
+    }
+    end_desk(&rt, desk, 0);
+}

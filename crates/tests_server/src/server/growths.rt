@@ -1,0 +1,53 @@
+//! A server, where a growth of it may be refused: then it accepted nothing, or a session whose texts were refused is counted
+//! and stays unanswered.
+use super::*;
+use std::net::Shutdown;
+use tests_kit::mark;
+
+/// A client that has written a hello, and nothing more.
+fn greeting<R: Net + Abort>(rt: &R, path: &str) -> UnixStream {
+    let mut stream = UnixStream::connect(rt, path).expect(rt, "a connection");
+    assert!(rt; stream.write_all(HELLO).is_ok());
+    assert!(rt; stream.shutdown(Shutdown::Write).is_ok());
+    stream
+}
+
+/// It was answered, or has nothing to read.
+fn is_answered<R: Abort>(rt: &R, stream: &mut UnixStream) -> bool {
+    let mut bytes = [0; 64];
+    let mut len = 0;
+    while let Ok(count) = stream.read(&mut bytes[len.min(64)..]) {
+        if count == 0 {
+            break;
+        }
+        len = len.saturating_add(count);
+    }
+    if len == 0 {
+        return false;
+    }
+    assert!(rt; &bytes[..len.min(64)] == KNOWN);
+    true
+}
+
+// A server that had no memory leaves the connection to the next one.
+#[test]
+fn run_of_server(rt: HostRuntime) {
+    let path = "growths.socket";
+    let _old = fs::remove_file(&rt, path);
+    let listener = UnixListener::bind(&rt, path).expect(&rt, "a socket");
+    let mut first = greeting(&rt, path);
+    let _marked = mark(rt.alloc());
+    match serve_on(&rt, rt.alloc(), &listener, 128, 1, 1) {
+        Ok(all) => {
+            assert_eq!(rt; all, sums(1, 0, 0));
+            if is_answered(&rt, &mut first) {
+                return;
+            }
+            first = greeting(&rt, path);
+        }
+        Err(why) => assert!(rt; matches!(&why, ServeFault::NoMemory | ServeFault::Thread)),
+    }
+    let second = serve_on(&rt, rt.alloc(), &listener, 128, 1, 1);
+    assert_eq!(rt; second, Ok(sums(1, 0, 0)));
+    assert!(rt; is_answered(&rt, &mut first));
+}

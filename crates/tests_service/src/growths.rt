@@ -1,0 +1,52 @@
+//! Each call of a service that takes memory, where a growth of it may be refused: then it answers `NoMemory`, and the pass is
+//! as it was.
+
+use crate::parts::{CLOCK, assert_is, closed, opened};
+use sysv_gated::GatesRefused;
+use sysv_model::Errno;
+use sysv_service::Service;
+use tests_kit::{USER, creating, mark};
+
+#[test]
+fn service_open(rt: HostRuntime) {
+    let _marked = mark(rt.alloc());
+    match Service::open(rt.alloc(), 128) {
+        Ok((service, mut pass)) => {
+            let id = service.msgget(&rt, &mut pass, &CLOCK, USER, 7, creating());
+            assert_is(&rt, id, Ok(0));
+            assert_is(&rt, service.close(pass), closed(0, 128));
+        }
+        Err(why) => assert_is(&rt, why, GatesRefused::NoMemory),
+    }
+}
+
+#[test]
+fn service_starting_at(rt: HostRuntime) {
+    let _marked = mark(rt.alloc());
+    match Service::open_at(rt.alloc(), 128, (1 << 62) - 1, 0) {
+        Ok((service, mut pass)) => {
+            let id = service.msgget(&rt, &mut pass, &CLOCK, USER, 7, creating());
+            assert_is(&rt, id, Err(Errno::EOVERFLOW));
+            assert_is(&rt, service.close(pass), closed(0, 128));
+        }
+        Err(why) => assert_is(&rt, why, GatesRefused::NoMemory),
+    }
+}
+
+// With another pass and without, the first one removes the queue that it has made.
+#[test]
+fn split_of_pass(rt: HostRuntime) {
+    let (service, mut pass) = opened(&rt, rt.alloc(), 128, 0);
+    let id = service.msgget(&rt, &mut pass, &CLOCK, USER, 7, creating());
+    assert_is(&rt, id, Ok(0));
+    let _marked = mark(rt.alloc());
+    if let Ok(mut other) = service.split_pass(rt.alloc(), &mut pass) {
+        let found = service.msgget(&rt, &mut other, &CLOCK, USER, 7, creating());
+        assert_is(&rt, found, Ok(0));
+        service.join_pass(&mut pass, other);
+    }
+    let removed = service.msgctl_rmid(&rt, &mut pass, USER, 0);
+    assert_is(&rt, removed, Ok(()));
+    assert_is(&rt, service.list_row(&rt, &mut pass, 0), Ok(None));
+    assert_is(&rt, service.close(pass), closed(0, 128));
+}

@@ -1,0 +1,17 @@
+//! A session, where a growth of it may be refused: then nothing was read, written or asked, and a second one is whole.
+use super::served::{assert_served, served_on};
+use super::shelf::Shelf;
+use sysv_session::End;
+use tests_kit::worked::{ANSWERS, SESSION};
+use tests_kit::{Page, Pieces, mark};
+
+#[test]
+fn run_of_session(rt: HostRuntime) {
+    let mut kernel = Shelf::open(&rt, rt.alloc());
+    let mut reader = Pieces::new(SESSION, usize::MAX);
+    let mut page = Page::new();
+    let _marked = mark(rt.alloc());
+    let told = served_on(&rt, rt.alloc(), &mut reader, &mut page, &mut kernel);
+    assert_served(&rt, &told, &page, End::Ended, (5, 1, 1, 0), ANSWERS);
+    assert_eq!(rt; kernel.end(), 128);
+}
