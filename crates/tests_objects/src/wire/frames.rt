@@ -54,7 +54,7 @@ fn reads_and_writes(
         assert_eq!(rt; (read, written), (Ok(Some(request)), Ok(())));
     }
     let end = read_request(&mut reader, &mut text);
-    let failed = reader.has_failed() || writer.has_failed();
+    let failed = reader.failures() > 0 || writer.failures() > 0;
     assert_eq!(rt; (end, failed, page.written()), (Ok(None), false, bytes));
 }
 
@@ -82,7 +82,7 @@ fn reads_and_writes_replies(
         }
     }
     let end = read_reply(&mut reader, &mut text);
-    let failed = reader.has_failed() || writer.has_failed();
+    let failed = reader.failures() > 0 || writer.failures() > 0;
     assert_eq!(rt; (end, failed, page.written()), (Ok(None), false, bytes));
 }
 

@@ -19,11 +19,11 @@ fn end_of_requests(text: &mut Body, good: usize) -> (Result<Option<Request>, Fau
     let mut answer = Ok(None);
     for _ in 0..5 {
         answer = read_request(&mut reader, text);
-        if answer.is_err() || reader.has_failed() {
+        if answer.is_err() || reader.failures() > 0 {
             break;
         }
     }
-    (answer, reader.has_failed())
+    (answer, reader.failures() > 0)
 }
 
 /// The same of replies.
@@ -34,11 +34,11 @@ fn end_of_replies(text: &mut Body, good: usize) -> (Result<Option<Reply>, Fault>
     let mut answer = Ok(None);
     for _ in 0..5 {
         answer = read_reply(&mut reader, text);
-        if answer.is_err() || reader.has_failed() {
+        if answer.is_err() || reader.failures() > 0 {
             break;
         }
     }
-    (answer, reader.has_failed())
+    (answer, reader.failures() > 0)
 }
 
 #[test]
@@ -68,7 +68,7 @@ fn assert_fails_after(rt: &impl Abort, end: End, page: &Page, taken: &[u8]) {
 fn end_of_request(page: &mut Page, request: &Request, text: &Body) -> End {
     let mut writer = Watched::new(page);
     let end = write_request(&mut writer, request, text);
-    (end, writer.has_failed())
+    (end, writer.failures() > 0)
 }
 
 #[test]
@@ -106,7 +106,7 @@ fn a_writer_fails_within_a_reply(rt: HostRuntime) {
         let mut page = Page::taking(3, room, false);
         let mut writer = Watched::new(&mut page);
         let end = write_reply(&mut writer, &reply, &text);
-        let end = (end, writer.has_failed());
+        let end = (end, writer.failures() > 0);
         assert_fails_after(&rt, end, &page, &ANSWERS[25..25 + room]);
     }
 }
