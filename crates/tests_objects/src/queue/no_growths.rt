@@ -24,14 +24,23 @@ fn slot(rt: HostRuntime) {
     let mut desk = open_desk(&rt, rt.alloc());
     let _marked = mark(rt.alloc());
     assert!(rt; desk.slot.install(0, 7, SENDER, 0o600, 50));
-    assert_is(&rt, desk.slot.probe(0, RECEIVER, creating()), Probe::Granted);
+    assert_is(
+        &rt,
+        desk.slot.probe(0, RECEIVER, creating()),
+        Probe::Granted,
+    );
     assert_is_set(&rt, &mut desk.slot);
     for number in 0..256_u16 {
         let mtype = i64::from(number % 7) + 1;
         assert!(rt; send(&rt, &mut desk, mtype, b"x").is_ok());
     }
     assert!(rt; matches!(&desk.slot.look(0, SENDER, 1), Look::Full { .. }));
-    for sel in [Selector::Any, Selector::Exactly(5), Selector::UpTo(3), Selector::Except(1)] {
+    for sel in [
+        Selector::Any,
+        Selector::Exactly(5),
+        Selector::UpTo(3),
+        Selector::Except(1),
+    ] {
         for _ in 0..32 {
             assert!(rt; take_as(&rt, &mut desk, 0, RECEIVER, sel, 9, false).is_ok());
         }
