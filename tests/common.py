@@ -68,10 +68,10 @@ class Session:
 class Server:
     """A server at a path, from the line that says that it listens until it is told to end."""
 
-    def __init__(self, program, path, *words):
+    def __init__(self, program, path, *words, **how):
         self.path = path
         words = [program, "serve", path, *map(str, words)]
-        self.process = subprocess.Popen(words, stdout=subprocess.PIPE, stderr=subprocess.PIPE)
+        self.process = subprocess.Popen(words, stdout=subprocess.PIPE, stderr=subprocess.PIPE, **how)
         self.listening = self.process.stderr.readline().decode()
 
     def ended(self):

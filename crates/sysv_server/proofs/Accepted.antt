@@ -5,8 +5,9 @@ use Rattle.std.specs.List.{FoldsTo}
 use Rattle.sysv_workers.specs.Sources.{GivesAll}
 use Rattle.sysv_server.specs.declared.fault.ServeFault.{ServeFault}
 use Rattle.sysv_server.specs.declared.sums.Sums.{Sums}
+use Rattle.sysv_server.specs.declared.terms.Ended.{Ended}
 use Rattle.sysv_server.specs.Accepts.{Accepts}
-use Rattle.sysv_server.specs.Serving.{ServesAll, ServesOn}
+use Rattle.sysv_server.specs.Serving.{EndsAll, EndsOn, ServesAll, ServesOn}
 
 room : (m a a' n : ℕ) → m ≤ 2 ^ 64 - 1 → a < m → a' ≡ min (a + 1) (2 ^ 64 - 1) → (a' ≤ m → a' + n ≤ m) → a + (n + 1) ≤ m
 room m a a' n small low is rest = omega arith
@@ -43,3 +44,12 @@ module _ {S : Type 0} (T : Type 0) (most accepted : S → ℕ) where
         let each = served.all.each in omega arith;
   }
   serves_on blocks workers m s s' (Err why) none same small served = tt
+
+  pub ends_on : (blocks workers m : ℕ) (s s' : S) (result : Result Ended ServeFault) → accepted s ≡ 0 → most s ≡ m → m ≤ 2 ^ 64 - 1 → IfOk result (λ ended. EndsAll Gives blocks workers s ended s')
+      → IfOk result (λ ended. EndsOn blocks workers m ended)
+  unfolding serves_on
+  ends_on blocks workers m s s' (Ok ended) none same small all = record {
+    served = serves_on blocks workers m s s' (Ok ended.sums) none same small all.served;
+    stopped = all.stopped;
+  }
+  ends_on blocks workers m s s' (Err why) none same small all = tt

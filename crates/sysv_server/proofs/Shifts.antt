@@ -1,6 +1,5 @@
 -- The shifts of workers, by what their runs lead to.
 use Rattle.std.proofs.Common.{◌≡◌, ◌∙◌, ℕ, suc, ◌<◌, List, [], ◌∷◌, ◌++◌, map, length, Option, ap, refl, sym, subst, arith, append_assoc, length-append}
-use Rattle.std.specs.Prelude.{Result, Ok, Err, IfOk}
 use Rattle.std.specs.List.{All, AllByRecursion, FoldsTo, flat_map, slice_index_or}
 use Rattle.std.proofs.lemmas.List.{append-nil, length-map, get_or_append_left}
 use Rattle.std.proofs.lemmas.List.Elements.{All-head, All-tail, All-cons}
@@ -11,11 +10,10 @@ use Rattle.sysv_session.specs.declared.served.Served.{Served}
 use Rattle.sysv_workers.specs.Parts.{Part}
 use Rattle.sysv_workers.specs.Running.{RunsAll}
 use Rattle.sysv_server.specs.declared.sums.Sums.{Sums}
-use Rattle.sysv_server.specs.declared.fault.ServeFault.{ServeFault}
-use Rattle.sysv_server.specs.Added.{IsBalanced, added, all_added, one_session}
+use Rattle.sysv_server.specs.Added.{added, all_added, one_session}
 use Rattle.sysv_server.specs.Handled.{Handles, Shift, Talks, sums_of, tally_of, told_in}
 use Rattle.sysv_server.specs.Serving.{IsNew, WorkedAll}
-use Rattle.sysv_server.proofs.Adding.{balanced, told_first, told_last}
+use Rattle.sysv_server.proofs.Adding.{told_first, told_last}
 
 map_map : {X Y Z : Type 0} (g : Y → Z) (f : X → Y) (xs : List X) → map g (map f xs) ≡ map (λ x. g (f x)) xs
 map_map g f [] = refl
@@ -109,8 +107,3 @@ module _ {W T : Type 0} (pass : W → Pass) (sums : W → Sums) where
         gave = ran.gave;
         each = done.each ∙ sym (length_permutation (flat_map (λ (p : Part W T). p.items) ran.parts) ran.given ran.dealt);
       }
-
-pub all_balanced : {S T : Type 0} (gives : S → Option T → S → Type 0) (gates : Gates) (count : ℕ) (source source' : S) (result : Result Sums ServeFault) →
-    IfOk result (λ total. WorkedAll gives gates count source total source') → IfOk result IsBalanced
-all_balanced gives gates count source source' (Ok total) worked = balanced (told_in worked.shifts) total worked.worked.sums
-all_balanced gives gates count source source' (Err why) worked = tt

@@ -1,16 +1,20 @@
 -- What a server does (this profile's): its workers share one service, each with a pass of its own, and there is a session for
 -- each connection.
-use Rattle.std.specs.Prelude.{◌≡◌, ◌≢◌, ◌≤◌, ℕ, List, Option, length, ⊤}
+use Rattle.std.specs.Prelude.{◌≡◌, ◌≢◌, ◌≤◌, ℕ, Bool, List, Option, Result, length, ⊤}
 use Rattle.std.specs.List.{AllByRecursion}
 use Rattle.sysv_gated.specs.Opened.{AreOpen}
 use Rattle.sysv_gated.specs.Seats.{Gates, AreOf}
+use Rattle.sysv_keys.specs.declared.identifier.TheConstants.{SLOTS as slot_count}
+use Rattle.sysv_model.specs.declared.errno.Errno.{Errno}
 use Rattle.sysv_service.specs.Ran.{Pass}
+use Rattle.sysv_service.specs.Stopped.{Stops, TellsStop}
 use Rattle.sysv_workers.specs.declared.refusals.WorkersFault.{WorkersFault}
 use Rattle.sysv_workers.specs.declared.refusals.WorkersFault.TheVariants as workers
 use Rattle.sysv_workers.specs.Sources.{GivesAll}
 use Rattle.sysv_server.specs.declared.fault.ServeFault.{ServeFault}
 use Rattle.sysv_server.specs.declared.fault.ServeFault.TheVariants.{NoMemory, Thread, Worn, Missed}
 use Rattle.sysv_server.specs.declared.sums.Sums.{Sums}
+use Rattle.sysv_server.specs.declared.terms.Ended.{Ended}
 use Rattle.sysv_server.specs.Added.{nothing}
 use Rattle.sysv_server.specs.Handled.{Shift, sums_of, told_in}
 
@@ -46,6 +50,26 @@ pub record ServesOn (blocks workers most : ℕ) (sums : Sums) : Type 0 where
   pub shifts : List Shift
   pub worked : Worked gates workers shifts sums
   pub bounded : most ≢ 0 → length (told_in shifts) ≤ most
+
+-- a stop of these gates told this: at each slot the queue that was left was removed
+pub record Stopped (gates : Gates) (told : Result ℕ Errno) : Type 0 where
+  pub before : Pass
+  pub after : Pass
+  pub pass : AreOf gates before.seats
+  pub removed : ℕ
+  pub worn : Bool
+  pub stops : Stops before slot_count removed worn after
+  pub tells : TellsStop removed worn told
+
+-- the connections of a source were served, and then the queues that were left were removed
+pub record EndsAll {S T : Type 0} (gives : S → Option T → S → Type 0) (blocks workers : ℕ) (source : S) (ended : Ended) (source' : S) : Type 0 where
+  pub served : ServesAll gives blocks workers source ended.sums source'
+  pub stopped : Stopped served.gates ended.removed
+
+-- those of a listener
+pub record EndsOn (blocks workers most : ℕ) (ended : Ended) : Type 0 where
+  pub served : ServesOn blocks workers most ended.sums
+  pub stopped : Stopped served.gates ended.removed
 
 -- where no session could be run, nothing was accepted
 abbrev pub LeavesConnections : {S : Type 0} → S → ServeFault → S → Type 0

@@ -1,15 +1,49 @@
 //! Connections as they are accepted.
-ghost use Rattle.std.specs.Prelude.{◌≡◌};
+ghost use Rattle.std.specs.Prelude.{◌≡◌, ◌≢◌, ◌<◌, ◌≤◌, ◌-◌, ◌^◌, IfSome};
 
+use crate::patient::seconds_long;
+use libc::net::{POLLIN, poll};
+use libc::types::pollfd;
 use std::io;
+use std::io::{ErrorKind, Read};
+use std::os::fd::AsRawFd;
 use std::os::unix::net::{UnixListener, UnixStream};
 use sysv_workers::Source;
 
-/// Accepts connections, up to a number of them or, if that is 0, without end. An accept that fails
-/// ends it.
+/// The bytes of an input that are read at a time, and dropped.
+const INPUT_BYTES: usize = 512;
+
+/// The socket on which connections come.
 #[derive(Drop)]
-pub(crate) struct Accepting<'a> {
-    listener: &'a UnixListener,
+pub(crate) enum Listening<'a> {
+    /// The caller's, which stays open.
+    Lent(&'a UnixListener),
+    /// The server's own, which is closed once no more is accepted: then clients are refused.
+    Own(UnixListener),
+    /// None any more.
+    Closed,
+}
+
+impl Listening<'_> {
+    /// The listener, unless there is none any more.
+    fn listener(&self) -> Option<&UnixListener> {
+        match self {
+            Listening::Lent(listener) => Some(listener),
+            Listening::Own(listener) => Some(listener),
+            Listening::Closed => None,
+        }
+    }
+}
+
+/// Accepts connections, up to a number of them or, if that is 0, without end. An accept that fails
+/// ends it, and the end of its input, if it has one.
+#[derive(Drop)]
+pub(crate) struct Accepting<'a, I: Drop> {
+    listening: Listening<'a>,
+    /// At whose end no more is accepted.
+    input: Option<I>,
+    /// For how many seconds a write to a connection may wait, 0 for any time.
+    stall: u32,
     /// The most that are accepted, 0 for any number.
     most: u64,
     /// How many were accepted. It stays at the greatest value.
@@ -18,13 +52,21 @@ pub(crate) struct Accepting<'a> {
     fault: Option<io::Error>,
 }
 
-impl<'a> Accepting<'a> {
+impl<'a, I: Read + AsRawFd + Drop> Accepting<'a, I> {
     /// Nothing was accepted yet.
-    pub(crate) fn new(listener: &'a UnixListener, most: u64) -> Accepting<'a>
-        ensures { (result.most ≡ most) × (result.accepted ≡ 0) }
+    pub(crate) fn new(
+        listening: Listening<'a>,
+        input: Option<I>,
+        stall: u32,
+        most: u64,
+    ) -> Accepting<'a, I>
+        ensures begun { (result.most ≡ most) × (result.accepted ≡ 0) }
+        ensures range { result.most ≤ 2 ^ 64 - 1 }
     {
         Accepting {
-            listener,
+            listening,
+            input,
+            stall,
             most,
             accepted: 0,
             fault: None,
@@ -35,26 +77,85 @@ impl<'a> Accepting<'a> {
     pub(crate) fn into_fault(self) -> Option<io::Error> {
         self.fault
     }
+
+    /// The next connection, or `None` where there is to be no other.
+    fn accept(&mut self) -> Option<io::Result<UnixStream>>
+        ensures same { (self.new.most ≡ self.old.most) × (self.new.accepted ≡ self.old.accepted) }
+        ensures bounded { IfSome result (λ _. self.old.most ≢ 0 → self.old.accepted < self.old.most) }
+    {
+        if self.most != 0 && self.accepted >= self.most {
+            return None;
+        }
+        let listener = self.listening.listener()?;
+        if let Some(input) = &mut self.input {
+            if has_ended_first(input, listener) {
+                return None;
+            }
+        }
+        Some(accept_from(listener, self.stall))
+    }
 }
 
-impl Source<UnixStream> for Accepting<'_> {
+impl<I: Read + AsRawFd + Drop> Source<UnixStream> for Accepting<'_, I> {
     ghost use Rattle.sysv_server.specs.Accepts.{Accepts};
 
     ghost gives = { λ old given new. Accepts old.most old.accepted given new.most new.accepted };
 
     fn next(&mut self) -> Option<UnixStream> {
-        if self.most != 0 && self.accepted >= self.most {
-            return None;
-        }
-        match self.listener.accept() {
-            Ok((stream, _address)) => {
+        match self.accept() {
+            Some(Ok(stream)) => {
                 self.accepted = self.accepted.saturating_add(1);
-                Some(stream)
+                return Some(stream);
             }
-            Err(why) => {
-                self.fault = Some(why);
-                None
-            }
+            Some(Err(why)) => self.fault = Some(why),
+            None => {}
         }
+        self.listening = Listening::Closed;
+        None
+    }
+}
+
+/// A connection from the listener, on which a write may wait for so many seconds.
+fn accept_from(listener: &UnixListener, stall: u32) -> io::Result<UnixStream> {
+    let (stream, _address) = listener.accept()?;
+    if stall != 0 {
+        stream.set_write_timeout(seconds_long(stall))?;
+    }
+    Ok(stream)
+}
+
+/// Waits until a connection has come, or the input has ended, or can't be read; and whether it has. What
+/// the input gives before is dropped.
+fn has_ended_first<I: Read + AsRawFd>(input: &mut I, listener: &UnixListener) -> bool {
+    for _ in 0..u64::MAX {
+        let mut asked = [input.as_raw_fd(), listener.as_raw_fd()].map(readable);
+        if poll(&mut asked, -1) < 0 {
+            continue;
+        }
+        if asked[0].revents != 0 && is_over(input) {
+            return true;
+        }
+        if asked[1].revents != 0 {
+            return false;
+        }
+    }
+    true
+}
+
+/// A descriptor that is asked whether it can be read.
+fn readable(fd: i32) -> pollfd {
+    pollfd {
+        fd,
+        events: POLLIN,
+        revents: 0,
+    }
+}
+
+/// Reads a piece of the input: whether it was at its end, or could not be read.
+fn is_over(input: &mut impl Read) -> bool {
+    let mut piece = [0; INPUT_BYTES];
+    match input.read(&mut piece) {
+        Ok(count) => count == 0,
+        Err(why) => why.kind() != ErrorKind::Interrupted,
     }
 }

@@ -4,10 +4,14 @@
 mod accepting;
 mod crew;
 mod fault;
+mod framing;
+mod patient;
 mod serving;
 mod session;
 mod sums;
+mod terms;
 
 pub use fault::ServeFault;
-pub use serving::{serve_connections, serve_on, serve_until_fault};
+pub use serving::{serve_connections, serve_crowd_on, serve_listener, serve_on, serve_until_fault};
 pub use sums::Sums;
+pub use terms::{Ended, Patience, Terms};

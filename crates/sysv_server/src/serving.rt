@@ -1,23 +1,26 @@
 //! The server.
 ghost use Rattle.std.specs.Prelude.{◌≡◌, ◌≢◌, ◌≤◌, IfOk, IfErr};
 ghost use Rattle.sysv_model.specs.declared.limits.TheConstants.{MIN_BLOCKS, MAX_BLOCKS};
-ghost use Rattle.sysv_workers.specs.declared.workers.TheConstants.{MAX_WORKERS};
+ghost use Rattle.sysv_workers.specs.declared.workers.TheConstants.{MAX_CROWD, MAX_WORKERS};
 ghost use Rattle.sysv_gated.specs.Seats.{AreOf};
 ghost use Rattle.sysv_server.specs.Added.{IsBalanced};
-ghost use Rattle.sysv_server.specs.Serving.{FaultOf, LeavesConnections, ServesAll, ServesOn, WorkedAll};
+ghost use Rattle.sysv_server.specs.Serving.{EndsAll, EndsOn, FaultOf, LeavesConnections, ServesAll, ServesOn, WorkedAll};
 
-use crate::accepting::Accepting;
+use crate::accepting::{Accepting, Listening};
 use crate::crew::{dismiss, hire};
 use crate::fault::ServeFault;
 use crate::session::{Sessions, Worker};
 use crate::sums::Sums;
+use crate::terms::{Ended, Patience, Terms};
 use std::alloc::Global;
 use std::io;
+use std::io::Read;
+use std::os::fd::AsRawFd;
 use std::os::unix::net::{UnixListener, UnixStream};
 use std::sync::Wait;
 use std::thread::Threads;
 use sysv_service::{Pass, Service};
-use sysv_workers::{Source, WorkersFault, WorkersRefused, run_workers};
+use sysv_workers::{Source, WorkersFault, WorkersRefused, run_crowd};
 
 /// Serves the connections of the listener on a new service, each as one session, and returns what
 /// the sessions add up to.
@@ -52,6 +55,24 @@ pub fn serve_on<R: Threads + Wait + Sync>(
     serve_until_fault(rt, alloc, listener, blocks, workers, sessions, &mut fault)
 }
 
+/// As `serve_on`, with 1 to 256 threads.
+pub fn serve_crowd_on<R: Threads + Wait + Sync>(
+    rt: &R,
+    alloc: Global,
+    listener: &UnixListener,
+    blocks: u32,
+    workers: u32,
+    sessions: u64,
+) -> Result<Sums, ServeFault>
+    requires blocks { (MIN_BLOCKS ≤ blocks) × (blocks ≤ MAX_BLOCKS) }
+    requires workers { (1 ≤ workers) × (workers ≤ MAX_CROWD) }
+    ensures ok { IfOk result (λ sums. ServesOn blocks workers sessions sums) }
+    ensures balance { IfOk result IsBalanced }
+{
+    let mut source = lent(listener, sessions);
+    serve_source(rt, alloc, &mut source, blocks, workers)
+}
+
 /// As `serve_on`, and leaves in `fault` why an accept failed, or `None` if none did.
 pub fn serve_until_fault<R: Threads + Wait + Sync>(
     rt: &R,
@@ -67,8 +88,49 @@ pub fn serve_until_fault<R: Threads + Wait + Sync>(
     ensures ok { IfOk result (λ sums. ServesOn blocks workers sessions sums) }
     ensures balance { IfOk result IsBalanced }
 {
-    let mut source = Accepting::new(listener, sessions);
+    let mut source = lent(listener, sessions);
     let outcome = serve_connections(rt, alloc, &mut source, blocks, workers);
+    *fault = source.into_fault();
+    outcome
+}
+
+/// Connections of a listener that stays open.
+fn lent(listener: &UnixListener, sessions: u64) -> Accepting<'_, UnixStream>
+    ensures { (result.most ≡ sessions) × (result.accepted ≡ 0) }
+{
+    Accepting::new(Listening::Lent(listener), None, 0, sessions)
+}
+
+/// Serves the connections of the listener on a new service, as `serve_on` does, on these terms.
+///
+/// The listener is closed once no more is accepted, before the last sessions are over. If there is
+/// an input, no more is accepted once it has ended; what it gives before is dropped. `fault` is left
+/// as why an accept failed, or `None` if none did.
+///
+/// # Errors
+/// As for `serve_on`.
+pub fn serve_listener<I: Read + AsRawFd + Drop, R: Threads + Wait + Sync>(
+    rt: &R,
+    alloc: Global,
+    listener: UnixListener,
+    input: Option<I>,
+    terms: Terms,
+    fault: &mut Option<io::Error>,
+) -> Result<Ended, ServeFault>
+    requires blocks { (MIN_BLOCKS ≤ terms.blocks) × (terms.blocks ≤ MAX_BLOCKS) }
+    requires at_once { (1 ≤ terms.at_once) × (terms.at_once ≤ MAX_CROWD) }
+    ensures ok { IfOk result (λ ended. EndsOn terms.blocks terms.at_once terms.sessions ended) }
+    ensures balance { IfOk result (λ ended. IsBalanced ended.sums) }
+{
+    let Terms {
+        blocks,
+        at_once,
+        sessions,
+        patience,
+    } = terms;
+    let listening = Listening::Own(listener);
+    let mut source = Accepting::new(listening, input, patience.stall, sessions);
+    let outcome = serve_all(rt, alloc, &mut source, blocks, at_once, patience);
     *fault = source.into_fault();
     outcome
 }
@@ -88,13 +150,55 @@ pub fn serve_connections<S: Source<UnixStream>, R: Threads + Wait + Sync>(
     ensures balance { IfOk result IsBalanced }
     ensures err { IfErr result (λ why. LeavesConnections source.old why source.new) }
 {
+    serve_source(rt, alloc, source, blocks, workers)
+}
+
+/// As `serve_connections`, with 1 to 256 threads.
+fn serve_source<S: Source<UnixStream>, R: Threads + Wait + Sync>(
+    rt: &R,
+    alloc: Global,
+    source: &mut S,
+    blocks: u32,
+    workers: u32,
+) -> Result<Sums, ServeFault>
+    requires blocks { (MIN_BLOCKS ≤ blocks) × (blocks ≤ MAX_BLOCKS) }
+    requires workers { (1 ≤ workers) × (workers ≤ MAX_CROWD) }
+    ensures ok { IfOk result (λ sums. ServesAll S.gives blocks workers source.old sums source.new) }
+    ensures balance { IfOk result IsBalanced }
+    ensures err { IfErr result (λ why. LeavesConnections source.old why source.new) }
+{
+    match serve_all(rt, alloc, source, blocks, workers, Patience::UNBOUNDED) {
+        Ok(ended) => Ok(ended.sums),
+        Err(why) => Err(why),
+    }
+}
+
+/// Serves the connections of a source on a new service, and removes the queues that are left.
+fn serve_all<S: Source<UnixStream>, R: Threads + Wait + Sync>(
+    rt: &R,
+    alloc: Global,
+    source: &mut S,
+    blocks: u32,
+    workers: u32,
+    patience: Patience,
+) -> Result<Ended, ServeFault>
+    requires blocks { (MIN_BLOCKS ≤ blocks) × (blocks ≤ MAX_BLOCKS) }
+    requires workers { (1 ≤ workers) × (workers ≤ MAX_CROWD) }
+    ensures ok { IfOk result (λ ended. EndsAll S.gives blocks workers source.old ended source.new) }
+    ensures balance { IfOk result (λ ended. IsBalanced ended.sums) }
+    ensures err { IfErr result (λ why. LeavesConnections source.old why source.new) }
+{
     let Ok((service, mut pass)) = Service::open(alloc, blocks) else {
         return Err(ServeFault::NoMemory);
     };
-    let outcome = serve_with(rt, alloc, &service, &mut pass, source, workers as usize);
-    let _stopped = service.stop(rt, &mut pass);
+    let count = workers as usize;
+    let outcome = serve_with(rt, alloc, &service, &mut pass, source, count, patience);
+    let removed = service.stop(rt, &mut pass);
     let _closed = service.close(pass);
-    outcome
+    match outcome {
+        Ok(sums) => Ok(Ended { sums, removed }),
+        Err(why) => Err(why),
+    }
 }
 
 /// Serves the connections on this service, and takes back the passes of all workers.
@@ -105,9 +209,10 @@ fn serve_with<S: Source<UnixStream>, R: Threads + Wait + Sync>(
     pass: &mut Pass,
     source: &mut S,
     count: usize,
+    patience: Patience,
 ) -> Result<Sums, ServeFault>
     requires pass { AreOf service.now pass.old.seats }
-    requires count { (1 ≤ count) × (count ≤ MAX_WORKERS) }
+    requires count { (1 ≤ count) × (count ≤ MAX_CROWD) }
     ensures pass { AreOf service.now pass.new.seats }
     ensures ok { IfOk result (λ sums. WorkedAll S.gives service.now count source.old sums source.new) }
     ensures err { IfErr result (λ why. LeavesConnections source.old why source.new) }
@@ -119,8 +224,12 @@ fn serve_with<S: Source<UnixStream>, R: Threads + Wait + Sync>(
         dismiss(service, pass, workers);
         return Err(ServeFault::NoMemory);
     };
-    let job = Sessions { alloc, service };
-    match run_workers(rt, alloc, workers, source, &job) {
+    let job = Sessions {
+        alloc,
+        service,
+        patience,
+    };
+    match run_crowd(rt, alloc, workers, source, &job) {
         Ok(workers) => Ok(dismiss(service, pass, workers)),
         Err(refused) => {
             let WorkersRefused { why, states } = refused;

@@ -4,7 +4,9 @@ ghost use Rattle.sysv_gated.specs.Seats.{AreOf};
 ghost use Rattle.sysv_kernel.specs.Asked.{ServesPass};
 ghost use Rattle.sysv_server.specs.Added.{nothing};
 
+use crate::patient::Patient;
 use crate::sums::Sums;
+use crate::terms::Patience;
 use std::alloc::Global;
 use std::io::{BufReader, BufWriter};
 use std::os::unix::net::UnixStream;
@@ -64,6 +66,7 @@ impl<'a, R: Wait> Worker<'a, R> {
 pub(crate) struct Sessions<'a> {
     pub(crate) alloc: Global,
     pub(crate) service: &'a Service,
+    pub(crate) patience: Patience,
 }
 
 impl<'a, R: Wait> Job<Worker<'a, R>, UnixStream> for Sessions<'a> {
@@ -74,7 +77,8 @@ impl<'a, R: Wait> Job<Worker<'a, R>, UnixStream> for Sessions<'a> {
     ghost runs = { λ _ old _ new. Handles old.kernel.pass old.sums new.kernel.pass new.sums };
 
     fn run(&self, worker: &mut Worker<'a, R>, stream: UnixStream) {
-        let tally = match converse(self.alloc, &mut worker.kernel, &stream) {
+        let reader = Patient::new(&stream, self.patience);
+        let tally = match converse(self.alloc, &mut worker.kernel, reader, &stream) {
             Some(served) => served.tally,
             None => Tally::open(),
         };
@@ -82,10 +86,11 @@ impl<'a, R: Wait> Job<Worker<'a, R>, UnixStream> for Sessions<'a> {
     }
 }
 
-/// Runs one session on the connection. `None` where memory for its buffers was refused, and then nothing was read or written.
+/// Runs one session on the connection, of which the reader reads. `None` where memory for its buffers was refused, and then nothing was read or written.
 fn converse<C: Clock, R: Wait>(
     alloc: Global,
     kernel: &mut ServiceKernel<'_, C, R>,
+    reader: Patient<'_>,
     stream: &UnixStream,
 ) -> Option<Served>
     ensures some { IfSome result (λ told. (left rest taken more : Option (List ℕ)) × ServesPass (C.may kernel.old.clock.now) told kernel.old.pass kernel.new.pass left rest taken more) }
@@ -93,7 +98,7 @@ fn converse<C: Clock, R: Wait>(
     ensures service { kernel.new.service ≡ kernel.old.service }
     ensures clock { kernel.new.clock ≡ kernel.old.clock }
 {
-    let mut reader = BufReader::new(alloc, stream).ok()?;
+    let mut reader = BufReader::new(alloc, reader).ok()?;
     let mut writer = BufWriter::new(alloc, stream).ok()?;
     Some(kernel.serve(alloc, &mut reader, &mut writer))
 }

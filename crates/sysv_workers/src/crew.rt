@@ -8,7 +8,7 @@ ghost use Rattle.sysv_workers.specs.Crews.{AreOn};
 ghost use Rattle.sysv_workers.specs.Doing.{Did, Gathered};
 ghost use Rattle.sysv_workers.specs.declared.feed.Feed.{Feed};
 ghost use Rattle.sysv_workers.specs.Parts.{Part};
-ghost use Rattle.sysv_workers.specs.declared.workers.TheConstants.{MAX_WORKERS};
+ghost use Rattle.sysv_workers.specs.declared.workers.TheConstants.{MAX_CROWD};
 
 use crate::feed::{Feed, put_marks};
 use crate::job::Job;
@@ -62,7 +62,7 @@ pub(crate) fn start<
 ) -> Result<Handle<W, T, J>, Done<W, T>>
     requires buffer { seat.old.buffer ≡ buffer.now }
     requires fits { J.fits job.now state }
-    requires few { started < MAX_WORKERS }
+    requires few { started < MAX_CROWD }
     ensures buffer { seat.new.buffer ≡ buffer.now }
     ensures takes { seat.new.takes ≡ seat.old.takes }
     ensures ok { IfOk result (λ h. (h.promise.state.value ≡ state) × (h.promise.job.value ≡ job.now) × (h.promise.buffer.value ≡ buffer.now)) }
@@ -108,7 +108,7 @@ pub(crate) fn start_all<
     requires buffer { seat.old.buffer ≡ buffer.now }
     requires fits { All (J.fits job.now) states.old.items }
     requires none { handles.old.items ≡ [] }
-    requires room { (length states.old.items ≤ MAX_WORKERS) × (length states.old.items ≤ vec_capacity handles.old) }
+    requires room { (length states.old.items ≤ MAX_CROWD) × (length states.old.items ≤ vec_capacity handles.old) }
     ensures buffer { seat.new.buffer ≡ buffer.now }
     ensures takes { seat.new.takes ≡ seat.old.takes }
     ensures capacity { vec_capacity states.new ≡ vec_capacity states.old }

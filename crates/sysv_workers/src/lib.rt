@@ -13,4 +13,4 @@ mod workers;
 pub use job::Job;
 pub use refusals::{WorkersFault, WorkersRefused};
 pub use source::Source;
-pub use workers::{MAX_WORKERS, run_workers};
+pub use workers::{MAX_CROWD, MAX_WORKERS, run_crowd, run_workers};

@@ -4,7 +4,7 @@ use thiserror::Error;
 /// Why the items of a source were not all run.
 #[derive(Clone, Copy, PartialEq, Eq, Debug, Error)]
 pub enum WorkersFault {
-    /// The number of states is not 1 to 16.
+    /// There is no state, or more states than the run may have.
     #[error("a number of workers out of range")]
     BadCount,
     /// Memory was refused.

@@ -8,7 +8,7 @@ ghost use Rattle.sysv_workers.specs.Doing.{Did};
 ghost use Rattle.sysv_workers.specs.Causes.{Told, HasCause};
 ghost use Rattle.sysv_workers.specs.Parts.{Part, Leads};
 ghost use Rattle.sysv_workers.specs.Running.{RunsAll, GivesBack, LeavesSource, Ends, Fails};
-ghost use Rattle.sysv_workers.specs.declared.workers.TheConstants.{MAX_WORKERS};
+ghost use Rattle.sysv_workers.specs.declared.workers.TheConstants.{MAX_WORKERS, MAX_CROWD};
 
 use crate::crew::{Handle, Tally, collect, join_all, start_all};
 use crate::feed::{Feed, put_all, put_marks};
@@ -23,8 +23,11 @@ use std::thread;
 use std::thread::{Scope, Threads};
 use sysv_buffer::{ManyBuffer, Seat};
 
-/// The most workers of a run; there is at least one.
+/// The most workers of `run_workers`; there is at least one.
 pub const MAX_WORKERS: usize = 16;
+
+/// The most workers of `run_crowd`; there is at least one.
+pub const MAX_CROWD: usize = 256;
 
 /// Runs the job over all items of the source, in a thread for each state, and answers the states that the runs leave, in
 /// their order. An item goes to a worker that waits for one, through a buffer with a cell for each worker. The source is
@@ -51,8 +54,52 @@ where
     ensures err { IfErr result (λ e. GivesBack (J.runs job.now) states.items e.why e.states.items × All (J.fits job.now) e.states.items) }
     ensures asked { IfErr result (λ e. LeavesSource S.gives source.old e.why source.new) }
 {
+    run_at_most(MAX_WORKERS, rt, alloc, states, source, job)
+}
+
+/// As `run_workers`, with 1 to 256 states. `BadCount` comes where there are not so many.
+pub fn run_crowd<W: Send, T: Drop + Send, S: Source<T>, J: Job<W, T> + Sync, R>(
+    rt: &R,
+    alloc: Global,
+    states: Vec<W>,
+    source: &mut S,
+    job: &J,
+) -> Result<Vec<W>, WorkersRefused<W>>
+where
+    R: Threads + Wait + Sync,
+    requires { All (J.fits job.now) states.items }
+    ensures count { OnOk result ((1 ≤ vec_len states) × (vec_len states ≤ MAX_CROWD)) }
+    ensures bad_count { IfErr result (λ e. (e.why ≡ WorkersFault.BadCount) ↔ ((vec_len states < 1) ⊎ (MAX_CROWD < vec_len states))) }
+    ensures ok { IfOk result (λ after. RunsAll (J.runs job.now) S.gives states.items source.old after.items source.new) }
+    ensures fits { IfOk result (λ after. All (J.fits job.now) after.items) }
+    ensures err { IfErr result (λ e. GivesBack (J.runs job.now) states.items e.why e.states.items × All (J.fits job.now) e.states.items) }
+    ensures asked { IfErr result (λ e. LeavesSource S.gives source.old e.why source.new) }
+{
+    run_at_most(MAX_CROWD, rt, alloc, states, source, job)
+}
+
+// As `run_workers`, with at most so many states.
+fn run_at_most<W: Send, T: Drop + Send, S: Source<T>, J: Job<W, T> + Sync, R>(
+    most: usize,
+    rt: &R,
+    alloc: Global,
+    states: Vec<W>,
+    source: &mut S,
+    job: &J,
+) -> Result<Vec<W>, WorkersRefused<W>>
+where
+    R: Threads + Wait + Sync,
+    requires fits { All (J.fits job.now) states.items }
+    requires most { most ≤ MAX_CROWD }
+    ensures count { OnOk result ((1 ≤ vec_len states) × (vec_len states ≤ most)) }
+    ensures bad_count { IfErr result (λ e. (e.why ≡ WorkersFault.BadCount) ↔ ((vec_len states < 1) ⊎ (most < vec_len states))) }
+    ensures ok { IfOk result (λ after. RunsAll (J.runs job.now) S.gives states.items source.old after.items source.new) }
+    ensures fits { IfOk result (λ after. All (J.fits job.now) after.items) }
+    ensures err { IfErr result (λ e. GivesBack (J.runs job.now) states.items e.why e.states.items × All (J.fits job.now) e.states.items) }
+    ensures asked { IfErr result (λ e. LeavesSource S.gives source.old e.why source.new) }
+{
     let count = states.len();
-    if count < 1 || count > MAX_WORKERS {
+    if count < 1 || count > most {
         let why = WorkersFault::BadCount;
         return Err(WorkersRefused { why, states });
     }
@@ -81,7 +128,7 @@ where
     requires seat { (seat.buffer ≡ buffer.now) × (seat.takes ≡ []) }
     requires fits { All (J.fits job.now) states.items }
     requires handles { handles.items ≡ [] }
-    requires room { (1 ≤ vec_len states) × (vec_len states ≤ MAX_WORKERS) × (vec_len states ≤ vec_capacity handles) }
+    requires room { (1 ≤ vec_len states) × (vec_len states ≤ MAX_CROWD) × (vec_len states ≤ vec_capacity handles) }
     ensures ok { IfOk result (λ v. Ends (J.runs job.now) (J.fits job.now) S.gives states.items source.old v.items source.new) }
     ensures err { IfErr result (λ e. Fails (J.runs job.now) (J.fits job.now) S.gives states.items source.old e.why e.states.items source.new) }
 {
@@ -90,7 +137,7 @@ where
         thread::scope_env(),
         rt,
         move |scope| -> (Result<Vec<W>, WorkersRefused<W>>, &mut S)
-            requires { IsSync R.row × (seat.buffer ≡ buffer.now) × (seat.takes ≡ []) × All (J.fits job.now) (manually_drop_value kept).items × (handles.items ≡ []) × (1 ≤ vec_len (manually_drop_value kept)) × (vec_len (manually_drop_value kept) ≤ MAX_WORKERS) × (vec_len (manually_drop_value kept) ≤ vec_capacity handles) }
+            requires { IsSync R.row × (seat.buffer ≡ buffer.now) × (seat.takes ≡ []) × All (J.fits job.now) (manually_drop_value kept).items × (handles.items ≡ []) × (1 ≤ vec_len (manually_drop_value kept)) × (vec_len (manually_drop_value kept) ≤ MAX_CROWD) × (vec_len (manually_drop_value kept) ≤ vec_capacity handles) }
             ensures source { result.1.ghost_name ≡ source.entry.ghost_name }
             ensures ok { IfOk result.0 (λ v. Ends (J.runs job.entry.now) (J.fits job.entry.now) S.gives (manually_drop_value kept).items source.entry.now v.items result.1.now) }
             ensures err { IfErr result.0 (λ e. Fails (J.runs job.entry.now) (J.fits job.entry.now) S.gives (manually_drop_value kept).items source.entry.now e.why e.states.items result.1.now) }
@@ -132,7 +179,7 @@ fn run_in<
     requires seat { (seat.old.buffer ≡ buffer.now) × (seat.old.takes ≡ []) }
     requires fits { All (J.fits job.now) states.items }
     requires handles { handles.items ≡ [] }
-    requires room { (1 ≤ vec_len states) × (vec_len states ≤ MAX_WORKERS) × (vec_len states ≤ vec_capacity handles) }
+    requires room { (1 ≤ vec_len states) × (vec_len states ≤ MAX_CROWD) × (vec_len states ≤ vec_capacity handles) }
     ensures ok { IfOk result (λ v. Ends (J.runs job.now) (J.fits job.now) S.gives states.items source.old v.items source.new) }
     ensures err { IfErr result (λ e. Fails (J.runs job.now) (J.fits job.now) S.gives states.items source.old e.why e.states.items source.new) }
     ensures cause { IfErr result (λ e. HasCause (J.runs job.now) S.gives states.items source.old (vec_len states) e.why e.states.items source.new seat.new) }

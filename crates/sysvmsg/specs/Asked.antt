@@ -3,6 +3,7 @@ use Rattle.std.specs.Prelude.{ℕ, ◌≤◌, ⊤}
 use Rattle.sysvmsg.specs.declared.asked.Asked.{Asked}
 use Rattle.sysvmsg.specs.declared.asked.Asked.TheVariants.{Script, Serve, Client}
 use Rattle.sysvmsg.specs.declared.asked.Serving.{Serving}
+use Rattle.sysv_server.specs.declared.terms.Terms.{Terms}
 use Rattle.sysv_clients.specs.Run.{HasShortText}
 use Rattle.sysv_model.specs.declared.limits.TheConstants.{MIN_BLOCKS, MAX_BLOCKS}
 
@@ -14,9 +15,16 @@ AreBlocks n = (MIN_BLOCKS ≤ n) × (n ≤ MAX_BLOCKS)
 abbrev pub AreWorkers : ℕ → Type 0
 AreWorkers n = (1 ≤ n) × (n ≤ 16)
 
--- a server has as many blocks and workers as one can have
+-- so many sessions run at once
+abbrev pub AreAtOnce : ℕ → Type 0
+AreAtOnce n = (1 ≤ n) × (n ≤ 256)
+
+-- a server has as many blocks as one can have, and runs as many sessions at once as one can run
+abbrev pub AreTerms : Terms → Type 0
+AreTerms terms = AreBlocks terms.blocks × AreAtOnce terms.at_once
+
 abbrev pub HasLimits : Serving → Type 0
-HasLimits serving = AreBlocks serving.blocks × AreWorkers serving.workers
+HasLimits serving = AreTerms serving.terms
 
 -- and a text that is sent is one that a request can carry
 abbrev pub IsWithinLimits : Asked → Type 0

@@ -1,6 +1,6 @@
 //! What a command line asks for.
 ghost use Rattle.std.specs.Prelude.{IfOk, OnOk};
-ghost use Rattle.sysvmsg.specs.Asked.{AreBlocks, AreWorkers, HasLimits, IsWithinLimits};
+ghost use Rattle.sysvmsg.specs.Asked.{AreAtOnce, AreBlocks, AreTerms, AreWorkers, HasLimits, IsWithinLimits};
 ghost use Rattle.sysv_clients.specs.Run.{HasShortText};
 
 use crate::commands::command;
@@ -10,6 +10,7 @@ use std::alloc::{AllocError, Global};
 use std::convert::AsStr;
 use sysv_clients::{Command, Target, Task, id_of, key_of, type_of};
 use sysv_model::{BODY_ROOM, Cred, MAX_BLOCKS, MIN_BLOCKS};
+use sysv_server::{Patience, Terms};
 use sysv_words::Reads;
 
 /// What a command line asks for.
@@ -26,18 +27,31 @@ pub(crate) enum Asked<'a> {
 /// How a server serves.
 #[derive(Clone, Copy, PartialEq, Eq, Debug)]
 pub(crate) struct Serving<'a> {
-    /// Where its socket is to be.
+    pub(crate) file: SocketFile<'a>,
+    pub(crate) terms: Terms,
+    /// Whether it ends once its standard input has ended.
+    pub(crate) until_eof: bool,
+}
+
+/// The file of a server's socket.
+#[derive(Clone, Copy, PartialEq, Eq, Debug)]
+pub(crate) struct SocketFile<'a> {
+    /// Where it is to be.
     pub(crate) path: &'a str,
-    /// The blocks of its pool, 128 to 65,536.
-    pub(crate) blocks: u32,
-    /// Its workers, 1 to 16.
-    pub(crate) workers: u32,
-    /// After how many sessions it ends, 0 for never.
-    pub(crate) sessions: u64,
+    /// Its mode. Without one that is 0777 less the umask.
+    pub(crate) mode: Option<u32>,
+    /// Whether a socket at which nobody answers is removed before.
+    pub(crate) replace: bool,
 }
 
 /// The most workers of a server.
 const MAX_WORKERS: u32 = 16;
+
+/// The most sessions that a server runs at once.
+const MAX_AT_ONCE: u32 = 256;
+
+/// The greatest mode of a socket.
+const MAX_MODE: u32 = 0o777;
 
 /// The most bytes of a socket's path: its system call has room for one more, which is 0.
 const MAX_PATH: usize = 107;
@@ -57,6 +71,12 @@ const BAD_TYPE: Bad = "a type is 1 to 9223372036854775807";
 const BAD_BLOCKS: Bad = "the blocks are 128 to 65536";
 
 const BAD_WORKERS: Bad = "the workers are 1 to 16";
+
+const BAD_AT_ONCE: Bad = "the sessions at once are 1 to 256";
+
+const BAD_SECONDS: Bad = "the seconds are 0 to 4294967295";
+
+const BAD_MODE: Bad = "a mode is 0 to 777 in octal";
 
 const BAD_SESSIONS: Bad = "the sessions are 0 to 18446744073709551615";
 
@@ -137,11 +157,61 @@ fn server<'a>(words: &ArgMatches<'a>) -> Result<Serving<'a>, Bad>
     ensures { IfOk result HasLimits }
 {
     Ok(Serving {
-        path: path_of(words)?,
-        blocks: blocks_of(words)?,
-        workers: workers_of(words)?,
-        sessions: sessions_of(words)?,
+        file: SocketFile {
+            path: path_of(words)?,
+            mode: mode_of(words)?,
+            replace: words.get_flag("replace"),
+        },
+        terms: terms_of(words)?,
+        until_eof: words.get_flag("until-eof"),
     })
+}
+
+/// How a server serves.
+fn terms_of(words: &ArgMatches<'_>) -> Result<Terms, Bad>
+    ensures { IfOk result AreTerms }
+{
+    Ok(Terms {
+        blocks: blocks_of(words)?,
+        at_once: at_once_of(words)?,
+        sessions: sessions_of(words)?,
+        patience: Patience {
+            idle: seconds_of(words, "idle")?,
+            stall: seconds_of(words, "stall")?,
+        },
+    })
+}
+
+/// How many sessions run at once: as many as there are workers, if it does not say.
+fn at_once_of(words: &ArgMatches<'_>) -> Result<u32, Bad>
+    ensures { IfOk result AreAtOnce }
+{
+    let Some(word) = words.get_str("at-once") else {
+        return workers_of(words);
+    };
+    match u32::read(word.as_bytes()) {
+        Some(at_once) if (1..=MAX_AT_ONCE).contains(&at_once) => Ok(at_once),
+        _ => Err(BAD_AT_ONCE),
+    }
+}
+
+/// For how many seconds a client may be silent, 0 for any number.
+fn seconds_of(words: &ArgMatches<'_>, id: &str) -> Result<u32, Bad> {
+    match words.get_str(id) {
+        Some(word) => u32::read(word.as_bytes()).ok_or(BAD_SECONDS),
+        None => Ok(0),
+    }
+}
+
+/// The mode of a socket, if one is given.
+fn mode_of(words: &ArgMatches<'_>) -> Result<Option<u32>, Bad> {
+    let Some(word) = words.get_str("mode") else {
+        return Ok(None);
+    };
+    match u32::from_str_radix(word, 8) {
+        Ok(mode) if mode <= MAX_MODE && !word.starts_with('+') => Ok(Some(mode)),
+        _ => Err(BAD_MODE),
+    }
 }
 
 /// The blocks of a pool.

@@ -91,6 +91,16 @@ Example:
             "The socket to create, which must not exist",
         ),
         (
+            "mode",
+            Form::Value("OCTAL"),
+            "The mode of the socket [default: 0777 less the umask]",
+        ),
+        (
+            "replace",
+            Form::Flag,
+            "Removes PATH first if it is a socket at which nobody answers",
+        ),
+        (
             "blocks",
             Form::Value("B"),
             "The number of 64-byte blocks for message bodies, 128 to 65536 [default: 1024]",
@@ -101,12 +111,36 @@ Example:
             "The number of workers, 1 to 16 [default: 4]",
         ),
         (
+            "at-once",
+            Form::Value("N"),
+            "The number of workers, 1 to 256, in place of --workers",
+        ),
+        (
             "sessions",
             Form::Value("N"),
             "Ends after N sessions, 0 for no limit [default: 0]",
         ),
+        (
+            "until-eof",
+            Form::Flag,
+            "Ends once standard input has ended and the sessions are over",
+        ),
+        (
+            "idle",
+            Form::Value("SECONDS"),
+            "Ends a session that sends no request for so long, 0 for never [default: 0]",
+        ),
+        (
+            "stall",
+            Form::Value("SECONDS"),
+            "Ends a session that stands still in a frame for so long, 0 for never [default: 0]",
+        ),
     ],
-    either: None,
+    either: Some(Either {
+        one: "workers",
+        other: "at-once",
+        required: false,
+    }),
 };
 
 const SND: Known = Known {

@@ -5,6 +5,7 @@ mod asked;
 mod commands;
 mod connection;
 mod serving;
+mod socket;
 
 use asked::{Asked, no_text, read_words};
 use clap::Error;
@@ -45,7 +46,7 @@ fn main(rt: HostRuntime) -> ExitCode {
                 }
             }
         }
-        Ok(Asked::Serve(serving)) => serve_at(&rt, &serving),
+        Ok(Asked::Serve(serving)) => serve_at(&rt, rt.stdin(), &serving),
         Ok(Asked::Client { path, command }) => run_at(&rt, path, &command),
         Err(error) => tell(&rt, &error),
     }

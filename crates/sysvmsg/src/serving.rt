@@ -2,34 +2,37 @@
 ghost use Rattle.sysvmsg.specs.Asked.{HasLimits};
 
 use crate::asked::Serving;
+use crate::socket::listen_at;
 use crate::{FAULT, say};
-use std::io::Eprint;
+use std::io::{Eprint, Read};
 use std::net::Net;
+use std::os::fd::AsRawFd;
 use std::os::unix::net::UnixListener;
 use std::process::ExitCode;
 use std::rt::Files;
 use std::sync::Wait;
 use std::thread::Threads;
-use sysv_server::{Sums, serve_until_fault};
+use sysv_server::{Sums, serve_listener};
 
 /// Serves at a path, says on standard error that it listens, and prints what the sessions add up
-/// to.
-pub(crate) fn serve_at<R: Files + Net + Threads + Wait + Sync + Print + Eprint + AllocGlobal>(
-    rt: &R,
-    serving: &Serving<'_>,
-) -> ExitCode
+/// to. If it is to end with its input, that is read.
+pub(crate) fn serve_at<
+    I: Read + AsRawFd + Drop,
+    R: Files + Net + Threads + Wait + Sync + Print + Eprint + AllocGlobal,
+>(rt: &R, input: I, serving: &Serving<'_>) -> ExitCode
     requires { HasLimits serving.now }
 {
-    match UnixListener::bind(rt, serving.path) {
+    match listen_at(rt, &serving.file) {
         Ok(listener) => {
             let _ = eprintln!(rt;
                 "sysvmsg: serving {} by {} workers",
-                serving.path, serving.workers
+                serving.file.path, serving.terms.at_once
             );
-            serve_over(rt, &listener, serving)
+            let input = serving.until_eof.then_some(input);
+            serve_over(rt, listener, input, serving)
         }
         Err(why) => {
-            let _ = eprintln!(rt; "sysvmsg: {}: {why}", serving.path);
+            let _ = eprintln!(rt; "sysvmsg: {}: {why}", serving.file.path);
             say(rt, "cannot bind")
         }
     }
@@ -37,34 +40,21 @@ pub(crate) fn serve_at<R: Files + Net + Threads + Wait + Sync + Print + Eprint +
 
 /// Serves the connections of a listener, prints what their sessions add up to, and says on standard
 /// error why an accept failed.
-fn serve_over<R: Threads + Wait + Sync + Print + Eprint + AllocGlobal>(
+fn serve_over<I: Read + AsRawFd + Drop, R: Threads + Wait + Sync + Print + Eprint + AllocGlobal>(
     rt: &R,
-    listener: &UnixListener,
+    listener: UnixListener,
+    input: Option<I>,
     serving: &Serving<'_>,
 ) -> ExitCode
     requires { HasLimits serving.now }
 {
-    let Serving {
-        path: _,
-        blocks,
-        workers,
-        sessions,
-    } = *serving;
     let mut fault = None;
-    let outcome = serve_until_fault(
-        rt,
-        rt.alloc(),
-        listener,
-        blocks,
-        workers,
-        sessions,
-        &mut fault,
-    );
+    let outcome = serve_listener(rt, rt.alloc(), listener, input, serving.terms, &mut fault);
     if let Some(why) = fault {
         let _ = eprintln!(rt; "sysvmsg: cannot accept: {why}");
     }
     match outcome {
-        Ok(sums) => tell(rt, &sums),
+        Ok(ended) => tell(rt, &ended.sums),
         Err(_) => say(rt, "no memory"),
     }
 }

@@ -14,7 +14,7 @@ use std::sync::Wait;
 use std::thread::Threads;
 use std::{fs, thread};
 use sysv_keys::SLOTS;
-use sysv_server::{ServeFault, Sums, serve_on};
+use sysv_server::{Ended, Patience, ServeFault, Sums, Terms, serve_listener, serve_on};
 
 /// A hello of user and group 1000, pid 101.
 pub(crate) const HELLO: &[u8] = &[
@@ -211,9 +211,16 @@ fn both_versions(rt: &impl Net, path: &str) -> bool {
         & ends(&mut second)
 }
 
+/// The last session makes a queue, and leaves it.
+fn leaving(rt: &impl Net, path: &str) -> bool {
+    talks(rt, path, &[HELLO, FIND], &[KNOWN, NOT_FOUND])
+        & talks(rt, path, &[HELLO, CREATE, SEND], &[KNOWN, FOUND, SENT])
+}
+
 /// The clients of a test.
 #[derive(Clone, Copy)]
 enum Clients {
+    Leaving,
     Passing,
     Commanding,
     Waiting,
@@ -227,6 +234,7 @@ impl Clients {
     /// They were answered as they should be.
     fn run(self, rt: &impl Net, alloc: Global, path: &str) -> bool {
         match self {
+            Clients::Leaving => leaving(rt, path),
             Clients::Passing => passing(rt, path),
             Clients::Commanding => commanding(rt, path),
             Clients::Waiting => waiting(rt, path),
@@ -284,6 +292,59 @@ fn adds_up<R: Threads + Wait + Net + Files + Abort + Sync>(
     }
 }
 
+/// How a server on these terms ends, and whether its clients were answered as they should be.
+fn ended<R: Threads + Wait + Net + Files + Abort + Sync>(
+    rt: &R,
+    alloc: Global,
+    terms: Terms,
+    clients: Clients,
+) -> (Result<Ended, ServeFault>, bool)
+    requires { (128 ≤ terms.blocks) × (terms.blocks ≤ 65536) × (1 ≤ terms.at_once) × (terms.at_once ≤ 256) }
+{
+    let path = "server.socket";
+    let _old = fs::remove_file(rt, path);
+    let listener = UnixListener::bind(rt, path).expect(rt, "a socket");
+    thread::join(
+        rt,
+        move || -> Result<Ended, ServeFault>
+            requires { (128 ≤ terms.blocks) × (terms.blocks ≤ 65536) × (1 ≤ terms.at_once) × (terms.at_once ≤ 256) }
+        {
+            let mut fault = None;
+            serve_listener(rt, alloc, listener, None::<UnixStream>, terms, &mut fault)
+        },
+        move || clients.run(rt, alloc, path),
+    )
+}
+
+/// The server ends so, and its clients were answered as they should be. It is tried again if memory or a thread was refused
+/// before a session began.
+fn ends_as<R: Threads + Wait + Net + Files + Abort + Sync>(
+    rt: &R,
+    alloc: Global,
+    at_once: u32,
+    clients: Clients,
+    end: Ended,
+)
+    requires { (1 ≤ at_once) × (at_once ≤ 256) }
+{
+    let terms = Terms {
+        blocks: 128,
+        at_once,
+        sessions: end.sums.sessions,
+        patience: Patience {
+            idle: 60,
+            stall: 60,
+        },
+    };
+    let first = ended(rt, alloc, terms, clients);
+    if matches!(&first.0, Err(ServeFault::NoMemory | ServeFault::Thread)) {
+        let second = ended(rt, alloc, terms, clients);
+        assert_eq!(rt; second, (Ok(end), true));
+    } else {
+        assert_eq!(rt; first, (Ok(end), true));
+    }
+}
+
 /// So many sessions, whose messages were written and lost.
 fn sums(sessions: u64, written: u64, lost: u64) -> Sums {
     Sums {
@@ -328,4 +389,22 @@ fn a_server_and_its_clients(rt: HostRuntime) {
 #[test]
 fn sessions_of_both_versions(rt: HostRuntime) {
     adds_up(&rt, rt.alloc(), 2, Clients::BothVersions, sums(2, 0, 0));
+}
+
+#[test]
+fn the_queue_that_the_last_session_made_is_removed(rt: HostRuntime) {
+    let end = Ended {
+        sums: sums(2, 0, 0),
+        removed: Ok(1),
+    };
+    ends_as(&rt, rt.alloc(), 1, Clients::Leaving, end);
+}
+
+#[test]
+fn no_queue_is_left(rt: HostRuntime) {
+    let end = Ended {
+        sums: sums(5, 0, 0),
+        removed: Ok(0),
+    };
+    ends_as(&rt, rt.alloc(), 40, Clients::Commanding, end);
 }

@@ -1,12 +1,12 @@
 //! Workers over small jobs.
-ghost use Rattle.std.specs.Prelude.{◌≡◌, ◌≤◌, vec_capacity, vec_len};
+ghost use Rattle.std.specs.Prelude.{◌≡◌, ◌≤◌, vec_capacity, vec_len, IfErr};
 ghost use Rattle.std.specs.List.{All};
 
 use std::alloc::Global;
 use std::process::Abort;
 use std::sync::Wait;
 use std::thread::Threads;
-use sysv_workers::{Job, Source, WorkersFault, WorkersRefused, run_workers};
+use sysv_workers::{Job, Source, WorkersFault, WorkersRefused, run_crowd, run_workers};
 
 mod growths;
 mod marks;
@@ -60,11 +60,11 @@ impl Ticket {
 }
 
 /// There is room for so many tickets.
-const TICKETS: usize = 17;
+const TICKETS: usize = 257;
 
 /// So many tickets, numbered from 0 on. Memory is refused once at most.
 fn tickets(rt: &impl Abort, alloc: Global, count: usize) -> Vec<Ticket>
-    requires { count ≤ 17 }
+    requires { count ≤ 257 }
 {
     let mut tickets = room(rt, alloc);
     for number in 0..count {
@@ -77,7 +77,7 @@ fn tickets(rt: &impl Abort, alloc: Global, count: usize) -> Vec<Ticket>
 }
 
 fn room(rt: &impl Abort, alloc: Global) -> Vec<Ticket>
-    ensures { (vec_len result ≡ 0) × (17 ≤ vec_capacity result) }
+    ensures { (vec_len result ≡ 0) × (257 ≤ vec_capacity result) }
 {
     match Vec::with_capacity(alloc, TICKETS) {
         Ok(tickets) => tickets,
@@ -102,6 +102,25 @@ fn items_of(rt: &impl Abort, tickets: Vec<Ticket>, count: u64) -> u64 {
     all
 }
 
+/// A run of `run_crowd`, or of `run_workers`.
+fn run<W: Send, J: Job<W, u64> + Sync, R: Threads + Wait + Sync>(
+    rt: &R,
+    alloc: Global,
+    is_crowd: bool,
+    states: Vec<W>,
+    source: &mut Numbers,
+    job: &J,
+) -> Result<Vec<W>, WorkersRefused<W>>
+    requires { All (J.fits job.now) states.items }
+    ensures { IfErr result (λ e. All (J.fits job.now) e.states.items) }
+{
+    if is_crowd {
+        run_crowd(rt, alloc, states, source, job)
+    } else {
+        run_workers(rt, alloc, states, source, job)
+    }
+}
+
 /// What the runs leave. Where memory or a thread is refused, the states come back, the source was not asked, and it is
 /// tried again.
 fn ran<W: Send, J: Job<W, u64> + Sync, R: Threads + Wait + Abort + Sync>(
@@ -113,7 +132,21 @@ fn ran<W: Send, J: Job<W, u64> + Sync, R: Threads + Wait + Abort + Sync>(
 ) -> Vec<W>
     requires { All (J.fits job.now) states.items }
 {
-    let states = match run_workers(rt, alloc, states, source, job) {
+    ran_by(rt, alloc, false, states, source, job)
+}
+
+/// The same for a run of `run_crowd`, or of `run_workers`.
+fn ran_by<W: Send, J: Job<W, u64> + Sync, R: Threads + Wait + Abort + Sync>(
+    rt: &R,
+    alloc: Global,
+    is_crowd: bool,
+    states: Vec<W>,
+    source: &mut Numbers,
+    job: &J,
+) -> Vec<W>
+    requires { All (J.fits job.now) states.items }
+{
+    let states = match run(rt, alloc, is_crowd, states, source, job) {
         Ok(states) => return states,
         Err(refused) => {
             let WorkersRefused { why, states } = refused;
@@ -125,7 +158,7 @@ fn ran<W: Send, J: Job<W, u64> + Sync, R: Threads + Wait + Abort + Sync>(
             states
         }
     };
-    match run_workers(rt, alloc, states, source, job) {
+    match run(rt, alloc, is_crowd, states, source, job) {
         Ok(states) => states,
         Err(refused) => panic!(rt; "a second try: {}", refused.why),
     }

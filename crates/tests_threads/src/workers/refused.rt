@@ -1,5 +1,5 @@
 //! Numbers of states at their ends, and a source with nothing.
-ghost use Rattle.std.specs.Prelude.{◌≡◌};
+ghost use Rattle.std.specs.Prelude.{◌≡◌, ◌≤◌};
 
 use super::*;
 
@@ -17,31 +17,57 @@ impl Job<Ticket, u64> for Counting {
     }
 }
 
-#[test]
-fn a_number_of_states_out_of_range(rt: HostRuntime) {
-    for count in [0, 17] {
-        let mut source = Numbers::below(5);
-        let states = tickets(&rt, rt.alloc(), count);
-        match run_workers(&rt, rt.alloc(), states, &mut source, &Counting) {
-            Ok(_) => panic!(rt; "{count} states"),
-            Err(refused) => {
-                let WorkersRefused { why, states } = refused;
-                assert_eq!(rt; why, WorkersFault::BadCount);
-                assert_eq!(rt; items_of(&rt, states, count as u64), 0);
-                assert_eq!(rt; source.asked, 0);
-            }
+/// So many states are refused.
+fn are_refused<R: Threads + Wait + Abort + Sync>(
+    rt: &R,
+    alloc: Global,
+    is_crowd: bool,
+    count: usize,
+)
+    requires { count ≤ 257 }
+{
+    let mut source = Numbers::below(5);
+    let states = tickets(rt, alloc, count);
+    match run(rt, alloc, is_crowd, states, &mut source, &Counting) {
+        Ok(_) => panic!(rt; "{count} states"),
+        Err(refused) => {
+            let WorkersRefused { why, states } = refused;
+            assert_eq!(rt; why, WorkersFault::BadCount);
+            assert_eq!(rt; items_of(rt, states, count as u64), 0);
+            assert_eq!(rt; source.asked, 0);
         }
     }
 }
 
+/// So many states run over all items.
+fn are_run<R: Threads + Wait + Abort + Sync>(rt: &R, alloc: Global, is_crowd: bool, count: usize)
+    requires { count ≤ 257 }
+{
+    let mut source = Numbers::below(400);
+    let states = tickets(rt, alloc, count);
+    let left = ran_by(rt, alloc, is_crowd, states, &mut source, &Counting);
+    assert_eq!(rt; items_of(rt, left, count as u64), 400);
+}
+
+#[test]
+fn a_number_of_states_out_of_range(rt: HostRuntime) {
+    are_refused(&rt, rt.alloc(), false, 0);
+    are_refused(&rt, rt.alloc(), false, 17);
+    are_refused(&rt, rt.alloc(), true, 0);
+    are_refused(&rt, rt.alloc(), true, 257);
+}
+
 #[test]
 fn one_state_and_sixteen(rt: HostRuntime) {
-    for count in [1, 16] {
-        let mut source = Numbers::below(40);
-        let states = tickets(&rt, rt.alloc(), count);
-        let left = ran(&rt, rt.alloc(), states, &mut source, &Counting);
-        assert_eq!(rt; items_of(&rt, left, count as u64), 40);
-    }
+    are_run(&rt, rt.alloc(), false, 1);
+    are_run(&rt, rt.alloc(), false, 16);
+}
+
+#[test]
+fn crowds_of_one_seventeen_and_256(rt: HostRuntime) {
+    are_run(&rt, rt.alloc(), true, 1);
+    are_run(&rt, rt.alloc(), true, 17);
+    are_run(&rt, rt.alloc(), true, 256);
 }
 
 #[test]

@@ -7,5 +7,5 @@ use Rattle.sysv_server.proofs.serving.serve_until_fault.Goals as goal
 
 pub returns-clause-ok : goal.returns-clause-ok
 returns-clause-ok g c =
-    serves_on UnixStream (λ (a : Accepting). a.most) (λ (a : Accepting). a.accepted) c.args.blocks c.args.workers c.args.sessions c.new-source.result c.serve_connections-outcome.new.source
-    c.serve_connections-outcome.result c.new-source.ensures.1 c.new-source.ensures.0 (let fits = c.ranges.sessions in omega arith) c.serve_connections-outcome.ensures.ok
+    serves_on UnixStream (λ (a : Accepting UnixStream). a.most) (λ (a : Accepting UnixStream). a.accepted) c.args.blocks c.args.workers c.args.sessions c.lent-source.result c.serve_connections-outcome.new.source
+    c.serve_connections-outcome.result c.lent-source.ensures.1 c.lent-source.ensures.0 (let fits = c.ranges.sessions in omega arith) c.serve_connections-outcome.ensures.ok

@@ -8,19 +8,19 @@ use Rattle.sysv_server.proofs.Crossing.{worker_send}
 use Rattle.sysv_server.proofs.Shifts.{all_shifted}
 use Rattle.sysv_server.proofs.serving.serve_with.Goals as goal
 
-pub run_workers-requires-send-W : goal.run_workers-requires-send-W
-run_workers-requires-send-W g c κs within =
+pub run_crowd-requires-send-W : goal.run_crowd-requires-send-W
+run_crowd-requires-send-W g c κs within =
     search (worker_send, param_send, arg_send, c.type_bounds.sync-R) depth 10
 
-pub run_workers-requires-sync-J : goal.run_workers-requires-sync-J
-run_workers-requires-sync-J g c κs within = search (crossing, service_sync, heaps.the_sync, shr_sync, param_sync) depth 40
+pub run_crowd-requires-sync-J : goal.run_crowd-requires-sync-J
+run_crowd-requires-sync-J g c κs within = search (crossing, service_sync, heaps.the_sync, shr_sync, param_sync) depth 40
 
-pub returns-in-Ok-run_workers-clause-ok : goal.returns-in-Ok-run_workers-clause-ok
-returns-in-Ok-run_workers-clause-ok g c =
+pub returns-in-Ok-run_crowd-clause-ok : goal.returns-in-Ok-run_crowd-clause-ok
+returns-in-Ok-run_crowd-clause-ok g c =
     let ok = c.hire.new.workers.ok in
     let many = c.in-Ok-hire.ensures.count in
     let counted : length c.hire.new.workers.items ≡ c.args.count = omega arith in
     all_shifted (λ (w : Worker g.row.R.Denot). w.kernel.pass) (λ (w : Worker g.row.R.Denot). w.sums) g.S.Source.gives c.args.service.now c.args.count
-    c.hire.new.workers.items c.in-Ok-run_workers.workers.items c.args.source.now c.run_workers.new.source c.dismiss-in-Ok-run_workers.result
-    c.in-Ok-run_workers.ensures.ok (λ (k : ℕ) (d : Worker g.row.R.Denot) (low : k < length c.hire.new.workers.items). (c.hire.ensures.workers k d low).1)
-    counted c.dismiss-in-Ok-run_workers.ensures.sums
+    c.hire.new.workers.items c.in-Ok-run_crowd.workers.items c.args.source.now c.run_crowd.new.source c.dismiss-in-Ok-run_crowd.result
+    c.in-Ok-run_crowd.ensures.ok (λ (k : ℕ) (d : Worker g.row.R.Denot) (low : k < length c.hire.new.workers.items). (c.hire.ensures.workers k d low).1)
+    counted c.dismiss-in-Ok-run_crowd.ensures.sums

@@ -1,0 +1,68 @@
+//! The file of a server's socket.
+
+use crate::asked::SocketFile;
+use std::fs::{DirBuilder, Permissions};
+use std::io::ErrorKind;
+use std::net::Net;
+use std::os::unix::fs::{DirBuilderExt, FileTypeExt, PermissionsExt};
+use std::os::unix::net::{UnixListener, UnixStream};
+use std::rt::Files;
+use std::{fs, io};
+
+/// The mode of a folder that is for its owner alone.
+const PRIVATE: u32 = 0o700;
+
+/// Makes the socket, and listens on it.
+pub(crate) fn listen_at<R: Files + Net + AllocGlobal>(
+    rt: &R,
+    file: &SocketFile<'_>,
+) -> io::Result<UnixListener> {
+    if file.replace {
+        remove_unused(rt, file.path)?;
+    }
+    match file.mode {
+        Some(mode) => bind_with(rt, file.path, mode),
+        None => UnixListener::bind(rt, file.path),
+    }
+}
+
+/// Removes what is at a path if that is a socket at which nobody answers.
+fn remove_unused<R: Files + Net>(rt: &R, path: &str) -> io::Result<()> {
+    let is_socket = fs::symlink_metadata(rt, path).is_ok_and(|found| found.file_type().is_socket());
+    if !is_socket {
+        return Ok(());
+    }
+    match UnixStream::connect(rt, path) {
+        Err(why) if why.kind() == ErrorKind::ConnectionRefused => fs::remove_file(rt, path),
+        _ => Ok(()),
+    }
+}
+
+/// Makes a socket with this mode. It is made in a folder for its owner alone beside the path, and is
+/// linked to the path once it has the mode, so that it has no other there.
+fn bind_with<R: Files + Net + AllocGlobal>(
+    rt: &R,
+    path: &str,
+    mode: u32,
+) -> io::Result<UnixListener> {
+    let folder = format!(in rt.alloc(); "{path}.d")?;
+    let private = format!(in rt.alloc(); "{path}.d/s")?;
+    DirBuilder::new().mode(PRIVATE).create(rt, folder.as_str())?;
+    let listener = bind_in(rt, private.as_str(), path, mode);
+    let _ = fs::remove_file(rt, private.as_str());
+    let _ = fs::remove_dir(rt, folder.as_str());
+    listener
+}
+
+/// Makes a socket with this mode at a private path, and links it to another.
+fn bind_in<R: Files + Net>(
+    rt: &R,
+    private: &str,
+    path: &str,
+    mode: u32,
+) -> io::Result<UnixListener> {
+    let listener = UnixListener::bind(rt, private)?;
+    fs::set_permissions(rt, private, Permissions::from_mode(mode))?;
+    fs::hard_link(rt, private, path)?;
+    Ok(listener)
+}
