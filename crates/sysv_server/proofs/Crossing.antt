@@ -5,6 +5,9 @@ use denote.Ref.{NamedLft, ShrRef}
 use denote.Struct.Field.{row_field, shr_ref_field}
 use denote.Param.Send.{IsSend, IsSync, shr_send}
 use denote.Param.SendFields.{declared_send, as_row_send}
+use Rattle.std.proofs.option.Option.TheSendSync as options
+use Rattle.sysv_model.specs.contracts.body.Body as body
+use Rattle.sysv_session.specs.contracts.session.Texts as texts
 use Rattle.sysv_service.proofs.Crossing.{crossing, pass_send, service_sync}
 use Rattle.sysv_kernel.specs.contracts.kernel.ServiceKernel as kernel
 use Rattle.sysv_server.proofs.session.Zero.TheSendSync.{the_sync as zero_sync}
@@ -23,5 +26,11 @@ kernel_send l C R clock sc sr =
       (served, (as_row_send (row_field (ShrRef l.mir l.lft C)) (shr_send l.mir l.lft C sc), (pass_send, tt))),
     )
 
+body_send : IsSend body.the_row
+body_send = search crossing depth 30
+
+texts_send : IsSend texts.the_row
+texts_send = search (crossing, body_send) depth 30
+
 pub worker_send : (l : NamedLft) (R : RattleType) → IsSync R → IsSend (worker.the_row l R)
-worker_send l R y = declared_send (worker.the_type l R) (kernel_send l zero.the_row R clock.ghosts zero_sync y, (sum.the_send, tt))
+worker_send l R y = declared_send (worker.the_type l R) (kernel_send l zero.the_row R clock.ghosts zero_sync y, (sum.the_send, (options.the_send _ texts_send, tt)))

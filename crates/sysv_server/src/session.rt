@@ -14,7 +14,7 @@ use std::sync::Wait;
 use sysv_kernel::ServiceKernel;
 use sysv_queue::Tally;
 use sysv_service::{Clock, Pass, Service};
-use sysv_session::Served;
+use sysv_session::{Served, Texts};
 use sysv_workers::Job;
 
 /// A clock that stands at 0.
@@ -30,10 +30,12 @@ impl Clock for Zero {
 
 const ZERO: Zero = Zero;
 
-/// A worker: a kernel with a pass of its own, and what its sessions add up to.
+/// A worker: a kernel with a pass of its own, what its sessions add up to, and the texts that they share one after
+/// another, once there are some.
 pub(crate) struct Worker<'a, R: Wait> {
     kernel: ServiceKernel<'a, Zero, R>,
     sums: Sums,
+    texts: Option<Texts>,
 }
 
 impl<'a, R: Wait> Worker<'a, R> {
@@ -47,6 +49,7 @@ impl<'a, R: Wait> Worker<'a, R> {
         Worker {
             kernel: ServiceKernel::new(rt, service, &ZERO, pass),
             sums: Sums::open(),
+            texts: None,
         }
     }
 
@@ -56,7 +59,11 @@ impl<'a, R: Wait> Worker<'a, R> {
         ensures fits { AreOf self.entry.kernel.service.now result.0.seats }
         ensures sums { result.1 ≡ self.entry.sums }
     {
-        let Worker { kernel, sums } = self;
+        let Worker {
+            kernel,
+            sums,
+            texts: _texts,
+        } = self;
         (kernel.into_pass(), sums)
     }
 }
@@ -78,18 +85,33 @@ impl<'a, R: Wait> Job<Worker<'a, R>, UnixStream> for Sessions<'a> {
 
     fn run(&self, worker: &mut Worker<'a, R>, stream: UnixStream) {
         let reader = Patient::new(&stream, self.patience);
-        let tally = match converse(self.alloc, &mut worker.kernel, reader, &stream) {
+        let Worker {
+            kernel,
+            sums,
+            texts,
+        } = worker;
+        let tally = match converse(self.alloc, kernel, texts, reader, &stream) {
             Some(served) => served.tally,
             None => Tally::open(),
         };
-        worker.sums.add(Sums::of(&tally));
+        sums.add(Sums::of(&tally));
     }
 }
 
-/// Runs one session on the connection, of which the reader reads. `None` where memory for its buffers was refused, and then nothing was read or written.
+/// The texts, which are opened if there are none. `None` if memory for them was refused.
+fn opened(alloc: Global, texts: &mut Option<Texts>) -> Option<&mut Texts> {
+    if texts.is_none() {
+        *texts = Some(Texts::open(alloc).ok()?);
+    }
+    texts.as_mut()
+}
+
+/// Runs one session on the connection, of which the reader reads. `None` where memory for its buffers or its texts was
+/// refused, and then nothing was read or written.
 fn converse<C: Clock, R: Wait>(
     alloc: Global,
     kernel: &mut ServiceKernel<'_, C, R>,
+    texts: &mut Option<Texts>,
     reader: Patient<'_>,
     stream: &UnixStream,
 ) -> Option<Served>
@@ -100,5 +122,5 @@ fn converse<C: Clock, R: Wait>(
 {
     let mut reader = BufReader::new(alloc, reader).ok()?;
     let mut writer = BufWriter::new(alloc, stream).ok()?;
-    Some(kernel.serve(alloc, &mut reader, &mut writer))
+    Some(kernel.serve_with(opened(alloc, texts)?, &mut reader, &mut writer))
 }

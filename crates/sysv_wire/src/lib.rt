@@ -4,10 +4,7 @@
 //! ```rust
 //! let ask = Ask::Get { key: 7, flags };
 //! let mut frame = Vec::new(rt.alloc());
-//! let request = Request {
-//!     version: Version::Two,
-//!     ask,
-//! };
+//! let request = Request { version: Version::Two, ask };
 //! write_request(&mut Watched::new(&mut frame), &request, &text)?;
 //! let mut bytes = frame.as_slice();
 //! let read = read_request(&mut Watched::new(&mut bytes), &mut text)?;
