@@ -59,8 +59,8 @@ pub fn serve_with<R: Read, W: Write, K: Kernel>(
     one_request();
     one_answer_to_requests();
     let slots = kernel.slots();
-    let mut session = Session::open(texts);
-    let end = session.run(slots, reader, writer, kernel);
+    let mut session = Session::open();
+    let end = session.run(slots, texts, reader, writer, kernel);
     Served {
         end,
         tally: session.tally,
@@ -87,20 +87,18 @@ impl Texts {
 
 /// A session under way.
 #[derive(Drop)]
-struct Session<'a> {
-    texts: &'a mut Texts,
+struct Session {
     tally: Tally,
     requests: u32,
 }
 
-impl<'a> Session<'a> {
+impl Session {
     /// Nothing was read.
-    fn open(texts: &'a mut Texts) -> Session<'a>
+    fn open() -> Session
         ensures tally { result.tally ≡ record { written = 0; lost = 0 } }
         ensures count { result.requests ≡ 0 }
     {
         Session {
-            texts,
             tally: Tally::open(),
             requests: 0,
         }
@@ -110,6 +108,7 @@ impl<'a> Session<'a> {
     fn run<R: Read, W: Write, K: Kernel>(
         &mut self,
         slots: u32,
+        texts: &mut Texts,
         reader: &mut R,
         writer: &mut W,
         kernel: &mut K,
@@ -120,8 +119,10 @@ impl<'a> Session<'a> {
             (W.contents writer.old) (W.contents writer.new) }
         ensures memory { result ≢ End.NoMemory }
     {
-        match self.greet(slots, reader, writer) {
-            Ok((version, cred)) => self.serve_calls(version, cred, reader, writer, kernel),
+        match self.greet(slots, texts, reader, writer) {
+            Ok((version, cred)) => {
+                self.serve_calls(version, cred, texts, reader, writer, kernel)
+            }
             Err(end) => end,
         }
     }
@@ -130,6 +131,7 @@ impl<'a> Session<'a> {
     fn greet<R: Read, W: Write>(
         &mut self,
         slots: u32,
+        texts: &mut Texts,
         reader: &mut R,
         writer: &mut W,
     ) -> Result<(Version, Cred), End>
@@ -137,11 +139,11 @@ impl<'a> Session<'a> {
         ensures opens { Opens slots result (R.remaining reader.old) (R.remaining reader.new) (W.contents writer.old) (W.contents writer.new) self.new.requests }
         ensures tally { self.new.tally ≡ self.old.tally }
     {
-        let (version, cred) = read_hello(reader, &mut self.texts.asked)?;
+        let (version, cred) = read_hello(reader, &mut texts.asked)?;
         self.requests = 1;
-        self.texts.given.clear();
+        texts.given.clear();
         let reply = hello_reply(version, slots);
-        send(writer, &reply, &self.texts.given)?;
+        send(writer, &reply, &texts.given)?;
         Ok((version, cred))
     }
 
@@ -150,6 +152,7 @@ impl<'a> Session<'a> {
         &mut self,
         version: Version,
         cred: Cred,
+        texts: &mut Texts,
         reader: &mut R,
         writer: &mut W,
         kernel: &mut K,
@@ -160,7 +163,7 @@ impl<'a> Session<'a> {
             (W.contents writer.old) (W.contents writer.new) self.new.tally self.new.requests }
     {
         for _ in 1..SESSION_REQUESTS {
-            if let Err(end) = self.serve_next(version, cred, reader, writer, kernel) {
+            if let Err(end) = self.serve_next(version, cred, texts, reader, writer, kernel) {
                 return end;
             }
         }
@@ -172,6 +175,7 @@ impl<'a> Session<'a> {
         &mut self,
         version: Version,
         cred: Cred,
+        texts: &mut Texts,
         reader: &mut R,
         writer: &mut W,
         kernel: &mut K,
@@ -181,17 +185,17 @@ impl<'a> Session<'a> {
         ensures { Turns K.meaning version cred result kernel.old kernel.new (R.remaining reader.old) (R.remaining reader.new)
             (W.contents writer.old) (W.contents writer.new) self.old.tally self.new.tally self.old.requests self.new.requests }
     {
-        let Some(request) = read_asked(reader, version, &mut self.texts.asked)? else {
+        let Some(request) = read_asked(reader, version, &mut texts.asked)? else {
             return Err(End::Ended);
         };
         self.requests += 1;
-        self.texts.given.clear();
-        let outcome = kernel.call(cred, &request, &self.texts.asked, &mut self.texts.given);
+        texts.given.clear();
+        let outcome = kernel.call(cred, &request, &texts.asked, &mut texts.given);
         answer(
             writer,
             request.version,
             outcome,
-            &self.texts.given,
+            &texts.given,
             &mut self.tally,
         )
     }
