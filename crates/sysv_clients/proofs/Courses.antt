@@ -8,7 +8,7 @@ use Rattle.sysv_clients.specs.declared.fault.ClientFault.TheVariants as fault
 use Rattle.sysv_clients.specs.Course.{EndsOn, IsNoReplyTo, Makes, ShowsCourse, ShowsFault}
 use Rattle.sysv_clients.specs.Faults.{fault_line}
 use Rattle.sysv_clients.specs.Run.{Runs, Shows, shown_text, status_of}
-use Rattle.sysv_clients.specs.Talk.{EndsTalk, Exchange, Follows, HasNoReply, IsDone, answered_spelling, next_ask, reply_to}
+use Rattle.sysv_clients.specs.Talk.{EndsTalk, Exchange, Follows, HasNoReply, IsDone, IsOther, answered_spelling, next_ask, reply_to}
 use Rattle.sysv_model.specs.declared.errno.Errno.{Errno}
 use Rattle.sysv_model.specs.declared.errno.Errno.TheVariants.{EPERM, ENOENT, E2BIG, EAGAIN, EACCES, EEXIST, EINVAL, ENOSPC, ENOMSG, EIDRM, EOVERFLOW}
 use Rattle.sysv_model.specs.Errors.{number_of}
@@ -68,11 +68,15 @@ no_refusal one e ask error input done here there =
     let same : e.answer ≡ Told.Refused error = ap (λ (r : Reply). r.result) (one_reply (reply_to e.ask e.answer) (reply_to ask (Told.Refused error)) (one input _ _ here there)) in
     error_above error (sym (ap error_number same) ∙ done.done)
 
+-- a reply to the request is no other one
+not_other : (ask : Ask) (answer : Outcome) (reply : Reply) → reply_to ask answer ≡ reply → IsOther ask reply → ⊥
+not_other ask answer reply same (inl version) = version (sym (ap (λ (r : Reply). r.version) same))
+not_other ask answer reply same (inr op) = op (sym (ap (λ (r : Reply). r.op) same))
+
 is_reply : (one : OneAnswerToReplies) (e : Exchange) (ask : Ask) (answer : Result (Option Reply) Fault) (input : List ℕ) → ask ≡ e.ask → ReplyAt input (Ok (Some (reply_to e.ask e.answer)))
     → ReplyAt input answer → IsNoReplyTo ask answer → ⊥
 is_reply one e ask (Ok (Some reply)) input same here there other =
-    let op : op_number (op_of e.ask) ≡ reply.op = ap (λ (r : Reply). r.op) (one_reply (reply_to e.ask e.answer) reply (one input _ _ here there)) in
-    other (sym op ∙ sym (ap (λ (a : Ask). op_number (op_of a)) same))
+    not_other e.ask e.answer reply (one_reply (reply_to e.ask e.answer) reply (one input _ _ here there)) (subst (λ (a : Ask). IsOther a reply) same other)
 is_reply one e ask (Ok None) input same here there other = apart_none (reply_to e.ask e.answer) (one input _ _ here there)
 is_reply one e ask (Err why) input same here there other = apart_fault (reply_to e.ask e.answer) why (one input _ _ here there)
 
@@ -153,8 +157,7 @@ all_asked command made all [] (Err fault.NoMemory) done behind rest none parts f
 is_answer : (one : OneAnswerToReplies) (ask other : Ask) (told : Outcome) (answer : Result (Option Reply) Fault) (input : List ℕ) → other ≡ ask → ReplyAt input (Ok (Some (reply_to ask told)))
     → ReplyAt input answer → IsNoReplyTo other answer → ⊥
 is_answer one ask other told (Ok (Some reply)) input same here there denies =
-    let op : op_number (op_of ask) ≡ reply.op = ap (λ (r : Reply). r.op) (one_reply (reply_to ask told) reply (one input _ _ here there)) in
-    denies (sym op ∙ sym (ap (λ (a : Ask). op_number (op_of a)) same))
+    not_other ask told reply (one_reply (reply_to ask told) reply (one input _ _ here there)) (subst (λ (a : Ask). IsOther a reply) same denies)
 is_answer one ask other told (Ok None) input same here there denies = apart_none (reply_to ask told) (one input _ _ here there)
 is_answer one ask other told (Err why) input same here there denies = apart_fault (reply_to ask told) why (one input _ _ here there)
 
@@ -207,7 +210,7 @@ unfolding Heard
 at_end ask behind None took ended = absurd took
 at_end ask behind (Some left) took ended = inl (Ok None, took ∙ ended, tt)
 
-other_reply : (ask : Ask) (behind : List ℕ) (rest : Option (List ℕ)) (reply : Reply) (text : List ℕ) → FitsReply reply text → reply.op ≢ op_number (op_of ask) → Consumes (Some behind) rest (reply_spelling reply text)
+other_reply : (ask : Ask) (behind : List ℕ) (rest : Option (List ℕ)) (reply : Reply) (text : List ℕ) → FitsReply reply text → IsOther ask reply → Consumes (Some behind) rest (reply_spelling reply text)
     → Heard ask behind
 unfolding Heard
 other_reply ask behind None reply text fits differs took = absurd took

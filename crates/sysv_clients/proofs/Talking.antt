@@ -11,18 +11,19 @@ use Rattle.sysv_clients.specs.declared.command.Task.{Task}
 use Rattle.sysv_clients.specs.declared.command.Task.TheVariants.{List as Table, Remove, Send, Receive}
 use Rattle.sysv_clients.specs.declared.fault.ClientFault.{ClientFault}
 use Rattle.sysv_clients.specs.declared.fault.ClientFault.TheVariants.{Refused, NoReply, NoMemory}
-use Rattle.sysv_clients.specs.Asks.{asks_of, is_receive, text_of}
+use Rattle.sysv_clients.specs.Asks.{asks_of, is_receive, request_of, text_of}
 use Rattle.sysv_clients.specs.Faults.{fault_line}
 use Rattle.sysv_clients.specs.Page.{answer_most, answer_text, page_text, task_head}
 use Rattle.sysv_clients.specs.Run.{Runs, Shows, TalksThrough}
 use Rattle.sysv_clients.specs.Table.{table_head}
-use Rattle.sysv_clients.specs.Talk.{EndsTalk, Exchange, Exchanges, Follows, IsDone, Talked, answered_spelling, ask_spelling, asked_spelling, found_in, id_after, next_ask, reply_to}
+use Rattle.sysv_clients.specs.Talk.{EndsTalk, Exchange, Exchanges, Follows, IsDone, Talked, answered_spelling, ask_spelling, asked_spelling, found_in, id_after, is_row, next_ask, reply_to, slots_after, slots_in}
+use Rattle.sysv_wire.specs.declared.frame.Version.TheVariants.{Two}
 use Rattle.sysv_wire.specs.declared.reply.Outcome.{Outcome}
 use Rattle.sysv_wire.specs.declared.reply.Outcome.TheVariants as Told
 use Rattle.sysv_wire.specs.declared.request.Ask.{Ask}
 use Rattle.sysv_wire.specs.declared.request.Ask.TheVariants as asks
 use Rattle.sysv_wire.specs.Frames.{op_number}
-use Rattle.sysv_wire.specs.Replies.{IsAnswer, reply_spelling}
+use Rattle.sysv_wire.specs.Replies.{IsAnswer, gives_text, reply_spelling}
 use Rattle.sysv_wire.specs.Requests.{op_of, request_spelling}
 
 -- the most bytes that are collected of so many exchanges: a message comes with the third at the earliest
@@ -30,16 +31,17 @@ abbrev pub page_most : ℕ → ℕ
 page_most place = 55 + 62 * place + cond (ltb 2 place) 8193 0
 
 -- so many exchanges were made, and this was collected of them
-pub record Talking (command : Command) (left rest taken more : Option (List ℕ)) (page : List ℕ) (place : ℕ) (id : ℤ) : Type 0 where
+pub record Talking (command : Command) (left rest taken more : Option (List ℕ)) (page : List ℕ) (place slots : ℕ) (id : ℤ) : Type 0 where
   pub exchanges : List Exchange
   pub talked : Talked command exchanges
   pub reads : Consumes left rest (answered_spelling exchanges)
   pub writes : Appends taken more (asked_spelling command exchanges)
   pub collects : page ≡ page_text command.task exchanges
   pub counts : place ≡ length exchanges
+  pub tells : slots ≡ slots_in exchanges
   pub finds : id ≡ found_in exchanges
 
-pub begins : (command : Command) (left taken : Option (List ℕ)) (page : List ℕ) → page ≡ task_head command.task → Talking command left left taken taken page 0 (pos 0)
+pub begins : (command : Command) (left taken : Option (List ℕ)) (page : List ℕ) → page ≡ task_head command.task → Talking command left left taken taken page 0 0 (pos 0)
 begins command left taken page head = record {
   exchanges = [];
   talked = tt;
@@ -47,6 +49,7 @@ begins command left taken page head = record {
   writes = Appends-nil taken;
   collects = head ∙ sym (append-nil (task_head command.task));
   counts = refl;
+  tells = refl;
   finds = refl;
 }
 
@@ -69,6 +72,9 @@ page_more command exchanges one =
 found_more : (exchanges : List Exchange) (one : Exchange) → found_in (exchanges ++ one ∷ []) ≡ id_after (found_in exchanges) one.answer
 found_more exchanges one = fold-append (λ (found : ℤ) (e : Exchange). id_after found e.answer) (pos 0) exchanges (one ∷ [])
 
+slots_more : (exchanges : List Exchange) (one : Exchange) → slots_in (exchanges ++ one ∷ []) ≡ slots_after (slots_in exchanges) one.answer
+slots_more exchanges one = fold-append (λ (slots : ℕ) (e : Exchange). slots_after slots e.answer) 0 exchanges (one ∷ [])
+
 length_more : (exchanges : List Exchange) (one : Exchange) → length (exchanges ++ one ∷ []) ≡ length exchanges + 1
 length_more exchanges one = length-append exchanges (one ∷ [])
 
@@ -80,35 +86,37 @@ follows_more command before (first ∷ others) one follows next done =
     (follows.0, follows.1, follows_more command (before ++ first ∷ []) others one follows.2 (ap (next_ask command) (append_assoc before (first ∷ []) others) ∙ next) done)
 
 -- what is asked at this place is what the command asks for next
-is_next : (command : Command) (left rest taken more : Option (List ℕ)) (page : List ℕ) (place : ℕ) (id : ℤ) (found : Option Ask)
-    → (so_far : Talking command left rest taken more page place id) → found ≡ slice_get (asks_of command id) place → next_ask command so_far.exchanges ≡ found
-is_next command left rest taken more page place id found so_far asked =
-    sym (asked ∙ ap (λ (i : ℤ). slice_get (asks_of command i) place) so_far.finds
-    ∙ ap (λ (n : ℕ). slice_get (asks_of command (found_in so_far.exchanges)) n) so_far.counts)
+is_next : (command : Command) (left rest taken more : Option (List ℕ)) (page : List ℕ) (place slots : ℕ) (id : ℤ) (found : Option Ask)
+    → (so_far : Talking command left rest taken more page place slots id) → found ≡ slice_get (asks_of command slots id) place → next_ask command so_far.exchanges ≡ found
+is_next command left rest taken more page place slots id found so_far asked =
+    sym (asked ∙ ap (λ (i : ℤ). slice_get (asks_of command slots i) place) so_far.finds
+    ∙ ap (λ (s : ℕ). slice_get (asks_of command s (found_in so_far.exchanges)) place) so_far.tells
+    ∙ ap (λ (n : ℕ). slice_get (asks_of command (slots_in so_far.exchanges) (found_in so_far.exchanges)) n) so_far.counts)
 
 -- an exchange more
-pub goes_on : (command : Command) (ask : Ask) (answer : Outcome) (given : List ℕ) (left mid rest taken more most : Option (List ℕ)) (page text : List ℕ) (place : ℕ) (id : ℤ)
-    → Talking command left mid taken more page place id → Some ask ≡ slice_get (asks_of command id) place → text ≡ text_of command.task
-    → Exchanges (request_spelling (record { ask = ask }) text) ask (Ok answer) mid rest more most given
-    → Talking command left rest taken most (page ++ answer_text answer given) (place + 1) (id_after id answer)
-goes_on command ask answer given left mid rest taken more most page text place id so_far asked sent exchange =
+pub goes_on : (command : Command) (ask : Ask) (answer : Outcome) (given : List ℕ) (left mid rest taken more most : Option (List ℕ)) (page text : List ℕ) (place slots : ℕ) (id : ℤ)
+    → Talking command left mid taken more page place slots id → Some ask ≡ slice_get (asks_of command slots id) place → text ≡ text_of command.task
+    → Exchanges (request_spelling (request_of ask) text) ask (Ok answer) mid rest more most given
+    → Talking command left rest taken most (page ++ answer_text answer given) (place + 1) (slots_after slots answer) (id_after id answer)
+goes_on command ask answer given left mid rest taken more most page text place slots id so_far asked sent exchange =
     let one : Exchange = record { ask = ask; answer = answer; given = given } in
     let before = so_far.exchanges in
-    let frame : Appends more most (ask_spelling command ask) = subst (λ (l : List ℕ). Appends more most (request_spelling (record { ask = ask }) l)) sent exchange.0 in
+    let frame : Appends more most (ask_spelling command ask) = subst (λ (l : List ℕ). Appends more most (request_spelling (request_of ask) l)) sent exchange.0 in
     record {
       exchanges = before ++ one ∷ [];
-      talked = follows_more command [] before one so_far.talked (is_next command left mid taken more page place id (Some ask) so_far asked) exchange.1.1;
+      talked = follows_more command [] before one so_far.talked (is_next command left mid taken more page place slots id (Some ask) so_far asked) exchange.1.1;
       reads = subst (Consumes left rest) (sym (answered_more before one)) (Consumes-trans left mid rest _ _ so_far.reads exchange.1.0);
       writes = subst (Appends taken most) (sym (asked_more command before one)) (Appends-trans taken more most _ _ so_far.writes frame);
       collects = ap (λ l. l ++ answer_text answer given) so_far.collects ∙ sym (page_more command before one);
       counts = ap (λ n. n + 1) so_far.counts ∙ sym (length_more before one);
+      tells = ap (λ (s : ℕ). slots_after s answer) so_far.tells ∙ sym (slots_more before one);
       finds = ap (λ (i : ℤ). id_after i answer) so_far.finds ∙ sym (found_more before one);
     }
 
 -- all was asked
-pub finishes : (command : Command) (left rest taken more : Option (List ℕ)) (page : List ℕ) (place : ℕ) (id : ℤ) (done : ⊤)
-    → Talking command left rest taken more page place id → None ≡ slice_get (asks_of command id) place → TalksThrough command (Ok done) page left rest taken more
-finishes command left rest taken more page place id done so_far asked = (
+pub finishes : (command : Command) (left rest taken more : Option (List ℕ)) (page : List ℕ) (place slots : ℕ) (id : ℤ) (done : ⊤)
+    → Talking command left rest taken more page place slots id → None ≡ slice_get (asks_of command slots id) place → TalksThrough command (Ok done) page left rest taken more
+finishes command left rest taken more page place slots id done so_far asked = (
   so_far.exchanges,
   record {
     talked = so_far.talked;
@@ -116,25 +124,25 @@ finishes command left rest taken more page place id done so_far asked = (
     written = more;
     reads = so_far.reads;
     writes = so_far.writes;
-    ends = (is_next command left rest taken more page place id None so_far asked, refl, refl);
+    ends = (is_next command left rest taken more page place slots id None so_far asked, refl, refl);
   },
   so_far.collects,
 )
 
 -- a fault in what was read or written last
 ends_by : (command : Command) (exchanges : List Exchange) (why : ClientFault) (ask : Ask) (text given : List ℕ) (left rest taken more : Option (List ℕ))
-    → next_ask command exchanges ≡ Some ask → text ≡ text_of command.task → Exchanges (request_spelling (record { ask = ask }) text) ask (Err why) left rest taken more given
+    → next_ask command exchanges ≡ Some ask → text ≡ text_of command.task → Exchanges (request_spelling (request_of ask) text) ask (Err why) left rest taken more given
     → EndsTalk command exchanges (Err why) left rest taken more
 ends_by command exchanges (Refused error) ask text given left rest taken more next sent exchange =
-    (ask, next, subst (λ (l : List ℕ). Exchanges (request_spelling (record { ask = ask }) l) ask (Err (Refused error)) left rest taken more []) sent exchange)
+    (ask, next, subst (λ (l : List ℕ). Exchanges (request_spelling (request_of ask) l) ask (Err (Refused error)) left rest taken more []) sent exchange)
 ends_by command exchanges NoReply ask text given left rest taken more next sent exchange =
-    (ask, next, subst (λ (l : List ℕ). Exchanges (request_spelling (record { ask = ask }) l) ask (Err NoReply) left rest taken more []) sent exchange)
+    (ask, next, subst (λ (l : List ℕ). Exchanges (request_spelling (request_of ask) l) ask (Err NoReply) left rest taken more []) sent exchange)
 ends_by command exchanges NoMemory ask text given left rest taken more next sent exchange = absurd exchange
 
-pub breaks_off : (command : Command) (why : ClientFault) (ask : Ask) (given : List ℕ) (left mid rest taken more most : Option (List ℕ)) (page last text : List ℕ) (place : ℕ) (id : ℤ)
-    → Talking command left mid taken more page place id → Some ask ≡ slice_get (asks_of command id) place → text ≡ text_of command.task
-    → Exchanges (request_spelling (record { ask = ask }) text) ask (Err why) mid rest more most given → TalksThrough command (Err why) last left rest taken most
-breaks_off command why ask given left mid rest taken more most page last text place id so_far asked sent exchange = (
+pub breaks_off : (command : Command) (why : ClientFault) (ask : Ask) (given : List ℕ) (left mid rest taken more most : Option (List ℕ)) (page last text : List ℕ) (place slots : ℕ) (id : ℤ)
+    → Talking command left mid taken more page place slots id → Some ask ≡ slice_get (asks_of command slots id) place → text ≡ text_of command.task
+    → Exchanges (request_spelling (request_of ask) text) ask (Err why) mid rest more most given → TalksThrough command (Err why) last left rest taken most
+breaks_off command why ask given left mid rest taken more most page last text place slots id so_far asked sent exchange = (
   so_far.exchanges,
   record {
     talked = so_far.talked;
@@ -142,10 +150,30 @@ breaks_off command why ask given left mid rest taken more most page last text pl
     written = more;
     reads = so_far.reads;
     writes = so_far.writes;
-    ends = ends_by command so_far.exchanges why ask text given mid rest more most (is_next command left mid taken more page place id (Some ask) so_far asked) sent exchange;
+    ends = ends_by command so_far.exchanges why ask text given mid rest more most (is_next command left mid taken more page place slots id (Some ask) so_far asked) sent exchange;
   },
   tt,
 )
+
+-- no memory for the line of a row
+pub no_line : (command : Command) (ask : Ask) (answer : Outcome) (given : List ℕ) (left mid rest taken more most : Option (List ℕ)) (page last text : List ℕ) (place slots : ℕ) (id : ℤ)
+    → Talking command left mid taken more page place slots id → Some ask ≡ slice_get (asks_of command slots id) place → text ≡ text_of command.task
+    → Exchanges (request_spelling (request_of ask) text) ask (Ok answer) mid rest more most given → is_row answer ≡ true → TalksThrough command (Err NoMemory) last left rest taken most
+no_line command ask answer given left mid rest taken more most page last text place slots id so_far asked sent exchange row =
+    let one : Exchange = record { ask = ask; answer = answer; given = given } in
+    let before = so_far.exchanges in
+    let frame : Appends more most (ask_spelling command ask) = subst (λ (l : List ℕ). Appends more most (request_spelling (request_of ask) l)) sent exchange.0 in (
+      before ++ one ∷ [],
+      record {
+        talked = follows_more command [] before one so_far.talked (is_next command left mid taken more page place slots id (Some ask) so_far asked) exchange.1.1;
+        unread = rest;
+        written = most;
+        reads = subst (Consumes left rest) (sym (answered_more before one)) (Consumes-trans left mid rest _ _ so_far.reads exchange.1.0);
+        writes = subst (Appends taken most) (sym (asked_more command before one)) (Appends-trans taken more most _ _ so_far.writes frame);
+        ends = (inr (before, one, refl, row), refl, refl);
+      },
+      tt,
+    )
 
 -- no memory, and nothing was asked
 pub refused : (command : Command) (status : ℤ) (left taken shown after : Option (List ℕ)) → Shows status (pos 1) (fault_line NoMemory) shown after
@@ -159,13 +187,13 @@ refused command status left taken shown after shows = record {
     written = taken;
     reads = Consumes-nil left;
     writes = Appends-nil taken;
-    ends = (refl, refl, refl);
+    ends = (inl refl, refl, refl);
   };
   shows = shows;
 }
 
 -- an answer to a receive was asked for by one
-answers_receive : (ask : Ask) (mtype : ℤ) → IsAnswer (op_number (op_of ask)) (Told.Rcv mtype) → is_receive ask ≡ true
+answers_receive : (ask : Ask) (mtype : ℤ) → IsAnswer Two (op_number (op_of ask)) (Told.Rcv mtype) → is_receive ask ≡ true
 answers_receive (asks.Rcv id size wanted flags) mtype fits = refl
 answers_receive (asks.Hello cred) mtype fits = absurd (omega (arith, fits))
 answers_receive (asks.Get key flags) mtype fits = absurd (omega (arith, fits))
@@ -176,31 +204,41 @@ answers_receive (asks.Rm id) mtype fits = absurd (omega (arith, fits))
 answers_receive (asks.Row slot) mtype fits = absurd (omega (arith, fits))
 
 -- what an answer adds at most, by the number of exchanges before it
-most_at : (place : ℕ) (ask : Ask) (answer : Outcome) → IsAnswer (op_number (op_of ask)) answer → (is_receive ask ≡ true → place ≡ 2)
+most_at : (place : ℕ) (ask : Ask) (answer : Outcome) → IsAnswer Two (op_number (op_of ask)) answer → (is_receive ask ≡ true → place ≡ 2)
     → (answer_most answer ≤ 62) ⊎ ((answer_most answer ≡ 8193) × (place ≡ 2))
 most_at place ask (Told.Rcv mtype) fits third = inr (refl, third (answers_receive ask mtype fits))
 most_at place ask (Told.Row row) fits third = inl (omega arith)
 most_at place ask (Told.Refused error) fits third = inl (omega arith)
 most_at place ask Told.Hello fits third = inl (omega arith)
+most_at place ask (Told.HelloSlots slots) fits third = inl (omega arith)
 most_at place ask (Told.Get id) fits third = inl (omega arith)
 most_at place ask Told.Snd fits third = inl (omega arith)
 most_at place ask (Told.Stat stat) fits third = inl (omega arith)
 most_at place ask Told.Set fits third = inl (omega arith)
 most_at place ask Told.Rm fits third = inl (omega arith)
 
-page_most_small : (place : ℕ) → page_most place ≤ 55 + 62 * place + 8193
-page_most_small place = grind (arith, nat_tests)
-
 page_most_more : (place : ℕ) → page_most place + 62 ≤ page_most (place + 1)
 page_most_more place = grind (arith, nat_tests)
 
--- there is room for an answer more
-pub has_room : (place : ℕ) (ask : Ask) (answer : Outcome) (given : List ℕ) (held : ℕ) → IsDone ask answer given → (is_receive ask ≡ true → place ≡ 2) → place < 65 → held ≤ page_most place
-    → held + answer_most answer ≤ 12285
-has_room place ask answer given held done third few room = elim (most_at place ask answer done.fits.0 third) [
-  | inl small ↦ omega (arith, page_most_small place)
-  | inr big ↦ let at : held ≤ page_most 2 = subst (λ (n : ℕ). held ≤ page_most n) big.1 room in omega (arith, at, big.0)
-]
+-- a message comes with the third exchange
+third_one : (place : ℕ) (ask : Ask) (answer : Outcome) → IsAnswer Two (op_number (op_of ask)) answer → (is_receive ask ≡ true → place ≡ 2) → gives_text answer ≡ true → place ≡ 2
+third_one place ask (Told.Rcv mtype) fits third gives = third (answers_receive ask mtype fits)
+third_one place ask (Told.Row row) fits third gives = absurd cc
+third_one place ask (Told.Refused error) fits third gives = absurd cc
+third_one place ask Told.Hello fits third gives = absurd cc
+third_one place ask (Told.HelloSlots slots) fits third gives = absurd cc
+third_one place ask (Told.Get id) fits third gives = absurd cc
+third_one place ask Told.Snd fits third gives = absurd cc
+third_one place ask (Told.Stat stat) fits third gives = absurd cc
+third_one place ask Told.Set fits third gives = absurd cc
+third_one place ask Told.Rm fits third gives = absurd cc
+
+-- there is room for a message
+pub has_room : (place : ℕ) (ask : Ask) (answer : Outcome) (given : List ℕ) (held : ℕ) → IsDone ask answer given → (is_receive ask ≡ true → place ≡ 2) → held ≤ page_most place → gives_text answer ≡ true
+    → held + 8192 + 1 ≤ 8372
+has_room place ask answer given held done third room gives =
+    let at : held ≤ page_most 2 = subst (λ (n : ℕ). held ≤ page_most n) (third_one place ask answer done.fits.0 third gives) room in
+    omega (arith, at)
 
 -- and what is collected stays within its bound
 pub stays_within : (place : ℕ) (ask : Ask) (answer : Outcome) (given : List ℕ) (held more : ℕ) → IsDone ask answer given → (is_receive ask ≡ true → place ≡ 2) → held ≤ page_most place

@@ -1,6 +1,7 @@
 -- What a command asks a server for (this profile's programs): a hello first, and then the calls of its task, in order.
--- The number that a call takes for its queue is the identifier that the msgget before it gave.
-use Rattle.std.specs.Prelude.{ℕ, ℤ, Bool, true, false, List, [], ◌∷◌, map, if◌then◌else◌}
+-- The number that a call takes for its queue is the identifier that the msgget before it gave, and the rows that are asked for
+-- are those of the slots that the reply to the hello told.
+use Rattle.std.specs.Prelude.{ℕ, ℤ, Bool, true, false, List, [], ◌∷◌, map, min, if◌then◌else◌}
 use Rattle.std.specs.List.{range_with_len}
 use Rattle.std.specs.Int.RustNames.{bit_or}
 use Rattle.sysv_clients.specs.declared.command.Command.{Command}
@@ -8,11 +9,17 @@ use Rattle.sysv_clients.specs.declared.command.Target.{Target}
 use Rattle.sysv_clients.specs.declared.command.Target.TheVariants.{Id, Key}
 use Rattle.sysv_clients.specs.declared.command.Task.{Task}
 use Rattle.sysv_clients.specs.declared.command.Task.TheVariants.{List as Table, Remove, Send, Receive}
-use Rattle.sysv_clients.specs.declared.command.TheConstants.{SLOTS}
+use Rattle.sysv_clients.specs.declared.command.TheConstants.{MAX_ROWS}
 use Rattle.sysv_model.specs.declared.flags.Flags.{Flags}
 use Rattle.sysv_model.specs.declared.flags.TheConstants.Flags.{IPC_CREAT, IPC_NOWAIT, MSG_NOERROR, USER_READ, USER_WRITE}
+use Rattle.sysv_wire.specs.declared.frame.Version.TheVariants.{Two}
 use Rattle.sysv_wire.specs.declared.request.Ask.{Ask}
 use Rattle.sysv_wire.specs.declared.request.Ask.TheVariants.{Hello, Get, Snd, Rcv, Stat, Set, Rm, Row}
+use Rattle.sysv_wire.specs.declared.request.Request.{Request}
+
+-- a request as a client makes it: all are of version 2
+abbrev pub request_of : Ask → Request
+request_of ask = record { version = Two; ask = ask }
 
 abbrev pub no_flags : Flags
 no_flags = record { 0 = 0 }
@@ -27,23 +34,23 @@ flags_to_wait nowait = if nowait then IPC_NOWAIT else no_flags
 abbrev pub flags_to_receive : Bool → Bool → Flags
 flags_to_receive nowait noerror = if noerror then record { 0 = bit_or (flags_to_wait nowait).0 MSG_NOERROR.0 } else flags_to_wait nowait
 
--- the rows of all slots
-unfoldable pub row_asks : List Ask
-row_asks = map (λ slot. Row slot) (range_with_len 0 SLOTS)
+-- the rows of so many slots, or of as many as a table has at most
+unfoldable pub row_asks : ℕ → List Ask
+row_asks slots = map (λ slot. Row slot) (range_with_len 0 (min slots MAX_ROWS))
 
 abbrev pub remove_asks : Target → ℤ → List Ask
 remove_asks (Id id) found = Rm id ∷ []
 remove_asks (Key key) found = Get key no_flags ∷ Rm found ∷ []
 
-abbrev pub task_asks : Task → ℤ → List Ask
-task_asks Table found = row_asks
-task_asks (Remove target) found = remove_asks target found
-task_asks (Send key text mtype nowait) found = Get key create_flags ∷ Snd found mtype (flags_to_wait nowait) ∷ []
-task_asks (Receive key size mtype nowait noerror) found = Get key no_flags ∷ Rcv found size mtype (flags_to_receive nowait noerror) ∷ []
+abbrev pub task_asks : Task → ℕ → ℤ → List Ask
+task_asks Table slots found = row_asks slots
+task_asks (Remove target) slots found = remove_asks target found
+task_asks (Send key text mtype nowait) slots found = Get key create_flags ∷ Snd found mtype (flags_to_wait nowait) ∷ []
+task_asks (Receive key size mtype nowait noerror) slots found = Get key no_flags ∷ Rcv found size mtype (flags_to_receive nowait noerror) ∷ []
 
--- all that a command asks for, where its msgget gives this identifier
-abbrev pub asks_of : Command → ℤ → List Ask
-asks_of command found = Hello command.cred ∷ task_asks command.task found
+-- all that a command asks for, where its hello tells so many slots and its msgget gives this identifier
+abbrev pub asks_of : Command → ℕ → ℤ → List Ask
+asks_of command slots found = Hello command.cred ∷ task_asks command.task slots found
 
 abbrev pub is_receive : Ask → Bool
 is_receive (Rcv id size mtype flags) = true

@@ -6,7 +6,7 @@ use Rattle.sysv_clients.specs.declared.fault.ClientFault.{ClientFault}
 use Rattle.sysv_clients.specs.declared.fault.ClientFault.TheVariants as fault
 use Rattle.sysv_clients.specs.Faults.{fault_line}
 use Rattle.sysv_clients.specs.Run.{Shows, shown_text, status_of}
-use Rattle.sysv_clients.specs.Talk.{Exchange, Talked, answered_spelling, next_ask, reply_to}
+use Rattle.sysv_clients.specs.Talk.{Exchange, IsOther, Talked, answered_spelling, next_ask, reply_to}
 use Rattle.sysv_wire.specs.declared.fault.Fault.{Fault}
 use Rattle.sysv_wire.specs.declared.reply.Outcome.TheVariants.{Refused}
 use Rattle.sysv_wire.specs.declared.reply.Reply.{Reply}
@@ -16,10 +16,10 @@ use Rattle.sysv_wire.specs.OneAnswer.{ReplyAt}
 use Rattle.sysv_wire.specs.Requests.{op_of}
 use Rattle.sysv_model.specs.Writing.{AppendsPrefix}
 
--- what a reader answers is no reply to the request: none, none that can be read, or one to another operation
+-- what a reader answers is no reply to the request: none, none that can be read, or another one
 abbrev pub IsNoReplyTo : Ask → Result (Option Reply) Fault → Type 0
 IsNoReplyTo ask (Ok None) = ⊤
-IsNoReplyTo ask (Ok (Some reply)) = reply.op ≢ op_number (op_of ask)
+IsNoReplyTo ask (Ok (Some reply)) = IsOther ask reply
 IsNoReplyTo ask (Err why) = ⊤
 
 -- how the talk ends where this comes next

@@ -2,11 +2,11 @@
 use Rattle.std.specs.Prelude.{ℕ, List, [], ◌∷◌, ◌++◌, None, Some, flat_map}
 use Rattle.sysv_clients.specs.declared.command.Task.{Task}
 use Rattle.sysv_clients.specs.declared.command.Task.TheVariants.{List as Table, Remove, Send, Receive}
-use Rattle.sysv_clients.specs.declared.page.TheConstants.{MAX_LINE}
+use Rattle.sysv_clients.specs.declared.line.TheConstants.{MAX_LINE}
 use Rattle.sysv_clients.specs.Table.{row_line, table_head}
 use Rattle.sysv_clients.specs.Talk.{Exchange}
 use Rattle.sysv_wire.specs.declared.reply.Outcome.{Outcome}
-use Rattle.sysv_wire.specs.declared.reply.Outcome.TheVariants.{Refused, Hello, Get, Snd, Rcv, Stat, Set, Rm, Row}
+use Rattle.sysv_wire.specs.declared.reply.Outcome.TheVariants.{Refused, Hello, HelloSlots, Get, Snd, Rcv, Stat, Set, Rm, Row}
 
 -- what an answer adds to what is shown: a row that is there its line, and a message its text and LF
 abbrev pub answer_text : Outcome → List ℕ → List ℕ
@@ -15,6 +15,7 @@ answer_text (Rcv mtype) given = given ++ 10 ∷ []
 answer_text (Row None) given = []
 answer_text (Refused error) given = []
 answer_text Hello given = []
+answer_text (HelloSlots slots) given = []
 answer_text (Get id) given = []
 answer_text Snd given = []
 answer_text (Stat stat) given = []
@@ -38,6 +39,7 @@ answer_most (Rcv mtype) = 8193
 answer_most (Row row) = MAX_LINE
 answer_most (Refused error) = MAX_LINE
 answer_most Hello = MAX_LINE
+answer_most (HelloSlots slots) = MAX_LINE
 answer_most (Get id) = MAX_LINE
 answer_most Snd = MAX_LINE
 answer_most (Stat stat) = MAX_LINE

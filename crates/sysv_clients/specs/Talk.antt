@@ -1,14 +1,15 @@
 -- A client's talk with a server (this profile's): it writes a request and reads the reply, and what it asks next depends
 -- on the replies before.
-use Rattle.std.specs.Prelude.{◌≡◌, ◌≢◌, ◌⊎◌, ⊤, ℕ, ℤ, pos, List, [], ◌∷◌, ◌++◌, length, Option, None, Some, Result, Ok, Err, flat_map, fold, slice_get}
+use Rattle.std.specs.Prelude.{◌≡◌, ◌≢◌, ◌⊎◌, ⊤, ℕ, ℤ, pos, List, [], ◌∷◌, ◌++◌, length, Bool, true, false, Option, None, Some, Result, Ok, Err, flat_map, fold, slice_get}
 use Rattle.std.specs.Io.KnownBytes.{Appends, Consumes, IsAtEnd}
 use Rattle.sysv_clients.specs.declared.command.Command.{Command}
 use Rattle.sysv_clients.specs.declared.fault.ClientFault.{ClientFault}
 use Rattle.sysv_clients.specs.declared.fault.ClientFault.TheVariants as fault
-use Rattle.sysv_clients.specs.Asks.{asks_of, text_of}
+use Rattle.sysv_clients.specs.Asks.{asks_of, request_of, text_of}
 use Rattle.sysv_wire.specs.declared.fault.Fault.{Fault}
+use Rattle.sysv_wire.specs.declared.frame.Version.TheVariants.{Two}
 use Rattle.sysv_wire.specs.declared.reply.Outcome.{Outcome}
-use Rattle.sysv_wire.specs.declared.reply.Outcome.TheVariants.{Refused, Hello, Get, Snd, Rcv, Stat, Set, Rm, Row}
+use Rattle.sysv_wire.specs.declared.reply.Outcome.TheVariants.{Refused, Hello, HelloSlots, Get, Snd, Rcv, Stat, Set, Rm, Row}
 use Rattle.sysv_wire.specs.declared.reply.Reply.{Reply}
 use Rattle.sysv_wire.specs.declared.request.Ask.{Ask}
 use Rattle.sysv_wire.specs.Faults.{Faults}
@@ -24,9 +25,9 @@ pub record Exchange : Type 0 where
   pub answer : Outcome
   pub given : List ℕ
 
--- the reply to a request that answers so
+-- the reply to a request that answers so, in the version that clients speak
 abbrev pub reply_to : Ask → Outcome → Reply
-reply_to ask answer = record { op = op_number (op_of ask); result = answer }
+reply_to ask answer = record { version = Two; op = op_number (op_of ask); result = answer }
 
 -- what was asked is done: the answer is one that the operation may give, and no refusal
 pub record IsDone (ask : Ask) (answer : Outcome) (given : List ℕ) : Type 0 where
@@ -36,7 +37,7 @@ pub record IsDone (ask : Ask) (answer : Outcome) (given : List ℕ) : Type 0 whe
 
 -- the frame of a request, in which that of a send has the command's text
 abbrev pub ask_spelling : Command → Ask → List ℕ
-ask_spelling command ask = request_spelling (record { ask = ask }) (text_of command.task)
+ask_spelling command ask = request_spelling (request_of ask) (text_of command.task)
 
 -- the frames of the requests, in order, and of the replies
 abbrev pub asked_spelling : Command → List Exchange → List ℕ
@@ -50,6 +51,7 @@ abbrev pub id_after : ℤ → Outcome → ℤ
 id_after found (Get id) = id
 id_after found (Refused error) = found
 id_after found Hello = found
+id_after found (HelloSlots slots) = found
 id_after found Snd = found
 id_after found (Rcv mtype) = found
 id_after found (Stat stat) = found
@@ -57,12 +59,28 @@ id_after found Set = found
 id_after found Rm = found
 id_after found (Row row) = found
 
+-- the slots that the reply to the hello told; 0 before it
+abbrev pub slots_after : ℕ → Outcome → ℕ
+slots_after slots (HelloSlots told) = told
+slots_after slots (Refused error) = slots
+slots_after slots Hello = slots
+slots_after slots (Get id) = slots
+slots_after slots Snd = slots
+slots_after slots (Rcv mtype) = slots
+slots_after slots (Stat stat) = slots
+slots_after slots Set = slots
+slots_after slots Rm = slots
+slots_after slots (Row row) = slots
+
+abbrev pub slots_in : List Exchange → ℕ
+slots_in exchanges = fold (λ slots exchange. slots_after slots exchange.answer) 0 exchanges
+
 abbrev pub found_in : List Exchange → ℤ
 found_in exchanges = fold (λ found exchange. id_after found exchange.answer) (pos 0) exchanges
 
 -- what a command asks for next; nothing where all is asked
 abbrev pub next_ask : Command → List Exchange → Option Ask
-next_ask command exchanges = slice_get (asks_of command (found_in exchanges)) (length exchanges)
+next_ask command exchanges = slice_get (asks_of command (slots_in exchanges) (found_in exchanges)) (length exchanges)
 
 -- After some exchanges come these: each request is what the command asks for next, and is done.
 abbrev pub Follows : Command → List Exchange → List Exchange → Type 0
@@ -74,12 +92,16 @@ Follows command before (exchange ∷ more) =
 abbrev pub Talked : Command → List Exchange → Type 0
 Talked command exchanges = Follows command [] exchanges
 
--- What comes is no reply to a request: the input is at its end, or it is no reply at all, or one to another operation.
+-- the reply is of another version, or to another operation
+abbrev pub IsOther : Ask → Reply → Type 0
+IsOther ask reply = (reply.version ≢ Two) ⊎ (reply.op ≢ op_number (op_of ask))
+
+-- What comes is no reply to a request: the input is at its end, or it is no reply at all, or another one.
 abbrev pub HasNoReply : Ask → (left rest : Option (List ℕ)) → Type 0
 HasNoReply ask left rest =
     (Consumes left rest [] × IsAtEnd rest)
     ⊎ ((fault : Fault) × Faults ReplyFault fault left rest)
-    ⊎ ((reply : Reply) × (text : List ℕ) × FitsReply reply text × (reply.op ≢ op_number (op_of ask)) × Consumes left rest (reply_spelling reply text))
+    ⊎ ((reply : Reply) × (text : List ℕ) × FitsReply reply text × IsOther ask reply × Consumes left rest (reply_spelling reply text))
 
 -- What was read as the reply to a request.
 abbrev pub Hears : Ask → Result Outcome ClientFault → (left rest : Option (List ℕ)) → List ℕ → Type 0
@@ -105,12 +127,31 @@ abbrev pub BreaksOff : Command → List Exchange → ClientFault → (left rest 
 BreaksOff command exchanges why left rest taken more =
     (ask : Ask) × (next_ask command exchanges ≡ Some ask) × Exchanges (ask_spelling command ask) ask (Err why) left rest taken more []
 
--- How a talk ends after these exchanges: all is asked, or the next request ends it, or it did not begin.
+-- a row that is there
+abbrev pub is_row : Outcome → Bool
+is_row (Row (Some row)) = true
+is_row (Row None) = false
+is_row (Rcv mtype) = false
+is_row (Refused error) = false
+is_row Hello = false
+is_row (HelloSlots slots) = false
+is_row (Get id) = false
+is_row Snd = false
+is_row (Stat stat) = false
+is_row Set = false
+is_row Rm = false
+
+-- the last reply told a row
+abbrev pub EndsWithRow : List Exchange → Type 0
+EndsWithRow exchanges = (before : List Exchange) × (last : Exchange) × (exchanges ≡ before ++ last ∷ []) × (is_row last.answer ≡ true)
+
+-- How a talk ends after these exchanges: all is asked, or the next request ends it, or memory was refused, before it began or
+-- for the line of a row.
 abbrev pub EndsTalk : Command → List Exchange → Result ⊤ ClientFault → (left rest taken more : Option (List ℕ)) → Type 0
 EndsTalk command exchanges (Ok done) left rest taken more = (next_ask command exchanges ≡ None) × (rest ≡ left) × (more ≡ taken)
 EndsTalk command exchanges (Err (fault.Refused error)) left rest taken more = BreaksOff command exchanges (fault.Refused error) left rest taken more
 EndsTalk command exchanges (Err fault.NoReply) left rest taken more = BreaksOff command exchanges fault.NoReply left rest taken more
-EndsTalk command exchanges (Err fault.NoMemory) left rest taken more = (exchanges ≡ []) × (rest ≡ left) × (more ≡ taken)
+EndsTalk command exchanges (Err fault.NoMemory) left rest taken more = ((exchanges ≡ []) ⊎ EndsWithRow exchanges) × (rest ≡ left) × (more ≡ taken)
 
 -- A talk that ended so: what was read is the replies to its requests, and what was written is those requests, each but
 -- perhaps the last whole.

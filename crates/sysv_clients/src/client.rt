@@ -5,7 +5,7 @@ ghost use Rattle.sysv_clients.specs.Course.{Makes, ShowsCourse};
 ghost use Rattle.sysv_clients.specs.Faults.{fault_line};
 ghost use Rattle.sysv_clients.specs.Page.{task_head};
 ghost use Rattle.sysv_clients.specs.Run.{HasShortText, Runs, Shows, TalksThrough};
-ghost use Rattle.sysv_clients.specs.Talk.{Exchange, id_after};
+ghost use Rattle.sysv_clients.specs.Talk.{Exchange, id_after, slots_after};
 
 use crate::command::{Command, Task};
 use crate::exchange::exchange;
@@ -20,10 +20,12 @@ use sysv_wire::{Outcome, one_answer_to_replies, one_reply};
 /// Asks a server for what a command says, and shows what came of it; the status, 0 where all was done and
 /// shown, else 1. The text of a `snd` has at most 8,256 bytes.
 ///
-/// Memory is taken first, for two texts and for what is collected; where it is refused, nothing is written
-/// to the server or read. Then a hello and the requests of the task are written, each flushed before its
-/// reply is read. The first that is refused, cannot be written or has no reply ends the talk: a reply to
-/// another operation is none. What earlier requests did stays done.
+/// Memory is taken first, for two texts and for a message or the head of a table; where it is refused, nothing
+/// is written to the server or read. More is taken for each row of an `ipcs`, and where that is refused, the
+/// talk ends after the row's reply. A hello and the requests of the task are written, all of version 2, each
+/// flushed before its reply is read. The first that is refused, cannot be written or has no reply ends the
+/// talk: a reply to another operation or of another version is none. An `ipcs` asks for as many rows as the
+/// hello's reply says, but at most for `MAX_ROWS`. What earlier requests did stays done.
 ///
 /// Then the screen is written, and flushed: the table of an `ipcs`, the text and an LF of a `rcv`, nothing of
 /// the others, and of a fault its line alone. Where the screen fails it has taken a prefix of that.
@@ -84,6 +86,16 @@ fn found(id: i32, answer: &Outcome) -> i32
     }
 }
 
+/// The number of slots that the reply to the hello has, after one more answer.
+fn told_slots(slots: u32, answer: &Outcome) -> u32
+    ensures { result ≡ slots_after slots answer.now }
+{
+    match answer {
+        Outcome::HelloSlots { slots: told } => *told,
+        _ => slots,
+    }
+}
+
 /// A client under way.
 #[derive(Drop)]
 struct Client {
@@ -127,10 +139,12 @@ impl Client {
             (W.contents writer.old) (W.contents writer.new) }
     {
         let mut place = 0;
+        let mut slots = 0;
         let mut id = 0;
-        while let Some(ask) = command.ask(place, id) {
+        while let Some(ask) = command.ask(place, slots, id) {
             let answer = exchange(reader, writer, ask, &self.text, &mut self.given)?;
-            self.page.tell(&answer, &self.given);
+            self.page.tell(&answer, &self.given)?;
+            slots = told_slots(slots, &answer);
             id = found(id, &answer);
             place += 1;
         }

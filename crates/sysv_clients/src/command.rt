@@ -6,11 +6,12 @@ use bitflags::Flags as _;
 use sysv_model::{Cred, Flags};
 use sysv_wire::Ask;
 
-/// The slots of a server, for whose rows `ipcs` asks.
-pub const SLOTS: u32 = 64;
+/// The most rows that `ipcs` asks for, however many slots a server says that it has: Linux has at most as
+/// many queues in a namespace (its `IPCMNI`), so that no table of `ipcs` is longer.
+pub const MAX_ROWS: u32 = 32_768;
 
-/// The most requests of a command: those of `ipcs`, a hello and one for each slot.
-pub const MAX_REQUESTS: u32 = 65;
+/// The most requests of a command: those of `ipcs`, a hello and one for each row.
+pub const MAX_REQUESTS: u32 = 32_769;
 
 /// A client's task, and who asks for it.
 #[derive(Clone, Copy, PartialEq, Eq, Debug)]
@@ -65,29 +66,29 @@ pub enum Target {
 }
 
 impl Command<'_> {
-    /// The request with this number, counted from 0; `None` after the last. `id` is the identifier
-    /// that the last `msgget` gave.
-    pub(crate) fn ask(&self, place: u32, id: i32) -> Option<Ask>
-        ensures ask { result ≡ slice_get (asks_of self.now id) place }
+    /// The request with this number, counted from 0; `None` after the last. `slots` is the number of
+    /// slots that the reply to the hello has, and `id` the identifier that the last `msgget` gave.
+    pub(crate) fn ask(&self, place: u32, slots: u32, id: i32) -> Option<Ask>
+        ensures ask { result ≡ slice_get (asks_of self.now slots id) place }
         ensures few { IfSome result (λ _. place < MAX_REQUESTS) }
         ensures receive { IfSome result (λ ask. is_receive ask ≡ true → place ≡ 2) }
     {
         match place {
             0 => Some(Ask::Hello(self.cred)),
-            _ => self.task.ask(place - 1, id),
+            _ => self.task.ask(place - 1, slots, id),
         }
     }
 }
 
 impl Task<'_> {
     /// The request with this number after the hello, counted from 0; `None` after the last.
-    fn ask(&self, place: u32, id: i32) -> Option<Ask>
-        ensures ask { result ≡ slice_get (task_asks self.now id) place }
-        ensures few { IfSome result (λ _. place < SLOTS) }
+    fn ask(&self, place: u32, slots: u32, id: i32) -> Option<Ask>
+        ensures ask { result ≡ slice_get (task_asks self.now slots id) place }
+        ensures few { IfSome result (λ _. place < MAX_ROWS) }
         ensures receive { IfSome result (λ ask. is_receive ask ≡ true → place ≡ 1) }
     {
         match *self {
-            Task::List => row(place),
+            Task::List => row(place, slots),
             Task::Remove(target) => target.remove(place, id),
             Task::Send {
                 key,
@@ -129,13 +130,14 @@ impl Task<'_> {
     }
 }
 
-/// The request for the row of a slot, if there is the slot.
-fn row(slot: u32) -> Option<Ask>
-    ensures ask { result ≡ slice_get row_asks slot }
-    ensures few { IfSome result (λ _. slot < SLOTS) }
+/// The request for the row of a slot, if it is one of so many slots and of those that are asked for.
+fn row(slot: u32, slots: u32) -> Option<Ask>
+    ensures ask { result ≡ slice_get (row_asks slots) slot }
+    ensures few { IfSome result (λ _. slot < MAX_ROWS) }
     ensures receive { IfSome result (λ ask. is_receive ask ≡ false) }
 {
-    if slot < SLOTS {
+    let rows = slots.min(MAX_ROWS);
+    if slot < rows {
         Some(Ask::Row { slot })
     } else {
         None

@@ -6,11 +6,12 @@ mod client;
 mod command;
 mod exchange;
 mod fault;
+mod line;
 mod page;
 mod screen;
 mod words;
 
 pub use client::run_client;
-pub use command::{Command, MAX_REQUESTS, SLOTS, Target, Task};
+pub use command::{Command, MAX_REQUESTS, MAX_ROWS, Target, Task};
 pub use fault::ClientFault;
 pub use words::{id_of, key_of, type_of};

@@ -32,7 +32,10 @@ pub use awaited::Awaited;
 pub use closing::Closing;
 pub use count::Count;
 pub use gate::Gate;
-pub use laws::{counts_outside_a_turn, each_seat_knows_its_own, no_turn_of_two_seats, one_history, one_turn_at_a_time};
+pub use laws::{
+    counts_outside_a_turn, each_seat_knows_its_own, no_turn_of_two_seats, one_history,
+    one_turn_at_a_time,
+};
 pub use object::Object;
 pub use refusals::{OpenRefused, TryRefused, Worn};
 pub use seat::Seat;

@@ -64,8 +64,8 @@ abbrev pub Shows : Version → ℕ → Pass → Outcome → Pass → Type 0
 Shows version slot before outcome after =
     (answer : Result (Option Line) Errno) × TellsRow slot before answer after × (outcome ≡ row_reply version answer)
 
--- Request by request, in a version: the text is that of a send, and what is given is the text of a message. The moments are those that the
--- clock may answer.
+-- Request by request, in a version: the text is that of a send, and what is given is the text of a message. The moments are
+-- those that the clock may answer.
 abbrev pub Asks : (ℕ → Type 0) → Version → Cred → Ask → List ℕ → Pass → Outcome → List ℕ → Pass → Type 0
 Asks may version cred (Hello other) text before outcome given after = ⊥
 Asks may version cred (Get key flags) text before outcome given after = Gets may version cred key flags before outcome after × (given ≡ [])

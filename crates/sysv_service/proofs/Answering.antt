@@ -1,5 +1,5 @@
 -- What a call answers is right for the turns that it made.
-use Rattle.std.proofs.Common.{◌≡◌, ℕ, refl, ap}
+use Rattle.std.proofs.Common.{ℕ, refl, ap}
 use mathlib.Core.Option.{Option, some, none}
 use lib.ListN.{get_elem?}
 use Rattle.sysv_model.specs.History.{Seat}

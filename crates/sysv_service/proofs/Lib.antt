@@ -1,6 +1,7 @@
 pub mod Crossing
 pub mod Running
 pub mod Staying
+pub mod Delivering
 pub mod Opening
 pub mod SlotBySlot
 pub mod OwnPlaces

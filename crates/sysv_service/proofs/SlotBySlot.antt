@@ -1,6 +1,6 @@
 -- How a stop goes on by one slot.
 use Rattle.std.specs.Prelude.{⊤}
-use Rattle.std.proofs.Common.{◌≡◌, ◌<◌, ◌⊎◌, ℕ, suc, ◌+◌, ◌||◌, arith, inl, inr, ⊎_elim, Bool, true, false, Option, Some, None, Result, Ok, Err, ◌≢◌, refl, sym, subst, ◌∙◌}
+use Rattle.std.proofs.Common.{◌≡◌, ◌<◌, ℕ, suc, ◌+◌, ◌||◌, arith, inl, inr, Bool, true, false, Option, Some, None, Result, Ok, Err, ◌≢◌, refl, sym, subst, ◌∙◌}
 use Rattle.sysv_keys.specs.declared.identifier.TheConstants.{SLOTS}
 use Rattle.sysv_model.specs.declared.attributes.Row.{Row}
 use Rattle.sysv_model.specs.declared.errno.Errno.{Errno}

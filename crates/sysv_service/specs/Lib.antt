@@ -10,4 +10,5 @@ pub mod Stopped
 pub mod Closing
 pub mod OwnTurns
 pub mod RightAnswers
+pub mod Delivered
 pub mod Retried

@@ -24,6 +24,8 @@ mod waiting;
 
 pub use clock::Clock;
 pub use closing::Closed;
-pub use laws::{each_pass_obeys, each_plays_its_own, each_retry_is_at_its_goal, each_run_answers_right};
+pub use laws::{
+    each_pass_obeys, each_plays_its_own, each_retry_is_at_its_goal, each_run_answers_right,
+};
 pub use pass::Pass;
 pub use service::Service;

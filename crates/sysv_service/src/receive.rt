@@ -1,15 +1,16 @@
 //! `msgrcv`.
 
-ghost use Rattle.std.specs.Prelude.{◌≡◌, ◌≤◌, ℕ, List, [], length};
+ghost use Rattle.std.specs.Prelude.{◌≡◌, ◌≤◌, ℕ, List, [], length, IfOk};
 ghost use Rattle.sysv_model.specs.declared.limits.TheConstants.{MESSAGE_BYTES as most_bytes};
 ghost use Rattle.sysv_steps.specs.Call.{Msgrcv};
 ghost use Rattle.sysv_steps.specs.Begin.{begin as begins};
-ghost use Rattle.sysv_steps.specs.State.{AtTake, AtReceiveGiveback, Goes, Over, Ending as Ends};
-ghost use Rattle.sysv_steps.specs.Seen.{phase_of, state_of, ending_of, receiving};
+ghost use Rattle.sysv_steps.specs.State.{AtReceiveGiveback, Goes, Over, Ending as Ends};
+ghost use Rattle.sysv_steps.specs.Seen.{phase_of, state_of, ending_of};
 ghost use Rattle.sysv_gated.specs.Seats.{AreOf};
-ghost use Rattle.sysv_service.specs.Ran.{StepsOn, no_moment, Comes};
+ghost use Rattle.sysv_service.specs.Ran.{no_moment, Comes};
 ghost use Rattle.sysv_service.specs.Kinds.{Receives, IsSized};
 ghost use Rattle.sysv_service.specs.Told.{TellsGot};
+ghost use Rattle.sysv_service.specs.Delivered.{HasGiven, StepsGiving};
 
 use crate::clock::Clock;
 use crate::pass::Pass;
@@ -40,6 +41,8 @@ impl Service {
         requires { AreOf self.now pass.old.seats }
         ensures pass { AreOf self.now pass.new.seats }
         ensures ran { (ending : Ends) × Comes (C.may clock.now) (begins cred (Msgrcv id size mtype flags) 0) pass.old (Over ending) pass.new × TellsGot ending result out.new }
+        // The message that it gives is the one that it took.
+        ensures given { IfOk result (λ told. HasGiven (C.may clock.now) (begins cred (Msgrcv id size mtype flags) 0) pass.old told pass.new) }
     {
         let mut state = Receiving::begin(cred, id, size, mtype, flags);
         for _ in rt.forever() {
@@ -67,7 +70,7 @@ impl Service {
         ensures pass { AreOf self.now pass.new.seats }
         ensures receives { Receives (state_of result out.new) }
         ensures sized { IsSized result out.new }
-        ensures steps { StepsOn (C.may clock.now) (phase_of phase out.old) pass.old (state_of result out.new) pass.new }
+        ensures steps { StepsGiving (C.may clock.now) phase out.old pass.old result out.new pass.new }
     {
         match phase {
             Phase::Take(receive) => self.take(rt, pass, clock, out, receive),
@@ -92,7 +95,7 @@ impl Service {
         ensures pass { AreOf self.now pass.new.seats }
         ensures receives { Receives (state_of result out.new) }
         ensures sized { IsSized result out.new }
-        ensures steps { StepsOn (C.may clock.now) (AtTake (receiving receive)) pass.old (state_of result out.new) pass.new }
+        ensures steps { StepsGiving (C.may clock.now) (Phase.Take receive) out.old pass.old result out.new pass.new }
     {
         let Receiving {
             cred,
@@ -118,7 +121,8 @@ impl Service {
 fn given_of(ending: Ending, out: &mut Body) -> Result<Delivery, Errno>
     requires receives { Receives (Over (ending_of ending out.old)) }
     requires sized { IsSized (State.Over ending) out.old }
-    ensures { TellsGot (ending_of ending out.old) result out.new }
+    ensures told { TellsGot (ending_of ending out.old) result out.new }
+    ensures given { IfOk result (λ told. ending ≡ Ending.Got told) }
 {
     match ending {
         Ending::Got { delivery } => Ok(delivery),

@@ -206,12 +206,14 @@ fn a_get_begins(rt: HostRuntime) {
     assert!(rt; show(Getting::begin(USER, 7, Flags::IPC_CREAT)) == Shown::Begin(get));
     assert!(rt; begun(Begun::Made { id: 259 }) == Shown::Install { get, id: 259 });
     assert!(rt;
-        begun(Begun::Found { id: 259, settled: 5 })
-            == Shown::Probe {
-                get,
-                id: 259,
-                settled: 5
-            }
+        begun(Begun::Found {
+            id: 259,
+            settled: 5
+        }) == Shown::Probe {
+            get,
+            id: 259,
+            settled: 5
+        }
     );
     let wait = Wait::Settled { above: 5, get };
     assert!(rt; begun(Begun::Busy { settled: 5 }) == Shown::Waits(wait));
@@ -264,7 +266,10 @@ fn the_attributes_are_told(rt: HostRuntime) {
         rtime: 11,
         ctime: 12,
     };
-    let read = Shown::Stat { cred: USER, id: 259 };
+    let read = Shown::Stat {
+        cred: USER,
+        id: 259,
+    };
     assert!(rt; show(begin_stat(USER, 259)) == read);
     assert!(rt; show(begin_stat(USER, -1)) == Shown::Refused(Errno::EINVAL));
     assert!(rt; show(stat_told(Ok(stat))) == Shown::Told(stat));
@@ -296,7 +301,10 @@ fn a_queue_is_changed(rt: HostRuntime) {
 
 #[test]
 fn a_removal_begins(rt: HostRuntime) {
-    let remove = Shown::Remove { cred: USER, id: 259 };
+    let remove = Shown::Remove {
+        cred: USER,
+        id: 259,
+    };
     assert!(rt; show(begin_remove(USER, 259)) == remove);
     assert!(rt; show(begin_remove(USER, -1)) == Shown::Refused(Errno::EINVAL));
     assert!(rt; show(removed(259, Err(Errno::EPERM))) == Shown::Refused(Errno::EPERM));

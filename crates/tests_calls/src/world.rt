@@ -312,7 +312,11 @@ fn the_body_of_a_send_comes_back_once(rt: HostRuntime) {
     assert_receives(&rt, alloc, &mut world, (2, got, Some(b"kept")));
     assert!(rt; world.spare().is_none());
     let invalid = Outcome::Refused(Errno::EINVAL);
-    assert_answer(&rt, world.step(send(&rt, alloc, 1, 0, b"x")), (1, invalid, None));
+    assert_answer(
+        &rt,
+        world.step(send(&rt, alloc, 1, 0, b"x")),
+        (1, invalid, None),
+    );
     assert!(rt; world.spare().is_some());
     assert_is(&rt, world.end(), 1024);
 }

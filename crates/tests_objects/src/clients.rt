@@ -149,39 +149,39 @@ const WHO: Cred = Cred {
     pid: 1,
 };
 
-/// The hello of `WHO`, and its reply.
-const HELLO: &[u8] = b"\0\0\0\x0e\x01\0\0\0\x03\xe8\0\0\x03\xe8\0\0\0\x01";
+/// The hello of `WHO`, and its reply, which tells 64 slots.
+const HELLO: &[u8] = b"\0\0\0\x0e\x02\0\0\0\x03\xe8\0\0\x03\xe8\0\0\0\x01";
 
-const WELCOME: &[u8] = b"\0\0\0\x03\x01\0\0";
+const WELCOME: &[u8] = b"\0\0\0\x07\x02\0\0\0\0\0\x40";
 
 /// `msgget` of key 7 with flags 0, and the reply that gives identifier 64.
-const GET: &[u8] = b"\0\0\0\x0a\x01\x01\0\0\0\x07\0\0\0\0";
+const GET: &[u8] = b"\0\0\0\x0a\x02\x01\0\0\0\x07\0\0\0\0";
 
-const GOT: &[u8] = b"\0\0\0\x07\x01\x01\0\0\0\0\x40";
+const GOT: &[u8] = b"\0\0\0\x07\x02\x01\0\0\0\0\x40";
 
 /// That operation is done, and gives nothing.
-const SENT: &[u8] = b"\0\0\0\x03\x01\x02\0";
+const SENT: &[u8] = b"\0\0\0\x03\x02\x02\0";
 
-const REMOVED: &[u8] = b"\0\0\0\x03\x01\x06\0";
+const REMOVED: &[u8] = b"\0\0\0\x03\x02\x06\0";
 
 /// Identifier 64 is removed.
-const REMOVE: &[u8] = b"\0\0\0\x06\x01\x06\0\0\0\x40";
+const REMOVE: &[u8] = b"\0\0\0\x06\x02\x06\0\0\0\x40";
 
 /// `msgrcv` of any type from identifier 64, at most 8,192 bytes with flags 0, and a message of type 5.
-const RECEIVE: &[u8] = b"\0\0\0\x16\x01\x03\0\0\0\x40\0\0\x20\0\0\0\0\0\0\0\0\0\0\0\0\0";
+const RECEIVE: &[u8] = b"\0\0\0\x16\x02\x03\0\0\0\x40\0\0\x20\0\0\0\0\0\0\0\0\0\0\0\0\0";
 
-const MESSAGE: &[u8] = b"\0\0\0\x0e\x01\x03\0\0\0\0\0\0\0\0\x05abc";
+const MESSAGE: &[u8] = b"\0\0\0\x0e\x02\x03\0\0\0\0\0\0\0\0\x05abc";
 
 /// No queue lives in the slot.
-const VACANT: &[u8] = b"\0\0\0\x04\x01\x07\0\0";
+const VACANT: &[u8] = b"\0\0\0\x04\x02\x07\0\0";
 
 /// Identifier 0, key 7, user 1000, mode 0640, 3 bytes in 1 message.
 const ROW: &[u8] =
-    b"\0\0\0\x1a\x01\x07\0\x01\0\0\0\0\0\0\0\x07\0\0\x03\xe8\x01\xa0\0\0\0\x03\0\0\0\x01";
+    b"\0\0\0\x1a\x02\x07\0\x01\0\0\0\0\0\0\0\x07\0\0\x03\xe8\x01\xa0\0\0\0\x03\0\0\0\x01";
 
 /// The greatest of each, and the key -2147483648.
 const WIDE: &[u8] =
-    b"\0\0\0\x1a\x01\x07\0\x01\x7f\xff\xff\xff\x80\0\0\0\xff\xff\xff\xff\x01\xff\xff\xff\xff\xff\xff\xff\xff\xff";
+    b"\0\0\0\x1a\x02\x07\0\x01\x7f\xff\xff\xff\x80\0\0\0\xff\xff\xff\xff\x01\xff\xff\xff\xff\xff\xff\xff\xff\xff";
 
 const HEAD: &[u8] = b"key             msqid      owner perms  bytes messages\n";
 
@@ -214,11 +214,11 @@ fn a_queue_is_removed_by_its_identifier(rt: HostRuntime) {
     let wanted = joined(
         &rt,
         rt.alloc(),
-        &[HELLO, b"\0\0\0\x06\x01\x06\x7f\xff\xff\xff"],
+        &[HELLO, b"\0\0\0\x06\x02\x06\x7f\xff\xff\xff"],
     );
     assert!(rt; talk.requests.text() == wanted.text());
     assert_is(&rt, talk.requests.flushed, 2);
-    assert_is(&rt, talk.replies.read, 14);
+    assert_is(&rt, talk.replies.read, 18);
     assert_is(&rt, talk.screen.len(), 0);
 }
 
@@ -229,7 +229,7 @@ fn a_queue_is_removed_by_its_key(rt: HostRuntime) {
     assert_is(&rt, status, 0);
     assert!(rt; talk.requests.text() == joined(&rt, rt.alloc(), &[HELLO, GET, REMOVE]).text());
     assert_is(&rt, talk.requests.flushed, 3);
-    assert_is(&rt, talk.replies.read, 25);
+    assert_is(&rt, talk.replies.read, 29);
     assert_is(&rt, talk.screen.len(), 0);
 }
 
@@ -254,8 +254,8 @@ fn a_message_is_sent(rt: HostRuntime) {
             rt.alloc(),
             &[
                 HELLO,
-                b"\0\0\0\x0a\x01\x01\0\0\0\x07\0\0\x03\x80",
-                b"\0\0\0\x15\x01\x02\0\0\0\x40",
+                b"\0\0\0\x0a\x02\x01\0\0\0\x07\0\0\x03\x80",
+                b"\0\0\0\x15\x02\x02\0\0\0\x40",
                 fields,
                 b"abc",
             ],
@@ -268,7 +268,7 @@ fn a_message_is_sent(rt: HostRuntime) {
 #[test]
 fn the_longest_text_is_sent(rt: HostRuntime) {
     let text = [b'x'; BODY_ROOM];
-    let mut talk = Talk::new(&rt, rt.alloc(), &[WELCOME, GOT, b"\0\0\0\x03\x01\x02\x16"]);
+    let mut talk = Talk::new(&rt, rt.alloc(), &[WELCOME, GOT, b"\0\0\0\x03\x02\x02\x16"]);
     let task = Task::Send {
         key: 7,
         text: &text,
@@ -281,8 +281,8 @@ fn the_longest_text_is_sent(rt: HostRuntime) {
         rt.alloc(),
         &[
             HELLO,
-            b"\0\0\0\x0a\x01\x01\0\0\0\x07\0\0\x03\x80",
-            b"\0\0\x20\x52\x01\x02\0\0\0\x40\0\0\0\0\0\0\0\x01\0\0\0\0",
+            b"\0\0\0\x0a\x02\x01\0\0\0\x07\0\0\x03\x80",
+            b"\0\0\x20\x52\x02\x02\0\0\0\x40\0\0\0\0\0\0\0\x01\0\0\0\0",
             &text,
         ],
     );
@@ -305,7 +305,7 @@ fn a_receive_says_what_is_wanted(rt: HostRuntime) {
     let mut talk = Talk::new(
         &rt,
         rt.alloc(),
-        &[WELCOME, GOT, b"\0\0\0\x0b\x01\x03\0\0\0\0\0\0\0\0\x05"],
+        &[WELCOME, GOT, b"\0\0\0\x0b\x02\x03\0\0\0\0\0\0\0\0\x05"],
     );
     let task = Task::Receive {
         key: 7,
@@ -321,7 +321,7 @@ fn a_receive_says_what_is_wanted(rt: HostRuntime) {
         &[
             HELLO,
             GET,
-            b"\0\0\0\x16\x01\x03\0\0\0\x40\xff\xff\xff\xff\xff\xff\xff\xff\xff\xff\xff\xfb\0\0\x18\0",
+            b"\0\0\0\x16\x02\x03\0\0\0\x40\xff\xff\xff\xff\xff\xff\xff\xff\xff\xff\xff\xfb\0\0\x18\0",
         ],
     );
     assert!(rt; talk.requests.text() == wanted.text());
@@ -331,7 +331,7 @@ fn a_receive_says_what_is_wanted(rt: HostRuntime) {
 #[test]
 fn the_longest_message_is_received(rt: HostRuntime) {
     let text = [b'y'; 8192];
-    let front = b"\0\0\x20\x0b\x01\x03\0\0\0\0\0\0\0\0\x05";
+    let front = b"\0\0\x20\x0b\x02\x03\0\0\0\0\0\0\0\0\x05";
     let mut talk = Talk::new(&rt, rt.alloc(), &[WELCOME, GOT, front, &text]);
     talk.replies.piece = 100;
     assert_is(&rt, talk.run(&rt, rt.alloc(), RECEIVE_ANY), 0);
@@ -354,7 +354,7 @@ fn queues_are_listed(rt: HostRuntime) {
     assert_is(&rt, talk.run(&rt, rt.alloc(), Task::List), 0);
     let mut wanted = joined(&rt, rt.alloc(), &[HELLO]);
     for slot in 0..64 {
-        wanted.put(b"\0\0\0\x06\x01\x07\0\0\0");
+        wanted.put(b"\0\0\0\x06\x02\x07\0\0\0");
         wanted.put(&[slot]);
     }
     assert!(rt; talk.requests.text() == wanted.text());
@@ -376,6 +376,64 @@ fn no_queue_is_listed(rt: HostRuntime) {
 }
 
 #[test]
+fn as_many_rows_are_asked_for_as_the_server_has_slots(rt: HostRuntime) {
+    let table: [(&[u8], u8); 3] = [
+        (b"\0\0\0\x07\x02\0\0\0\0\0\0", 0),
+        (b"\0\0\0\x07\x02\0\0\0\0\0\x01", 1),
+        (b"\0\0\0\x07\x02\0\0\0\0\0\x05", 5),
+    ];
+    for (welcome, slots) in table {
+        let mut talk = Talk::new(&rt, rt.alloc(), &[welcome]);
+        let mut wanted = joined(&rt, rt.alloc(), &[HELLO]);
+        for slot in 0..slots {
+            talk.replies.put(VACANT);
+            wanted.put(b"\0\0\0\x06\x02\x07\0\0\0");
+            wanted.put(&[slot]);
+        }
+        assert_is(&rt, talk.run(&rt, rt.alloc(), Task::List), 0);
+        assert!(rt; talk.requests.text() == wanted.text(), "{slots}");
+        assert!(rt; talk.screen.text() == HEAD, "{slots}");
+    }
+}
+
+#[test]
+fn a_server_says_that_it_has_the_most_slots(rt: HostRuntime) {
+    let welcome = b"\0\0\0\x07\x02\0\0\xff\xff\xff\xff";
+    let mut talk = Talk::new(&rt, rt.alloc(), &[welcome, ROW, VACANT]);
+    assert_is(&rt, talk.run(&rt, rt.alloc(), Task::List), 1);
+    assert!(rt; talk.screen.text() == NO_REPLY);
+    assert_is(&rt, talk.requests.flushed, 4);
+}
+
+#[test]
+fn a_table_takes_memory_as_its_rows_come(rt: HostRuntime) {
+    let welcome = b"\0\0\0\x07\x02\0\0\0\0\0\xa0";
+    let mut talk = Talk::new(&rt, rt.alloc(), &[welcome]);
+    let mut shown = joined(&rt, rt.alloc(), &[HEAD]);
+    for _ in 0..160 {
+        talk.replies.put(ROW);
+        shown.put(LINE);
+    }
+    let command = Command {
+        cred: WHO,
+        task: Task::List,
+    };
+    let status = run_client(
+        rt.alloc(),
+        &command,
+        &mut talk.replies,
+        &mut talk.requests,
+        &mut talk.screen,
+    );
+    if talk.screen.text() == b"sysvmsg: no memory\n".as_slice() {
+        assert_is(&rt, status, 1);
+        return;
+    }
+    assert_is(&rt, status, 0);
+    assert!(rt; talk.screen.text() == shown.text());
+}
+
+#[test]
 fn a_refusal_is_named(rt: HostRuntime) {
     let table: [(u8, &[u8]); 11] = [
         (1, b"sysvmsg: EPERM\n"),
@@ -391,7 +449,7 @@ fn a_refusal_is_named(rt: HostRuntime) {
         (75, b"sysvmsg: EOVERFLOW\n"),
     ];
     for (number, line) in table {
-        let mut talk = Talk::new(&rt, rt.alloc(), &[b"\0\0\0\x03\x01\0", &[number], WELCOME]);
+        let mut talk = Talk::new(&rt, rt.alloc(), &[b"\0\0\0\x03\x02\0", &[number], WELCOME]);
         assert_is(&rt, talk.run(&rt, rt.alloc(), Task::List), 1);
         assert!(rt; talk.screen.text() == line, "{number}");
         assert!(rt; talk.requests.text() == HELLO);
@@ -404,7 +462,7 @@ fn a_later_request_is_refused(rt: HostRuntime) {
     let mut talk = Talk::new(
         &rt,
         rt.alloc(),
-        &[WELCOME, b"\0\0\0\x03\x01\x01\x02", MESSAGE],
+        &[WELCOME, b"\0\0\0\x03\x02\x01\x02", MESSAGE],
     );
     assert_is(&rt, talk.run(&rt, rt.alloc(), RECEIVE_ANY), 1);
     assert!(rt; talk.requests.text() == joined(&rt, rt.alloc(), &[HELLO, GET]).text());
@@ -416,7 +474,7 @@ const NO_REPLY: &[u8] = b"sysvmsg: no reply\n";
 
 #[test]
 fn the_replies_are_cut_after_each_byte(rt: HostRuntime) {
-    for cut in 0..36 {
+    for cut in 0..40 {
         for fails in [false, true] {
             let mut talk = Talk::new(&rt, rt.alloc(), &[WELCOME, GOT, MESSAGE]);
             if fails {
@@ -427,8 +485,8 @@ fn the_replies_are_cut_after_each_byte(rt: HostRuntime) {
             assert_eq!(rt; talk.run(&rt, rt.alloc(), RECEIVE_ANY), 1, "{cut}");
             assert!(rt; talk.screen.text() == NO_REPLY, "{cut}");
             let asked = match cut {
-                0..=6 => joined(&rt, rt.alloc(), &[HELLO]),
-                7..=17 => joined(&rt, rt.alloc(), &[HELLO, GET]),
+                0..=10 => joined(&rt, rt.alloc(), &[HELLO]),
+                11..=21 => joined(&rt, rt.alloc(), &[HELLO, GET]),
                 _ => joined(&rt, rt.alloc(), &[HELLO, GET, RECEIVE]),
             };
             assert!(rt; talk.requests.text() == asked.text(), "{cut}");
@@ -447,14 +505,17 @@ fn a_table_that_is_cut_leaves_one_line(rt: HostRuntime) {
 
 #[test]
 fn a_reply_to_another_request_is_none(rt: HostRuntime) {
-    let table: [&[u8]; 7] = [
+    let table: [&[u8]; 10] = [
         REMOVED,
         GOT,
         MESSAGE,
-        b"\0\0\0\x03\x01\x06\x0d",
+        b"\0\0\0\x03\x02\x06\x0d",
+        b"\0\0\0\x03\x01\0\0",
         b"\0\0\0\x03\x02\0\0",
-        b"\0\0\0\x03\x01\0\x03",
-        b"\0\0\x20\x0c\x01\0\0",
+        b"\0\0\0\x07\x01\0\0\0\0\0\x40",
+        b"\0\0\0\x07\x03\0\0\0\0\0\x40",
+        b"\0\0\0\x03\x02\0\x03",
+        b"\0\0\x20\x0c\x02\0\0",
     ];
     for reply in table {
         let mut talk = Talk::new(&rt, rt.alloc(), &[reply, WELCOME]);
@@ -480,8 +541,8 @@ fn the_writer_fails(rt: HostRuntime) {
         );
         let read = match room {
             0..=17 => 0,
-            18..=31 => 7,
-            _ => 18,
+            18..=31 => 11,
+            _ => 22,
         };
         assert_eq!(rt; talk.replies.read, read, "{room}");
     }
@@ -494,7 +555,7 @@ fn the_writer_cannot_be_flushed(rt: HostRuntime) {
         talk.requests.flushes = flushes;
         assert_eq!(rt; talk.run(&rt, rt.alloc(), RECEIVE_ANY), 1, "{flushes}");
         assert!(rt; talk.screen.text() == NO_REPLY, "{flushes}");
-        let read = [0, 7, 18];
+        let read = [0, 11, 22];
         assert_eq!(rt; talk.replies.read, read[flushes], "{flushes}");
     }
 }

@@ -404,12 +404,12 @@ fn makes_changes_and_removes_queues(rt: HostRuntime) {
 fn fills_all_slots(rt: HostRuntime) -> Result<(), Fail> {
     let mut script = Vec::new(rt.alloc());
     let mut answers = Vec::new(rt.alloc());
-    for id in 0..64_u32 {
+    for id in 0..256_u32 {
         script.extend_from_slice(b"1 get 0 -\n")?;
         assert!(rt; writeln!(answers, "1 get = {id}").is_ok());
     }
     script.extend_from_slice(b"1 get 0 -\n1 rm 5\n1 get 9 CREAT\n1 get 9 -\n")?;
-    answers.extend_from_slice(b"1 get ! ENOSPC\n1 rm = 0\n1 get = 69\n1 get = 69\n")?;
+    answers.extend_from_slice(b"1 get ! ENOSPC\n1 rm = 0\n1 get = 261\n1 get = 261\n")?;
     let ending = run(rt.alloc(), script.as_slice());
     assert_eq!(rt; ending.end, Ok(()));
     assert!(rt; ending.written.as_slice() == answers.as_slice());

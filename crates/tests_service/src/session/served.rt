@@ -29,8 +29,6 @@ pub(super) fn assert_served(
     assert_eq!(rt; page.written(), answers);
 }
 
-/// The slots that the replies to hellos of version 2 tell.
-
 /// Serves one session on this kernel. Memory is refused once at most, and then nothing was read or written.
 pub(super) fn served_on(
     rt: &impl Abort,

@@ -105,22 +105,22 @@ impl Shelf {
         }
     }
 
-    fn receive(&mut self, cred: Cred, ask: &Ask, given: &mut Body) -> Outcome
-        requires { op_of ask.now ≡ Op.Rcv }
-        ensures { MayAnswer ask.now result given.new }
+    fn receive(&mut self, cred: Cred, request: &Request, given: &mut Body) -> Outcome
+        requires { op_of request.now.ask ≡ Op.Rcv }
+        ensures { MayAnswer request.now.version request.now.ask result given.new }
     {
         let Ask::Rcv {
             id,
             size,
             mtype,
             flags,
-        } = *ask
+        } = request.ask
         else {
             unreachable!()
         };
         given.clear();
         if self.slot.counts().1 > MAX_COUNT {
-            return refusal(Op::Rcv, Errno::EOVERFLOW);
+            return refusal(request.version, Op::Rcv, Errno::EOVERFLOW);
         }
         let noerror = flags.contains(Flags::MSG_NOERROR);
         match self
@@ -132,10 +132,10 @@ impl Shelf {
                 give_back(&mut self.pool, chain);
                 Outcome::Got(delivery)
             }
-            Err(TakeRefused::Gone) => refusal(Op::Rcv, Errno::EINVAL),
-            Err(TakeRefused::Denied) => refusal(Op::Rcv, Errno::EACCES),
-            Err(TakeRefused::NoMatch { .. }) => refusal(Op::Rcv, Errno::ENOMSG),
-            Err(TakeRefused::TooLong) => refusal(Op::Rcv, Errno::E2BIG),
+            Err(TakeRefused::Gone) => refusal(request.version, Op::Rcv, Errno::EINVAL),
+            Err(TakeRefused::Denied) => refusal(request.version, Op::Rcv, Errno::EACCES),
+            Err(TakeRefused::NoMatch { .. }) => refusal(request.version, Op::Rcv, Errno::ENOMSG),
+            Err(TakeRefused::TooLong) => refusal(request.version, Op::Rcv, Errno::E2BIG),
         }
     }
 }
@@ -170,7 +170,7 @@ impl Kernel for Shelf {
                     result,
                 })
             }
-            Ask::Rcv { .. } => self.receive(cred, &request.ask, given),
+            Ask::Rcv { .. } => self.receive(cred, request, given),
             _ => refusal(request.version, request.ask.op(), Errno::EINVAL),
         }
     }

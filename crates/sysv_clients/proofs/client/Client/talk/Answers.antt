@@ -2,7 +2,7 @@ use Rattle.std.proofs.Common.{length, arith}
 use Rattle.std.specs.Int.{w32}
 use Rattle.std.proofs.lemmas.Int.{to_z-of_z}
 use Rattle.std.proofs.lemmas.Result.{err_from_is_err_and}
-use Rattle.sysv_clients.proofs.Talking.{begins, breaks_off, goes_on, has_room, short_head, stays_within}
+use Rattle.sysv_clients.proofs.Talking.{begins, breaks_off, goes_on, has_room, no_line, short_head, stays_within}
 use Rattle.sysv_clients.proofs.client.Client.talk.Goals as goal
 
 pub loop-ask-init : goal.loop-ask-init
@@ -16,20 +16,26 @@ loop-ask-init g c = record {
 pub tell-requires-clause-room : goal.tell-requires-clause-room
 tell-requires-clause-room g c =
     has_room c.loop-ask.place c.in-Some.ask c.in_ok-answer.answer c.exchange.new.given (length c.loop-ask.self.page) c.in_ok-answer.ensures.1.1 c.in-Some.ensures.receive
-    c.in-Some.ensures.few c.loop-ask.invariant.room
+    c.loop-ask.invariant.room
 
 pub loop-ask-preserved : goal.loop-ask-preserved
 loop-ask-preserved g c = record {
-  talking = rw (c.tell.ensures.after, to_z-of_z w32 c.found-id.result (record { sfits = c.found-id.type_inv }), c.found-id.ensures) (goes_on c.args.command.now c.in-Some.ask c.in_ok-answer.answer c.exchange.new.given _ _ _ _ _ _ c.loop-ask.self.page c.loop-ask.self.text c.loop-ask.place _
+  talking = rw (c.in_ok-tell.ensures.after, c.told_slots-slots.ensures, to_z-of_z w32 c.found-id.result (record { sfits = c.found-id.type_inv }), c.found-id.ensures) (goes_on c.args.command.now c.in-Some.ask c.in_ok-answer.answer c.exchange.new.given _ _ _ _ _ _ c.loop-ask.self.page c.loop-ask.self.text c.loop-ask.place _ _
       c.loop-ask.invariant.talking c.in-Some.ensures.ask c.loop-ask.invariant.text c.in_ok-answer.ensures);
   text = c.loop-ask.invariant.text;
   room = stays_within c.loop-ask.place c.in-Some.ask c.in_ok-answer.answer c.exchange.new.given (length c.loop-ask.self.page) (length c.tell.new.self) c.in_ok-answer.ensures.1.1 c.in-Some.ensures.receive
-      c.loop-ask.invariant.room c.tell.ensures.len;
+      c.loop-ask.invariant.room c.in_ok-tell.ensures.len;
   few = omega (arith, c.in-Some.ensures.few);
 }
 
 pub returns-in_err-answer : goal.returns-in_err-answer
 returns-in_err-answer g c =
     let p = err_from_is_err_and c.from_residual.result c.from_residual.ensures.1 in
-    rw (p.1, p.2) (breaks_off c.args.command.now c.in_err-answer.field-0.0 c.in-Some.ask c.exchange.new.given _ _ _ _ _ _ c.loop-ask.self.page c.loop-ask.self.page c.loop-ask.self.text c.loop-ask.place _
+    rw (p.1, p.2) (breaks_off c.args.command.now c.in_err-answer.field-0.0 c.in-Some.ask c.exchange.new.given _ _ _ _ _ _ c.loop-ask.self.page c.loop-ask.self.page c.loop-ask.self.text c.loop-ask.place _ _
     c.loop-ask.invariant.talking c.in-Some.ensures.ask c.loop-ask.invariant.text c.in_err-answer.ensures)
+
+pub returns-in_err-tell : goal.returns-in_err-tell
+returns-in_err-tell g c =
+    let p = err_from_is_err_and c.from_residual-in_err-tell.result c.from_residual-in_err-tell.ensures.1 in
+    rw (p.1, p.2) (no_line c.args.command.now c.in-Some.ask c.in_ok-answer.answer c.exchange.new.given _ _ _ _ _ _ c.loop-ask.self.page c.tell.new.self c.loop-ask.self.text c.loop-ask.place _ _
+    c.loop-ask.invariant.talking c.in-Some.ensures.ask c.loop-ask.invariant.text c.in_ok-answer.ensures c.in_err-tell.ensures.row)

@@ -1,5 +1,6 @@
 -- The exchanges so far, and what they gave to show.
 use Rattle.std.proofs.Common.{◌≡◌, ◌-◌, ◌≤◌, length}
+use Rattle.sysv_clients.specs.declared.command.TheConstants.{MAX_REQUESTS}
 use Rattle.sysv_clients.specs.Asks.{text_of}
 use Rattle.sysv_clients.proofs.Talking.{Talking, page_most}
 use Rattle.sysv_clients.proofs.client.Client.talk.Given as goal
@@ -7,11 +8,11 @@ use Rattle.sysv_clients.proofs.client.Client.talk.Given as goal
 abbrev pub invariant-loop-ask : goal.invariant-loop-ask
 invariant-loop-ask g l = record {
   talking : Talking l.command (g.R.Read.remaining l.initial.reader) (g.R.Read.remaining l.reader) (g.W.Write.contents l.initial.writer)
-      (g.W.Write.contents l.writer) l.self.page l.place l.id;
+      (g.W.Write.contents l.writer) l.self.page l.place l.slots l.id;
   text : l.self.text ≡ text_of l.command.task;
   room : length l.self.page ≤ page_most l.place;
-  few : l.place ≤ 65;
+  few : l.place ≤ MAX_REQUESTS;
 }
 
 abbrev pub decreases-loop-ask : goal.decreases-loop-ask
-decreases-loop-ask g l = 65 - l.place
+decreases-loop-ask g l = MAX_REQUESTS - l.place

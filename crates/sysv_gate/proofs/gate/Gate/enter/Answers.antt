@@ -37,8 +37,7 @@ returns-then-found-served-clause-entered g c =
     let still = unweighed m c.load-next.new.seat.me c.load-next.result c.load-next.ensures.2.0 (omega arith) in
     let look = subst (λ x. Looked moves counted o x n m') still c.look-served.ensures.looked in
     let is = (idle_look moves counted o m n m' c.requires.idle.1 look).is in
-    let lost = (c.compare_exchange-found.ensures.2 o (ap (λ x. x.0.opening) is ∙ c.requires.table.1)).1 c.if-found-served.true in
-    (
+    let lost = (c.compare_exchange-found.ensures.2 o (ap (λ x. x.0.opening) is ∙ c.requires.table.1)).1 c.if-found-served.true in (
       subst (SawMore m.0) (sym lost) (idle_look moves counted o m n m' c.requires.idle.1 look),
       subst (λ x. IsLegal moves o x.0.seen) (sym lost) (look_legal moves counted o m n m' c.requires.idle.1 look),
       subst (λ x. HasItsOwn x.0.numbers x.0.own x.0.seen) (sym lost) (look_own moves counted o m n m' c.requires.idle.1 look),

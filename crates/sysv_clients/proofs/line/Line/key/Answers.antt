@@ -2,7 +2,7 @@ use Rattle.std.proofs.Common.{◌≡◌, ℕ, ℤ, List, [], ◌++◌, get_or, a
 use Rattle.std.specs.Int.{w32, cast_unsigned, to_be_bytes}
 use Rattle.std.proofs.lemmas.Int.{to_z-of_z}
 use Rattle.sysv_clients.specs.Table.{hex_byte, key_text}
-use Rattle.sysv_clients.proofs.page.Page.key.Goals as goal
+use Rattle.sysv_clients.proofs.line.Line.key.Goals as goal
 
 in_parts : (old mark a b c d : List ℕ) → ((((old ++ mark) ++ a) ++ b) ++ c) ++ d ≡ old ++ (mark ++ (a ++ (b ++ (c ++ (d ++ [])))))
 in_parts old mark a b c d = simp (append_assoc, append-nil)

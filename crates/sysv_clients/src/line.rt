@@ -1,0 +1,154 @@
+//! One line of the table that `ipcs` prints.
+ghost use Rattle.std.specs.Prelude.{◌≡◌, ◌+◌, ◌-◌, ◌≤◌, ◌<◌, [], ◌∷◌, ◌++◌, ℕ, length, max};
+ghost use Rattle.sysv_clients.specs.Table.{column, glyph, hex_byte, key_text, mode_text, row_line};
+
+use itoa::{Buffer, Integer};
+use std::marker::Model;
+use sysv_model::Row;
+
+/// The bytes of the longest line of the table.
+pub(crate) const MAX_LINE: usize = 62;
+
+/// As many spaces as the widest column.
+const SPACES: [u8; 10] = [b' '; 10];
+
+/// A line that is put together in memory of a fixed size.
+#[derive(Drop)]
+pub(crate) struct Line {
+    bytes: [u8; MAX_LINE],
+    len: usize,
+}
+
+impl Model for Line {
+    ghost use Rattle.std.specs.Prelude.{List, ℕ, ◌≤◌, take};
+
+    ghost Value = { List ℕ };
+
+    ghost view = { λ line. take line.len line.bytes };
+
+    ghost invariant = { λ line. line.len ≤ 62 };
+}
+
+impl Line {
+    /// An empty line.
+    pub(crate) fn new() -> Line
+        ensures { result ≡ [] }
+    {
+        Line {
+            bytes: [0; MAX_LINE],
+            len: 0,
+        }
+    }
+
+    /// All that was put.
+    pub(crate) fn bytes(&self) -> &[u8]
+        ensures bytes { result.now ≡ self.now }
+        ensures most { length result.now ≤ MAX_LINE }
+    {
+        &self.bytes[..self.len]
+    }
+
+    /// Puts bytes at the end.
+    fn put(&mut self, piece: &[u8])
+        requires { length self.old + length piece.now ≤ MAX_LINE }
+        ensures after { self.new ≡ self.old ++ piece.now }
+        ensures len { length self.new ≡ length self.old + length piece.now }
+    {
+        let end = self.len + piece.len();
+        self.bytes[self.len..end].copy_from_slice(piece);
+        self.len = end;
+    }
+}
+
+impl Line {
+    /// Puts the columns of a row and an LF on an empty line.
+    #[tactic(auto, using(std::proofs::Common::append_assoc), unfolding(crate::specs::Table::row_line))]
+    pub(crate) fn row(&mut self, row: &Row)
+        requires { length self.old ≡ 0 }
+        ensures { self.new ≡ self.old ++ row_line row.now }
+    {
+        self.key(row.key);
+        self.number(10, row.id);
+        self.number(10, row.uid);
+        self.mode(row.mode);
+        self.number(6, row.cbytes);
+        self.number(8, row.qnum);
+        self.put(b"\n");
+    }
+
+    /// Puts a key, as `0x` and eight hexadecimal digits.
+    #[tactic(auto, using(std::proofs::Common::append_assoc), unfolding(crate::specs::Table::key_text))]
+    fn key(&mut self, key: i32)
+        requires { length self.old + 10 ≤ MAX_LINE }
+        ensures after { self.new ≡ self.old ++ key_text key }
+        ensures len { length self.new ≡ length self.old + 10 }
+    {
+        self.put(b"0x");
+        let [a, b, c, d] = key.to_be_bytes();
+        self.byte(a);
+        self.byte(b);
+        self.byte(c);
+        self.byte(d);
+    }
+
+    /// Puts a byte, as two hexadecimal digits.
+    fn byte(&mut self, byte: u8)
+        requires { length self.old + 2 ≤ MAX_LINE }
+        ensures after { self.new ≡ self.old ++ hex_byte byte }
+        ensures len { length self.new ≡ length self.old + 2 }
+    {
+        self.put(&[hex_digit(byte / 16), hex_digit(byte % 16)]);
+    }
+
+    /// Puts a number at the right of a column, with a space before that.
+    fn number<I: Integer>(&mut self, width: usize, number: I)
+        requires width { width ≤ 10 }
+        requires most { I.MAX_STR_LEN ≤ 11 }
+        requires room { length self.old + 1 + max width I.MAX_STR_LEN ≤ MAX_LINE }
+        ensures after { self.new ≡ self.old ++ column width (I.text number) }
+        ensures len { length self.new ≤ length self.old + 1 + max width I.MAX_STR_LEN }
+    {
+        let mut buffer = Buffer::new();
+        let text = buffer.format(number);
+        self.column(width, text.as_bytes());
+    }
+
+    /// Puts a text at the right of a column, with a space before that.
+    #[tactic(auto, using(std::proofs::Common::append_assoc), unfolding(crate::specs::Table::column))]
+    fn column(&mut self, width: usize, text: &[u8])
+        requires width { width ≤ 10 }
+        requires room { length self.old + 1 + max width (length text.now) ≤ MAX_LINE }
+        ensures after { self.new ≡ self.old ++ column width text.now }
+        ensures len { length self.new ≡ length self.old + 1 + max width (length text.now) }
+    {
+        self.put(b" ");
+        self.put(&SPACES[..width.saturating_sub(text.len())]);
+        self.put(text);
+    }
+
+    /// Puts three octal digits at the right of their column, with a space before that.
+    fn mode(&mut self, mode: u16)
+        requires { length self.old + 6 ≤ MAX_LINE }
+        ensures after { self.new ≡ self.old ++ column 5 (mode_text mode) }
+        ensures len { length self.new ≡ length self.old + 6 }
+    {
+        let digits = [
+            b'0' + (mode / 64 % 8) as u8,
+            b'0' + (mode / 8 % 8) as u8,
+            b'0' + (mode % 8) as u8,
+        ];
+        self.column(5, &digits);
+    }
+}
+
+/// The hexadecimal digit of a number below 16.
+fn hex_digit(number: u8) -> u8
+    requires { number < 16 }
+    ensures { result ≡ glyph number }
+{
+    if number < 10 {
+        b'0' + number
+    } else {
+        b'a' - 10 + number
+    }
+}
