@@ -98,7 +98,10 @@ fn a_full_registry_makes_no_queue(rt: HostRuntime) {
         &mut registry,
         9,
         creating(),
-        Begun::Found { id: 0, settled: 256 },
+        Begun::Found {
+            id: 0,
+            settled: 256,
+        },
     );
     assert_is(&rt, registry.settled(), 256);
 }

@@ -209,6 +209,13 @@ fn messages_come_and_go(rt: HostRuntime) {
     assert_receives(&rt, &mut desk, Selector::Except(9), 8192, none);
     assert_receives(&rt, &mut desk, Selector::Except(5), 8192, Ok(last));
     assert_holds(&rt, &desk.out, b"last");
+    assert_waiting(&rt, &desk, (0, 0));
+    end_desk(&rt, desk, 0);
+}
+
+#[test]
+fn a_store_ends_with_what_waits(rt: HostRuntime) {
+    let mut desk = open_desk(&rt, rt.alloc());
     send(&rt, &mut desk, 7, 1, b"more");
     assert_waiting(&rt, &desk, (1, 4));
     assert_eq!(rt; desk.pool.free(), 511);

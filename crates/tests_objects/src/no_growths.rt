@@ -6,6 +6,11 @@ use sysv_keys::{Begun, Registry};
 use sysv_model::IPC_PRIVATE;
 use tests_kit::{creating, mark};
 
+/// The identifier of a slot in its generation of this number.
+fn id_of(slot: i32, generation: i32) -> i32 {
+    generation.wrapping_mul(256).wrapping_add(slot)
+}
+
 // All slots are taken, and all are given again.
 #[test]
 fn registry(rt: HostRuntime) {
@@ -16,13 +21,13 @@ fn registry(rt: HostRuntime) {
     for round in 0..2 {
         for slot in 0..256 {
             let key = if slot % 2 == 0 { IPC_PRIVATE } else { slot };
-            let id = slot + 256 * round;
+            let id = id_of(slot, round);
             let begun = registry.begin(key, creating());
             assert_is(&rt, begun, Begun::Made { id });
             assert!(rt; registry.settle(id));
         }
         for slot in 0..256 {
-            assert!(rt; registry.forget(slot + 256 * round));
+            assert!(rt; registry.forget(id_of(slot, round)));
         }
     }
     assert_is(&rt, registry.settled(), 1024);
@@ -41,6 +46,7 @@ fn pool(rt: HostRuntime) {
         panic!(rt; "no blocks")
     };
     chain.fill(&text);
+    assert!(rt; out.len() == 0);
     chain.copy_out(size, &mut out);
     assert_holds(&rt, &out, b"hello");
     assert_is(&rt, pool.free(), 127);

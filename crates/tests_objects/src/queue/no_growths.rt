@@ -3,6 +3,16 @@ use super::*;
 use crate::parts::assert_is;
 use tests_kit::{creating, mark};
 
+/// No count of the slot is so high that it could not rise.
+fn assert_may_rise(rt: &impl Abort, slot: &QueueSlot)
+    ensures arrived { slot.now.arrived < 2 ^ 63 }
+    ensures freed { slot.now.freed < 2 ^ 63 }
+{
+    let (arrived, freed) = slot.counts();
+    assert!(rt; arrived < 1 << 63);
+    assert!(rt; freed < 1 << 63);
+}
+
 /// The queue's attributes are changed and told.
 fn assert_is_set(rt: &impl Abort, slot: &mut QueueSlot) {
     let to = SetTo {
@@ -11,6 +21,7 @@ fn assert_is_set(rt: &impl Abort, slot: &mut QueueSlot) {
         mode: 0o640,
         qbytes: 300,
     };
+    assert_may_rise(rt, slot);
     assert_eq!(rt; slot.set(0, SENDER, to, 80), Ok(()));
     let stat = slot.stat(0, SENDER).map(|stat| (stat.qnum, stat.qbytes));
     assert_eq!(rt; stat, Ok((0, 300)));
@@ -45,6 +56,7 @@ fn slot(rt: HostRuntime) {
             assert!(rt; take_as(&rt, &mut desk, 0, RECEIVER, sel, 9, false).is_ok());
         }
     }
+    assert_may_rise(&rt, &desk.slot);
     match desk.slot.remove(0, SENDER) {
         Ok(discarded) => give_back(&rt, &mut desk.pool, discarded.into_chain()),
         Err(why) => panic!(rt; "{why}"),
