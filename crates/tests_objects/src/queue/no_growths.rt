@@ -1,4 +1,6 @@
 //! Calls of a slot, which take no memory: a run counts the growths after the mark, refuses each, and wants none.
+ghost use Rattle.std.specs.Prelude.{◌<◌, ◌^◌};
+
 use super::*;
 use crate::parts::assert_is;
 use tests_kit::{creating, mark};
