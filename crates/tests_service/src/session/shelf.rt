@@ -1,6 +1,7 @@
 //! A kernel of one queue, with a registry and a pool.
 ghost use Rattle.std.specs.Prelude.{◌≡◌, ⊤, false};
 ghost use Rattle.sysv_session.specs.Answers.{MayAnswer};
+ghost use Rattle.sysv_wire.specs.declared.frame.Version.{Version};
 ghost use Rattle.sysv_wire.specs.Frames.{op_number};
 ghost use Rattle.sysv_wire.specs.Replies.{IsAnswer, gives_text};
 ghost use Rattle.sysv_wire.specs.Requests.{op_of};
@@ -64,7 +65,7 @@ impl Shelf {
     }
 
     fn get(&mut self, cred: Cred, key: i32, flags: Flags) -> Told
-        ensures answer { IsAnswer (op_number Op.Get) result }
+        ensures answer { (version : Version) → IsAnswer version (op_number Op.Get) result }
         ensures text { gives_text result ≡ false }
     {
         match self.registry.begin(key, flags) {
@@ -82,7 +83,7 @@ impl Shelf {
     }
 
     fn send(&mut self, cred: Cred, id: i32, mtype: i64, text: &Body) -> Told
-        ensures answer { IsAnswer (op_number Op.Snd) result }
+        ensures answer { (version : Version) → IsAnswer version (op_number Op.Snd) result }
         ensures text { gives_text result ≡ false }
     {
         if text.len() > MESSAGE_BYTES || self.slot.counts().0 > MAX_COUNT {
