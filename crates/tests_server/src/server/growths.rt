@@ -16,11 +16,11 @@ fn greeting<R: Net + Abort>(rt: &R, path: &str) -> UnixStream {
 fn is_answered<R: Abort>(rt: &R, stream: &mut UnixStream) -> bool {
     let mut bytes = [0; 64];
     let mut len = 0;
-    while let Ok(count) = stream.read(&mut bytes[len.min(64)..]) {
-        if count == 0 {
-            break;
+    for _ in 0..64 {
+        match stream.read(&mut bytes[len.min(64)..]) {
+            Ok(count) if count > 0 => len = len.saturating_add(count),
+            _ => break,
         }
-        len = len.saturating_add(count);
     }
     if len == 0 {
         return false;
