@@ -1,8 +1,9 @@
 /* Asserts what POSIX.1-2017 says of msgget, msgsnd, msgrcv and msgctl, sentence by sentence.
  *   posix kernel    on the kernel's queues
  *   posix server    through libsysvmsg_preload.so, and what the server's rules change is asserted
- * in its place. It prints a line for each sentence, and ends with status 1 if one doesn't hold. What
- * asks for two users is skipped unless root runs it, and what asks for a capability that root lacks. */
+ *                   in its place
+ * It prints a line for each sentence, and ends with status 1 if one doesn't hold. What asks for two
+ * users is skipped unless root runs it, and what asks for a capability if root lacks that. */
 #define _GNU_SOURCE
 #include <errno.h>
 #include <grp.h>
