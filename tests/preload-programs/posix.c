@@ -496,8 +496,9 @@ static void signal_sentences(int id)
     signal_sentence("msgsnd, EINTR if a signal is caught during the wait, also with SA_RESTART", id,
         act_send_long, act_receive);
     int count = (int)stat_of(id).msg_qnum;
-    changed("msgsnd, and then the message is not sent", count == 2,
-        "it is sent once, after a message was received", count == 2);
+    bool is_sent = receive(id, TEXT, 3, IPC_NOWAIT) == TEXT;
+    changed("msgsnd, and then the message is not sent", count == 2 && !is_sent,
+        "it is sent once, after a message was received", count == 2 && is_sent);
 }
 
 static void control_sentences(int id)
