@@ -47,6 +47,10 @@ class Session:
     def ask(self, operation, fields):
         """The fields of the reply, or the name of its error."""
         self.peer.sendall(frame(operation, fields, self.version))
+        return self.reply(operation)
+
+    def reply(self, operation):
+        """The fields of the next reply, which is to this operation, or the name of its error."""
         length, version, told, error = struct.unpack(">IBBB", self.stream.read(7))
         rest = self.stream.read(length - 3)
         assert (version, told) == (self.version, operation)
@@ -55,6 +59,29 @@ class Session:
     def get(self, key, flags):
         """The identifier of the queue."""
         return struct.unpack(">i", self.ask(GET, struct.pack(">iI", key, flags)))[0]
+
+    def send(self, queue, body, mtype=1):
+        """Sends a message, and waits until it is sent: nothing, or the name of the error."""
+        self.start_send(queue, body, mtype)
+        return self.reply(SND)
+
+    def start_send(self, queue, body, mtype=1):
+        """Asks for a send, and does not wait for the reply."""
+        self.peer.sendall(frame(SND, struct.pack(">iqI", queue, mtype, 0) + body, self.version))
+
+    def start_receive(self, queue, size=99):
+        """Asks for a receive of any type, and does not wait for the reply."""
+        self.peer.sendall(frame(RCV, struct.pack(">iIqI", queue, size, 0, 0), self.version))
+
+    def received(self):
+        """The body of the message of a receive that was asked for, or the name of the error."""
+        told = self.reply(RCV)
+        return told if isinstance(told, str) else told[8:]
+
+    def receive_now(self, queue, size=99):
+        """The body of a message of any type, or the name of the error, at once."""
+        told = self.ask(RCV, struct.pack(">iIqI", queue, size, 0, NOWAIT))
+        return told if isinstance(told, str) else told[8:]
 
     def queued(self, queue):
         """The number of messages that are queued."""

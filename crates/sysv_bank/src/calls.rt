@@ -3,7 +3,7 @@ ghost use Rattle.std.specs.Prelude.{◌≡◌, ◌<◌, length, IfOk, IfErr, OnO
 ghost use Rattle.sysv_gate.specs.History.{Moves};
 ghost use Rattle.sysv_gate.specs.Gates.{Answers, Learns, read_to, marked};
 ghost use Rattle.sysv_gate.specs.Refusals.{Refuses};
-ghost use Rattle.sysv_gate.specs.Waits.{Waited};
+ghost use Rattle.sysv_gate.specs.Waits.{Waited, WaitedWithin};
 ghost use Rattle.sysv_gate.specs.declared.count.Count.TheVariants.{Arrived, Freed};
 ghost use Rattle.sysv_bank.specs.Banks.{gates_of, ChangesAt};
 
@@ -51,6 +51,13 @@ impl<O: Object> Bank<O> {
         requires { place < length self.now }
     {
         self.gates[place].wake(rt);
+    }
+
+    /// Wakes the next thread that sleeps in a bounded wait for the first count at the place, as `Gate::pass_on`.
+    pub fn pass_on(&self, place: usize)
+        requires { place < length self.now }
+    {
+        self.gates[place].pass_on();
     }
 
     /// The first count of the object at the place, as `Gate::arrived`.
@@ -103,5 +110,37 @@ impl<O: Object> Bank<O> {
         ensures waited { ChangesAt place seat.old seat.new (λ before after. Waited O.counted Freed goal before result after) }
     {
         self.gates[place].await_freed(rt, &mut seat.seats[place], goal)
+    }
+
+    /// Waits for the first count at the place, and sleeps for a second at most, as `Gate::arrived_within`.
+    pub fn arrived_within(
+        &self,
+        rt: &impl Wait,
+        place: usize,
+        seat: &mut BankSeat<O>,
+        goal: u64,
+    ) -> Option<Awaited>
+        requires seat { gates_of seat.old ≡ self.now }
+        requires place { place < length self.now }
+        ensures gates { gates_of seat.new ≡ self.now }
+        ensures waited { ChangesAt place seat.old seat.new (λ before after. WaitedWithin O.counted Arrived goal before result after) }
+    {
+        self.gates[place].arrived_within(rt, &mut seat.seats[place], goal)
+    }
+
+    /// Waits for the second count at the place, and sleeps for a second at most, as `Gate::freed_within`.
+    pub fn freed_within(
+        &self,
+        rt: &impl Wait,
+        place: usize,
+        seat: &mut BankSeat<O>,
+        goal: u64,
+    ) -> Option<Awaited>
+        requires seat { gates_of seat.old ≡ self.now }
+        requires place { place < length self.now }
+        ensures gates { gates_of seat.new ≡ self.now }
+        ensures waited { ChangesAt place seat.old seat.new (λ before after. WaitedWithin O.counted Freed goal before result after) }
+    {
+        self.gates[place].freed_within(rt, &mut seat.seats[place], goal)
     }
 }

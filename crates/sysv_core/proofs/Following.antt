@@ -339,7 +339,7 @@ held_given_back blocks afterwards TooFew s body h e = absurd cc
 -- it gives its body back to nobody
 led_so : (b : Bool) (s : State) (l : Led) → IsWaiting s → LeadsTo false s l → LeadsTo b s l
 led_so b (Waits wait) (led.To doing) w h = h
-led_so b (Waits wait) (led.Over result body spare) w h = h
+led_so b (Waits wait) (led.Over ended) w h = h
 led_so b (Waits wait) (led.Stays doing) w h = h
 led_so b (Goes phase) l w h = absurd w
 led_so b (Over ending) l w h = absurd w

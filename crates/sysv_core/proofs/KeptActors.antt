@@ -1,5 +1,5 @@
 -- The actors that the code keeps, as the states that are seen.
-use Rattle.std.proofs.Common.{◌≡◌, ℕ, ◌+◌, ◌<◌, ◌≤◌, true, false, List, Option, None, Some, refl, sym, ap, subst, ◌∙◌, arith, length, slice_get, slice_set, length-set, option_map, is_some}
+use Rattle.std.proofs.Common.{◌≡◌, ℕ, ◌+◌, ◌<◌, ◌≤◌, Bool, true, false, cond, List, Option, None, Some, refl, sym, ap, subst, ◌∙◌, arith, length, slice_get, slice_set, length-set, option_map, is_some}
 use Rattle.std.specs.List.{slice_index_or}
 use Rattle.std.proofs.lemmas.List.{length-map}
 use Rattle.std.proofs.lemmas.Option.{slice_get-map, slice_get_read}
@@ -14,7 +14,9 @@ use Rattle.sysv_core.specs.declared.doing.Led.{Led}
 use Rattle.sysv_core.specs.declared.doing.Led.TheVariants as led
 use Rattle.sysv_core.specs.Held.{text_in}
 use Rattle.sysv_core.specs.Standing.{stands_at}
-use Rattle.sysv_core.specs.Kept.{state_kept, states_kept, doing_led, kept_led, counted_led}
+use Rattle.sysv_queue.specs.Tally.{Tallied}
+use Rattle.sysv_core.specs.Kept.{state_kept, states_kept, doing_led, kept_led, counted_led, told_by}
+use Rattle.sysv_core.specs.Tallying.{is_got, messages_given}
 use Rattle.sysv_core.specs.Led.{StepLeads}
 use Rattle.sysv_core.specs.Seen.{Seen}
 use Rattle.sysv_core.proofs.Lists.{map-slice_set, slice_set-same, slice_set-twice, get_set_same}
@@ -76,9 +78,29 @@ module _ (items : List (Option Doing)) (states : List (Option State)) (view : st
   pub taken_there : (x : Option Doing) → x ≡ slice_index_or items place x → (new : Option Doing) → new ≡ None → slice_get (slice_set items place new) place ≡ Some None
   taken_there x read new e = get_set_same items place new x (there x read) ∙ ap Some e
 
-pub same_seen : (o p : Objects) (s t : List (Option State)) (m n : ℕ) → o ≡ p → s ≡ t → m ≡ n →
-    let x : Seen = record { objects = o; states = s; steps = m } in let y : Seen = record { objects = p; states = t; steps = n } in x ≡ y
-same_seen o p s t m n e f g = cc
+pub same_seen : (o p : Objects) (s t : List (Option State)) (m n : ℕ) (a b : Tallied) → o ≡ p → s ≡ t → m ≡ n → a ≡ b →
+    let x : Seen = record { objects = o; states = s; steps = m; tally = a } in let y : Seen = record { objects = p; states = t; steps = n; tally = b } in x ≡ y
+same_seen o p s t m n a b e f g h = cc
+
+-- ---- the bound of the tally
+
+-- an event gives a message only where it is counted
+pub given_counted : (actor : ℕ) (l : Led) → messages_given (told_by actor l) ≤ counted_led l
+given_counted actor (led.To doing) = omega arith
+given_counted actor (led.Stays doing) = omega arith
+given_counted actor (led.Over ended) = one_at_most (is_got ended.result)
+  where
+    one_at_most : (b : Bool) → cond {A = ℕ} b 1 0 ≤ 1
+    one_at_most true = omega arith
+    one_at_most false = omega arith
+
+counted_at_most : (l : Led) → counted_led l ≤ 1
+counted_at_most (led.To doing) = omega arith
+counted_at_most (led.Stays doing) = omega arith
+counted_at_most (led.Over ended) = omega arith
+
+pub given_at_most : (actor : ℕ) (l : Led) → messages_given (told_by actor l) ≤ 1
+given_at_most actor l = omega (arith, given_counted actor l, counted_at_most l)
 
 -- ---- the bound of the counts
 
@@ -105,7 +127,7 @@ raises_at_most (AtPool (Release blocks) reply) = omega arith
 -- a step raises the counts no further than the step number
 pub counts_on : (old : Objects) (state : State) (now : ℕ) (l : Led) (new : Objects) (n : ℕ) → StepLeads old state now l new → CountsUpTo n old → CountsUpTo (n + counted_led l) new
 counts_on old (Goes phase) now (led.To doing) new n step up = weaker (n + raises_by step.deed) (n + 1) new (omega (arith, raises_at_most step.deed)) (step.turn.counts n up)
-counts_on old (Goes phase) now (led.Over result body spare) new n step up = weaker (n + raises_by step.deed) (n + 1) new (omega (arith, raises_at_most step.deed)) (step.turn.counts n up)
+counts_on old (Goes phase) now (led.Over ended) new n step up = weaker (n + raises_by step.deed) (n + 1) new (omega (arith, raises_at_most step.deed)) (step.turn.counts n up)
 counts_on old (Goes phase) now (led.Stays doing) new n step up = absurd step.leads
 counts_on old (Waits wait) now l new n step up = weaker n (n + counted_led l) new (omega arith) (subst (CountsUpTo n) (sym step.1) up)
 counts_on old (Over ending) now l new n step up = absurd step

@@ -1,6 +1,7 @@
 -- A list that leads somewhere goes on by one more happening.
-use Rattle.std.proofs.Common.{◌≡◌, ◌≤◌, ◌⊎◌, inl, Bool, List, [], ◌∷◌, ◌++◌, refl, sym, ap, subst, ◌∙◌, append_assoc, map}
+use Rattle.std.proofs.Common.{◌≡◌, ◌≤◌, ◌⊎◌, inl, ℕ, ◌+◌, cond, zero-add, Bool, List, [], ◌∷◌, ◌++◌, refl, sym, ap, subst, ◌∙◌, append_assoc, map}
 use Rattle.std.proofs.lemmas.List.{append-nil, map-append}
+use Rattle.std.proofs.lemmas.List.Sums.{sum_by-append}
 use Rattle.sysv_model.specs.declared.limits.TheConstants.{WORN}
 use Rattle.sysv_core.specs.declared.event.Event.{Event}
 use Rattle.sysv_core.specs.declared.event.Event.TheVariants.{Start, Step}
@@ -10,6 +11,7 @@ use Rattle.sysv_core.specs.declared.event.Stepped.TheVariants as stepped
 use Rattle.sysv_core.specs.World.{World, Opening, Given, Happening, Preset, opening, Makes}
 use Rattle.sysv_core.specs.Run.{Leads}
 use Rattle.sysv_core.specs.Seen.{Seen, StandsFor, happening_of, Tells, TellAll, Gives, PresetsSeen, StepsSeen}
+use Rattle.sysv_core.specs.Tallying.{is_got, messages_given, messages_in}
 use Rattle.sysv_core.specs.Headline.{StandsWithEvent, RunsOn, LawsHold, EveryRunObeys}
 
 pub leads_more : (w : World) (xs : List Happening) (x : Happening) (given more : List Given) (mid after : World) →
@@ -52,6 +54,12 @@ pub worn_step : (seen : Seen) (event : Event) → WORN ≤ seen.steps → StepsS
 worn_step seen event worn = λ w s.
     let old : WORN ≤ w.steps = subst (λ n. WORN ≤ n) (sym s.steps) worn in
     (w, ([], worn_makes w event old, (old, refl)), s)
+
+-- the messages that one more answer gives
+pub messages_more : (answers : List Answer) (a : Answer) → messages_in (answers ++ a ∷ []) ≡ messages_in answers + messages_given (stepped.Answer a)
+messages_more answers a =
+    let one : Answer → ℕ = λ x. cond (is_got x.result) 1 0 in
+    sum_by-append one answers (a ∷ []) ∙ ap (λ n. messages_in answers + n) (zero-add _)
 
 -- from one list that a world stood for to that list and the events done since, with their answers
 pub record UnderWay (start now : Seen) (done : List Event) (answers : List Answer) : Type 0 where

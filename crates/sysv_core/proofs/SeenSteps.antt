@@ -9,6 +9,7 @@ use Rattle.sysv_model.specs.Pool.{released}
 use Rattle.sysv_model.specs.Turn.{Deed, Turn, pool_history, registry_history}
 use Rattle.sysv_keys.specs.Rows.{IsUnused}
 use Rattle.sysv_keys.specs.Unused.{UnusedSlots}
+use Rattle.sysv_queue.specs.Tally.{Tallied}
 use Rattle.sysv_objects.specs.LegalDeed.{IsLegalDeed, AreLegal}
 use Rattle.sysv_objects.specs.Objects.{Objects}
 use Rattle.sysv_objects.specs.StandsFor.{StandsFor as ObjectsStandFor}
@@ -59,9 +60,9 @@ state_led call b (Over ending) (led.To doing) h = not_over doing.standing (text_
     not_over : (k : StandingKept) (text : List ℕ) → Over ending ≡ stands_at k text → None ≡ Some (stands_at k text)
     not_over (standing.At phase) text e = absurd cc
     not_over (standing.Waits wait) text e = absurd cc
-state_led call b (Over ending) (led.Over result body spare) h = refl
-state_led call b (Goes phase) (led.Over result body spare) h = absurd h
-state_led call b (Waits wait) (led.Over result body spare) h = absurd h
+state_led call b (Over ending) (led.Over ended) h = refl
+state_led call b (Goes phase) (led.Over ended) h = absurd h
+state_led call b (Waits wait) (led.Over ended) h = absurd h
 state_led call b state (led.Stays doing) h = absurd h
 
 -- what was led to is told
@@ -74,16 +75,16 @@ tells_led w call actor (Over ending) (led.To doing) young own h = not_over doing
     not_over : (k : StandingKept) (text : List ℕ) → Over ending ≡ stands_at k text → Gives w (given_in call (Over ending)) (told_by actor (led.To doing))
     not_over (standing.At phase) text e = absurd cc
     not_over (standing.Waits wait) text e = absurd cc
-tells_led w call actor (Over ending) (led.Over result body spare) young own h =
+tells_led w call actor (Over ending) (led.Over ended) young own h =
     let g : Given = record { call = call; ending = ending } in
     (young, (g, refl, record { caller = own; ending = h }))
-tells_led w call actor (Goes phase) (led.Over result body spare) young own h = absurd h
-tells_led w call actor (Waits wait) (led.Over result body spare) young own h = absurd h
+tells_led w call actor (Goes phase) (led.Over ended) young own h = absurd h
+tells_led w call actor (Waits wait) (led.Over ended) young own h = absurd h
 tells_led w call actor state (led.Stays doing) young own h = absurd h
 
 counts_led : (b : Bool) (state : State) (l : Led) (n : ℕ) → LeadsTo b state l → n + 1 ≡ n + counted_led l
 counts_led b state (led.To doing) n h = refl
-counts_led b state (led.Over result body spare) n h = refl
+counts_led b state (led.Over ended) n h = refl
 counts_led b state (led.Stays doing) n h = absurd h
 
 -- some world after the event is seen so
@@ -92,6 +93,12 @@ Moves w event result new = (after : World) × Steps w event result after × IsSe
 
 pub moves_as : (w : World) (event : Event) (r told : Stepped) (new kept : Seen) → told ≡ r → kept ≡ new → Moves w event r new → Moves w event told kept
 moves_as w event r told new kept e f m = subst (λ x. Moves w event x kept) (sym e) (subst (Moves w event r) (sym f) m)
+
+-- no world of the definitions has the tally
+pub tallied : (w : World) (event : Event) (r : Stepped) (new : Seen) (t : Tallied) → Moves w event r new → Moves w event r (record new { tally = t })
+tallied w event r new t m =
+    let s = m.2 in
+    (m.0, m.1, record { objects = s.objects; states = s.states; sound = s.sound; steps = s.steps; blocks = s.blocks })
 
 module _ (w : World) (seen : Seen) (s : IsSeenAs w seen) (sound : StaysSound) where
   kept_at : (place : ℕ) → option_map state_in (slice_get w.actors place) ≡ slice_get seen.states place
@@ -183,7 +190,7 @@ module _ (w : World) (seen : Seen) (s : IsSeenAs w seen) (sound : StaysSound) wh
       ObjectsStandFor w.generation turns objects → objects.pool.size ≡ seen.objects.pool.size → LeadsTo (gives_back (Some (kind_of d.call.asked))) state l →
       let after : World = in_state (record w { turns = turns }) (suc n) d.call state in
       Continues w (suc n) now d.call d.state (given_in d.call state) after →
-      Moves w (Step (suc n) now) (told_by (suc n) l) (record { objects = objects; states = slice_set seen.states place (kept_led l); steps = seen.steps + counted_led l })
+      Moves w (Step (suc n) now) (told_by (suc n) l) (record { objects = objects; states = slice_set seen.states place (kept_led l); steps = seen.steps + counted_led l; tally = seen.tally })
   goes n place now l objects d turns state young same busy own stands size to continues =
       let after : World = in_state (record w { turns = turns }) (suc n) d.call state in
       let made = inr (young, subst (λ o. StepsAt w (suc n) now o (given_in d.call state) after) (sym busy) continues) in (
@@ -199,7 +206,7 @@ module _ (w : World) (seen : Seen) (s : IsSeenAs w seen) (sound : StaysSound) wh
       )
 
   turn_here : (n place now : ℕ) (p : Phase) (l : Led) (objects : Objects) (d : Doing) → w.steps < WORN → n ≡ place → slice_get w.actors n ≡ Some (Some d) → d.state ≡ Goes p → TurnLeads seen.objects p now l objects →
-      Moves w (Step (suc n) now) (told_by (suc n) l) (record { objects = objects; states = slice_set seen.states place (kept_led l); steps = seen.steps + counted_led l })
+      Moves w (Step (suc n) now) (told_by (suc n) l) (record { objects = objects; states = slice_set seen.states place (kept_led l); steps = seen.steps + counted_led l; tally = seen.tally })
   turn_here n place now p l objects d young same busy is turn =
       let own = s.sound.own n d busy in
       let kind : phase_kind p ≡ Some (kind_of d.call.asked) = subst (IsOf (kind_of d.call.asked)) is own.0 in
@@ -213,7 +220,7 @@ module _ (w : World) (seen : Seen) (s : IsSeenAs w seen) (sound : StaysSound) wh
   -- the actor waits on
   stays_here : (n place now : ℕ) (wait : Wait) (l : Led) (d : Doing) → w.steps < WORN → slice_get w.actors n ≡ Some (Some d) → d.state ≡ Waits wait → slice_get seen.states place ≡ Some (Some (Waits wait)) →
       Continues w (suc n) now d.call d.state [] w → Stays (Waits wait) l →
-      Moves w (Step (suc n) now) (told_by (suc n) l) (record { objects = seen.objects; states = slice_set seen.states place (kept_led l); steps = seen.steps + counted_led l })
+      Moves w (Step (suc n) now) (told_by (suc n) l) (record { objects = seen.objects; states = slice_set seen.states place (kept_led l); steps = seen.steps + counted_led l; tally = seen.tally })
   stays_here n place now wait (led.Stays doing) d young busy is there continues stays = (
     w,
     ([], inr (young, subst (λ o. StepsAt w (suc n) now o [] w) (sym busy) continues), (young, refl)),
@@ -226,11 +233,11 @@ module _ (w : World) (seen : Seen) (s : IsSeenAs w seen) (sound : StaysSound) wh
     },
   )
   stays_here n place now wait (led.To doing) d young busy is there continues stays = absurd stays
-  stays_here n place now wait (led.Over result body spare) d young busy is there continues stays = absurd stays
+  stays_here n place now wait (led.Over ended) d young busy is there continues stays = absurd stays
 
   look_here : (n place now : ℕ) (wait : Wait) (l : Led) (d : Doing) → w.steps < WORN → n ≡ place → slice_get w.actors n ≡ Some (Some d) → d.state ≡ Waits wait → slice_get seen.states place ≡ Some (Some (Waits wait)) →
       LookLeads seen.objects wait l →
-      Moves w (Step (suc n) now) (told_by (suc n) l) (record { objects = seen.objects; states = slice_set seen.states place (kept_led l); steps = seen.steps + counted_led l })
+      Moves w (Step (suc n) now) (told_by (suc n) l) (record { objects = seen.objects; states = slice_set seen.states place (kept_led l); steps = seen.steps + counted_led l; tally = seen.tally })
   look_here n place now wait l d young same busy is there look = elim (look w.generation w.turns s.objects) [
     | inl reached ↦
         let own = s.sound.own n d busy in
@@ -243,18 +250,18 @@ module _ (w : World) (seen : Seen) (s : IsSeenAs w seen) (sound : StaysSound) wh
   ]
 
   step_here : (n place now : ℕ) (state : State) (l : Led) (objects : Objects) → seen.steps < WORN → n ≡ place → slice_get seen.states place ≡ Some (Some state) → StepLeads seen.objects state now l objects →
-      Moves w (Step (suc n) now) (told_by (suc n) l) (record { objects = objects; states = slice_set seen.states place (kept_led l); steps = seen.steps + counted_led l })
+      Moves w (Step (suc n) now) (told_by (suc n) l) (record { objects = objects; states = slice_set seen.states place (kept_led l); steps = seen.steps + counted_led l; tally = seen.tally })
   step_here n place now (Goes p) l objects h same there step =
       let found = busy_at place (Goes p) there in
       turn_here n place now p l objects found.0 (young_too h) same (ap (slice_get w.actors) same ∙ found.1) found.2 step
   step_here n place now (Waits wait) l objects h same there step =
       let found = busy_at place (Waits wait) there in
-      subst (λ o. Moves w (Step (suc n) now) (told_by (suc n) l) (record { objects = o; states = slice_set seen.states place (kept_led l); steps = seen.steps + counted_led l })) (sym step.1)
+      subst (λ o. Moves w (Step (suc n) now) (told_by (suc n) l) (record { objects = o; states = slice_set seen.states place (kept_led l); steps = seen.steps + counted_led l; tally = seen.tally })) (sym step.1)
       (look_here n place now wait l found.0 (young_too h) same (ap (slice_get w.actors) same ∙ found.1) found.2 there step.0)
   step_here n place now (Over ending) l objects h same there step = absurd step
 
   pub step_busy : (actor place now : ℕ) (state : State) (l : Led) (objects : Objects) → seen.steps < WORN → actor ≡ place + 1 → slice_get seen.states place ≡ Some (Some state) → StepLeads seen.objects state now l objects →
-      Moves w (Step actor now) (told_by actor l) (record { objects = objects; states = slice_set seen.states place (kept_led l); steps = seen.steps + counted_led l })
+      Moves w (Step actor now) (told_by actor l) (record { objects = objects; states = slice_set seen.states place (kept_led l); steps = seen.steps + counted_led l; tally = seen.tally })
   step_busy zero place now state l objects h e there step = absurd (omega arith)
   step_busy (suc n) place now state l objects h e there step = step_here n place now state l objects h (omega arith) there step
 

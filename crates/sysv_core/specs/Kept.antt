@@ -31,7 +31,7 @@ blocks_kept actors = blocks_held (states_kept actors)
 abbrev pub doing_led : Led → Option Doing
 doing_led (led.To doing) = Some doing
 doing_led (led.Stays doing) = Some doing
-doing_led (led.Over result body spare) = None
+doing_led (led.Over ended) = None
 
 abbrev pub kept_led : Led → Option State
 kept_led l = state_kept (doing_led l)
@@ -40,9 +40,9 @@ kept_led l = state_kept (doing_led l)
 abbrev pub counted_led : Led → ℕ
 counted_led (led.To doing) = 1
 counted_led (led.Stays doing) = 0
-counted_led (led.Over result body spare) = 1
+counted_led (led.Over ended) = 1
 
 abbrev pub told_by : ℕ → Led → Stepped
 told_by actor (led.To doing) = stepped.Nothing
 told_by actor (led.Stays doing) = stepped.Nothing
-told_by actor (led.Over result body spare) = stepped.Answer record { actor = actor; result = result; body = body }
+told_by actor (led.Over ended) = stepped.Answer record { actor = actor; result = ended.result; body = ended.body }

@@ -19,9 +19,9 @@ use Rattle.sysv_core.specs.World.{value_of}
 -- with its body or not; a spare body is told to nobody
 abbrev pub LeadsTo : Bool → State → Led → Type 0
 LeadsTo back state (led.To doing) = state ≡ stands_at doing.standing (text_in doing.body)
-LeadsTo back (Over ending) (led.Over result body spare) = TellsEnding back ending result body
-LeadsTo back (Goes phase) (led.Over result body spare) = ⊥
-LeadsTo back (Waits wait) (led.Over result body spare) = ⊥
+LeadsTo back (Over ending) (led.Over ended) = TellsEnding back ending ended.result ended.body
+LeadsTo back (Goes phase) (led.Over ended) = ⊥
+LeadsTo back (Waits wait) (led.Over ended) = ⊥
 LeadsTo back state (led.Stays doing) = ⊥
 
 -- one turn of the call in that phase at its object, and what it led to
@@ -37,7 +37,7 @@ pub record TurnLeads (old : Objects) (phase : Phase) (now : ℕ) (result : Led) 
 abbrev pub Stays : State → Led → Type 0
 Stays state (led.Stays doing) = state ≡ stands_at doing.standing (text_in doing.body)
 Stays state (led.To doing) = ⊥
-Stays state (led.Over result body spare) = ⊥
+Stays state (led.Over ended) = ⊥
 
 -- the call's look at the count for which it waits: it goes on where its goal is reached, and else it stays
 abbrev pub LookLeads : Objects → Wait → Led → Type 0

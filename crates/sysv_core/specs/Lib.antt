@@ -26,6 +26,7 @@ pub mod Conserved
 pub mod Sound
 pub mod Answered
 pub mod Asked
+pub mod Tallying
 pub mod Seen
 pub mod Standing
 pub mod Held

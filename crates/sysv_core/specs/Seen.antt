@@ -5,6 +5,7 @@ use Rattle.sysv_model.specs.declared.limits.TheConstants.{WORN}
 use Rattle.sysv_objects.specs.Objects.{Objects}
 use Rattle.sysv_objects.specs.StandsFor.{StandsFor as ObjectsStandFor}
 use Rattle.sysv_steps.specs.State.{State}
+use Rattle.sysv_queue.specs.Tally.{Tallied}
 use Rattle.sysv_core.specs.declared.event.Event.{Event}
 use Rattle.sysv_core.specs.declared.event.Event.TheVariants as event
 use Rattle.sysv_core.specs.declared.event.Answer.{Answer}
@@ -52,6 +53,7 @@ pub record Seen : Type 0 where
   pub objects : Objects
   pub states : List (Option State)
   pub steps : ℕ
+  pub tally : Tallied  -- the messages that were answered, as written
 
 -- where the call under way stands
 abbrev pub state_in : Option Doing → Option State

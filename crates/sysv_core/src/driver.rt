@@ -19,15 +19,16 @@ ghost use Rattle.sysv_core.specs.Kinds.{kind_of, gives_back};
 ghost use Rattle.sysv_core.specs.Standing.{stands_at};
 ghost use Rattle.sysv_core.specs.Held.{text_in, IsHeldBy, IsHeldOrOver};
 ghost use Rattle.sysv_core.specs.Kept.{counted_led};
+ghost use Rattle.sysv_core.specs.Tallying.{is_got};
 ghost use Rattle.sysv_core.specs.Led.{LeadsTo, TurnLeads, LookLeads, StepLeads};
 
-use crate::doing::{Doing, Led};
+use crate::doing::{Doing, Ended, Led};
 use crate::event::{Call, Outcome, Standing};
 use bitflags::Flags as _;
 use sysv_model::{Body, Cred, SetTo};
 use sysv_objects::Objects;
 use sysv_pool::Chain;
-use sysv_queue::{Delivery, PlaceRefused, Tally};
+use sysv_queue::{Delivery, PlaceRefused};
 use sysv_steps::{
     Afterwards, Ending, Getting, Phase, Receiving, Sending, State, Wait, begin_remove, begin_set,
     begin_stat, forgotten, given_back, removed, set_done, stat_told,
@@ -85,7 +86,7 @@ pub fn counted(led: &Led) -> u64
 {
     match led {
         Led::Stays(_) => 0,
-        Led::To(_) | Led::Over { .. } => 1,
+        Led::To(_) | Led::Over(_) => 1,
     }
 }
 
@@ -178,11 +179,12 @@ fn place(objects: &mut Objects, send: Sending, mut chain: Chain, body: Body, now
 {
     chain.fill(&body);
     match objects.place(send.id, send.cred, send.mtype, chain, body.len(), now) {
-        Ok(_) => Led::Over {
+        Ok(_) => Led::Over(Ended {
             result: Outcome::Zero,
             body: None,
             spare: Some(body),
-        },
+            delivery: None,
+        }),
         Err(PlaceRefused { why, chain }) => lead(send.unplaced(why, chain), Some(body), false),
     }
 }
@@ -343,40 +345,42 @@ fn over(ending: Ending, body: Option<Body>, back: bool) -> Led
         None => 0,
     };
     let given = matches!(ending, Ending::Got { .. });
-    let result = outcome(ending, len);
+    let (result, delivery) = outcome(ending, len);
     match body {
         Some(mut body) if back => {
             if !given {
                 body.clear();
             }
-            Led::Over {
+            Led::Over(Ended {
                 result,
                 body: Some(body),
                 spare: None,
-            }
+                delivery,
+            })
         }
-        spare => Led::Over {
+        spare => Led::Over(Ended {
             result,
             body: None,
             spare,
-        },
+            delivery,
+        }),
     }
 }
 
-/// The result of a call that was given a text of so many bytes, if it was given one. A message is counted as
-/// written once its answer is made.
-fn outcome(ending: Ending, len: usize) -> Outcome
-    ensures { (text : List ℕ) → length text ≡ len → result ≡ outcome_of (ending_of ending text) }
+/// The result of a call that was given a text of so many bytes, if it was given one, and the delivery of
+/// the message that it gives.
+fn outcome(ending: Ending, len: usize) -> (Outcome, Option<Delivery>)
+    ensures told { (text : List ℕ) → length text ≡ len → result.0 ≡ outcome_of (ending_of ending text) }
+    ensures delivered { is_some result.1 ≡ is_got result.0 }
 {
     match ending {
-        Ending::Id(id) => Outcome::Id(id),
-        Ending::Zero => Outcome::Zero,
+        Ending::Id(id) => (Outcome::Id(id), None),
+        Ending::Zero => (Outcome::Zero, None),
         Ending::Got { delivery } => {
             let mtype = delivery.mtype();
-            delivery.written(&mut Tally::open());
-            Outcome::Got { mtype, len }
+            (Outcome::Got { mtype, len }, Some(delivery))
         }
-        Ending::Told(stat) => Outcome::Stat(stat),
-        Ending::Refused(why) => Outcome::Refused(why),
+        Ending::Told(stat) => (Outcome::Stat(stat), None),
+        Ending::Refused(why) => (Outcome::Refused(why), None),
     }
 }

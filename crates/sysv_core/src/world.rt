@@ -1,13 +1,15 @@
-ghost use Rattle.std.specs.Prelude.{ℕ, List, false, IsTrue, ◌≡◌, ◌≢◌, ◌+◌, ◌^◌, ◌<◌, ◌≤◌, ◌⊎◌, ◌↔◌, ◌++◌, ◌∷◌, [], length, IfOk, IfErr, IfSome, MatchResult, Err, MatchOption, Some, None, slice_set, slice_get, replicate};
+ghost use Rattle.std.specs.Prelude.{ℕ, List, false, IsTrue, ◌≡◌, ◌≢◌, ◌+◌, ◌-◌, ◌^◌, ◌<◌, ◌≤◌, ◌⊎◌, ◌↔◌, ◌++◌, ◌∷◌, [], length, IfOk, IfErr, IfSome, MatchResult, Err, MatchOption, Some, None, slice_set, slice_get, replicate};
 ghost use Rattle.sysv_model.specs.declared.limits.TheConstants.{MAX_ACTORS as most_actors, MIN_BLOCKS as least_blocks, MAX_BLOCKS as most_blocks, WORN as worn};
 ghost use Rattle.sysv_keys.specs.declared.identifier.TheConstants.{GENERATION_LAST as last_generation};
 ghost use Rattle.sysv_core.specs.Headline.{StandsWithPreset, StandsWithEvent, StandsWithEvents, LawsHold};
 ghost use Rattle.sysv_core.specs.Seen.{StandsFor, PresetsSeen, StepsSeen, AreAllFree};
 ghost use Rattle.sysv_core.specs.Kept.{doing_led, told_by};
+ghost use Rattle.sysv_core.specs.Tallying.{none_taken, messages_given, messages_in};
+ghost use Rattle.sysv_queue.specs.Tally.{taken_in};
 ghost use Rattle.sysv_core.specs.Standing.{state_at, StandsNowhere, StandsThere};
 ghost use Rattle.sysv_core.specs.declared.event.Event.TheVariants.{Start, Step};
 
-use crate::doing::{Doing, Led};
+use crate::doing::{Doing, Ended, Led};
 use crate::driver::{advance, begin, counted};
 use crate::event::{Answer, Call, Event, Standing, Stepped};
 use crate::giveback::{chain_in, end_all};
@@ -18,6 +20,7 @@ use std::marker::Model;
 use sysv_keys::{GENERATION_LAST, unused_slots};
 use sysv_model::{Body, Cred, MAX_ACTORS, MAX_BLOCKS, MIN_BLOCKS, WORN};
 use sysv_objects::{Objects, legal_turns};
+use sysv_queue::Tally;
 use thiserror::Error;
 
 /// Why a world is not opened.
@@ -40,6 +43,8 @@ pub struct World {
     steps: u64,
     /// The body of the last send that was answered, until it is asked for.
     spare: Option<Body>,
+    /// The messages that answers gave.
+    tally: Tally,
 }
 
 impl Model for World {
@@ -50,12 +55,14 @@ impl Model for World {
 
     ghost use Rattle.sysv_objects.specs.Objects.{CountsUpTo};
     ghost use Rattle.sysv_core.specs.Kept.{states_kept};
+    ghost use Rattle.sysv_queue.specs.Tally.{taken_in};
 
-    ghost view = { λ w. record { objects = w.objects; states = states_kept w.actors.items; steps = w.steps } };
+    ghost view = { λ w. record { objects = w.objects; states = states_kept w.actors.items; steps = w.steps; tally = w.tally } };
 
-    // The step number bounds the counts of the slots and of the pool.
+    // The step number bounds the counts of the slots and of the pool, and those of the tally.
     ghost invariant = { λ w. (w.steps ≤ 2 ^ 62) × CountsUpTo w.steps w.objects
-        × IsSeen (record { objects = w.objects; states = states_kept w.actors.items; steps = w.steps }) };
+        × IsSeen (record { objects = w.objects; states = states_kept w.actors.items; steps = w.steps; tally = w.tally })
+        × (taken_in w.tally ≤ w.steps) };
 }
 
 impl World {
@@ -64,6 +71,7 @@ impl World {
     /// `NoMemory` where memory was refused.
     pub fn open(alloc: Global, actors: u32, blocks: u32) -> Result<World, OpenRefused>
         ensures opened { IfOk result (λ world. StandsFor record { actors = actors; blocks = blocks; first = 0; generation = 0 } [] [] world) }
+        ensures tally { IfOk result (λ world. world.tally ≡ none_taken) }
         ensures bad_size { (result ≡ Err OpenRefused.BadSize) ↔ ((actors < 1) ⊎ (most_actors < actors) ⊎ (blocks < least_blocks) ⊎ (most_blocks < blocks)) }
     {
         World::open_at(alloc, actors, blocks, 0, 0)
@@ -80,6 +88,7 @@ impl World {
         generation: u32,
     ) -> Result<World, OpenRefused>
         ensures opened { IfOk result (λ world. StandsFor record { actors = actors; blocks = blocks; first = first_step; generation = generation } [] [] world) }
+        ensures tally { IfOk result (λ world. world.tally ≡ none_taken) }
         ensures bad_size { (result ≡ Err OpenRefused.BadSize) ↔ ((actors < 1) ⊎ (most_actors < actors) ⊎ (blocks < least_blocks) ⊎ (most_blocks < blocks)
             ⊎ (worn < first_step) ⊎ (last_generation < generation)) }
     {
@@ -97,6 +106,7 @@ impl World {
                 actors,
                 steps: first_step,
                 spare: None,
+                tally: Tally::open(),
             }),
             Err(_) => {
                 end_all(actors).end();
@@ -114,6 +124,7 @@ impl World {
         // What the preset makes of each world as which it is seen.
         ensures single { PresetsSeen self.old result self.new }
         ensures refused { result ≡ false → self.new ≡ self.old }
+        ensures tally { self.new.tally ≡ self.old.tally }
     {
         each_world_is_sound();
         legal_turns();
@@ -137,6 +148,9 @@ impl World {
         ensures single { StepsSeen self.old event result self.new }
         ensures worn { (result ≡ Stepped.Worn) ↔ (worn ≤ self.old.steps) }
         ensures unchanged { result ≡ Stepped.Worn → self.new ≡ self.old }
+        // A message that it answers is counted as written, and none as lost.
+        ensures written { self.new.tally.written ≡ self.old.tally.written + messages_given result }
+        ensures lost { self.new.tally.lost ≡ self.old.tally.lost }
     {
         if self.steps >= WORN {
             return Stepped::Worn;
@@ -156,6 +170,9 @@ impl World {
         ensures stands { IfOk result (λ answers. StandsWithEvents self.old events.items answers.items self.new) }
         // Each world of a list obeys the laws.
         ensures law { LawsHold self.new }
+        // Each message that it answers is counted as written, and none as lost.
+        ensures written { IfOk result (λ answers. self.new.tally.written ≡ self.old.tally.written + messages_in answers.items) }
+        ensures lost { self.new.tally.lost ≡ self.old.tally.lost }
         ensures refused { IfErr result (λ back. (back.items ≡ events.items) × (self.new ≡ self.old)) }
     {
         every_run_obeys();
@@ -183,6 +200,13 @@ impl World {
         Some(body)
     }
 
+    /// The messages that the answers of the world gave, each counted as written. It takes no memory.
+    pub fn tally(&self) -> Tally
+        ensures { result ≡ self.now.tally }
+    {
+        self.tally
+    }
+
     /// Where the call of `actor` stands: before a step, or in a wait. `None` where the actor is idle, and
     /// for a number that no actor has. Actors count from 1.
     pub fn standing(&self, actor: u32) -> Option<&Standing>
@@ -207,6 +231,7 @@ impl World {
             actors,
             steps: _steps,
             spare: _spare,
+            tally: _tally,
         } = self;
         objects.end(end_all(actors))
     }
@@ -216,6 +241,8 @@ impl World {
         requires { self.old.steps < worn }
         ensures single { StepsSeen self.old (Start actor cred call) result self.new }
         ensures not_worn { result ≢ Stepped.Worn }
+        ensures written { self.new.tally.written ≡ self.old.tally.written + messages_given result }
+        ensures lost { self.new.tally.lost ≡ self.old.tally.lost }
     {
         each_world_is_sound();
         let Some(place) = self.place_of(actor) else {
@@ -227,7 +254,14 @@ impl World {
         self.steps += 1;
         let released = self.objects.released();
         let led = begin(cred, call, released);
-        settle(&mut self.actors, &mut self.spare, actor, place, led)
+        settle(
+            &mut self.actors,
+            &mut self.spare,
+            &mut self.tally,
+            actor,
+            place,
+            led,
+        )
     }
 
     /// Makes one step of the actor's call, which is counted unless the call waits on.
@@ -235,6 +269,8 @@ impl World {
         requires { self.old.steps < worn }
         ensures single { StepsSeen self.old (Step actor now) result self.new }
         ensures not_worn { result ≢ Stepped.Worn }
+        ensures written { self.new.tally.written ≡ self.old.tally.written + messages_given result }
+        ensures lost { self.new.tally.lost ≡ self.old.tally.lost }
     {
         each_world_is_sound();
         let Some(place) = self.place_of(actor) else {
@@ -245,7 +281,14 @@ impl World {
         };
         let led = advance(&mut self.objects, doing, now);
         self.steps += counted(&led);
-        settle(&mut self.actors, &mut self.spare, actor, place, led)
+        settle(
+            &mut self.actors,
+            &mut self.spare,
+            &mut self.tally,
+            actor,
+            place,
+            led,
+        )
     }
 
     /// Where the actor stands in the list, if there is such an actor.
@@ -259,17 +302,22 @@ impl World {
 }
 
 /// The actor at that place, which is in no call, goes on with its call, or is idle and its answer is given.
-/// A body that is spare is kept in the place of the one before.
+/// A body that is spare is kept in the place of the one before, and a message that the answer gives is
+/// counted as written.
 fn settle(
     actors: &mut Vec<Option<Doing>>,
     kept: &mut Option<Body>,
+    tally: &mut Tally,
     actor: u32,
     place: usize,
     led: Led,
 ) -> Stepped
-    requires { slice_get actors.old.items place ≡ Some None }
+    requires idle { slice_get actors.old.items place ≡ Some None }
+    requires few { taken_in tally.old < 2 ^ 64 - 1 }
     ensures kept { actors.new.items ≡ slice_set actors.old.items place (doing_led led) }
     ensures told { result ≡ told_by actor led }
+    ensures written { tally.new.written ≡ tally.old.written + messages_given result }
+    ensures lost { tally.new.lost ≡ tally.old.lost }
 {
     match led {
         Led::To(doing) | Led::Stays(doing) => {
@@ -278,13 +326,18 @@ fn settle(
             }
             Stepped::Nothing
         }
-        Led::Over {
-            result,
-            body,
-            spare,
-        } => {
+        Led::Over(ended) => {
+            let Ended {
+                result,
+                body,
+                spare,
+                delivery,
+            } = ended;
             if spare.is_some() {
                 *kept = spare;
+            }
+            if let Some(delivery) = delivery {
+                delivery.written(tally);
             }
             Stepped::Answer(Answer {
                 actor,

@@ -26,6 +26,8 @@ use Rattle.sysv_gate.specs.contracts.seat.Seat as seat
 use Rattle.sysv_gate.specs.contracts.seat.Seat.TheInside as inside
 use Rattle.sysv_gate.specs.contracts.bell.Bell as bell
 use Rattle.sysv_gate.proofs.bell.Bell.TheSendSync as bells
+use Rattle.sysv_gate.specs.contracts.bell.TurnBells as turns
+use Rattle.sysv_gate.proofs.bell.TurnBells.TheSendSync as turn_bells
 use Rattle.sysv_gate.specs.contracts.gate.Gate as gate
 use Rattle.sysv_gate.specs.contracts.gate.Gate.TheInside as within
 
@@ -63,7 +65,7 @@ pub gate_sync : (O C R : RattleType) (g : Ghosts O.Denot C.Denot R.Denot) → Is
 gate_sync O C R g s = view_sync (within.the_row O C R g) _ _ _ _
     (declared_sync (within.the_type O C R g) (
       tables.the_sync (option.the_row (place.the_row O C R)) (view.the_row O C R) (key.the_row O) (gating.the_row O) heap.the_row (record { holds = λ k. Gated (Moves g.meaning g.counted) g.counted k.opening.value k.first; first = λ k. start k.opening.value k.first }) _ (spot_send O C R s) heaps.the_send heaps.the_sync frees,
-      (key_sync O, (as_row_sync bell.the_field bells.the_field_sync, (as_row_sync bell.the_field bells.the_field_sync, tt))),
+      (key_sync O, (as_row_sync turns.the_field turn_bells.the_field_sync, (as_row_sync bell.the_field bells.the_field_sync, (as_row_sync bell.the_field bells.the_field_sync, (as_row_sync bell.the_field bells.the_field_sync, tt))))),
     ))
 
 -- what a closure captures goes to another thread where each part may

@@ -1,5 +1,5 @@
 -- A seat stays at rest where only its mark, what it has read, or whether it is alone changes.
-use Rattle.std.proofs.Common.{◌≡◌, ℕ, ◌≤◌, Bool, true, false, [], sym, ap, ◌∙◌, subst}
+use Rattle.std.proofs.Common.{◌≡◌, ℕ, ◌≤◌, Bool, true, false, [], sym, ap, ◌∙◌, subst, Option, Some, None}
 use Rattle.atomic_table.specs.declared.shared.Seat.{Seat}
 use Rattle.sysv_gate.specs.declared.seat.Seat.TheInside.{Inside}
 use Rattle.sysv_gate.specs.declared.view.View.{View}
@@ -13,7 +13,7 @@ use Rattle.sysv_gate.specs.Counts.{with_count}
 use Rattle.sysv_gate.specs.Rule.{Spot}
 use Rattle.sysv_gate.specs.Held.{IsAtRest}
 use Rattle.sysv_gate.specs.Steps.{Mine, parted}
-use Rattle.sysv_gate.specs.Turns.{HasWorn, HasRead, HasWaited}
+use Rattle.sysv_gate.specs.Turns.{HasWorn, HasRead, HasWaited, HasWaitedWithin}
 
 module _ {O C R : Type 0} (moves : O → C → R → O → Type 0) (s : Inside O C R) (rest : IsAtRest moves s) (token : Seat (Spot O C R) (View O C R)) where
   abbrev Rested : Type 0
@@ -45,6 +45,11 @@ module _ {O C R : Type 0} (moves : O → C → R → O → Type 0) (s : Inside O
   waited_rests counted o count goal (Reached n) told = read_rests counted o count n told.1
   waited_rests counted o count goal awaited.Worn told =
       still_rests true (with_count count told.0 s.token.me.0.read) s.token.me.0.alone (told.4 ∙ ap (λ (m : Mine O C R). (record m.0 { worn = true }, [])) told.3.is)
+
+  -- it has waited for a count, for a while
+  pub waited_within_rests : (counted : O → ℕ × ℕ) (o : O) (count : Count) (goal : ℕ) (a : Option Awaited) → HasWaitedWithin counted o count goal s.token.me a token.me → Rested
+  waited_within_rests counted o count goal (Some a) told = waited_rests counted o count goal a told
+  waited_within_rests counted o count goal None told = read_rests counted o count told.0 told.2
 
   -- another seat was split off
   pub parted_rests : token.me ≡ (parted s.token.me.0, s.token.me.1) → Rested

@@ -1,5 +1,5 @@
 -- What the parts of a call ask of a seat, and what they leave.
-use Rattle.std.specs.Prelude.{◌≡◌, ℕ, ◌+◌, ◌<◌, ◌≤◌, ◌^◌, cond, true, false, List, [], ◌∷◌, length, Some}
+use Rattle.std.specs.Prelude.{◌≡◌, ℕ, ◌+◌, ◌<◌, ◌≤◌, ◌^◌, cond, true, false, List, [], ◌∷◌, length, Option, Some, None}
 use Rattle.atomic_table.specs.declared.shared.Seat.{Seat}
 use Rattle.sysv_gate.specs.declared.view.View.{View}
 use Rattle.sysv_gate.specs.declared.view.Turn as view
@@ -107,8 +107,17 @@ module _ {O C R : Type 0} where
     pub is : m' ≡ (read_to count value m.0, [])
     pub before : of_count count m.0.read ≤ value
 
+  -- the seat has read the count, and it was below the goal
+  abbrev pub HasReadBelow : (O → ℕ × ℕ) → O → Count → ℕ → Mine O C R → Mine O C R → Type 0
+  HasReadBelow counted opening count goal m m' = (n : ℕ) × (n < goal) × HasRead counted opening count m n m'
+
   -- The wait is over: the count is at least the goal, or it is below it, and the seat has found that the tickets have
   -- reached 2^62
   abbrev pub HasWaited : (O → ℕ × ℕ) → O → Count → ℕ → Mine O C R → Awaited → Mine O C R → Type 0
   HasWaited counted opening count goal m (Reached n) m' = (goal ≤ n) × HasRead counted opening count m n m'
   HasWaited counted opening count goal m awaited.Worn m' = (n : ℕ) × (mid : Mine O C R) × (n < goal) × HasRead counted opening count m n mid × HasWorn mid m'
+
+  -- a wait that may come back before it is over: then the count that was read last is below the goal
+  abbrev pub HasWaitedWithin : (O → ℕ × ℕ) → O → Count → ℕ → Mine O C R → Option Awaited → Mine O C R → Type 0
+  HasWaitedWithin counted opening count goal m (Some a) m' = HasWaited counted opening count goal m a m'
+  HasWaitedWithin counted opening count goal m None m' = HasReadBelow counted opening count goal m m'

@@ -1,5 +1,5 @@
 -- What a wait for a count answers.
-use Rattle.std.specs.Prelude.{◌≡◌, ℕ, ◌<◌, ◌≤◌}
+use Rattle.std.specs.Prelude.{◌≡◌, ℕ, ◌<◌, ◌≤◌, Option, Some, None}
 use Rattle.sysv_gate.specs.declared.count.Count.{Count}
 use Rattle.sysv_gate.specs.declared.awaited.Awaited.{Awaited}
 use Rattle.sysv_gate.specs.declared.awaited.Awaited.TheVariants.{Reached, Worn}
@@ -10,3 +10,9 @@ use Rattle.sysv_gate.specs.Gates.{Holding, marked, read_to, Learns}
 abbrev pub Waited : {O C R : Type 0} → (O → ℕ × ℕ) → Count → ℕ → Holding O C R → Awaited → Holding O C R → Type 0
 Waited counted count goal before (Reached n) after = (goal ≤ n) × Learns counted count before n × (after ≡ read_to count n before)
 Waited counted count goal before Worn after = (n : ℕ) × (n < goal) × Learns counted count before n × (after ≡ marked (read_to count n before))
+
+-- A wait that comes back after a while answers the same, or nothing: then the count that was read last is below the goal,
+-- and at least what the seat knew of it
+abbrev pub WaitedWithin : {O C R : Type 0} → (O → ℕ × ℕ) → Count → ℕ → Holding O C R → Option Awaited → Holding O C R → Type 0
+WaitedWithin counted count goal before (Some a) after = Waited counted count goal before a after
+WaitedWithin counted count goal before None after = (n : ℕ) × (n < goal) × Learns counted count before n × (after ≡ read_to count n before)

@@ -1,7 +1,21 @@
 //! Sleep that costs others nothing where nobody sleeps.
+use std::array;
 use std::sync::Wait;
 use std::sync::atomic::AtomicU64;
 use std::sync::atomic::Ordering::SeqCst;
+use std::time::Duration;
+
+/// The most seconds that a bounded sleep lasts.
+const LONGEST_NAP: u64 = 1;
+
+/// How long a thread sleeps if no other wakes it.
+#[derive(Clone, Copy)]
+pub(crate) enum Sleep {
+    /// Until the bell is rung.
+    UntilRung,
+    /// No longer than `LONGEST_NAP` seconds.
+    Bounded,
+}
 
 /// Threads sleep on it until it is rung. Who is to sleep enters, looks once more at what he waits for, and sleeps only
 /// then. Who brings that about rings afterwards. So either the one sees what came, or the other sees that one entered.
@@ -35,9 +49,16 @@ impl Bell {
         self.rung.load(SeqCst)
     }
 
-    // Sleeps where it was rung that many times and not since.
-    pub(crate) fn sleep(&self, rt: &impl Wait, rung: u64) {
-        self.rung.park(rt, (rung & LOW_BITS) as u32);
+    // Sleeps if it was rung that many times and not since.
+    pub(crate) fn sleep(&self, rt: &impl Wait, rung: u64, sleep: Sleep) {
+        let expected = (rung & LOW_BITS) as u32;
+        match sleep {
+            Sleep::UntilRung => self.rung.park(rt, expected),
+            Sleep::Bounded => {
+                self.rung
+                    .park_timeout(rt, expected, Duration::from_secs(LONGEST_NAP));
+            }
+        }
     }
 
     pub(crate) fn leave(&self) {
@@ -51,7 +72,45 @@ impl Bell {
             self.rung.wake_all();
         }
     }
+
+    // Wakes one thread that sleeps. Those that have entered and do not sleep yet look once more.
+    pub(crate) fn ring_for_one(&self) {
+        if self.sleepers.load(SeqCst) > 0 {
+            self.rung.fetch_add(1, SeqCst);
+            self.rung.wake_one();
+        }
+    }
+}
+
+/// The number of bells for turns.
+const TURN_BELLS: usize = 32;
+
+/// The bells of threads that wait for their turn. A thread sleeps on the bell of its ticket, so the end of a turn wakes
+/// the next thread and no other, as long as no more than 32 wait.
+#[derive(Drop)]
+pub(crate) struct TurnBells {
+    bells: [Bell; TURN_BELLS],
+}
+
+impl TurnBells {
+    pub(crate) fn new() -> TurnBells {
+        TurnBells {
+            bells: array::from_fn(|_| Bell::new()),
+        }
+    }
+
+    // The bell of the ticket.
+    pub(crate) fn of(&self, ticket: u64) -> &Bell {
+        &self.bells[(ticket % TURN_BELLS as u64) as usize]
+    }
+
+    // Wakes all who sleep, whatever their tickets.
+    pub(crate) fn ring_all(&self) {
+        for bell in &self.bells {
+            bell.ring();
+        }
+    }
 }
 
 /// A sleep compares the low 32 bits.
-pub(crate) const LOW_BITS: u64 = 0xffff_ffff;
+const LOW_BITS: u64 = 0xffff_ffff;

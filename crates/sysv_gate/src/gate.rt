@@ -6,7 +6,7 @@ ghost use Rattle.sysv_gate.specs.Refusals.{HandsBack, Refuses};
 ghost use Rattle.sysv_gate.specs.Closings.{Closes};
 ghost use Rattle.sysv_gate.specs.declared.refusals.OpenRefused.TheVariants.{NoMemory};
 
-use crate::bell::Bell;
+use crate::bell::{Bell, TurnBells};
 use crate::board::{Board, LIMIT, OBJECT, SERVING, TICKET, lay, object_in};
 use crate::closing::Closing;
 use crate::object::Object;
@@ -24,7 +24,11 @@ use std::sync::Wait;
 pub struct Gate<O: Object> {
     pub(crate) table: Board<O>,
     key: Key<O>,
+    pub(crate) turns: TurnBells,
+    /// The bell of those who wait for the first count, however long it takes.
     pub(crate) arrived: Bell,
+    /// The bell of those whose waits for the first count are bounded. A rise wakes one of them.
+    pub(crate) next_arrived: Bell,
     pub(crate) freed: Bell,
 }
 
@@ -77,7 +81,9 @@ impl<O: Object> Gate<O> {
                 let gate = Gate {
                     table,
                     key,
+                    turns: TurnBells::new(),
                     arrived: Bell::new(),
+                    next_arrived: Bell::new(),
                     freed: Bell::new(),
                 };
                 Ok((gate, seat))
@@ -135,8 +141,14 @@ impl<O: Object> Gate<O> {
     /// Ends the sleep of each thread that waits for its turn or for a count. Those whose ticket is not served, or whose
     /// goal is not reached, sleep again.
     pub fn wake(&self, _rt: &impl Wait) {
-        self.table.shared.wake_all(SERVING);
+        self.turns.ring_all();
         self.ring();
+    }
+
+    /// Wakes the next thread that sleeps in a bounded wait for the first count, if there is one. A rise of that count
+    /// wakes only one of these: a thread that was woken and leaves to others what came calls this.
+    pub fn pass_on(&self) {
+        self.next_arrived.ring_for_one();
     }
 
     /// Gives a new seat, which has seen what this one has seen, and has made no turn: none that it has seen was made
@@ -179,7 +191,9 @@ impl<O: Object> Gate<O> {
         let Gate {
             table,
             key,
+            turns: _,
             arrived: _,
+            next_arrived: _,
             freed: _,
         } = self;
         let mut closed = table.close_with(seat.into_token());

@@ -6,7 +6,7 @@ ghost use Rattle.sysv_gate.specs.Steps.{announced_by, HasTurn};
 ghost use Rattle.sysv_gate.specs.Turns.{IsOf, IsSameToken, Waits, Looked, HasDrawn, HasWorn, SawMore, TurnCame, HasMade, Entered, Applied};
 ghost use Rattle.sysv_lists.specs.Numbers.{times};
 
-use crate::bell::LOW_BITS;
+use crate::bell::Sleep;
 use crate::board::{LIMIT, OBJECT, SERVING, TICKET, Token};
 use crate::count::Count;
 use crate::gate::Gate;
@@ -116,15 +116,29 @@ impl<O: Object> Gate<O> {
         ensures turn { TurnCame (Moves O.meaning O.counted) O.counted self.now.opening token.old.me.0 ticket token.new.me }
     {
         for _ in rt.forever() {
-            let served = self.spin(token, ticket);
-            if served == ticket {
+            if self.spin(token, ticket) == ticket || self.doze_until(rt, token, ticket) == ticket {
                 return;
             }
-            self.table
-                .shared
-                .park(rt, SERVING, (served & LOW_BITS) as u32);
         }
         unreachable!()
+    }
+
+    // Sleeps until the ticket may be served, where it is not served yet, and answers the one that was.
+    fn doze_until(&self, rt: &impl Wait, token: &mut Token<O>, ticket: u64) -> u64
+        requires table { IsOf self.now token.old }
+        requires waits { Waits (ticket ∷ []) token.old.me }
+        ensures same { IsSameToken token.old token.new }
+        ensures turn { result ≡ ticket → TurnCame (Moves O.meaning O.counted) O.counted self.now.opening token.old.me.0 ticket token.new.me }
+        ensures waits { result ≢ ticket → SawMore token.old.me.0 token.new.me }
+    {
+        let bell = self.turns.of(ticket);
+        let rung = bell.enter();
+        let served = self.look(token);
+        if served != ticket {
+            bell.sleep(rt, rung, Sleep::UntilRung);
+        }
+        bell.leave();
+        served
     }
 
     // Looks some times whether the ticket is served, and answers the one that is.
@@ -196,15 +210,15 @@ impl<O: Object> Gate<O> {
         (reply, rose)
     }
 
-    // Wakes those who wait for their turn, where a ticket after this one was drawn, and those who wait for what rose.
+    // Wakes the thread that has the next ticket, and those who wait for what rose: one of those whose waits for the first
+    // count are bounded, and all others.
     pub(crate) fn wake_after(&self, ticket: u64, rose: Rose)
         requires { ticket < 2 ^ 62 }
     {
-        if self.table.shared.peek(TICKET) > ticket + 1 {
-            self.table.shared.wake_all(SERVING);
-        }
+        self.turns.of(ticket + 1).ring();
         if rose.arrived {
             self.arrived.ring();
+            self.next_arrived.ring_for_one();
         }
         if rose.freed {
             self.freed.ring();
@@ -221,6 +235,7 @@ impl<O: Object> Gate<O> {
     // Wakes those who wait for a count.
     pub(crate) fn ring(&self) {
         self.arrived.ring();
+        self.next_arrived.ring();
         self.freed.ring();
     }
 }

@@ -2,12 +2,12 @@
 ghost use Rattle.std.specs.Prelude.{◌≡◌, ℕ, ◌≤◌, ◌<◌, IfSome, IfNone, IsTrue, true, false, [], ◌∷◌};
 ghost use Rattle.sysv_gate.specs.Gates.{read_to, Learns};
 ghost use Rattle.sysv_gate.specs.Counts.{of_count};
-ghost use Rattle.sysv_gate.specs.Turns.{IsOf, IsSameToken, Waits, HasWorn, HasRead, ReadMore, HasWaited};
-ghost use Rattle.sysv_gate.specs.Waits.{Waited};
+ghost use Rattle.sysv_gate.specs.Turns.{IsOf, IsSameToken, Waits, HasWorn, HasRead, HasReadBelow, ReadMore, HasWaited, HasWaitedWithin};
+ghost use Rattle.sysv_gate.specs.Waits.{Waited, WaitedWithin};
 ghost use Rattle.sysv_gate.specs.declared.count.Count.TheVariants.{Arrived, Freed};
 
 use crate::awaited::Awaited;
-use crate::bell::Bell;
+use crate::bell::{Bell, Sleep};
 use crate::board::{LIMIT, TICKET, Token};
 use crate::count::Count;
 use crate::gate::Gate;
@@ -62,6 +62,27 @@ impl<O: Object> Gate<O> {
         self.await_count(rt, &mut seat.token, Count::Freed, goal)
     }
 
+    /// Waits for the first count as `await_arrived` does, but sleeps only once, and for a second at most. It returns
+    /// `None` if the count that it read last is still below `goal`. A rise wakes only one of the threads that sleep in this
+    /// wait: a caller that then leaves to others what came calls `pass_on`.
+    pub fn arrived_within(&self, rt: &impl Wait, seat: &mut Seat<O>, goal: u64) -> Option<Awaited>
+        requires { seat.old.gate ≡ self.now }
+        ensures gate { seat.new.gate ≡ self.now }
+        ensures waited { WaitedWithin O.counted Arrived goal seat.old result seat.new }
+    {
+        self.await_within(rt, &mut seat.token, Count::Arrived, goal)
+    }
+
+    /// Waits for the second count, as `arrived_within` does for the first, but a rise wakes all threads that sleep in this
+    /// wait.
+    pub fn freed_within(&self, rt: &impl Wait, seat: &mut Seat<O>, goal: u64) -> Option<Awaited>
+        requires { seat.old.gate ≡ self.now }
+        ensures gate { seat.new.gate ≡ self.now }
+        ensures waited { WaitedWithin O.counted Freed goal seat.old result seat.new }
+    {
+        self.await_within(rt, &mut seat.token, Count::Freed, goal)
+    }
+
     // Reads the count.
     fn count(&self, token: &mut Token<O>, count: Count) -> u64
         requires table { IsOf self.now token.old }
@@ -101,13 +122,13 @@ impl<O: Object> Gate<O> {
         self.table.shared.load::<Weighing>(token, TICKET) >= LIMIT
     }
 
-    // Looks whether the wait is over.
+    // Looks whether the wait is over. If it is not, the count is below the goal.
     fn judge(&self, token: &mut Token<O>, count: Count, goal: u64) -> Option<Awaited>
         requires table { IsOf self.now token.old }
         requires idle { Waits [] token.old.me }
         ensures same { IsSameToken token.old token.new }
         ensures over { IfSome result (λ a. HasWaited O.counted self.now.opening count goal token.old.me a token.new.me) }
-        ensures goes_on { IfNone result (ReadMore count token.old.me token.new.me) }
+        ensures goes_on { IfNone result (HasReadBelow O.counted self.now.opening count goal token.old.me token.new.me) }
     {
         let value = self.count(token, count);
         if value >= goal {
@@ -119,26 +140,34 @@ impl<O: Object> Gate<O> {
         None
     }
 
-    fn bell(&self, count: Count) -> &Bell {
-        match count {
-            Count::Arrived => &self.arrived,
-            Count::Freed => &self.freed,
+    fn bell(&self, count: Count, sleep: Sleep) -> &Bell {
+        match (count, sleep) {
+            (Count::Arrived, Sleep::UntilRung) => &self.arrived,
+            (Count::Arrived, Sleep::Bounded) => &self.next_arrived,
+            (Count::Freed, _) => &self.freed,
         }
     }
 
     // Sleeps until the count may have risen, where the wait is not over.
-    fn doze(&self, rt: &impl Wait, token: &mut Token<O>, count: Count, goal: u64) -> Option<Awaited>
+    fn doze(
+        &self,
+        rt: &impl Wait,
+        token: &mut Token<O>,
+        count: Count,
+        goal: u64,
+        sleep: Sleep,
+    ) -> Option<Awaited>
         requires table { IsOf self.now token.old }
         requires idle { Waits [] token.old.me }
         ensures same { IsSameToken token.old token.new }
         ensures over { IfSome result (λ a. HasWaited O.counted self.now.opening count goal token.old.me a token.new.me) }
         ensures goes_on { IfNone result (ReadMore count token.old.me token.new.me) }
     {
-        let bell = self.bell(count);
+        let bell = self.bell(count, sleep);
         let rung = bell.enter();
         let found = self.judge(token, count, goal);
         if found.is_none() {
-            bell.sleep(rt, rung);
+            bell.sleep(rt, rung, sleep);
         }
         bell.leave();
         found
@@ -156,10 +185,33 @@ impl<O: Object> Gate<O> {
             if value >= goal {
                 return Awaited::Reached(value);
             }
-            if let Some(awaited) = self.doze(rt, token, count, goal) {
+            if let Some(awaited) = self.doze(rt, token, count, goal, Sleep::UntilRung) {
                 return awaited;
             }
         }
         unreachable!()
+    }
+
+    // Waits until the count is at least the goal, but sleeps only once, and for a second at most.
+    fn await_within(
+        &self,
+        rt: &impl Wait,
+        token: &mut Token<O>,
+        count: Count,
+        goal: u64,
+    ) -> Option<Awaited>
+        requires table { IsOf self.now token.old }
+        requires idle { Waits [] token.old.me }
+        ensures same { IsSameToken token.old token.new }
+        ensures waited { HasWaitedWithin O.counted self.now.opening count goal token.old.me result token.new.me }
+    {
+        let value = self.count_to(token, count, goal);
+        if value >= goal {
+            return Some(Awaited::Reached(value));
+        }
+        match self.doze(rt, token, count, goal, Sleep::Bounded) {
+            Some(awaited) => Some(awaited),
+            None => self.judge(token, count, goal),
+        }
     }
 }

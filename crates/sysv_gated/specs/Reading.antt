@@ -1,5 +1,5 @@
 -- What a seat reads of the counts of the objects (this profile's; Reed and Kanodia's read and await of an eventcount).
-use Rattle.std.specs.Prelude.{◌≡◌, ℕ, ◌<◌, ◌≤◌}
+use Rattle.std.specs.Prelude.{◌≡◌, ℕ, ◌<◌, ◌≤◌, Option, Some, None}
 use Rattle.sysv_steps.specs.Resume.{Count, ArrivedOf, FreedOf, Settled, Released}
 use Rattle.sysv_gate.specs.Gates.{Holding, marked, read_to, Learns}
 use Rattle.sysv_gate.specs.declared.count.Count.{Count as OfObject}
@@ -46,3 +46,9 @@ GivesUp Released value before after =
 abbrev pub Awaits : Count → ℕ → Seats → Awaited → Seats → Type 0
 Awaits count goal before (Reached value) after = (goal ≤ value) × Reads count value before after
 Awaits count goal before Worn after = (value : ℕ) × (value < goal) × GivesUp count value before after
+
+-- A wait that comes back after a while ends in the same way, or with nothing: then the value that was read last is below
+-- the goal
+abbrev pub AwaitsWithin : Count → ℕ → Seats → Option Awaited → Seats → Type 0
+AwaitsWithin count goal before (Some a) after = Awaits count goal before a after
+AwaitsWithin count goal before None after = (value : ℕ) × (value < goal) × Reads count value before after

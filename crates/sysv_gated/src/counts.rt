@@ -4,7 +4,7 @@ ghost use Rattle.std.specs.Prelude.{◌≡◌};
 ghost use Rattle.sysv_keys.specs.Identifier.{slot_of_id};
 ghost use Rattle.sysv_steps.specs.Resume.{ArrivedOf, FreedOf, Settled, Released};
 ghost use Rattle.sysv_gated.specs.Seats.{AreOf};
-ghost use Rattle.sysv_gated.specs.Reading.{Reads, Awaits};
+ghost use Rattle.sysv_gated.specs.Reading.{Reads, Awaits, AwaitsWithin};
 
 use crate::gates::Gates;
 use crate::seats::Seats;
@@ -58,5 +58,73 @@ impl Gates {
     {
         self.slots
             .await_freed(rt, slot_of_id(id), &mut seats.slots, goal)
+    }
+
+    /// Waits for the released count of the pool as `await_released` does, but sleeps only once, and for a second at most.
+    /// It returns `None` if the count that it read last is still below `goal`. Else it wakes the next thread that sleeps in
+    /// this wait, so a rise wakes all of them, one after another.
+    pub fn released_within(&self, rt: &impl Wait, seats: &mut Seats, goal: u64) -> Option<Awaited>
+        requires { AreOf self.now seats.old }
+        ensures seats { AreOf self.now seats.new }
+        ensures waited { AwaitsWithin Released goal seats.old result seats.new }
+    {
+        let awaited = self.pool.arrived_within(rt, &mut seats.pool, goal);
+        if awaited.is_some() {
+            self.pool.pass_on();
+        }
+        awaited
+    }
+
+    /// Waits for the settled count of the registry, as `released_within` does for that of the pool.
+    pub fn settled_within(&self, rt: &impl Wait, seats: &mut Seats, goal: u64) -> Option<Awaited>
+        requires { AreOf self.now seats.old }
+        ensures seats { AreOf self.now seats.new }
+        ensures waited { AwaitsWithin Settled goal seats.old result seats.new }
+    {
+        let awaited = self.registry.arrived_within(rt, &mut seats.registry, goal);
+        if awaited.is_some() {
+            self.registry.pass_on();
+        }
+        awaited
+    }
+
+    /// Waits for the arrived count of the identifier's slot, and sleeps only once, and for a second at most. It returns
+    /// `None` if the count that it read last is still below `goal`. A rise wakes only one of the threads that sleep in this
+    /// wait: a caller that then leaves to others what arrived calls `pass_arrived_on`.
+    pub fn arrived_within(
+        &self,
+        rt: &impl Wait,
+        seats: &mut Seats,
+        id: i32,
+        goal: u64,
+    ) -> Option<Awaited>
+        requires { AreOf self.now seats.old }
+        ensures seats { AreOf self.now seats.new }
+        ensures waited { AwaitsWithin (ArrivedOf (slot_of_id id)) goal seats.old result seats.new }
+    {
+        self.slots
+            .arrived_within(rt, slot_of_id(id), &mut seats.slots, goal)
+    }
+
+    /// Waits for the freed count of the identifier's slot, as `arrived_within` does for the other, but a rise wakes all
+    /// threads that sleep in this wait.
+    pub fn freed_within(
+        &self,
+        rt: &impl Wait,
+        seats: &mut Seats,
+        id: i32,
+        goal: u64,
+    ) -> Option<Awaited>
+        requires { AreOf self.now seats.old }
+        ensures seats { AreOf self.now seats.new }
+        ensures waited { AwaitsWithin (FreedOf (slot_of_id id)) goal seats.old result seats.new }
+    {
+        self.slots
+            .freed_within(rt, slot_of_id(id), &mut seats.slots, goal)
+    }
+
+    /// Wakes the next thread that sleeps in `arrived_within` at the identifier's slot, if there is one.
+    pub fn pass_arrived_on(&self, id: i32) {
+        self.slots.pass_on(slot_of_id(id));
     }
 }

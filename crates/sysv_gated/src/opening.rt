@@ -19,7 +19,7 @@ use crate::seats::Seats;
 use crate::slot::GatedSlot;
 use std::alloc::Global;
 use sysv_bank::{Bank, BankSeat};
-use sysv_gate::{Closing, Gate, OpenRefused, Seat};
+use sysv_gate::{Closing, Gate, OpenRefused as GateRefused, Seat};
 use sysv_keys::{GENERATION_LAST, Registry, SLOTS};
 use sysv_model::{MAX_BLOCKS, MIN_BLOCKS};
 use sysv_pool::Pool;
@@ -30,7 +30,7 @@ const MAX_FIRST: u64 = 1 << 62;
 
 /// Why gates are not opened.
 #[derive(Clone, Copy, PartialEq, Eq, Debug)]
-pub enum GatesRefused {
+pub enum OpenRefused {
     /// Memory was refused.
     NoMemory,
     /// The number of blocks is not 128 to 65,536, the first ticket is above 2^62, or the generation is above the last one.
@@ -53,29 +53,29 @@ impl Gates {
         blocks: u32,
         first: u64,
         generation: u32,
-    ) -> Result<(Gates, Seats), GatesRefused>
+    ) -> Result<(Gates, Seats), OpenRefused>
         ensures open { IfOk result (λ o. AreOpen generation blocks first o.0 × (o.1 ≡ all_opened o.0)) }
         ensures seats { IfOk result (λ o. AreOf o.0 o.1) }
-        ensures bad_size { (result ≡ Err GatesRefused.BadSize) ↔ ((blocks < least_blocks) ⊎ (most_blocks < blocks) ⊎ (2 ^ 62 < first) ⊎ (GENERATION_LAST < generation)) }
+        ensures bad_size { (result ≡ Err OpenRefused.BadSize) ↔ ((blocks < least_blocks) ⊎ (most_blocks < blocks) ⊎ (2 ^ 62 < first) ⊎ (GENERATION_LAST < generation)) }
     {
         if blocks < MIN_BLOCKS
             || blocks > MAX_BLOCKS
             || first > MAX_FIRST
             || generation > GENERATION_LAST
         {
-            return Err(GatesRefused::BadSize);
+            return Err(OpenRefused::BadSize);
         }
         let Some((slots, slot_seats)) = open_slots(alloc, first) else {
-            return Err(GatesRefused::NoMemory);
+            return Err(OpenRefused::NoMemory);
         };
         let Some((pool, pool_seat)) = open_pool(alloc, blocks, first) else {
             end_slots(slots.close(slot_seats));
-            return Err(GatesRefused::NoMemory);
+            return Err(OpenRefused::NoMemory);
         };
         let Some((registry, registry_seat)) = open_registry(alloc, generation, first) else {
             end_slots(slots.close(slot_seats));
             end_pool(pool.close(pool_seat));
-            return Err(GatesRefused::NoMemory);
+            return Err(OpenRefused::NoMemory);
         };
         let gates = Gates {
             slots,
@@ -100,7 +100,7 @@ fn open_slots(alloc: Global, first: u64) -> Option<(Bank<GatedSlot>, BankSeat<Ga
     let slots = vacant_slots(alloc)?;
     match Bank::open(alloc, slots, first) {
         Ok(opened) => Some(opened),
-        Err(OpenRefused::NoMemory(slots) | OpenRefused::BadStart(slots)) => {
+        Err(GateRefused::NoMemory(slots) | GateRefused::BadStart(slots)) => {
             end_all(slots);
             None
         }
@@ -147,7 +147,7 @@ fn open_pool(alloc: Global, blocks: u32, first: u64) -> Option<(Gate<GatedPool>,
     };
     match Gate::starting_at(alloc, GatedPool::of(pool), first) {
         Ok(opened) => Some(opened),
-        Err(OpenRefused::NoMemory(pool) | OpenRefused::BadStart(pool)) => {
+        Err(GateRefused::NoMemory(pool) | GateRefused::BadStart(pool)) => {
             pool.into_pool().end();
             None
         }

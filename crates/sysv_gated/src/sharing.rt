@@ -9,10 +9,7 @@ use crate::gates::Gates;
 use crate::opening::GatesClosed;
 use crate::seats::Seats;
 use std::alloc::Global;
-
-/// There is no memory for more seats.
-#[derive(Clone, Copy, PartialEq, Eq, Debug)]
-pub struct NoMemory;
+use sysv_model::NoMemory;
 
 impl Gates {
     /// Gives new seats, each of which has seen what the one at the same object has seen, and has made no turn. They may go

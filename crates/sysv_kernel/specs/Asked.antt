@@ -1,12 +1,13 @@
 -- What a kernel over a service does with a request (this profile's): it is one call of the service, by these credentials, from
 -- the one pass to the other, and the outcome tells how the call ended (POSIX.1-2017, msgget, msgsnd, msgrcv and msgctl).
-use Rattle.std.specs.Prelude.{◌≡◌, ℕ, ℤ, ⊤, List, [], Option, Result}
+use Rattle.std.specs.Prelude.{◌≡◌, ◌⊎◌, ℕ, ℤ, ⊤, List, [], Option, Result}
 use Rattle.sysv_keys.specs.declared.identifier.TheConstants.{SLOTS}
 use Rattle.sysv_model.specs.declared.attributes.Row.{Row as Line}
 use Rattle.sysv_model.specs.declared.attributes.Stat.{Stat as Attributes}
 use Rattle.sysv_model.specs.declared.attributes.SetTo.{SetTo}
 use Rattle.sysv_model.specs.declared.cred.Cred.{Cred}
 use Rattle.sysv_model.specs.declared.errno.Errno.{Errno}
+use Rattle.sysv_model.specs.declared.errno.Errno.TheVariants.{EAGAIN, ENOMSG}
 use Rattle.sysv_model.specs.declared.flags.Flags.{Flags}
 use Rattle.sysv_queue.specs.Delivery.{Given}
 use Rattle.sysv_gated.specs.Reading.{Reads}
@@ -14,6 +15,7 @@ use Rattle.sysv_session.specs.declared.kernel.Outcome.{Outcome}
 use Rattle.sysv_session.specs.declared.served.Served.{Served}
 use Rattle.sysv_session.specs.Calls.{Meaning}
 use Rattle.sysv_session.specs.Session.{Serves}
+use Rattle.sysv_service.specs.Left.{IsLeft}
 use Rattle.sysv_service.specs.Ran.{Pass, Comes, no_moment}
 use Rattle.sysv_service.specs.Told.{TellsId, TellsZero, TellsStat, TellsGot, TellsRow}
 use Rattle.sysv_steps.specs.Begin.{begin}
@@ -25,25 +27,47 @@ use Rattle.sysv_wire.specs.declared.frame.Version.{Version}
 use Rattle.sysv_wire.specs.declared.reply.Outcome.TheVariants as told
 use Rattle.sysv_wire.specs.declared.request.Ask.{Ask}
 use Rattle.sysv_wire.specs.declared.request.Ask.TheVariants.{Hello, Get, Snd, Rcv, Stat, Set, Rm, Row}
-use Rattle.sysv_kernel.specs.Replies.{id_reply, done_reply, given_reply, stat_reply, row_reply}
+use Rattle.sysv_kernel.specs.Replies.{reply, id_reply, done_reply, given_reply, stat_reply, row_reply}
 
 -- msgget
 abbrev pub Gets : (ℕ → Type 0) → Version → Cred → ℤ → Flags → Pass → Outcome → Pass → Type 0
 Gets may version cred key flags before outcome after = (answer : Result ℤ Errno) × (ending : Ending)
     × Comes may (begin cred (Msgget key flags) 0) before (Over ending) after × TellsId ending answer × (outcome ≡ id_reply version answer)
 
--- msgsnd of the text, whose start reads the released count
-abbrev pub Sends : (ℕ → Type 0) → Version → Cred → ℤ → ℤ → Flags → List ℕ → Pass → Outcome → Pass → Type 0
-Sends may version cred id mtype flags text before outcome after = (answer : Result ⊤ Errno) × (released : ℕ) × (mid : Pass)
-    × Reads Released released before.seats mid.seats × (mid.held ≡ before.held) × (ending : Ending)
+-- msgsnd of the text, whose start reads the released count. It came to its end, or its caller left it while it waited, and
+-- then the reply is that of IPC_NOWAIT
+abbrev pub SendIsOver : (ℕ → Type 0) → Version → Cred → ℤ → ℤ → Flags → List ℕ → ℕ → Pass → Outcome → Pass → Type 0
+SendIsOver may version cred id mtype flags text released mid outcome after = (answer : Result ⊤ Errno) × (ending : Ending)
     × Comes may (begin cred (Msgsnd id mtype flags text) released) mid (Over ending) after × TellsZero ending answer
     × (outcome ≡ done_reply version op.Snd told.Snd answer)
 
--- msgrcv, which gives this text
-abbrev pub Receives : (ℕ → Type 0) → Version → Cred → ℤ → ℕ → ℤ → Flags → Pass → Outcome → List ℕ → Pass → Type 0
-Receives may version cred id size mtype flags before outcome given after = (answer : Result Given Errno) × (ending : Ending)
+abbrev pub SendIsLeft : (ℕ → Type 0) → Type 0 → Version → Cred → ℤ → ℤ → Flags → List ℕ → ℕ → Pass → Outcome → Pass → Type 0
+SendIsLeft may may_leave version cred id mtype flags text released mid outcome after =
+    IsLeft may_leave may (begin cred (Msgsnd id mtype flags text) released) mid after
+    × (outcome ≡ reply version op.Snd (told.Refused EAGAIN))
+
+abbrev pub Sends : (ℕ → Type 0) → Type 0 → Version → Cred → ℤ → ℤ → Flags → List ℕ → Pass → Outcome → Pass → Type 0
+Sends may may_leave version cred id mtype flags text before outcome after = (released : ℕ) × (mid : Pass)
+    × Reads Released released before.seats mid.seats × (mid.held ≡ before.held)
+    × (SendIsOver may version cred id mtype flags text released mid outcome after
+    ⊎ SendIsLeft may may_leave version cred id mtype flags text released mid outcome after)
+
+-- msgrcv, which gives this text. It came to its end, or its caller left it while it waited: then nothing is given, and the
+-- reply is that of IPC_NOWAIT
+abbrev pub ReceiveIsOver : (ℕ → Type 0) → Version → Cred → ℤ → ℕ → ℤ → Flags → Pass → Outcome → List ℕ → Pass → Type 0
+ReceiveIsOver may version cred id size mtype flags before outcome given after = (answer : Result Given Errno) × (ending : Ending)
     × Comes may (begin cred (Msgrcv id size mtype flags) 0) before (Over ending) after × TellsGot ending answer given
     × (outcome ≡ given_reply version answer)
+
+abbrev pub ReceiveIsLeft : (ℕ → Type 0) → Type 0 → Version → Cred → ℤ → ℕ → ℤ → Flags → Pass → Outcome → List ℕ → Pass → Type 0
+ReceiveIsLeft may may_leave version cred id size mtype flags before outcome given after =
+    IsLeft may_leave may (begin cred (Msgrcv id size mtype flags) 0) before after
+    × (given ≡ []) × (outcome ≡ reply version op.Rcv (told.Refused ENOMSG))
+
+abbrev pub Receives : (ℕ → Type 0) → Type 0 → Version → Cred → ℤ → ℕ → ℤ → Flags → Pass → Outcome → List ℕ → Pass → Type 0
+Receives may may_leave version cred id size mtype flags before outcome given after =
+    ReceiveIsOver may version cred id size mtype flags before outcome given after
+    ⊎ ReceiveIsLeft may may_leave version cred id size mtype flags before outcome given after
 
 -- the three commands of msgctl
 abbrev pub Stats : Version → Cred → ℤ → Pass → Outcome → Pass → Type 0
@@ -65,21 +89,23 @@ Shows version slot before outcome after =
     (answer : Result (Option Line) Errno) × TellsRow slot before answer after × (outcome ≡ row_reply version answer)
 
 -- Request by request, in a version: the text is that of a send, and what is given is the text of a message. The moments are
--- those that the clock may answer.
-abbrev pub Asks : (ℕ → Type 0) → Version → Cred → Ask → List ℕ → Pass → Outcome → List ℕ → Pass → Type 0
-Asks may version cred (Hello other) text before outcome given after = ⊥
-Asks may version cred (Get key flags) text before outcome given after = Gets may version cred key flags before outcome after × (given ≡ [])
-Asks may version cred (Snd id mtype flags) text before outcome given after = Sends may version cred id mtype flags text before outcome after × (given ≡ [])
-Asks may version cred (Rcv id size mtype flags) text before outcome given after = Receives may version cred id size mtype flags before outcome given after
-Asks may version cred (Stat id) text before outcome given after = Stats version cred id before outcome after × (given ≡ [])
-Asks may version cred (Set id to) text before outcome given after = Sets may version cred id to before outcome after × (given ≡ [])
-Asks may version cred (Rm id) text before outcome given after = Removes version cred id before outcome after × (given ≡ [])
-Asks may version cred (Row slot) text before outcome given after = Shows version slot before outcome after × (given ≡ [])
+-- those that the clock may answer. A send and a receive that wait may be left if the caller may leave.
+abbrev pub Asks : (ℕ → Type 0) → Type 0 → Version → Cred → Ask → List ℕ → Pass → Outcome → List ℕ → Pass → Type 0
+Asks may may_leave version cred (Hello other) text before outcome given after = ⊥
+Asks may may_leave version cred (Get key flags) text before outcome given after = Gets may version cred key flags before outcome after × (given ≡ [])
+Asks may may_leave version cred (Snd id mtype flags) text before outcome given after = Sends may may_leave version cred id mtype flags text before outcome after × (given ≡ [])
+Asks may may_leave version cred (Rcv id size mtype flags) text before outcome given after = Receives may may_leave version cred id size mtype flags before outcome given after
+Asks may may_leave version cred (Stat id) text before outcome given after = Stats version cred id before outcome after × (given ≡ [])
+Asks may may_leave version cred (Set id to) text before outcome given after = Sets may version cred id to before outcome after × (given ≡ [])
+Asks may may_leave version cred (Rm id) text before outcome given after = Removes version cred id before outcome after × (given ≡ [])
+Asks may may_leave version cred (Row slot) text before outcome given after = Shows version slot before outcome after × (given ≡ [])
 
 -- what the calls of a session mean for the pass
-abbrev pub asks_with : (ℕ → Type 0) → Meaning Pass
-asks_with may old cred request text outcome given new = Asks may request.version cred request.ask text old outcome given new
+abbrev pub asks_with : (ℕ → Type 0) → Type 0 → Meaning Pass
+asks_with may may_leave old cred request text outcome given new =
+    Asks may may_leave request.version cred request.ask text old outcome given new
 
 -- what a session over a service did of its pass: the reply to its hello tells the slots of the registry
-abbrev pub ServesPass : (ℕ → Type 0) → Served → (old new : Pass) → (left rest taken more : Option (List ℕ)) → Type 0
-ServesPass may served old new left rest taken more = Serves (asks_with may) SLOTS served old new left rest taken more
+abbrev pub ServesPass : (ℕ → Type 0) → Type 0 → Served → (old new : Pass) → (left rest taken more : Option (List ℕ)) → Type 0
+ServesPass may may_leave served old new left rest taken more =
+    Serves (asks_with may may_leave) SLOTS served old new left rest taken more

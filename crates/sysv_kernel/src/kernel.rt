@@ -11,35 +11,68 @@ use std::alloc::Global;
 use std::io::{Read, Write};
 use std::sync::Wait;
 use sysv_keys::SLOTS;
-use sysv_model::{Body, Cred, Flags, Row, SetTo, Stat};
-use sysv_service::{Clock, Pass, Service};
+use sysv_model::{Body, Cred, Errno, Flags, Row, SetTo, Stat};
+use sysv_service::{Caller, Clock, Pass, Service, Stays};
 use sysv_session::{Kernel, Outcome, Served, Texts, serve, serve_with};
 use sysv_wire::{Ask, MAX_MODE, Op, Outcome as Told, Reply, Request, Version};
 
-/// A service as one session asks it: with a pass of its own, the moments of a clock, and the handle to wait. Each request is
-/// one call of the service. It can be neither dropped nor copied: it ends by `into_pass`.
-pub struct ServiceKernel<'a, C: Clock, R: Wait> {
+/// A service as one session asks it: with a pass of its own, the moments of a clock, the handle to wait, and the caller that
+/// is asked whether it is still there while its call waits. Each request is one call of the service. It can be neither dropped
+/// nor copied: it ends by `into_pass`.
+pub struct ServiceKernel<'a, C: Clock, R: Wait, K: Caller + Copy = Stays> {
     rt: &'a R,
     service: &'a Service,
     clock: &'a C,
     pass: Pass,
+    caller: K,
     ghost fits: { AreOf service.now pass.seats },
 }
 
-impl<'a, C: Clock, R: Wait> ServiceKernel<'a, C, R> {
-    /// A kernel that calls this service with this pass of it.
+impl<'a, C: Clock, R: Wait> ServiceKernel<'a, C, R, Stays> {
+    /// A kernel that calls this service with this pass of it, for a caller that stays.
     pub fn new(rt: &'a R, service: &'a Service, clock: &'a C, pass: Pass) -> ServiceKernel<'a, C, R>
         requires { AreOf service.now pass.seats }
         ensures service { result.service.now ≡ service.now }
         ensures clock { result.clock.now ≡ clock.now }
         ensures pass { result.pass ≡ pass }
     {
+        ServiceKernel::for_caller(rt, service, clock, pass, Stays)
+    }
+}
+
+impl<'a, C: Clock, R: Wait, K: Caller + Copy> ServiceKernel<'a, C, R, K> {
+    /// A kernel that calls this service with this pass of it, for a caller that may leave. A call that the caller leaves while
+    /// it waits is answered as with `IPC_NOWAIT`, which nobody reads: it takes and sends nothing.
+    pub fn for_caller(
+        rt: &'a R,
+        service: &'a Service,
+        clock: &'a C,
+        pass: Pass,
+        caller: K,
+    ) -> ServiceKernel<'a, C, R, K>
+        requires { AreOf service.now pass.seats }
+        ensures service { result.service.now ≡ service.now }
+        ensures clock { result.clock.now ≡ clock.now }
+        ensures pass { result.pass ≡ pass }
+        ensures caller { result.caller ≡ caller }
+    {
         ServiceKernel {
             rt,
             service,
             clock,
             pass,
+            caller,
         }
+    }
+
+    /// Makes this the caller of the calls that follow.
+    pub fn set_caller(&mut self, caller: K)
+        ensures service { self.new.service ≡ self.old.service }
+        ensures clock { self.new.clock ≡ self.old.clock }
+        ensures pass { self.new.pass ≡ self.old.pass }
+        ensures caller { self.new.caller ≡ caller }
+    {
+        self.caller = caller;
     }
 
     /// Runs one session, as `sysv_session::serve` does, with this kernel. A hello of version 2 is told that there are
@@ -50,12 +83,13 @@ impl<'a, C: Clock, R: Wait> ServiceKernel<'a, C, R> {
         reader: &mut I,
         writer: &mut O,
     ) -> Served
-        ensures serves { ServesPass (C.may self.old.clock.now) result self.old.pass self.new.pass (I.remaining reader.old) (I.remaining reader.new)
+        ensures serves { ServesPass (C.may self.old.clock.now) (K.may_leave self.old.caller) result self.old.pass self.new.pass (I.remaining reader.old) (I.remaining reader.new)
             (O.contents writer.old) (O.contents writer.new) }
         // It ends as its input tells, unless it is cut short.
         ensures only { (input : List ℕ) (course : Course) → I.remaining reader.old ≡ Some input → Takes input course → Follows course result }
         ensures service { self.new.service ≡ self.old.service }
         ensures clock { self.new.clock ≡ self.old.clock }
+        ensures caller { self.new.caller ≡ self.old.caller }
     {
         serve(alloc, reader, writer, self)
     }
@@ -67,12 +101,13 @@ impl<'a, C: Clock, R: Wait> ServiceKernel<'a, C, R> {
         reader: &mut I,
         writer: &mut O,
     ) -> Served
-        ensures serves { ServesPass (C.may self.old.clock.now) result self.old.pass self.new.pass (I.remaining reader.old) (I.remaining reader.new)
+        ensures serves { ServesPass (C.may self.old.clock.now) (K.may_leave self.old.caller) result self.old.pass self.new.pass (I.remaining reader.old) (I.remaining reader.new)
             (O.contents writer.old) (O.contents writer.new) }
         // It ends as its input tells, unless it is cut short.
         ensures only { (input : List ℕ) (course : Course) → I.remaining reader.old ≡ Some input → Takes input course → Follows course result }
         ensures service { self.new.service ≡ self.old.service }
         ensures clock { self.new.clock ≡ self.old.clock }
+        ensures caller { self.new.caller ≡ self.old.caller }
     {
         serve_with(texts, reader, writer, self)
     }
@@ -86,6 +121,7 @@ impl<'a, C: Clock, R: Wait> ServiceKernel<'a, C, R> {
             rt: _,
             service: _,
             clock: _,
+            caller: _,
             pass,
         } = self;
         pass
@@ -96,6 +132,7 @@ impl<'a, C: Clock, R: Wait> ServiceKernel<'a, C, R> {
         ensures answer { MayAnswer version (Ask.Get key flags) result [] }
         ensures service { self.new.service ≡ self.old.service }
         ensures clock { self.new.clock ≡ self.old.clock }
+        ensures caller { self.new.caller ≡ self.old.caller }
     {
         let told = self
             .service
@@ -115,15 +152,19 @@ impl<'a, C: Clock, R: Wait> ServiceKernel<'a, C, R> {
         flags: Flags,
         text: &Body,
     ) -> Outcome
-        ensures sends { Sends (C.may self.old.clock.now) version cred id mtype flags text.now self.old.pass result self.new.pass }
+        ensures sends { Sends (C.may self.old.clock.now) (K.may_leave self.old.caller) version cred id mtype flags text.now self.old.pass result self.new.pass }
         ensures answer { MayAnswer version (Ask.Snd id mtype flags) result [] }
         ensures service { self.new.service ≡ self.old.service }
         ensures clock { self.new.clock ≡ self.old.clock }
+        ensures caller { self.new.caller ≡ self.old.caller }
     {
-        let pass = &mut self.pass;
-        let told = self
-            .service
-            .msgsnd(self.rt, pass, self.clock, cred, id, mtype, text, flags);
+        let (pass, caller) = (&mut self.pass, &self.caller);
+        let told = self.service.msgsnd_for(
+            self.rt, pass, self.clock, caller, cred, id, mtype, text, flags,
+        );
+        let Some(told) = told else {
+            return reply(version, Op::Snd, Told::Refused(Errno::EAGAIN));
+        };
         match told {
             Ok(()) => reply(version, Op::Snd, Told::Snd),
             Err(why) => reply(version, Op::Snd, Told::Refused(why)),
@@ -140,15 +181,19 @@ impl<'a, C: Clock, R: Wait> ServiceKernel<'a, C, R> {
         flags: Flags,
         given: &mut Body,
     ) -> Outcome
-        ensures receives { Receives (C.may self.old.clock.now) version cred id size mtype flags self.old.pass result given.new self.new.pass }
+        ensures receives { Receives (C.may self.old.clock.now) (K.may_leave self.old.caller) version cred id size mtype flags self.old.pass result given.new self.new.pass }
         ensures answer { MayAnswer version (Ask.Rcv id size mtype flags) result given.new }
         ensures service { self.new.service ≡ self.old.service }
         ensures clock { self.new.clock ≡ self.old.clock }
+        ensures caller { self.new.caller ≡ self.old.caller }
     {
-        let pass = &mut self.pass;
-        let told = self.service.msgrcv(
-            self.rt, pass, self.clock, cred, id, given, size, mtype, flags,
+        let (pass, caller) = (&mut self.pass, &self.caller);
+        let told = self.service.msgrcv_for(
+            self.rt, pass, self.clock, caller, cred, id, given, size, mtype, flags,
         );
+        let Some(told) = told else {
+            return reply(version, Op::Rcv, Told::Refused(Errno::ENOMSG));
+        };
         match told {
             Ok(delivery) => Outcome::Got(delivery),
             Err(why) => reply(version, Op::Rcv, Told::Refused(why)),
@@ -160,6 +205,7 @@ impl<'a, C: Clock, R: Wait> ServiceKernel<'a, C, R> {
         ensures answer { MayAnswer version (Ask.Stat id) result [] }
         ensures service { self.new.service ≡ self.old.service }
         ensures clock { self.new.clock ≡ self.old.clock }
+        ensures caller { self.new.caller ≡ self.old.caller }
     {
         let told = self.service.msgctl_stat(self.rt, &mut self.pass, cred, id);
         match told {
@@ -173,6 +219,7 @@ impl<'a, C: Clock, R: Wait> ServiceKernel<'a, C, R> {
         ensures answer { MayAnswer version (Ask.Set id to) result [] }
         ensures service { self.new.service ≡ self.old.service }
         ensures clock { self.new.clock ≡ self.old.clock }
+        ensures caller { self.new.caller ≡ self.old.caller }
     {
         let told = self
             .service
@@ -188,6 +235,7 @@ impl<'a, C: Clock, R: Wait> ServiceKernel<'a, C, R> {
         ensures answer { MayAnswer version (Ask.Rm id) result [] }
         ensures service { self.new.service ≡ self.old.service }
         ensures clock { self.new.clock ≡ self.old.clock }
+        ensures caller { self.new.caller ≡ self.old.caller }
     {
         let told = self.service.msgctl_rmid(self.rt, &mut self.pass, cred, id);
         match told {
@@ -201,6 +249,7 @@ impl<'a, C: Clock, R: Wait> ServiceKernel<'a, C, R> {
         ensures answer { MayAnswer version (Ask.Row slot) result [] }
         ensures service { self.new.service ≡ self.old.service }
         ensures clock { self.new.clock ≡ self.old.clock }
+        ensures caller { self.new.caller ≡ self.old.caller }
     {
         let told = self.service.list_row(self.rt, &mut self.pass, slot);
         match told {
@@ -211,13 +260,14 @@ impl<'a, C: Clock, R: Wait> ServiceKernel<'a, C, R> {
     }
 }
 
-impl<C: Clock, R: Wait> Kernel for ServiceKernel<'_, C, R> {
+impl<C: Clock, R: Wait, K: Caller + Copy> Kernel for ServiceKernel<'_, C, R, K> {
     ghost use Rattle.std.specs.Prelude.{◌≡◌};
     ghost use Rattle.sysv_keys.specs.declared.identifier.TheConstants.{SLOTS};
     ghost use Rattle.sysv_kernel.specs.Asked.{Asks};
 
     ghost meaning = { λ old cred request text outcome given new. (new.service ≡ old.service) × (new.clock ≡ old.clock)
-        × Asks (C.may old.clock.now) request.version cred request.ask text old.pass outcome given new.pass };
+        × (new.caller ≡ old.caller)
+        × Asks (C.may old.clock.now) (K.may_leave old.caller) request.version cred request.ask text old.pass outcome given new.pass };
 
     ghost slots = { λ _. SLOTS };
 

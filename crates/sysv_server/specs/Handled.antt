@@ -1,5 +1,5 @@
 -- What a worker of a server does with its connections (this profile's).
-use Rattle.std.specs.Prelude.{◌≡◌, ℕ, List, Option, None, Some, map, flat_map}
+use Rattle.std.specs.Prelude.{◌≡◌, ℕ, ⊤, List, Option, None, Some, map, flat_map}
 use Rattle.std.specs.List.{FoldsTo}
 use Rattle.sysv_queue.specs.Tally.{Tallied}
 use Rattle.sysv_session.specs.declared.served.Served.{Served}
@@ -13,11 +13,11 @@ abbrev pub zero_moment : ℕ → Type 0
 zero_moment now = now ≡ 0
 
 -- A session with this pass told this; or its memory was refused, and nothing was done. Of what a socket gives and takes nothing
--- is known.
+-- is known. Its client may leave a call that waits.
 abbrev pub Talks : Pass → Option Served → Pass → Type 0
 Talks before None after = after ≡ before
 Talks before (Some served) after =
-    (left rest taken more : Option (List ℕ)) × ServesPass zero_moment served before after left rest taken more
+    (left rest taken more : Option (List ℕ)) × ServesPass zero_moment ⊤ served before after left rest taken more
 
 -- what became of the messages of a session
 abbrev pub tally_of : Option Served → Tallied

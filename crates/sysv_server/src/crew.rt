@@ -9,8 +9,7 @@ use crate::session::Worker;
 use crate::sums::Sums;
 use std::alloc::Global;
 use std::sync::Wait;
-use sysv_gated::NoMemory;
-use sysv_service::{Pass, Service};
+use sysv_service::{NoMemory, Pass, Service};
 
 /// Adds so many workers, each with a pass that is split off from this one.
 pub(crate) fn hire<'a, R: Wait>(

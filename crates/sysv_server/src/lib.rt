@@ -6,6 +6,7 @@ mod crew;
 mod fault;
 mod framing;
 mod patient;
+mod peer;
 mod serving;
 mod session;
 mod sums;

@@ -1,10 +1,11 @@
 //! One session on a connection, and the workers that run them.
-ghost use Rattle.std.specs.Prelude.{◌≡◌, ℕ, List, Option, IfSome, IfNone};
+ghost use Rattle.std.specs.Prelude.{◌≡◌, ℕ, List, Option, ⊤, IfSome, IfNone};
 ghost use Rattle.sysv_gated.specs.Seats.{AreOf};
 ghost use Rattle.sysv_kernel.specs.Asked.{ServesPass};
 ghost use Rattle.sysv_server.specs.Added.{nothing};
 
 use crate::patient::Patient;
+use crate::peer::Peer;
 use crate::sums::Sums;
 use crate::terms::Patience;
 use std::alloc::Global;
@@ -30,10 +31,10 @@ impl Clock for Zero {
 
 const ZERO: Zero = Zero;
 
-/// A worker: a kernel with a pass of its own, what its sessions add up to, and the texts that they share one after
-/// another, once there are some.
+/// A worker: a kernel with a pass of its own, whose caller is the peer of the session that it runs; what its sessions add up
+/// to; and the texts that they share one after another, once there are some.
 pub(crate) struct Worker<'a, R: Wait> {
-    kernel: ServiceKernel<'a, Zero, R>,
+    kernel: ServiceKernel<'a, Zero, R, Peer>,
     sums: Sums,
     texts: Option<Texts>,
 }
@@ -47,7 +48,7 @@ impl<'a, R: Wait> Worker<'a, R> {
         ensures sums { result.sums ≡ nothing }
     {
         Worker {
-            kernel: ServiceKernel::new(rt, service, &ZERO, pass),
+            kernel: ServiceKernel::for_caller(rt, service, &ZERO, pass, Peer::none()),
             sums: Sums::open(),
             texts: None,
         }
@@ -90,10 +91,12 @@ impl<'a, R: Wait> Job<Worker<'a, R>, UnixStream> for Sessions<'a> {
             sums,
             texts,
         } = worker;
+        kernel.set_caller(Peer::of(&stream));
         let tally = match converse(self.alloc, kernel, texts, reader, &stream) {
             Some(served) => served.tally,
             None => Tally::open(),
         };
+        kernel.set_caller(Peer::none());
         sums.add(Sums::of(&tally));
     }
 }
@@ -110,12 +113,13 @@ fn opened(alloc: Global, texts: &mut Option<Texts>) -> Option<&mut Texts> {
 /// refused, and then nothing was read or written.
 fn converse<C: Clock, R: Wait>(
     alloc: Global,
-    kernel: &mut ServiceKernel<'_, C, R>,
+    kernel: &mut ServiceKernel<'_, C, R, Peer>,
     texts: &mut Option<Texts>,
     reader: Patient<'_>,
     stream: &UnixStream,
 ) -> Option<Served>
-    ensures some { IfSome result (λ told. (left rest taken more : Option (List ℕ)) × ServesPass (C.may kernel.old.clock.now) told kernel.old.pass kernel.new.pass left rest taken more) }
+    ensures some { IfSome result (λ told. (left rest taken more : Option (List ℕ))
+        × ServesPass (C.may kernel.old.clock.now) ⊤ told kernel.old.pass kernel.new.pass left rest taken more) }
     ensures none { IfNone result (kernel.new.pass ≡ kernel.old.pass) }
     ensures service { kernel.new.service ≡ kernel.old.service }
     ensures clock { kernel.new.clock ≡ kernel.old.clock }

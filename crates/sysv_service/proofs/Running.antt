@@ -1,6 +1,6 @@
 -- How what a call did goes on by one step, or by the end of a wait.
 use Rattle.std.specs.Prelude.{⊤}
-use Rattle.std.proofs.Common.{◌≡◌, ℕ, ◌+◌, ◌⊎◌, inl, inr, true, false, List, [], ◌∷◌, ◌++◌, Some, Result, Ok, Err, IfOk, IfErr, OnErr, refl, sym, subst, ◌∙◌}
+use Rattle.std.proofs.Common.{◌≡◌, ℕ, ◌+◌, ◌⊎◌, inl, inr, true, false, List, [], ◌∷◌, ◌++◌, Option, Some, None, IfNone, Result, Ok, Err, IfOk, IfErr, OnErr, refl, sym, subst, ◌∙◌}
 use Rattle.sysv_model.specs.Pool.{Release}
 use Rattle.sysv_model.specs.Turn.{Deed, AtPool, OfPool, asked_by}
 use Rattle.sysv_pool.specs.Chain.{Chained}
@@ -73,6 +73,16 @@ given may phase before state after blocks unstamped asks_it goes back (inr worn)
 pub by_result : {T E : Type 0} (r : Result T E) (P : Type 0) → ((x : T) → r ≡ Ok x → P) → ((e : E) → r ≡ Err e → P) → P
 by_result (Ok x) P ok err = ok x refl
 by_result (Err e) P ok err = err e refl
+
+-- ---- where there may be no result
+
+pub if_none : {T P : Type 0} (o : Option T) → P → IfNone o P
+if_none None p = p
+if_none (Some x) p = tt
+
+pub none_then : {T P Q : Type 0} (o : Option T) → IfNone o P → (P → Q) → IfNone o Q
+none_then None p f = f p
+none_then (Some x) p f = tt
 
 -- ---- a call's loop
 

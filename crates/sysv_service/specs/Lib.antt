@@ -5,6 +5,7 @@ pub use Rattle.sysv_steps.specs.Next
 pub mod Ran
 pub mod Kinds
 pub mod Waited
+pub mod Left
 pub mod Told
 pub mod Stopped
 pub mod Closing

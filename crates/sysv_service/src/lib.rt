@@ -10,6 +10,7 @@
 //! ```
 #![tactic(auto)]
 
+mod caller;
 mod clock;
 mod closing;
 mod control;
@@ -22,6 +23,7 @@ mod service;
 mod stopping;
 mod waiting;
 
+pub use caller::{Caller, Stays};
 pub use clock::Clock;
 pub use closing::Closed;
 pub use laws::{
@@ -29,3 +31,8 @@ pub use laws::{
 };
 pub use pass::Pass;
 pub use service::Service;
+
+// What the signatures name beside these.
+pub use sysv_gated::OpenRefused;
+pub use sysv_model::{Body, Cred, Errno, Flags, NoMemory, Row, SetTo, Stat};
+pub use sysv_queue::Delivery;

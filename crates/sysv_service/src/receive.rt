@@ -1,6 +1,6 @@
 //! `msgrcv`.
 
-ghost use Rattle.std.specs.Prelude.{◌≡◌, ◌≤◌, ℕ, List, [], length, IfOk};
+ghost use Rattle.std.specs.Prelude.{◌≡◌, ◌≤◌, ℕ, List, [], length, IfOk, IfNone, IfSome};
 ghost use Rattle.sysv_model.specs.declared.limits.TheConstants.{MESSAGE_BYTES as most_bytes};
 ghost use Rattle.sysv_steps.specs.Call.{Msgrcv};
 ghost use Rattle.sysv_steps.specs.Begin.{begin as begins};
@@ -10,8 +10,10 @@ ghost use Rattle.sysv_gated.specs.Seats.{AreOf};
 ghost use Rattle.sysv_service.specs.Ran.{no_moment, Comes};
 ghost use Rattle.sysv_service.specs.Kinds.{Receives, IsSized};
 ghost use Rattle.sysv_service.specs.Told.{TellsGot};
+ghost use Rattle.sysv_service.specs.Left.{IsLeft};
 ghost use Rattle.sysv_service.specs.Delivered.{HasGiven, StepsGiving};
 
+use crate::caller::{Caller, Stays};
 use crate::clock::Clock;
 use crate::pass::Pass;
 use crate::service::Service;
@@ -44,12 +46,53 @@ impl Service {
         // The message that it gives is the one that it took.
         ensures given { IfOk result (λ told. HasGiven (C.may clock.now) (begins cred (Msgrcv id size mtype flags) 0) pass.old told pass.new) }
     {
+        match self.msgrcv_for(rt, pass, clock, &Stays, cred, id, out, size, mtype, flags) {
+            Some(told) => told,
+            None => unreachable!(),
+        }
+    }
+
+    /// As `msgrcv`, for a caller that may leave. `None` if it left while the call waited: nothing is taken then, and `out` is
+    /// empty. The caller is asked after each wait of about a second, and before a wait's next turn.
+    #[allow(clippy::too_many_arguments)]
+    pub fn msgrcv_for<C: Clock, K: Caller>(
+        &self,
+        rt: &impl MayWait,
+        pass: &mut Pass,
+        clock: &C,
+        caller: &K,
+        cred: Cred,
+        id: i32,
+        out: &mut Body,
+        size: u32,
+        mtype: i64,
+        flags: Flags,
+    ) -> Option<Result<Delivery, Errno>>
+        requires { AreOf self.now pass.old.seats }
+        ensures pass { AreOf self.now pass.new.seats }
+        ensures ran { IfSome result (λ told. (ending : Ends)
+            × Comes (C.may clock.now) (begins cred (Msgrcv id size mtype flags) 0) pass.old (Over ending) pass.new
+            × TellsGot ending told out.new) }
+        // The message that it gives is the one that it took.
+        ensures given { IfSome result (λ told. IfOk told (λ given.
+            HasGiven (C.may clock.now) (begins cred (Msgrcv id size mtype flags) 0) pass.old given pass.new)) }
+        ensures left { IfNone result (IsLeft (K.may_leave caller.now) (C.may clock.now)
+            (begins cred (Msgrcv id size mtype flags) 0) pass.old pass.new) }
+        ensures empty { IfNone result (out.new ≡ []) }
+    {
         let mut state = Receiving::begin(cred, id, size, mtype, flags);
         for _ in rt.forever() {
             state = match state {
                 State::Goes(phase) => self.receive_step(rt, pass, clock, out, phase),
-                State::Waits(wait) => self.wait_on(rt, pass, wait),
-                State::Over(ending) => return given_of(ending, out),
+                State::Waits(wait) => match self.wait_for(rt, pass, caller, wait) {
+                    Some(next) => next,
+                    None => {
+                        self.gates.pass_arrived_on(id);
+                        out.clear();
+                        return None;
+                    }
+                },
+                State::Over(ending) => return Some(given_of(ending, out)),
             };
         }
         unreachable!()
@@ -82,7 +125,8 @@ impl Service {
         }
     }
 
-    /// The text that is given is copied out once the message is taken.
+    /// The text that is given is copied out once the message is taken. An arrival wakes one receive that waits, so a receive
+    /// that takes nothing wakes the next.
     fn take<C: Clock>(
         &self,
         rt: &impl MayWait,
@@ -111,8 +155,14 @@ impl Service {
                 let (delivery, chain) = taken.finish(size, out);
                 receive.given(delivery, chain)
             }
-            Ok(Err(why)) => receive.untaken(why),
-            Err(Worn) => overflow(),
+            Ok(Err(why)) => {
+                self.gates.pass_arrived_on(id);
+                receive.untaken(why)
+            }
+            Err(Worn) => {
+                self.gates.pass_arrived_on(id);
+                overflow()
+            }
         }
     }
 }

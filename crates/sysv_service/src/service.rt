@@ -10,7 +10,8 @@ ghost use Rattle.sysv_gated.specs.Sharing.{AreSplit, AreJoined};
 use crate::pass::Pass;
 use std::alloc::Global;
 use std::marker::Model;
-use sysv_gated::{Gates, GatesRefused, NoMemory};
+use sysv_gated::{Gates, OpenRefused};
+use sysv_model::NoMemory;
 use sysv_pool::Chain;
 
 /// The queues of a system: 256 slots, the registry of their keys and the pool of blocks, which threads share by reference.
@@ -30,10 +31,10 @@ impl Model for Service {
 impl Service {
     /// A service without queues, with a pool of this many blocks, 128 to 65,536, and its first pass. `BadSize` comes exactly
     /// where the number of blocks is out of that range. No later call but `split_pass` takes memory.
-    pub fn open(alloc: Global, blocks: u32) -> Result<(Service, Pass), GatesRefused>
+    pub fn open(alloc: Global, blocks: u32) -> Result<(Service, Pass), OpenRefused>
         ensures open { IfOk result (λ o. AreOpen 0 blocks 0 o.0 × (o.1 ≡ record { seats = all_opened o.0; held = 0 })) }
         ensures fits { IfOk result (λ o. AreOf o.0 o.1.seats) }
-        ensures bad_size { (result ≡ Err GatesRefused.BadSize) ↔ ((blocks < least_blocks) ⊎ (most_blocks < blocks)) }
+        ensures bad_size { (result ≡ Err OpenRefused.BadSize) ↔ ((blocks < least_blocks) ⊎ (most_blocks < blocks)) }
     {
         Service::open_at(alloc, blocks, 0, 0)
     }
@@ -45,10 +46,10 @@ impl Service {
         blocks: u32,
         first: u64,
         generation: u32,
-    ) -> Result<(Service, Pass), GatesRefused>
+    ) -> Result<(Service, Pass), OpenRefused>
         ensures open { IfOk result (λ o. AreOpen generation blocks first o.0 × (o.1 ≡ record { seats = all_opened o.0; held = 0 })) }
         ensures fits { IfOk result (λ o. AreOf o.0 o.1.seats) }
-        ensures bad_size { (result ≡ Err GatesRefused.BadSize) ↔ ((blocks < least_blocks) ⊎ (most_blocks < blocks) ⊎ (2 ^ 62 < first) ⊎ (GENERATION_LAST < generation)) }
+        ensures bad_size { (result ≡ Err OpenRefused.BadSize) ↔ ((blocks < least_blocks) ⊎ (most_blocks < blocks) ⊎ (2 ^ 62 < first) ⊎ (GENERATION_LAST < generation)) }
     {
         let (gates, seats) = Gates::open_at(alloc, blocks, first, generation)?;
         let pass = Pass {

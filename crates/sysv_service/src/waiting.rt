@@ -1,15 +1,16 @@
 //! What all calls share: waits, chains that go back, and gates that are worn out.
 
-ghost use Rattle.std.specs.Prelude.{◌≡◌, ◌+◌, ℕ, List, []};
+ghost use Rattle.std.specs.Prelude.{◌≡◌, ◌+◌, ℕ, List, [], IfNone, IfSome};
 ghost use Rattle.sysv_steps.specs.Resume.{awaited, goal_of};
 ghost use Rattle.sysv_steps.specs.Seen.{wait_of, state_of, ending_of};
 ghost use Rattle.sysv_gated.specs.Seats.{AreOf};
-ghost use Rattle.sysv_gated.specs.Reading.{Awaits};
-ghost use Rattle.sysv_steps.specs.State.{Over};
+ghost use Rattle.sysv_gated.specs.Reading.{AwaitsWithin};
+ghost use Rattle.sysv_steps.specs.State.{Over, Waits};
 ghost use Rattle.sysv_service.specs.Kinds.{EndsInZero};
 ghost use Rattle.sysv_service.specs.Told.{TellsZero};
 ghost use Rattle.sysv_service.specs.Waited.{EndsWait, GivesBack, goal_seen};
 
+use crate::caller::{Caller, Stays};
 use crate::pass::Pass;
 use crate::service::Service;
 use std::mem;
@@ -58,36 +59,74 @@ impl Service {
         ensures pass { AreOf self.now pass.new.seats }
         ensures ended { (text : List ℕ) → EndsWait (wait_of wait text) pass.old (state_of result text) pass.new }
     {
-        match self.await_count(rt, pass, &wait) {
-            Awaited::Reached(value) if wait.is_over(value) => State::Goes(wait.resume(value)),
-            Awaited::Reached(_) => State::Waits(wait),
-            Awaited::Worn => overflow(),
+        match self.wait_for(rt, pass, &Stays, wait) {
+            Some(state) => state,
+            None => unreachable!(),
         }
     }
 
-    /// Waits for the count of a wait to pass the value that it names.
-    fn await_count(&self, rt: &impl MayWait, pass: &mut Pass, wait: &Wait) -> Awaited
+    /// Waits for up to a second until the call may go on. If the goal is not reached then, the call still waits. `None` if the
+    /// caller has left, which is asked at the end of each wait.
+    pub(crate) fn wait_for<K: Caller>(
+        &self,
+        rt: &impl MayWait,
+        pass: &mut Pass,
+        caller: &K,
+        wait: Wait,
+    ) -> Option<State>
+        requires { AreOf self.now pass.old.seats }
+        ensures pass { AreOf self.now pass.new.seats }
+        ensures ended { IfSome result (λ state. (text : List ℕ) →
+            EndsWait (wait_of wait text) pass.old (state_of state text) pass.new) }
+        ensures left { IfNone result (K.may_leave caller.now) }
+        ensures still { IfNone result ((text : List ℕ) →
+            EndsWait (wait_of wait text) pass.old (Waits (wait_of wait text)) pass.new) }
+    {
+        match self.await_within(rt, pass, &wait) {
+            Some(Awaited::Reached(value)) => {
+                if caller.has_left() {
+                    return None;
+                }
+                if wait.is_over(value) {
+                    return Some(State::Goes(wait.resume(value)));
+                }
+                Some(State::Waits(wait))
+            }
+            Some(Awaited::Worn) => Some(overflow()),
+            None => {
+                if caller.has_left() {
+                    return None;
+                }
+                Some(State::Waits(wait))
+            }
+        }
+    }
+
+    /// Waits for up to a second for the count of a wait to pass the value that it names.
+    fn await_within(&self, rt: &impl MayWait, pass: &mut Pass, wait: &Wait) -> Option<Awaited>
         requires { AreOf self.now pass.old.seats }
         ensures pass { AreOf self.now pass.new.seats }
         ensures held { pass.new.held ≡ pass.old.held }
-        ensures waited { (text : List ℕ) → Awaits (awaited (wait_of wait.now text)) (goal_seen (goal_of (wait_of wait.now text))) pass.old.seats result pass.new.seats }
+        ensures waited { (text : List ℕ) → AwaitsWithin (awaited (wait_of wait.now text))
+            (goal_seen (goal_of (wait_of wait.now text))) pass.old.seats result pass.new.seats }
     {
         let seats = &mut pass.seats;
         match *wait {
             Wait::Settled { above, .. } => {
-                self.gates.await_settled(rt, seats, above.saturating_add(1))
+                self.gates
+                    .settled_within(rt, seats, above.saturating_add(1))
             }
             Wait::Freed { above, send } => {
                 self.gates
-                    .await_freed(rt, seats, send.id, above.saturating_add(1))
+                    .freed_within(rt, seats, send.id, above.saturating_add(1))
             }
             Wait::Released { above, .. } => {
                 self.gates
-                    .await_released(rt, seats, above.saturating_add(1))
+                    .released_within(rt, seats, above.saturating_add(1))
             }
             Wait::Arrived { above, receive } => {
                 self.gates
-                    .await_arrived(rt, seats, receive.id, above.saturating_add(1))
+                    .arrived_within(rt, seats, receive.id, above.saturating_add(1))
             }
         }
     }

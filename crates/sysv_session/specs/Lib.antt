@@ -6,3 +6,4 @@ pub mod Turn
 pub mod Session
 pub mod Parts
 pub mod Course
+pub mod Failing

@@ -9,4 +9,4 @@ mod turn;
 
 pub use kernel::{Kernel, Outcome};
 pub use served::{End, SESSION_REQUESTS, Served};
-pub use session::{Texts, serve, serve_with};
+pub use session::{Texts, serve, serve_watched, serve_with};

@@ -1,6 +1,8 @@
 //! A session, from its hello to its end.
 ghost use Rattle.std.specs.Prelude.{◌≡◌, ◌≢◌, ◌<◌, ◌-◌, ◌^◌, List, ℕ, [], Some};
+ghost use Rattle.sysv_model.specs.Watched.{failures_after, failures_of, stream_name, stream_of};
 ghost use Rattle.sysv_queue.specs.Tally.{taken_in};
+ghost use Rattle.sysv_session.specs.Failing.{ends_by_read, ends_by_write, is_failed_read, is_failed_write};
 ghost use Rattle.sysv_session.specs.Session.{Serves, ServesBy};
 ghost use Rattle.sysv_session.specs.Course.{Course, Follows, Takes};
 ghost use Rattle.sysv_session.specs.Parts.{Goes, Opens};
@@ -11,7 +13,7 @@ use crate::served::{End, SESSION_REQUESTS, Served};
 use crate::turn::{answer, hello_reply, read_asked, read_hello, send};
 use std::alloc::Global;
 use std::io::{Read, Write};
-use sysv_model::{Body, Cred, NoMemory};
+use sysv_model::{Body, Cred, NoMemory, Watched};
 use sysv_queue::Tally;
 use sysv_wire::{Request, Version, one_answer_to_requests, one_request};
 
@@ -55,6 +57,32 @@ pub fn serve_with<R: Read, W: Write, K: Kernel>(
     // It ends as its input tells, unless it is cut short.
     ensures only { (input : List ℕ) (course : Course) → R.remaining reader.old ≡ Some input → Takes input course → Follows course result }
     ensures memory { result.«end» ≢ End.NoMemory }
+{
+    serve_watched(
+        texts,
+        &mut Watched::new(reader),
+        &mut Watched::new(writer),
+        kernel,
+    )
+}
+
+/// As `serve_with`, and tells which stream failed: the reader if and only if the session ended by `Fault(Read)`, the
+/// writer if and only if it ended by `Write`.
+pub fn serve_watched<R: Read, W: Write, K: Kernel>(
+    texts: &mut Texts,
+    reader: &mut Watched<'_, R>,
+    writer: &mut Watched<'_, W>,
+    kernel: &mut K,
+) -> Served
+    ensures serves { Serves K.meaning (K.slots kernel.old) result kernel.old kernel.new (R.remaining (stream_of reader.old)) (R.remaining (stream_of reader.new)) (W.contents (stream_of writer.old)) (W.contents (stream_of writer.new)) }
+    // It ends as its input tells, unless it is cut short.
+    ensures only { (input : List ℕ) (course : Course) → R.remaining (stream_of reader.old) ≡ Some input → Takes input course → Follows course result }
+    ensures memory { result.«end» ≢ End.NoMemory }
+    // The streams are the same ones, and each has failed in this call if and only if the end says so.
+    ensures same_reader { stream_name reader.new ≡ stream_name reader.old }
+    ensures same_writer { stream_name writer.new ≡ stream_name writer.old }
+    ensures reader_failed { failures_of reader.new ≡ failures_after (is_failed_read result.«end») (failures_of reader.old) }
+    ensures writer_failed { failures_of writer.new ≡ failures_after (is_failed_write result.«end») (failures_of writer.old) }
 {
     one_request();
     one_answer_to_requests();
@@ -109,15 +137,19 @@ impl Session {
         &mut self,
         slots: u32,
         texts: &mut Texts,
-        reader: &mut R,
-        writer: &mut W,
+        reader: &mut Watched<'_, R>,
+        writer: &mut Watched<'_, W>,
         kernel: &mut K,
     ) -> End
         requires tally { self.old.tally ≡ record { written = 0; lost = 0 } }
         requires count { self.old.requests ≡ 0 }
-        ensures serves { ServesBy K.meaning slots result self.new.tally self.new.requests kernel.old kernel.new (R.remaining reader.old) (R.remaining reader.new)
-            (W.contents writer.old) (W.contents writer.new) }
+        ensures serves { ServesBy K.meaning slots result self.new.tally self.new.requests kernel.old kernel.new (R.remaining (stream_of reader.old)) (R.remaining (stream_of reader.new))
+            (W.contents (stream_of writer.old)) (W.contents (stream_of writer.new)) }
         ensures memory { result ≢ End.NoMemory }
+        ensures same_reader { stream_name reader.new ≡ stream_name reader.old }
+        ensures same_writer { stream_name writer.new ≡ stream_name writer.old }
+        ensures reader_failed { failures_of reader.new ≡ failures_after (is_failed_read result) (failures_of reader.old) }
+        ensures writer_failed { failures_of writer.new ≡ failures_after (is_failed_write result) (failures_of writer.old) }
     {
         match self.greet(slots, texts, reader, writer) {
             Ok((version, cred)) => {
@@ -132,12 +164,16 @@ impl Session {
         &mut self,
         slots: u32,
         texts: &mut Texts,
-        reader: &mut R,
-        writer: &mut W,
+        reader: &mut Watched<'_, R>,
+        writer: &mut Watched<'_, W>,
     ) -> Result<(Version, Cred), End>
         requires { self.old.requests ≡ 0 }
-        ensures opens { Opens slots result (R.remaining reader.old) (R.remaining reader.new) (W.contents writer.old) (W.contents writer.new) self.new.requests }
+        ensures opens { Opens slots result (R.remaining (stream_of reader.old)) (R.remaining (stream_of reader.new)) (W.contents (stream_of writer.old)) (W.contents (stream_of writer.new)) self.new.requests }
         ensures tally { self.new.tally ≡ self.old.tally }
+        ensures same_reader { stream_name reader.new ≡ stream_name reader.old }
+        ensures same_writer { stream_name writer.new ≡ stream_name writer.old }
+        ensures reader_failed { failures_of reader.new ≡ failures_after (ends_by_read result) (failures_of reader.old) }
+        ensures writer_failed { failures_of writer.new ≡ failures_after (ends_by_write result) (failures_of writer.old) }
     {
         let (version, cred) = read_hello(reader, &mut texts.asked)?;
         self.requests = 1;
@@ -153,14 +189,18 @@ impl Session {
         version: Version,
         cred: Cred,
         texts: &mut Texts,
-        reader: &mut R,
-        writer: &mut W,
+        reader: &mut Watched<'_, R>,
+        writer: &mut Watched<'_, W>,
         kernel: &mut K,
     ) -> End
         requires tally { self.old.tally ≡ record { written = 0; lost = 0 } }
         requires count { self.old.requests ≡ 1 }
-        ensures { Goes K.meaning version cred result kernel.old kernel.new (R.remaining reader.old) (R.remaining reader.new)
-            (W.contents writer.old) (W.contents writer.new) self.new.tally self.new.requests }
+        ensures goes { Goes K.meaning version cred result kernel.old kernel.new (R.remaining (stream_of reader.old)) (R.remaining (stream_of reader.new))
+            (W.contents (stream_of writer.old)) (W.contents (stream_of writer.new)) self.new.tally self.new.requests }
+        ensures same_reader { stream_name reader.new ≡ stream_name reader.old }
+        ensures same_writer { stream_name writer.new ≡ stream_name writer.old }
+        ensures reader_failed { failures_of reader.new ≡ failures_after (is_failed_read result) (failures_of reader.old) }
+        ensures writer_failed { failures_of writer.new ≡ failures_after (is_failed_write result) (failures_of writer.old) }
     {
         for _ in 1..SESSION_REQUESTS {
             if let Err(end) = self.serve_next(version, cred, texts, reader, writer, kernel) {
@@ -176,14 +216,18 @@ impl Session {
         version: Version,
         cred: Cred,
         texts: &mut Texts,
-        reader: &mut R,
-        writer: &mut W,
+        reader: &mut Watched<'_, R>,
+        writer: &mut Watched<'_, W>,
         kernel: &mut K,
     ) -> Result<(), End>
         requires room { taken_in self.old.tally < 2 ^ 64 - 1 }
         requires count { self.old.requests < SESSION_REQUESTS }
-        ensures { Turns K.meaning version cred result kernel.old kernel.new (R.remaining reader.old) (R.remaining reader.new)
-            (W.contents writer.old) (W.contents writer.new) self.old.tally self.new.tally self.old.requests self.new.requests }
+        ensures turns { Turns K.meaning version cred result kernel.old kernel.new (R.remaining (stream_of reader.old)) (R.remaining (stream_of reader.new))
+            (W.contents (stream_of writer.old)) (W.contents (stream_of writer.new)) self.old.tally self.new.tally self.old.requests self.new.requests }
+        ensures same_reader { stream_name reader.new ≡ stream_name reader.old }
+        ensures same_writer { stream_name writer.new ≡ stream_name writer.old }
+        ensures reader_failed { failures_of reader.new ≡ failures_after (ends_by_read result) (failures_of reader.old) }
+        ensures writer_failed { failures_of writer.new ≡ failures_after (ends_by_write result) (failures_of writer.old) }
     {
         let Some(request) = read_asked(reader, version, &mut texts.asked)? else {
             return Err(End::Ended);

@@ -1,13 +1,15 @@
 //! What a session reads and writes in one turn.
-ghost use Rattle.std.specs.Prelude.{◌≡◌, ◌<◌, ◌≤◌, ◌-◌, ◌^◌, List, ℕ, [], length, OnOk, OnErr};
+ghost use Rattle.std.specs.Prelude.{◌≡◌, ◌<◌, ◌≤◌, ◌-◌, ◌^◌, List, ℕ, [], false, is_err, length, OnOk, OnErr};
 ghost use Rattle.std.specs.Io.KnownBytes.{Appends};
 ghost use Rattle.sysv_model.specs.declared.limits.TheConstants.{MESSAGE_BYTES};
 ghost use Rattle.sysv_queue.specs.Tally.{taken_in};
 ghost use Rattle.sysv_session.specs.Answers.{reply_of, message_reply as the_reply};
+ghost use Rattle.sysv_model.specs.Watched.{failures_after, failures_of, stream_name, stream_of};
+ghost use Rattle.sysv_session.specs.Failing.{ends_by_read, ends_by_write};
 ghost use Rattle.sysv_session.specs.Input.{Greets, ReadsAsked};
 ghost use Rattle.sysv_session.specs.Output.{hello_reply as the_hello_reply};
 ghost use Rattle.sysv_session.specs.Turn.{Answers};
-ghost use Rattle.sysv_wire.specs.Reading.{ReadsRequest};
+ghost use Rattle.sysv_wire.specs.Faults.{is_read_fault};
 ghost use Rattle.sysv_wire.specs.Replies.{IsAnswer, reply_spelling};
 ghost use Rattle.sysv_model.specs.Writing.{AppendsPrefix};
 
@@ -20,18 +22,17 @@ use sysv_wire::{
     Ask, Fault, Op, Outcome as Told, Reply, Request, Version, WriteFault, read_request, write_reply,
 };
 
-/// Reads a request of either version; `None` at the end.
-fn read_any<R: Read>(reader: &mut R, text: &mut Body) -> Result<Option<Request>, Fault>
-    ensures { ReadsRequest (R.remaining reader.old) (R.remaining reader.new) result text.new }
-{
-    read_request(&mut Watched::new(reader), text)
-}
-
 /// Reads the first request, and says in which version and who calls.
-pub(crate) fn read_hello<R: Read>(reader: &mut R, text: &mut Body) -> Result<(Version, Cred), End>
-    ensures { Greets result (R.remaining reader.old) (R.remaining reader.new) }
+pub(crate) fn read_hello<R: Read>(
+    reader: &mut Watched<'_, R>,
+    text: &mut Body,
+) -> Result<(Version, Cred), End>
+    ensures greets { Greets result (R.remaining (stream_of reader.old)) (R.remaining (stream_of reader.new)) }
+    ensures same { stream_name reader.new ≡ stream_name reader.old }
+    ensures failed { failures_of reader.new ≡ failures_after (ends_by_read result) (failures_of reader.old) }
+    ensures write { ends_by_write result ≡ false }
 {
-    match read_any(reader, text)? {
+    match read_request(reader, text)? {
         Some(
             Request {
                 version,
@@ -61,13 +62,15 @@ pub(crate) fn hello_reply(version: Version, slots: u32) -> Reply
 
 /// Reads a later request of a session of this version; `None` at the end.
 pub(crate) fn read_asked<R: Read>(
-    reader: &mut R,
+    reader: &mut Watched<'_, R>,
     version: Version,
     text: &mut Body,
 ) -> Result<Option<Request>, Fault>
-    ensures { ReadsAsked version (R.remaining reader.old) (R.remaining reader.new) result text.new }
+    ensures reads { ReadsAsked version (R.remaining (stream_of reader.old)) (R.remaining (stream_of reader.new)) result text.new }
+    ensures same { stream_name reader.new ≡ stream_name reader.old }
+    ensures failed { failures_of reader.new ≡ failures_after (is_read_fault result) (failures_of reader.old) }
 {
-    match read_any(reader, text)? {
+    match read_request(reader, text)? {
         Some(request) if request.version != version => Err(Fault::BadField),
         Some(
             Request {
@@ -80,14 +83,19 @@ pub(crate) fn read_asked<R: Read>(
 }
 
 /// Writes a reply, and flushes it.
-pub(crate) fn send<W: Write>(writer: &mut W, reply: &Reply, text: &Body) -> Result<(), WriteFault>
+pub(crate) fn send<W: Write>(
+    writer: &mut Watched<'_, W>,
+    reply: &Reply,
+    text: &Body,
+) -> Result<(), WriteFault>
     requires answer { IsAnswer reply.now.version reply.now.op reply.now.result }
     requires text { length text.now ≤ MESSAGE_BYTES }
-    ensures ok { OnOk result (Appends (W.contents writer.old) (W.contents writer.new) (reply_spelling reply.now text.now)) }
-    ensures err { OnErr result (AppendsPrefix (W.contents writer.old) (W.contents writer.new) (reply_spelling reply.now text.now)) }
+    ensures ok { OnOk result (Appends (W.contents (stream_of writer.old)) (W.contents (stream_of writer.new)) (reply_spelling reply.now text.now)) }
+    ensures err { OnErr result (AppendsPrefix (W.contents (stream_of writer.old)) (W.contents (stream_of writer.new)) (reply_spelling reply.now text.now)) }
+    ensures same { stream_name writer.new ≡ stream_name writer.old }
+    ensures failed { failures_of writer.new ≡ failures_after (is_err result) (failures_of writer.old) }
 {
-    let mut writer = Watched::new(writer);
-    write_reply(&mut writer, reply, text)?;
+    write_reply(writer, reply, text)?;
     match writer.flush() {
         Ok(()) => Ok(()),
         Err(_) => Err(WriteFault),
@@ -110,7 +118,7 @@ fn message_reply(version: Version, delivery: &Delivery) -> Reply
 /// Writes a message that the kernel gave, and spends its delivery: as written where the reply was written
 /// whole and flushed, else as lost.
 fn deliver<W: Write>(
-    writer: &mut W,
+    writer: &mut Watched<'_, W>,
     version: Version,
     delivery: Delivery,
     given: &Body,
@@ -118,7 +126,10 @@ fn deliver<W: Write>(
 ) -> Result<(), End>
     requires text { length given.now ≤ MESSAGE_BYTES }
     requires room { taken_in tally.old < 2 ^ 64 - 1 }
-    ensures { Answers result version (Outcome.Got delivery) given.now (W.contents writer.old) (W.contents writer.new) tally.old tally.new }
+    ensures answers { Answers result version (Outcome.Got delivery) given.now (W.contents (stream_of writer.old)) (W.contents (stream_of writer.new)) tally.old tally.new }
+    ensures same { stream_name writer.new ≡ stream_name writer.old }
+    ensures failed { failures_of writer.new ≡ failures_after (ends_by_write result) (failures_of writer.old) }
+    ensures read { ends_by_read result ≡ false }
 {
     let reply = message_reply(version, &delivery);
     match send(writer, &reply, given) {
@@ -135,7 +146,7 @@ fn deliver<W: Write>(
 
 /// Writes what the kernel answered to a request of this version.
 pub(crate) fn answer<W: Write>(
-    writer: &mut W,
+    writer: &mut Watched<'_, W>,
     version: Version,
     outcome: Outcome,
     given: &Body,
@@ -144,7 +155,10 @@ pub(crate) fn answer<W: Write>(
     requires reply { IsAnswer (reply_of version outcome).version (reply_of version outcome).op (reply_of version outcome).result }
     requires text { length given.now ≤ MESSAGE_BYTES }
     requires room { taken_in tally.old < 2 ^ 64 - 1 }
-    ensures { Answers result version outcome given.now (W.contents writer.old) (W.contents writer.new) tally.old tally.new }
+    ensures answers { Answers result version outcome given.now (W.contents (stream_of writer.old)) (W.contents (stream_of writer.new)) tally.old tally.new }
+    ensures same { stream_name writer.new ≡ stream_name writer.old }
+    ensures failed { failures_of writer.new ≡ failures_after (ends_by_write result) (failures_of writer.old) }
+    ensures read { ends_by_read result ≡ false }
 {
     match outcome {
         Outcome::Reply(reply) => {

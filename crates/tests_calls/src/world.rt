@@ -13,7 +13,7 @@ use std::alloc::Global;
 use std::process::Abort;
 use sysv_core::{Answer, Call, Event, OpenRefused, Outcome, Standing, Stepped, World};
 use sysv_model::{Body, Cred, Errno, Flags, NoMemory, Perm, SetTo, Stat};
-use sysv_queue::Look;
+use sysv_queue::{Look, Tally};
 use sysv_steps::Phase;
 use tests_kit::{creating, flags};
 
@@ -318,6 +318,24 @@ fn the_body_of_a_send_comes_back_once(rt: HostRuntime) {
         (1, invalid, None),
     );
     assert!(rt; world.spare().is_some());
+    assert_is(&rt, world.end(), 1024);
+}
+
+#[test]
+fn each_message_that_is_answered_is_counted_as_written(rt: HostRuntime) {
+    let alloc = rt.alloc();
+    let mut world = world_with_queue(&rt, alloc, 2);
+    assert_eq!(rt; world.tally(), Tally::open());
+    assert_nothing(&rt, world.step(send(&rt, alloc, 1, 5, b"one")));
+    assert_ends(&rt, &mut world, (1, Outcome::Zero, None));
+    assert_eq!(rt; world.tally(), Tally::open());
+    let got = Outcome::Got { mtype: 5, len: 3 };
+    assert_receives(&rt, alloc, &mut world, (2, got, Some(b"one")));
+    assert_eq!(rt; world.tally().written(), 1);
+    let none = Outcome::Refused(Errno::ENOMSG);
+    assert_receives(&rt, alloc, &mut world, (2, none, Some(b"")));
+    assert_eq!(rt; world.tally().written(), 1);
+    assert_eq!(rt; world.tally().lost(), 0);
     assert_is(&rt, world.end(), 1024);
 }
 

@@ -12,6 +12,7 @@ use std::process::Abort;
 use std::rt::Files;
 use std::sync::Wait;
 use std::thread::Threads;
+use std::time::{Clock, Duration};
 use std::{fs, thread};
 use sysv_keys::SLOTS;
 use sysv_server::{Ended, Patience, ServeFault, Sums, Terms, serve_listener, serve_on};
@@ -164,11 +165,13 @@ fn waiting(rt: &impl Net, path: &str) -> bool {
         & gives(&mut first, RECEIVED)
 }
 
-/// One session waits for what two others send, and its client is gone by then.
-fn vanishing(rt: &impl Net, path: &str) -> bool {
-    talks(rt, path, &[HELLO, CREATE, RECEIVE], &[KNOWN, FOUND])
+/// One session waits for what another sends, and its client is gone by then. A third is given the message.
+fn vanishing(rt: &(impl Net + Wait + Clock), path: &str) -> bool {
+    let begun = talks(rt, path, &[HELLO, CREATE, RECEIVE], &[KNOWN, FOUND]);
+    thread::sleep(rt, Duration::from_millis(300));
+    begun
         & talks(rt, path, &[HELLO, SEND], &[KNOWN, SENT])
-        & talks(rt, path, &[HELLO, SEND], &[KNOWN, SENT])
+        & talks(rt, path, &[HELLO, RECEIVE_NOW], &[KNOWN, RECEIVED])
 }
 
 /// A client goes away within a frame, and another before it says anything.
@@ -232,7 +235,7 @@ enum Clients {
 
 impl Clients {
     /// They were answered as they should be.
-    fn run(self, rt: &impl Net, alloc: Global, path: &str) -> bool {
+    fn run(self, rt: &(impl Net + Wait + Clock), alloc: Global, path: &str) -> bool {
         match self {
             Clients::Leaving => leaving(rt, path),
             Clients::Passing => passing(rt, path),
@@ -247,7 +250,7 @@ impl Clients {
 }
 
 /// What a server with so many workers and sessions answers, and whether its clients were answered as they should be.
-fn served<R: Threads + Wait + Net + Files + Abort + Sync>(
+fn served<R: Threads + Wait + Net + Files + Abort + Clock + Sync>(
     rt: &R,
     alloc: Global,
     workers: u32,
@@ -274,7 +277,7 @@ fn served<R: Threads + Wait + Net + Files + Abort + Sync>(
 
 /// The server answers these sums, and its clients were answered as they should be. It is tried again if memory or a
 /// thread was refused before a session began.
-fn adds_up<R: Threads + Wait + Net + Files + Abort + Sync>(
+fn adds_up<R: Threads + Wait + Net + Files + Abort + Clock + Sync>(
     rt: &R,
     alloc: Global,
     workers: u32,
@@ -293,7 +296,7 @@ fn adds_up<R: Threads + Wait + Net + Files + Abort + Sync>(
 }
 
 /// How a server on these terms ends, and whether its clients were answered as they should be.
-fn ended<R: Threads + Wait + Net + Files + Abort + Sync>(
+fn ended<R: Threads + Wait + Net + Files + Abort + Clock + Sync>(
     rt: &R,
     alloc: Global,
     terms: Terms,
@@ -318,7 +321,7 @@ fn ended<R: Threads + Wait + Net + Files + Abort + Sync>(
 
 /// The server ends so, and its clients were answered as they should be. It is tried again if memory or a thread was refused
 /// before a session began.
-fn ends_as<R: Threads + Wait + Net + Files + Abort + Sync>(
+fn ends_as<R: Threads + Wait + Net + Files + Abort + Clock + Sync>(
     rt: &R,
     alloc: Global,
     at_once: u32,
@@ -373,7 +376,7 @@ fn a_session_waits_for_another(rt: HostRuntime) {
 
 #[test]
 fn a_client_is_gone_when_its_message_comes(rt: HostRuntime) {
-    adds_up(&rt, rt.alloc(), 2, Clients::Vanishing, sums(3, 0, 1));
+    adds_up(&rt, rt.alloc(), 2, Clients::Vanishing, sums(3, 1, 0));
 }
 
 #[test]

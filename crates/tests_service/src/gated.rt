@@ -9,11 +9,9 @@ use std::alloc::Global;
 use std::process::Abort;
 use std::sync::Wait;
 use sysv_gate::{Awaited, Closing};
-use sysv_gated::{
-    GatedPool, GatedSlot, Gates, GatesClosed, GatesRefused, Letter, NoMemory, Seats, Worn,
-};
+use sysv_gated::{GatedPool, GatedSlot, Gates, GatesClosed, Letter, OpenRefused, Seats, Worn};
 use sysv_keys::Begun;
-use sysv_model::{Errno, IPC_PRIVATE, MESSAGE_BYTES, Selector, SetTo};
+use sysv_model::{Errno, IPC_PRIVATE, MESSAGE_BYTES, NoMemory, Selector, SetTo};
 use sysv_pool::Chain;
 use sysv_queue::{Look, Probe, Tally};
 use tests_kit::{USER, creating};
@@ -35,7 +33,7 @@ fn gates_at(rt: &impl Abort, alloc: Global, first: u64) -> (Gates, Seats)
     match Gates::open_at(alloc, 128, first, 0) {
         Ok(opened) => opened,
         Err(why) => {
-            assert_eq!(rt; why, GatesRefused::NoMemory);
+            assert_eq!(rt; why, OpenRefused::NoMemory);
             match Gates::open_at(alloc, 128, first, 0) {
                 Ok(opened) => opened,
                 Err(_) => panic!(rt; "a second try"),
@@ -178,6 +176,37 @@ fn a_key_is_made_settled_and_forgotten(rt: HostRuntime) {
     assert_is(&rt, ended(&rt, gates.close(seats)), (0, 6, 0));
 }
 
+// A bounded wait returns what has come, and comes back without what has not.
+#[test]
+fn bounded_waits_come_back(rt: HostRuntime) {
+    let (gates, mut seats) = gates_at(&rt, rt.alloc(), 0);
+    let made = gates.begin(&rt, &mut seats, 7, creating());
+    assert_is(&rt, made, Ok(Begun::Made { id: 0 }));
+    assert_is(&rt, gates.settled_within(&rt, &mut seats, 1), None);
+    assert_is(&rt, gates.settle(&rt, &mut seats, 0), Ok(true));
+    let settled = gates.settled_within(&rt, &mut seats, 1);
+    assert_is(&rt, settled, Some(Awaited::Reached(1)));
+    let made = gates.install(&rt, &mut seats, 1, 7, USER, 0o600, 50);
+    assert_is(&rt, made, Ok(true));
+    assert_is(&rt, gates.arrived_within(&rt, &mut seats, 1, 1), None);
+    let letter = letter_of(&rt, rt.alloc(), &gates, &mut seats, b"hello");
+    assert_is(&rt, placed(&rt, &gates, &mut seats, letter), 0);
+    let arrived = gates.arrived_within(&rt, &mut seats, 1, 1);
+    assert_is(&rt, arrived, Some(Awaited::Reached(1)));
+    assert_is(&rt, gates.freed_within(&rt, &mut seats, 1, 1), None);
+    assert_is(&rt, gates.released_within(&rt, &mut seats, 1), None);
+    match gates.remove(&rt, &mut seats, 1, USER) {
+        Ok(Ok(discarded)) => give_back(&rt, &gates, &mut seats, discarded.into_chain()),
+        Ok(Err(_)) => panic!(rt; "no removal"),
+        Err(_) => panic!(rt; "worn"),
+    }
+    let freed = gates.freed_within(&rt, &mut seats, 1, 1);
+    assert_is(&rt, freed, Some(Awaited::Reached(1)));
+    let released = gates.released_within(&rt, &mut seats, 1);
+    assert_is(&rt, released, Some(Awaited::Reached(1)));
+    assert_is(&rt, ended(&rt, gates.close(seats)), (3, 2, 2));
+}
+
 #[test]
 fn a_message_goes_through_its_slot(rt: HostRuntime) {
     let (gates, mut seats) = gates_at(&rt, rt.alloc(), 5);
@@ -288,7 +317,7 @@ fn what_is_out_of_range_is_refused(rt: HostRuntime) {
     for (blocks, first, generation) in refused {
         match Gates::open_at(rt.alloc(), blocks, first, generation) {
             Ok(_) => panic!(rt; "gates"),
-            Err(why) => assert_is(&rt, why, GatesRefused::BadSize),
+            Err(why) => assert_is(&rt, why, OpenRefused::BadSize),
         }
     }
 }

@@ -2,9 +2,8 @@
 //! as it was.
 
 use crate::parts::{CLOCK, assert_is, closed, opened};
-use sysv_gated::GatesRefused;
 use sysv_model::Errno;
-use sysv_service::Service;
+use sysv_service::{OpenRefused, Service};
 use tests_kit::{USER, creating, mark};
 
 #[test]
@@ -16,7 +15,7 @@ fn service_open(rt: HostRuntime) {
             assert_is(&rt, id, Ok(0));
             assert_is(&rt, service.close(pass), closed(0, 128));
         }
-        Err(why) => assert_is(&rt, why, GatesRefused::NoMemory),
+        Err(why) => assert_is(&rt, why, OpenRefused::NoMemory),
     }
 }
 
@@ -29,7 +28,7 @@ fn service_starting_at(rt: HostRuntime) {
             assert_is(&rt, id, Err(Errno::EOVERFLOW));
             assert_is(&rt, service.close(pass), closed(0, 128));
         }
-        Err(why) => assert_is(&rt, why, GatesRefused::NoMemory),
+        Err(why) => assert_is(&rt, why, OpenRefused::NoMemory),
     }
 }
 

@@ -5,9 +5,8 @@ ghost use Rattle.sysv_gated.specs.Seats.{AreOf};
 use std::alloc::Global;
 use std::fmt::Debug;
 use std::process::Abort;
-use sysv_gated::GatesRefused;
 use sysv_model::Body;
-use sysv_service::{Clock, Closed, Pass, Service};
+use sysv_service::{Clock, Closed, OpenRefused, Pass, Service};
 
 /// The test fails if what was found is not what is wanted.
 pub(crate) fn assert_is<T: PartialEq + Debug + Drop>(rt: &impl Abort, found: T, wanted: T) {
@@ -31,11 +30,24 @@ pub(crate) const CLOCK: Still = Still(7);
 pub(crate) fn opened(rt: &impl Abort, alloc: Global, blocks: u32, first: u64) -> (Service, Pass)
     ensures { AreOf result.0 result.1.seats }
 {
-    match Service::open_at(alloc, blocks, first, 0) {
+    opened_at(rt, alloc, blocks, first, 0)
+}
+
+/// As `opened`, where the identifiers of all slots begin with this generation.
+pub(crate) fn opened_at(
+    rt: &impl Abort,
+    alloc: Global,
+    blocks: u32,
+    first: u64,
+    generation: u32,
+) -> (Service, Pass)
+    ensures { AreOf result.0 result.1.seats }
+{
+    match Service::open_at(alloc, blocks, first, generation) {
         Ok(opened) => opened,
         Err(why) => {
-            assert_eq!(rt; why, GatesRefused::NoMemory);
-            match Service::open_at(alloc, blocks, first, 0) {
+            assert_eq!(rt; why, OpenRefused::NoMemory);
+            match Service::open_at(alloc, blocks, first, generation) {
                 Ok(opened) => opened,
                 Err(why) => panic!(rt; "a second try: {why:?}"),
             }

@@ -5,6 +5,7 @@ mod board;
 mod crew;
 mod crowd;
 mod example;
+mod left;
 mod one_pass;
 mod part;
 mod stops;

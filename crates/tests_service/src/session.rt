@@ -2,6 +2,7 @@
 
 mod failing;
 mod growths;
+mod leaving;
 mod served;
 mod serving;
 mod shelf;

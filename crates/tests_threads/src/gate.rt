@@ -230,6 +230,32 @@ fn a_wait_at_a_worn_gate_ends(rt: HostRuntime) -> Result<(), Fail> {
         Awaited::Reached(0),
     );
     assert_is(&rt, gate.await_freed(&rt, &mut seat, 1), Awaited::Worn);
+    assert_is(
+        &rt,
+        gate.arrived_within(&rt, &mut seat, 2),
+        Some(Awaited::Worn),
+    );
+    assert_is(&rt, gate.close(seat).turns, 1);
+    Ok(())
+}
+
+// A bounded wait returns what has come, and comes back without what has not.
+#[test]
+fn a_bounded_wait_comes_back(rt: HostRuntime) -> Result<(), Fail> {
+    let (gate, mut seat) = opened(&rt, 0).ok_or("no memory")?;
+    assert!(rt; matches!(&gate.call(&rt, &mut seat, 5), Ok(0)));
+    assert_is(
+        &rt,
+        gate.arrived_within(&rt, &mut seat, 1),
+        Some(Awaited::Reached(1)),
+    );
+    assert_is(&rt, gate.arrived_within(&rt, &mut seat, 2), None);
+    assert_is(
+        &rt,
+        gate.freed_within(&rt, &mut seat, 0),
+        Some(Awaited::Reached(0)),
+    );
+    assert_is(&rt, gate.freed_within(&rt, &mut seat, 1), None);
     assert_is(&rt, gate.close(seat).turns, 1);
     Ok(())
 }

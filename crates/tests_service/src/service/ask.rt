@@ -2,6 +2,7 @@
 ghost use Rattle.sysv_gated.specs.Seats.{AreOf};
 
 use super::board::Moment;
+use super::left::Leaves;
 use crate::parts::{body_of, empty_body};
 use std::alloc::Global;
 use std::process::Abort;
@@ -22,6 +23,8 @@ pub(super) enum Ask {
     Receive(i32),
     /// The receive of a message of type 2.
     ReceiveSecond(i32),
+    /// A receive whose caller leaves while it waits.
+    ReceiveLeft(i32),
     /// Sets these attributes, as this user.
     Set(i32, Cred, SetTo),
     Remove(i32),
@@ -33,8 +36,12 @@ pub(super) fn waiting() -> Flags {
     flags(0)
 }
 
-/// What a call answers: an identifier, the length of the text that was received, how many queues were removed, or 0.
+/// What a call answers: an identifier, the length of the text that was received, how many queues were removed, or 0. It is
+/// `LEFT` if the call was left.
 pub(super) type Told = Result<i64, Errno>;
+
+/// What is told of a call that was left.
+pub(super) const LEFT: Told = Ok(-1);
 
 /// Makes the call.
 pub(super) fn make<R: Abort + Wait>(
@@ -60,6 +67,7 @@ pub(super) fn make<R: Abort + Wait>(
         }
         Ask::Receive(id) => receive(rt, alloc, service, pass, clock, id, 0),
         Ask::ReceiveSecond(id) => receive(rt, alloc, service, pass, clock, id, 2),
+        Ask::ReceiveLeft(id) => receive_left(rt, alloc, service, pass, clock, id),
         Ask::Set(id, cred, to) => {
             service.msgctl_set(rt, pass, &clock, cred, id, to)?;
             Ok(0)
@@ -98,5 +106,35 @@ fn receive<R: Abort + Wait>(
     let size = 8192;
     let given = service.msgrcv(rt, pass, &clock, USER, id, &mut out, size, mtype, waiting())?;
     given.written(&mut Tally::open());
+    Ok(out.len() as i64)
+}
+
+fn receive_left<R: Abort + Wait>(
+    rt: &R,
+    alloc: Global,
+    service: &Service,
+    pass: &mut Pass,
+    clock: Moment,
+    id: i32,
+) -> Told
+    requires { AreOf service.now pass.old.seats }
+    ensures { AreOf service.now pass.new.seats }
+{
+    let mut out = empty_body(rt, alloc);
+    let gone = Leaves::after(0);
+    let told = service.msgrcv_for(
+        rt,
+        pass,
+        &clock,
+        &gone,
+        USER,
+        id,
+        &mut out,
+        8192,
+        0,
+        waiting(),
+    );
+    let Some(told) = told else { return LEFT };
+    told?.written(&mut Tally::open());
     Ok(out.len() as i64)
 }

@@ -3,15 +3,14 @@
 ghost use Rattle.std.specs.Prelude.{◌≡◌};
 ghost use Rattle.sysv_gated.specs.Seats.{AreOf};
 
-use crate::parts::{CLOCK, assert_is, body_of, closed, empty_body, opened};
+use crate::parts::{CLOCK, assert_is, body_of, closed, empty_body, opened, opened_at};
 use bitflags::Flags as _;
 use std::alloc::Global;
 use std::process::Abort;
 use std::sync::Wait;
-use sysv_gated::GatesRefused;
 use sysv_model::{Errno, Flags, SetTo};
 use sysv_queue::Tally;
-use sysv_service::{Pass, Service};
+use sysv_service::{OpenRefused, Pass, Service};
 use tests_kit::{OTHER, USER, creating};
 
 /// Sends this text to the queue of the identifier, without waiting.
@@ -29,6 +28,21 @@ fn send(
 {
     let text = body_of(rt, alloc, text);
     service.msgsnd(rt, pass, &CLOCK, USER, id, mtype, &text, Flags::IPC_NOWAIT)
+}
+
+/// Sends one byte to the queue of the identifier, and waits until there is room for it.
+fn send_and_wait(
+    rt: &(impl Abort + Wait),
+    alloc: Global,
+    service: &Service,
+    pass: &mut Pass,
+    id: i32,
+) -> Result<(), Errno>
+    requires { AreOf service.now pass.old.seats }
+    ensures { AreOf service.now pass.new.seats }
+{
+    let text = body_of(rt, alloc, b"x");
+    service.msgsnd(rt, pass, &CLOCK, USER, id, 5, &text, Flags::empty())
 }
 
 /// Receives a text of at most `size` bytes from the queue of the identifier, without waiting, and tells its type and length.
@@ -173,6 +187,27 @@ fn get(rt: &impl Wait, service: &Service, pass: &mut Pass) -> Result<i32, Errno>
     service.msgget(rt, pass, &CLOCK, USER, 0, creating())
 }
 
+/// Makes a queue of no key in each slot in turn, and removes it. Their identifiers are to be those of the last generation.
+fn use_up(rt: &(impl Abort + Wait), service: &Service, pass: &mut Pass)
+    requires { AreOf service.now pass.old.seats }
+    ensures { AreOf service.now pass.new.seats }
+{
+    for id in 2_147_483_392..=i32::MAX {
+        assert_is(rt, get(rt, service, pass), Ok(id));
+        assert_is(rt, service.msgctl_rmid(rt, pass, USER, id), Ok(()));
+    }
+}
+
+#[test]
+fn a_removal_of_the_last_generation_ends_its_slot(rt: HostRuntime) {
+    let (service, mut pass) = opened_at(&rt, rt.alloc(), 128, 0, 8_388_607);
+    use_up(&rt, &service, &mut pass);
+    assert_is(&rt, get(&rt, &service, &mut pass), Err(Errno::ENOSPC));
+    let id = service.msgget(&rt, &mut pass, &CLOCK, USER, 7, creating());
+    assert_is(&rt, id, Err(Errno::ENOSPC));
+    assert_is(&rt, service.close(pass), closed(0, 128));
+}
+
 /// Makes a queue of no key, whose identifier is to be this one, and sends one byte to it.
 fn make_with_message(
     rt: &(impl Abort + Wait),
@@ -266,7 +301,7 @@ fn a_pass_keeps_a_chain_that_cannot_go_back(rt: HostRuntime) {
 }
 
 #[test]
-fn a_wait_ends_at_a_worn_gate(rt: HostRuntime) {
+fn a_wait_for_a_message_ends_at_a_worn_gate(rt: HostRuntime) {
     let (service, mut pass) = opened(&rt, rt.alloc(), 128, (1 << 62) - 2);
     assert_is(&rt, get(&rt, &service, &mut pass), Ok(0));
     let mut out = empty_body(&rt, rt.alloc());
@@ -288,6 +323,40 @@ fn a_wait_ends_at_a_worn_gate(rt: HostRuntime) {
         Err(why) => assert_is(&rt, why, Errno::EOVERFLOW),
     }
     assert_is(&rt, service.close(pass), closed(0, 128));
+}
+
+#[test]
+fn a_wait_for_room_ends_at_a_worn_gate(rt: HostRuntime) {
+    let (service, mut pass) = opened(&rt, rt.alloc(), 128, (1 << 62) - 3);
+    assert_is(&rt, get(&rt, &service, &mut pass), Ok(0));
+    let to = SetTo {
+        uid: 1000,
+        gid: 1000,
+        mode: 0o600,
+        qbytes: 0,
+    };
+    let set = service.msgctl_set(&rt, &mut pass, &CLOCK, USER, 0, to);
+    assert_is(&rt, set, Ok(()));
+    let sent = send_and_wait(&rt, rt.alloc(), &service, &mut pass, 0);
+    assert_is(&rt, sent, Err(Errno::EOVERFLOW));
+    assert_is(&rt, service.close(pass), closed(0, 128));
+}
+
+#[test]
+fn a_wait_for_blocks_ends_at_a_worn_pool(rt: HostRuntime) {
+    let alloc = rt.alloc();
+    let (service, mut pass) = opened(&rt, alloc, 128, (1 << 62) - 4);
+    assert_is(&rt, get(&rt, &service, &mut pass), Ok(0));
+    assert_is(&rt, get(&rt, &service, &mut pass), Ok(1));
+    let sent = send(&rt, alloc, &service, &mut pass, 0, 5, &[b'x'; 8192]);
+    assert_is(&rt, sent, Ok(()));
+    let sent = send(&rt, alloc, &service, &mut pass, 1, 5, b"x");
+    assert_is(&rt, sent, Err(Errno::EAGAIN));
+    let sent = send(&rt, alloc, &service, &mut pass, 1, 5, b"x");
+    assert_is(&rt, sent, Err(Errno::EAGAIN));
+    let sent = send_and_wait(&rt, alloc, &service, &mut pass, 1);
+    assert_is(&rt, sent, Err(Errno::EOVERFLOW));
+    assert_is(&rt, service.close(pass), closed(1, 128));
 }
 
 #[test]
@@ -333,7 +402,7 @@ fn sizes_out_of_range_open_no_service(rt: HostRuntime) {
         (128, 0, 8_388_608),
     ] {
         match Service::open_at(rt.alloc(), blocks, first, generation) {
-            Err(why) => assert_is(&rt, why, GatesRefused::BadSize),
+            Err(why) => assert_is(&rt, why, OpenRefused::BadSize),
             Ok((service, pass)) => {
                 service.close(pass);
                 panic!(rt; "{blocks} blocks, {first}, {generation}")
@@ -341,7 +410,7 @@ fn sizes_out_of_range_open_no_service(rt: HostRuntime) {
         }
     }
     match Service::open(rt.alloc(), 128) {
-        Err(why) => assert_is(&rt, why, GatesRefused::NoMemory),
+        Err(why) => assert_is(&rt, why, OpenRefused::NoMemory),
         Ok((service, pass)) => assert_is(&rt, service.close(pass), closed(0, 128)),
     }
 }

@@ -1,6 +1,6 @@
 //! Waits of every kind end when what they wait for comes.
 
-use super::ask::{Ask, Told};
+use super::ask::{Ask, LEFT, Told};
 use super::board::{Board, Moment};
 use super::crew::run;
 use super::part::{Part, Turn, add, told_of};
@@ -119,6 +119,27 @@ fn a_receive_waits_for_a_message(rt: HostRuntime) {
             },
         );
     }
+}
+
+/// The send wakes the receive, which then takes nothing: the message is still queued at the end. Where the send came before
+/// the first look, the receive took it, and it is tried again.
+#[test]
+fn a_woken_receive_is_left(rt: HostRuntime) {
+    let case = Case {
+        before: [Ask::Get(1), Ask::Get(2), Ask::Get(3)],
+        waits: Ask::ReceiveLeft(0),
+        ends: Ask::Send(0, 5),
+        told: LEFT,
+    };
+    for _ in 0..TRIES {
+        let (told, _said, ending) = waited(&rt, rt.alloc(), &case);
+        assert_eq!(rt; ending, Ok(0));
+        if told != Ok(5) {
+            assert_eq!(rt; told, LEFT);
+            return;
+        }
+    }
+    panic!(rt; "the send came first each time")
 }
 
 #[test]

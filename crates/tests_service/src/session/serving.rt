@@ -8,25 +8,25 @@ use std::alloc::Global;
 use std::process::Abort;
 use std::sync::Wait;
 use sysv_kernel::ServiceKernel;
-use sysv_service::{Pass, Service};
+use sysv_service::{Caller, Pass, Service};
 use sysv_session::{End, Served};
 use tests_kit::worked::{ANSWERS, SESSION};
 use tests_kit::{Page, Pieces};
 
 /// Ends the service. So many messages waited, and then all blocks are free.
-fn ended(rt: &impl Abort, service: Service, pass: Pass, waiting: u64)
+pub(super) fn ended(rt: &impl Abort, service: Service, pass: Pass, waiting: u64)
     requires { AreOf service pass.seats }
 {
     assert_eq!(rt; service.close(pass), closed(waiting, 128));
 }
 
 /// Serves one session. Memory is refused once at most, and then nothing was read or written.
-fn talked<R: Abort + Wait>(
+pub(super) fn talked<R: Abort + Wait, K: Caller + Copy>(
     rt: &R,
     alloc: Global,
     reader: &mut Pieces<'_>,
     page: &mut Page,
-    kernel: &mut ServiceKernel<'_, Still, R>,
+    kernel: &mut ServiceKernel<'_, Still, R, K>,
 ) -> Served
     ensures { kernel.new.service ≡ kernel.old.service }
 {

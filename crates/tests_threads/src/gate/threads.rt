@@ -20,6 +20,9 @@ const ROUNDS: u64 = 500;
 /// A watcher looks so many times, every 10 milliseconds, before it takes a standstill for a lost wake.
 const PATIENCE: u64 = 300;
 
+/// The most bounded waits in a row.
+const NAPS: u64 = 100;
+
 /// What a thread does with its seat.
 #[derive(Clone, Copy)]
 enum Role {
@@ -36,6 +39,12 @@ enum Role {
     WaitsInVain,
     /// Draws the last ticket, once another sleeps.
     WearsOut,
+    /// Waits for the first count by bounded waits.
+    NapsForArrived,
+    /// Waits for the second count by bounded waits.
+    NapsForFreed,
+    /// Raises both counts, once others sleep.
+    RaisesBoth,
 }
 
 /// A thread, and the number that it was told at last.
@@ -71,6 +80,9 @@ impl<'b> Member<'b> {
             Role::Watches => watch(rt, self.gate, &mut self.seat),
             Role::WaitsInVain => wait_in_vain(rt, self.gate, &mut self.seat),
             Role::WearsOut => wear_out(rt, self.gate, &mut self.seat),
+            Role::NapsForArrived => nap_for_arrived(rt, self.gate, &mut self.seat),
+            Role::NapsForFreed => nap_for_freed(rt, self.gate, &mut self.seat),
+            Role::RaisesBoth => raise_both(rt, self.gate, &mut self.seat),
         };
     }
 }
@@ -311,5 +323,56 @@ fn a_sleeper_is_told_that_the_gate_is_worn(rt: HostRuntime) -> Result<(), Fail> 
     let told = told_to_four(&rt, &gate, &mut seat, roles);
     assert_eq!(rt; told, [None, Some(0), None, None]);
     assert_eq!(rt; gate.close(seat).turns, 1);
+    Ok(())
+}
+
+// The first count, if it was raised.
+fn nap_for_arrived(rt: &impl Wait, gate: &Gate<Sum>, seat: &mut Seat<Sum>) -> Option<u64>
+    requires { seat.old.gate ≡ gate.now }
+    ensures { seat.new.gate ≡ gate.now }
+{
+    for _ in 0..NAPS {
+        if let Some(Awaited::Reached(count)) = gate.arrived_within(rt, seat, 1) {
+            return Some(count);
+        }
+    }
+    None
+}
+
+// The second count, if it was raised.
+fn nap_for_freed(rt: &impl Wait, gate: &Gate<Sum>, seat: &mut Seat<Sum>) -> Option<u64>
+    requires { seat.old.gate ≡ gate.now }
+    ensures { seat.new.gate ≡ gate.now }
+{
+    for _ in 0..NAPS {
+        if let Some(Awaited::Reached(count)) = gate.freed_within(rt, seat, 1) {
+            return Some(count);
+        }
+    }
+    None
+}
+
+// The sum before its second turn.
+fn raise_both<R: Wait + Clock>(rt: &R, gate: &Gate<Sum>, seat: &mut Seat<Sum>) -> Option<u64>
+    requires { seat.old.gate ≡ gate.now }
+    ensures { seat.new.gate ≡ gate.now }
+{
+    thread::sleep(rt, Duration::from_millis(100));
+    gate.call(rt, seat, 1).ok()?;
+    gate.call(rt, seat, 2).ok()
+}
+
+#[test]
+fn bounded_waits_see_what_comes_while_they_sleep(rt: HostRuntime) -> Result<(), Fail> {
+    let (gate, mut seat) = opened(&rt, 0).ok_or("no memory")?;
+    let roles = [
+        Role::NapsForArrived,
+        Role::NapsForFreed,
+        Role::RaisesBoth,
+        Role::Idle,
+    ];
+    let told = told_to_four(&rt, &gate, &mut seat, roles);
+    assert_eq!(rt; told, [Some(1), Some(1), Some(1), None]);
+    assert_eq!(rt; gate.close(seat).turns, 2);
     Ok(())
 }

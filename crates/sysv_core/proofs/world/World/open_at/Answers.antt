@@ -1,4 +1,5 @@
 use Rattle.std.proofs.Common.{None, sym, ap, ◌∙◌, refl, arith}
+use Rattle.sysv_queue.specs.Tally.{Tallied}
 use Rattle.sysv_core.specs.Kept.{state_kept, states_kept}
 use Rattle.sysv_core.specs.Seen.{state_in}
 use Rattle.sysv_core.specs.World.{Opening, opening}
@@ -25,4 +26,6 @@ returns-in-Ok-clause-opened c =
 pub invariant_of-result : goal.invariant_of-result
 invariant_of-result c =
     let opened = returns-in-Ok-clause-opened c in
-    (omega arith, weaker 0 c.args.first_step c.in-Ok.objects (omega arith) c.in-Ok.ensures.counts, (opened.world, opened.sight))
+    let written = ap (λ (t : Tallied). t.written) c.open.ensures in
+    let lost = ap (λ (t : Tallied). t.lost) c.open.ensures in
+    (omega arith, weaker 0 c.args.first_step c.in-Ok.objects (omega arith) c.in-Ok.ensures.counts, (opened.world, opened.sight), omega (arith, written, lost))

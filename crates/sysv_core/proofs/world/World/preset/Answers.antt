@@ -24,7 +24,7 @@ returns-clause-single c = λ w s.
     let yes : IsTrue c.is_unused.result = search rules in
     let makes = subst (λ (v : Seen). MakesPreset v.objects c.preset_queue.result c.preset_queue.new.objects) c.self.view_is c.preset_queue.ensures in
     let made = preset_unused w c.args.self.now s c.each_world_is_sound.ensures.stays c.legal_turns.ensures.more c.unused_slots.ensures c.preset_queue.result c.preset_queue.new.objects (test.0 yes) makes in
-    rw (ap (λ (v : Seen). v.states) c.self.view_is, ap (λ (v : Seen). v.steps) c.self.view_is) made
+    rw (ap (λ (v : Seen). v.states) c.self.view_is, ap (λ (v : Seen). v.steps) c.self.view_is, ap (λ (v : Seen). v.tally) c.self.view_is) made
 
 pub returns-clause-stands : goal.returns-clause-stands
 returns-clause-stands c = λ o es given s. stands_preset o es given c.args.self.now _ c.preset_queue.result s (returns-clause-single c)
@@ -38,7 +38,7 @@ invariant_of-self c =
     let unused = (c.is_unused.ensures w.generation w.turns stands).0 yes in
     let m = c.preset_queue.ensures w.generation w.turns stands unused (vacant_there c.legal_turns.ensures.more c.unused_slots.ensures w s.sound unused) in
     let now = returns-clause-single c w s in
-    (c.self.invariant.0, m.counts c.self.inside.steps c.self.invariant.1, (now.0, now.2))
+    (c.self.invariant.0, m.counts c.self.inside.steps c.self.invariant.1, (now.0, now.2), c.self.invariant.3)
 
 pub returns-clause-refused : goal.returns-clause-refused
 returns-clause-refused c = λ failed.

@@ -1,8 +1,9 @@
-use Rattle.std.proofs.Common.{◌≡◌, ◌<◌, ◌++◌, ◌∷◌, [], length, length-append, vec_len, vec_capacity, sym, ap, subst, ◌∙◌, rules, arith, refl, append_assoc, inl, inr}
+use Rattle.std.proofs.Common.{◌≡◌, ◌<◌, ◌++◌, ◌∷◌, [], length, length-append, vec_len, vec_capacity, sym, ap, subst, ◌∙◌, rules, arith, refl, append_assoc, add-zero, inl, inr}
 use Rattle.std.proofs.lemmas.List.{append-nil, length_push}
 use Rattle.sysv_core.specs.declared.event.Stepped.TheVariants.{Nothing, Answer}
+use Rattle.sysv_core.specs.Tallying.{messages_in}
 use Rattle.sysv_core.proofs.Lists.{none_in}
-use Rattle.sysv_core.proofs.Runs.{laws_hold, UnderWay, under_way, goes_on, runs_on}
+use Rattle.sysv_core.proofs.Runs.{laws_hold, messages_more, UnderWay, under_way, goes_on, runs_on}
 use Rattle.sysv_core.proofs.world.World.run.Goals as goal
 use Rattle.sysv_core.proofs.world.World.run.Goals.{in-None, in-Some+in-Worn}
 
@@ -13,6 +14,8 @@ loop-event-init c =
       split = sym made.0;
       few = omega (arith, c.in-Ok.ensures.len);
       room = omega (arith, c.in-Ok.ensures.capacity, c.args.events.ok.0);
+      written = omega (arith, ap messages_in c.in-Ok.ensures.items);
+      lost = refl;
       going = subst (UnderWay c.args.self.now c.args.self.now []) (sym c.in-Ok.ensures.items) (under_way c.args.self.now);
     }
 
@@ -24,6 +27,8 @@ loop-event-preserved-in-Nothing c =
       split = i.split ∙ (ap (λ xs. c.loop-event.yielded ++ xs) next.0 ∙ sym (append_assoc c.loop-event.yielded (c.in-Some.event ∷ []) c.next.new.self.rest.items));
       few = omega (arith, i.few, length_push c.loop-event.yielded c.in-Some.event);
       room = i.room;
+      written = c.in-Nothing.ensures.written ∙ (add-zero c.loop-event.self.tally.written ∙ i.written);
+      lost = c.in-Nothing.ensures.lost ∙ i.lost;
       going = subst (UnderWay c.args.self.now c.step.new.self (c.loop-event.yielded ++ c.in-Some.event ∷ [])) (append-nil c.loop-event.answers.items)
           (goes_on c.args.self.now c.loop-event.self c.step.new.self c.loop-event.yielded c.loop-event.answers.items c.in-Some.event Nothing i.going c.in-Nothing.ensures.stands);
     }
@@ -47,6 +52,8 @@ loop-event-preserved c =
       split = i.split ∙ (ap (λ xs. c.loop-event.yielded ++ xs) next.0 ∙ sym (append_assoc c.loop-event.yielded (c.in-Some.event ∷ []) c.next.new.self.rest.items));
       few = omega (arith, i.few, longer, length_push c.loop-event.yielded c.in-Some.event);
       room = omega (arith, i.room, c.push.ensures.capacity);
+      written = omega (arith, i.written, c.in-Answer.ensures.written, ap messages_in pushed, messages_more c.loop-event.answers.items c.in-Answer.answer);
+      lost = c.in-Answer.ensures.lost ∙ i.lost;
       going = subst (UnderWay c.args.self.now c.step.new.self (c.loop-event.yielded ++ c.in-Some.event ∷ [])) (sym pushed)
           (goes_on c.args.self.now c.loop-event.self c.step.new.self c.loop-event.yielded c.loop-event.answers.items c.in-Some.event (Answer c.in-Answer.answer) i.going c.in-Answer.ensures.stands);
     }

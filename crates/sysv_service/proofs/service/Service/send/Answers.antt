@@ -2,7 +2,8 @@ use Rattle.std.proofs.Common.{ap, subst, rules}
 use Rattle.sysv_steps.specs.State.{Waits}
 use Rattle.sysv_steps.specs.Seen.{phase_of, wait_of, state_of}
 use Rattle.sysv_service.specs.Kinds.{Sends}
-use Rattle.sysv_service.proofs.Running.{comes_first, moved, comes_step, comes_wait}
+use Rattle.sysv_service.specs.Left.{IsLeft}
+use Rattle.sysv_service.proofs.Running.{if_none, comes_first, moved, comes_step, comes_wait}
 use Rattle.sysv_service.proofs.Staying.{ends_wait, wait_sends}
 use Rattle.sysv_service.proofs.service.Service.send.Goals as goal
 
@@ -20,10 +21,19 @@ loop-preserved g c =
     let wait = wait_of c.in-Waits.wait c.args.text.now in
     let there = moved (g.C.Clock.may c.args.clock.now) _ _ _ _ c.loop.pass is c.loop.invariant.comes in
     let stays : Sends (Waits wait) = subst Sends is c.loop.invariant.sends in
-    let ended = c.wait_on.ensures.ended c.args.text.now in
+    let ended = c.in_ok-state-in-Waits.ensures.ended c.args.text.now in
     record {
-      pass = c.wait_on.ensures.pass;
-      sends = ends_wait Sends wait c.loop.pass _ c.wait_on.new.pass (λ value. wait_sends wait value stays) stays (λ why. tt) ended;
-      comes = comes_wait (g.C.Clock.may c.args.clock.now) _ _ wait c.loop.pass _ c.wait_on.new.pass there ended;
+      pass = c.wait_for.ensures.pass;
+      sends = ends_wait Sends wait c.loop.pass _ c.wait_for.new.pass (λ value. wait_sends wait value stays) stays (λ why. tt) ended;
+      comes = comes_wait (g.C.Clock.may c.args.clock.now) _ _ wait c.loop.pass _ c.wait_for.new.pass there ended;
       goes_on = search rules;
     }
+
+pub returns-in_err-state-in-Waits-clause-left : goal.returns-in_err-state-in-Waits-clause-left
+returns-in_err-state-in-Waits-clause-left g c =
+    let is = ap (λ s. state_of s c.args.text.now) c.in-Waits.is in
+    let wait = wait_of c.in-Waits.wait c.args.text.now in
+    let there = moved (g.C.Clock.may c.args.clock.now) _ _ _ _ c.loop.pass is c.loop.invariant.comes in
+    let still = c.in_err-state-in-Waits.ensures.still c.args.text.now in
+    let left : IsLeft (g.K.Caller.may_leave c.args.caller.now) (g.C.Clock.may c.args.clock.now) (state_of c.args.begun c.args.text.now) c.args.pass.now c.wait_for.new.pass = (c.in_err-state-in-Waits.ensures.left, wait, comes_wait (g.C.Clock.may c.args.clock.now) _ _ wait c.loop.pass _ c.wait_for.new.pass there still) in
+    if_none c.from_residual.result left

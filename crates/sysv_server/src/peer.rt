@@ -1,0 +1,48 @@
+//! The other end of a connection.
+
+use libc::net::{POLLERR, POLLHUP, poll};
+use libc::types::pollfd;
+use std::os::fd::AsRawFd;
+use std::os::unix::net::UnixStream;
+use sysv_service::Caller;
+
+/// No descriptor: `poll` passes over a negative one.
+const NO_DESCRIPTOR: i32 = -1;
+
+/// The client at the other end of a connection, as the caller of the calls of its session. It has the number of the
+/// connection's descriptor, and is asked only while that is open.
+#[derive(Clone, Copy)]
+pub(crate) struct Peer {
+    fd: i32,
+}
+
+impl Peer {
+    /// The peer of no connection. It has not left.
+    pub(crate) fn none() -> Peer {
+        Peer { fd: NO_DESCRIPTOR }
+    }
+
+    /// The peer of this connection.
+    pub(crate) fn of(stream: &UnixStream) -> Peer {
+        Peer {
+            fd: stream.as_raw_fd(),
+        }
+    }
+}
+
+impl Caller for Peer {
+    ghost use Rattle.std.specs.Prelude.{⊤};
+
+    ghost may_leave = { λ _. ⊤ };
+
+    /// Whether the client has closed the connection. One that has shut down only its writing may still read a reply, and is
+    /// there: then `poll` reports neither of the two.
+    fn has_left(&self) -> bool {
+        let mut asked = [pollfd {
+            fd: self.fd,
+            events: 0,
+            revents: 0,
+        }];
+        poll(&mut asked, 0) > 0 && asked[0].revents & (POLLHUP | POLLERR) != 0
+    }
+}
