@@ -1,6 +1,6 @@
 -- Both orders stay those of one set of entries as an entry comes in and as one goes out.
 use Rattle.std.proofs.Common.{◌≡◌, ◌≢◌, ℕ, suc, ◌+◌, ◌<◌, ◌≤◌, ◌≤ℤ◌, ◌==◌, Bool, not, List, [], ◌∷◌, ◌++◌, Some, length, get_or, refl, sym, ap, subst, ◌∙◌, inl, inr, arith}
-use Rattle.std.specs.List.{All, AllPairs, Contains, filter, insert, remove, slice_get}
+use Rattle.std.specs.List.{All, Contains, filter, insert, remove, slice_get}
 use Rattle.std.specs.List.Sorted.{IsPermutation}
 use Rattle.std.proofs.lemmas.Bool.{cases_order}
 use Rattle.std.proofs.lemmas.Int.{ints, by_lt_z}
@@ -13,12 +13,9 @@ use Rattle.std.proofs.lemmas.List.Sorted.{IsPermutation-insert, Contains-permuta
 use Rattle.std.proofs.lemmas.Option.{slice_get_within, slice_get-get_or}
 use Rattle.sysv_model.specs.declared.limits.TheConstants.{QUEUE_MESSAGES}
 use Rattle.sysv_index.specs.declared.entry.Entry.{Entry}
-use Rattle.sysv_index.specs.Entries.{IsBefore, IsIndex, IsInserted}
+use Rattle.sysv_index.specs.Entries.{IsBefore, IsIndex, IsInserted, NumbersDiffer}
+use Rattle.sysv_index.proofs.Removal.{never_before_itself, rising_differ}
 use Rattle.sysv_index.proofs.Lists.{one_there, place_of, contains_at, at_place, at_places, pairs_insert, contains_filter, others_absent, others_present, found_or_absent}
-
-never_before_itself : (e : Entry) → ¬ IsBefore e e
-never_before_itself e (inl lower) = omega (arith, ints)
-never_before_itself e (inr same) = let h = same.1 in omega arith
 
 before_by : (a b : Entry) → a.mtype ≤ℤ b.mtype → a.number < b.number → IsBefore a b
 before_by a b h below = by_lt_z a.mtype b.mtype (λ lower. inl lower) (λ higher. inr (omega (arith, ints), below))
@@ -29,6 +26,14 @@ module _ (entries by_type : List Entry) (x : IsIndex entries by_type) where
 
   pub held_at : (p : ℕ) (e : Entry) → slice_get entries p ≡ Some e → (k : ℕ) × (slice_get by_type k ≡ Some e)
   held_at p e there = place_of by_type e (at_place (Contains by_type) entries p e x.held there)
+
+  pub held_of : (e : Entry) → Contains entries e → Contains by_type e
+  held_of e has = let w = place_of entries e has in at_place (Contains by_type) entries w.0 e x.held w.1
+
+  pub none_of : (number : ℕ) → All (λ (e : Entry). e.number ≢ number) entries → All (λ (e : Entry). e.number ≢ number) by_type
+  none_of number none k d within same =
+      let w = known_at k (get_or by_type k d) (slice_get-get_or by_type k d within) in
+      at_place (λ (e : Entry). e.number ≢ number) entries w.0 (get_or by_type k d) none w.1 same
 
   abbrev Rises : Entry → Entry → Type 0
   Rises a b = a.number < b.number
@@ -48,13 +53,7 @@ module _ (entries by_type : List Entry) (x : IsIndex entries by_type) where
       let e = one_place v.0 w.0 a b v.1 w.1 same in
       one_there entries w.0 a b (subst (λ n. slice_get entries n ≡ Some a) e v.1) w.1
 
-  abbrev Differ : Entry → Entry → Type 0
-  Differ a b = a.number ≢ b.number
-
-  pub entries_differ : AllPairs Differ entries
-  entries_differ i j d less within same = let h = x.rising i j d less within in omega arith
-
-  pub types_differ : AllPairs Differ by_type
+  pub types_differ : NumbersDiffer by_type
   types_differ i j d less within same =
       let a = get_or by_type i d in
       let b = get_or by_type j d in
@@ -106,18 +105,15 @@ module _ (entries by_type : List Entry) (x : IsIndex entries by_type) where
     lengths = elim (found_or_absent (λ (e : Entry). e.number) number entries) [
       | inl w ↦
           let v = held_at w.0 w.1 w.2 in
-          let a = others_present (λ (e : Entry). e.number) number entries w.0 w.1 w.2 w.3 entries_differ in
+          let a = others_present (λ (e : Entry). e.number) number entries w.0 w.1 w.2 w.3 (rising_differ entries x.rising) in
           let b = others_present (λ (e : Entry). e.number) number by_type v.0 w.1 v.1 w.3 types_differ in
           let f = length-remove entries w.0 (slice_get_within entries w.0 w.1 w.2) in
           let g = length-remove by_type v.0 (slice_get_within by_type v.0 w.1 v.1) in
           let h = x.same in
           record { same = omega (arith, ap length a, ap length b); few = omega (arith, ap length a) }
       | inr none ↦
-          let none_held : All (λ (e : Entry). e.number ≢ number) by_type = λ k d within same.
-          let w = known_at k (get_or by_type k d) (slice_get-get_or by_type k d within) in
-          at_place (λ (e : Entry). e.number ≢ number) entries w.0 (get_or by_type k d) none w.1 same in
           let a = others_absent (λ (e : Entry). e.number) number entries none in
-          let b = others_absent (λ (e : Entry). e.number) number by_type none_held in
+          let b = others_absent (λ (e : Entry). e.number) number by_type (none_of number none) in
           let h = x.same in
           record { same = omega (arith, ap length a, ap length b); few = omega (arith, ap length a) }
     ]
@@ -140,4 +136,4 @@ module _ (entries by_type : List Entry) (x : IsIndex entries by_type) where
     }
 
     pub removed_one : (position : ℕ) (e : Entry) → slice_get entries position ≡ Some e → e.number ≡ number → filter stays entries ≡ remove entries position
-    removed_one position e there is = others_present (λ (e : Entry). e.number) number entries position e there is entries_differ
+    removed_one position e there is = others_present (λ (e : Entry). e.number) number entries position e there is (rising_differ entries x.rising)

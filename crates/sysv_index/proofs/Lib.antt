@@ -1,4 +1,5 @@
 pub mod Lists
+pub mod Removal
 pub mod Changes
 pub mod Halving
 pub mod Selection

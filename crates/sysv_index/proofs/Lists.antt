@@ -13,7 +13,7 @@ one_number a b e = (Decides-eqb a b).0 e
 pub same_number : (a b : ℕ) → a ≡ b → (a == b) ≡ true
 same_number a b e = (Decides-eqb a b).1 e
 
-not_true : (t : Bool) → (t ≡ true → ⊥) → t ≡ false
+pub not_true : (t : Bool) → (t ≡ true → ⊥) → t ≡ false
 not_true true f = absurd (f refl)
 not_true false f = refl
 

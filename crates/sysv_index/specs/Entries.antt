@@ -1,6 +1,6 @@
 -- The entries of an index in two orders (this profile's): by acceptance number, and by type and those
 -- of one type by number.
-use Rattle.std.specs.Prelude.{◌≡◌, ℕ, ℤ, ◌<◌, ◌≤◌, ◌<ℤ◌, ◌≤ℤ◌, ◌⊎◌, List, length, map}
+use Rattle.std.specs.Prelude.{◌≡◌, ◌≢◌, ℕ, ℤ, ◌<◌, ◌≤◌, ◌<ℤ◌, ◌≤ℤ◌, ◌⊎◌, List, length, map}
 use Rattle.std.specs.List.{All, AllPairs, AllWithin, Contains, insert}
 use Rattle.sysv_model.specs.declared.limits.TheConstants.{QUEUE_MESSAGES}
 use Rattle.sysv_index.specs.declared.entry.Entry.{Entry}
@@ -16,6 +16,10 @@ IsBefore a b = (a.mtype <ℤ b.mtype) ⊎ ((a.mtype ≡ b.mtype) × (a.number < 
 -- each entry has a lower number than all that come after it
 abbrev pub NumbersRise : List Entry → Type 0
 NumbersRise entries = AllPairs (λ (a b : Entry). a.number < b.number) entries
+
+-- no two entries have one number
+abbrev pub NumbersDiffer : List Entry → Type 0
+NumbersDiffer entries = AllPairs (λ (a b : Entry). a.number ≢ b.number) entries
 
 -- both lists have the same entries, each in its own order and each entry once
 pub record IsIndex (entries by_type : List Entry) : Type 0 where

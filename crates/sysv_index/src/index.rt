@@ -30,7 +30,8 @@ pub struct Index {
 }
 
 impl Model for Index {
-    ghost use Rattle.std.specs.Prelude.{List, ◌≤◌, vec_capacity};
+    ghost use Rattle.std.specs.Prelude.{List, ◌≤◌};
+    ghost use Rattle.std.specs.VecDeque.{deque_capacity};
     ghost use Rattle.sysv_model.specs.declared.limits.TheConstants.{QUEUE_MESSAGES};
     ghost use Rattle.sysv_index.specs.declared.entry.Entry.{Entry};
     ghost use Rattle.sysv_index.specs.Entries.{IsIndex};
@@ -39,7 +40,7 @@ impl Model for Index {
 
     ghost view = { λ s. s.by_number.entries.items };
 
-    ghost invariant = { λ s. IsIndex s.by_number.entries.items s.by_type.entries.items × (QUEUE_MESSAGES ≤ vec_capacity s.by_number.entries) × (QUEUE_MESSAGES ≤ vec_capacity s.by_type.entries) };
+    ghost invariant = { λ s. IsIndex s.by_number.entries.items s.by_type.entries.items × (QUEUE_MESSAGES ≤ deque_capacity s.by_number.entries) × (QUEUE_MESSAGES ≤ deque_capacity s.by_type.entries) };
 }
 
 impl Index {
@@ -85,8 +86,9 @@ impl Index {
         ensures others { self.new ≡ filter (λ (entry : Entry). not (entry.number == number)) self.old }
         ensures removed { (position : ℕ) (entry : Entry) → slice_get self.old position ≡ Some entry → entry.number ≡ number → self.new ≡ remove self.old position }
     {
-        self.by_number.remove(number);
-        self.by_type.remove(number);
+        if let Some(entry) = self.by_number.remove_number(number) {
+            self.by_type.remove_entry(entry);
+        }
     }
 
     /// Takes all entries out.

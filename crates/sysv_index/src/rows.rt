@@ -1,15 +1,17 @@
 //! Entries in an order. No other module reads them but through `probe`, which counts.
 
-ghost use Rattle.std.specs.Prelude.{◌≡◌, ◌+◌, ◌<◌, ◌≤◌, ◌↔◌, ◌==◌, not, [], ◌∷◌, ◌++◌, IsTrue, IfOk, Some, filter, slice_get, length, vec_capacity};
-ghost use Rattle.std.specs.List.{AllPairs};
+ghost use Rattle.std.specs.Prelude.{◌≡◌, ◌≢◌, ◌+◌, ◌<◌, ◌≤◌, ◌↔◌, ◌==◌, not, [], ◌∷◌, ◌++◌, IsTrue, IfOk, Some, MatchOption, filter, slice_get, length};
+ghost use Rattle.std.specs.List.{All, AllPairs, Contains};
+ghost use Rattle.std.specs.VecDeque.{deque_capacity};
 ghost use Rattle.sysv_model.specs.declared.limits.TheConstants.{QUEUE_MESSAGES};
 ghost use Rattle.sysv_index.specs.declared.entry.Entry.{Entry};
-ghost use Rattle.sysv_index.specs.Entries.{IsBefore, IsInserted};
+ghost use Rattle.sysv_index.specs.Entries.{IsBefore, IsInserted, NumbersDiffer, NumbersRise};
 
 pub mod steps;
 
 use crate::entry::Entry;
 use std::alloc::{AllocError, Global};
+use std::collections::VecDeque;
 use std::sync::ledger::Ledger;
 use steps::Steps;
 use sysv_model::QUEUE_MESSAGES;
@@ -17,17 +19,17 @@ use sysv_model::QUEUE_MESSAGES;
 /// Entries in an order, with room for `QUEUE_MESSAGES` from its opening on.
 #[derive(Drop)]
 pub(crate) struct Row {
-    entries: Vec<Entry>,
+    entries: VecDeque<Entry>,
 }
 
 impl Row {
     /// A row without entries.
     pub(crate) fn open(alloc: Global) -> Result<Row, AllocError>
         ensures empty { IfOk result (λ row. row.entries.items ≡ []) }
-        ensures roomy { IfOk result (λ row. QUEUE_MESSAGES ≤ vec_capacity row.entries) }
+        ensures roomy { IfOk result (λ row. QUEUE_MESSAGES ≤ deque_capacity row.entries) }
     {
         Ok(Row {
-            entries: Vec::with_capacity(alloc, QUEUE_MESSAGES)?,
+            entries: VecDeque::with_capacity(alloc, QUEUE_MESSAGES)?,
         })
     }
 
@@ -57,19 +59,19 @@ impl Row {
 
     /// Adds an entry at the end.
     pub(crate) fn push(&mut self, entry: Entry)
-        requires { length self.old.entries.items < vec_capacity self.old.entries }
+        requires { length self.old.entries.items < deque_capacity self.old.entries }
         ensures pushed { self.new.entries.items ≡ self.old.entries.items ++ entry ∷ [] }
-        ensures roomy { vec_capacity self.old.entries ≤ vec_capacity self.new.entries }
+        ensures roomy { deque_capacity self.old.entries ≤ deque_capacity self.new.entries }
     {
-        self.entries.push(entry).unwrap();
+        self.entries.push_back_reserved(entry);
     }
 
     /// Adds an entry behind those of its type, where the row is in the order of types.
     pub(crate) fn insert(&mut self, entry: Entry)
-        requires room { length self.old.entries.items < vec_capacity self.old.entries }
+        requires room { length self.old.entries.items < deque_capacity self.old.entries }
         requires sorted { AllPairs IsBefore self.old.entries.items }
         ensures inserted { IsInserted self.old.entries.items entry self.new.entries.items }
-        ensures roomy { vec_capacity self.old.entries ≤ vec_capacity self.new.entries }
+        ensures roomy { deque_capacity self.old.entries ≤ deque_capacity self.new.entries }
     {
         let at = self
             .entries
@@ -77,18 +79,39 @@ impl Row {
         self.entries.insert(at, entry).unwrap();
     }
 
-    /// Takes the entries with this number out.
-    pub(crate) fn remove(&mut self, number: u64)
+    /// Takes the entry with this number out and returns it, if the row is in the order of numbers.
+    /// `None` if there is no such entry.
+    pub(crate) fn remove_number(&mut self, number: u64) -> Option<Entry>
+        requires rising { NumbersRise self.old.entries.items }
         ensures others { self.new.entries.items ≡ filter (λ (e : Entry). not (e.number == number)) self.old.entries.items }
-        ensures roomy { vec_capacity self.new.entries ≡ vec_capacity self.old.entries }
+        ensures removed { MatchOption result (All (λ (e : Entry). e.number ≢ number) self.old.entries.items) (λ (e : Entry). Contains self.old.entries.items e × (e.number ≡ number)) }
+        ensures roomy { deque_capacity self.new.entries ≡ deque_capacity self.old.entries }
     {
-        self.entries.retain(|kept| kept.number != number);
+        let at = self.entries.partition_point(|other| other.number < number);
+        match self.entries.get(at) {
+            Some(found) if found.number == number => self.entries.remove(at),
+            _ => None,
+        }
+    }
+
+    /// Takes this entry out, if the row is in the order of types.
+    pub(crate) fn remove_entry(&mut self, entry: Entry)
+        requires sorted { AllPairs IsBefore self.old.entries.items }
+        requires differ { NumbersDiffer self.old.entries.items }
+        requires held { Contains self.old.entries.items entry }
+        ensures others { self.new.entries.items ≡ filter (λ (e : Entry). not (e.number == entry.number)) self.old.entries.items }
+        ensures roomy { deque_capacity self.new.entries ≡ deque_capacity self.old.entries }
+    {
+        let at = self
+            .entries
+            .partition_point(|other| other.is_before(&entry));
+        let _removed = self.entries.remove(at);
     }
 
     /// Takes all entries out.
     pub(crate) fn clear(&mut self)
         ensures empty { self.new.entries.items ≡ [] }
-        ensures roomy { vec_capacity self.new.entries ≡ vec_capacity self.old.entries }
+        ensures roomy { deque_capacity self.new.entries ≡ deque_capacity self.old.entries }
     {
         self.entries.clear();
     }
