@@ -1,4 +1,4 @@
-//! Entries in an order. No other module reads them but through `probe`, which counts.
+//! Entries in an order. No other module reads those that stay but through `probe`, which counts.
 
 ghost use Rattle.std.specs.Prelude.{◌≡◌, ◌≢◌, ◌+◌, ◌<◌, ◌≤◌, ◌↔◌, ◌==◌, not, [], ◌∷◌, ◌++◌, IsTrue, IfOk, Some, MatchOption, filter, slice_get, length};
 ghost use Rattle.std.specs.List.{All, AllPairs, Contains};
@@ -47,7 +47,7 @@ impl Row {
         self.entries.is_empty()
     }
 
-    /// Reads the entry at a place, and counts it. There is no other way to read one.
+    /// Reads the entry at a place, and counts it. There is no other way to read one that stays.
     pub(crate) fn probe<L: Ledger>(&self, at: usize, steps: &mut Steps<L>) -> Entry
         requires { at < length self.now.entries.items }
         ensures read { slice_get self.now.entries.items at ≡ Some result }
