@@ -1,6 +1,7 @@
 ghost use Rattle.std.specs.Prelude.{false, ◌≡◌, ◌+◌, ◌<◌, ◌++◌, List, ℕ, replicate, map, IfOk, OnOk, OnErr, [], ◌∷◌, ◌≤◌, length, Some};
 ghost use Rattle.std.specs.List.{range_with_len};
 ghost use Rattle.sysv_lists.specs.Prefix.{IsPrefixOf};
+ghost use Rattle.sysv_model.specs.declared.limits.TheConstants.{BLOCK_BYTES, BODY_ROOM};
 ghost use Rattle.sysv_lines.specs.Heads.{head_text};
 ghost use Rattle.sysv_stage.specs.Scene.{Scene, opening_scene, Advances, LineRuns, LineActs, PoolGiven, StartRuns, StartsAs, call_for, GoesOn, StepsRun, OneRuns, AllRun, printed, standing_line};
 ghost use Rattle.sysv_core.specs.World.{actor_at};
@@ -13,11 +14,14 @@ use std::alloc::Global;
 use std::mem;
 use sysv_core::{Answer, Call, Event, Outcome, Standing, Stepped, World};
 use sysv_lines::{Head, Line, Operation, Request, SCRIPT_ACTORS, Text, Told};
-use sysv_model::{Body, Cred, NoMemory};
+use sysv_model::{BLOCK_BYTES, Body, Cred, NoMemory};
 use sysv_streams::Output;
 
 /// The blocks of a script's world.
 const SCRIPT_BLOCKS: u32 = 1024;
+
+/// A block of the letter that stands for every byte of a message body given by its length.
+const LETTERS: [u8; BLOCK_BYTES] = [b'x'; BLOCK_BYTES];
 
 /// The most steps that a call of a script makes before the next line.
 const MAX_STEPS: u32 = 16;
@@ -398,11 +402,23 @@ fn fill(body: &mut Body, text: Text<'_>)
             let _fits = body.push_piece(bytes);
         }
         Text::Letters(count) => {
-            for _ in 0..count {
-                let _fits = body.push_piece(b"x");
+            let mut left = count;
+            while left > 0 {
+                let piece = left.min(BLOCK_BYTES);
+                push_letters(body, piece);
+                left -= piece;
             }
         }
     }
+}
+
+/// Appends at most a block of letters to a body.
+fn push_letters(body: &mut Body, count: usize)
+    requires block { count ≤ BLOCK_BYTES }
+    requires room { length body.old + count ≤ BODY_ROOM }
+    ensures { body.new ≡ body.old ++ replicate count 120 }
+{
+    let _fits = body.push_piece(&LETTERS[..count]);
 }
 
 /// The credentials that the actors 1 to 16 have at first.
