@@ -12,6 +12,7 @@ ghost use Rattle.sysv_lines.specs.declared.line.TheConstants.{LINE_BYTES};
 use crate::fault::ScriptFault;
 use crate::input::Input;
 use crate::output::Output;
+use memchr::memchr;
 use std::io::{Read, Write};
 use sysv_lines::LINE_BYTES;
 use sysv_model::Watched;
@@ -106,7 +107,7 @@ fn line_end(waiting: &[u8], seen: usize) -> Option<usize>
 fn first_end(text: &[u8]) -> Option<usize>
     ensures { MatchOption result (HasNoEnd text.now) (λ len. IsFirstLine len text.now) }
 {
-    text.iter().position(|byte| *byte == b'\n')
+    memchr(b'\n', text)
 }
 
 /// Writes the answers and reads once. Returns the number of bytes that came, 0 at the end of the
