@@ -39,7 +39,8 @@ pub(crate) fn empty_cells<T: Drop>(alloc: Global, cells: usize) -> Option<Vec<Op
 // The table with its first seat.
 pub(crate) fn lay<T: Drop>(alloc: Global, cells: usize) -> Option<(Board<T>, Token<T>)>
     requires { 0 < cells }
-    ensures { IfSome result (λ t. (t.1.me ≡ (start, [])) × (t.1.table_id ≡ t.0.shared.table_id) × (t.0.shared.table_id.words ≡ 32) × (t.0.shared.table_id.slots ≡ cells)) }
+    ensures { IfSome result (λ t. (t.1.me ≡ (start, [])) × (t.1.table_id ≡ t.0.shared.table_id)
+        × (t.0.shared.table_id.words ≡ 32) × (t.0.shared.table_id.slots ≡ cells)) }
 {
     let row = empty_cells(alloc, cells)?;
     Table::new(alloc, &[0; WORDS], row, &()).ok()

@@ -32,7 +32,8 @@ impl<T> Model for OneBuffer<T> {
 
     ghost view = { λ b. record { table = b.table.shared.table_id; room = b.room } };
 
-    ghost invariant = { λ b. (b.table.shared.table_id.words ≡ 32) × (b.table.shared.table_id.slots ≡ b.room) × (0 < b.room) };
+    ghost invariant = { λ b. (b.table.shared.table_id.words ≡ 32)
+        × (b.table.shared.table_id.slots ≡ b.room) × (0 < b.room) };
 }
 
 impl<T: Drop> OneBuffer<T> {
@@ -41,8 +42,11 @@ impl<T: Drop> OneBuffer<T> {
         alloc: Global,
         cells: usize,
     ) -> Result<(OneBuffer<T>, Producer<T>, Consumer<T>), OpenRefused>
-        ensures ok { IfOk result (λ o. (o.0.room ≡ cells) × (o.1 ≡ record { buffer = o.0; put = []; gone = 0 }) × (o.2 ≡ record { buffer = o.0; taken = []; seen = [] })) }
-        ensures bad_size { IsErrOf result OpenRefused.BadSize ↔ ((cells < 1) ⊎ (MAX_CELLS < cells)) }
+        ensures ok { IfOk result (λ o. (o.0.room ≡ cells)
+            × (o.1 ≡ record { buffer = o.0; put = []; gone = 0 })
+            × (o.2 ≡ record { buffer = o.0; taken = []; seen = [] })) }
+        ensures bad_size { IsErrOf result OpenRefused.BadSize
+            ↔ ((cells < 1) ⊎ (MAX_CELLS < cells)) }
     {
         if cells < 1 || cells > MAX_CELLS {
             return Err(OpenRefused::BadSize);
@@ -84,7 +88,8 @@ impl<T: Drop> OneBuffer<T> {
         requires { end.old.buffer ≡ self.now }
         ensures buffer { end.new.buffer ≡ self.now }
         ensures ok { OnOk result (end.new.put ≡ end.old.put ++ item ∷ []) }
-        ensures worn { IfErr result (λ e. (e.item ≡ item) × (2 ^ 62 ≤ length end.old.put) × (end.new.put ≡ end.old.put)) }
+        ensures worn { IfErr result (λ e. (e.item ≡ item) × (2 ^ 62 ≤ length end.old.put)
+            × (end.new.put ≡ end.old.put)) }
     {
         let Some(cell) = self.await_room(rt, &mut end.token) else {
             return Err(PutWorn { item });
@@ -118,7 +123,8 @@ impl<T: Drop> OneBuffer<T> {
         requires { end.old.buffer ≡ self.now }
         ensures buffer { end.new.buffer ≡ self.now }
         ensures ok { IfOk result (λ item. end.new.taken ≡ end.old.taken ++ item ∷ []) }
-        ensures worn { OnErr result ((2 ^ 62 ≤ length end.old.taken) × (end.new.taken ≡ end.old.taken)) }
+        ensures worn { OnErr result ((2 ^ 62 ≤ length end.old.taken)
+            × (end.new.taken ≡ end.old.taken)) }
     {
         let Some(cell) = self.await_item(rt, &mut end.token) else {
             return Err(TakeWorn);

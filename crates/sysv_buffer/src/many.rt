@@ -34,7 +34,8 @@ impl<T> Model for ManyBuffer<T> {
 
     ghost view = { λ b. record { table = b.table.shared.table_id; room = b.room } };
 
-    ghost invariant = { λ b. (b.table.shared.table_id.words ≡ 64) × (b.table.shared.table_id.slots ≡ b.room) × (0 < b.room) × (b.room ≤ MAX_CELLS) };
+    ghost invariant = { λ b. (b.table.shared.table_id.words ≡ 64)
+        × (b.table.shared.table_id.slots ≡ b.room) × (0 < b.room) × (b.room ≤ MAX_CELLS) };
 }
 
 impl<T: Drop> ManyBuffer<T> {
@@ -42,7 +43,8 @@ impl<T: Drop> ManyBuffer<T> {
     /// refused.
     pub fn open(alloc: Global, cells: usize) -> Result<(ManyBuffer<T>, Seat<T>), OpenRefused>
         ensures ok { IfOk result (λ o. (o.0.room ≡ cells) × (o.1 ≡ opened o.0)) }
-        ensures bad_size { IsErrOf result OpenRefused.BadSize ↔ ((cells < 1) ⊎ (MAX_CELLS < cells)) }
+        ensures bad_size { IsErrOf result OpenRefused.BadSize
+            ↔ ((cells < 1) ⊎ (MAX_CELLS < cells)) }
     {
         if cells < 1 || cells > MAX_CELLS {
             return Err(OpenRefused::BadSize);

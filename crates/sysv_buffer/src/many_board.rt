@@ -24,7 +24,9 @@ pub(crate) type Token<T> = atomic_table::Seat<Option<T>, Sight<T>>;
 // The table with its first seat.
 pub(crate) fn lay<T: Drop>(alloc: Global, cells: usize) -> Option<(Board<T>, Token<T>)>
     requires { 0 < cells }
-    ensures { IfSome result (λ t. (t.1.me ≡ (first_sight, [])) × (t.1.table_id ≡ t.0.shared.table_id) × (t.0.shared.table_id.words ≡ 64) × (t.0.shared.table_id.slots ≡ cells)) }
+    ensures { IfSome result (λ t. (t.1.me ≡ (first_sight, []))
+        × (t.1.table_id ≡ t.0.shared.table_id) × (t.0.shared.table_id.words ≡ 64)
+        × (t.0.shared.table_id.slots ≡ cells)) }
 {
     let row = empty_cells(alloc, cells)?;
     Table::new(alloc, &[0; WORDS], row, &()).ok()

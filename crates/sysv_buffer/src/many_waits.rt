@@ -27,7 +27,8 @@ impl<T: Drop> ManyBuffer<T> {
         requires { seat.old.buffer ≡ self.now }
         ensures buffer { seat.new.buffer ≡ self.now }
         ensures ok { OnOk result (Puts item seat.old seat.new) }
-        ensures worn { IfErr result (λ e. (e.item ≡ item) × (2 ^ 62 ≤ length seat.new.seen) × Looks seat.old seat.new) }
+        ensures worn { IfErr result (λ e. (e.item ≡ item) × (2 ^ 62 ≤ length seat.new.seen)
+            × Looks seat.old seat.new) }
     {
         let token = &mut seat.token;
         let Some(cell) = self.await_room(rt, token) else {
@@ -65,7 +66,8 @@ impl<T> ManyBuffer<T> {
         ensures same { IsSame token.old token.new }
         ensures keeps { Keeps token.old.me.0 token.new.me.0 }
         ensures room { IfSome result (λ cell. HasRoom self.now.room cell token.new.me) }
-        ensures worn { IfNone result (Waits [] [] token.new.me × (2 ^ 62 ≤ length token.new.me.0.seen)) }
+        ensures worn { IfNone result (Waits [] [] token.new.me
+            × (2 ^ 62 ≤ length token.new.me.0.seen)) }
     {
         for _ in rt.forever() {
             match self.find_room(token) {

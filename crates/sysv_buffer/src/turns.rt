@@ -67,7 +67,8 @@ impl<T> OneBuffer<T> {
         requires out { token.old.me.1 ≡ (cell, None) ∷ [] }
         requires place { cell ≡ length token.old.me.0.put % self.now.room }
         ensures same { IsSame token.old token.new }
-        ensures put { token.new.me ≡ (record token.old.me.0 { put = token.old.me.0.put ++ item ∷ []; holds = false }, []) }
+        ensures put { token.new.me
+            ≡ (record token.old.me.0 { put = token.old.me.0.put ++ item ∷ []; holds = false }, []) }
     {
         let shared = &self.table.shared;
         let left = shared.exchange(token, cell, Some(item));
@@ -102,7 +103,8 @@ impl<T> OneBuffer<T> {
         requires place { cell ≡ token.old.me.0.taken % self.now.room }
         ensures same { IsSame token.old token.new }
         ensures was { token.old.me.1 ≡ (cell, Some result) ∷ [] }
-        ensures taken { token.new.me ≡ (record token.old.me.0 { taken = token.old.me.0.taken + 1; holds = false }, []) }
+        ensures taken { token.new.me
+            ≡ (record token.old.me.0 { taken = token.old.me.0.taken + 1; holds = false }, []) }
     {
         let shared = &self.table.shared;
         let Some(item) = shared.exchange(token, cell, None) else {
@@ -135,8 +137,10 @@ impl<T> OneBuffer<T> {
         requires table { IsOf self.now token.old }
         requires idle { IsIdleProducer token.old.me }
         ensures same { IsSame token.old token.new }
-        ensures room { IfSome result (λ cell. HasRoom self.now.room cell token.old.me.0.put token.new.me) }
-        ensures worn { IfNone result (HasPut token.old.me.0.put token.new.me × (2 ^ 62 ≤ length token.old.me.0.put)) }
+        ensures room { IfSome result (λ cell.
+            HasRoom self.now.room cell token.old.me.0.put token.new.me) }
+        ensures worn { IfNone result (HasPut token.old.me.0.put token.new.me
+            × (2 ^ 62 ≤ length token.old.me.0.put)) }
     {
         for _ in rt.forever() {
             match self.spin_room(token) {
@@ -171,7 +175,8 @@ impl<T> OneBuffer<T> {
         requires table { IsOf self.now token.old }
         requires idle { IsIdleConsumer token.old.me }
         ensures same { IsSame token.old token.new }
-        ensures item { IfSome result (λ cell. Looked self.now.room token.old.me (Item cell) token.new.me) }
+        ensures item { IfSome result (λ cell.
+            Looked self.now.room token.old.me (Item cell) token.new.me) }
         ensures worn { IfNone result (Looked self.now.room token.old.me Spent token.new.me) }
     {
         for _ in rt.forever() {

@@ -37,11 +37,15 @@ pub fn run_client<R: Read, W: Write, S: Write>(
     screen: &mut S,
 ) -> i32
     requires { HasShortText command.now.task }
-    ensures runs { Runs command.now result (R.remaining reader.old) (R.remaining reader.new) (W.contents writer.old) (W.contents writer.new)
+    ensures runs { Runs command.now result (R.remaining reader.old) (R.remaining reader.new)
+        (W.contents writer.old) (W.contents writer.new)
         (S.contents screen.old) (S.contents screen.new) }
     // It shows what its input makes of the command, unless a stream fails or memory is refused.
-    ensures only { (input : List ℕ) (exchanges : List Exchange) (ended : Result ⊤ ClientFault) → R.remaining reader.old ≡ Some input
-        → Makes command.now input exchanges ended → ShowsCourse command.now exchanges ended result (S.contents screen.old) (S.contents screen.new) }
+    ensures only { (input : List ℕ) (exchanges : List Exchange) (ended : Result ⊤ ClientFault) →
+        R.remaining reader.old ≡ Some input
+        → Makes command.now input exchanges ended →
+        ShowsCourse command.now exchanges ended result (S.contents screen.old)
+        (S.contents screen.new) }
 {
     one_answer_to_replies();
     one_reply();
@@ -57,7 +61,8 @@ fn talk_and_show<R: Read, W: Write, S: Write>(
     screen: &mut S,
 ) -> i32
     requires { HasShortText command.now.task }
-    ensures { Runs command.now result (R.remaining reader.old) (R.remaining reader.new) (W.contents writer.old) (W.contents writer.new)
+    ensures { Runs command.now result (R.remaining reader.old) (R.remaining reader.new)
+        (W.contents writer.old) (W.contents writer.new)
         (S.contents screen.old) (S.contents screen.new) }
 {
     match Client::open(alloc, &command.task) {
@@ -71,7 +76,8 @@ fn talk_and_show<R: Read, W: Write, S: Write>(
 
 /// Shows the line of a fault; 1.
 fn show_fault<S: Write>(screen: &mut S, fault: ClientFault) -> i32
-    ensures { Shows result (pos 1) (fault_line fault) (S.contents screen.old) (S.contents screen.new) }
+    ensures { Shows result (pos 1) (fault_line fault) (S.contents screen.old)
+        (S.contents screen.new) }
 {
     show(screen, fault.line().as_bytes(), 1)
 }
@@ -111,7 +117,8 @@ impl Client {
     /// Nothing was asked. `NoMemory` where memory is refused.
     fn open(alloc: Global, task: &Task<'_>) -> Result<Client, NoMemory>
         requires { HasShortText task.now }
-        ensures { IfOk result (λ client. (client.text ≡ text_of task.now) × (client.page ≡ task_head task.now)) }
+        ensures { IfOk result (λ client. (client.text ≡ text_of task.now)
+            × (client.page ≡ task_head task.now)) }
     {
         let mut text = Body::open(alloc)?;
         let given = Body::open(alloc)?;
@@ -135,7 +142,8 @@ impl Client {
     ) -> Result<(), ClientFault>
         requires text { self.old.text ≡ text_of command.now.task }
         requires page { self.old.page ≡ task_head command.now.task }
-        ensures { TalksThrough command.now result self.new.page (R.remaining reader.old) (R.remaining reader.new)
+        ensures { TalksThrough command.now result self.new.page (R.remaining reader.old)
+            (R.remaining reader.new)
             (W.contents writer.old) (W.contents writer.new) }
     {
         let mut place = 0;

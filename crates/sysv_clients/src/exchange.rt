@@ -23,7 +23,8 @@ pub(crate) fn exchange<R: Read, W: Write>(
     text: &Body,
     given: &mut Body,
 ) -> Result<Outcome, ClientFault>
-    ensures { Exchanges (request_spelling (request_of ask) text.now) ask result (R.remaining reader.old) (R.remaining reader.new)
+    ensures { Exchanges (request_spelling (request_of ask) text.now) ask result
+        (R.remaining reader.old) (R.remaining reader.new)
         (W.contents writer.old) (W.contents writer.new) given.new }
 {
     match send(writer, ask, text) {
@@ -34,8 +35,10 @@ pub(crate) fn exchange<R: Read, W: Write>(
 
 /// Writes a request, and flushes it.
 fn send<W: Write>(writer: &mut W, ask: Ask, text: &Body) -> Result<(), WriteFault>
-    ensures ok { OnOk result (Appends (W.contents writer.old) (W.contents writer.new) (request_spelling (request_of ask) text.now)) }
-    ensures err { OnErr result (AppendsPrefix (W.contents writer.old) (W.contents writer.new) (request_spelling (request_of ask) text.now)) }
+    ensures ok { OnOk result (Appends (W.contents writer.old) (W.contents writer.new)
+        (request_spelling (request_of ask) text.now)) }
+    ensures err { OnErr result (AppendsPrefix (W.contents writer.old) (W.contents writer.new)
+        (request_spelling (request_of ask) text.now)) }
 {
     let mut writer = Watched::new(writer);
     let request = Request {

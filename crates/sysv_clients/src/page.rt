@@ -86,7 +86,8 @@ impl Page {
     /// memory for the line is refused.
     pub(crate) fn tell(&mut self, answer: &Outcome, given: &Body) -> Result<(), NoMemory>
         requires text { length given.now ≤ MESSAGE_BYTES }
-        requires room { gives_text answer.now ≡ true → length self.old + MESSAGE_BYTES + 1 ≤ PAGE_ROOM }
+        requires room { gives_text answer.now ≡ true →
+            length self.old + MESSAGE_BYTES + 1 ≤ PAGE_ROOM }
         ensures after { OnOk result (self.new ≡ self.old ++ answer_text answer.now given.now) }
         ensures len { OnOk result (length self.new ≤ length self.old + answer_most answer.now) }
         ensures row { OnErr result (is_row answer.now ≡ true) }

@@ -20,7 +20,8 @@ pub(crate) fn show<S: Write>(screen: &mut S, text: &[u8], due: i32) -> i32
 /// Writes a text and flushes it.
 fn print<S: Write>(screen: &mut S, text: &[u8]) -> Result<(), WriteFault>
     ensures ok { OnOk result (Appends (S.contents screen.old) (S.contents screen.new) text.now) }
-    ensures err { OnErr result (AppendsPrefix (S.contents screen.old) (S.contents screen.new) text.now) }
+    ensures err { OnErr result (AppendsPrefix (S.contents screen.old)
+        (S.contents screen.new) text.now) }
 {
     let mut screen = Watched::new(screen);
     screen.write_out(text)?;

@@ -45,7 +45,8 @@ pub fn type_of(word: &[u8]) -> Option<i64>
 
 /// The number that one to eight hexadecimal digits stand for. `None` for anything else.
 fn hex_number(digits: &[u8]) -> Option<u32>
-    ensures { SomeIff result (IsNumeral 16 digits.now × (length digits.now ≤ 8)) (digits_value 16 digits.now) }
+    ensures { SomeIff result (IsNumeral 16 digits.now
+        × (length digits.now ≤ 8)) (digits_value 16 digits.now) }
 {
     if digits.len() > 8 || digits.first() == Some(&b'+') {
         return None;

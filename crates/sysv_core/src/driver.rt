@@ -36,7 +36,8 @@ use sysv_steps::{
 
 /// The start of a call, where the released count is `released`.
 pub fn begin(cred: Cred, call: Call, released: u64) -> Led
-    ensures { LeadsTo (gives_back (Some (kind_of (asked_of call)))) (begins cred (asked_of call) released) result }
+    ensures { LeadsTo (gives_back (Some (kind_of (asked_of call))))
+        (begins cred (asked_of call) released) result }
 {
     match call {
         Call::Get { key, flags } => lead(Getting::begin(cred, key, flags), None, false),
@@ -70,7 +71,8 @@ pub fn begin(cred: Cred, call: Call, released: u64) -> Led
 /// waits.
 pub fn advance(objects: &mut Objects, doing: Doing, now: u64) -> Led
     requires { CountsUpTo (2 ^ 62) objects.old }
-    ensures { StepLeads objects.old (stands_at doing.standing (text_in doing.body)) now result objects.new }
+    ensures { StepLeads objects.old
+        (stands_at doing.standing (text_in doing.body)) now result objects.new }
 {
     let Doing { standing, body } = doing;
     match standing {
@@ -175,7 +177,8 @@ fn place(objects: &mut Objects, send: Sending, mut chain: Chain, body: Body, now
     requires counts { CountsUpTo (2 ^ 62) objects.old }
     requires blocks { chain.blocks ≡ blocks_for (length body) }
     requires short { length body ≤ most_bytes }
-    ensures { TurnLeads objects.old (AtPlace (sending send body) chain.blocks) now result objects.new }
+    ensures { TurnLeads objects.old
+        (AtPlace (sending send body) chain.blocks) now result objects.new }
 {
     chain.fill(&body);
     match objects.place(send.id, send.cred, send.mtype, chain, body.len(), now) {
@@ -191,8 +194,11 @@ fn place(objects: &mut Objects, send: Sending, mut chain: Chain, body: Body, now
 
 fn give_back(objects: &mut Objects, chain: Chain, afterwards: Afterwards, body: Option<Body>) -> Led
     requires counts { CountsUpTo (2 ^ 62) objects.old }
-    requires held { IsHeldBy (Goes (AtSendGiveback chain.blocks (afterwards_of afterwards (text_in body)))) body }
-    ensures { TurnLeads objects.old (AtSendGiveback chain.blocks (afterwards_of afterwards (text_in body))) 0 result objects.new }
+    requires held { IsHeldBy (Goes
+        (AtSendGiveback chain.blocks (afterwards_of afterwards (text_in body)))) body }
+    ensures { TurnLeads objects.old
+        (AtSendGiveback chain.blocks (afterwards_of afterwards (text_in body))) 0 result
+        objects.new }
 {
     release(objects, chain);
     lead(afterwards.given_back(), body, false)
@@ -222,7 +228,8 @@ fn take(objects: &mut Objects, receive: Receiving, mut body: Body, now: u64) -> 
 
 fn end_receive(objects: &mut Objects, chain: Chain, delivery: Delivery, body: Body) -> Led
     requires { CountsUpTo (2 ^ 62) objects.old }
-    ensures { TurnLeads objects.old (AtReceiveGiveback chain.blocks delivery.mtype body) 0 result objects.new }
+    ensures { TurnLeads objects.old
+        (AtReceiveGiveback chain.blocks delivery.mtype body) 0 result objects.new }
 {
     release(objects, chain);
     lead(Receiving::given_back(delivery), Some(body), true)
@@ -276,7 +283,8 @@ fn end_remove(objects: &mut Objects, chain: Chain) -> Led
 /// Releases a chain. One that the pool refuses as that of another is freed, since it is given back once.
 fn release(objects: &mut Objects, chain: Chain)
     requires { CountsUpTo (2 ^ 62) objects.old }
-    ensures { (done : Result ⊤ Chained) × MakesTurn objects.old (AtPool (Release chain.blocks) (release_reply done)) objects.new }
+    ensures { (done : Result ⊤ Chained)
+        × MakesTurn objects.old (AtPool (Release chain.blocks) (release_reply done)) objects.new }
 {
     if let Err(foreign) = objects.release(chain) {
         foreign.end();
@@ -304,7 +312,9 @@ fn look_again(objects: &Objects, wait: Wait, body: Option<Body>) -> Led
 
 /// The count for which a call waits.
 fn count_of(objects: &Objects, wait: &Wait) -> u64
-    ensures { (text : List ℕ) (generation : ℕ) (turns : List Turn) → StandsFor generation turns objects.now → result ≡ value_of turns (awaited (wait_of wait.now text)) }
+    ensures { (text : List ℕ) (generation : ℕ) (turns : List Turn) →
+        StandsFor generation turns objects.now →
+        result ≡ value_of turns (awaited (wait_of wait.now text)) }
 {
     match wait {
         Wait::Settled { .. } => objects.settled(),
@@ -370,7 +380,8 @@ fn over(ending: Ending, body: Option<Body>, back: bool) -> Led
 /// The result of a call that was given a text of so many bytes, if it was given one, and the delivery of
 /// the message that it gives.
 fn outcome(ending: Ending, len: usize) -> (Outcome, Option<Delivery>)
-    ensures told { (text : List ℕ) → length text ≡ len → result.0 ≡ outcome_of (ending_of ending text) }
+    ensures told { (text : List ℕ) → length text ≡ len →
+        result.0 ≡ outcome_of (ending_of ending text) }
     ensures delivered { is_some result.1 ≡ is_got result.0 }
 {
     match ending {

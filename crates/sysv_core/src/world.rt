@@ -57,7 +57,8 @@ impl Model for World {
     ghost use Rattle.sysv_core.specs.Kept.{states_kept};
     ghost use Rattle.sysv_queue.specs.Tally.{taken_in};
 
-    ghost view = { λ w. record { objects = w.objects; states = states_kept w.actors.items; steps = w.steps; tally = w.tally } };
+    ghost view = { λ w.
+        record { objects = w.objects; states = states_kept w.actors.items; steps = w.steps; tally = w.tally } };
 
     // The step number bounds the counts of the slots and of the pool, and those of the tally.
     ghost invariant = { λ w. (w.steps ≤ 2 ^ 62) × CountsUpTo w.steps w.objects
@@ -70,9 +71,12 @@ impl World {
     /// blocks, 128 to 65,536. `BadSize` where one of them is out of its range,
     /// `NoMemory` where memory was refused.
     pub fn open(alloc: Global, actors: u32, blocks: u32) -> Result<World, OpenRefused>
-        ensures opened { IfOk result (λ world. StandsFor record { actors = actors; blocks = blocks; first = 0; generation = 0 } [] [] world) }
+        ensures opened { IfOk result (λ world.
+            StandsFor record { actors = actors; blocks = blocks; first = 0; generation = 0 } [] [] world) }
         ensures tally { IfOk result (λ world. world.tally ≡ none_taken) }
-        ensures bad_size { (result ≡ Err OpenRefused.BadSize) ↔ ((actors < 1) ⊎ (most_actors < actors) ⊎ (blocks < least_blocks) ⊎ (most_blocks < blocks)) }
+        ensures bad_size { (result ≡ Err OpenRefused.BadSize)
+            ↔ ((actors < 1) ⊎ (most_actors < actors) ⊎ (blocks < least_blocks)
+            ⊎ (most_blocks < blocks)) }
     {
         World::open_at(alloc, actors, blocks, 0, 0)
     }
@@ -87,9 +91,12 @@ impl World {
         first_step: u64,
         generation: u32,
     ) -> Result<World, OpenRefused>
-        ensures opened { IfOk result (λ world. StandsFor record { actors = actors; blocks = blocks; first = first_step; generation = generation } [] [] world) }
+        ensures opened { IfOk result (λ world.
+            StandsFor record { actors = actors; blocks = blocks; first = first_step; generation = generation } [] [] world) }
         ensures tally { IfOk result (λ world. world.tally ≡ none_taken) }
-        ensures bad_size { (result ≡ Err OpenRefused.BadSize) ↔ ((actors < 1) ⊎ (most_actors < actors) ⊎ (blocks < least_blocks) ⊎ (most_blocks < blocks)
+        ensures bad_size { (result ≡ Err OpenRefused.BadSize)
+            ↔ ((actors < 1) ⊎ (most_actors < actors) ⊎ (blocks < least_blocks)
+            ⊎ (most_blocks < blocks)
             ⊎ (worn < first_step) ⊎ (last_generation < generation)) }
     {
         legal_turns();
@@ -167,13 +174,16 @@ impl World {
     pub fn run(&mut self, alloc: Global, events: Vec<Event>) -> Result<Vec<Answer>, Vec<Event>>
         // For every list of happenings that the world stands for, it then stands for that list and the
         // events done, and the answers are those of that run.
-        ensures stands { IfOk result (λ answers. StandsWithEvents self.old events.items answers.items self.new) }
+        ensures stands { IfOk result (λ answers.
+            StandsWithEvents self.old events.items answers.items self.new) }
         // Each world of a list obeys the laws.
         ensures law { LawsHold self.new }
         // Each message that it answers is counted as written, and none as lost.
-        ensures written { IfOk result (λ answers. self.new.tally.written ≡ self.old.tally.written + messages_in answers.items) }
+        ensures written { IfOk result (λ answers.
+            self.new.tally.written ≡ self.old.tally.written + messages_in answers.items) }
         ensures lost { self.new.tally.lost ≡ self.old.tally.lost }
-        ensures refused { IfErr result (λ back. (back.items ≡ events.items) × (self.new ≡ self.old)) }
+        ensures refused { IfErr result (λ back. (back.items ≡ events.items)
+            × (self.new ≡ self.old)) }
     {
         every_run_obeys();
         let Ok(mut answers) = Vec::with_capacity(alloc, events.len()) else {
@@ -210,7 +220,8 @@ impl World {
     /// Where the call of `actor` stands: before a step, or in a wait. `None` where the actor is idle, and
     /// for a number that no actor has. Actors count from 1.
     pub fn standing(&self, actor: u32) -> Option<&Standing>
-        ensures { MatchOption result (StandsNowhere (state_at self.now.states actor)) (λ standing. StandsThere (state_at self.now.states actor) standing.now) }
+        ensures { MatchOption result (StandsNowhere (state_at self.now.states actor)) (λ standing.
+            StandsThere (state_at self.now.states actor) standing.now) }
     {
         let place = self.place_of(actor)?;
         match &self.actors[place] {
@@ -350,7 +361,8 @@ fn settle(
 
 /// That many idle actors.
 fn idle(alloc: Global, actors: usize) -> Result<Vec<Option<Doing>>, OpenRefused>
-    ensures { MatchResult result (λ made. made.items ≡ replicate actors None) (λ e. e ≡ OpenRefused.NoMemory) }
+    ensures { MatchResult result (λ made. made.items ≡ replicate actors None) (λ e.
+        e ≡ OpenRefused.NoMemory) }
 {
     let mut idle = Vec::with_capacity(alloc, actors).map_err(|_| OpenRefused::NoMemory)?;
     for _ in 0..actors {

@@ -73,7 +73,8 @@ impl<K> Word<K> {
     /// fails, and nothing changes, if the allowance is below 64.
     pub fn split(&self, seat: &mut Seat) -> Result<Seat, TooMany>
         requires { seat.old.counter ≡ self.now }
-        ensures ok { IfOk result (λ s. (s ≡ split_off seat.old) × (seat.new ≡ after_split seat.old)) }
+        ensures ok { IfOk result (λ s. (s ≡ split_off seat.old)
+            × (seat.new ≡ after_split seat.old)) }
         ensures too_many { IsErr result ↔ (seat.old.allowance < 64) }
         ensures err { OnErr result (seat.new ≡ seat.old) }
         ensures same { seat.new.counter ≡ seat.old.counter }

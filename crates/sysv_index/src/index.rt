@@ -40,7 +40,9 @@ impl Model for Index {
 
     ghost view = { λ s. s.by_number.entries.items };
 
-    ghost invariant = { λ s. IsIndex s.by_number.entries.items s.by_type.entries.items × (QUEUE_MESSAGES ≤ deque_capacity s.by_number.entries) × (QUEUE_MESSAGES ≤ deque_capacity s.by_type.entries) };
+    ghost invariant = { λ s. IsIndex s.by_number.entries.items s.by_type.entries.items
+        × (QUEUE_MESSAGES ≤ deque_capacity s.by_number.entries)
+        × (QUEUE_MESSAGES ≤ deque_capacity s.by_type.entries) };
 }
 
 impl Index {
@@ -83,8 +85,11 @@ impl Index {
 
     /// Takes the entry with this acceptance number out. Nothing changes where there is none.
     pub fn remove(&mut self, number: u64)
-        ensures others { self.new ≡ filter (λ (entry : Entry). not (entry.number == number)) self.old }
-        ensures removed { (position : ℕ) (entry : Entry) → slice_get self.old position ≡ Some entry → entry.number ≡ number → self.new ≡ remove self.old position }
+        ensures others { self.new ≡ filter (λ (entry : Entry).
+            not (entry.number == number)) self.old }
+        ensures removed { (position : ℕ) (entry : Entry) →
+            slice_get self.old position ≡ Some entry → entry.number ≡ number →
+            self.new ≡ remove self.old position }
     {
         if let Some(entry) = self.by_number.remove_number(number) {
             self.by_type.remove_entry(entry);
@@ -104,7 +109,8 @@ impl Index {
     /// message, and for a bound, at most one entry is read; for an exact type the entries by type are
     /// halved; for every type but one the entries by number are read up to the first that differs.
     pub fn select<L: Ledger>(&self, sel: Selector, steps: &mut Steps<L>) -> Option<Entry>
-        ensures selected { MatchOption result (NoneQualifies sel (types_of self.now)) (IsSelected sel self.now) }
+        ensures selected { MatchOption result (NoneQualifies sel (types_of self.now))
+            (IsSelected sel self.now) }
         ensures few { IsFoundByFew sel → steps.new ≤ steps.old + digits (length self.now) + 2 }
         ensures some { 0 < length self.now → steps.old < steps.new }
         ensures risen { steps.old ≤ steps.new }
@@ -133,7 +139,8 @@ fn earliest<L: Ledger>(by_number: &Row, steps: &mut Steps<L>) -> Option<Entry>
 
 /// The first entry of the lowest type, if that qualifies.
 fn lowest<L: Ledger>(by_type: &Row, sel: Selector, steps: &mut Steps<L>) -> Option<Entry>
-    ensures found { MatchOption result (NoneLow sel by_type.now.entries.items) (IsLowest sel by_type.now.entries.items) }
+    ensures found { MatchOption result (NoneLow sel by_type.now.entries.items)
+        (IsLowest sel by_type.now.entries.items) }
     ensures few { steps.new ≤ steps.old + 1 }
     ensures risen { steps.old ≤ steps.new }
     ensures some { 0 < length by_type.now.entries.items → steps.old < steps.new }
@@ -152,7 +159,8 @@ fn lowest<L: Ledger>(by_type: &Row, sel: Selector, steps: &mut Steps<L>) -> Opti
 /// The first entry of this type.
 fn first_of<L: Ledger>(by_type: &Row, mtype: i64, steps: &mut Steps<L>) -> Option<Entry>
     requires { AllPairs IsBefore by_type.now.entries.items }
-    ensures found { MatchOption result (NoneOf mtype by_type.now.entries.items) (IsFirstOf mtype by_type.now.entries.items) }
+    ensures found { MatchOption result (NoneOf mtype by_type.now.entries.items)
+        (IsFirstOf mtype by_type.now.entries.items) }
     ensures few { steps.new ≤ steps.old + digits (length by_type.now.entries.items) + 1 }
     ensures risen { steps.old ≤ steps.new }
     ensures some { 0 < length by_type.now.entries.items → steps.old < steps.new }
@@ -175,7 +183,8 @@ fn first_from<L: Ledger>(by_type: &Row, mtype: i64, steps: &mut Steps<L>) -> usi
     requires { AllPairs IsBefore by_type.now.entries.items }
     ensures within { result ≤ length by_type.now.entries.items }
     ensures below { AllWithin (λ (e : Entry). e.mtype <ℤ mtype) by_type.now.entries.items 0 result }
-    ensures above { AllWithin (λ (e : Entry). mtype ≤ℤ e.mtype) by_type.now.entries.items result (length by_type.now.entries.items) }
+    ensures above { AllWithin (λ (e : Entry). mtype ≤ℤ e.mtype) by_type.now.entries.items result
+        (length by_type.now.entries.items) }
     ensures few { steps.new ≤ steps.old + digits (length by_type.now.entries.items) }
     ensures risen { steps.old ≤ steps.new }
     ensures some { 0 < length by_type.now.entries.items → steps.old < steps.new }
@@ -195,7 +204,9 @@ fn first_from<L: Ledger>(by_type: &Row, mtype: i64, steps: &mut Steps<L>) -> usi
 
 /// The first entry whose type differs from this one.
 fn first_except<L: Ledger>(by_number: &Row, refused: i64, steps: &mut Steps<L>) -> Option<Entry>
-    ensures found { MatchOption result (NoneQualifies (Except refused) (types_of by_number.now.entries.items)) (IsSelected (Except refused) by_number.now.entries.items) }
+    ensures found { MatchOption result
+        (NoneQualifies (Except refused) (types_of by_number.now.entries.items))
+        (IsSelected (Except refused) by_number.now.entries.items) }
     ensures risen { steps.old ≤ steps.new }
     ensures some { 0 < length by_number.now.entries.items → steps.old < steps.new }
 {

@@ -83,8 +83,11 @@ impl Row {
     /// `None` if there is no such entry.
     pub(crate) fn remove_number(&mut self, number: u64) -> Option<Entry>
         requires rising { NumbersRise self.old.entries.items }
-        ensures others { self.new.entries.items ≡ filter (λ (e : Entry). not (e.number == number)) self.old.entries.items }
-        ensures removed { MatchOption result (All (λ (e : Entry). e.number ≢ number) self.old.entries.items) (λ (e : Entry). Contains self.old.entries.items e × (e.number ≡ number)) }
+        ensures others { self.new.entries.items
+            ≡ filter (λ (e : Entry). not (e.number == number)) self.old.entries.items }
+        ensures removed { MatchOption result
+            (All (λ (e : Entry). e.number ≢ number) self.old.entries.items) (λ (e : Entry).
+            Contains self.old.entries.items e × (e.number ≡ number)) }
         ensures roomy { deque_capacity self.new.entries ≡ deque_capacity self.old.entries }
     {
         let at = self.entries.partition_point(|other| other.number < number);
@@ -99,7 +102,8 @@ impl Row {
         requires sorted { AllPairs IsBefore self.old.entries.items }
         requires differ { NumbersDiffer self.old.entries.items }
         requires held { Contains self.old.entries.items entry }
-        ensures others { self.new.entries.items ≡ filter (λ (e : Entry). not (e.number == entry.number)) self.old.entries.items }
+        ensures others { self.new.entries.items
+            ≡ filter (λ (e : Entry). not (e.number == entry.number)) self.old.entries.items }
         ensures roomy { deque_capacity self.new.entries ≡ deque_capacity self.old.entries }
     {
         let at = self

@@ -83,10 +83,13 @@ impl<'a, C: Clock, R: Wait, K: Caller + Copy> ServiceKernel<'a, C, R, K> {
         reader: &mut I,
         writer: &mut O,
     ) -> Served
-        ensures serves { ServesPass (C.may self.old.clock.now) (K.may_leave self.old.caller) result self.old.pass self.new.pass (I.remaining reader.old) (I.remaining reader.new)
+        ensures serves { ServesPass (C.may self.old.clock.now)
+            (K.may_leave self.old.caller) result self.old.pass self.new.pass
+            (I.remaining reader.old) (I.remaining reader.new)
             (O.contents writer.old) (O.contents writer.new) }
         // It ends as its input tells, unless it is cut short.
-        ensures only { (input : List ℕ) (course : Course) → I.remaining reader.old ≡ Some input → Takes input course → Follows course result }
+        ensures only { (input : List ℕ) (course : Course) → I.remaining reader.old ≡ Some input →
+            Takes input course → Follows course result }
         ensures service { self.new.service ≡ self.old.service }
         ensures clock { self.new.clock ≡ self.old.clock }
         ensures caller { self.new.caller ≡ self.old.caller }
@@ -101,10 +104,13 @@ impl<'a, C: Clock, R: Wait, K: Caller + Copy> ServiceKernel<'a, C, R, K> {
         reader: &mut I,
         writer: &mut O,
     ) -> Served
-        ensures serves { ServesPass (C.may self.old.clock.now) (K.may_leave self.old.caller) result self.old.pass self.new.pass (I.remaining reader.old) (I.remaining reader.new)
+        ensures serves { ServesPass (C.may self.old.clock.now)
+            (K.may_leave self.old.caller) result self.old.pass self.new.pass
+            (I.remaining reader.old) (I.remaining reader.new)
             (O.contents writer.old) (O.contents writer.new) }
         // It ends as its input tells, unless it is cut short.
-        ensures only { (input : List ℕ) (course : Course) → I.remaining reader.old ≡ Some input → Takes input course → Follows course result }
+        ensures only { (input : List ℕ) (course : Course) → I.remaining reader.old ≡ Some input →
+            Takes input course → Follows course result }
         ensures service { self.new.service ≡ self.old.service }
         ensures clock { self.new.clock ≡ self.old.clock }
         ensures caller { self.new.caller ≡ self.old.caller }
@@ -128,7 +134,8 @@ impl<'a, C: Clock, R: Wait, K: Caller + Copy> ServiceKernel<'a, C, R, K> {
     }
 
     fn get(&mut self, version: Version, cred: Cred, key: i32, flags: Flags) -> Outcome
-        ensures gets { Gets (C.may self.old.clock.now) version cred key flags self.old.pass result self.new.pass }
+        ensures gets { Gets (C.may self.old.clock.now) version cred key flags self.old.pass result
+            self.new.pass }
         ensures answer { MayAnswer version (Ask.Get key flags) result [] }
         ensures service { self.new.service ≡ self.old.service }
         ensures clock { self.new.clock ≡ self.old.clock }
@@ -152,7 +159,9 @@ impl<'a, C: Clock, R: Wait, K: Caller + Copy> ServiceKernel<'a, C, R, K> {
         flags: Flags,
         text: &Body,
     ) -> Outcome
-        ensures sends { Sends (C.may self.old.clock.now) (K.may_leave self.old.caller) version cred id mtype flags text.now self.old.pass result self.new.pass }
+        ensures sends { Sends (C.may self.old.clock.now)
+            (K.may_leave self.old.caller) version cred id mtype flags text.now self.old.pass result
+            self.new.pass }
         ensures answer { MayAnswer version (Ask.Snd id mtype flags) result [] }
         ensures service { self.new.service ≡ self.old.service }
         ensures clock { self.new.clock ≡ self.old.clock }
@@ -181,7 +190,9 @@ impl<'a, C: Clock, R: Wait, K: Caller + Copy> ServiceKernel<'a, C, R, K> {
         flags: Flags,
         given: &mut Body,
     ) -> Outcome
-        ensures receives { Receives (C.may self.old.clock.now) (K.may_leave self.old.caller) version cred id size mtype flags self.old.pass result given.new self.new.pass }
+        ensures receives { Receives (C.may self.old.clock.now)
+            (K.may_leave self.old.caller) version cred id size mtype flags self.old.pass result
+            given.new self.new.pass }
         ensures answer { MayAnswer version (Ask.Rcv id size mtype flags) result given.new }
         ensures service { self.new.service ≡ self.old.service }
         ensures clock { self.new.clock ≡ self.old.clock }
@@ -215,7 +226,8 @@ impl<'a, C: Clock, R: Wait, K: Caller + Copy> ServiceKernel<'a, C, R, K> {
     }
 
     fn set(&mut self, version: Version, cred: Cred, id: i32, to: SetTo) -> Outcome
-        ensures sets { Sets (C.may self.old.clock.now) version cred id to self.old.pass result self.new.pass }
+        ensures sets { Sets (C.may self.old.clock.now) version cred id to self.old.pass result
+            self.new.pass }
         ensures answer { MayAnswer version (Ask.Set id to) result [] }
         ensures service { self.new.service ≡ self.old.service }
         ensures clock { self.new.clock ≡ self.old.clock }
@@ -265,9 +277,11 @@ impl<C: Clock, R: Wait, K: Caller + Copy> Kernel for ServiceKernel<'_, C, R, K> 
     ghost use Rattle.sysv_keys.specs.declared.identifier.TheConstants.{SLOTS};
     ghost use Rattle.sysv_kernel.specs.Asked.{Asks};
 
-    ghost meaning = { λ old cred request text outcome given new. (new.service ≡ old.service) × (new.clock ≡ old.clock)
+    ghost meaning = { λ old cred request text outcome given new. (new.service ≡ old.service)
+        × (new.clock ≡ old.clock)
         × (new.caller ≡ old.caller)
-        × Asks (C.may old.clock.now) (K.may_leave old.caller) request.version cred request.ask text old.pass outcome given new.pass };
+        × Asks (C.may old.clock.now) (K.may_leave old.caller) request.version cred request.ask text
+        old.pass outcome given new.pass };
 
     ghost slots = { λ _. SLOTS };
 

@@ -25,12 +25,15 @@ pub fn one_legal_reply()
 /// No entry is a legal history, and a legal history with one more legal reply is one.
 pub fn legal_history()
     ensures empty { (opening : ℕ) → IsLegalHistory opening [] }
-    ensures more { (opening : ℕ) (h : RegistryHistory) (e : RegistryEntry) → IsLegalHistory opening h → IsLegalReply opening h e.call e.reply → IsLegalHistory opening (h ++ e ∷ []) }
+    ensures more { (opening : ℕ) (h : RegistryHistory) (e : RegistryEntry) →
+        IsLegalHistory opening h → IsLegalReply opening h e.call e.reply →
+        IsLegalHistory opening (h ++ e ∷ []) }
 {}
 
 /// Each history of legal replies obeys the registry law.
 pub fn registry_law()
-    ensures { (opening : ℕ) (h : RegistryHistory) → IsLegalHistory opening h → RegistryLaw opening h }
+    ensures { (opening : ℕ) (h : RegistryHistory) → IsLegalHistory opening h →
+        RegistryLaw opening h }
 {}
 
 /// No identifier of an unused slot was ever made, identifier 0 is made in slot 0 where that is unused,

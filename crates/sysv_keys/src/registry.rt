@@ -98,7 +98,8 @@ impl Model for Registry {
 
     ghost view = { λ r. record { places = r.places.items; settled = r.settled } };
 
-    ghost invariant = { λ r. IsKept r.places.items (λ key. get int_eq r.by_key key) (index_map_len r.by_key) (spare r.by_key) r.settled };
+    ghost invariant = { λ r. IsKept r.places.items (λ key. get int_eq r.by_key key)
+        (index_map_len r.by_key) (spare r.by_key) r.settled };
 }
 
 impl Registry {
@@ -252,7 +253,8 @@ impl Registry {
     /// its generation is 0.
     pub fn is_unused(&self, slot: usize) -> bool
         requires { slot < SLOTS }
-        ensures { (opening : ℕ) (h : RegistryHistory) → StandsFor opening h self.now → IsTrue result ↔ IsUnused opening h slot }
+        ensures { (opening : ℕ) (h : RegistryHistory) → StandsFor opening h self.now → IsTrue result
+            ↔ IsUnused opening h slot }
     {
         let place = self.places[slot];
         place.row.is_none() && place.generation == 0
@@ -271,7 +273,8 @@ fn index_keys(places: &[Place], by_key: &mut IndexMap<i32, usize>)
     requires wide { length places.now ≡ SLOTS }
     requires differ { KeysDiffer places.now }
     requires roomy { SLOTS ≤ index_map_len by_key.old + spare by_key.old }
-    ensures { IsIndex places.now (λ key. get int_eq by_key.new key) (index_map_len by_key.new) (spare by_key.new) }
+    ensures { IsIndex places.now (λ key. get int_eq by_key.new key) (index_map_len by_key.new)
+        (spare by_key.new) }
 {
     by_key.clear();
     for (slot, place) in places.iter().enumerate() {

@@ -51,7 +51,8 @@ pub enum Head {
 impl Head {
     /// What a line says of an actor whose call stands before the step of `phase`.
     pub fn at(actor: u32, phase: &Phase) -> Head
-        ensures { (text : List ℕ) → head_text result ≡ standing_text actor (Goes (phase_of phase.now text)) }
+        ensures { (text : List ℕ) → head_text result
+            ≡ standing_text actor (Goes (phase_of phase.now text)) }
     {
         Head::At {
             actor,
@@ -62,7 +63,8 @@ impl Head {
 
     /// What a line says of an actor whose call waits.
     pub fn waits(actor: u32, wait: Wait) -> Head
-        ensures { (text : List ℕ) → head_text result ≡ standing_text actor (Waits (wait_of wait text)) }
+        ensures { (text : List ℕ) → head_text result
+            ≡ standing_text actor (Waits (wait_of wait text)) }
     {
         Head::Waits {
             actor,

@@ -52,7 +52,8 @@ pub enum Line<'a> {
 
 /// What a line says; `None` where it is none of the language's.
 pub fn line_of(line: &[u8]) -> Option<Line<'_>>
-    ensures says { MatchOption result ((said : Said) → ¬ Says line.now said) (λ understood. Says line.now (said_of understood)) }
+    ensures says { MatchOption result ((said : Said) →
+        ¬ Says line.now said) (λ understood. Says line.now (said_of understood)) }
     ensures fits { IfSome result LineFits }
 {
     if line.len() > LINE_BYTES {
@@ -74,7 +75,8 @@ pub fn line_of(line: &[u8]) -> Option<Line<'_>>
 
 /// What a line says that is none to skip, and before which no `+` stands.
 fn words_of(line: &[u8]) -> Option<Line<'_>>
-    ensures says { MatchOption result ((said : Said) → ¬ TellsInWords line.now said) (λ understood. TellsInWords line.now (said_of understood)) }
+    ensures says { MatchOption result ((said : Said) →
+        ¬ TellsInWords line.now said) (λ understood. TellsInWords line.now (said_of understood)) }
     ensures fits { IfSome result LineFits }
 {
     let Some((name, words)) = split_at_mark(line, b' ') else {
@@ -93,7 +95,8 @@ fn words_of(line: &[u8]) -> Option<Line<'_>>
 
 /// A line of one word.
 fn alone(word: &[u8]) -> Option<Line<'_>>
-    ensures says { MatchOption result ((said : Said) → ¬ TellsAlone word.now said) (λ understood. TellsAlone word.now (said_of understood)) }
+    ensures says { MatchOption result ((said : Said) →
+        ¬ TellsAlone word.now said) (λ understood. TellsAlone word.now (said_of understood)) }
     ensures fits { IfSome result LineFits }
 {
     if word == b"preset".as_slice() {
@@ -107,7 +110,9 @@ fn alone(word: &[u8]) -> Option<Line<'_>>
 
 /// The order of this name that the arguments give.
 fn order_of<'a>(name: &[u8], arguments: &'a [u8]) -> Option<Line<'a>>
-    ensures says { MatchOption result ((said : Said) → ¬ OrderNamed name.now arguments.now said) (λ order. OrderNamed name.now arguments.now (said_of order)) }
+    ensures says { MatchOption result ((said : Said) →
+        ¬ OrderNamed name.now arguments.now said) (λ order.
+        OrderNamed name.now arguments.now (said_of order)) }
     ensures fits { IfSome result LineFits }
 {
     if name == b"pool".as_slice() {
@@ -127,7 +132,9 @@ fn order_of<'a>(name: &[u8], arguments: &'a [u8]) -> Option<Line<'a>>
 
 /// `N`, the blocks of the pool.
 fn pool_of(arguments: &[u8]) -> Option<Line<'_>>
-    ensures says { MatchOption result ((said : Said) → ¬ OrderNamed (codes "pool") arguments.now said) (λ order. OrderNamed (codes "pool") arguments.now (said_of order)) }
+    ensures says { MatchOption result ((said : Said) →
+        ¬ OrderNamed (codes "pool") arguments.now said) (λ order.
+        OrderNamed (codes "pool") arguments.now (said_of order)) }
     ensures fits { IfSome result LineFits }
 {
     let Blocks(blocks) = Blocks::read(arguments)?;
@@ -136,7 +143,9 @@ fn pool_of(arguments: &[u8]) -> Option<Line<'_>>
 
 /// `ACTOR UID GID PID`.
 fn cred_of(arguments: &[u8]) -> Option<Line<'_>>
-    ensures says { MatchOption result ((said : Said) → ¬ OrderNamed (codes "as") arguments.now said) (λ order. OrderNamed (codes "as") arguments.now (said_of order)) }
+    ensures says { MatchOption result ((said : Said) →
+        ¬ OrderNamed (codes "as") arguments.now said) (λ order.
+        OrderNamed (codes "as") arguments.now (said_of order)) }
     ensures fits { IfSome result LineFits }
 {
     let (Actor(actor), (uid, (gid, pid))) = <(Actor, (u32, (u32, u32)))>::read(arguments)?;
@@ -148,7 +157,9 @@ fn cred_of(arguments: &[u8]) -> Option<Line<'_>>
 
 /// `T`.
 fn moment_of(arguments: &[u8]) -> Option<Line<'_>>
-    ensures says { MatchOption result ((said : Said) → ¬ OrderNamed (codes "now") arguments.now said) (λ order. OrderNamed (codes "now") arguments.now (said_of order)) }
+    ensures says { MatchOption result ((said : Said) →
+        ¬ OrderNamed (codes "now") arguments.now said) (λ order.
+        OrderNamed (codes "now") arguments.now (said_of order)) }
     ensures fits { IfSome result LineFits }
 {
     let moment = u64::read(arguments)?;
@@ -157,7 +168,9 @@ fn moment_of(arguments: &[u8]) -> Option<Line<'_>>
 
 /// `ACTOR`, of which one step is asked.
 fn step_of(arguments: &[u8]) -> Option<Line<'_>>
-    ensures says { MatchOption result ((said : Said) → ¬ OrderNamed (codes "step") arguments.now said) (λ order. OrderNamed (codes "step") arguments.now (said_of order)) }
+    ensures says { MatchOption result ((said : Said) →
+        ¬ OrderNamed (codes "step") arguments.now said) (λ order.
+        OrderNamed (codes "step") arguments.now (said_of order)) }
     ensures fits { IfSome result LineFits }
 {
     let Actor(actor) = Actor::read(arguments)?;
@@ -166,7 +179,9 @@ fn step_of(arguments: &[u8]) -> Option<Line<'_>>
 
 /// `ACTOR`, whose call is to go on.
 fn go_of(arguments: &[u8]) -> Option<Line<'_>>
-    ensures says { MatchOption result ((said : Said) → ¬ OrderNamed (codes "go") arguments.now said) (λ order. OrderNamed (codes "go") arguments.now (said_of order)) }
+    ensures says { MatchOption result ((said : Said) →
+        ¬ OrderNamed (codes "go") arguments.now said) (λ order.
+        OrderNamed (codes "go") arguments.now (said_of order)) }
     ensures fits { IfSome result LineFits }
 {
     let Actor(actor) = Actor::read(arguments)?;
@@ -175,7 +190,9 @@ fn go_of(arguments: &[u8]) -> Option<Line<'_>>
 
 /// An actor, and the call that it starts.
 fn start_of(words: &[u8]) -> Option<(u32, Request<'_>)>
-    ensures says { MatchOption result ((who : ℕ) (asked : SystemCall) → ¬ SaysStart words.now who asked) (λ start. SaysStart words.now start.0 (call_asked start.1)) }
+    ensures says { MatchOption result ((who : ℕ) (asked : SystemCall) →
+        ¬ SaysStart words.now who asked) (λ start.
+        SaysStart words.now start.0 (call_asked start.1)) }
     ensures fits { IfSome result (λ start. IsOfActors start.0 × RequestFits start.1) }
 {
     let (Actor(actor), words) = first::<Actor>(words)?;

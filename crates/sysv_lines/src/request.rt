@@ -56,7 +56,8 @@ pub enum Text<'a> {
 
 /// The call that a name and the words after it ask for; `None` where they ask for none.
 pub(crate) fn request_of(words: &[u8]) -> Option<Request<'_>>
-    ensures says { MatchOption result ((asked : SystemCall) → ¬ SaysCall words.now asked) (λ request. SaysCall words.now (call_asked request)) }
+    ensures says { MatchOption result ((asked : SystemCall) →
+        ¬ SaysCall words.now asked) (λ request. SaysCall words.now (call_asked request)) }
     ensures fits { IfSome result RequestFits }
 {
     let (name, arguments) = split_at_mark(words, b' ')?;
@@ -65,7 +66,9 @@ pub(crate) fn request_of(words: &[u8]) -> Option<Request<'_>>
 
 /// The call of this name that the arguments ask for.
 fn named<'a>(name: &[u8], arguments: &'a [u8]) -> Option<Request<'a>>
-    ensures says { MatchOption result ((asked : SystemCall) → ¬ SaysNamed name.now arguments.now asked) (λ request. SaysNamed name.now arguments.now (call_asked request)) }
+    ensures says { MatchOption result ((asked : SystemCall) →
+        ¬ SaysNamed name.now arguments.now asked) (λ request.
+        SaysNamed name.now arguments.now (call_asked request)) }
     ensures fits { IfSome result RequestFits }
 {
     if name == b"get".as_slice() {
@@ -87,7 +90,9 @@ fn named<'a>(name: &[u8], arguments: &'a [u8]) -> Option<Request<'a>>
 
 /// `KEY FLAGS`.
 fn get_of(arguments: &[u8]) -> Option<Request<'_>>
-    ensures says { MatchOption result ((asked : SystemCall) → ¬ SaysNamed (codes "get") arguments.now asked) (λ request. SaysNamed (codes "get") arguments.now (call_asked request)) }
+    ensures says { MatchOption result ((asked : SystemCall) →
+        ¬ SaysNamed (codes "get") arguments.now asked) (λ request.
+        SaysNamed (codes "get") arguments.now (call_asked request)) }
     ensures fits { IfSome result RequestFits }
 {
     let (key, flags) = <(i32, Flags)>::read(arguments)?;
@@ -96,7 +101,9 @@ fn get_of(arguments: &[u8]) -> Option<Request<'_>>
 
 /// `ID MTYPE FLAGS BODY`.
 fn send_of(arguments: &[u8]) -> Option<Request<'_>>
-    ensures says { MatchOption result ((asked : SystemCall) → ¬ SaysNamed (codes "snd") arguments.now asked) (λ request. SaysNamed (codes "snd") arguments.now (call_asked request)) }
+    ensures says { MatchOption result ((asked : SystemCall) →
+        ¬ SaysNamed (codes "snd") arguments.now asked) (λ request.
+        SaysNamed (codes "snd") arguments.now (call_asked request)) }
     ensures fits { IfSome result RequestFits }
 {
     let (id, rest) = first::<i32>(arguments)?;
@@ -113,7 +120,9 @@ fn send_of(arguments: &[u8]) -> Option<Request<'_>>
 
 /// `ID SIZE MTYPE FLAGS`.
 fn receive_of(arguments: &[u8]) -> Option<Request<'_>>
-    ensures says { MatchOption result ((asked : SystemCall) → ¬ SaysNamed (codes "rcv") arguments.now asked) (λ request. SaysNamed (codes "rcv") arguments.now (call_asked request)) }
+    ensures says { MatchOption result ((asked : SystemCall) →
+        ¬ SaysNamed (codes "rcv") arguments.now asked) (λ request.
+        SaysNamed (codes "rcv") arguments.now (call_asked request)) }
     ensures fits { IfSome result RequestFits }
 {
     let (id, (size, (mtype, flags))) = <(i32, (u32, (i64, Flags)))>::read(arguments)?;
@@ -127,7 +136,9 @@ fn receive_of(arguments: &[u8]) -> Option<Request<'_>>
 
 /// `ID`.
 fn stat_of(arguments: &[u8]) -> Option<Request<'_>>
-    ensures says { MatchOption result ((asked : SystemCall) → ¬ SaysNamed (codes "stat") arguments.now asked) (λ request. SaysNamed (codes "stat") arguments.now (call_asked request)) }
+    ensures says { MatchOption result ((asked : SystemCall) →
+        ¬ SaysNamed (codes "stat") arguments.now asked) (λ request.
+        SaysNamed (codes "stat") arguments.now (call_asked request)) }
     ensures fits { IfSome result RequestFits }
 {
     let id = i32::read(arguments)?;
@@ -136,7 +147,9 @@ fn stat_of(arguments: &[u8]) -> Option<Request<'_>>
 
 /// `ID UID GID MODE QBYTES`.
 fn set_of(arguments: &[u8]) -> Option<Request<'_>>
-    ensures says { MatchOption result ((asked : SystemCall) → ¬ SaysNamed (codes "set") arguments.now asked) (λ request. SaysNamed (codes "set") arguments.now (call_asked request)) }
+    ensures says { MatchOption result ((asked : SystemCall) →
+        ¬ SaysNamed (codes "set") arguments.now asked) (λ request.
+        SaysNamed (codes "set") arguments.now (call_asked request)) }
     ensures fits { IfSome result RequestFits }
 {
     let (id, (uid, (gid, (Octal(mode), qbytes)))) = <(i32, (u32, (u32, (Octal, u32))))>::read(
@@ -155,7 +168,9 @@ fn set_of(arguments: &[u8]) -> Option<Request<'_>>
 
 /// `ID`.
 fn remove_of(arguments: &[u8]) -> Option<Request<'_>>
-    ensures says { MatchOption result ((asked : SystemCall) → ¬ SaysNamed (codes "rm") arguments.now asked) (λ request. SaysNamed (codes "rm") arguments.now (call_asked request)) }
+    ensures says { MatchOption result ((asked : SystemCall) →
+        ¬ SaysNamed (codes "rm") arguments.now asked) (λ request.
+        SaysNamed (codes "rm") arguments.now (call_asked request)) }
     ensures fits { IfSome result RequestFits }
 {
     let id = i32::read(arguments)?;
@@ -164,7 +179,8 @@ fn remove_of(arguments: &[u8]) -> Option<Request<'_>>
 
 /// `=` and the text itself, or `*N` for N letters x.
 fn text_of(body: &[u8]) -> Option<Text<'_>>
-    ensures says { MatchOption result ((text : List ℕ) → SaysText body.now text → ⊥) (λ said. SaysText body.now (text_bytes said)) }
+    ensures says { MatchOption result ((text : List ℕ) → SaysText body.now text →
+        ⊥) (λ said. SaysText body.now (text_bytes said)) }
     ensures fits { IfSome result FitsBody }
 {
     match body {
@@ -176,7 +192,9 @@ fn text_of(body: &[u8]) -> Option<Text<'_>>
 
 /// The number of letters, 0 to 8,256.
 fn letters_of(word: &[u8]) -> Option<usize>
-    ensures { MatchOption result ((count : ℕ) → ¬ (IsNumeralOf word.now (pos count) × (count ≤ BODY_ROOM))) (λ count. IsNumeralOf word.now (pos count) × (count ≤ BODY_ROOM)) }
+    ensures { MatchOption result ((count : ℕ) →
+        ¬ (IsNumeralOf word.now (pos count) × (count ≤ BODY_ROOM))) (λ count.
+        IsNumeralOf word.now (pos count) × (count ≤ BODY_ROOM)) }
 {
     match u32::read(word) {
         Some(count) if count as usize <= BODY_ROOM => Some(count as usize),

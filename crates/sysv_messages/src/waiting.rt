@@ -23,9 +23,11 @@ impl Model for Waiting {
 
     ghost Value = { Message };
 
-    ghost view = { λ w. record { number = w.number; sender = w.sender; mtype = w.mtype; bytes = w.chain.bytes } };
+    ghost view = { λ w.
+        record { number = w.number; sender = w.sender; mtype = w.mtype; bytes = w.chain.bytes } };
 
-    ghost invariant = { λ w. (w.len ≡ length w.chain.bytes) × (w.len ≤ most_bytes) × (w.chain ≡ chain_of w.chain.bytes) };
+    ghost invariant = { λ w. (w.len ≡ length w.chain.bytes) × (w.len ≤ most_bytes)
+        × (w.chain ≡ chain_of w.chain.bytes) };
 }
 
 impl Waiting {

@@ -60,9 +60,11 @@ impl<S: Read> Read for Watched<'_, S> {
 
     fn read(&mut self, buf: &mut [u8]) -> io::Result<usize>
         ensures bound { ReadsAtMost result buf.new }
-        ensures bytes { ReadConsumes (S.remaining (stream_of self.old)) (S.remaining (stream_of self.new)) result buf.new }
+        ensures bytes { ReadConsumes (S.remaining (stream_of self.old))
+            (S.remaining (stream_of self.new)) result buf.new }
         ensures same { stream_name self.new ≡ stream_name self.old }
-        ensures failed { failures_of self.new ≡ failures_after (is_err result) (failures_of self.old) }
+        ensures failed { failures_of self.new
+            ≡ failures_after (is_err result) (failures_of self.old) }
     {
         let result = self.stream.read(buf);
         if result.is_err() {
@@ -79,9 +81,11 @@ impl<S: Write> Write for Watched<'_, S> {
 
     fn write(&mut self, buf: &[u8]) -> io::Result<usize>
         ensures bound { WritesAtMost result buf.now }
-        ensures bytes { WriteAppends (S.contents (stream_of self.old)) (S.contents (stream_of self.new)) result buf.now }
+        ensures bytes { WriteAppends (S.contents (stream_of self.old))
+            (S.contents (stream_of self.new)) result buf.now }
         ensures same { stream_name self.new ≡ stream_name self.old }
-        ensures failed { failures_of self.new ≡ failures_after (write_failed result buf.now) (failures_of self.old) }
+        ensures failed { failures_of self.new
+            ≡ failures_after (write_failed result buf.now) (failures_of self.old) }
     {
         match self.stream.write(buf) {
             Ok(0) if !buf.is_empty() => {
@@ -99,7 +103,8 @@ impl<S: Write> Write for Watched<'_, S> {
     fn flush(&mut self) -> io::Result<()>
         ensures bytes { Keeps (S.contents (stream_of self.old)) (S.contents (stream_of self.new)) }
         ensures same { stream_name self.new ≡ stream_name self.old }
-        ensures failed { failures_of self.new ≡ failures_after (is_err result) (failures_of self.old) }
+        ensures failed { failures_of self.new
+            ≡ failures_after (is_err result) (failures_of self.old) }
     {
         let result = self.stream.flush();
         if result.is_err() {
@@ -120,10 +125,13 @@ impl<S: Write> Watched<'_, S> {
     /// `WriteFault` if a write fails, or takes no byte of some. The writer has then taken a prefix of
     /// the bytes, perhaps all of them.
     pub fn write_out(&mut self, bytes: &[u8]) -> Result<(), WriteFault>
-        ensures ok { OnOk result (Appends (S.contents (stream_of self.old)) (S.contents (stream_of self.new)) bytes.now) }
-        ensures err { OnErr result (AppendsPrefix (S.contents (stream_of self.old)) (S.contents (stream_of self.new)) bytes.now) }
+        ensures ok { OnOk result (Appends (S.contents (stream_of self.old))
+            (S.contents (stream_of self.new)) bytes.now) }
+        ensures err { OnErr result (AppendsPrefix (S.contents (stream_of self.old))
+            (S.contents (stream_of self.new)) bytes.now) }
         ensures same { stream_name self.new ≡ stream_name self.old }
-        ensures failed { failures_of self.new ≡ failures_after (is_err result) (failures_of self.old) }
+        ensures failed { failures_of self.new
+            ≡ failures_after (is_err result) (failures_of self.old) }
     {
         let mut written = 0;
         while written < bytes.len() {

@@ -13,7 +13,8 @@ use sysv_queue::{legal_history, one_legal_reply};
 /// No turn is a legal list of turns, and one more with a legal reply makes a legal list.
 pub fn legal_turns()
     ensures none { (generation blocks : ℕ) → AreLegal generation blocks [] }
-    ensures more { (generation blocks : ℕ) (turns : List Turn) (who : Who) (deed : Deed) → AreLegal generation blocks turns → IsLegalDeed generation blocks turns deed →
+    ensures more { (generation blocks : ℕ) (turns : List Turn) (who : Who) (deed : Deed) →
+        AreLegal generation blocks turns → IsLegalDeed generation blocks turns deed →
         AreLegal generation blocks (turns ++ record { who = who; deed = deed } ∷ []) }
 {
     legal_history();

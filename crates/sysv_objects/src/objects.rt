@@ -54,7 +54,8 @@ impl Model for Objects {
 
     ghost view = { λ o. record { slots = o.slots.items; registry = o.registry; pool = o.pool } };
 
-    ghost invariant = { λ o. Stand (record { slots = o.slots.items; registry = o.registry; pool = o.pool }) };
+    ghost invariant = { λ o. Stand
+        (record { slots = o.slots.items; registry = o.registry; pool = o.pool }) };
 }
 
 impl Objects {
@@ -67,7 +68,8 @@ impl Objects {
         ensures size { IfOk result (λ objects. objects.pool.size ≡ blocks) }
         ensures counts { IfOk result (CountsUpTo 0) }
         ensures bad_start { (result ≡ Err ObjectsRefused.BadStart) ↔ GENERATION_LAST < generation }
-        ensures bad_size { (result ≡ Err ObjectsRefused.BadSize) ↔ (generation ≤ GENERATION_LAST) × ((blocks < least_blocks) ⊎ (most_blocks < blocks)) }
+        ensures bad_size { (result ≡ Err ObjectsRefused.BadSize) ↔ (generation ≤ GENERATION_LAST)
+            × ((blocks < least_blocks) ⊎ (most_blocks < blocks)) }
     {
         if generation > GENERATION_LAST {
             return Err(ObjectsRefused::BadStart);
@@ -94,7 +96,8 @@ impl Objects {
 
     /// `QueueSlot::install` at the slot of the identifier.
     pub fn install(&mut self, id: i32, key: i32, cred: Cred, mode: u32, now: u64) -> bool
-        ensures turn { MakesTurn self.old (AtSlot (slot_of_id id) (Install id key cred mode now) (Installed result)) self.new }
+        ensures turn { MakesTurn self.old
+            (AtSlot (slot_of_id id) (Install id key cred mode now) (Installed result)) self.new }
         ensures refused { result ≡ false → self.new ≡ self.old }
     {
         let place = slot_of_id(id);
@@ -103,7 +106,8 @@ impl Objects {
 
     /// `QueueSlot::probe` at the slot of the identifier.
     pub fn probe(&self, id: i32, cred: Cred, flags: Flags) -> Probe
-        ensures turn { MakesTurn self.now (AtSlot (slot_of_id id) (ProbeCall id cred flags) (probe_reply result)) self.now }
+        ensures turn { MakesTurn self.now
+            (AtSlot (slot_of_id id) (ProbeCall id cred flags) (probe_reply result)) self.now }
     {
         let place = slot_of_id(id);
         self.slots[place].probe(id, cred, flags)
@@ -111,7 +115,8 @@ impl Objects {
 
     /// `QueueSlot::look` at the slot of the identifier.
     pub fn look(&self, id: i32, cred: Cred, size: usize) -> Look
-        ensures turn { MakesTurn self.now (AtSlot (slot_of_id id) (LookCall id cred size) (look_reply result)) self.now }
+        ensures turn { MakesTurn self.now
+            (AtSlot (slot_of_id id) (LookCall id cred size) (look_reply result)) self.now }
     {
         let place = slot_of_id(id);
         self.slots[place].look(id, cred, size)
@@ -131,7 +136,9 @@ impl Objects {
         requires text { length chain.bytes ≡ size }
         requires blocks { chain.blocks ≡ blocks_for size }
         requires short { size ≤ most_bytes }
-        ensures turn { MakesTurn self.old (AtSlot (slot_of_id id) (Place id cred mtype chain.bytes now) (place_reply result)) self.new }
+        ensures turn { MakesTurn self.old
+            (AtSlot (slot_of_id id) (Place id cred mtype chain.bytes now) (place_reply result))
+            self.new }
         ensures refused { IfErr result (λ e. (e.chain ≡ chain) × (self.new ≡ self.old)) }
     {
         let place = slot_of_id(id);
@@ -149,7 +156,9 @@ impl Objects {
         now: u64,
     ) -> Result<Taken, TakeRefused>
         requires { CountsUpTo (2 ^ 62) self.old }
-        ensures turn { MakesTurn self.old (AtSlot (slot_of_id id) (Take id cred sel size noerror now) (take_reply result)) self.new }
+        ensures turn { MakesTurn self.old
+            (AtSlot (slot_of_id id) (Take id cred sel size noerror now) (take_reply result))
+            self.new }
         ensures refused { OnErr result (self.new ≡ self.old) }
     {
         let place = slot_of_id(id);
@@ -158,7 +167,8 @@ impl Objects {
 
     /// `QueueSlot::stat` at the slot of the identifier.
     pub fn stat(&self, id: i32, cred: Cred) -> Result<Stat, Errno>
-        ensures turn { MakesTurn self.now (AtSlot (slot_of_id id) (ReadStat id cred) (stat_reply result)) self.now }
+        ensures turn { MakesTurn self.now
+            (AtSlot (slot_of_id id) (ReadStat id cred) (stat_reply result)) self.now }
     {
         let place = slot_of_id(id);
         self.slots[place].stat(id, cred)
@@ -167,7 +177,8 @@ impl Objects {
     /// `QueueSlot::set` at the slot of the identifier. No count may be above 2^62.
     pub fn set(&mut self, id: i32, cred: Cred, to: SetTo, now: u64) -> Result<(), Errno>
         requires { CountsUpTo (2 ^ 62) self.old }
-        ensures turn { MakesTurn self.old (AtSlot (slot_of_id id) (Set id cred to now) (set_reply result)) self.new }
+        ensures turn { MakesTurn self.old
+            (AtSlot (slot_of_id id) (Set id cred to now) (set_reply result)) self.new }
         ensures refused { OnErr result (self.new ≡ self.old) }
     {
         let place = slot_of_id(id);
@@ -178,8 +189,10 @@ impl Objects {
     pub fn remove(&mut self, id: i32, cred: Cred) -> Result<Discarded, Errno>
         requires { CountsUpTo (2 ^ 62) self.old }
         // The blocks are those of the messages that are told as discarded.
-        ensures turn { (messages : List Message) × IfOk result (λ discarded. discarded ≡ blocks_of messages)
-            × MakesTurn self.old (AtSlot (slot_of_id id) (Remove id cred) (remove_reply messages result)) self.new }
+        ensures turn { (messages : List Message)
+            × IfOk result (λ discarded. discarded ≡ blocks_of messages)
+            × MakesTurn self.old (AtSlot (slot_of_id id) (Remove id cred)
+            (remove_reply messages result)) self.new }
         ensures refused { OnErr result (self.new ≡ self.old) }
     {
         let place = slot_of_id(id);
@@ -188,7 +201,8 @@ impl Objects {
 
     /// `Registry::begin`.
     pub fn begin(&mut self, key: i32, flags: Flags) -> Begun
-        ensures turn { MakesTurn self.old (AtRegistry (Begin key flags) (begun_reply result)) self.new }
+        ensures turn { MakesTurn self.old
+            (AtRegistry (Begin key flags) (begun_reply result)) self.new }
         ensures unless_made { ChangesOnlyIfMade result self.old.registry self.new.registry }
         ensures slots { self.new.slots ≡ self.old.slots }
         ensures pool { self.new.pool ≡ self.old.pool }
@@ -216,7 +230,8 @@ impl Objects {
     pub fn reserve(&mut self, size: usize) -> Option<Chain>
         requires { size ≤ most_bytes }
         ensures turn { MakesTurn self.old (AtPool (Reserve size) (reserve_reply result)) self.new }
-        ensures chain { IfSome result (λ chain. chain ≡ record { blocks = blocks_for size; bytes = [] }) }
+        ensures chain { IfSome result (λ chain.
+            chain ≡ record { blocks = blocks_for size; bytes = [] }) }
     {
         self.pool.reserve(size)
     }
@@ -224,7 +239,8 @@ impl Objects {
     /// `Pool::release`. No count may be above 2^62.
     pub fn release(&mut self, chain: Chain) -> Result<(), Chain>
         requires { CountsUpTo (2 ^ 62) self.old }
-        ensures turn { MakesTurn self.old (AtPool (Release chain.blocks) (release_reply result)) self.new }
+        ensures turn { MakesTurn self.old
+            (AtPool (Release chain.blocks) (release_reply result)) self.new }
         ensures refused { IfErr result (λ back. back ≡ chain) }
     {
         self.pool.release(chain)
@@ -233,14 +249,16 @@ impl Objects {
     /// `Registry::is_unused`.
     pub fn is_unused(&self, slot: usize) -> bool
         requires { slot < SLOTS }
-        ensures { (generation : ℕ) (turns : List Turn) → StandsFor generation turns self.now → IsTrue result ↔ IsUnused generation (registry_history turns) slot }
+        ensures { (generation : ℕ) (turns : List Turn) → StandsFor generation turns self.now →
+            IsTrue result ↔ IsUnused generation (registry_history turns) slot }
     {
         self.registry.is_unused(slot)
     }
 
     /// The arrived count of the identifier's slot.
     pub fn arrived(&self, id: i32) -> u64
-        ensures { (generation : ℕ) (turns : List Turn) → StandsFor generation turns self.now → result ≡ arrived (slot_history (slot_of_id id) turns) }
+        ensures { (generation : ℕ) (turns : List Turn) → StandsFor generation turns self.now →
+            result ≡ arrived (slot_history (slot_of_id id) turns) }
     {
         let place = slot_of_id(id);
         self.slots[place].counts().0
@@ -248,7 +266,8 @@ impl Objects {
 
     /// The freed count of the identifier's slot.
     pub fn freed(&self, id: i32) -> u64
-        ensures { (generation : ℕ) (turns : List Turn) → StandsFor generation turns self.now → result ≡ freed (slot_history (slot_of_id id) turns) }
+        ensures { (generation : ℕ) (turns : List Turn) → StandsFor generation turns self.now →
+            result ≡ freed (slot_history (slot_of_id id) turns) }
     {
         let place = slot_of_id(id);
         self.slots[place].counts().1
@@ -256,14 +275,16 @@ impl Objects {
 
     /// The settled count of the registry.
     pub fn settled(&self) -> u64
-        ensures { (generation : ℕ) (turns : List Turn) → StandsFor generation turns self.now → result ≡ settled (registry_history turns) }
+        ensures { (generation : ℕ) (turns : List Turn) → StandsFor generation turns self.now →
+            result ≡ settled (registry_history turns) }
     {
         self.registry.settled()
     }
 
     /// The released count of the pool.
     pub fn released(&self) -> u64
-        ensures { (generation : ℕ) (turns : List Turn) → StandsFor generation turns self.now → result ≡ released (pool_history turns) }
+        ensures { (generation : ℕ) (turns : List Turn) → StandsFor generation turns self.now →
+            result ≡ released (pool_history turns) }
     {
         self.pool.released()
     }
@@ -273,7 +294,8 @@ impl Objects {
     /// back. It takes no memory. No count may be above 2^62.
     pub fn end(self, chain: Chain) -> u32
         requires { CountsUpTo (2 ^ 62) self }
-        ensures { self.pool.free + (blocks_in self.slots + chain.blocks) ≤ self.pool.size → result ≡ self.pool.free + (blocks_in self.slots + chain.blocks) }
+        ensures { self.pool.free + (blocks_in self.slots + chain.blocks) ≤ self.pool.size →
+            result ≡ self.pool.free + (blocks_in self.slots + chain.blocks) }
     {
         let Objects {
             slots,

@@ -101,7 +101,8 @@ pub(crate) fn shift_all(from: Link, onto: Link) -> Link
 fn write(block: &mut Block, piece: &[u8])
     requires { length piece.now ≤ block_bytes }
     ensures blocks { length block.new ≡ length block.old }
-    ensures text { (text : List ℕ) × (block.new ≡ text ∷ drop 1 block.old) × (length text ≡ block_bytes) × (take (length piece.now) text ≡ piece.now) }
+    ensures text { (text : List ℕ) × (block.new ≡ text ∷ drop 1 block.old)
+        × (length text ≡ block_bytes) × (take (length piece.now) text ≡ piece.now) }
 {
     match piece.as_array::<BLOCK_BYTES>() {
         Some(whole) => block.bytes = *whole,
@@ -114,7 +115,8 @@ pub(crate) fn fill_from(link: &mut Link, k: u32, body: &Body)
     requires all { k + length (contents_of link.old) ≡ blocks_for (length body.now) }
     requires room { length body.now ≤ body_room }
     ensures blocks { length (contents_of link.new) ≡ length (contents_of link.old) }
-    ensures text { take (length body.now - k * block_bytes) (concat (contents_of link.new)) ≡ drop (k * block_bytes) body.now }
+    ensures text { take (length body.now - k * block_bytes) (concat (contents_of link.new))
+        ≡ drop (k * block_bytes) body.now }
 {
     if let Some(block) = link {
         write(block, body.block(k));

@@ -23,7 +23,8 @@ impl Model for Chain {
 
     ghost Value = { Chained };
 
-    ghost view = { λ c. record { blocks = length (contents_of c.link); bytes = take c.len (concat (contents_of c.link)) } };
+    ghost view = { λ c.
+        record { blocks = length (contents_of c.link); bytes = take c.len (concat (contents_of c.link)) } };
 
     // The count stays at the greatest u32 if there are more.
     ghost invariant = { λ c. c.count ≡ counted (length (contents_of c.link)) };

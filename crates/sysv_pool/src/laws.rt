@@ -15,7 +15,8 @@ pub fn one_legal_reply()
 /// No entry is a legal history, and a legal history with one more legal reply is one.
 pub fn legal_history()
     ensures empty { (size : ℕ) → IsLegalHistory size [] }
-    ensures more { (size : ℕ) (h : PoolHistory) (e : PoolEntry) → IsLegalHistory size h → IsLegalReply size h e.call e.reply → IsLegalHistory size (h ++ e ∷ []) }
+    ensures more { (size : ℕ) (h : PoolHistory) (e : PoolEntry) → IsLegalHistory size h →
+        IsLegalReply size h e.call e.reply → IsLegalHistory size (h ++ e ∷ []) }
 {}
 
 /// Each history of legal replies obeys the pool law.

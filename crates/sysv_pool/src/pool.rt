@@ -42,7 +42,8 @@ impl Model for Pool {
 
     ghost view = { λ p. record { size = p.size; free = p.count; released = p.released } };
 
-    ghost invariant = { λ p. (length (contents_of p.link) ≡ p.count) × (p.count ≤ p.size) × (p.size ≤ most_blocks) };
+    ghost invariant = { λ p. (length (contents_of p.link) ≡ p.count) × (p.count ≤ p.size)
+        × (p.size ≤ most_blocks) };
 }
 
 impl Pool {
@@ -50,7 +51,8 @@ impl Pool {
     /// memory is refused.
     pub fn open(alloc: Global, blocks: u32) -> Result<Pool, PoolRefused>
         ensures opened { IfOk result (λ pool. (pool.size ≡ blocks) × StandsFor [] pool) }
-        ensures bad_size { (result ≡ Err PoolRefused.BadSize) ↔ ((blocks < least_blocks) ⊎ (most_blocks < blocks)) }
+        ensures bad_size { (result ≡ Err PoolRefused.BadSize)
+            ↔ ((blocks < least_blocks) ⊎ (most_blocks < blocks)) }
     {
         if blocks < MIN_BLOCKS || blocks > MAX_BLOCKS {
             return Err(PoolRefused::BadSize);
@@ -69,8 +71,10 @@ impl Pool {
     pub fn reserve(&mut self, size: usize) -> Option<Chain>
         requires { size ≤ most_bytes }
         ensures turn { MakesTurn self.old (Reserve size) (reserve_reply result) self.new }
-        ensures chain { IfSome result (λ chain. chain ≡ record { blocks = blocks_for size; bytes = [] }) }
-        ensures after { MatchOption result (self.new ≡ self.old) (λ chain. self.new ≡ record self.old { free = self.old.free - chain.blocks }) }
+        ensures chain { IfSome result (λ chain.
+            chain ≡ record { blocks = blocks_for size; bytes = [] }) }
+        ensures after { MatchOption result (self.new ≡ self.old) (λ chain.
+            self.new ≡ record self.old { free = self.old.free - chain.blocks }) }
     {
         let count = size.div_ceil(BLOCK_BYTES) as u32;
         if count > self.count {
@@ -93,7 +97,8 @@ impl Pool {
     pub fn release(&mut self, chain: Chain) -> Result<(), Chain>
         requires { self.old.released < 2 ^ 63 }
         ensures turn { MakesTurn self.old (Release chain.blocks) (release_reply result) self.new }
-        ensures after { MatchResult result (λ _. self.new ≡ record self.old { free = self.old.free + chain.blocks; released = self.old.released + 1 }) (λ back. (back ≡ chain) × (self.new ≡ self.old)) }
+        ensures after { MatchResult result (λ _.
+            self.new ≡ record self.old { free = self.old.free + chain.blocks; released = self.old.released + 1 }) (λ back. (back ≡ chain) × (self.new ≡ self.old)) }
     {
         if chain.count > self.size - self.count {
             return Err(chain);

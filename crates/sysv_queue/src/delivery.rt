@@ -18,7 +18,8 @@ impl Model for Delivery {
 
     ghost Value = { Given };
 
-    ghost view = { λ d. record { mtype = d.mtype; len = d.len; sender = d.sender; number = d.number } };
+    ghost view = { λ d.
+        record { mtype = d.mtype; len = d.len; sender = d.sender; number = d.number } };
 }
 
 impl Delivery {

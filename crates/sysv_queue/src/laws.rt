@@ -25,7 +25,8 @@ pub fn one_legal_reply()
 /// No entry is a legal history, and a legal history with one more legal reply is one.
 pub fn legal_history()
     ensures empty { IsLegalHistory [] }
-    ensures more { (h : History) (e : Entry) → IsLegalHistory h → IsLegalReply h e.call e.reply → IsLegalHistory (h ++ e ∷ []) }
+    ensures more { (h : History) (e : Entry) → IsLegalHistory h → IsLegalReply h e.call e.reply →
+        IsLegalHistory (h ++ e ∷ []) }
 {}
 
 /// Each history of legal replies obeys the queue law.

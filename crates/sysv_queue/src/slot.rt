@@ -123,7 +123,8 @@ impl Model for QueueSlot {
 
     ghost use Rattle.sysv_queue.specs.Numbered.{AreNumberedBelow};
 
-    ghost view = { λ s. record { live = s.live; messages = s.messages; arrived = s.arrived; freed = s.freed } };
+    ghost view = { λ s.
+        record { live = s.live; messages = s.messages; arrived = s.arrived; freed = s.freed } };
 
     // The arrived count is the next message's number, which is above those of all that wait.
     ghost invariant = { λ s. AreNumberedBelow s.arrived s.messages };
@@ -146,7 +147,8 @@ impl QueueSlot {
     /// the moment `now` in seconds (POSIX.1-2017, `msgget`). `id` is live from then on; it is not to
     /// be negative, which the caller sees to. `false`, with nothing changed, where a queue is live.
     pub fn install(&mut self, id: i32, key: i32, cred: Cred, mode: u32, now: u64) -> bool
-        ensures turn { MakesTurn self.old (Install id key cred mode now) (Installed result) self.new }
+        ensures turn { MakesTurn self.old (Install id key cred mode now)
+            (Installed result) self.new }
         ensures refused { result ≡ false → self.new ≡ self.old }
     {
         if self.live.is_some() {
@@ -251,7 +253,8 @@ impl QueueSlot {
     pub fn remove(&mut self, id: i32, cred: Cred) -> Result<Discarded, Errno>
         requires arrived { self.old.arrived < 2 ^ 63 }
         requires freed { self.old.freed < 2 ^ 63 }
-        ensures turn { MakesTurn self.old (Remove id cred) (remove_reply self.old.messages result) self.new }
+        ensures turn { MakesTurn self.old (Remove id cred)
+            (remove_reply self.old.messages result) self.new }
         ensures blocks { IfOk result (λ discarded. discarded ≡ blocks_of self.old.messages) }
         ensures refused { OnErr result (self.new ≡ self.old) }
     {
@@ -265,7 +268,8 @@ impl QueueSlot {
     fn change_to(&mut self, live: Option<Attributes>)
         requires arrived { self.old.arrived < 2 ^ 63 }
         requires freed { self.old.freed < 2 ^ 63 }
-        ensures { self.new ≡ record self.old { live = live; arrived = self.old.arrived + 1; freed = self.old.freed + 1 } }
+        ensures { self.new
+            ≡ record self.old { live = live; arrived = self.old.arrived + 1; freed = self.old.freed + 1 } }
     {
         self.live = live;
         self.arrived += 1;
@@ -317,7 +321,8 @@ impl QueueSlot {
 
     /// The live queue, where it has this identifier and the caller may do with it what it wants.
     fn enter(&self, id: i32, cred: Cred, want: Want) -> Result<Attributes, Barred>
-        ensures enters { IfOk result (λ queue. (self.now.live ≡ Some queue) × HasId self.now.live id × IsGranted want cred self.now.live) }
+        ensures enters { IfOk result (λ queue. (self.now.live ≡ Some queue) × HasId self.now.live id
+            × IsGranted want cred self.now.live) }
         ensures barred { IfErr result (Bars id cred want self.now.live) }
     {
         match self.queue_of(id) {
@@ -329,7 +334,8 @@ impl QueueSlot {
 
     /// The live queue, where it has this identifier and the caller may change it and remove it.
     fn control(&self, id: i32, cred: Cred) -> Result<Attributes, Errno>
-        ensures controls { IfOk result (λ queue. (self.now.live ≡ Some queue) × HasId self.now.live id × MayControl cred self.now.live) }
+        ensures controls { IfOk result (λ queue. (self.now.live ≡ Some queue)
+            × HasId self.now.live id × MayControl cred self.now.live) }
         ensures barred { IfErr result (BarsControl id cred self.now.live) }
     {
         match self.queue_of(id) {
@@ -341,7 +347,8 @@ impl QueueSlot {
 
     /// The live queue, where it has this identifier.
     fn queue_of(&self, id: i32) -> Option<Attributes>
-        ensures { MatchOption result (¬ HasId self.now.live id) (λ queue. (self.now.live ≡ Some queue) × HasId self.now.live id) }
+        ensures { MatchOption result (¬ HasId self.now.live id) (λ queue.
+            (self.now.live ≡ Some queue) × HasId self.now.live id) }
     {
         self.live.filter(|queue| queue.id == id)
     }
@@ -366,7 +373,8 @@ impl QueueSlot {
         ensures number { result ≡ self.old.arrived }
         ensures after { self.new ≡ record {
           live = option_map (sent_to cred now) self.old.live;
-          messages = self.old.messages ++ record { number = self.old.arrived; sender = cred.pid; mtype = mtype; bytes = chain.bytes } ∷ [];
+          messages = self.old.messages
+              ++ record { number = self.old.arrived; sender = cred.pid; mtype = mtype; bytes = chain.bytes } ∷ [];
           arrived = self.old.arrived + 1;
           freed = self.old.freed;
         } }
@@ -392,7 +400,8 @@ impl QueueSlot {
         steps: &mut Steps<L>,
     ) -> Result<Taken, NotTaken>
         requires count { self.old.freed < 2 ^ 63 }
-        ensures taken { IfOk result (λ taken. IsTaken sel most self.old.messages taken self.new.messages) }
+        ensures taken { IfOk result (λ taken.
+            IsTaken sel most self.old.messages taken self.new.messages) }
         ensures after { OnOk result (self.new ≡ record {
           live = option_map (received_from cred now) self.old.live;
           messages = self.new.messages;
@@ -401,7 +410,8 @@ impl QueueSlot {
         }) }
         ensures refused { IfErr result (λ why. IsRefused sel most self.old.messages why) }
         ensures unchanged { OnErr result (self.new ≡ self.old) }
-        ensures few { IsFoundByFew sel → steps.new ≤ steps.old + digits (length self.old.messages) + 2 }
+        ensures few { IsFoundByFew sel →
+            steps.new ≤ steps.old + digits (length self.old.messages) + 2 }
         ensures some { 0 < length self.old.messages → steps.old < steps.new }
     {
         let message = self.messages.take(sel, most, steps)?;
@@ -433,7 +443,8 @@ impl QueueSlot {
         requires text { length chain.bytes ≡ size }
         requires blocks { chain.blocks ≡ blocks_for size }
         requires short { size ≤ most_bytes }
-        ensures turn { MakesTurn self.old (Place id cred mtype chain.bytes now) (place_reply result) self.new }
+        ensures turn { MakesTurn self.old (Place id cred mtype chain.bytes now)
+            (place_reply result) self.new }
         ensures refused { IfErr result (λ e. (e.chain ≡ chain) × (self.new ≡ self.old)) }
     {
         match self.find(id, cred, size) {
@@ -466,7 +477,8 @@ impl QueueSlot {
         now: u64,
     ) -> Result<Taken, TakeRefused>
         requires { self.old.freed < 2 ^ 63 }
-        ensures turn { MakesTurn self.old (Take id cred sel size noerror now) (take_reply result) self.new }
+        ensures turn { MakesTurn self.old (Take id cred sel size noerror now)
+            (take_reply result) self.new }
         ensures refused { OnErr result (self.new ≡ self.old) }
     {
         self.take_uncounted::<Brand>(id, cred, sel, size, noerror, now, Blank::new(1))
@@ -487,7 +499,8 @@ impl QueueSlot {
         requires name { blank.name ≡ L.name }
         requires parts { blank.parts ≡ L.parts }
         requires some { 0 < blank.parts }
-        ensures turn { MakesTurn self.old (Take id cred sel size noerror now) (take_reply result) self.new }
+        ensures turn { MakesTurn self.old (Take id cred sel size noerror now)
+            (take_reply result) self.new }
         ensures refused { OnErr result (self.new ≡ self.old) }
     {
         let mut steps = Steps::<L>::open(blank);
@@ -509,9 +522,11 @@ impl QueueSlot {
         steps: &mut Steps<L>,
     ) -> Result<Taken, TakeRefused>
         requires { self.old.freed < 2 ^ 63 }
-        ensures turn { MakesTurn self.old (Take id cred sel size noerror now) (take_reply result) self.new }
+        ensures turn { MakesTurn self.old (Take id cred sel size noerror now)
+            (take_reply result) self.new }
         ensures refused { OnErr result (self.new ≡ self.old) }
-        ensures few { IsFoundByFew sel → steps.new ≤ steps.old + digits (length self.old.messages) + 2 }
+        ensures few { IsFoundByFew sel →
+            steps.new ≤ steps.old + digits (length self.old.messages) + 2 }
         ensures some { ¬ IsBarred result → 0 < length self.old.messages → steps.old < steps.new }
         ensures none { IsBarred result → steps.new ≡ steps.old }
     {

@@ -11,16 +11,19 @@ ghost use Rattle.sysv_rules.specs.Qualifies.{NoneQualifies};
 
 /// A selector names at most one place of a list.
 pub fn one_named()
-    ensures { (sel : Selector) (types : List ℤ) (i j : ℕ) → IsNamed sel types i → IsNamed sel types j → i ≡ j }
+    ensures { (sel : Selector) (types : List ℤ) (i j : ℕ) → IsNamed sel types i →
+        IsNamed sel types j → i ≡ j }
 {}
 
 /// In every list a selector names a place, or no type of the list qualifies.
 pub fn named_or_none()
-    ensures { (sel : Selector) (types : List ℤ) → ((place : ℕ) × IsNamed sel types place) ⊎ NoneQualifies sel types }
+    ensures { (sel : Selector) (types : List ℤ) → ((place : ℕ) × IsNamed sel types place)
+        ⊎ NoneQualifies sel types }
 {}
 
 /// What a caller wants of a queue is permitted or not, and so is control of it.
 pub fn granted_or_not()
-    ensures may { (cred : Cred) (perm : Perm) (want : Want) → IsPermitted cred perm want ⊎ ¬ IsPermitted cred perm want }
+    ensures may { (cred : Cred) (perm : Perm) (want : Want) → IsPermitted cred perm want
+        ⊎ ¬ IsPermitted cred perm want }
     ensures control { (cred : Cred) (perm : Perm) → MayControl cred perm ⊎ ¬ MayControl cred perm }
 {}

@@ -40,17 +40,23 @@ pub fn run_script<R: Read, W: Write>(
     writer: &mut Watched<'_, W>,
 ) -> Result<(), ScriptFault>
     // What the writer took is what the text prints; after a fault of a stream or of memory, a prefix of it.
-    ensures prints { (text : List ℕ) → R.remaining (stream_of reader.old) ≡ Some text → WritesScript result text (W.contents (stream_of writer.old)) (W.contents (stream_of writer.new)) }
+    ensures prints { (text : List ℕ) → R.remaining (stream_of reader.old) ≡ Some text →
+        WritesScript result text (W.contents (stream_of writer.old))
+        (W.contents (stream_of writer.new)) }
     // A script that ends well was read to its end.
     ensures whole { OnOk result (IsAtEnd (R.remaining (stream_of reader.new))) }
     // What the writer took stays, and if a line is bad, the last line says which.
     ensures grows { Grows (W.contents (stream_of writer.old)) (W.contents (stream_of writer.new)) }
-    ensures bad { IfErr result (λ fault. TellsBadLine fault (W.contents (stream_of writer.old)) (W.contents (stream_of writer.new))) }
+    ensures bad { IfErr result (λ fault.
+        TellsBadLine fault (W.contents (stream_of writer.old))
+        (W.contents (stream_of writer.new))) }
     // The streams are the same ones, and each has failed in this call if and only if the fault says so.
     ensures same_reader { stream_name reader.new ≡ stream_name reader.old }
     ensures same_writer { stream_name writer.new ≡ stream_name writer.old }
-    ensures reader_failed { failures_of reader.new ≡ failures_after (is_read_fault result) (failures_of reader.old) }
-    ensures writer_failed { failures_of writer.new ≡ failures_after (is_write_fault result) (failures_of writer.old) }
+    ensures reader_failed { failures_of reader.new
+        ≡ failures_after (is_read_fault result) (failures_of reader.old) }
+    ensures writer_failed { failures_of writer.new
+        ≡ failures_after (is_write_fault result) (failures_of writer.old) }
 {
     one_text();
     each_text_prints();
@@ -71,7 +77,8 @@ struct Run {
 impl Run {
     /// Opens a script of which nothing has been read.
     fn open(alloc: Global) -> Result<Run, NoMemory>
-        ensures { IfOk result (λ run. IsSceneOf opening_scene run.stage × (run.input ≡ []) × (run.output ≡ [])) }
+        ensures { IfOk result (λ run. IsSceneOf opening_scene run.stage × (run.input ≡ [])
+            × (run.output ≡ [])) }
     {
         let input = Input::open(alloc)?;
         let output = Output::open(alloc)?;
@@ -92,16 +99,21 @@ impl Run {
         writer: &mut Watched<'_, W>,
     ) -> Result<(), ScriptFault>
         requires { self.old.output ≡ [] }
-        ensures prints { (s : Scene) → IsSceneOf s self.old.stage → (text : List ℕ) → IsText self.old.input (R.remaining (stream_of reader.old)) text →
-            Leaves result s text (W.contents (stream_of writer.old)) (W.contents (stream_of writer.new)) self.new.output }
+        ensures prints { (s : Scene) → IsSceneOf s self.old.stage → (text : List ℕ) →
+            IsText self.old.input (R.remaining (stream_of reader.old)) text →
+            Leaves result s text (W.contents (stream_of writer.old))
+            (W.contents (stream_of writer.new)) self.new.output }
         ensures whole { OnOk result (IsAtEnd (R.remaining (stream_of reader.new))) }
-        ensures grows { Grows (W.contents (stream_of writer.old)) (W.contents (stream_of writer.new)) }
+        ensures grows { Grows (W.contents (stream_of writer.old))
+            (W.contents (stream_of writer.new)) }
         ensures bad { IfErr result (λ fault. LeavesBadLine fault self.new.output) }
         ensures none_left { IfErr result (λ fault. IsStreamFault fault → self.new.output ≡ []) }
         ensures same_reader { stream_name reader.new ≡ stream_name reader.old }
         ensures same_writer { stream_name writer.new ≡ stream_name writer.old }
-        ensures reader_failed { failures_of reader.new ≡ failures_after (is_read_fault result) (failures_of reader.old) }
-        ensures writer_failed { failures_of writer.new ≡ failures_after (is_write_fault result) (failures_of writer.old) }
+        ensures reader_failed { failures_of reader.new
+            ≡ failures_after (is_read_fault result) (failures_of reader.old) }
+        ensures writer_failed { failures_of writer.new
+            ≡ failures_after (is_write_fault result) (failures_of writer.old) }
     {
         for passed in 0..SCRIPT_LINES {
             match self.run_next(alloc, reader, writer, passed + 1) {
@@ -124,16 +136,24 @@ impl Run {
         requires first { 1 ≤ number }
         requires last { number ≤ SCRIPT_LINES }
         ensures runs { (s : Scene) → (text : List ℕ) → (old : Option (List ℕ)) →
-            RunsOn s text old number self.old.stage self.old.input (R.remaining (stream_of reader.old)) (W.contents (stream_of writer.old)) self.old.output →
-            RunsNext result s text old number self.new.stage self.new.input (R.remaining (stream_of reader.new)) (W.contents (stream_of writer.new)) self.new.output }
-        ensures whole { IfOk result (λ more. more ≡ false → IsAtEnd (R.remaining (stream_of reader.new))) }
-        ensures grows { Grows (W.contents (stream_of writer.old)) (W.contents (stream_of writer.new)) }
+            RunsOn s text old number self.old.stage self.old.input
+            (R.remaining (stream_of reader.old))
+            (W.contents (stream_of writer.old)) self.old.output →
+            RunsNext result s text old number self.new.stage self.new.input
+            (R.remaining (stream_of reader.new))
+            (W.contents (stream_of writer.new)) self.new.output }
+        ensures whole { IfOk result (λ more. more ≡ false →
+            IsAtEnd (R.remaining (stream_of reader.new))) }
+        ensures grows { Grows (W.contents (stream_of writer.old))
+            (W.contents (stream_of writer.new)) }
         ensures bad { IfErr result (λ fault. LeavesBadLine fault self.new.output) }
         ensures none_left { IfErr result (λ fault. IsStreamFault fault → self.new.output ≡ []) }
         ensures same_reader { stream_name reader.new ≡ stream_name reader.old }
         ensures same_writer { stream_name writer.new ≡ stream_name writer.old }
-        ensures reader_failed { failures_of reader.new ≡ failures_after (is_read_fault result) (failures_of reader.old) }
-        ensures writer_failed { failures_of writer.new ≡ failures_after (is_write_fault result) (failures_of writer.old) }
+        ensures reader_failed { failures_of reader.new
+            ≡ failures_after (is_read_fault result) (failures_of reader.old) }
+        ensures writer_failed { failures_of writer.new
+            ≡ failures_after (is_write_fault result) (failures_of writer.old) }
     {
         one_split();
         let Some(found) = next_line(&mut self.input, &mut self.output, reader, writer)? else {
@@ -149,11 +169,16 @@ impl Run {
         requires front { found.len ≤ length self.old.input }
         requires behind { found.is_last ≡ false → found.len < length self.old.input }
         ensures short { OnOk result (found.len ≤ LINE_BYTES) }
-        ensures rest { OnOk result (found.is_last ≡ false → self.new.input ≡ drop (found.len + 1) self.old.input) }
-        ensures does { OnOk result ((s : Scene) → IsSceneOf s self.old.stage → (after : Scene) × (out : List ℕ)
-            × LineDoes s (take found.len self.old.input) out after × IsSceneOf after self.new.stage × (self.new.output ≡ self.old.output ++ out)) }
-        ensures fault { IfErr result (λ fault. EndsAtLine fault number self.old.output self.new.output) }
-        ensures bad { IfErr result (λ fault. IsLineFault fault → (s : Scene) → IsSceneOf s self.old.stage → IsBad s (take found.len self.old.input)) }
+        ensures rest { OnOk result (found.is_last ≡ false →
+            self.new.input ≡ drop (found.len + 1) self.old.input) }
+        ensures does { OnOk result ((s : Scene) → IsSceneOf s self.old.stage → (after : Scene)
+            × (out : List ℕ)
+            × LineDoes s (take found.len self.old.input) out after × IsSceneOf after self.new.stage
+            × (self.new.output ≡ self.old.output ++ out)) }
+        ensures fault { IfErr result (λ fault.
+            EndsAtLine fault number self.old.output self.new.output) }
+        ensures bad { IfErr result (λ fault. IsLineFault fault → (s : Scene) →
+            IsSceneOf s self.old.stage → IsBad s (take found.len self.old.input)) }
     {
         let line = &self.input.waiting()[..found.len];
         match run_line(alloc, &mut self.stage, &mut self.output, line) {
@@ -173,17 +198,23 @@ impl Run {
         reader: &mut Watched<'_, R>,
         writer: &mut Watched<'_, W>,
     ) -> Result<(), ScriptFault>
-        ensures runs { (s : Scene) → (text : List ℕ) → (old : Option (List ℕ)) → (number : ℕ) → SCRIPT_LINES < number →
-            RunsOn s text old number self.old.stage self.old.input (R.remaining (stream_of reader.old)) (W.contents (stream_of writer.old)) self.old.output →
+        ensures runs { (s : Scene) → (text : List ℕ) → (old : Option (List ℕ)) → (number : ℕ) →
+            SCRIPT_LINES < number →
+            RunsOn s text old number self.old.stage self.old.input
+            (R.remaining (stream_of reader.old))
+            (W.contents (stream_of writer.old)) self.old.output →
             Leaves result s text old (W.contents (stream_of writer.new)) self.new.output }
         ensures whole { OnOk result (IsAtEnd (R.remaining (stream_of reader.new))) }
-        ensures grows { Grows (W.contents (stream_of writer.old)) (W.contents (stream_of writer.new)) }
+        ensures grows { Grows (W.contents (stream_of writer.old))
+            (W.contents (stream_of writer.new)) }
         ensures bad { IfErr result (λ fault. LeavesBadLine fault self.new.output) }
         ensures none_left { IfErr result (λ fault. IsStreamFault fault → self.new.output ≡ []) }
         ensures same_reader { stream_name reader.new ≡ stream_name reader.old }
         ensures same_writer { stream_name writer.new ≡ stream_name writer.old }
-        ensures reader_failed { failures_of reader.new ≡ failures_after (is_read_fault result) (failures_of reader.old) }
-        ensures writer_failed { failures_of writer.new ≡ failures_after (is_write_fault result) (failures_of writer.old) }
+        ensures reader_failed { failures_of reader.new
+            ≡ failures_after (is_read_fault result) (failures_of reader.old) }
+        ensures writer_failed { failures_of writer.new
+            ≡ failures_after (is_write_fault result) (failures_of writer.old) }
     {
         if !self.input.waiting().is_empty() {
             return Err(ScriptFault::Bound);
@@ -197,12 +228,15 @@ impl Run {
 
     /// Writes the last lines, and ends the world.
     fn end<W: Write>(self, writer: &mut Watched<'_, W>) -> Result<(), ScriptFault>
-        ensures ok { OnOk result (Appends (W.contents (stream_of writer.old)) (W.contents (stream_of writer.new)) self.output) }
-        ensures err { OnErr result (AppendsPrefix (W.contents (stream_of writer.old)) (W.contents (stream_of writer.new)) self.output) }
+        ensures ok { OnOk result (Appends (W.contents (stream_of writer.old))
+            (W.contents (stream_of writer.new)) self.output) }
+        ensures err { OnErr result (AppendsPrefix (W.contents (stream_of writer.old))
+            (W.contents (stream_of writer.new)) self.output) }
         ensures fault { IfErr result (λ fault. fault ≡ ScriptFault.Write) }
         ensures empty { self.output ≡ [] → IsOk result }
         ensures same { stream_name writer.new ≡ stream_name writer.old }
-        ensures failed { failures_of writer.new ≡ failures_after (is_write_fault result) (failures_of writer.old) }
+        ensures failed { failures_of writer.new
+            ≡ failures_after (is_write_fault result) (failures_of writer.old) }
     {
         let Run {
             stage,
@@ -221,8 +255,10 @@ fn run_line(
     output: &mut Output,
     line: &[u8],
 ) -> Result<bool, NoMemory>
-    ensures runs { IfOk result (λ understood. (s : Scene) → IsSceneOf s stage.old → (after : Scene) × (out : List ℕ)
-        × LineEnds s line.now understood out after × IsSceneOf after stage.new × (output.new ≡ output.old ++ out)) }
+    ensures runs { IfOk result (λ understood. (s : Scene) → IsSceneOf s stage.old → (after : Scene)
+        × (out : List ℕ)
+        × LineEnds s line.now understood out after × IsSceneOf after stage.new
+        × (output.new ≡ output.old ++ out)) }
     ensures short { IfOk result (λ understood. understood ≡ true → length line.now ≤ LINE_BYTES) }
     ensures quiet { IfOk result (λ understood. understood ≡ false → output.new ≡ output.old) }
     ensures err { OnErr result (IsPrefixOf output.new output.old) }

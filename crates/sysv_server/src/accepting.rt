@@ -81,7 +81,8 @@ impl<'a, I: Read + AsRawFd + Drop> Accepting<'a, I> {
     /// The next connection, or `None` where there is to be no other.
     fn accept(&mut self) -> Option<io::Result<UnixStream>>
         ensures same { (self.new.most ≡ self.old.most) × (self.new.accepted ≡ self.old.accepted) }
-        ensures bounded { IfSome result (λ _. self.old.most ≢ 0 → self.old.accepted < self.old.most) }
+        ensures bounded { IfSome result (λ _. self.old.most ≢ 0 →
+            self.old.accepted < self.old.most) }
     {
         if self.most != 0 && self.accepted >= self.most {
             return None;

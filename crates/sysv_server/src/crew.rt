@@ -24,7 +24,8 @@ pub(crate) fn hire<'a, R: Wait>(
     requires none { workers.old.items ≡ [] }
     requires room { count ≤ vec_capacity workers.old }
     ensures pass { AreOf service.now pass.new.seats }
-    ensures workers { All (λ w. (w.kernel.service.now ≡ service.now) × IsNew service.now w.kernel.pass w.sums) workers.new.items }
+    ensures workers { All (λ w. (w.kernel.service.now ≡ service.now)
+        × IsNew service.now w.kernel.pass w.sums) workers.new.items }
     ensures count { OnOk result (vec_len workers.new ≡ count) }
 {
     for _ in 0..count {

@@ -214,7 +214,8 @@ fn serve_with<S: Source<UnixStream>, R: Threads + Wait + Sync>(
     requires pass { AreOf service.now pass.old.seats }
     requires count { (1 ≤ count) × (count ≤ MAX_CROWD) }
     ensures pass { AreOf service.now pass.new.seats }
-    ensures ok { IfOk result (λ sums. WorkedAll S.gives service.now count source.old sums source.new) }
+    ensures ok { IfOk result (λ sums.
+        WorkedAll S.gives service.now count source.old sums source.new) }
     ensures err { IfErr result (λ why. LeavesConnections source.old why source.new) }
 {
     let Ok(mut workers) = Vec::with_capacity(alloc, count) else {

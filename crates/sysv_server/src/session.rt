@@ -119,7 +119,8 @@ fn converse<C: Clock, R: Wait>(
     stream: &UnixStream,
 ) -> Option<Served>
     ensures some { IfSome result (λ told. (left rest taken more : Option (List ℕ))
-        × ServesPass (C.may kernel.old.clock.now) ⊤ told kernel.old.pass kernel.new.pass left rest taken more) }
+        × ServesPass (C.may kernel.old.clock.now) ⊤ told kernel.old.pass kernel.new.pass left rest
+        taken more) }
     ensures none { IfNone result (kernel.new.pass ≡ kernel.old.pass) }
     ensures service { kernel.new.service ≡ kernel.old.service }
     ensures clock { kernel.new.clock ≡ kernel.old.clock }

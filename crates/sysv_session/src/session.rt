@@ -31,10 +31,14 @@ pub fn serve<R: Read, W: Write, K: Kernel>(
     writer: &mut W,
     kernel: &mut K,
 ) -> Served
-    ensures serves { Serves K.meaning (K.slots kernel.old) result kernel.old kernel.new (R.remaining reader.old) (R.remaining reader.new) (W.contents writer.old) (W.contents writer.new) }
+    ensures serves { Serves K.meaning (K.slots kernel.old) result kernel.old kernel.new
+        (R.remaining reader.old) (R.remaining reader.new) (W.contents writer.old)
+        (W.contents writer.new) }
     // It ends as its input tells, unless it is cut short.
-    ensures only { (input : List ℕ) (course : Course) → R.remaining reader.old ≡ Some input → Takes input course → Follows course result }
-    ensures memory { result.«end» ≡ End.NoMemory → (reader.new ≡ reader.old) × (writer.new ≡ writer.old) }
+    ensures only { (input : List ℕ) (course : Course) → R.remaining reader.old ≡ Some input →
+        Takes input course → Follows course result }
+    ensures memory { result.«end» ≡ End.NoMemory → (reader.new ≡ reader.old)
+        × (writer.new ≡ writer.old) }
 {
     let Ok(mut texts) = Texts::open(alloc) else {
         return Served {
@@ -53,9 +57,12 @@ pub fn serve_with<R: Read, W: Write, K: Kernel>(
     writer: &mut W,
     kernel: &mut K,
 ) -> Served
-    ensures serves { Serves K.meaning (K.slots kernel.old) result kernel.old kernel.new (R.remaining reader.old) (R.remaining reader.new) (W.contents writer.old) (W.contents writer.new) }
+    ensures serves { Serves K.meaning (K.slots kernel.old) result kernel.old kernel.new
+        (R.remaining reader.old) (R.remaining reader.new) (W.contents writer.old)
+        (W.contents writer.new) }
     // It ends as its input tells, unless it is cut short.
-    ensures only { (input : List ℕ) (course : Course) → R.remaining reader.old ≡ Some input → Takes input course → Follows course result }
+    ensures only { (input : List ℕ) (course : Course) → R.remaining reader.old ≡ Some input →
+        Takes input course → Follows course result }
     ensures memory { result.«end» ≢ End.NoMemory }
 {
     serve_watched(
@@ -74,15 +81,21 @@ pub fn serve_watched<R: Read, W: Write, K: Kernel>(
     writer: &mut Watched<'_, W>,
     kernel: &mut K,
 ) -> Served
-    ensures serves { Serves K.meaning (K.slots kernel.old) result kernel.old kernel.new (R.remaining (stream_of reader.old)) (R.remaining (stream_of reader.new)) (W.contents (stream_of writer.old)) (W.contents (stream_of writer.new)) }
+    ensures serves { Serves K.meaning (K.slots kernel.old) result kernel.old kernel.new
+        (R.remaining (stream_of reader.old)) (R.remaining (stream_of reader.new))
+        (W.contents (stream_of writer.old)) (W.contents (stream_of writer.new)) }
     // It ends as its input tells, unless it is cut short.
-    ensures only { (input : List ℕ) (course : Course) → R.remaining (stream_of reader.old) ≡ Some input → Takes input course → Follows course result }
+    ensures only { (input : List ℕ) (course : Course) →
+        R.remaining (stream_of reader.old) ≡ Some input → Takes input course →
+        Follows course result }
     ensures memory { result.«end» ≢ End.NoMemory }
     // The streams are the same ones, and each has failed in this call if and only if the end says so.
     ensures same_reader { stream_name reader.new ≡ stream_name reader.old }
     ensures same_writer { stream_name writer.new ≡ stream_name writer.old }
-    ensures reader_failed { failures_of reader.new ≡ failures_after (is_failed_read result.«end») (failures_of reader.old) }
-    ensures writer_failed { failures_of writer.new ≡ failures_after (is_failed_write result.«end») (failures_of writer.old) }
+    ensures reader_failed { failures_of reader.new
+        ≡ failures_after (is_failed_read result.«end») (failures_of reader.old) }
+    ensures writer_failed { failures_of writer.new
+        ≡ failures_after (is_failed_write result.«end») (failures_of writer.old) }
 {
     one_request();
     one_answer_to_requests();
@@ -143,13 +156,16 @@ impl Session {
     ) -> End
         requires tally { self.old.tally ≡ record { written = 0; lost = 0 } }
         requires count { self.old.requests ≡ 0 }
-        ensures serves { ServesBy K.meaning slots result self.new.tally self.new.requests kernel.old kernel.new (R.remaining (stream_of reader.old)) (R.remaining (stream_of reader.new))
+        ensures serves { ServesBy K.meaning slots result self.new.tally self.new.requests kernel.old
+            kernel.new (R.remaining (stream_of reader.old)) (R.remaining (stream_of reader.new))
             (W.contents (stream_of writer.old)) (W.contents (stream_of writer.new)) }
         ensures memory { result ≢ End.NoMemory }
         ensures same_reader { stream_name reader.new ≡ stream_name reader.old }
         ensures same_writer { stream_name writer.new ≡ stream_name writer.old }
-        ensures reader_failed { failures_of reader.new ≡ failures_after (is_failed_read result) (failures_of reader.old) }
-        ensures writer_failed { failures_of writer.new ≡ failures_after (is_failed_write result) (failures_of writer.old) }
+        ensures reader_failed { failures_of reader.new
+            ≡ failures_after (is_failed_read result) (failures_of reader.old) }
+        ensures writer_failed { failures_of writer.new
+            ≡ failures_after (is_failed_write result) (failures_of writer.old) }
     {
         match self.greet(slots, texts, reader, writer) {
             Ok((version, cred)) => {
@@ -168,12 +184,16 @@ impl Session {
         writer: &mut Watched<'_, W>,
     ) -> Result<(Version, Cred), End>
         requires { self.old.requests ≡ 0 }
-        ensures opens { Opens slots result (R.remaining (stream_of reader.old)) (R.remaining (stream_of reader.new)) (W.contents (stream_of writer.old)) (W.contents (stream_of writer.new)) self.new.requests }
+        ensures opens { Opens slots result (R.remaining (stream_of reader.old))
+            (R.remaining (stream_of reader.new)) (W.contents (stream_of writer.old))
+            (W.contents (stream_of writer.new)) self.new.requests }
         ensures tally { self.new.tally ≡ self.old.tally }
         ensures same_reader { stream_name reader.new ≡ stream_name reader.old }
         ensures same_writer { stream_name writer.new ≡ stream_name writer.old }
-        ensures reader_failed { failures_of reader.new ≡ failures_after (ends_by_read result) (failures_of reader.old) }
-        ensures writer_failed { failures_of writer.new ≡ failures_after (ends_by_write result) (failures_of writer.old) }
+        ensures reader_failed { failures_of reader.new
+            ≡ failures_after (ends_by_read result) (failures_of reader.old) }
+        ensures writer_failed { failures_of writer.new
+            ≡ failures_after (ends_by_write result) (failures_of writer.old) }
     {
         let (version, cred) = read_hello(reader, &mut texts.asked)?;
         self.requests = 1;
@@ -195,12 +215,16 @@ impl Session {
     ) -> End
         requires tally { self.old.tally ≡ record { written = 0; lost = 0 } }
         requires count { self.old.requests ≡ 1 }
-        ensures goes { Goes K.meaning version cred result kernel.old kernel.new (R.remaining (stream_of reader.old)) (R.remaining (stream_of reader.new))
-            (W.contents (stream_of writer.old)) (W.contents (stream_of writer.new)) self.new.tally self.new.requests }
+        ensures goes { Goes K.meaning version cred result kernel.old kernel.new
+            (R.remaining (stream_of reader.old)) (R.remaining (stream_of reader.new))
+            (W.contents (stream_of writer.old))
+            (W.contents (stream_of writer.new)) self.new.tally self.new.requests }
         ensures same_reader { stream_name reader.new ≡ stream_name reader.old }
         ensures same_writer { stream_name writer.new ≡ stream_name writer.old }
-        ensures reader_failed { failures_of reader.new ≡ failures_after (is_failed_read result) (failures_of reader.old) }
-        ensures writer_failed { failures_of writer.new ≡ failures_after (is_failed_write result) (failures_of writer.old) }
+        ensures reader_failed { failures_of reader.new
+            ≡ failures_after (is_failed_read result) (failures_of reader.old) }
+        ensures writer_failed { failures_of writer.new
+            ≡ failures_after (is_failed_write result) (failures_of writer.old) }
     {
         for _ in 1..SESSION_REQUESTS {
             if let Err(end) = self.serve_next(version, cred, texts, reader, writer, kernel) {
@@ -222,12 +246,17 @@ impl Session {
     ) -> Result<(), End>
         requires room { taken_in self.old.tally < 2 ^ 64 - 1 }
         requires count { self.old.requests < SESSION_REQUESTS }
-        ensures turns { Turns K.meaning version cred result kernel.old kernel.new (R.remaining (stream_of reader.old)) (R.remaining (stream_of reader.new))
-            (W.contents (stream_of writer.old)) (W.contents (stream_of writer.new)) self.old.tally self.new.tally self.old.requests self.new.requests }
+        ensures turns { Turns K.meaning version cred result kernel.old kernel.new
+            (R.remaining (stream_of reader.old)) (R.remaining (stream_of reader.new))
+            (W.contents (stream_of writer.old))
+            (W.contents (stream_of writer.new)) self.old.tally self.new.tally self.old.requests
+            self.new.requests }
         ensures same_reader { stream_name reader.new ≡ stream_name reader.old }
         ensures same_writer { stream_name writer.new ≡ stream_name writer.old }
-        ensures reader_failed { failures_of reader.new ≡ failures_after (ends_by_read result) (failures_of reader.old) }
-        ensures writer_failed { failures_of writer.new ≡ failures_after (ends_by_write result) (failures_of writer.old) }
+        ensures reader_failed { failures_of reader.new
+            ≡ failures_after (ends_by_read result) (failures_of reader.old) }
+        ensures writer_failed { failures_of writer.new
+            ≡ failures_after (ends_by_write result) (failures_of writer.old) }
     {
         let Some(request) = read_asked(reader, version, &mut texts.asked)? else {
             return Err(End::Ended);

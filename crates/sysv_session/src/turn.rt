@@ -27,9 +27,11 @@ pub(crate) fn read_hello<R: Read>(
     reader: &mut Watched<'_, R>,
     text: &mut Body,
 ) -> Result<(Version, Cred), End>
-    ensures greets { Greets result (R.remaining (stream_of reader.old)) (R.remaining (stream_of reader.new)) }
+    ensures greets { Greets result (R.remaining (stream_of reader.old))
+        (R.remaining (stream_of reader.new)) }
     ensures same { stream_name reader.new ≡ stream_name reader.old }
-    ensures failed { failures_of reader.new ≡ failures_after (ends_by_read result) (failures_of reader.old) }
+    ensures failed { failures_of reader.new
+        ≡ failures_after (ends_by_read result) (failures_of reader.old) }
     ensures write { ends_by_write result ≡ false }
 {
     match read_request(reader, text)? {
@@ -66,9 +68,11 @@ pub(crate) fn read_asked<R: Read>(
     version: Version,
     text: &mut Body,
 ) -> Result<Option<Request>, Fault>
-    ensures reads { ReadsAsked version (R.remaining (stream_of reader.old)) (R.remaining (stream_of reader.new)) result text.new }
+    ensures reads { ReadsAsked version (R.remaining (stream_of reader.old))
+        (R.remaining (stream_of reader.new)) result text.new }
     ensures same { stream_name reader.new ≡ stream_name reader.old }
-    ensures failed { failures_of reader.new ≡ failures_after (is_read_fault result) (failures_of reader.old) }
+    ensures failed { failures_of reader.new
+        ≡ failures_after (is_read_fault result) (failures_of reader.old) }
 {
     match read_request(reader, text)? {
         Some(request) if request.version != version => Err(Fault::BadField),
@@ -90,10 +94,13 @@ pub(crate) fn send<W: Write>(
 ) -> Result<(), WriteFault>
     requires answer { IsAnswer reply.now.version reply.now.op reply.now.result }
     requires text { length text.now ≤ MESSAGE_BYTES }
-    ensures ok { OnOk result (Appends (W.contents (stream_of writer.old)) (W.contents (stream_of writer.new)) (reply_spelling reply.now text.now)) }
-    ensures err { OnErr result (AppendsPrefix (W.contents (stream_of writer.old)) (W.contents (stream_of writer.new)) (reply_spelling reply.now text.now)) }
+    ensures ok { OnOk result (Appends (W.contents (stream_of writer.old))
+        (W.contents (stream_of writer.new)) (reply_spelling reply.now text.now)) }
+    ensures err { OnErr result (AppendsPrefix (W.contents (stream_of writer.old))
+        (W.contents (stream_of writer.new)) (reply_spelling reply.now text.now)) }
     ensures same { stream_name writer.new ≡ stream_name writer.old }
-    ensures failed { failures_of writer.new ≡ failures_after (is_err result) (failures_of writer.old) }
+    ensures failed { failures_of writer.new
+        ≡ failures_after (is_err result) (failures_of writer.old) }
 {
     write_reply(writer, reply, text)?;
     match writer.flush() {
@@ -126,9 +133,12 @@ fn deliver<W: Write>(
 ) -> Result<(), End>
     requires text { length given.now ≤ MESSAGE_BYTES }
     requires room { taken_in tally.old < 2 ^ 64 - 1 }
-    ensures answers { Answers result version (Outcome.Got delivery) given.now (W.contents (stream_of writer.old)) (W.contents (stream_of writer.new)) tally.old tally.new }
+    ensures answers { Answers result version (Outcome.Got delivery) given.now
+        (W.contents (stream_of writer.old))
+        (W.contents (stream_of writer.new)) tally.old tally.new }
     ensures same { stream_name writer.new ≡ stream_name writer.old }
-    ensures failed { failures_of writer.new ≡ failures_after (ends_by_write result) (failures_of writer.old) }
+    ensures failed { failures_of writer.new
+        ≡ failures_after (ends_by_write result) (failures_of writer.old) }
     ensures read { ends_by_read result ≡ false }
 {
     let reply = message_reply(version, &delivery);
@@ -152,12 +162,15 @@ pub(crate) fn answer<W: Write>(
     given: &Body,
     tally: &mut Tally,
 ) -> Result<(), End>
-    requires reply { IsAnswer (reply_of version outcome).version (reply_of version outcome).op (reply_of version outcome).result }
+    requires reply { IsAnswer (reply_of version outcome).version (reply_of version outcome).op
+        (reply_of version outcome).result }
     requires text { length given.now ≤ MESSAGE_BYTES }
     requires room { taken_in tally.old < 2 ^ 64 - 1 }
-    ensures answers { Answers result version outcome given.now (W.contents (stream_of writer.old)) (W.contents (stream_of writer.new)) tally.old tally.new }
+    ensures answers { Answers result version outcome given.now (W.contents (stream_of writer.old))
+        (W.contents (stream_of writer.new)) tally.old tally.new }
     ensures same { stream_name writer.new ≡ stream_name writer.old }
-    ensures failed { failures_of writer.new ≡ failures_after (ends_by_write result) (failures_of writer.old) }
+    ensures failed { failures_of writer.new
+        ≡ failures_after (ends_by_write result) (failures_of writer.old) }
     ensures read { ends_by_read result ≡ false }
 {
     match outcome {

@@ -147,8 +147,10 @@ impl Stage {
     ) -> Result<(), NoMemory>
         requires actor { IsOfActors actor }
         requires fits { RequestFits request }
-        ensures runs { OnOk result ((s : Scene) → IsSceneOf s self.old → (after : Scene) × (out : List ℕ)
-            × StartRuns s actor (call_asked request.entry) goes (doing_at (actor_at s.world.actors actor)) out after
+        ensures runs { OnOk result ((s : Scene) → IsSceneOf s self.old → (after : Scene)
+            × (out : List ℕ)
+            × StartRuns s actor (call_asked request.entry) goes
+            (doing_at (actor_at s.world.actors actor)) out after
             × IsSceneOf after self.new × (output.new ≡ output.old ++ out)) }
         ensures err { OnErr result (IsPrefixOf output.new output.old) }
     {
@@ -164,7 +166,8 @@ impl Stage {
 
     /// Makes at most that many steps of an actor's call, and composes the line that it prints.
     fn take_on(&mut self, actor: u32, steps: u32, output: &mut Output) -> Result<(), NoMemory>
-        ensures runs { OnOk result ((s : Scene) → IsSceneOf s self.old → (after : Scene) × (out : List ℕ)
+        ensures runs { OnOk result ((s : Scene) → IsSceneOf s self.old → (after : Scene)
+            × (out : List ℕ)
             × StepsRun steps s actor (doing_at (actor_at s.world.actors actor)) out after
             × IsSceneOf after self.new × (output.new ≡ output.old ++ out)) }
         ensures err { OnErr result (output.new ≡ []) }
@@ -177,7 +180,8 @@ impl Stage {
 
     /// Takes each call under way on, in the order of the actors.
     fn take_all_on(&mut self, output: &mut Output) -> Result<(), NoMemory>
-        ensures runs { OnOk result ((s : Scene) → IsSceneOf s self.old → (after : Scene) × (out : List ℕ)
+        ensures runs { OnOk result ((s : Scene) → IsSceneOf s self.old → (after : Scene)
+            × (out : List ℕ)
             × AllRun (range_with_len 1 SCRIPT_ACTORS) s out after
             × IsSceneOf after self.new × (output.new ≡ output.old ++ out)) }
         ensures err { OnErr result (IsPrefixOf output.new output.old) }
@@ -190,7 +194,8 @@ impl Stage {
 
     /// Takes the call of an actor on, if it is in one.
     fn take_one_on(&mut self, actor: u32, output: &mut Output) -> Result<(), NoMemory>
-        ensures runs { OnOk result ((s : Scene) → IsSceneOf s self.old → (after : Scene) × (out : List ℕ)
+        ensures runs { OnOk result ((s : Scene) → IsSceneOf s self.old → (after : Scene)
+            × (out : List ℕ)
             × OneRuns s actor (doing_at (actor_at s.world.actors actor)) out after
             × IsSceneOf after self.new × (output.new ≡ output.old ++ out)) }
         ensures err { OnErr result (output.new ≡ []) }
@@ -210,7 +215,8 @@ impl Stage {
         steps: u32,
         output: &mut Output,
     ) -> Result<(), NoMemory>
-        ensures runs { OnOk result ((s : Scene) → IsSceneOf s self.old → (after : Scene) × (out : List ℕ)
+        ensures runs { OnOk result ((s : Scene) → IsSceneOf s self.old → (after : Scene)
+            × (out : List ℕ)
             × StepsRun steps s actor (Some operation) out after
             × IsSceneOf after self.new × (output.new ≡ output.old ++ out)) }
         ensures err { OnErr result (output.new ≡ []) }
@@ -221,7 +227,8 @@ impl Stage {
 
     /// The kind of the call that an actor is in, if it is in one.
     fn under_way(&self, actor: u32) -> Option<Operation>
-        ensures { (s : Scene) → IsSceneOf s self.now → result ≡ doing_at (actor_at s.world.actors actor) }
+        ensures { (s : Scene) → IsSceneOf s self.now →
+            result ≡ doing_at (actor_at s.world.actors actor) }
     {
         match self.world.standing(actor)? {
             Standing::At(phase) => Some(Operation::of_phase(phase)),
@@ -331,7 +338,8 @@ impl Stage {
         stepped: Stepped,
         output: &mut Output,
     ) -> Result<(), NoMemory>
-        ensures told { OnOk result ((s : Scene) → IsSceneOf s self.old → output.new ≡ output.old ++ printed s.world actor operation stepped) }
+        ensures told { OnOk result ((s : Scene) → IsSceneOf s self.old →
+            output.new ≡ output.old ++ printed s.world actor operation stepped) }
         ensures err { OnErr result (output.new ≡ []) }
         ensures kept { self.new ≡ record self.old { spares = self.new.spares } }
     {
@@ -362,7 +370,8 @@ impl Stage {
 
     /// The line that says where an actor's call stands.
     fn stands(&self, actor: u32) -> Head
-        ensures { (s : Scene) → IsSceneOf s self.now → head_text result ++ 10 ∷ [] ≡ standing_line actor (actor_at s.world.actors actor) }
+        ensures { (s : Scene) → IsSceneOf s self.now →
+            head_text result ++ 10 ∷ [] ≡ standing_line actor (actor_at s.world.actors actor) }
     {
         match self.world.standing(actor) {
             Some(Standing::At(phase)) => Head::at(actor, phase),
@@ -372,7 +381,8 @@ impl Stage {
     }
 
     fn tell_body(&mut self, head: Head, body: Body, output: &mut Output) -> Result<(), NoMemory>
-        ensures told { OnOk result (output.new ≡ output.old ++ (head_text head ++ (body ++ 10 ∷ []))) }
+        ensures told { OnOk result (output.new ≡ output.old
+            ++ (head_text head ++ (body ++ 10 ∷ []))) }
         ensures err { OnErr result (output.new ≡ []) }
         ensures kept { self.new ≡ record self.old { spares = self.new.spares } }
     {

@@ -20,7 +20,9 @@ pub enum Afterwards {
 impl Afterwards {
     /// Where the send stands after its chain was released, or was refused by the pool as that of another.
     pub fn given_back(self) -> State
-        ensures { (text : List ℕ) (done : Result ⊤ Chained) → follows_giveback (goes_on (afterwards_of self text)) (release_reply done) ≡ Some (state_of result text) }
+        ensures { (text : List ℕ) (done : Result ⊤ Chained) →
+            follows_giveback (goes_on (afterwards_of self text)) (release_reply done)
+            ≡ Some (state_of result text) }
     {
         self.goes_on()
     }

@@ -22,7 +22,8 @@ use sysv_queue::Discarded;
 /// The start of IPC_STAT. It is refused with EINVAL where the identifier is negative (POSIX.1-2017,
 /// `msgctl`, ERRORS), and else goes to its step.
 pub fn begin_stat(cred: Cred, id: i32) -> State
-    ensures { (text : List ℕ) (released : ℕ) → begins cred (MsgctlStat id) released ≡ state_of result text }
+    ensures { (text : List ℕ) (released : ℕ) →
+        begins cred (MsgctlStat id) released ≡ state_of result text }
 {
     if id < 0 {
         return State::refused(Errno::EINVAL);
@@ -33,7 +34,8 @@ pub fn begin_stat(cred: Cred, id: i32) -> State
 /// The start of IPC_SET to these values. It is refused with EINVAL where the identifier is negative
 /// (POSIX.1-2017, `msgctl`, ERRORS), and else goes to its step.
 pub fn begin_set(cred: Cred, id: i32, to: SetTo) -> State
-    ensures { (text : List ℕ) (released : ℕ) → begins cred (MsgctlSet id to) released ≡ state_of result text }
+    ensures { (text : List ℕ) (released : ℕ) →
+        begins cred (MsgctlSet id to) released ≡ state_of result text }
 {
     if id < 0 {
         return State::refused(Errno::EINVAL);
@@ -44,7 +46,8 @@ pub fn begin_set(cred: Cred, id: i32, to: SetTo) -> State
 /// The start of IPC_RMID. It is refused with EINVAL where the identifier is negative (POSIX.1-2017,
 /// `msgctl`, ERRORS), and else goes to its removal.
 pub fn begin_remove(cred: Cred, id: i32) -> State
-    ensures { (text : List ℕ) (released : ℕ) → begins cred (MsgctlRmid id) released ≡ state_of result text }
+    ensures { (text : List ℕ) (released : ℕ) →
+        begins cred (MsgctlRmid id) released ≡ state_of result text }
 {
     if id < 0 {
         return State::refused(Errno::EINVAL);
@@ -78,7 +81,9 @@ pub fn set_done(done: Result<(), Errno>) -> State
 /// on it: it goes on to forget the identifier, and holds the blocks of what was discarded. Where the queue
 /// refused with EINVAL or EPERM it is at its end (POSIX.1-2017, `msgctl`, ERRORS).
 pub fn removed(id: i32, done: Result<Discarded, Errno>) -> State
-    ensures { (text : List ℕ) (messages : List Message) → IfOk done (λ discarded. discarded ≡ blocks_of messages) → follows_remove id (remove_reply messages done) ≡ Some (state_of result text) }
+    ensures { (text : List ℕ) (messages : List Message) →
+        IfOk done (λ discarded. discarded ≡ blocks_of messages) →
+        follows_remove id (remove_reply messages done) ≡ Some (state_of result text) }
 {
     match done {
         Ok(discarded) => State::Goes(Phase::Forget {
@@ -92,7 +97,8 @@ pub fn removed(id: i32, done: Result<Discarded, Errno>) -> State
 /// Where IPC_RMID stands after its identifier was forgotten: it goes on to release the chain of what was
 /// discarded.
 pub fn forgotten(chain: Chain) -> State
-    ensures { (text : List ℕ) (done : Bool) → follows_forget chain.blocks (Changed done) ≡ Some (state_of result text) }
+    ensures { (text : List ℕ) (done : Bool) →
+        follows_forget chain.blocks (Changed done) ≡ Some (state_of result text) }
 {
     State::Goes(Phase::RemoveGiveback { chain })
 }
@@ -100,7 +106,8 @@ pub fn forgotten(chain: Chain) -> State
 /// Where IPC_SET or IPC_RMID stands after its chain was released, or was refused by the pool as that of
 /// another: at its end.
 pub fn given_back() -> State
-    ensures { (text : List ℕ) (done : Result ⊤ Chained) → follows_giveback (Over Zero) (release_reply done) ≡ Some (state_of result text) }
+    ensures { (text : List ℕ) (done : Result ⊤ Chained) →
+        follows_giveback (Over Zero) (release_reply done) ≡ Some (state_of result text) }
 {
     State::Over(Ending::Zero)
 }

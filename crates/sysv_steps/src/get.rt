@@ -30,7 +30,8 @@ pub struct Getting {
 impl Getting {
     /// The start of a call: it goes to its begin, whatever its arguments are.
     pub fn begin(cred: Cred, key: i32, flags: Flags) -> State
-        ensures { (text : List ℕ) (released : ℕ) → begins cred (Msgget key flags) released ≡ state_of result text }
+        ensures { (text : List ℕ) (released : ℕ) →
+            begins cred (Msgget key flags) released ≡ state_of result text }
     {
         State::Goes(Phase::Begin(Getting { cred, key, flags }))
     }
@@ -39,7 +40,8 @@ impl Getting {
     /// until the settled count has risen, and is refused where the key has no queue and none is made:
     /// with ENOENT or ENOSPC, as the registry says (POSIX.1-2017, `msgget`, ERRORS).
     pub fn begun(self, begun: Begun) -> State
-        ensures { (text : List ℕ) → follows_begin (getting self) (begun_reply begun) ≡ Some (state_of result text) }
+        ensures { (text : List ℕ) → follows_begin (getting self) (begun_reply begun)
+            ≡ Some (state_of result text) }
     {
         match begun {
             Begun::Found { id, settled } => State::Goes(Phase::Probe {
@@ -59,7 +61,8 @@ impl Getting {
     /// Where the call stands after the install of its identifier, from 0, which made the queue or found
     /// another live in the slot. No run of a world meets the second; the identifier is then given up.
     pub fn installed(id: i32, made: bool) -> State
-        ensures { (text : List ℕ) → follows_install id (Installed made) ≡ Some (state_of result text) }
+        ensures { (text : List ℕ) → follows_install id (Installed made)
+            ≡ Some (state_of result text) }
     {
         if made {
             State::Goes(Phase::Settle { id })
@@ -71,7 +74,8 @@ impl Getting {
     /// Where the call stands after its settle: at its end with the identifier, also where a removal
     /// overtook it and no row was changed.
     pub fn settled(id: i32) -> State
-        ensures { (text : List ℕ) (done : Bool) → follows_settle id (Changed done) ≡ Some (state_of result text) }
+        ensures { (text : List ℕ) (done : Bool) →
+            follows_settle id (Changed done) ≡ Some (state_of result text) }
     {
         State::Over(Ending::Id(id))
     }
@@ -82,7 +86,8 @@ impl Getting {
     /// `msgget`, ERRORS). Where the queue is gone or not yet there, the call waits until the settled
     /// count is above that value.
     pub fn probed(self, id: i32, settled: u64, found: Probe) -> State
-        ensures { (text : List ℕ) → follows_probe (getting self) id settled (probe_reply found) ≡ Some (state_of result text) }
+        ensures { (text : List ℕ) → follows_probe (getting self) id settled (probe_reply found)
+            ≡ Some (state_of result text) }
     {
         match found {
             Probe::Gone => State::Waits(Wait::Settled {
@@ -98,7 +103,8 @@ impl Getting {
     /// Where the call stands after it gave up an identifier whose slot was occupied: it is refused with
     /// ENOSPC (this profile's).
     pub fn unmade() -> State
-        ensures { (text : List ℕ) (done : Bool) → follows_unmake (Changed done) ≡ Some (state_of result text) }
+        ensures { (text : List ℕ) (done : Bool) →
+            follows_unmake (Changed done) ≡ Some (state_of result text) }
     {
         State::refused(Errno::ENOSPC)
     }

@@ -43,7 +43,8 @@ impl Receiving {
     /// The start of a receive. It is refused with EINVAL where the identifier is negative
     /// (POSIX.1-2017, `msgrcv`, ERRORS), and else goes to its take.
     pub fn begin(cred: Cred, id: i32, size: u32, mtype: i64, flags: Flags) -> State
-        ensures { (text : List ℕ) (released : ℕ) → begins cred (Msgrcv id size mtype flags) released ≡ state_of result text }
+        ensures { (text : List ℕ) (released : ℕ) →
+            begins cred (Msgrcv id size mtype flags) released ≡ state_of result text }
     {
         if id < 0 {
             return State::Over(Ending::Refused(Errno::EINVAL));
@@ -62,7 +63,9 @@ impl Receiving {
     /// Where the receive stands after it took a message, and its driver copied as much of the text as is
     /// wanted: it gives the message's chain back.
     pub fn given(self, delivery: Delivery, chain: Chain) -> State
-        ensures next { (m : Message) (text : List ℕ) → Gives delivery m self.size text → chain.blocks ≡ blocks_for (length m.bytes) → follows_take (receiving self) (Taken m) ≡ Some (state_of result text) }
+        ensures next { (m : Message) (text : List ℕ) → Gives delivery m self.size text →
+            chain.blocks ≡ blocks_for (length m.bytes) →
+            follows_take (receiving self) (Taken m) ≡ Some (state_of result text) }
         ensures kept { result ≡ State.Goes (Phase.ReceiveGiveback chain delivery) }
     {
         State::Goes(Phase::ReceiveGiveback { chain, delivery })
@@ -71,7 +74,9 @@ impl Receiving {
     /// Where a receive stands after the chain of its message was released, or was refused by the pool as
     /// that of another: at its end with the message.
     pub fn given_back(delivery: Delivery) -> State
-        ensures next { (text : List ℕ) (done : Result ⊤ Chained) → follows_giveback (Over (Got delivery.mtype text)) (release_reply done) ≡ Some (state_of result text) }
+        ensures next { (text : List ℕ) (done : Result ⊤ Chained) →
+            follows_giveback (Over (Got delivery.mtype text)) (release_reply done)
+            ≡ Some (state_of result text) }
         ensures kept { result ≡ State.Over (Ending.Got delivery) }
     {
         State::Over(Ending::Got { delivery })
@@ -80,7 +85,8 @@ impl Receiving {
     /// Where the receive stands after no message was given: it waits for one where it may; else it is
     /// refused with EINVAL or EIDRM, EACCES, ENOMSG, or E2BIG (POSIX.1-2017, `msgrcv`, ERRORS).
     pub fn untaken(self, why: TakeRefused) -> State
-        ensures { (text : List ℕ) → follows_take (receiving self) (untaken_reply why) ≡ Some (state_of result text) }
+        ensures { (text : List ℕ) → follows_take (receiving self) (untaken_reply why)
+            ≡ Some (state_of result text) }
     {
         match why {
             TakeRefused::Gone => State::refused_as_gone(self.live_seen),
@@ -94,7 +100,8 @@ impl Receiving {
     /// count was `arrived`: it waits until the count is above that, or is refused with ENOMSG where it
     /// does not wait.
     fn finds_none(self, arrived: u64) -> State
-        ensures { (text : List ℕ) → follows_take (receiving self) (NoMatch arrived) ≡ Some (state_of result text) }
+        ensures { (text : List ℕ) → follows_take (receiving self) (NoMatch arrived)
+            ≡ Some (state_of result text) }
     {
         if self.nowait {
             return State::refused(Errno::ENOMSG);

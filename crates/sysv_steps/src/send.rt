@@ -39,7 +39,8 @@ impl Sending {
     /// EINVAL where the type is below 1, the size above 8,192 or the identifier negative
     /// (POSIX.1-2017, `msgsnd`, ERRORS), and else goes to its look.
     pub fn begin(cred: Cred, id: i32, mtype: i64, flags: Flags, size: usize, released: u64) -> State
-        ensures { (text : List ℕ) → length text ≡ size → begins cred (Msgsnd id mtype flags text) released ≡ state_of result text }
+        ensures { (text : List ℕ) → length text ≡ size →
+            begins cred (Msgsnd id mtype flags text) released ≡ state_of result text }
     {
         if mtype < 1 || size > MESSAGE_BYTES || id < 0 {
             return State::Over(Ending::Refused(Errno::EINVAL));
@@ -58,7 +59,8 @@ impl Sending {
     /// waits for room where it may; else it is refused with EINVAL or EIDRM, EACCES, or EAGAIN
     /// (POSIX.1-2017, `msgsnd`, ERRORS).
     pub fn looked(self, found: Look) -> State
-        ensures { (text : List ℕ) → follows_look (sending self text) (look_reply found) ≡ Some (state_of result text) }
+        ensures { (text : List ℕ) → follows_look (sending self text) (look_reply found)
+            ≡ Some (state_of result text) }
     {
         match found {
             Look::Gone => State::refused_as_gone(self.live_seen),
@@ -75,7 +77,8 @@ impl Sending {
     /// Where too few were free it waits until the released count is above the value that it read last, or
     /// is refused with EAGAIN where it does not wait (this profile's).
     pub fn reserved(self, chain: Option<Chain>) -> State
-        ensures { (text : List ℕ) → follows_reserve (sending self text) (reserve_reply chain) ≡ Some (state_of result text) }
+        ensures { (text : List ℕ) → follows_reserve (sending self text) (reserve_reply chain)
+            ≡ Some (state_of result text) }
     {
         match chain {
             Some(chain) => State::Goes(Phase::Place { send: self, chain }),
@@ -89,7 +92,8 @@ impl Sending {
 
     /// Where a send stands after its text was accepted: at its end.
     pub fn placed() -> State
-        ensures { (send : Send) (blocks number : ℕ) (text : List ℕ) → follows_place send blocks (Accepted number) ≡ Some (state_of result text) }
+        ensures { (send : Send) (blocks number : ℕ) (text : List ℕ) →
+            follows_place send blocks (Accepted number) ≡ Some (state_of result text) }
     {
         State::Over(Ending::Zero)
     }
@@ -97,7 +101,8 @@ impl Sending {
     /// Where the send stands after its text was refused and its chain came back: it gives the chain back,
     /// and goes on then as its look would have led it.
     pub fn unplaced(self, why: Unplaced, chain: Chain) -> State
-        ensures { (text : List ℕ) → follows_place (sending self text) chain.blocks (unplaced_reply why) ≡ Some (state_of result text) }
+        ensures { (text : List ℕ) → follows_place (sending self text) chain.blocks
+            (unplaced_reply why) ≡ Some (state_of result text) }
     {
         let afterwards = match why {
             Unplaced::Gone => Afterwards::Refused(gone(self.live_seen)),
@@ -110,7 +115,8 @@ impl Sending {
     /// What the send does after its queue, live, had no room, when the freed count was `freed`: it
     /// waits until the count is above that, or is refused with EAGAIN where it does not wait.
     fn is_full(self, freed: u64) -> Afterwards
-        ensures { (text : List ℕ) → finds_full (sending self text) freed ≡ afterwards_of result text }
+        ensures { (text : List ℕ) → finds_full (sending self text) freed
+            ≡ afterwards_of result text }
     {
         if self.nowait {
             return Afterwards::Refused(Errno::EAGAIN);

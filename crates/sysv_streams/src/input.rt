@@ -75,12 +75,15 @@ impl Input {
     /// Reads once, after what waits; the number of bytes that came, 0 at the end.
     pub fn read_from<R: Read>(&mut self, reader: &mut Watched<'_, R>) -> Result<usize, ScriptFault>
         requires { length self.old < INPUT_ROOM }
-        ensures text { OnOk result (TakesIn (R.remaining (stream_of reader.old)) self.old (R.remaining (stream_of reader.new)) self.new) }
+        ensures text { OnOk result (TakesIn (R.remaining (stream_of reader.old)) self.old
+            (R.remaining (stream_of reader.new)) self.new) }
         ensures count { IfOk result (λ count. length self.new ≡ length self.old + count) }
-        ensures end { IfOk result (λ count. count ≡ 0 → IsAtEnd (R.remaining (stream_of reader.new))) }
+        ensures end { IfOk result (λ count. count ≡ 0 →
+            IsAtEnd (R.remaining (stream_of reader.new))) }
         ensures err { IfErr result (λ fault. fault ≡ ScriptFault.Read) }
         ensures same { stream_name reader.new ≡ stream_name reader.old }
-        ensures failed { failures_of reader.new ≡ failures_after (is_read_fault result) (failures_of reader.old) }
+        ensures failed { failures_of reader.new
+            ≡ failures_after (is_read_fault result) (failures_of reader.old) }
     {
         let len = self.end - self.start;
         self.buffer.copy_within(self.start..self.end, 0);

@@ -34,16 +34,23 @@ pub fn next_line<R: Read, W: Write>(
     reader: &mut Watched<'_, R>,
     writer: &mut Watched<'_, W>,
 ) -> Result<Option<Found>, ScriptFault>
-    ensures text { OnOk result (TakesIn (R.remaining (stream_of reader.old)) input.old (R.remaining (stream_of reader.new)) input.new) }
-    ensures answers { OnOk result (HandsOn (W.contents (stream_of writer.old)) output.old (W.contents (stream_of writer.new)) output.new) }
-    ensures found { IfOk result (λ found. FindsLine found input.new (R.remaining (stream_of reader.new))) }
+    ensures text { OnOk result (TakesIn (R.remaining (stream_of reader.old)) input.old
+        (R.remaining (stream_of reader.new)) input.new) }
+    ensures answers { OnOk result
+        (HandsOn (W.contents (stream_of writer.old)) output.old
+        (W.contents (stream_of writer.new)) output.new) }
+    ensures found { IfOk result (λ found.
+        FindsLine found input.new (R.remaining (stream_of reader.new))) }
     ensures none_left { OnErr result (output.new ≡ []) }
-    ensures err { OnErr result (AppendsPrefix (W.contents (stream_of writer.old)) (W.contents (stream_of writer.new)) output.old) }
+    ensures err { OnErr result (AppendsPrefix (W.contents (stream_of writer.old))
+        (W.contents (stream_of writer.new)) output.old) }
     ensures fault { IfErr result IsStreamFault }
     ensures same_reader { stream_name reader.new ≡ stream_name reader.old }
     ensures same_writer { stream_name writer.new ≡ stream_name writer.old }
-    ensures reader_failed { failures_of reader.new ≡ failures_after (is_read_fault result) (failures_of reader.old) }
-    ensures writer_failed { failures_of writer.new ≡ failures_after (is_write_fault result) (failures_of writer.old) }
+    ensures reader_failed { failures_of reader.new
+        ≡ failures_after (is_read_fault result) (failures_of reader.old) }
+    ensures writer_failed { failures_of writer.new
+        ≡ failures_after (is_write_fault result) (failures_of writer.old) }
 {
     let mut seen = 0;
     loop {
@@ -66,7 +73,8 @@ fn line_within(waiting: &[u8], seen: usize) -> Option<Found>
     requires before { HasNoEnd (take seen waiting.now) }
     ensures { MatchOption result (HasNoEnd waiting.now × (length waiting.now ≤ LINE_BYTES))
         (λ found. (found.is_last ≡ false → IsFirstLine found.len waiting.now)
-        × (found.is_last ≡ true → HasNoEnd waiting.now × (found.len ≡ length waiting.now) × (LINE_BYTES < found.len))) }
+        × (found.is_last ≡ true → HasNoEnd waiting.now × (found.len ≡ length waiting.now)
+        × (LINE_BYTES < found.len))) }
 {
     match line_end(waiting, seen) {
         Some(len) => Some(Found {
@@ -83,7 +91,8 @@ fn line_within(waiting: &[u8], seen: usize) -> Option<Found>
 
 /// Returns the last line, which is these bytes, or `None` if there are none.
 fn line_at_end(len: usize) -> Option<Found>
-    ensures { MatchOption result (len ≡ 0) (λ found. (found.len ≡ len) × (found.is_last ≡ true) × (0 < len)) }
+    ensures { MatchOption result (len ≡ 0) (λ found. (found.len ≡ len) × (found.is_last ≡ true)
+        × (0 < len)) }
 {
     match len {
         0 => None,
@@ -119,17 +128,23 @@ pub fn read_on<R: Read, W: Write>(
     writer: &mut Watched<'_, W>,
 ) -> Result<usize, ScriptFault>
     requires { length input.old < INPUT_ROOM }
-    ensures text { OnOk result (TakesIn (R.remaining (stream_of reader.old)) input.old (R.remaining (stream_of reader.new)) input.new) }
+    ensures text { OnOk result (TakesIn (R.remaining (stream_of reader.old)) input.old
+        (R.remaining (stream_of reader.new)) input.new) }
     ensures count { IfOk result (λ count. length input.new ≡ length input.old + count) }
     ensures end { IfOk result (λ count. count ≡ 0 → IsAtEnd (R.remaining (stream_of reader.new))) }
-    ensures answers { OnOk result (Appends (W.contents (stream_of writer.old)) (W.contents (stream_of writer.new)) output.old) }
+    ensures answers { OnOk result
+        (Appends (W.contents (stream_of writer.old))
+        (W.contents (stream_of writer.new)) output.old) }
     ensures none_left { output.new ≡ [] }
-    ensures err { OnErr result (AppendsPrefix (W.contents (stream_of writer.old)) (W.contents (stream_of writer.new)) output.old) }
+    ensures err { OnErr result (AppendsPrefix (W.contents (stream_of writer.old))
+        (W.contents (stream_of writer.new)) output.old) }
     ensures fault { IfErr result IsStreamFault }
     ensures same_reader { stream_name reader.new ≡ stream_name reader.old }
     ensures same_writer { stream_name writer.new ≡ stream_name writer.old }
-    ensures reader_failed { failures_of reader.new ≡ failures_after (is_read_fault result) (failures_of reader.old) }
-    ensures writer_failed { failures_of writer.new ≡ failures_after (is_write_fault result) (failures_of writer.old) }
+    ensures reader_failed { failures_of reader.new
+        ≡ failures_after (is_read_fault result) (failures_of reader.old) }
+    ensures writer_failed { failures_of writer.new
+        ≡ failures_after (is_write_fault result) (failures_of writer.old) }
 {
     match output.write_to(writer) {
         Ok(()) => input.read_from(reader),

@@ -64,7 +64,8 @@ impl Output {
     /// Composes a line of a head and the bytes of a message body. If memory is refused, nothing is
     /// left composed.
     pub fn tell_text(&mut self, head: Head, text: &Body) -> Result<(), NoMemory>
-        ensures ok { OnOk result (self.new ≡ self.old ++ (head_text head ++ (text.now ++ 10 ∷ []))) }
+        ensures ok { OnOk result (self.new ≡ self.old
+            ++ (head_text head ++ (text.now ++ 10 ∷ []))) }
         ensures err { OnErr result (self.new ≡ []) }
     {
         match append_line(&mut self.bytes, head, text) {
@@ -79,12 +80,15 @@ impl Output {
     /// Writes what was composed if there might be no room for one more line. If that fails, nothing
     /// is left composed.
     pub fn make_room<W: Write>(&mut self, writer: &mut Watched<'_, W>) -> Result<(), ScriptFault>
-        ensures ok { OnOk result (HandsOn (W.contents (stream_of writer.old)) self.old (W.contents (stream_of writer.new)) self.new) }
+        ensures ok { OnOk result (HandsOn (W.contents (stream_of writer.old)) self.old
+            (W.contents (stream_of writer.new)) self.new) }
         ensures none_left { OnErr result (self.new ≡ []) }
-        ensures err { OnErr result (AppendsPrefix (W.contents (stream_of writer.old)) (W.contents (stream_of writer.new)) self.old) }
+        ensures err { OnErr result (AppendsPrefix (W.contents (stream_of writer.old))
+            (W.contents (stream_of writer.new)) self.old) }
         ensures fault { IfErr result (λ fault. fault ≡ ScriptFault.Write) }
         ensures same { stream_name writer.new ≡ stream_name writer.old }
-        ensures failed { failures_of writer.new ≡ failures_after (is_write_fault result) (failures_of writer.old) }
+        ensures failed { failures_of writer.new
+            ≡ failures_after (is_write_fault result) (failures_of writer.old) }
     {
         if self.bytes.len() <= OUTPUT_ROOM - LONGEST {
             return Ok(());
@@ -95,13 +99,16 @@ impl Output {
     /// Writes all that was composed. Nothing is left composed, also if that fails. With nothing
     /// composed it succeeds.
     pub fn write_to<W: Write>(&mut self, writer: &mut Watched<'_, W>) -> Result<(), ScriptFault>
-        ensures ok { OnOk result (Appends (W.contents (stream_of writer.old)) (W.contents (stream_of writer.new)) self.old) }
+        ensures ok { OnOk result (Appends (W.contents (stream_of writer.old))
+            (W.contents (stream_of writer.new)) self.old) }
         ensures none_left { self.new ≡ [] }
-        ensures err { OnErr result (AppendsPrefix (W.contents (stream_of writer.old)) (W.contents (stream_of writer.new)) self.old) }
+        ensures err { OnErr result (AppendsPrefix (W.contents (stream_of writer.old))
+            (W.contents (stream_of writer.new)) self.old) }
         ensures fault { IfErr result (λ fault. fault ≡ ScriptFault.Write) }
         ensures empty { self.old ≡ [] → IsOk result }
         ensures same { stream_name writer.new ≡ stream_name writer.old }
-        ensures failed { failures_of writer.new ≡ failures_after (is_write_fault result) (failures_of writer.old) }
+        ensures failed { failures_of writer.new
+            ≡ failures_after (is_write_fault result) (failures_of writer.old) }
     {
         if self.bytes.is_empty() {
             return Ok(());
@@ -117,7 +124,8 @@ impl Output {
 
 /// Appends a head, a message body and an LF.
 fn append_line(bytes: &mut Vec<u8>, head: Head, text: &Body) -> Result<(), NoMemory>
-    ensures { OnOk result (bytes.new.items ≡ bytes.old.items ++ (head_text head ++ (text.now ++ 10 ∷ []))) }
+    ensures { OnOk result (bytes.new.items ≡ bytes.old.items
+        ++ (head_text head ++ (text.now ++ 10 ∷ []))) }
 {
     if write!(bytes, "{head}").is_err()
         || append_text(bytes, text).is_err()

@@ -12,12 +12,18 @@ use sysv_model::{BLOCK_BYTES, BODY_ROOM, Body, Watched};
 
 /// Reads until the bytes are full or the input ends; the number of bytes that came.
 pub(crate) fn fill<R: Read>(reader: &mut Watched<'_, R>, bytes: &mut [u8]) -> Result<usize, Fault>
-    ensures taken { IfOk result (λ count. Consumes (R.remaining (stream_of reader.old)) (R.remaining (stream_of reader.new)) (take count bytes.new)) }
+    ensures taken { IfOk result (λ count.
+        Consumes (R.remaining (stream_of reader.old)) (R.remaining (stream_of reader.new))
+        (take count bytes.new)) }
     ensures bound { IfOk result (λ count. count ≤ length bytes.new) }
-    ensures end { IfOk result (λ count. count < length bytes.new → IsAtEnd (R.remaining (stream_of reader.new))) }
-    ensures fault { IfErr result (λ fault. Faults (Breaks (λ _. ⊥)) fault (R.remaining (stream_of reader.old)) (R.remaining (stream_of reader.new))) }
+    ensures end { IfOk result (λ count. count < length bytes.new →
+        IsAtEnd (R.remaining (stream_of reader.new))) }
+    ensures fault { IfErr result (λ fault.
+        Faults (Breaks (λ _. ⊥)) fault (R.remaining (stream_of reader.old))
+        (R.remaining (stream_of reader.new))) }
     ensures same { stream_name reader.new ≡ stream_name reader.old }
-    ensures failed { failures_of reader.new ≡ failures_after (is_read_fault result) (failures_of reader.old) }
+    ensures failed { failures_of reader.new
+        ≡ failures_after (is_read_fault result) (failures_of reader.old) }
 {
     let mut count = 0;
     while count < bytes.len() {
@@ -32,10 +38,14 @@ pub(crate) fn fill<R: Read>(reader: &mut Watched<'_, R>, bytes: &mut [u8]) -> Re
 
 /// Reads until the bytes are full; `Truncated` where the input ends before.
 pub(crate) fn fill_all<R: Read>(reader: &mut Watched<'_, R>, bytes: &mut [u8]) -> Result<(), Fault>
-    ensures taken { OnOk result (Consumes (R.remaining (stream_of reader.old)) (R.remaining (stream_of reader.new)) bytes.new) }
-    ensures fault { IfErr result (λ fault. Faults (Breaks (IsShorter (length bytes.old))) fault (R.remaining (stream_of reader.old)) (R.remaining (stream_of reader.new))) }
+    ensures taken { OnOk result (Consumes (R.remaining (stream_of reader.old))
+        (R.remaining (stream_of reader.new)) bytes.new) }
+    ensures fault { IfErr result (λ fault.
+        Faults (Breaks (IsShorter (length bytes.old))) fault (R.remaining (stream_of reader.old))
+        (R.remaining (stream_of reader.new))) }
     ensures same { stream_name reader.new ≡ stream_name reader.old }
-    ensures failed { failures_of reader.new ≡ failures_after (is_read_fault result) (failures_of reader.old) }
+    ensures failed { failures_of reader.new
+        ≡ failures_after (is_read_fault result) (failures_of reader.old) }
 {
     let len = bytes.len();
     if fill(reader, bytes)? < len {
@@ -47,11 +57,16 @@ pub(crate) fn fill_all<R: Read>(reader: &mut Watched<'_, R>, bytes: &mut [u8]) -
 /// Reads a length; `None` where the input ends before it.
 fn read_length<R: Read>(reader: &mut Watched<'_, R>) -> Result<Option<u32>, Fault>
     ensures found { IfOk result (λ found. MatchOption found
-        (Consumes (R.remaining (stream_of reader.old)) (R.remaining (stream_of reader.new)) [] × IsAtEnd (R.remaining (stream_of reader.new)))
-        (λ n. Consumes (R.remaining (stream_of reader.old)) (R.remaining (stream_of reader.new)) (u32_bytes n))) }
-    ensures fault { IfErr result (λ fault. Faults (Breaks IsPartLength) fault (R.remaining (stream_of reader.old)) (R.remaining (stream_of reader.new))) }
+        (Consumes (R.remaining (stream_of reader.old)) (R.remaining (stream_of reader.new)) []
+        × IsAtEnd (R.remaining (stream_of reader.new)))
+        (λ n. Consumes (R.remaining (stream_of reader.old)) (R.remaining (stream_of reader.new))
+        (u32_bytes n))) }
+    ensures fault { IfErr result (λ fault.
+        Faults (Breaks IsPartLength) fault (R.remaining (stream_of reader.old))
+        (R.remaining (stream_of reader.new))) }
     ensures same { stream_name reader.new ≡ stream_name reader.old }
-    ensures failed { failures_of reader.new ≡ failures_after (is_read_fault result) (failures_of reader.old) }
+    ensures failed { failures_of reader.new
+        ≡ failures_after (is_read_fault result) (failures_of reader.old) }
 {
     let mut bytes = [0; 4];
     match fill(reader, &mut bytes)? {
@@ -86,11 +101,16 @@ pub(crate) fn read_head<R: Read>(
     head: &mut [u8],
 ) -> Result<Option<u32>, Fault>
     ensures found { IfOk result (λ found. MatchOption found
-        (Consumes (R.remaining (stream_of reader.old)) (R.remaining (stream_of reader.new)) [] × IsAtEnd (R.remaining (stream_of reader.new)))
-        (λ n. Consumes (R.remaining (stream_of reader.old)) (R.remaining (stream_of reader.new)) (u32_bytes n ++ head.new) × (length head.old ≤ n) × (n ≤ most))) }
-    ensures fault { IfErr result (λ fault. Faults (HeadFault (length head.old) most) fault (R.remaining (stream_of reader.old)) (R.remaining (stream_of reader.new))) }
+        (Consumes (R.remaining (stream_of reader.old)) (R.remaining (stream_of reader.new)) []
+        × IsAtEnd (R.remaining (stream_of reader.new)))
+        (λ n. Consumes (R.remaining (stream_of reader.old)) (R.remaining (stream_of reader.new))
+        (u32_bytes n ++ head.new) × (length head.old ≤ n) × (n ≤ most))) }
+    ensures fault { IfErr result (λ fault.
+        Faults (HeadFault (length head.old) most) fault (R.remaining (stream_of reader.old))
+        (R.remaining (stream_of reader.new))) }
     ensures same { stream_name reader.new ≡ stream_name reader.old }
-    ensures failed { failures_of reader.new ≡ failures_after (is_read_fault result) (failures_of reader.old) }
+    ensures failed { failures_of reader.new
+        ≡ failures_after (is_read_fault result) (failures_of reader.old) }
 {
     let Some(length) = read_length(reader)? else {
         return Ok(None);
@@ -108,10 +128,14 @@ pub(crate) fn read_text<R: Read>(
 ) -> Result<(), Fault>
     requires empty { text.old ≡ [] }
     requires room { len ≤ BODY_ROOM }
-    ensures taken { OnOk result (Consumes (R.remaining (stream_of reader.old)) (R.remaining (stream_of reader.new)) text.new × (length text.new ≡ len)) }
-    ensures fault { IfErr result (λ fault. Faults (Breaks (IsShorter len)) fault (R.remaining (stream_of reader.old)) (R.remaining (stream_of reader.new))) }
+    ensures taken { OnOk result (Consumes (R.remaining (stream_of reader.old))
+        (R.remaining (stream_of reader.new)) text.new × (length text.new ≡ len)) }
+    ensures fault { IfErr result (λ fault.
+        Faults (Breaks (IsShorter len)) fault (R.remaining (stream_of reader.old))
+        (R.remaining (stream_of reader.new))) }
     ensures same { stream_name reader.new ≡ stream_name reader.old }
-    ensures failed { failures_of reader.new ≡ failures_after (is_read_fault result) (failures_of reader.old) }
+    ensures failed { failures_of reader.new
+        ≡ failures_after (is_read_fault result) (failures_of reader.old) }
 {
     let mut piece = [0; BLOCK_BYTES];
     let mut left = len;

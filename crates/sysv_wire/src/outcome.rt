@@ -93,7 +93,8 @@ fn marked_row(mark: u8, rest: &[u8]) -> Result<Outcome, Fault>
     ensures error { IfOk result (λ outcome. error_number outcome ≡ 0) }
     ensures text { IfOk result (λ outcome. gives_text outcome ≡ false) }
     ensures spelled { IfOk result (λ outcome. mark ∷ rest.now ≡ outcome_fields outcome) }
-    ensures err { IfErr result (λ fault. (fault ≡ Fault.BadField) × (IsBadMark (mark ∷ rest.now) ⊎ IsWideAt 13 (mark ∷ rest.now))) }
+    ensures err { IfErr result (λ fault. (fault ≡ Fault.BadField)
+        × (IsBadMark (mark ∷ rest.now) ⊎ IsWideAt 13 (mark ∷ rest.now))) }
 {
     if rest.is_empty() {
         return if mark == 0 {

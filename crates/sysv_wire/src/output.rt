@@ -12,10 +12,13 @@ pub(crate) fn write_text<W: Write>(
     writer: &mut Watched<'_, W>,
     text: &Body,
 ) -> Result<(), WriteFault>
-    ensures ok { OnOk result (Appends (W.contents (stream_of writer.old)) (W.contents (stream_of writer.new)) text.now) }
-    ensures err { OnErr result (AppendsPrefix (W.contents (stream_of writer.old)) (W.contents (stream_of writer.new)) text.now) }
+    ensures ok { OnOk result (Appends (W.contents (stream_of writer.old))
+        (W.contents (stream_of writer.new)) text.now) }
+    ensures err { OnErr result (AppendsPrefix (W.contents (stream_of writer.old))
+        (W.contents (stream_of writer.new)) text.now) }
     ensures same { stream_name writer.new ≡ stream_name writer.old }
-    ensures failed { failures_of writer.new ≡ failures_after (is_err result) (failures_of writer.old) }
+    ensures failed { failures_of writer.new
+        ≡ failures_after (is_err result) (failures_of writer.old) }
 {
     let blocks = text.len().div_ceil(BLOCK_BYTES) as u32;
     for k in 0..blocks {
@@ -30,10 +33,13 @@ pub(crate) fn write_both<W: Write>(
     front: &[u8],
     text: &Body,
 ) -> Result<(), WriteFault>
-    ensures ok { OnOk result (Appends (W.contents (stream_of writer.old)) (W.contents (stream_of writer.new)) (front.now ++ text.now)) }
-    ensures err { OnErr result (AppendsPrefix (W.contents (stream_of writer.old)) (W.contents (stream_of writer.new)) (front.now ++ text.now)) }
+    ensures ok { OnOk result (Appends (W.contents (stream_of writer.old))
+        (W.contents (stream_of writer.new)) (front.now ++ text.now)) }
+    ensures err { OnErr result (AppendsPrefix (W.contents (stream_of writer.old))
+        (W.contents (stream_of writer.new)) (front.now ++ text.now)) }
     ensures same { stream_name writer.new ≡ stream_name writer.old }
-    ensures failed { failures_of writer.new ≡ failures_after (is_err result) (failures_of writer.old) }
+    ensures failed { failures_of writer.new
+        ≡ failures_after (is_err result) (failures_of writer.old) }
 {
     writer.write_out(front)?;
     write_text(writer, text)

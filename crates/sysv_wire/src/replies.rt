@@ -35,7 +35,8 @@ fn judge(length: u32, version: u8, number: u8, error: u8) -> Result<(Version, Op
     requires { 3 ≤ length }
     ensures version { IfOk result (λ found. version_number found.0 ≡ version) }
     ensures op { IfOk result (λ found. op_number found.1 ≡ number) }
-    ensures rest { IfOk result (λ found. (found.2 ≡ length - 3) × IsRestLength found.0 found.1 error found.2) }
+    ensures rest { IfOk result (λ found. (found.2 ≡ length - 3)
+        × IsRestLength found.0 found.1 error found.2) }
     ensures fault { IfErr result (AnswerFault length version number error) }
 {
     let Some(version) = Version::of(version) else {
@@ -92,15 +93,20 @@ fn read_fields<R: Read>(
 ) -> Result<Outcome, Fault>
     requires len { IsAnswerLength version op rest }
     requires other { op ≢ Op.Rcv }
-    ensures taken { IfOk result (λ outcome. Consumes (R.remaining (stream_of reader.old)) (R.remaining (stream_of reader.new)) (outcome_fields outcome)) }
+    ensures taken { IfOk result (λ outcome.
+        Consumes (R.remaining (stream_of reader.old)) (R.remaining (stream_of reader.new))
+        (outcome_fields outcome)) }
     ensures len { IfOk result (λ outcome. length (outcome_fields outcome) ≡ rest) }
     ensures answer { IfOk result (λ outcome. IsAnswer version (op_number op) outcome) }
     ensures fits { IfOk result FitsOutcome }
     ensures error { IfOk result (λ outcome. error_number outcome ≡ 0) }
     ensures text { IfOk result (λ outcome. gives_text outcome ≡ false) }
-    ensures fault { IfErr result (λ fault. Faults (RestFault op 0 rest) fault (R.remaining (stream_of reader.old)) (R.remaining (stream_of reader.new))) }
+    ensures fault { IfErr result (λ fault.
+        Faults (RestFault op 0 rest) fault (R.remaining (stream_of reader.old))
+        (R.remaining (stream_of reader.new))) }
     ensures same { stream_name reader.new ≡ stream_name reader.old }
-    ensures failed { failures_of reader.new ≡ failures_after (is_read_fault result) (failures_of reader.old) }
+    ensures failed { failures_of reader.new
+        ≡ failures_after (is_read_fault result) (failures_of reader.old) }
 {
     let mut fields = [0; MAX_FIELDS];
     let fields = &mut fields[..rest];
@@ -117,15 +123,20 @@ fn read_message<R: Read>(
     requires least { 8 ≤ rest }
     requires most { rest ≤ MAX_REST }
     requires empty { text.old ≡ [] }
-    ensures taken { IfOk result (λ outcome. Consumes (R.remaining (stream_of reader.old)) (R.remaining (stream_of reader.new)) (outcome_fields outcome ++ text.new)) }
+    ensures taken { IfOk result (λ outcome.
+        Consumes (R.remaining (stream_of reader.old)) (R.remaining (stream_of reader.new))
+        (outcome_fields outcome ++ text.new)) }
     ensures len { IfOk result (λ outcome. length (outcome_fields outcome ++ text.new) ≡ rest) }
     ensures answer { (version : Versions) → IfOk result (λ outcome. IsAnswer version 3 outcome) }
     ensures fits { IfOk result FitsOutcome }
     ensures error { IfOk result (λ outcome. error_number outcome ≡ 0) }
     ensures text { IfOk result (λ outcome. gives_text outcome ≡ true) }
-    ensures fault { IfErr result (λ fault. Faults (RestFault Op.Rcv 0 rest) fault (R.remaining (stream_of reader.old)) (R.remaining (stream_of reader.new))) }
+    ensures fault { IfErr result (λ fault.
+        Faults (RestFault Op.Rcv 0 rest) fault (R.remaining (stream_of reader.old))
+        (R.remaining (stream_of reader.new))) }
     ensures same { stream_name reader.new ≡ stream_name reader.old }
-    ensures failed { failures_of reader.new ≡ failures_after (is_read_fault result) (failures_of reader.old) }
+    ensures failed { failures_of reader.new
+        ≡ failures_after (is_read_fault result) (failures_of reader.old) }
 {
     let mut bytes = [0; 8];
     fill_all(reader, &mut bytes)?;
@@ -146,15 +157,21 @@ fn read_rest<R: Read>(
     requires len { IsRestLength version op error rest }
     requires most { rest ≤ MAX_REST }
     requires empty { text.old ≡ [] }
-    ensures taken { IfOk result (λ outcome. Consumes (R.remaining (stream_of reader.old)) (R.remaining (stream_of reader.new)) (outcome_fields outcome ++ outcome_text outcome text.new)) }
-    ensures len { IfOk result (λ outcome. rest ≡ length (outcome_fields outcome ++ outcome_text outcome text.new)) }
+    ensures taken { IfOk result (λ outcome.
+        Consumes (R.remaining (stream_of reader.old)) (R.remaining (stream_of reader.new))
+        (outcome_fields outcome ++ outcome_text outcome text.new)) }
+    ensures len { IfOk result (λ outcome.
+        rest ≡ length (outcome_fields outcome ++ outcome_text outcome text.new)) }
     ensures answer { IfOk result (λ outcome. IsAnswer version (op_number op) outcome) }
     ensures fits { IfOk result FitsOutcome }
     ensures error { IfOk result (λ outcome. error_number outcome ≡ error) }
     ensures text { IfOk result (λ outcome. text.new ≡ outcome_text outcome text.new) }
-    ensures fault { IfErr result (λ fault. Faults (RestFault op error rest) fault (R.remaining (stream_of reader.old)) (R.remaining (stream_of reader.new))) }
+    ensures fault { IfErr result (λ fault.
+        Faults (RestFault op error rest) fault (R.remaining (stream_of reader.old))
+        (R.remaining (stream_of reader.new))) }
     ensures same { stream_name reader.new ≡ stream_name reader.old }
-    ensures failed { failures_of reader.new ≡ failures_after (is_read_fault result) (failures_of reader.old) }
+    ensures failed { failures_of reader.new
+        ≡ failures_after (is_read_fault result) (failures_of reader.old) }
 {
     if error != 0 {
         let error = errno_of(error)?;
@@ -177,22 +194,27 @@ pub fn read_reply<R: Read>(
     reader: &mut Watched<'_, R>,
     text: &mut Body,
 ) -> Result<Option<Reply>, Fault>
-    ensures reads { ReadsReply (R.remaining (stream_of reader.old)) (R.remaining (stream_of reader.new)) result text.new }
+    ensures reads { ReadsReply (R.remaining (stream_of reader.old))
+        (R.remaining (stream_of reader.new)) result text.new }
     // The answer that fits what the reader had left is given, unless the reader fails.
-    ensures only { (input : List ℕ) (answer : Result (Option Reply) Fault) → R.remaining (stream_of reader.old) ≡ Some input → ReplyAt input answer →
+    ensures only { (input : List ℕ) (answer : Result (Option Reply) Fault) →
+        R.remaining (stream_of reader.old) ≡ Some input → ReplyAt input answer →
         (result ≡ answer) ⊎ (result ≡ Err Fault.Read) }
     // The reader is the same one, and has failed in this call exactly where the answer is `Read`.
     ensures same { stream_name reader.new ≡ stream_name reader.old }
-    ensures failed { failures_of reader.new ≡ failures_after (is_read_fault result) (failures_of reader.old) }
+    ensures failed { failures_of reader.new
+        ≡ failures_after (is_read_fault result) (failures_of reader.old) }
 {
     next_reply(reader, text)
 }
 
 /// The same, by what was taken of the input.
 fn next_reply<R: Read>(reader: &mut Watched<'_, R>, text: &mut Body) -> Result<Option<Reply>, Fault>
-    ensures reads { ReadsReply (R.remaining (stream_of reader.old)) (R.remaining (stream_of reader.new)) result text.new }
+    ensures reads { ReadsReply (R.remaining (stream_of reader.old))
+        (R.remaining (stream_of reader.new)) result text.new }
     ensures same { stream_name reader.new ≡ stream_name reader.old }
-    ensures failed { failures_of reader.new ≡ failures_after (is_read_fault result) (failures_of reader.old) }
+    ensures failed { failures_of reader.new
+        ≡ failures_after (is_read_fault result) (failures_of reader.old) }
 {
     text.clear();
     let mut head = [0; 3];
@@ -218,11 +240,14 @@ pub fn write_reply<W: Write>(
 ) -> Result<(), WriteFault>
     requires answer { IsAnswer reply.now.version reply.now.op reply.now.result }
     requires text { length text.now ≤ MESSAGE_BYTES }
-    ensures ok { OnOk result (Appends (W.contents (stream_of writer.old)) (W.contents (stream_of writer.new)) (reply_spelling reply.now text.now)) }
-    ensures err { OnErr result (AppendsPrefix (W.contents (stream_of writer.old)) (W.contents (stream_of writer.new)) (reply_spelling reply.now text.now)) }
+    ensures ok { OnOk result (Appends (W.contents (stream_of writer.old))
+        (W.contents (stream_of writer.new)) (reply_spelling reply.now text.now)) }
+    ensures err { OnErr result (AppendsPrefix (W.contents (stream_of writer.old))
+        (W.contents (stream_of writer.new)) (reply_spelling reply.now text.now)) }
     // The writer is the same one, and has failed in this call exactly where the answer is a fault.
     ensures same { stream_name writer.new ≡ stream_name writer.old }
-    ensures failed { failures_of writer.new ≡ failures_after (is_err result) (failures_of writer.old) }
+    ensures failed { failures_of writer.new
+        ≡ failures_after (is_err result) (failures_of writer.old) }
 {
     let fields = fields_of(&reply.result);
     if takes_text(&reply.result) {
@@ -264,7 +289,9 @@ fn error_of(outcome: &Outcome) -> u8
 fn head_of(reply: &Reply, fields: &Fields, text_len: usize) -> Fields
     requires fields { length fields.now ≤ MAX_FIELDS }
     requires text { text_len ≤ MESSAGE_BYTES }
-    ensures { result ≡ u32_bytes (3 + length fields.now + text_len) ++ (version_number reply.now.version ∷ reply.now.op ∷ error_number reply.now.result ∷ fields.now) }
+    ensures { result ≡ u32_bytes (3 + length fields.now + text_len)
+        ++ (version_number reply.now.version ∷ reply.now.op ∷ error_number
+        reply.now.result ∷ fields.now) }
 {
     let mut frame = Fields::new();
     frame.put_u32((3 + fields.bytes().len() + text_len) as u32);

@@ -47,7 +47,8 @@ fn takes_text(op: Op) -> bool
 /// Judges the version, the operation and then the length that the operation wants.
 fn judge(length: u32, version: u8, number: u8) -> Result<(Version, Op), Fault>
     ensures version { IfOk result (λ found. version_number found.0 ≡ version) }
-    ensures op { IfOk result (λ found. (op_number found.1 ≡ number) × IsRequestLength found.1 length) }
+    ensures op { IfOk result (λ found. (op_number found.1 ≡ number)
+        × IsRequestLength found.1 length) }
     ensures fault { IfErr result (OpFault length version number) }
 {
     let Some(version) = Version::of(version) else {
@@ -213,14 +214,19 @@ fn read_ask<R: Read>(
     requires wanted { IsRequestLength op whole }
     requires most { whole ≤ MAX_REQUEST }
     requires empty { text.old ≡ [] }
-    ensures taken { IfOk result (λ ask. Consumes (R.remaining (stream_of reader.old)) (R.remaining (stream_of reader.new)) (ask_fields ask ++ ask_text op text.new)) }
+    ensures taken { IfOk result (λ ask.
+        Consumes (R.remaining (stream_of reader.old)) (R.remaining (stream_of reader.new))
+        (ask_fields ask ++ ask_text op text.new)) }
     ensures op { IfOk result (λ ask. op_of ask ≡ op) }
     ensures fits { IfOk result FitsAsk }
     ensures len { IfOk result (λ ask. whole ≡ 2 + length (ask_fields ask ++ ask_text op text.new)) }
     ensures text { OnOk result (text.new ≡ ask_text op text.new) }
-    ensures fault { IfErr result (λ fault. Faults (Breaks (IsShorter (whole - 2))) fault (R.remaining (stream_of reader.old)) (R.remaining (stream_of reader.new))) }
+    ensures fault { IfErr result (λ fault.
+        Faults (Breaks (IsShorter (whole - 2))) fault (R.remaining (stream_of reader.old))
+        (R.remaining (stream_of reader.new))) }
     ensures same { stream_name reader.new ≡ stream_name reader.old }
-    ensures failed { failures_of reader.new ≡ failures_after (is_read_fault result) (failures_of reader.old) }
+    ensures failed { failures_of reader.new
+        ≡ failures_after (is_read_fault result) (failures_of reader.old) }
 {
     let mut fields = [0; MAX_FIELDS];
     let len = len_of(op);
@@ -243,13 +249,16 @@ pub fn read_request<R: Read>(
     reader: &mut Watched<'_, R>,
     text: &mut Body,
 ) -> Result<Option<Request>, Fault>
-    ensures reads { ReadsRequest (R.remaining (stream_of reader.old)) (R.remaining (stream_of reader.new)) result text.new }
+    ensures reads { ReadsRequest (R.remaining (stream_of reader.old))
+        (R.remaining (stream_of reader.new)) result text.new }
     // The answer that fits what the reader had left is given, unless the reader fails.
-    ensures only { (input : List ℕ) (answer : Result (Option Request) Fault) → R.remaining (stream_of reader.old) ≡ Some input → RequestAt input answer →
+    ensures only { (input : List ℕ) (answer : Result (Option Request) Fault) →
+        R.remaining (stream_of reader.old) ≡ Some input → RequestAt input answer →
         (result ≡ answer) ⊎ (result ≡ Err Fault.Read) }
     // The reader is the same one, and has failed in this call exactly where the answer is `Read`.
     ensures same { stream_name reader.new ≡ stream_name reader.old }
-    ensures failed { failures_of reader.new ≡ failures_after (is_read_fault result) (failures_of reader.old) }
+    ensures failed { failures_of reader.new
+        ≡ failures_after (is_read_fault result) (failures_of reader.old) }
 {
     next_request(reader, text)
 }
@@ -259,9 +268,11 @@ fn next_request<R: Read>(
     reader: &mut Watched<'_, R>,
     text: &mut Body,
 ) -> Result<Option<Request>, Fault>
-    ensures reads { ReadsRequest (R.remaining (stream_of reader.old)) (R.remaining (stream_of reader.new)) result text.new }
+    ensures reads { ReadsRequest (R.remaining (stream_of reader.old))
+        (R.remaining (stream_of reader.new)) result text.new }
     ensures same { stream_name reader.new ≡ stream_name reader.old }
-    ensures failed { failures_of reader.new ≡ failures_after (is_read_fault result) (failures_of reader.old) }
+    ensures failed { failures_of reader.new
+        ≡ failures_after (is_read_fault result) (failures_of reader.old) }
 {
     text.clear();
     let mut head = [0; 2];
@@ -281,11 +292,14 @@ pub fn write_request<W: Write>(
     request: &Request,
     text: &Body,
 ) -> Result<(), WriteFault>
-    ensures ok { OnOk result (Appends (W.contents (stream_of writer.old)) (W.contents (stream_of writer.new)) (request_spelling request.now text.now)) }
-    ensures err { OnErr result (AppendsPrefix (W.contents (stream_of writer.old)) (W.contents (stream_of writer.new)) (request_spelling request.now text.now)) }
+    ensures ok { OnOk result (Appends (W.contents (stream_of writer.old))
+        (W.contents (stream_of writer.new)) (request_spelling request.now text.now)) }
+    ensures err { OnErr result (AppendsPrefix (W.contents (stream_of writer.old))
+        (W.contents (stream_of writer.new)) (request_spelling request.now text.now)) }
     // The writer is the same one, and has failed in this call exactly where the answer is a fault.
     ensures same { stream_name writer.new ≡ stream_name writer.old }
-    ensures failed { failures_of writer.new ≡ failures_after (is_err result) (failures_of writer.old) }
+    ensures failed { failures_of writer.new
+        ≡ failures_after (is_err result) (failures_of writer.old) }
 {
     let op = request.ask.op();
     let fields = fields_of(&request.ask);
@@ -302,7 +316,8 @@ pub fn write_request<W: Write>(
 fn head_of(version: Version, op: Op, fields: &Fields, text_len: usize) -> Fields
     requires fields { length fields.now ≤ MAX_FIELDS }
     requires text { text_len ≤ BODY_ROOM }
-    ensures { result ≡ u32_bytes (2 + length fields.now + text_len) ++ (version_number version ∷ op_number op ∷ fields.now) }
+    ensures { result ≡ u32_bytes (2 + length fields.now + text_len)
+        ++ (version_number version ∷ op_number op ∷ fields.now) }
 {
     let mut frame = Fields::new();
     frame.put_u32((2 + fields.bytes().len() + text_len) as u32);
@@ -356,7 +371,8 @@ fn fields_of(ask: &Ask) -> Fields
 #[tactic(auto, using(std::proofs::Common::append_assoc))]
 fn put_cred(fields: &mut Fields, cred: Cred)
     requires { length fields.old ≤ 8 }
-    ensures after { fields.new ≡ fields.old ++ (u32_bytes cred.uid ++ (u32_bytes cred.gid ++ u32_bytes cred.pid)) }
+    ensures after { fields.new ≡ fields.old
+        ++ (u32_bytes cred.uid ++ (u32_bytes cred.gid ++ u32_bytes cred.pid)) }
     ensures len { length fields.new ≡ length fields.old + 12 }
 {
     fields.put_u32(cred.uid);
@@ -368,7 +384,8 @@ fn put_cred(fields: &mut Fields, cred: Cred)
 #[tactic(auto, using(std::proofs::Common::append_assoc))]
 fn put_set(fields: &mut Fields, to: SetTo)
     requires { length fields.old ≤ 4 }
-    ensures after { fields.new ≡ fields.old ++ (u32_bytes to.uid ++ (u32_bytes to.gid ++ (u32_bytes to.mode ++ u32_bytes to.qbytes))) }
+    ensures after { fields.new ≡ fields.old
+        ++ (u32_bytes to.uid ++ (u32_bytes to.gid ++ (u32_bytes to.mode ++ u32_bytes to.qbytes))) }
     ensures len { length fields.new ≡ length fields.old + 16 }
 {
     fields.put_u32(to.uid);

@@ -23,7 +23,8 @@ impl Reads for Flags {
 
 /// The flags that names and octal modes with `+` between them stand for.
 fn listed_flags(list: &[u8]) -> Option<Flags>
-    ensures { MatchOption result ((bits : ℕ) → ListsFlags list.now bits → ⊥) (λ flags. ListsFlags list.now flags.0) }
+    ensures { MatchOption result ((bits : ℕ) → ListsFlags list.now bits →
+        ⊥) (λ flags. ListsFlags list.now flags.0) }
 {
     let mut flags = Flags::empty();
     let mut rest = list;
@@ -36,7 +37,8 @@ fn listed_flags(list: &[u8]) -> Option<Flags>
 
 /// The flag that a name stands for, or the bits of an octal mode. `None` for any other name.
 fn flag_of(name: &[u8]) -> Option<Flags>
-    ensures { MatchOption result ((bits : ℕ) → NamesFlag name.now bits → ⊥) (λ flags. NamesFlag name.now flags.0) }
+    ensures { MatchOption result ((bits : ℕ) → NamesFlag name.now bits →
+        ⊥) (λ flags. NamesFlag name.now flags.0) }
 {
     match named_flag(name) {
         Some(flag) => Some(flag),
@@ -46,7 +48,8 @@ fn flag_of(name: &[u8]) -> Option<Flags>
 
 /// The bits of an octal mode, which is a `0` and up to three octal digits after it.
 fn mode_bits(name: &[u8]) -> Option<Flags>
-    ensures { MatchOption result ((bits : ℕ) → ¬ NamesMode name.now bits) (λ mode. NamesMode name.now mode.0) }
+    ensures { MatchOption result ((bits : ℕ) →
+        ¬ NamesMode name.now bits) (λ mode. NamesMode name.now mode.0) }
 {
     if name.first() != Some(&b'0') {
         return None;
@@ -56,7 +59,8 @@ fn mode_bits(name: &[u8]) -> Option<Flags>
 
 /// The flag that has this name.
 fn named_flag(name: &[u8]) -> Option<Flags>
-    ensures { MatchOption result ((bits : ℕ) → ¬ HasName name.now bits) (λ flag. HasName name.now flag.0) }
+    ensures { MatchOption result ((bits : ℕ) →
+        ¬ HasName name.now bits) (λ flag. HasName name.now flag.0) }
 {
     if name == b"CREAT".as_slice() {
         Some(Flags::IPC_CREAT)

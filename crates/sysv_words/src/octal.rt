@@ -24,7 +24,8 @@ impl Reads for Octal {
 
 /// The number that one to four octal digits stand for. `None` for anything else.
 pub(crate) fn octal_number(digits: &[u8]) -> Option<u32>
-    ensures { SomeIff result (IsNumeral 8 digits.now × (length digits.now ≤ 4)) (digits_value 8 digits.now) }
+    ensures { SomeIff result (IsNumeral 8 digits.now
+        × (length digits.now ≤ 4)) (digits_value 8 digits.now) }
 {
     if digits.len() > 4 || digits.first() == Some(&b'+') {
         return None;

@@ -28,7 +28,8 @@ impl<A: Reads + Drop, B: Reads + Drop> Reads for (A, B) {
 /// What the first word says, and the words after it; `None` where there is one word alone, and where
 /// the first says none of this kind.
 pub fn first<T: Reads + Drop>(words: &[u8]) -> Option<(T, &[u8])>
-    ensures { MatchOption result (SaysNoFirst T.says words.now) (λ found. SaysFirst T.says words.now found.0 found.1.now) }
+    ensures { MatchOption result (SaysNoFirst T.says words.now) (λ found.
+        SaysFirst T.says words.now found.0 found.1.now) }
 {
     let (word, rest) = split_at_mark(words, b' ')?;
     let value = T::read(word)?;

@@ -10,7 +10,8 @@ use std::str;
 
 /// What stands before the first such byte, and what stands after it; `None` where there is none.
 pub fn split_at_mark(text: &[u8], mark: u8) -> Option<(&[u8], &[u8])>
-    ensures { MatchOption result (¬ (Contains text.now mark)) (λ split. SplitsAt mark text.now split.0.now split.1.now) }
+    ensures { MatchOption result (¬ (Contains text.now mark)) (λ split.
+        SplitsAt mark text.now split.0.now split.1.now) }
 {
     let place = text.iter().position(|byte| *byte == mark)?;
     Some((&text[..place], &text[place + 1..]))
@@ -19,7 +20,8 @@ pub fn split_at_mark(text: &[u8], mark: u8) -> Option<(&[u8], &[u8])>
 /// The number that a numeral stands for: decimal digits, with a minus before them or not. `None`
 /// for any other word and for a number below -2^63 or from 2^63 on.
 pub(crate) fn number(word: &[u8]) -> Option<i64>
-    ensures { SomeIff result (IsNumber word.now × FitsSigned w64 (number_in word.now)) (number_in word.now) }
+    ensures { SomeIff result (IsNumber word.now
+        × FitsSigned w64 (number_in word.now)) (number_in word.now) }
 {
     if word.first() == Some(&b'+') {
         return None;
@@ -32,7 +34,8 @@ pub(crate) fn number(word: &[u8]) -> Option<i64>
 
 /// The number that decimal digits stand for. `None` for any other word and for a number from 2^64 on.
 pub(crate) fn natural(word: &[u8]) -> Option<u64>
-    ensures { SomeIff result (IsNumeral 10 word.now × (digits_value 10 word.now < 2 ^ 64)) (digits_value 10 word.now) }
+    ensures { SomeIff result (IsNumeral 10 word.now
+        × (digits_value 10 word.now < 2 ^ 64)) (digits_value 10 word.now) }
 {
     if word.first() == Some(&b'+') {
         return None;

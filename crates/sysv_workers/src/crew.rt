@@ -65,8 +65,11 @@ pub(crate) fn start<
     requires few { started < MAX_CROWD }
     ensures buffer { seat.new.buffer ≡ buffer.now }
     ensures takes { seat.new.takes ≡ seat.old.takes }
-    ensures ok { IfOk result (λ h. (h.promise.state.value ≡ state) × (h.promise.job.value ≡ job.now) × (h.promise.buffer.value ≡ buffer.now)) }
-    ensures err { IfErr result (λ d. Did (J.runs job.now) (J.fits job.now) buffer.now state d.ended (manually_drop_value d.state) d.seat d.ran) }
+    ensures ok { IfOk result (λ h. (h.promise.state.value ≡ state) × (h.promise.job.value ≡ job.now)
+        × (h.promise.buffer.value ≡ buffer.now)) }
+    ensures err { IfErr result (λ d.
+        Did (J.runs job.now) (J.fits job.now) buffer.now state d.ended
+        (manually_drop_value d.state) d.seat d.ran) }
 {
     let theirs = buffer.split(seat);
     let promise = Working {
@@ -76,8 +79,11 @@ pub(crate) fn start<
     };
     let kept = unsafe { ManuallyDrop::new_unchecked(state) };
     let run = move || -> Done<W, T>
-        requires { IsSync R.row × (theirs.buffer ≡ buffer.now) × (theirs.takes ≡ []) × J.fits job.now (manually_drop_value kept) }
-        ensures { Did (J.runs job.entry.now) (J.fits job.entry.now) buffer.entry.now (manually_drop_value kept) result.ended (manually_drop_value result.state) result.seat result.ran }
+        requires { IsSync R.row × (theirs.buffer ≡ buffer.now) × (theirs.takes ≡ [])
+            × J.fits job.now (manually_drop_value kept) }
+        ensures { Did (J.runs job.entry.now) (J.fits job.entry.now) buffer.entry.now
+            (manually_drop_value kept) result.ended
+            (manually_drop_value result.state) result.seat result.ran }
     { work(rt, buffer, job, theirs, ManuallyDrop::into_inner(kept)) };
     match scope.spawn_with(promise, run) {
         Ok(handle) => Ok(handle),
@@ -108,14 +114,18 @@ pub(crate) fn start_all<
     requires buffer { seat.old.buffer ≡ buffer.now }
     requires fits { All (J.fits job.now) states.old.items }
     requires none { handles.old.items ≡ [] }
-    requires room { (length states.old.items ≤ MAX_CROWD) × (length states.old.items ≤ vec_capacity handles.old) }
+    requires room { (length states.old.items ≤ MAX_CROWD)
+        × (length states.old.items ≤ vec_capacity handles.old) }
     ensures buffer { seat.new.buffer ≡ buffer.now }
     ensures takes { seat.new.takes ≡ seat.old.takes }
     ensures capacity { vec_capacity states.new ≡ vec_capacity states.old }
     ensures fits { All (J.fits job.now) states.new.items }
     ensures started { MatchOption result
         ((states.new.items ≡ []) × AreOn job.now buffer.now states.old.items handles.new.items)
-        (λ d. (state : W) × (rest : List W) × (states.old.items ≡ states.new.items ++ state ∷ rest) × AreOn job.now buffer.now rest handles.new.items × Did (J.runs job.now) (J.fits job.now) buffer.now state d.ended (manually_drop_value d.state) d.seat d.ran) }
+        (λ d. (state : W) × (rest : List W) × (states.old.items ≡ states.new.items ++ state ∷ rest)
+        × AreOn job.now buffer.now rest handles.new.items
+        × Did (J.runs job.now) (J.fits job.now) buffer.now state d.ended
+        (manually_drop_value d.state) d.seat d.ran) }
 {
     while let Some(state) = states.pop() {
         match start(rt, scope, buffer, job, seat, state, handles.len()) {
@@ -140,8 +150,10 @@ pub(crate) fn collect<W, T: Drop>(
     ensures buffer { seat.new.buffer ≡ buffer.now }
     ensures joined { Joins seat.old done.seat seat.new }
     ensures states { states.new.items ≡ states.old.items ++ manually_drop_value done.state ∷ [] }
-    ensures room { (vec_len states.new ≡ vec_len states.old + 1) × (vec_capacity states.new ≡ vec_capacity states.old) }
-    ensures tally { (tally.new.ran ≡ min (tally.old.ran + done.ran) (2 ^ 64 - 1)) × (tally.new.ended ≡ (tally.old.ended && done.ended)) }
+    ensures room { (vec_len states.new ≡ vec_len states.old + 1)
+        × (vec_capacity states.new ≡ vec_capacity states.old) }
+    ensures tally { (tally.new.ran ≡ min (tally.old.ran + done.ran) (2 ^ 64 - 1))
+        × (tally.new.ended ≡ (tally.old.ended && done.ended)) }
 {
     let Done {
         state,
@@ -169,8 +181,13 @@ pub(crate) fn join_all<W, T: Drop, J: Job<W, T>, R: Threads>(
     requires room { vec_len states.old + length handles.old.items ≤ vec_capacity states.old }
     ensures buffer { seat.new.buffer ≡ buffer.now }
     ensures grown { (more : List (Feed T)) × (seat.new.seen ≡ seat.old.seen ++ more) }
-    ensures gathered { (job : J) (others : List W) (parts : List (Part W T)) (rest : List W) → AreOn job buffer.now rest handles.old.items → Gathered (J.runs job) (J.fits job) others parts seat.old states.old.items tally.old.ran tally.old.ended
-        → (more : List (Part W T)) × (map (λ p. p.before) more ≡ rest) × Gathered (J.runs job) (J.fits job) others (parts ++ more) seat.new states.new.items tally.new.ran tally.new.ended }
+    ensures gathered { (job : J) (others : List W) (parts : List (Part W T)) (rest : List W) →
+        AreOn job buffer.now rest handles.old.items →
+        Gathered (J.runs job) (J.fits job) others parts seat.old states.old.items tally.old.ran
+        tally.old.ended
+        → (more : List (Part W T)) × (map (λ p. p.before) more ≡ rest)
+        × Gathered (J.runs job) (J.fits job) others
+        (parts ++ more) seat.new states.new.items tally.new.ran tally.new.ended }
 {
     while let Some(handle) = handles.pop() {
         let done = handle.join(rt);

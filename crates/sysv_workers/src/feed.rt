@@ -25,7 +25,9 @@ pub(crate) fn put_all<T: Drop, S: Source<T>, R: Wait>(
     requires { seat.old.buffer ≡ buffer.now }
     ensures buffer { seat.new.buffer ≡ buffer.now }
     ensures takes { seat.new.takes ≡ seat.old.takes }
-    ensures gave { IfSome result (λ n. (given : List T) × GivesAll S.gives source.old given source.new × HasFed given 0 seat.new × (n ≡ counted (length given))) }
+    ensures gave { IfSome result (λ n. (given : List T)
+        × GivesAll S.gives source.old given source.new × HasFed given 0 seat.new
+        × (n ≡ counted (length given))) }
     ensures worn { IfNone result (2 ^ 62 ≤ length seat.new.seen) }
 {
     let mut items = 0_u64;
@@ -51,7 +53,8 @@ pub(crate) fn put_marks<T: Drop, R: Wait>(
     requires { seat.old.buffer ≡ buffer.now }
     ensures buffer { seat.new.buffer ≡ buffer.now }
     ensures takes { seat.new.takes ≡ seat.old.takes }
-    ensures marks { result ≡ true → (given : List T) → HasFed given 0 seat.old → HasFed given count seat.new }
+    ensures marks { result ≡ true → (given : List T) → HasFed given 0 seat.old →
+        HasFed given count seat.new }
     ensures longer { length seat.old.seen ≤ length seat.new.seen }
     ensures worn { result ≡ false → 2 ^ 62 ≤ length seat.new.seen }
 {

@@ -32,7 +32,9 @@ pub(crate) struct Working<W, T, J> {
 }
 
 impl<W, T, J: Job<W, T>> Promise<Done<W, T>> for Working<W, T, J> {
-    ghost kept_by = { λ p d. Did (J.runs p.job.value) (J.fits p.job.value) p.buffer.value p.state.value d.ended (manually_drop_value d.state) d.seat d.ran };
+    ghost kept_by = { λ p d. Did (J.runs p.job.value)
+        (J.fits p.job.value) p.buffer.value p.state.value d.ended
+        (manually_drop_value d.state) d.seat d.ran };
 }
 
 // Runs the job over the items that it takes, until it takes an end mark or the buffer is worn out.
@@ -46,7 +48,8 @@ pub(crate) fn work<W, T: Drop, J: Job<W, T>, R: Wait>(
     requires buffer { seat.buffer ≡ buffer.now }
     requires fresh { seat.takes ≡ [] }
     requires fits { J.fits job.now state }
-    ensures { Did (J.runs job.now) (J.fits job.now) buffer.now state result.ended (manually_drop_value result.state) result.seat result.ran }
+    ensures { Did (J.runs job.now) (J.fits job.now) buffer.now state result.ended
+        (manually_drop_value result.state) result.seat result.ran }
 {
     let mut ran = 0_u64;
     for _ in rt.forever() {
@@ -64,7 +67,8 @@ pub(crate) fn work<W, T: Drop, J: Job<W, T>, R: Wait>(
 
 // What a thread leaves.
 fn left_by<W, T>(state: W, seat: Seat<Feed<T>>, ran: u64, ended: bool) -> Done<W, T>
-    ensures { (manually_drop_value result.state ≡ state) × (result.seat ≡ seat) × (result.ran ≡ ran) × (result.ended ≡ ended) }
+    ensures { (manually_drop_value result.state ≡ state) × (result.seat ≡ seat) × (result.ran ≡ ran)
+        × (result.ended ≡ ended) }
 {
     Done {
         state: unsafe { ManuallyDrop::new_unchecked(state) },

@@ -48,10 +48,13 @@ where
     R: Threads + Wait + Sync,
     requires { All (J.fits job.now) states.items }
     ensures count { OnOk result ((1 ≤ vec_len states) × (vec_len states ≤ MAX_WORKERS)) }
-    ensures bad_count { IfErr result (λ e. (e.why ≡ WorkersFault.BadCount) ↔ ((vec_len states < 1) ⊎ (MAX_WORKERS < vec_len states))) }
-    ensures ok { IfOk result (λ after. RunsAll (J.runs job.now) S.gives states.items source.old after.items source.new) }
+    ensures bad_count { IfErr result (λ e. (e.why ≡ WorkersFault.BadCount)
+        ↔ ((vec_len states < 1) ⊎ (MAX_WORKERS < vec_len states))) }
+    ensures ok { IfOk result (λ after.
+        RunsAll (J.runs job.now) S.gives states.items source.old after.items source.new) }
     ensures fits { IfOk result (λ after. All (J.fits job.now) after.items) }
-    ensures err { IfErr result (λ e. GivesBack (J.runs job.now) states.items e.why e.states.items × All (J.fits job.now) e.states.items) }
+    ensures err { IfErr result (λ e. GivesBack (J.runs job.now) states.items e.why e.states.items
+        × All (J.fits job.now) e.states.items) }
     ensures asked { IfErr result (λ e. LeavesSource S.gives source.old e.why source.new) }
 {
     run_at_most(MAX_WORKERS, rt, alloc, states, source, job)
@@ -69,10 +72,13 @@ where
     R: Threads + Wait + Sync,
     requires { All (J.fits job.now) states.items }
     ensures count { OnOk result ((1 ≤ vec_len states) × (vec_len states ≤ MAX_CROWD)) }
-    ensures bad_count { IfErr result (λ e. (e.why ≡ WorkersFault.BadCount) ↔ ((vec_len states < 1) ⊎ (MAX_CROWD < vec_len states))) }
-    ensures ok { IfOk result (λ after. RunsAll (J.runs job.now) S.gives states.items source.old after.items source.new) }
+    ensures bad_count { IfErr result (λ e. (e.why ≡ WorkersFault.BadCount)
+        ↔ ((vec_len states < 1) ⊎ (MAX_CROWD < vec_len states))) }
+    ensures ok { IfOk result (λ after.
+        RunsAll (J.runs job.now) S.gives states.items source.old after.items source.new) }
     ensures fits { IfOk result (λ after. All (J.fits job.now) after.items) }
-    ensures err { IfErr result (λ e. GivesBack (J.runs job.now) states.items e.why e.states.items × All (J.fits job.now) e.states.items) }
+    ensures err { IfErr result (λ e. GivesBack (J.runs job.now) states.items e.why e.states.items
+        × All (J.fits job.now) e.states.items) }
     ensures asked { IfErr result (λ e. LeavesSource S.gives source.old e.why source.new) }
 {
     run_at_most(MAX_CROWD, rt, alloc, states, source, job)
@@ -92,10 +98,13 @@ where
     requires fits { All (J.fits job.now) states.items }
     requires most { most ≤ MAX_CROWD }
     ensures count { OnOk result ((1 ≤ vec_len states) × (vec_len states ≤ most)) }
-    ensures bad_count { IfErr result (λ e. (e.why ≡ WorkersFault.BadCount) ↔ ((vec_len states < 1) ⊎ (most < vec_len states))) }
-    ensures ok { IfOk result (λ after. RunsAll (J.runs job.now) S.gives states.items source.old after.items source.new) }
+    ensures bad_count { IfErr result (λ e. (e.why ≡ WorkersFault.BadCount)
+        ↔ ((vec_len states < 1) ⊎ (most < vec_len states))) }
+    ensures ok { IfOk result (λ after.
+        RunsAll (J.runs job.now) S.gives states.items source.old after.items source.new) }
     ensures fits { IfOk result (λ after. All (J.fits job.now) after.items) }
-    ensures err { IfErr result (λ e. GivesBack (J.runs job.now) states.items e.why e.states.items × All (J.fits job.now) e.states.items) }
+    ensures err { IfErr result (λ e. GivesBack (J.runs job.now) states.items e.why e.states.items
+        × All (J.fits job.now) e.states.items) }
     ensures asked { IfErr result (λ e. LeavesSource S.gives source.old e.why source.new) }
 {
     let count = states.len();
@@ -128,19 +137,32 @@ where
     requires seat { (seat.buffer ≡ buffer.now) × (seat.takes ≡ []) }
     requires fits { All (J.fits job.now) states.items }
     requires handles { handles.items ≡ [] }
-    requires room { (1 ≤ vec_len states) × (vec_len states ≤ MAX_CROWD) × (vec_len states ≤ vec_capacity handles) }
-    ensures ok { IfOk result (λ v. Ends (J.runs job.now) (J.fits job.now) S.gives states.items source.old v.items source.new) }
-    ensures err { IfErr result (λ e. Fails (J.runs job.now) (J.fits job.now) S.gives states.items source.old e.why e.states.items source.new) }
+    requires room { (1 ≤ vec_len states) × (vec_len states ≤ MAX_CROWD)
+        × (vec_len states ≤ vec_capacity handles) }
+    ensures ok { IfOk result (λ v.
+        Ends (J.runs job.now) (J.fits job.now) S.gives states.items source.old v.items source.new) }
+    ensures err { IfErr result (λ e.
+        Fails (J.runs job.now) (J.fits job.now) S.gives states.items source.old e.why e.states.items
+        source.new) }
 {
     let kept = unsafe { ManuallyDrop::new_unchecked(states) };
     let (outcome, asked) = thread::scope(
         thread::scope_env(),
         rt,
         move |scope| -> (Result<Vec<W>, WorkersRefused<W>>, &mut S)
-            requires { IsSync R.row × (seat.buffer ≡ buffer.now) × (seat.takes ≡ []) × All (J.fits job.now) (manually_drop_value kept).items × (handles.items ≡ []) × (1 ≤ vec_len (manually_drop_value kept)) × (vec_len (manually_drop_value kept) ≤ MAX_CROWD) × (vec_len (manually_drop_value kept) ≤ vec_capacity handles) }
+            requires { IsSync R.row × (seat.buffer ≡ buffer.now) × (seat.takes ≡ [])
+                × All (J.fits job.now) (manually_drop_value kept).items × (handles.items ≡ [])
+                × (1 ≤ vec_len (manually_drop_value kept))
+                × (vec_len (manually_drop_value kept) ≤ MAX_CROWD)
+                × (vec_len (manually_drop_value kept) ≤ vec_capacity handles) }
             ensures source { result.1.ghost_name ≡ source.entry.ghost_name }
-            ensures ok { IfOk result.0 (λ v. Ends (J.runs job.entry.now) (J.fits job.entry.now) S.gives (manually_drop_value kept).items source.entry.now v.items result.1.now) }
-            ensures err { IfErr result.0 (λ e. Fails (J.runs job.entry.now) (J.fits job.entry.now) S.gives (manually_drop_value kept).items source.entry.now e.why e.states.items result.1.now) }
+            ensures ok { IfOk result.0 (λ v.
+                Ends (J.runs job.entry.now) (J.fits job.entry.now) S.gives
+                (manually_drop_value kept).items source.entry.now v.items result.1.now) }
+            ensures err { IfErr result.0 (λ e.
+                Fails (J.runs job.entry.now) (J.fits job.entry.now) S.gives
+                (manually_drop_value kept).items source.entry.now e.why e.states.items
+                result.1.now) }
         {
             let states = ManuallyDrop::into_inner(kept);
             let mut seat = seat;
@@ -179,10 +201,16 @@ fn run_in<
     requires seat { (seat.old.buffer ≡ buffer.now) × (seat.old.takes ≡ []) }
     requires fits { All (J.fits job.now) states.items }
     requires handles { handles.items ≡ [] }
-    requires room { (1 ≤ vec_len states) × (vec_len states ≤ MAX_CROWD) × (vec_len states ≤ vec_capacity handles) }
-    ensures ok { IfOk result (λ v. Ends (J.runs job.now) (J.fits job.now) S.gives states.items source.old v.items source.new) }
-    ensures err { IfErr result (λ e. Fails (J.runs job.now) (J.fits job.now) S.gives states.items source.old e.why e.states.items source.new) }
-    ensures cause { IfErr result (λ e. HasCause (J.runs job.now) S.gives states.items source.old (vec_len states) e.why e.states.items source.new seat.new) }
+    requires room { (1 ≤ vec_len states) × (vec_len states ≤ MAX_CROWD)
+        × (vec_len states ≤ vec_capacity handles) }
+    ensures ok { IfOk result (λ v.
+        Ends (J.runs job.now) (J.fits job.now) S.gives states.items source.old v.items source.new) }
+    ensures err { IfErr result (λ e.
+        Fails (J.runs job.now) (J.fits job.now) S.gives states.items source.old e.why e.states.items
+        source.new) }
+    ensures cause { IfErr result (λ e.
+        HasCause (J.runs job.now) S.gives states.items source.old
+        (vec_len states) e.why e.states.items source.new seat.new) }
 {
     let count = states.len();
     if let Some(done) = start_all(rt, scope, buffer, job, seat, &mut states, &mut handles) {
@@ -212,9 +240,15 @@ fn give_up<W, T: Drop, J: Job<W, T>, R: Threads>(
     requires theirs { done.seat.buffer ≡ buffer.now }
     requires on { (job : J) × (rest : List W) × AreOn job buffer.now rest handles.items }
     requires room { vec_len states + 1 + vec_len handles ≤ vec_capacity states }
-    ensures back { (job : J) (state : W) (rest : List W) → AreOn job buffer.now rest handles.items → All (J.fits job) states.items → Did (J.runs job) (J.fits job) buffer.now state done.ended (manually_drop_value done.state) done.seat done.ran
-        → GivesBack (J.runs job) (states.items ++ state ∷ rest) result.why result.states.items × All (J.fits job) result.states.items
-        × (result.why ≡ WorkersFault.Missed → (parts : List (Part W T)) × Leads (J.runs job) (states.items ++ state ∷ rest) parts result.states.items × (1 ≤ length (flat_map (λ p. p.items) parts))) }
+    ensures back { (job : J) (state : W) (rest : List W) → AreOn job buffer.now rest handles.items →
+        All (J.fits job) states.items →
+        Did (J.runs job) (J.fits job) buffer.now state done.ended
+        (manually_drop_value done.state) done.seat done.ran
+        → GivesBack (J.runs job) (states.items ++ state ∷ rest) result.why result.states.items
+        × All (J.fits job) result.states.items
+        × (result.why ≡ WorkersFault.Missed → (parts : List (Part W T))
+        × Leads (J.runs job) (states.items ++ state ∷ rest) parts result.states.items
+        × (1 ≤ length (flat_map (λ p. p.items) parts))) }
     ensures why { (result.why ≡ WorkersFault.Thread) ⊎ (result.why ≡ WorkersFault.Missed) }
 {
     let mut tally = Tally::new();
@@ -236,8 +270,10 @@ fn fault(
     put: u64,
     tally: &Tally,
 ) -> Option<WorkersFault>
-    ensures none { IfNone result ((marked ≡ true) × (tally.now.ended ≡ true) × (items ≡ Some tally.now.ran) × (put ≡ min (tally.now.ran + marks) (2 ^ 64 - 1))) }
-    ensures some { IfSome result (λ why. Told items marked tally.now.ended tally.now.ran put marks why) }
+    ensures none { IfNone result ((marked ≡ true) × (tally.now.ended ≡ true)
+        × (items ≡ Some tally.now.ran) × (put ≡ min (tally.now.ran + marks) (2 ^ 64 - 1))) }
+    ensures some { IfSome result (λ why.
+        Told items marked tally.now.ended tally.now.ran put marks why) }
 {
     let Some(items) = items else {
         return Some(WorkersFault::Worn);

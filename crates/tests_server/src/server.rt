@@ -302,7 +302,8 @@ fn ended<R: Threads + Wait + Net + Files + Abort + Clock + Sync>(
     terms: Terms,
     clients: Clients,
 ) -> (Result<Ended, ServeFault>, bool)
-    requires { (128 ≤ terms.blocks) × (terms.blocks ≤ 65536) × (1 ≤ terms.at_once) × (terms.at_once ≤ 256) }
+    requires { (128 ≤ terms.blocks) × (terms.blocks ≤ 65536) × (1 ≤ terms.at_once)
+        × (terms.at_once ≤ 256) }
 {
     let path = "server.socket";
     let _old = fs::remove_file(rt, path);
@@ -310,7 +311,8 @@ fn ended<R: Threads + Wait + Net + Files + Abort + Clock + Sync>(
     thread::join(
         rt,
         move || -> Result<Ended, ServeFault>
-            requires { (128 ≤ terms.blocks) × (terms.blocks ≤ 65536) × (1 ≤ terms.at_once) × (terms.at_once ≤ 256) }
+            requires { (128 ≤ terms.blocks) × (terms.blocks ≤ 65536) × (1 ≤ terms.at_once)
+                × (terms.at_once ≤ 256) }
         {
             let mut fault = None;
             serve_listener(rt, alloc, listener, None::<UnixStream>, terms, &mut fault)

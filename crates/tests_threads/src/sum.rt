@@ -30,7 +30,8 @@ impl Object for Sum {
 
     type Reply = u64;
 
-    ghost meaning = { λ before call reply after. (reply ≡ before.sum) × (after.sum ≡ (before.sum + call) % 2 ^ 64) };
+    ghost meaning = { λ before call reply after. (reply ≡ before.sum)
+        × (after.sum ≡ (before.sum + call) % 2 ^ 64) };
 
     ghost counted = { λ s. (s.odd, s.even) };
 

@@ -46,7 +46,8 @@ impl Object for Sum {
 
     type Reply = u64;
 
-    ghost meaning = { λ before _ reply after. (reply ≡ before.sum) × (after.sum ≡ (before.sum + 1) % 2 ^ 64) };
+    ghost meaning = { λ before _ reply after. (reply ≡ before.sum)
+        × (after.sum ≡ (before.sum + 1) % 2 ^ 64) };
 
     ghost counted = { λ s. (s.arrived, s.freed) };
 

@@ -179,7 +179,8 @@ impl Kernel for Shelf {
 
 /// The refusal of an operation.
 fn refusal(version: Version, op: Op, why: Errno) -> Outcome
-    ensures { result ≡ Outcome.Reply (record { version = version; op = op_number op; result = Told.Refused why }) }
+    ensures { result ≡ Outcome.Reply
+        (record { version = version; op = op_number op; result = Told.Refused why }) }
 {
     Outcome::Reply(Reply {
         version,

@@ -78,11 +78,13 @@ fn draw_by_four<R: Threads + Sync>(rt: &R, alloc: Global) -> Option<(u64, Vec<u6
     let (one, two) = join(
         rt,
         || -> Option<(Seat, Vec<u64>)>
-            requires { IsSync R.row × (first.counter ≡ turns) × (second.counter ≡ turns) × (first.own ≡ []) × (second.own ≡ []) }
+            requires { IsSync R.row × (first.counter ≡ turns) × (second.counter ≡ turns)
+                × (first.own ≡ []) × (second.own ≡ []) }
             ensures { IfSome result (λ d. BothHaveDrawn first second d.0 d.1.items) }
         { draw_both(rt, alloc, &turns, first, second) },
         || -> Option<(Seat, Vec<u64>)>
-            requires { IsSync R.row × (third.counter ≡ turns) × (fourth.counter ≡ turns) × (third.own ≡ []) × (fourth.own ≡ []) }
+            requires { IsSync R.row × (third.counter ≡ turns) × (fourth.counter ≡ turns)
+                × (third.own ≡ []) × (fourth.own ≡ []) }
             ensures { IfSome result (λ d. BothHaveDrawn third fourth d.0 d.1.items) }
         { draw_both(rt, alloc, &turns, third, fourth) },
     );
@@ -143,7 +145,8 @@ impl Exclusion {
     fn split(&self, seats: &mut Pair) -> Option<Pair>
         requires drawing { seats.old.one.counter ≡ self.now.turns }
         requires serving { seats.old.two.counter ≡ self.now.served }
-        ensures new { IfSome result (λ new. (new.one.counter ≡ self.now.turns) × (new.two.counter ≡ self.now.served)) }
+        ensures new { IfSome result (λ new. (new.one.counter ≡ self.now.turns)
+            × (new.two.counter ≡ self.now.served)) }
         ensures drawing { seats.new.one.counter ≡ seats.old.one.counter }
         ensures serving { seats.new.two.counter ≡ seats.old.two.counter }
     {
@@ -173,10 +176,12 @@ impl Exclusion {
         let (first, second) = join(
             rt,
             || -> Option<()>
-                requires { IsSync R.row × (seats.one.counter ≡ self.now.turns) × (seats.two.counter ≡ self.now.served) }
+                requires { IsSync R.row × (seats.one.counter ≡ self.now.turns)
+                    × (seats.two.counter ≡ self.now.served) }
             { self.enter_by_two(rt, seats) },
             || -> Option<()>
-                requires { IsSync R.row × (others.one.counter ≡ self.now.turns) × (others.two.counter ≡ self.now.served) }
+                requires { IsSync R.row × (others.one.counter ≡ self.now.turns)
+                    × (others.two.counter ≡ self.now.served) }
             { self.enter_by_two(rt, others) },
         );
         first.and(second)
@@ -252,7 +257,8 @@ fn wait_and_advance<R: Threads + Wait + Clock + Sync>(
 fn split_both(first: &Eventcount, second: &Eventcount, seats: &mut Pair) -> Option<Pair>
     requires one { seats.old.one.counter ≡ first.now }
     requires two { seats.old.two.counter ≡ second.now }
-    ensures new { IfSome result (λ new. (new.one.counter ≡ first.now) × (new.two.counter ≡ second.now)) }
+    ensures new { IfSome result (λ new. (new.one.counter ≡ first.now)
+        × (new.two.counter ≡ second.now)) }
     ensures one { seats.new.one.counter ≡ seats.old.one.counter }
     ensures two { seats.new.two.counter ≡ seats.old.two.counter }
 {
@@ -274,10 +280,12 @@ fn wait_by_three<R: Threads + Wait + Clock + Sync>(
     Some(join(
         rt,
         || -> (u64, u64)
-            requires { IsSync R.row × (seats.one.counter ≡ count.now) × (seats.two.counter ≡ count.now) }
+            requires { IsSync R.row × (seats.one.counter ≡ count.now)
+                × (seats.two.counter ≡ count.now) }
         { wait_for_both(rt, count, seats) },
         || -> (u64, bool)
-            requires { IsSync R.row × (others.one.counter ≡ count.now) × (others.two.counter ≡ count.now) }
+            requires { IsSync R.row × (others.one.counter ≡ count.now)
+                × (others.two.counter ≡ count.now) }
         { wait_and_advance(rt, count, others) },
     ))
 }
