@@ -6,5 +6,6 @@ pub mod Opening
 pub mod SlotBySlot
 pub mod OwnPlaces
 pub mod Owning
+pub mod Wearing
 pub mod Answering
 pub mod Retrying

@@ -17,7 +17,7 @@ use Rattle.sysv_steps.specs.Asks.{asks}
 use Rattle.sysv_steps.specs.Resume.{Count, ArrivedOf, FreedOf, Settled, Released, awaited}
 use Rattle.sysv_steps.specs.Played as played
 use Rattle.sysv_steps.specs.Played.{Plays}
-use Rattle.sysv_steps.specs.PlayedApart.{Names, lists_of, EachPlaysApart}
+use Rattle.sysv_steps.specs.PlayedApart.{Names, lists_of}
 use Rattle.sysv_gate.specs.History.{HasItsOwn}
 use Rattle.sysv_gate.specs.Gates.{Holding, marked, read_to}
 use Rattle.sysv_gate.specs.declared.count.Count.{Count as OfObject}
@@ -29,11 +29,11 @@ use Rattle.sysv_gated.specs.RegistryTurns.{registry_counts, RegistryMoves}
 use Rattle.sysv_gated.specs.PoolTurns.{pool_counts, PoolMoves}
 use Rattle.sysv_gated.specs.Seats.{SlotSeat, RegistrySeat, PoolSeat, Seats, slot_entry, registry_entry, pool_entry, MakesTurnAt, FindsWorn}
 use Rattle.sysv_gated.specs.Reading.{Reads, GivesUp}
-use Rattle.sysv_service.specs.Ran.{Pass, Forgets, TurnsBack, FindsNoTurn, Ran, begins, steps, turns_back, reads, resumes, gives_up}
-use Rattle.sysv_service.specs.OwnTurns.{own_entries, Adds, KnowTheirOwn, AreNamed, NoneIsWorn, AddsEach, EachPlaysItsOwn}
+use Rattle.sysv_service.specs.Ran.{Pass, Forgets, TurnsBack, FindsNoTurn, Ran, FindsTurns, begins, steps, turns_back, reads, resumes, gives_up}
+use Rattle.sysv_service.specs.OwnTurns.{own_entries, Adds, KnowTheirOwn, AreNamed, NoneIsWorn, AddsEach}
 use Rattle.sysv_service.proofs.OwnPlaces.{set_there, set_beside, takes_adds, nothing_added, both_added}
 
-never : {A : Type 0} → true ≡ false → A
+pub never : {A : Type 0} → true ≡ false → A
 never e = absurd cc
 
 -- ---- a seat whose own turns stay
@@ -134,7 +134,7 @@ module _ (names : Names) (before after : Seats) (known : KnowTheirOwn before) wh
 
 -- ---- what a call does to its seats
 
-other_place : (slot k : ℕ) → k ≢ slot → (slot == k) ≡ false
+pub other_place : (slot k : ℕ) → k ≢ slot → (slot == k) ≡ false
 other_place slot k other = grind (arith, nat_tests)
 
 same_place : (slot : ℕ) → (slot == slot) ≡ true
@@ -249,22 +249,22 @@ no_mark_of_wait before after Released value r none = never (sym (ap (λ (h : Poo
 -- ---- a call
 
 module _ (names : Names) (before after : Pass) (known : KnowTheirOwn before.seats) (named : AreNamed names before.seats) where
-  forgets_adds : (id : ℤ) (deeds : List Deed) → Forgets id before deeds after → AddsEach before.seats (lists_of names deeds) after.seats
+  pub forgets_adds : (id : ℤ) (deeds : List Deed) → Forgets id before deeds after → AddsEach before.seats (lists_of names deeds) after.seats
   forgets_adds id deeds (inl f) = subst (λ ds. AddsEach before.seats (lists_of names ds) after.seats) (sym f.1) (makes_adds names before.seats after.seats known named (AtRegistry (Forget id) (Changed f.0)) f.2.turn)
   forgets_adds id deeds (inr f) = subst (λ ds. AddsEach before.seats (lists_of names ds) after.seats) (sym f.0) (worn_adds names before.seats after.seats known named (OfRegistry (Forget id)) f.1)
 
   nothing_adds : (deeds : List Deed) → deeds ≡ [] → after.seats ≡ before.seats → AddsEach before.seats (lists_of names deeds) after.seats
   nothing_adds deeds none same = subst (λ ds. AddsEach before.seats (lists_of names ds) after.seats) (sym none) (subst (λ x. AddsEach before.seats (lists_of names []) x) (sym same) (none_added names before.seats known))
 
-  back_adds : (phase : Phase) (deeds : List Deed) (state : State) → TurnsBack phase before deeds state after → AddsEach before.seats (lists_of names deeds) after.seats
+  pub back_adds : (phase : Phase) (deeds : List Deed) (state : State) → TurnsBack phase before deeds state after → AddsEach before.seats (lists_of names deeds) after.seats
   back_adds (AtInstall get id) deeds state back = forgets_adds id deeds back.1
   back_adds phase deeds state back = nothing_adds deeds back.1 back.2
 
 module _ (may : ℕ → Type 0) (from : State) (old : Pass) (known : KnowTheirOwn old.seats) (names : Names) (named : AreNamed names old.seats) where
-  knows : (mid : Seats) (deeds : List Deed) → AddsEach old.seats (lists_of names deeds) mid → KnowTheirOwn mid
+  pub knows : (mid : Seats) (deeds : List Deed) → AddsEach old.seats (lists_of names deeds) mid → KnowTheirOwn mid
   knows mid deeds adds = still_known names old.seats mid deeds adds
 
-  named_so : (mid : Seats) (deeds : List Deed) → AddsEach old.seats (lists_of names deeds) mid → AreNamed names mid
+  pub named_so : (mid : Seats) (deeds : List Deed) → AddsEach old.seats (lists_of names deeds) mid → AreNamed names mid
   named_so mid deeds adds = still_named names old.seats mid deeds adds named
 
   -- where nothing is added after these turns
@@ -301,25 +301,27 @@ module _ (may : ℕ → Type 0) (from : State) (old : Pass) (known : KnowTheirOw
       (AddsEach old.seats (lists_of names deeds) mid.seats → AddsEach mid.seats (lists_of names more) new) → NoneIsWorn new → NoneIsWorn mid.seats
   unmarked deeds state mid new more ran next none = not_yet_worn names mid.seats new more (next (along deeds state mid ran)) none
 
-  pub plays : (deeds : List Deed) (state : State) (new : Pass) → Ran may from old deeds state new → NoneIsWorn new.seats → Plays from deeds state
-  plays _ _ _ begins none = played.begins
-  plays _ _ _ (steps {deeds} {phase} {mid} state new ran step) none =
-      let still = unmarked deeds (Goes phase) mid new.seats (step.deed ∷ []) ran (λ adds. makes_adds names mid.seats new.seats (knows mid.seats deeds adds) (named_so mid.seats deeds adds) step.deed step.makes.turn) none in
-      played.steps step.deed step.now state (plays deeds (Goes phase) mid ran still) step.asked step.goes
-  plays _ _ _ (turns_back {deeds} {phase} {mid} state new ran step) none =
+  pub unworn : (deeds : List Deed) (state : State) (new : Pass) (ran : Ran may from old deeds state new) → NoneIsWorn new.seats → FindsTurns ran
+  unworn _ _ _ begins none = tt
+  unworn _ _ _ (steps {deeds} {phase} {mid} state new ran step) none =
+      unworn deeds (Goes phase) mid ran (unmarked deeds (Goes phase) mid new.seats (step.deed ∷ []) ran (λ adds. makes_adds names mid.seats new.seats (knows mid.seats deeds adds) (named_so mid.seats deeds adds) step.deed step.makes.turn) none)
+  unworn _ _ _ (turns_back {deeds} {phase} {mid} state new ran step) none =
       let adds = along deeds (Goes phase) mid ran in
       let worn = worn_adds names mid.seats step.there (knows mid.seats deeds adds) (named_so mid.seats deeds adds) (asks phase step.now) step.worn in
       let back = back_adds names (record mid { seats = step.there }) new (still_known names mid.seats step.there [] worn) (still_named names mid.seats step.there [] worn (named_so mid.seats deeds adds)) phase step.deeds state step.back in
       absurd (no_mark mid.seats step.there (asks phase step.now) step.worn (not_yet_worn names step.there new.seats step.deeds back none))
-  plays _ _ _ (reads {deeds} {state} {mid} count value new ran r same) none =
-      plays deeds state mid ran (unmarked deeds state mid new.seats [] ran (λ adds. reads_adds names mid.seats new.seats (knows mid.seats deeds adds) (named_so mid.seats deeds adds) count value r) none)
-  plays _ _ _ (resumes {deeds} {wait} {mid} value new ran reached r same) none =
-      let still = unmarked deeds (Waits wait) mid new.seats [] ran (λ adds. reads_adds names mid.seats new.seats (knows mid.seats deeds adds) (named_so mid.seats deeds adds) (awaited wait) value r) none in
-      played.resumes value (plays deeds (Waits wait) mid ran still) reached
-  plays _ _ _ (gives_up {deeds} {wait} {mid} value new ran below r same) none = absurd (no_mark_of_wait mid.seats new.seats (awaited wait) value r none)
+  unworn _ _ _ (reads {deeds} {state} {mid} count value new ran r same) none =
+      unworn deeds state mid ran (unmarked deeds state mid new.seats [] ran (λ adds. reads_adds names mid.seats new.seats (knows mid.seats deeds adds) (named_so mid.seats deeds adds) count value r) none)
+  unworn _ _ _ (resumes {deeds} {wait} {mid} value new ran reached r same) none =
+      unworn deeds (Waits wait) mid ran (unmarked deeds (Waits wait) mid new.seats [] ran (λ adds. reads_adds names mid.seats new.seats (knows mid.seats deeds adds) (named_so mid.seats deeds adds) (awaited wait) value r) none)
+  unworn _ _ _ (gives_up {deeds} {wait} {mid} value new ran below r same) none = absurd (no_mark_of_wait mid.seats new.seats (awaited wait) value r none)
 
-pub each_plays : EachPlaysApart → (may : ℕ → Type 0) → EachPlaysItsOwn may
-each_plays apart may from old deeds state new ran known names named = record {
-  added = along may from old known names named deeds state new ran;
-  plays = λ none. apart from state deeds (plays may from old known names named deeds state new ran none) names;
-}
+-- a call that found no gate worn out is played
+module _ (may : ℕ → Type 0) (from : State) (old : Pass) where
+  pub plays : (deeds : List Deed) (state : State) (new : Pass) (ran : Ran may from old deeds state new) → FindsTurns ran → Plays from deeds state
+  plays _ _ _ begins found = played.begins
+  plays _ _ _ (steps {deeds} {phase} {mid} state new ran step) found = played.steps step.deed step.now state (plays deeds (Goes phase) mid ran found) step.asked step.goes
+  plays _ _ _ (turns_back {deeds} {phase} {mid} state new ran step) found = absurd found
+  plays _ _ _ (reads {deeds} {state} {mid} count value new ran r same) found = plays deeds state mid ran found
+  plays _ _ _ (resumes {deeds} {wait} {mid} value new ran reached r same) found = played.resumes value (plays deeds (Waits wait) mid ran found) reached
+  plays _ _ _ (gives_up {deeds} {wait} {mid} value new ran below r same) found = absurd found

@@ -9,6 +9,7 @@ pub mod Left
 pub mod Told
 pub mod Stopped
 pub mod Closing
+pub mod PlayedWorn
 pub mod OwnTurns
 pub mod RightAnswers
 pub mod Delivered

@@ -13,7 +13,8 @@ use Rattle.sysv_gate.specs.declared.view.Turn.{Turn}
 use Rattle.sysv_gate.specs.History.{HasItsOwn}
 use Rattle.sysv_gate.specs.Gates.{Holding}
 use Rattle.sysv_gated.specs.Seats.{SlotSeat, Seats, entries, slot_entry, registry_entry, pool_entry}
-use Rattle.sysv_service.specs.Ran.{Pass, Ran}
+use Rattle.sysv_service.specs.PlayedWorn.{PlaysWorn}
+use Rattle.sysv_service.specs.Ran.{Pass, Ran, FindsTurns}
 
 -- ---- a seat
 
@@ -68,12 +69,16 @@ pub record AddsEach (before : Seats) (added : Lists) (after : Seats) : Type 0 wh
 
 -- ---- the law
 
-pub record PlaysItsOwn (from : State) (names : Names) (old : Pass) (deeds : List Deed) (state : State) (new : Pass) : Type 0 where
+pub record PlaysItsOwn {may : ℕ → Type 0} (from : State) (names : Names) (old : Pass) (deeds : List Deed) (state : State) (new : Pass) (ran : Ran may from old deeds state new) : Type 0 where
   -- the turns of the call are what its pass has more of its own
   pub added : AddsEach old.seats (lists_of names deeds) new.seats
-  -- and the call is played on them
-  pub plays : NoneIsWorn new.seats → PlaysApart names state from (lists_of names deeds)
+  -- and the call is played on them, with the steps and waits whose gate it found worn out
+  pub comes : PlaysWorn names new.seats state from (lists_of names deeds)
+  -- and by the step table alone where it found none
+  pub plays : FindsTurns ran → PlaysApart names state from (lists_of names deeds)
+  -- a pass none of whose seats is marked made no call that found a gate worn out
+  pub unmarked : NoneIsWorn new.seats → FindsTurns ran
 
 abbrev pub EachPlaysItsOwn : (ℕ → Type 0) → Type 0
-EachPlaysItsOwn may = (from : State) (old : Pass) (deeds : List Deed) (state : State) (new : Pass) → Ran may from old deeds state new →
-    KnowTheirOwn old.seats → (names : Names) → AreNamed names old.seats → PlaysItsOwn from names old deeds state new
+EachPlaysItsOwn may = (from : State) (old : Pass) (deeds : List Deed) (state : State) (new : Pass) (ran : Ran may from old deeds state new) →
+    KnowTheirOwn old.seats → (names : Names) → AreNamed names old.seats → PlaysItsOwn from names old deeds state new ran

@@ -1,7 +1,7 @@
 -- What a call of a pass did: the step table taken along the turns that the call made at the gates, each a turn of the pass's
 -- own, with the counts that it read between them (POSIX.1-2017, msgget, msgsnd, msgrcv and msgctl; the steps are this
 -- profile's).
-use Rattle.std.specs.Prelude.{◌≡◌, ℕ, ℤ, ◌+◌, ◌<◌, ◌≤◌, ◌⊎◌, Bool, true, false, List, [], ◌∷◌, ◌++◌, Some}
+use Rattle.std.specs.Prelude.{◌≡◌, ℕ, ℤ, ◌+◌, ◌<◌, ◌≤◌, ◌⊎◌, ⊤, Bool, true, false, List, [], ◌∷◌, ◌++◌, Some}
 use Rattle.sysv_model.specs.declared.errno.Errno.TheVariants.{EOVERFLOW, ENOSPC}
 use Rattle.sysv_model.specs.Pool.{Release, Foreign}
 use Rattle.sysv_model.specs.Registry.{Forget, Changed}
@@ -113,6 +113,15 @@ pub data Ran (may : ℕ → Type 0) (from : State) (old : Pass) : List Deed → 
   gives_up : {deeds : List Deed} {wait : Wait} {mid : Pass} (value : ℕ) (new : Pass) →
       Ran may from old deeds (Waits wait) mid → value < goal_of wait → GivesUp (awaited wait) value mid.seats new.seats → new.held ≡ mid.held →
       Ran may from old deeds (Over (Refused EOVERFLOW)) new
+
+-- the call found no gate worn out, whatever other calls of its pass found before
+abbrev pub FindsTurns : {may : ℕ → Type 0} {from : State} {old : Pass} {deeds : List Deed} {state : State} {new : Pass} → Ran may from old deeds state new → Type 0
+FindsTurns begins = ⊤
+FindsTurns (steps state new ran step) = FindsTurns ran
+FindsTurns (turns_back state new ran step) = ⊥
+FindsTurns (reads count value new ran read same) = FindsTurns ran
+FindsTurns (resumes value new ran reached read same) = FindsTurns ran
+FindsTurns (gives_up value new ran below read same) = ⊥
 
 -- the call stands there now
 abbrev pub Comes : (ℕ → Type 0) → State → Pass → State → Pass → Type 0

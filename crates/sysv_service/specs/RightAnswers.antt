@@ -8,10 +8,8 @@ use Rattle.sysv_steps.specs.Call.{SystemCall}
 use Rattle.sysv_steps.specs.Begin.{begin}
 use Rattle.sysv_steps.specs.State.{Ending, Over}
 use Rattle.sysv_steps.specs.Answers.{IsRightAnswer}
-use Rattle.sysv_service.specs.Ran.{Pass, Ran}
-use Rattle.sysv_service.specs.OwnTurns.{KnowTheirOwn, NoneIsWorn}
+use Rattle.sysv_service.specs.Ran.{Pass, Ran, FindsTurns}
 
 abbrev pub EachRunAnswersRight : (ℕ → Type 0) → Type 0
-EachRunAnswersRight may = (cred : Cred) (asked : SystemCall) (released : ℕ) (old : Pass) (deeds : List Deed) (ending : Ending) (new : Pass) →
-    Ran may (begin cred asked released) old deeds (Over ending) new →
-    KnowTheirOwn old.seats → NoneIsWorn new.seats → IsRightAnswer asked deeds ending
+EachRunAnswersRight may = (cred : Cred) (asked : SystemCall) (released : ℕ) (old : Pass) (deeds : List Deed) (ending : Ending) (new : Pass)
+    (ran : Ran may (begin cred asked released) old deeds (Over ending) new) → FindsTurns ran → IsRightAnswer asked deeds ending

@@ -28,8 +28,10 @@ pub fn each_run_answers_right<C: Clock>(clock: &C)
     each_answer_is_right();
 }
 
-/// A call adds to the turns that its pass knows as its own, at each object, just the turns that it made there, in order. Where
-/// it found no gate worn out, the step table taken along these lists leads to where the call stands, and uses them up.
+/// A call adds to the turns that its pass knows as its own, at each object, just the turns that it made there, in order. It
+/// is played on these lists, and uses them up: a step or a wait at a worn gate comes only where the list of that object has
+/// no turn left and the pass's seat there is marked. Where the call found no gate worn out, it is played by the step table
+/// alone.
 pub fn each_plays_its_own<C: Clock>(clock: &C)
     ensures stamped { EachPlaysItsOwn (C.may clock.now) }
     ensures unstamped { EachPlaysItsOwn no_moment }

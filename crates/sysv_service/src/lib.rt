@@ -35,4 +35,4 @@ pub use service::Service;
 // What the signatures name beside these.
 pub use sysv_gated::OpenRefused;
 pub use sysv_model::{Body, Cred, Errno, Flags, NoMemory, Row, SetTo, Stat};
-pub use sysv_queue::Delivery;
+pub use sysv_queue::{Delivery, Tally};

@@ -1,4 +1,4 @@
-use Rattle.sysv_service.proofs.Owning.{each_plays}
+use Rattle.sysv_service.proofs.Wearing.{each_plays}
 use Rattle.sysv_service.specs.Ran.{no_moment}
 use Rattle.sysv_service.proofs.laws.each_plays_its_own.Goals as goal
 
