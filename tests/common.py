@@ -69,9 +69,9 @@ class Session:
         """Asks for a send, and does not wait for the reply."""
         self.peer.sendall(frame(SND, struct.pack(">iqI", queue, mtype, 0) + body, self.version))
 
-    def start_receive(self, queue, size=99):
-        """Asks for a receive of any type, and does not wait for the reply."""
-        self.peer.sendall(frame(RCV, struct.pack(">iIqI", queue, size, 0, 0), self.version))
+    def start_receive(self, queue, size=99, mtype=0):
+        """Asks for a receive, of any type if none is given, and does not wait for the reply."""
+        self.peer.sendall(frame(RCV, struct.pack(">iIqI", queue, size, mtype, 0), self.version))
 
     def received(self):
         """The body of the message of a receive that was asked for, or the name of the error."""
@@ -100,6 +100,15 @@ class Server:
         words = [program, "serve", path, *map(str, words)]
         self.process = subprocess.Popen(words, stdout=subprocess.PIPE, stderr=subprocess.PIPE, **how)
         self.listening = self.process.stderr.readline().decode()
+
+    def is_asleep(self):
+        """Whether all its threads sleep: what was asked of it is answered, or waits."""
+        tasks = "/proc/%d/task" % self.process.pid
+        for task in os.listdir(tasks):
+            with open("%s/%s/stat" % (tasks, task), encoding="ascii") as stat:
+                if stat.read().rsplit(")", 1)[1].split()[0] != "S":
+                    return False
+        return True
 
     def ended(self):
         """What it printed and its status, once it ends by itself."""

@@ -125,8 +125,7 @@ impl Service {
         }
     }
 
-    /// The text that is given is copied out once the message is taken. An arrival wakes one receive that waits, so a receive
-    /// that takes nothing wakes the next.
+    /// The text that is given is copied out once the message is taken.
     fn take<C: Clock>(
         &self,
         rt: &impl MayWait,
@@ -156,13 +155,21 @@ impl Service {
                 receive.given(delivery, chain)
             }
             Ok(Err(why)) => {
-                self.gates.pass_arrived_on(id);
+                self.pass_wake_on(&receive);
                 receive.untaken(why)
             }
             Err(Worn) => {
-                self.gates.pass_arrived_on(id);
+                self.pass_wake_on(&receive);
                 overflow()
             }
+        }
+    }
+
+    /// An arrival wakes one receive that waits, so one that has waited and takes nothing wakes the next. One that has not
+    /// waited was not woken, and owes no wake.
+    fn pass_wake_on(&self, receive: &Receiving) {
+        if receive.live_seen {
+            self.gates.pass_arrived_on(receive.id);
         }
     }
 }
