@@ -1,3 +1,4 @@
+pub mod Renaming
 pub mod Reading
 pub mod Threading
 pub mod RunIsFree

@@ -19,3 +19,5 @@ pub use Rattle.sysv_core.specs.LastWords
 pub mod FreeRun
 pub mod OnThreads
 pub mod RunIsFree
+pub mod Order
+pub mod OrderIsRun
