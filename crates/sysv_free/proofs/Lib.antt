@@ -1,4 +1,6 @@
 pub mod Renaming
+pub mod Playing
+pub mod Picking
 pub mod Reading
 pub mod Threading
 pub mod RunIsFree
