@@ -1,6 +1,7 @@
 //! Laws of free runs.
 
 ghost use Rattle.sysv_free.specs.OnThreads.{EveryThreadedRunObeys};
+ghost use Rattle.sysv_free.specs.OrderIsRun.{EveryOrderIsARun};
 ghost use Rattle.sysv_free.specs.RunIsFree.{EachRunIsFree};
 
 use sysv_core::each_world_is_sound;
@@ -9,7 +10,7 @@ use sysv_objects::legal_turns;
 use sysv_pool::pool_law;
 use sysv_queue::{blocks_kept, queue_law, removed_for_good};
 use sysv_steps::{
-    after_removal, each_answer_is_right, each_deed_is_asked_for, each_holds_its_blocks,
+    after_removal, each_answer_is_right, each_deed_is_asked_for, each_holds_its_blocks, one_answer,
 };
 
 /// The headline of threads: every list of moments leads from every opening only to worlds that obey the laws of
@@ -35,3 +36,12 @@ pub fn every_threaded_run_obeys()
 pub fn each_run_is_free()
     ensures { EachRunIsFree }
 {}
+
+/// Every order of turns with legal replies, with the calls that its passes made, is a free run: a list of moments
+/// leads to a world that has the turns of the order and the calls with their answers, and obeys the laws.
+pub fn every_order_is_a_run()
+    ensures { EveryOrderIsARun }
+{
+    every_threaded_run_obeys();
+    one_answer();
+}
