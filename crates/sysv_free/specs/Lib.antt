@@ -21,3 +21,4 @@ pub mod OnThreads
 pub mod RunIsFree
 pub mod Order
 pub mod OrderIsRun
+pub mod WorkedOrder

@@ -3,6 +3,7 @@
 ghost use Rattle.sysv_free.specs.OnThreads.{EveryThreadedRunObeys};
 ghost use Rattle.sysv_free.specs.OrderIsRun.{EveryOrderIsARun};
 ghost use Rattle.sysv_free.specs.RunIsFree.{EachRunIsFree};
+ghost use Rattle.sysv_free.specs.WorkedOrder.{WorkedOrder};
 
 use sysv_core::each_world_is_sound;
 use sysv_keys::registry_law;
@@ -44,4 +45,14 @@ pub fn every_order_is_a_run()
 {
     every_threaded_run_obeys();
     one_answer();
+}
+
+/// An order in which the turns of three passes interleave, with a receive that waited and one that was left, is
+/// legal, and it is a run with the calls that made it. Calls that do not belong to it are refused.
+pub fn worked_order()
+    ensures { WorkedOrder }
+{
+    legal_turns();
+    each_answer_is_right();
+    every_order_is_a_run();
 }

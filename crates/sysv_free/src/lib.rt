@@ -4,4 +4,4 @@
 
 mod laws;
 
-pub use laws::{each_run_is_free, every_order_is_a_run, every_threaded_run_obeys};
+pub use laws::{each_run_is_free, every_order_is_a_run, every_threaded_run_obeys, worked_order};
