@@ -1,16 +1,15 @@
 -- From a world in which a beginning of the order was made, the rest of the order leads on.
-use Rattle.std.proofs.Common.{◌≡◌, ◌≢◌, ◌⊎◌, inl, inr, ℕ, zero, suc, ◌==◌, ◌&&◌, Bool, true, false, cond, not, List, [], ◌∷◌, ◌++◌, Option, None, Some, refl, sym, ap, subst, ◌∙◌, arith, map, append_assoc, slice_get, slice_set}
-use Rattle.std.specs.List.{All, filter, flat_map}
+use Rattle.std.proofs.Common.{◌≡◌, ◌≢◌, inl, inr, ℕ, zero, suc, ◌==◌, ◌&&◌, Bool, true, false, cond, not, List, [], ◌∷◌, ◌++◌, Some, refl, sym, ap, subst, ◌∙◌, arith, map, append_assoc, slice_get, slice_set}
+use Rattle.std.specs.List.{All, filter}
 use Rattle.std.specs.Option.{option_map}
 use Rattle.std.proofs.lemmas.List.{map-append, append-nil}
-use Rattle.std.proofs.lemmas.List.Elements.{All-cons, All-nil}
+use Rattle.std.proofs.lemmas.List.Elements.{All-cons}
 use Rattle.std.proofs.lemmas.Grind.{flat_map-append}
 use Rattle.std.proofs.lemmas.Option.{slice_get-map}
-use Rattle.sysv_model.specs.History.{Who, Actor, Seat, ReadRow, Call, Reply, Entry}
+use Rattle.sysv_model.specs.History.{Who, Actor, Seat, ReadRow, Reply, Entry}
 use Rattle.sysv_model.specs.Turn.{Deed, AtSlot, AtRegistry, AtPool, Turn, is_same, deeds_of, slot_entry, registry_entry, pool_entry, slot_history, registry_history, pool_history}
 use Rattle.sysv_objects.specs.LegalDeed.{IsLegalDeed, AreLegal}
-use Rattle.sysv_steps.specs.State.{State}
-use Rattle.sysv_core.specs.World.{World, Started, Given, doing_in, with_turn}
+use Rattle.sysv_core.specs.World.{World, Given, doing_in, with_turn}
 use Rattle.sysv_core.proofs.Lists.{map-slice_set, slice_set-same, get_set_same, get_set_other, same_place}
 use Rattle.sysv_core.proofs.Own.{same_itself, not_same}
 use Rattle.sysv_free.specs.FreeRun.{nobody, Moment, Reads, LeadsOnThreads}

@@ -1,9 +1,7 @@
 -- The calls under way, with what each has still to do, and which of them makes the next turn of its pass: the first
 -- that has any.
-use Rattle.std.proofs.Common.{◌≡◌, ◌≢◌, ◌⊎◌, inl, inr, ℕ, zero, suc, ◌==◌, Bool, true, false, cond, List, [], ◌∷◌, ◌++◌, Option, Some, refl, sym, ap, subst, ◌∙◌, arith, map, slice_get, slice_set}
+use Rattle.std.proofs.Common.{◌≡◌, ◌≢◌, inl, inr, ℕ, zero, suc, ◌==◌, true, false, cond, List, [], ◌∷◌, ◌++◌, Option, Some, refl, sym, ap, ◌∙◌, map, slice_get, slice_set}
 use Rattle.std.specs.List.{flat_map}
-use Rattle.std.proofs.lemmas.List.{map-append, append-nil}
-use Rattle.std.proofs.Math.Dec.{eqb}
 use Rattle.std.proofs.lemmas.Bool.Decides.{eqb_tells}
 use Rattle.sysv_model.specs.History.{Who}
 use Rattle.sysv_model.specs.Turn.{Deed, Turn}
@@ -77,7 +75,7 @@ module _ (number : ℕ) (deed : Deed) where
     next = λ v its call remains.
         let now : left_of number u ≡ turn_as u.call.who deed ∷ map (turn_as u.call.who) rest = of_its_pass u by ∙ ap (map (turn_as u.call.who)) first in
         let then_left : left_of number v ≡ map (turn_as u.call.who) rest =
-            of_its_pass v its ∙ (ap (λ (c : Started). map (turn_as c.who) v.rest) call ∙ ap (map (turn_as u.call.who)) remains) in
+        of_its_pass v its ∙ (ap (λ (c : Started). map (turn_as c.who) v.rest) call ∙ ap (map (turn_as u.call.who)) remains) in
         ap (λ ts. ts ++ left_in number us) now ∙ ap (λ ts. turn_as u.call.who deed ∷ (ts ++ left_in number us)) (sym then_left);
     others = λ v its other apart.
         ap (λ ts. ts ++ left_in other us)

@@ -1,9 +1,9 @@
 -- A call that is played along its turns can make the next of them in a world, whatever other calls do between.
-use Rattle.std.proofs.Common.{◌≡◌, ℕ, suc, ◌≤◌, List, [], ◌∷◌, ◌++◌, Option, Some, None, refl, sym, ap, subst, ◌∙◌, append_assoc, slice_get, slice_set}
+use Rattle.std.proofs.Common.{◌≡◌, ℕ, suc, ◌≤◌, List, [], ◌∷◌, ◌++◌, Some, refl, sym, ap, subst, ◌∙◌, append_assoc, slice_get, slice_set}
 use Rattle.std.proofs.lemmas.List.{append-nil}
-use Rattle.sysv_model.specs.Turn.{Deed, Turn, asked_by}
+use Rattle.sysv_model.specs.Turn.{Deed, asked_by}
 use Rattle.sysv_objects.specs.LegalDeed.{IsLegalDeed}
-use Rattle.sysv_steps.specs.State.{Phase, Wait, Ending, State, Goes, Waits, Over}
+use Rattle.sysv_steps.specs.State.{Phase, Wait, State, Goes, Waits, Over}
 use Rattle.sysv_steps.specs.Asks.{asks}
 use Rattle.sysv_steps.specs.Next.{next}
 use Rattle.sysv_steps.specs.Resume.{goal_of, resume}
@@ -102,14 +102,20 @@ module _ (w : World) (place : ℕ) (call : Started) (to : State) (deed : Deed) (
   }
   makes_then phase now (Waits wait) there asked goes (is_woken value reached on) =
       let waiting : slice_get (slice_set w.actors place (Some record { call = call; state = Waits wait })) place ≡ Some (Some record { call = call; state = Waits wait }) =
-          get_set_same w.actors place _ _ there in
+      get_set_same w.actors place _ _ there in
       record {
         moments = TakesTurn (suc place) now ∷ Wakes (suc place) value ∷ [];
         given = [];
         mid = in_state (then_at (Waits wait)) (suc place) call (Goes (resume wait value));
         state = Goes (resume wait value);
-        leads = (then_at (Waits wait), [], [], (call, phase, there, (deed, Waits wait, asked, legal, goes, refl, refl)),
-        (in_state (then_at (Waits wait)) (suc place) call (Goes (resume wait value)), [], [], (call, wait, waiting, reached, refl, refl), (refl, refl), refl), refl);
+        leads = (
+          then_at (Waits wait),
+          [],
+          [],
+          (call, phase, there, (deed, Waits wait, asked, legal, goes, refl, refl)),
+          (in_state (then_at (Waits wait)) (suc place) call (Goes (resume wait value)), [], [], (call, wait, waiting, reached, refl, refl), (refl, refl), refl),
+          refl,
+        );
         turns = refl;
         actors = slice_set-twice w.actors place _ _;
         calls = refl;

@@ -1,7 +1,5 @@
 -- All calls are started before the first turn, each by an actor of its own; then the order leads to its end.
-use Rattle.std.proofs.Common.{◌≡◌, ◌≢◌, ◌⊎◌, inl, inr, ℕ, zero, suc, ◌+◌, ◌==◌, Bool, true, false, cond, List, [], ◌∷◌, ◌++◌, Option, None, Some, refl, sym, ap, subst, ◌∙◌, arith, length, length-append, map, append_assoc, slice_get, slice_set, replicate}
-use Rattle.std.specs.List.{All, flat_map}
-use Rattle.std.proofs.Math.ListN.{get_or}
+use Rattle.std.proofs.Common.{◌≡◌, ℕ, zero, suc, ◌+◌, ◌==◌, Bool, true, false, cond, List, [], ◌∷◌, ◌++◌, Option, None, Some, refl, sym, ap, subst, ◌∙◌, arith, length, length-append, map, append_assoc, slice_get, slice_set, replicate}
 use Rattle.std.proofs.lemmas.List.{append-nil, map-append}
 use Rattle.std.proofs.lemmas.Option.{slice_get_within, get_or_from_slice_get}
 use Rattle.sysv_model.specs.History.{Who}
@@ -10,17 +8,17 @@ use Rattle.sysv_model.specs.Turn.{Deed, Turn, is_same, deeds_of}
 use Rattle.sysv_steps.specs.Call.{SystemCall}
 use Rattle.sysv_objects.specs.LegalDeed.{AreLegal}
 use Rattle.sysv_model.specs.declared.errno.Errno.TheVariants.{EINVAL}
-use Rattle.sysv_steps.specs.State.{State, Goes, Waits, Over, Wait, Refused}
+use Rattle.sysv_steps.specs.State.{State, Goes, Waits, Over, Refused}
 use Rattle.sysv_steps.specs.Begin.{begin, is_refused, first}
 use Rattle.sysv_steps.specs.Played.{Plays}
 use Rattle.sysv_steps.specs.OneAnswer.{OneAnswer}
 use Rattle.sysv_core.specs.World.{World, Opening, Started, Doing, Given, opening, doing_in, given_in, begun, in_state, with_call}
-use Rattle.sysv_core.specs.AnswerLaw.{Fate, endings_of, stands_in, standing_of, ended, standing}
+use Rattle.sysv_core.specs.AnswerLaw.{Fate, stands_in, standing_of, ended, standing}
 use Rattle.sysv_core.proofs.Own.{at_actor, same_itself}
 use Rattle.sysv_free.specs.FreeRun.{Moment, Starts, LeadsOnThreads, starting_with}
 use Rattle.sysv_free.specs.OnThreads.{ObeysOnThreads, EveryThreadedRunObeys}
-use Rattle.sysv_free.specs.Order.{Numbered, turns_of, Called, IsPlayed, deeds_by, deeds_in, AreAll}
-use Rattle.sysv_free.specs.OrderIsRun.{opening_for, name_at, started_at, all_started, all_standing, EndsAs, Renamed, renamed_turn, turn_as, turns_by, turns_in, HasTurnsOf, IsRunWith, EveryOrderIsARun}
+use Rattle.sysv_free.specs.Order.{Numbered, turns_of, Called, IsPlayed, deeds_in, AreAll}
+use Rattle.sysv_free.specs.OrderIsRun.{opening_for, name_at, started_at, all_started, all_standing, EndsAs, renamed_turn, turn_as, turns_in, IsRunWith, EveryOrderIsARun}
 use Rattle.sysv_free.proofs.Playing.{leads_more, PlaysOn, is_there, plays_on, IsSettled}
 use Rattle.sysv_free.proofs.Picking.{Underway, doing_of, done_of, IsRight, left_of, left_in, deeds}
 use Rattle.sysv_free.proofs.Ordering.{Holds, Went, goes}
@@ -116,8 +114,8 @@ all_start (c ∷ cs) w done steps actors =
     let idle : slice_get w.actors w.steps ≡ Some None = ap (slice_get w.actors) steps ∙ (ap (λ ds. slice_get ds (length done)) actors ∙ get_after done None (replicate (length cs) None)) in
     let doing : Option Doing = doing_in call (begun call) in
     let r = all_start cs next_w (done ++ doing ∷ []) (omega (arith, length-append done (doing ∷ [])))
-        (ap (λ n. slice_set w.actors n doing) steps
-        ∙ (ap (λ ds. slice_set ds (length done) doing) actors ∙ (set_after done None doing (replicate (length cs) None) ∙ sym (append_assoc done (doing ∷ []) (replicate (length cs) None))))) in
+    (ap (λ n. slice_set w.actors n doing) steps
+    ∙ (ap (λ ds. slice_set ds (length done) doing) actors ∙ (set_after done None doing (replicate (length cs) None) ∙ sym (append_assoc done (doing ∷ []) (replicate (length cs) None))))) in
     let one_more : w.steps + 1 ≡ suc w.steps = omega arith in
     record {
       moments = Starts (suc w.steps) c.cred c.asked c.released ∷ r.moments;
@@ -220,13 +218,13 @@ module _ (obeys : EveryThreadedRunObeys) (one : OneAnswer) (gen size : ℕ) (ord
           let call : Started = started_at place c in
           let at : slice_get r.world.calls place ≡ Some call = ap (λ cs. slice_get cs place) calls_are ∙ (started_there 0 calls place c there ∙ ap (λ n. Some (started_at n c)) (omega arith)) in
           let fate : Fate r.world (s.given ++ r.given) call =
-              subst (Fate r.world (s.given ++ r.given)) (get_or_from_slice_get r.world.calls place call call at) (it_obeys.calls place call (slice_get_within r.world.calls place call at)) in
+          subst (Fate r.world (s.given ++ r.given)) (get_or_from_slice_get r.world.calls place call call at) (it_obeys.calls place call (slice_get_within r.world.calls place call at)) in
           let its : deeds_of (name_at place) r.world.turns ≡ c.deeds =
-              ap (deeds_of (name_at place)) turns_are ∙ r.own place (underway_at place c) (underway_there 0 calls place c there ∙ ap (λ n. Some (underway_at n c)) (omega arith)) in
+          ap (deeds_of (name_at place)) turns_are ∙ r.own place (underway_at place c) (underway_there 0 calls place c there ∙ ap (λ n. Some (underway_at n c)) (omega arith)) in
           let stands : standing_of (name_at place) r.world.actors ≡ standing c.state =
-              at_actor (name_at place) place place r.world.actors refl
-              ∙ (ap (stands_in (name_at place)) (ap (λ ds. slice_get ds place) actors_are ∙ (standing_at 0 calls place c there ∙ ap (λ n. Some (doing_in (started_at n c) c.state)) (omega arith)))
-              ∙ in_its_place call c.state (same_itself place place (name_at place) refl)) in
+          at_actor (name_at place) place place r.world.actors refl
+          ∙ (ap (stands_in (name_at place)) (ap (λ ds. slice_get ds place) actors_are ∙ (standing_at 0 calls place c there ∙ ap (λ n. Some (doing_in (started_at n c) c.state)) (omega arith)))
+          ∙ in_its_place call c.state (same_itself place place (name_at place) refl)) in
           record {
             deeds = its;
             answered = fate.answered

@@ -1,6 +1,5 @@
 -- The worked order, turn by turn and call by call.
-use Rattle.std.proofs.Common.{◌≡◌, ◌≢◌, ◌⊎◌, inl, inr, ℕ, zero, suc, ◌+◌, ◌<◌, ◌==◌, ◌&&◌, Bool, true, false, cond, not, pos, List, [], ◌∷◌, ◌++◌, Some, refl, sym, ap, ◌∙◌, arith, take, codes}
-use Rattle.sysv_model.specs.declared.cred.Cred.{Cred}
+use Rattle.std.proofs.Common.{◌≡◌, ◌≢◌, inl, inr, ℕ, zero, suc, ◌<◌, ◌==◌, ◌&&◌, Bool, true, false, cond, not, pos, List, [], ◌∷◌, ◌++◌, refl, sym, ap, ◌∙◌, arith, take}
 use Rattle.sysv_model.specs.declared.errno.Errno.TheVariants.{ENOMSG}
 use Rattle.sysv_model.specs.declared.selector.Selector.TheVariants.{Any}
 use Rattle.sysv_model.specs.Message.{Message}
@@ -8,18 +7,16 @@ use Rattle.std.specs.List.{All, list_all}
 use Rattle.std.proofs.lemmas.List.Elements.{All-cons, All-nil}
 use Rattle.sysv_steps.specs.Answers.{EachAnswerIsRight}
 use Rattle.sysv_model.specs.History.{Who, Seat, Take, Taken}
-use Rattle.sysv_model.specs.Live.{live}
 use Rattle.sysv_model.specs.Turn.{Deed, Turn, slot_history}
-use Rattle.sysv_queue.specs.Granted.{MayRead, MayWrite, MayControl}
 use Rattle.sysv_queue.specs.Named.{IsNamed}
 use Rattle.sysv_objects.specs.LegalDeed.{IsLegalDeed, AreLegal}
-use Rattle.sysv_steps.specs.State.{State, Goes, Waits, Over, Id, Zero, Got, Refused, OnArrived, AtBegin, AtInstall, AtSettle, AtLook, AtReserve, AtPlace, AtTake, AtReceiveGiveback, AtRemove, AtForget, AtRemoveGiveback}
-use Rattle.sysv_steps.specs.Played.{Plays, begins, steps, resumes}
+use Rattle.sysv_steps.specs.State.{Goes, Waits, Over, Id, Zero, Got, Refused, OnArrived, AtInstall, AtSettle, AtReserve, AtPlace, AtReceiveGiveback, AtForget, AtRemoveGiveback}
+use Rattle.sysv_steps.specs.Played.{begins, steps, resumes}
 use Rattle.sysv_free.specs.Order.{Numbered, turns_of, Called, IsPlayed, AreAll, shows_row, deeds_by, deeds_in}
 use Rattle.sysv_free.specs.OrderIsRun.{EveryOrderIsARun}
 use Rattle.sysv_free.proofs.Picking.{number_other}
 use Rattle.sysv_free.proofs.Ordering.{by_another}
-use Rattle.sysv_free.specs.WorkedOrder.{sender, receiver, superuser, hello, hello_message, creating, makes, installs, settles, finds_none, looks, reserves, reads_row, places, takes, finds_no_other, gives_back, discards, forgets, gives_back_none, by, the_order, the_get, the_send, the_receive, left_at, the_left, the_removal, calls_with, the_calls, WorkedOrder}
+use Rattle.sysv_free.specs.WorkedOrder.{sender, receiver, hello, hello_message, creating, makes, installs, settles, finds_none, looks, reserves, reads_row, places, takes, finds_no_other, gives_back, discards, forgets, gives_back_none, by, the_order, the_get, the_send, the_receive, left_at, the_left, the_removal, calls_with, the_calls, WorkedOrder}
 
 -- ---- legal
 

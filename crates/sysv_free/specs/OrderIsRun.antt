@@ -6,7 +6,7 @@
 -- a call was started, or compares two calls of one actor; and a pass goes on with other calls after one that it left
 -- at a wait, where an actor would stand for good. That a pass makes one call after the other stays: it says which of
 -- its calls made each turn (this profile's).
-use Rattle.std.specs.Prelude.{◌≡◌, ℕ, zero, suc, ◌==◌, true, List, [], ◌∷◌, ◌++◌, length, Option, Some, slice_get, All, filter, map, if◌then◌else◌}
+use Rattle.std.specs.Prelude.{◌≡◌, ℕ, suc, ◌==◌, true, List, [], ◌∷◌, ◌++◌, length, Option, Some, slice_get, All, filter, map, if◌then◌else◌}
 use Rattle.sysv_model.specs.History.{Who, Actor}
 use Rattle.sysv_model.specs.Turn.{Deed, Turn, deeds_of}
 use Rattle.sysv_objects.specs.LegalDeed.{AreLegal}
