@@ -3,6 +3,7 @@ pub mod Playing
 pub mod Picking
 pub mod Ordering
 pub mod Starting
+pub mod Resting
 pub mod WorkedOrder
 pub mod Reading
 pub mod Threading

@@ -14,7 +14,7 @@ use Rattle.sysv_model.specs.Waiting.{accepted_by, delivered_by, discarded_by, ac
 use Rattle.sysv_model.specs.Registry.{RegistryCall, RegistryReply, RegistryEntry, RegistryHistory, Begin, Settle, Forget, Found, Made, Busy, Unbound, Changed, settled, changes_row}
 use Rattle.sysv_model.specs.Pool.{PoolCall, PoolReply, PoolEntry, PoolHistory, frees as frees_blocks, released}
 use Rattle.sysv_model.specs.Turn.{Deed, AtSlot, AtRegistry, AtPool, Turn, slot_entry, registry_entry, pool_entry, slot_history, registry_history, pool_history}
-use Rattle.sysv_pool.specs.State.{State, state_of, reserved_by, returned_by, reserved, returned}
+use Rattle.sysv_pool.specs.State.{State, free_after, state_of, reserved_by, returned_by, reserved, returned}
 use Rattle.sysv_pool.specs.LegalReply.{Legal as LegalInPool}
 use Rattle.sysv_queue.specs.Slot.{Slot, slot_of}
 use Rattle.sysv_queue.specs.LegalReply.{Legal}
@@ -232,3 +232,20 @@ legal_alike gen blocks turns others (AtRegistry call reply) same l =
     registry_alike (registry_history turns) (registry_history others) (entries_alike in_registry registry_entry registry_entry_alike turns others same) gen call reply l
 legal_alike gen blocks turns others (AtPool call reply) same l =
     subst (λ (s : State). LegalInPool s call reply) (pool_alike (pool_history turns) (pool_history others) (entries_alike in_pool pool_entry pool_entry_alike turns others same) blocks) l
+
+-- ---- what is read of the objects
+
+pub held_alike : (slot : ℕ) (turns others : List Turn) → Acts turns others → held (slot_history slot turns) ≡ held (slot_history slot others)
+held_alike slot turns others same =
+    ap (λ (s : Slot). s.messages) (slot_alike (slot_history slot turns) (slot_history slot others) (entries_alike in_slot (slot_entry slot) (slot_entry_alike slot) turns others same))
+
+pub lives_alike : (slot : ℕ) (turns others : List Turn) → Acts turns others → live (slot_history slot turns) ≡ live (slot_history slot others)
+lives_alike slot turns others same =
+    live_alike (slot_history slot turns) (slot_history slot others) (entries_alike in_slot (slot_entry slot) (slot_entry_alike slot) turns others same)
+
+pub free_alike : (size : ℕ) (turns others : List Turn) → Acts turns others → free_after size (pool_history turns) ≡ free_after size (pool_history others)
+free_alike size turns others same =
+    ap (λ (s : State). s.free) (pool_alike (pool_history turns) (pool_history others) (entries_alike in_pool pool_entry pool_entry_alike turns others same) size)
+
+pub rows_alike : (turns others : List Turn) → Acts turns others → (row : KeyRow) → IsRow (registry_history turns) row → IsRow (registry_history others) row
+rows_alike turns others same = row_alike (registry_history turns) (registry_history others) (entries_alike in_registry registry_entry registry_entry_alike turns others same)

@@ -238,7 +238,7 @@ module _ (obeys : EveryThreadedRunObeys) (one : OneAnswer) (gen size : ℕ) (ord
         given = s.given ++ r.given;
         world = r.world;
         leads = leads;
-        turns = record { renamed = r.renamed; before = r.before; after = sym turns_are; rows = r.rows; whose = λ number. r.whose number ∙ left_at_start number 0 calls };
+        turns = record { renamed = r.renamed; in_order = r.before; in_world = sym turns_are; rows = r.rows; whose = λ number. r.whose number ∙ left_at_start number 0 calls };
         started = calls_are;
         each = ends_as;
         standing = actors_are;

@@ -14,6 +14,7 @@ use Rattle.sysv_steps.specs.State.{Goes, Waits, Over, Id, Zero, Got, Refused, On
 use Rattle.sysv_steps.specs.Played.{begins, steps, resumes}
 use Rattle.sysv_free.specs.Order.{Numbered, turns_of, Called, IsPlayed, AreAll, shows_row, deeds_by, deeds_in}
 use Rattle.sysv_free.specs.OrderIsRun.{EveryOrderIsARun}
+use Rattle.sysv_free.specs.AtRest.{Rests, EveryOrderComesToRest}
 use Rattle.sysv_free.proofs.Picking.{number_other}
 use Rattle.sysv_free.proofs.Ordering.{by_another}
 use Rattle.sysv_free.specs.WorkedOrder.{sender, receiver, hello, hello_message, creating, makes, installs, settles, finds_none, looks, reserves, reads_row, places, takes, finds_no_other, gives_back, discards, forgets, gives_back_none, by, the_order, the_get, the_send, the_receive, left_at, the_left, the_removal, calls_with, the_calls, WorkedOrder}
@@ -145,6 +146,15 @@ all_played =
     (All-cons IsPlayed the_left (the_removal ∷ []) plays_left
     (All-cons IsPlayed the_removal [] plays_removal (All-nil IsPlayed)))))
 
+abbrev Rested : Called → Type 0
+Rested c = Rests c.state
+
+all_rest : All Rested the_calls
+all_rest =
+    All-cons Rested the_get (with_answer ∷ the_send ∷ the_left ∷ the_removal ∷ []) tt
+    (All-cons Rested with_answer (the_send ∷ the_left ∷ the_removal ∷ []) tt
+    (All-cons Rested the_send (the_left ∷ the_removal ∷ []) tt (All-cons Rested the_left (the_removal ∷ []) tt (All-cons Rested the_removal [] tt (All-nil Rested)))))
+
 -- only the passes 0, 1 and 2 have made turns
 low : ℕ → Bool
 low zero = true
@@ -206,11 +216,12 @@ not_early l =
     none_is_named t.2.0 t.2.1
 
 pub worked_order : AreLegal 0 128 [] → ((generation blocks : ℕ) (turns : List Turn) (who : Who) (deed : Deed) → AreLegal generation blocks turns → IsLegalDeed generation blocks turns deed → AreLegal generation blocks (turns ++ record { who = who; deed = deed } ∷ [])) →
-    EachAnswerIsRight → EveryOrderIsARun → WorkedOrder
-worked_order none more right law = record {
+    EachAnswerIsRight → EveryOrderIsARun → EveryOrderComesToRest → WorkedOrder
+worked_order none more right law rest = record {
   legal = legal_order none more;
   all = all_calls;
   run = law 0 128 the_order the_calls (legal_order none more) all_calls;
+  at_rest = rest 0 128 the_order the_calls (legal_order none more) all_calls all_rest;
   answered_otherwise = no_other_answer right;
   left_out = none_left_out;
   out_of_turn = in_turn;

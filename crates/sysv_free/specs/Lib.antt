@@ -22,3 +22,4 @@ pub mod RunIsFree
 pub mod Order
 pub mod OrderIsRun
 pub mod WorkedOrder
+pub mod AtRest

@@ -70,8 +70,8 @@ turns_in number place (c ∷ cs) = (if c.by == number then map (turn_as (name_at
 -- that of the call that made it: the pass made the turns of its calls one call after the other
 pub record HasTurnsOf (order : List Numbered) (calls : List Called) (turns : List Turn) : Type 0 where
   pub renamed : List Renamed
-  pub before : map (λ (r : Renamed). r.turn) renamed ≡ order
-  pub after : map renamed_turn renamed ≡ turns
+  pub in_order : map (λ (r : Renamed). r.turn) renamed ≡ order
+  pub in_world : map renamed_turn renamed ≡ turns
   pub rows : All (λ (r : Renamed). shows_row r.turn.deed ≡ true → r.name ≡ nobody) renamed
   pub whose : (number : ℕ) → turns_by number renamed ≡ turns_in number 0 calls
 

@@ -20,6 +20,7 @@ use Rattle.sysv_steps.specs.Call.{Msgget, Msgsnd, Msgrcv, MsgctlRmid}
 use Rattle.sysv_steps.specs.State.{Receiving, OnArrived, Id, Zero, Got, Refused, State, Waits, Over}
 use Rattle.sysv_free.specs.Order.{Numbered, turns_of, Called, AreAll}
 use Rattle.sysv_free.specs.OrderIsRun.{IsRunWith}
+use Rattle.sysv_free.specs.AtRest.{AreAtRest}
 
 abbrev pub sender : Cred
 sender = record { uid = 1000; gid = 1000; pid = 101 }
@@ -151,6 +152,8 @@ pub record WorkedOrder : Type 0 where
   pub legal : AreLegal 0 128 (turns_of the_order)
   pub all : AreAll the_order the_calls
   pub run : IsRunWith 0 128 the_order the_calls
+  -- at the end all blocks are back
+  pub at_rest : AreAtRest 128 (turns_of the_order)
   -- the receive has no other answer
   pub answered_otherwise : ¬ AreAll the_order (calls_with (Over (Refused ENOMSG)))
   -- no call is left out, and none stands before one that its pass made earlier

@@ -1,5 +1,6 @@
 //! Laws of free runs.
 
+ghost use Rattle.sysv_free.specs.AtRest.{EveryOrderComesToRest};
 ghost use Rattle.sysv_free.specs.OnThreads.{EveryThreadedRunObeys};
 ghost use Rattle.sysv_free.specs.OrderIsRun.{EveryOrderIsARun};
 ghost use Rattle.sysv_free.specs.RunIsFree.{EachRunIsFree};
@@ -47,6 +48,14 @@ pub fn every_order_is_a_run()
     one_answer();
 }
 
+/// Once no call of an order is under way, each block is free or under a queued message, and each key is bound to a
+/// queue that lives.
+pub fn every_order_comes_to_rest()
+    ensures { EveryOrderComesToRest }
+{
+    every_order_is_a_run();
+}
+
 /// An order in which the turns of three passes interleave, with a receive that waited and one that was left, is
 /// legal, and it is a run with the calls that made it. Calls that do not belong to it are refused.
 pub fn worked_order()
@@ -55,4 +64,5 @@ pub fn worked_order()
     legal_turns();
     each_answer_is_right();
     every_order_is_a_run();
+    every_order_comes_to_rest();
 }
