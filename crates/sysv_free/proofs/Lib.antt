@@ -1,3 +1,4 @@
+pub mod Places
 pub mod Renaming
 pub mod Playing
 pub mod Picking

@@ -2,22 +2,21 @@
 use Rattle.std.proofs.Common.{◌≡◌, ◌≢◌, inl, inr, ℕ, zero, suc, ◌==◌, ◌&&◌, Bool, true, false, cond, not, List, [], ◌∷◌, ◌++◌, Some, refl, sym, ap, subst, ◌∙◌, arith, map, append_assoc, slice_get, slice_set}
 use Rattle.std.specs.List.{All, filter}
 use Rattle.std.specs.Option.{option_map}
-use Rattle.std.proofs.lemmas.List.{map-append, append-nil}
+use Rattle.std.proofs.lemmas.List.{map-append, append-nil, map-set}
 use Rattle.std.proofs.lemmas.List.Elements.{All-cons}
 use Rattle.std.proofs.lemmas.Grind.{flat_map-append}
 use Rattle.std.proofs.lemmas.Option.{slice_get-map}
-use Rattle.sysv_model.specs.History.{Who, Actor, Seat, ReadRow, Reply, Entry}
+use Rattle.sysv_model.specs.History.{Who, Seat, ReadRow, Reply, Entry}
 use Rattle.sysv_model.specs.Turn.{Deed, AtSlot, AtRegistry, AtPool, Turn, is_same, deeds_of, slot_entry, registry_entry, pool_entry, slot_history, registry_history, pool_history}
 use Rattle.sysv_objects.specs.LegalDeed.{IsLegalDeed, AreLegal}
 use Rattle.sysv_core.specs.World.{World, Given, doing_in, with_turn}
-use Rattle.sysv_core.proofs.Lists.{map-slice_set, slice_set-same, get_set_same, get_set_other, same_place}
-use Rattle.sysv_core.proofs.Own.{same_itself, not_same}
 use Rattle.sysv_free.specs.FreeRun.{nobody, Moment, Reads, LeadsOnThreads}
 use Rattle.sysv_free.specs.Order.{Numbered, turn_of, turns_of, shows_row, is_in_call_of, deeds_by}
 use Rattle.sysv_free.specs.OrderIsRun.{name_at, Renamed, turn_as, renamed_turn, turns_by}
+use Rattle.sysv_free.proofs.Places.{number_same, number_other, and_false, same_or_other, get_set_same, get_set_other, set_same, same_name, other_name, not_nobody}
 use Rattle.sysv_free.proofs.Renaming.{Acts, legal_alike}
 use Rattle.sysv_free.proofs.Playing.{leads_more, PlaysOn, IsSettled, is_at_its_end, Makes, makes_turn}
-use Rattle.sysv_free.proofs.Picking.{Underway, doing_of, done_of, IsRight, left_in, deeds, number_same, number_other, Picked, pick, none_left}
+use Rattle.sysv_free.proofs.Picking.{Underway, doing_of, done_of, IsRight, left_in, deeds, Picked, pick, none_left}
 
 -- ---- a turn of the order is legal after those before it
 
@@ -65,10 +64,6 @@ module _ (number : ℕ) (r : Renamed) (rest : List Renamed) where
 
   pub turn_by_another : is_in_call_of number r.turn ≡ false → turns_by number (r ∷ rest) ≡ turns_by number rest
   turn_by_another e = ap (λ b. map renamed_turn (cond b (r ∷ filter test rest) (filter test rest))) e
-
-and_false : (a : Bool) → (a && false) ≡ false
-and_false true = refl
-and_false false = refl
 
 row_of_no_call : (t : Numbered) (number : ℕ) → shows_row t.deed ≡ true → is_in_call_of number t ≡ false
 row_of_no_call t number shows = ap (λ b. (t.by == number) && not b) shows ∙ and_false (t.by == number)
@@ -123,13 +118,6 @@ module _ (who other : Who) (deed : Deed) (ts : List Turn) where
 
   other_first : is_same who other ≡ false → deeds_of who (turn_as other deed ∷ ts) ≡ deeds_of who ts
   other_first e = ap (λ b. deeds (cond b (turn_as other deed ∷ filter (λ (x : Turn). is_same who x.who) ts) (filter (λ (x : Turn). is_same who x.who) ts))) e
-
-not_nobody : (who : Who) (place : ℕ) → who ≡ name_at place → is_same who nobody ≡ false
-not_nobody who place is = not_same who nobody (λ e. let bad : Actor (suc place) place ≡ Actor 0 0 = sym is ∙ e in cc)
-
-not_there : (who other : Who) (place at : ℕ) → who ≡ name_at place → other ≡ name_at at → at ≢ place → is_same who other ≡ false
-not_there who other place at is that apart =
-    not_same who other (λ e. let same : Actor (suc place) place ≡ Actor (suc at) at = sym is ∙ (e ∙ that) in let places : place ≡ at = cc in apart (sym places))
 
 no_turns : (ts : List Turn) → deeds ts ≡ [] → ts ≡ []
 no_turns [] none = refl
@@ -257,13 +245,13 @@ module _ (gen size : ℕ) where
               cc
 
           whole_then : (number : ℕ) → deeds_by number rest ≡ deeds (left_in number then_us)
-          whole_then number = elim (same_place t.by number) [
+          whole_then number = elim (same_or_other t.by number) [
             | inl same ↦ subst (λ n. deeds_by n rest ≡ deeds (left_in n then_us)) same whole_here
             | inr other ↦ sym (by_another number t rest (in_no_other_call t number other)) ∙ (h.whole number ∙ ap deeds (sym (p.others v refl number (λ e. other (sym e)))))
           ]
 
           right_then : (place : ℕ) (x : Underway) → slice_get then_us place ≡ Some x → IsRight place x
-          right_then place x there = elim (same_place p.place place) [
+          right_then place x there = elim (same_or_other p.place place) [
             | inl same ↦
                 let is : v ≡ x = (let both : Some v ≡ Some x = sym v_there ∙ (ap (slice_get then_us) same ∙ there) in cc) in
                 subst (IsRight place) is (record { name = u_right.name ∙ ap name_at same; plays = m.plays; settled = m.settled })
@@ -276,7 +264,7 @@ module _ (gen size : ℕ) where
             generation = m.generation ∙ h.generation;
             blocks = m.blocks ∙ h.blocks;
             acts = ap deeds m.turns ∙ acts_more u.call.who;
-            actors = m.actors ∙ (ap (λ ds. slice_set ds p.place (doing_of v)) h.actors ∙ sym (map-slice_set doing_of us p.place v));
+            actors = m.actors ∙ (ap (λ ds. slice_set ds p.place (doing_of v)) h.actors ∙ sym (map-set doing_of us p.place v));
             right = right_then;
             whole = whole_then;
           }
@@ -286,7 +274,7 @@ module _ (gen size : ℕ) where
             named = record { turn = t; name = u.call.who }
 
             whose_now : (number : ℕ) → turns_by number (named ∷ r.renamed) ≡ left_in number us
-            whose_now number = elim (same_place t.by number) [
+            whose_now number = elim (same_or_other t.by number) [
               | inl same ↦
                   subst (λ n. turns_by n (named ∷ r.renamed) ≡ left_in n us) same
                   (turn_by_it t.by named r.renamed (in_its_call t quiet) ∙ (ap (λ ts. turn_as u.call.who t.deed ∷ ts) (r.whose t.by) ∙ sym left_here))
@@ -294,14 +282,14 @@ module _ (gen size : ℕ) where
             ]
 
             own_now : (place : ℕ) (x : Underway) → slice_get us place ≡ Some x → deeds_of x.call.who (map renamed_turn (named ∷ r.renamed)) ≡ x.rest
-            own_now place x there = elim (same_place p.place place) [
+            own_now place x there = elim (same_or_other p.place place) [
               | inl same ↦
                   let is : u ≡ x = (let both : Some u ≡ Some x = sym p.there ∙ (ap (slice_get us) same ∙ there) in cc) in
                   subst (λ (y : Underway). deeds_of y.call.who (map renamed_turn (named ∷ r.renamed)) ≡ y.rest) is
-                  (own_first u.call.who u.call.who t.deed (map renamed_turn r.renamed) (same_itself p.place p.place u.call.who u_right.name)
+                  (own_first u.call.who u.call.who t.deed (map renamed_turn r.renamed) (same_name u.call.who p.place u_right.name)
                   ∙ (ap (λ ds. t.deed ∷ ds) (r.own p.place v v_there) ∙ sym p.first))
               | inr other ↦
-                  other_first x.call.who u.call.who t.deed (map renamed_turn r.renamed) (not_there x.call.who u.call.who place p.place (h.right place x there).name u_right.name other)
+                  other_first x.call.who u.call.who t.deed (map renamed_turn r.renamed) (other_name x.call.who u.call.who place p.place (h.right place x there).name u_right.name other)
                   ∙ r.own place x (get_set_other us p.place place v other ∙ there)
             ]
 
@@ -318,8 +306,8 @@ module _ (gen size : ℕ) where
               whose = whose_now;
               own = own_now;
               actors = r.actors
-                  ∙ (map-slice_set done_of us p.place v
-                  ∙ slice_set-same (map done_of us) p.place (done_of u) (slice_get-map done_of us p.place ∙ ap (option_map done_of) p.there));
+                  ∙ (map-set done_of us p.place v
+                  ∙ set_same (map done_of us) p.place (done_of u) (slice_get-map done_of us p.place ∙ ap (option_map done_of) p.there));
               calls = r.calls ∙ m.calls;
             }
 

@@ -1,6 +1,6 @@
 -- The calls under way, with what each has still to do, and which of them makes the next turn of its pass: the first
 -- that has any.
-use Rattle.std.proofs.Common.{◌≡◌, ◌≢◌, inl, inr, ℕ, zero, suc, ◌==◌, true, false, cond, List, [], ◌∷◌, ◌++◌, Option, Some, refl, sym, ap, ◌∙◌, map, slice_get, slice_set}
+use Rattle.std.proofs.Common.{◌≡◌, ◌≢◌, inl, inr, ℕ, zero, suc, ◌==◌, cond, List, [], ◌∷◌, ◌++◌, Option, Some, refl, sym, ap, ◌∙◌, map, slice_get, slice_set}
 use Rattle.std.specs.List.{flat_map}
 use Rattle.std.proofs.lemmas.Bool.Decides.{eqb_tells}
 use Rattle.sysv_model.specs.History.{Who}
@@ -8,6 +8,7 @@ use Rattle.sysv_model.specs.Turn.{Deed, Turn}
 use Rattle.sysv_steps.specs.State.{State}
 use Rattle.sysv_core.specs.World.{Started, Doing, doing_in}
 use Rattle.sysv_free.specs.OrderIsRun.{turn_as, name_at}
+use Rattle.sysv_free.proofs.Places.{number_same, number_other}
 use Rattle.sysv_free.proofs.Playing.{PlaysOn, IsSettled}
 
 -- a call of a pass in the world: where it stands, what turns it has still to make, and where it will stand then
@@ -38,12 +39,6 @@ left_in number us = flat_map (left_of number) us
 
 abbrev pub deeds : List Turn → List Deed
 deeds turns = map (λ (t : Turn). t.deed) turns
-
-pub number_same : (n : ℕ) → (n == n) ≡ true
-number_same n = elim (eqb_tells n n) [ inl same ↦ same.0 | inr other ↦ absurd (other.1 refl) ]
-
-pub number_other : (m n : ℕ) → m ≢ n → (m == n) ≡ false
-number_other m n apart = elim (eqb_tells m n) [ inl same ↦ absurd (apart same.1) | inr other ↦ other.0 ]
 
 -- the call at a place makes the next turn of its pass
 pub record Picked (number : ℕ) (deed : Deed) (us : List Underway) : Type 0 where

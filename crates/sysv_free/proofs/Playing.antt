@@ -1,6 +1,6 @@
 -- A call that is played along its turns can make the next of them in a world, whatever other calls do between.
 use Rattle.std.proofs.Common.{◌≡◌, ℕ, suc, ◌≤◌, List, [], ◌∷◌, ◌++◌, Some, refl, sym, ap, subst, ◌∙◌, append_assoc, slice_get, slice_set}
-use Rattle.std.proofs.lemmas.List.{append-nil}
+use Rattle.std.proofs.lemmas.List.{append-nil, set-set}
 use Rattle.sysv_model.specs.Turn.{Deed, asked_by}
 use Rattle.sysv_objects.specs.LegalDeed.{IsLegalDeed}
 use Rattle.sysv_steps.specs.State.{Phase, Wait, State, Goes, Waits, Over}
@@ -9,9 +9,9 @@ use Rattle.sysv_steps.specs.Next.{next}
 use Rattle.sysv_steps.specs.Resume.{goal_of, resume}
 use Rattle.sysv_steps.specs.Played.{Plays, begins, steps, resumes}
 use Rattle.sysv_core.specs.World.{World, Started, Given, doing_in, given_in, in_state, with_turn}
-use Rattle.sysv_core.proofs.Lists.{slice_set-twice, get_set_same}
 use Rattle.sysv_free.specs.FreeRun.{Moment, TakesTurn, Wakes, LeadsOnThreads}
 use Rattle.sysv_free.specs.OrderIsRun.{turn_as}
+use Rattle.sysv_free.proofs.Places.{get_set_same}
 
 -- ---- lists of moments
 
@@ -117,7 +117,7 @@ module _ (w : World) (place : ℕ) (call : Started) (to : State) (deed : Deed) (
           refl,
         );
         turns = refl;
-        actors = slice_set-twice w.actors place _ _;
+        actors = set-set w.actors place _ _;
         calls = refl;
         generation = refl;
         blocks = refl;

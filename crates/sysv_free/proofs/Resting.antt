@@ -1,11 +1,13 @@
 -- Where no call is under way, none holds a block or tends a row.
 use Rattle.std.proofs.Common.{◌≡◌, ◌⊎◌, inl, inr, ℕ, ℤ, zero, suc, ◌+◌, Bool, true, false, List, [], ◌∷◌, Option, None, Some, refl, sym, ap, subst, ◌∙◌, arith, map, slice_get}
-use Rattle.std.specs.List.{All, sum_by}
+use Rattle.std.specs.List.{range_with_len}
 use Rattle.std.specs.Ordering.{int_eq}
+use Rattle.std.proofs.lemmas.Bool.Decides.{Decides-int_eq}
 use Rattle.std.proofs.lemmas.List.Sums.{sum_by-cons}
 use Rattle.std.proofs.lemmas.Option.{slice_get_within, get_or_from_slice_get}
 use Rattle.sysv_model.specs.declared.attributes.Attributes.{Attributes}
 use Rattle.sysv_model.specs.Live.{live, HasId, IsLive}
+use Rattle.sysv_model.specs.Waiting.{held}
 use Rattle.sysv_model.specs.Turn.{Turn, slot_history, registry_history, pool_history}
 use Rattle.sysv_pool.specs.State.{free_after}
 use Rattle.sysv_queue.specs.Blocks.{blocks_of}
@@ -13,17 +15,15 @@ use Rattle.sysv_keys.specs.declared.identifier.TheConstants.{SLOTS}
 use Rattle.sysv_keys.specs.declared.registry.KeyRow.{KeyRow}
 use Rattle.sysv_keys.specs.Identifier.{slot_of_id}
 use Rattle.sysv_keys.specs.Rows.{IsRow}
-use Rattle.sysv_keys.proofs.Logic.{one_id, same_id}
-use Rattle.sysv_objects.specs.LegalDeed.{AreLegal}
-use Rattle.sysv_steps.specs.State.{State, Phase, Goes, Waits, Over}
+use Rattle.sysv_steps.specs.State.{State, Goes, Waits, Over}
 use Rattle.sysv_steps.specs.Tended.{HasToSettle, HasToForget}
 use Rattle.sysv_core.specs.World.{World, Started, Doing, doing_in}
 use Rattle.sysv_core.specs.Conserved.{blocks_waiting, blocks_in_call, blocks_in_calls}
 use Rattle.sysv_core.specs.Tending.{IsTended}
-use Rattle.sysv_core.proofs.Conserving.{waiting_at, is_sum, same_sum}
-use Rattle.sysv_free.specs.Order.{Numbered, turn_of, turns_of, Called, AreAll}
-use Rattle.sysv_free.specs.OrderIsRun.{started_at, all_standing, Renamed, renamed_turn, IsRunWith, EveryOrderIsARun}
-use Rattle.sysv_free.specs.AtRest.{Rests, AreAtRest, EveryOrderComesToRest}
+use Rattle.sysv_free.specs.Order.{turns_of, Called}
+use Rattle.sysv_free.specs.OrderIsRun.{started_at, all_standing, Renamed, renamed_turn, EveryOrderIsARun}
+use Rattle.sysv_free.specs.AtRest.{Rests, EveryOrderComesToRest}
+use Rattle.sysv_free.proofs.Places.{sums_alike}
 use Rattle.sysv_free.proofs.Renaming.{Acts, held_alike, free_alike, rows_alike, lives_alike}
 
 -- ---- the turns of the world are those of the order
@@ -70,23 +70,21 @@ none_tends start (c ∷ cs) (suc place) d id rest there t = none_tends (suc star
 
 -- ---- a queue lives, or not
 
-decided : (b : Bool) (a id : ℤ) → int_eq a id ≡ b → (a ≡ id) ⊎ (int_eq a id ≡ false)
-decided true a id e = inl (one_id a id e)
-decided false a id e = inr e
+has_it_or_not : (a : Attributes) (id : ℤ) (b : Bool) → int_eq a.id id ≡ b → HasId (Some a) id ⊎ ¬ HasId (Some a) id
+has_it_or_not a id true e = inl ((Decides-int_eq a.id id).0 e)
+has_it_or_not a id false e = inr (λ h. let bad : true ≡ false = sym ((Decides-int_eq a.id id).1 h) ∙ e in cc)
 
 has_id_or_not : (o : Option Attributes) (id : ℤ) → HasId o id ⊎ ¬ HasId o id
 has_id_or_not None id = inr (λ h. h)
-has_id_or_not (Some a) id = elim (decided (int_eq a.id id) a.id id refl) [
-  | inl same ↦ inl same
-  | inr other ↦ inr (λ h. let bad : true ≡ false = sym (same_id a.id id h) ∙ other in cc)
-]
+has_id_or_not (Some a) id = has_it_or_not a id (int_eq a.id id) refl
 
 -- ---- the law
 
 module _ (blocks : ℕ) (turns : List Turn) (w : World) (calls : List Called) (same : Acts w.turns turns) (standing : w.actors ≡ all_standing 0 calls) (rest : (place : ℕ) (c : Called) → slice_get calls place ≡ Some c → Rests c.state) where
   waiting_alike : blocks_waiting w.turns ≡ blocks_waiting turns
+  unfolding blocks_waiting
   waiting_alike =
-      is_sum w.turns ∙ (same_sum (waiting_at w.turns) (waiting_at turns) 0 SLOTS (λ slot low. ap blocks_of (held_alike slot w.turns turns same)) ∙ sym (is_sum turns))
+      sums_alike (λ slot. blocks_of (held (slot_history slot w.turns))) (λ slot. blocks_of (held (slot_history slot turns))) (range_with_len 0 SLOTS) (λ slot. ap blocks_of (held_alike slot w.turns turns same))
 
   all_back : free_after blocks (pool_history w.turns) + (blocks_waiting w.turns + blocks_in_calls w.actors) ≡ blocks → free_after blocks (pool_history turns) + blocks_waiting turns ≡ blocks
   all_back whole =
@@ -113,9 +111,9 @@ pub every_order_comes_to_rest : EveryOrderIsARun → EveryOrderComesToRest
 every_order_comes_to_rest law generation blocks order calls legal all rest =
     let r = law generation blocks order calls legal all in
     let same : Acts r.world.turns (turns_of order) =
-        ap (map (λ (t : Turn). t.deed)) (sym r.turns.in_world) ∙ (same_acts r.turns.renamed ∙ ap (λ ts. map (λ (t : Turn). t.deed) (turns_of ts)) r.turns.in_order) in
+    ap (map (λ (t : Turn). t.deed)) (sym r.turns.in_world) ∙ (same_acts r.turns.renamed ∙ ap (λ ts. map (λ (t : Turn). t.deed) (turns_of ts)) r.turns.in_order) in
     let at_each : (place : ℕ) (c : Called) → slice_get calls place ≡ Some c → Rests c.state =
-        λ place c there. subst (λ (x : Called). Rests x.state) (get_or_from_slice_get calls place c c there) (rest place c (slice_get_within calls place c there)) in
+    λ place c there. subst (λ (x : Called). Rests x.state) (get_or_from_slice_get calls place c c there) (rest place c (slice_get_within calls place c there)) in
     record {
       whole = all_back blocks (turns_of order) r.world calls same r.standing at_each r.obeys.conserved.whole;
       rows = λ row is. settled_row blocks (turns_of order) r.world calls same r.standing at_each row is

@@ -14,11 +14,11 @@ use Rattle.sysv_steps.specs.Played.{Plays}
 use Rattle.sysv_steps.specs.OneAnswer.{OneAnswer}
 use Rattle.sysv_core.specs.World.{World, Opening, Started, Doing, Given, opening, doing_in, given_in, begun, in_state, with_call}
 use Rattle.sysv_core.specs.AnswerLaw.{Fate, stands_in, standing_of, ended, standing}
-use Rattle.sysv_core.proofs.Own.{at_actor, same_itself}
 use Rattle.sysv_free.specs.FreeRun.{Moment, Starts, LeadsOnThreads, starting_with}
 use Rattle.sysv_free.specs.OnThreads.{ObeysOnThreads, EveryThreadedRunObeys}
 use Rattle.sysv_free.specs.Order.{Numbered, turns_of, Called, IsPlayed, deeds_in, AreAll}
 use Rattle.sysv_free.specs.OrderIsRun.{opening_for, name_at, started_at, all_started, all_standing, EndsAs, renamed_turn, turn_as, turns_in, IsRunWith, EveryOrderIsARun}
+use Rattle.sysv_free.proofs.Places.{same_name}
 use Rattle.sysv_free.proofs.Playing.{leads_more, PlaysOn, is_there, plays_on, IsSettled}
 use Rattle.sysv_free.proofs.Picking.{Underway, doing_of, done_of, IsRight, left_of, left_in, deeds}
 use Rattle.sysv_free.proofs.Ordering.{Holds, Went, goes}
@@ -213,24 +213,37 @@ module _ (obeys : EveryThreadedRunObeys) (one : OneAnswer) (gen size : ℕ) (ord
       actors_are : r.world.actors ≡ all_standing 0 calls
       actors_are = r.actors ∙ done_at_start 0 calls
 
-      ends_as : (place : ℕ) (c : Called) → slice_get calls place ≡ Some c → EndsAs r.world (s.given ++ r.given) (name_at place) c
-      ends_as place c there =
-          let call : Started = started_at place c in
-          let at : slice_get r.world.calls place ≡ Some call = ap (λ cs. slice_get cs place) calls_are ∙ (started_there 0 calls place c there ∙ ap (λ n. Some (started_at n c)) (omega arith)) in
-          let fate : Fate r.world (s.given ++ r.given) call =
-          subst (Fate r.world (s.given ++ r.given)) (get_or_from_slice_get r.world.calls place call call at) (it_obeys.calls place call (slice_get_within r.world.calls place call at)) in
-          let its : deeds_of (name_at place) r.world.turns ≡ c.deeds =
-          ap (deeds_of (name_at place)) turns_are ∙ r.own place (underway_at place c) (underway_there 0 calls place c there ∙ ap (λ n. Some (underway_at n c)) (omega arith)) in
-          let stands : standing_of (name_at place) r.world.actors ≡ standing c.state =
-          at_actor (name_at place) place place r.world.actors refl
-          ∙ (ap (stands_in (name_at place)) (ap (λ ds. slice_get ds place) actors_are ∙ (standing_at 0 calls place c there ∙ ap (λ n. Some (doing_in (started_at n c) c.state)) (omega arith)))
-          ∙ in_its_place call c.state (same_itself place place (name_at place) refl)) in
-          record {
-            deeds = its;
-            answered = fate.answered
-                ∙ one_ending one c.cred c.asked c.released c.deeds fate.state c.state (subst (λ ds. Plays (begin c.cred c.asked c.released) ds fate.state) its fate.plays) (played_at place c there)
-                (sym fate.stands ∙ stands);
-          }
+      -- the call at a place of the list
+      module _ (place : ℕ) (c : Called) (there : slice_get calls place ≡ Some c) where
+        abbrev call : Started
+        call = started_at place c
+
+        at_place : {X : Type 0} (f : ℕ → X) → f (0 + place) ≡ f place
+        at_place f = ap f (omega arith)
+
+        call_at : slice_get r.world.calls place ≡ Some call
+        call_at = ap (λ cs. slice_get cs place) calls_are ∙ (started_there 0 calls place c there ∙ at_place (λ n. Some (started_at n c)))
+
+        fate : Fate r.world (s.given ++ r.given) call
+        fate =
+            subst (Fate r.world (s.given ++ r.given)) (get_or_from_slice_get r.world.calls place call call call_at) (it_obeys.calls place call (slice_get_within r.world.calls place call call_at))
+
+        its_deeds : deeds_of (name_at place) r.world.turns ≡ c.deeds
+        its_deeds = ap (deeds_of (name_at place)) turns_are ∙ r.own place (underway_at place c) (underway_there 0 calls place c there ∙ at_place (λ n. Some (underway_at n c)))
+
+        its_place : standing_of (name_at place) r.world.actors ≡ standing c.state
+        its_place =
+            ap (λ ds. stands_in (name_at place) (slice_get ds place)) actors_are
+            ∙ (ap (stands_in (name_at place)) (standing_at 0 calls place c there ∙ at_place (λ n. Some (doing_in (started_at n c) c.state)))
+            ∙ in_its_place call c.state (same_name (name_at place) place refl))
+
+        ends_as : EndsAs r.world (s.given ++ r.given) (name_at place) c
+        ends_as = record {
+          deeds = its_deeds;
+          answered = fate.answered
+              ∙ one_ending one c.cred c.asked c.released c.deeds fate.state c.state (subst (λ ds. Plays (begin c.cred c.asked c.released) ds fate.state) its_deeds fate.plays) (played_at place c there)
+              (sym fate.stands ∙ its_place);
+        }
 
       is_run : IsRunWith gen size order calls
       is_run = record {

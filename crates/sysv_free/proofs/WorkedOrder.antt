@@ -15,7 +15,7 @@ use Rattle.sysv_steps.specs.Played.{begins, steps, resumes}
 use Rattle.sysv_free.specs.Order.{Numbered, turns_of, Called, IsPlayed, AreAll, shows_row, deeds_by, deeds_in}
 use Rattle.sysv_free.specs.OrderIsRun.{EveryOrderIsARun}
 use Rattle.sysv_free.specs.AtRest.{Rests, EveryOrderComesToRest}
-use Rattle.sysv_free.proofs.Picking.{number_other}
+use Rattle.sysv_free.proofs.Places.{number_other}
 use Rattle.sysv_free.proofs.Ordering.{by_another}
 use Rattle.sysv_free.specs.WorkedOrder.{sender, receiver, hello, hello_message, creating, makes, installs, settles, finds_none, looks, reserves, reads_row, places, takes, finds_no_other, gives_back, discards, forgets, gives_back_none, by, the_order, the_get, the_send, the_receive, left_at, the_left, the_removal, calls_with, the_calls, WorkedOrder}
 
