@@ -3,6 +3,7 @@ pub mod Renaming
 pub mod Playing
 pub mod Picking
 pub mod Ordering
+pub mod RowsApart
 pub mod Starting
 pub mod Resting
 pub mod WorkedOrder

@@ -74,7 +74,7 @@ in_its_call t quiet = ap (λ b. (t.by == t.by) && not b) quiet ∙ ap (λ b. b &
 in_no_other_call : (t : Numbered) (number : ℕ) → t.by ≢ number → is_in_call_of number t ≡ false
 in_no_other_call t number apart = ap (λ b. b && not (shows_row t.deed)) (number_other t.by number apart)
 
-row_form : (deed : Deed) → shows_row deed ≡ true → (slot : ℕ) × (reply : Reply) × (deed ≡ AtSlot slot ReadRow reply)
+pub row_form : (deed : Deed) → shows_row deed ≡ true → (slot : ℕ) × (reply : Reply) × (deed ≡ AtSlot slot ReadRow reply)
 row_form (AtSlot slot ReadRow reply) e = (slot, reply, refl)
 row_form deed e = absurd cc
 

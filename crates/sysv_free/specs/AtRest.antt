@@ -1,5 +1,5 @@
--- An order of turns once no call of it is under way: each call is over, or was left at a wait. Then no block is with a
--- call, and no key is bound to nothing (this profile's).
+-- An order of turns, once no call of it is under way: each is over, or was left at a wait. Then no call holds a block,
+-- and no key is bound to nothing (this profile's).
 use Rattle.std.specs.Prelude.{◌≡◌, ℕ, ◌+◌, true, List, All}
 use Rattle.sysv_model.specs.Live.{IsLive}
 use Rattle.sysv_model.specs.Turn.{Turn, slot_history, registry_history, pool_history}
@@ -12,7 +12,7 @@ use Rattle.sysv_steps.specs.State.{State, Goes, Waits, Over}
 use Rattle.sysv_core.specs.Conserved.{blocks_waiting}
 use Rattle.sysv_free.specs.Order.{Numbered, turns_of, Called, AreAll}
 
--- the call makes no turn any more
+-- the call makes no more turns
 abbrev pub Rests : State → Type 0
 Rests (Goes phase) = ⊥
 Rests (Waits wait) = Unit {0}

@@ -1,5 +1,5 @@
--- One order of the turns that passes make on threads, and the calls that made them. A pass is known by its number,
--- and makes one call at a time (this profile's).
+-- One order of the turns that passes make on threads, and the calls that made them. A pass has a number, and makes one
+-- call at a time (this profile's).
 use Rattle.std.specs.Prelude.{◌≡◌, ℕ, ◌==◌, ◌&&◌, Bool, true, false, not, List, [], All, filter, map, if◌then◌else◌}
 use Rattle.std.specs.List.{flat_map}
 use Rattle.sysv_model.specs.declared.cred.Cred.{Cred}
@@ -17,24 +17,23 @@ pub record Numbered : Type 0 where
   pub by : ℕ
   pub deed : Deed
 
--- as one of the histories of the objects, in which a seat has the number of its pass
+-- as in the histories of the objects, where a seat has the number of its pass
 abbrev pub turn_of : Numbered → Turn
 turn_of t = record { who = Seat t.by; deed = t.deed }
 
 abbrev pub turns_of : List Numbered → List Turn
 turns_of order = map turn_of order
 
--- The turn reads the row of a slot. No step of a call asks for that, so it is a turn of no call: a pass makes it to
--- list the queues, or to stop
+-- The turn reads the row of a slot. It belongs to no call: a pass makes it to list the queues, or to stop
 abbrev pub shows_row : Deed → Bool
 shows_row (AtSlot slot ReadRow reply) = true
 shows_row deed = false
 
 -- ---- the calls
 
--- A call of a pass: under which credentials, what it was asked, the released count that it was told at its start, the
--- turns that it made, in order, and where it stands. It is over, or it was left at a wait and stands there for good, or
--- it is still under way
+-- A call of a pass: its credentials, what it was asked, the released count that it was told at its start, the turns
+-- that it made, in order, and where it stands. It is over, or it was left at a wait and stands there for good, or it is
+-- still under way
 pub record Called : Type 0 where
   pub by : ℕ
   pub cred : Cred
@@ -43,8 +42,8 @@ pub record Called : Type 0 where
   pub deeds : List Deed
   pub state : State
 
--- The step table, taken along its turns from its start, leads to where it stands. A call that found a gate worn out is
--- not played so
+-- The step table, taken along its turns from its start, leads to where it stands. This is not so of a call that found
+-- a gate worn out
 abbrev pub IsPlayed : Called → Type 0
 IsPlayed c = Plays (begin c.cred c.asked c.released) c.deeds c.state
 
@@ -52,7 +51,7 @@ IsPlayed c = Plays (begin c.cred c.asked c.released) c.deeds c.state
 abbrev pub is_in_call_of : ℕ → Numbered → Bool
 is_in_call_of number t = (t.by == number) && not (shows_row t.deed)
 
--- what the pass did in calls, by the order of all turns, and by its calls, one after the other
+-- what the pass did in calls: by the order of all turns, and by its calls, one after the other
 abbrev pub deeds_by : ℕ → List Numbered → List Deed
 deeds_by number order = map (λ (t : Numbered). t.deed) (filter (is_in_call_of number) order)
 
@@ -65,3 +64,7 @@ pub record AreAll (order : List Numbered) (calls : List Called) : Type 0 where
   pub played : All IsPlayed calls
   -- and each pass made the turns of its calls, one call after the other, and no others but to read rows
   pub whole : (number : ℕ) → deeds_by number order ≡ deeds_in number calls
+
+-- no call reads a row, so none is lost where those turns are left out
+abbrev pub NoCallReadsARow : Type 0
+NoCallReadsARow = (c : Called) → IsPlayed c → All (λ (deed : Deed). shows_row deed ≡ false) c.deeds

@@ -1,11 +1,12 @@
--- Every order of turns with the calls that its passes made is a free run. The run has the turns of the order, each
--- where it is there, and the calls as they were made; so the headline of threads holds of them.
+-- Every order of turns, with the calls that its passes made, is a free run. The run has the turns of the order, in the
+-- same places, and the calls with their answers. So the headline of threads holds of them.
 --
--- In the run each call is the only one of an actor of its own, and all calls are started before the first turn. This
--- loses nothing. A free run lets a call be told any released count at its start, and no law of the headline reads when
--- a call was started, or compares two calls of one actor; and a pass goes on with other calls after one that it left
--- at a wait, where an actor would stand for good. That a pass makes one call after the other stays: it says which of
--- its calls made each turn (this profile's).
+-- In the run each call is the only one of an actor of its own, and all calls start before the first turn. This loses
+-- nothing. A call of a free run may be told any released count at its start, and no law of the headline reads when a
+-- call started, or compares two calls of one actor. A pass makes other calls after one that it left at a wait, and an
+-- actor could not, since it is in that call for good. That a pass makes one call after the other is kept: it decides
+-- which of its calls made each turn. And which replies are legal does not depend on who makes the turns (this
+-- profile's).
 use Rattle.std.specs.Prelude.{◌≡◌, ℕ, suc, ◌==◌, true, List, [], ◌∷◌, ◌++◌, length, Option, Some, slice_get, All, filter, map, if◌then◌else◌}
 use Rattle.sysv_model.specs.History.{Who, Actor}
 use Rattle.sysv_model.specs.Turn.{Deed, Turn, deeds_of}
@@ -29,8 +30,8 @@ name_at place = Actor (suc place) place
 abbrev pub started_at : ℕ → Called → Started
 started_at place c = record { who = name_at place; cred = c.cred; asked = c.asked; released = c.released }
 
--- the calls from that place on, and what their actors do: where a call is over its actor is idle, and else it is in the
--- call, where that stands
+-- the calls from that place on, and what their actors do: the actor of a call that is over is idle, and that of any
+-- other is in it, where it stands
 abbrev pub all_started : ℕ → List Called → List Started
 all_started place [] = []
 all_started place (c ∷ cs) = started_at place c ∷ all_started (suc place) cs
@@ -39,7 +40,7 @@ abbrev pub all_standing : ℕ → List Called → List (Option Doing)
 all_standing place [] = []
 all_standing place (c ∷ cs) = doing_in (started_at place c) c.state ∷ all_standing (suc place) cs
 
--- the call of that name made these turns, and has the one answer of its end, or none if it is not over
+-- the call of that name made the turns of this one, and has its answer and no other; if it is not over it has none
 pub record EndsAs (w : World) (given : List Given) (who : Who) (c : Called) : Type 0 where
   pub deeds : deeds_of who w.turns ≡ c.deeds
   pub answered : endings_of who given ≡ ended c.state
@@ -57,8 +58,8 @@ turn_as who deed = record { who = who; deed = deed }
 abbrev pub renamed_turn : Renamed → Turn
 renamed_turn r = turn_as r.name r.turn.deed
 
--- the turns of the pass's calls, by the order of all turns, and by the calls from that place of the list on, one after
--- the other
+-- the turns that the pass made in calls: by the order of all turns, and by its calls from that place of the list on, one
+-- after the other
 abbrev pub turns_by : ℕ → List Renamed → List Turn
 turns_by number renamed = map renamed_turn (filter (λ (r : Renamed). is_in_call_of number r.turn) renamed)
 
@@ -66,8 +67,8 @@ abbrev pub turns_in : ℕ → ℕ → List Called → List Turn
 turns_in number place [] = []
 turns_in number place (c ∷ cs) = (if c.by == number then map (turn_as (name_at place)) c.deeds else []) ++ turns_in number (suc place) cs
 
--- The turns are those of the order, and in the same places. A turn that reads a row is nobody's, and each other one is
--- that of the call that made it: the pass made the turns of its calls one call after the other
+-- The turns are those of the order, in the same places. One that reads a row is nobody's. Each other one is that of the
+-- call that made it, since the pass made the turns of its calls one call after the other
 pub record HasTurnsOf (order : List Numbered) (calls : List Called) (turns : List Turn) : Type 0 where
   pub renamed : List Renamed
   pub in_order : map (λ (r : Renamed). r.turn) renamed ≡ order
@@ -89,7 +90,7 @@ pub record IsRunWith (generation blocks : ℕ) (order : List Numbered) (calls : 
   -- its calls are the calls, each with its turns and its answer
   pub started : world.calls ≡ all_started 0 calls
   pub each : (place : ℕ) (c : Called) → slice_get calls place ≡ Some c → EndsAs world given (name_at place) c
-  -- an actor is in a call only if that is not over, and then where it stands
+  -- an actor is in its call where that stands, or idle if it is over
   pub standing : world.actors ≡ all_standing 0 calls
   -- and all laws of the headline of threads hold of it
   pub obeys : ObeysOnThreads (opening_for generation blocks calls) world given

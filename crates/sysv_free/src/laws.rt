@@ -2,6 +2,7 @@
 
 ghost use Rattle.sysv_free.specs.AtRest.{EveryOrderComesToRest};
 ghost use Rattle.sysv_free.specs.OnThreads.{EveryThreadedRunObeys};
+ghost use Rattle.sysv_free.specs.Order.{NoCallReadsARow};
 ghost use Rattle.sysv_free.specs.OrderIsRun.{EveryOrderIsARun};
 ghost use Rattle.sysv_free.specs.RunIsFree.{EachRunIsFree};
 ghost use Rattle.sysv_free.specs.WorkedOrder.{WorkedOrder};
@@ -47,6 +48,11 @@ pub fn every_order_is_a_run()
     every_threaded_run_obeys();
     one_answer();
 }
+
+/// No call reads a row, so a turn that does belongs to no call.
+pub fn no_call_reads_a_row()
+    ensures { NoCallReadsARow }
+{}
 
 /// Once no call of an order is under way, each block is free or under a queued message, and each key is bound to a
 /// queue that lives.
