@@ -17,7 +17,7 @@ use Rattle.sysv_free.specs.OrderIsRun.{EveryOrderIsARun}
 use Rattle.sysv_free.specs.AtRest.{Rests, EveryOrderComesToRest}
 use Rattle.sysv_free.proofs.Places.{number_other}
 use Rattle.sysv_free.proofs.Ordering.{by_another}
-use Rattle.sysv_free.specs.WorkedOrder.{sender, receiver, hello, hello_message, creating, makes, installs, settles, finds_none, looks, reserves, reads_row, places, takes, finds_no_other, gives_back, discards, forgets, gives_back_none, by, the_order, the_get, the_send, the_receive, left_at, the_left, the_removal, calls_with, the_calls, WorkedOrder}
+use Rattle.sysv_free.specs.WorkedOrder.{sender, receiver, hello, hello_message, creating, makes, installs, settles, finds_none, looks, reserves, reads_row, places, takes, finds_no_other, gives_back, discards, forgets, gives_back_none, by, the_order, the_get, the_send, the_receive, left_at, the_left, the_refused, the_removal, calls_with, the_calls, WorkedOrder}
 
 -- ---- legal
 
@@ -140,20 +140,21 @@ with_answer = the_receive (Over (Got (pos 5) hello))
 
 all_played : All IsPlayed the_calls
 all_played =
-    All-cons IsPlayed the_get (with_answer ∷ the_send ∷ the_left ∷ the_removal ∷ []) plays_get
-    (All-cons IsPlayed with_answer (the_send ∷ the_left ∷ the_removal ∷ []) plays_receive
-    (All-cons IsPlayed the_send (the_left ∷ the_removal ∷ []) plays_send
-    (All-cons IsPlayed the_left (the_removal ∷ []) plays_left
-    (All-cons IsPlayed the_removal [] plays_removal (All-nil IsPlayed)))))
+    All-cons IsPlayed the_get (with_answer ∷ the_send ∷ the_left ∷ the_removal ∷ the_refused ∷ []) plays_get
+    (All-cons IsPlayed with_answer (the_send ∷ the_left ∷ the_removal ∷ the_refused ∷ []) plays_receive
+    (All-cons IsPlayed the_send (the_left ∷ the_removal ∷ the_refused ∷ []) plays_send
+    (All-cons IsPlayed the_left (the_removal ∷ the_refused ∷ []) plays_left
+    (All-cons IsPlayed the_removal (the_refused ∷ []) plays_removal
+    (All-cons IsPlayed the_refused [] begins (All-nil IsPlayed))))))
 
 abbrev Rested : Called → Type 0
 Rested c = Rests c.state
 
 all_rest : All Rested the_calls
 all_rest =
-    All-cons Rested the_get (with_answer ∷ the_send ∷ the_left ∷ the_removal ∷ []) tt
-    (All-cons Rested with_answer (the_send ∷ the_left ∷ the_removal ∷ []) tt
-    (All-cons Rested the_send (the_left ∷ the_removal ∷ []) tt (All-cons Rested the_left (the_removal ∷ []) tt (All-cons Rested the_removal [] tt (All-nil Rested)))))
+    All-cons Rested the_get (with_answer ∷ the_send ∷ the_left ∷ the_removal ∷ the_refused ∷ []) tt
+    (All-cons Rested with_answer (the_send ∷ the_left ∷ the_removal ∷ the_refused ∷ []) tt
+    (All-cons Rested the_send (the_left ∷ the_removal ∷ the_refused ∷ []) tt (All-cons Rested the_left (the_removal ∷ the_refused ∷ []) tt (All-cons Rested the_removal (the_refused ∷ []) tt (All-cons Rested the_refused [] tt (All-nil Rested))))))
 
 -- only the passes 0, 1 and 2 have made turns
 low : ℕ → Bool
@@ -204,10 +205,10 @@ no_other_answer right a =
     let bad = (r.0 refl).0 in
     absurd cc
 
-none_left_out : ¬ AreAll the_order (the_get ∷ the_receive (Over (Got (pos 5) hello)) ∷ the_left ∷ the_removal ∷ [])
+none_left_out : ¬ AreAll the_order (the_get ∷ the_receive (Over (Got (pos 5) hello)) ∷ the_left ∷ the_removal ∷ the_refused ∷ [])
 none_left_out a = let bad = a.whole 0 in absurd cc
 
-in_turn : ¬ AreAll the_order (the_send ∷ the_get ∷ the_receive (Over (Got (pos 5) hello)) ∷ the_left ∷ the_removal ∷ [])
+in_turn : ¬ AreAll the_order (the_send ∷ the_get ∷ the_receive (Over (Got (pos 5) hello)) ∷ the_left ∷ the_removal ∷ the_refused ∷ [])
 in_turn a = let bad = a.whole 0 in absurd cc
 
 not_early : ¬ AreLegal 0 128 (turns_of (take 4 the_order ++ by 1 takes ∷ []))

@@ -1,11 +1,12 @@
 -- A worked order: three passes, whose turns interleave. Pass 0 makes a queue. Pass 1 receives, finds no message and
 -- waits; pass 0 sends one, and pass 1, whose wait is over, takes it. Between them pass 2 lists the queue. Then pass 0
--- receives and is left at its wait, and at last stops: it reads the row, and removes the queue as user 0. Below stand
--- calls that are not those of the order, and an order that is not legal.
+-- receives and is left at its wait, and at last stops: it reads the row, and removes the queue as user 0. A last send of
+-- pass 1 is refused at its start and makes no turn. Below are calls that are not those of the order, and an order that
+-- is not legal.
 use Rattle.std.specs.Prelude.{ℕ, pos, true, false, List, [], ◌∷◌, ◌++◌, Some, take, codes}
 use Rattle.sysv_model.specs.declared.attributes.Row.{Row}
 use Rattle.sysv_model.specs.declared.cred.Cred.{Cred}
-use Rattle.sysv_model.specs.declared.errno.Errno.TheVariants.{ENOMSG}
+use Rattle.sysv_model.specs.declared.errno.Errno.TheVariants.{EINVAL, ENOMSG}
 use Rattle.sysv_model.specs.declared.flags.Flags.{Flags}
 use Rattle.sysv_model.specs.declared.flags.TheConstants.Flags.{IPC_NOWAIT, MSG_NOERROR}
 use Rattle.sysv_model.specs.declared.limits.TheConstants.{IPC_PRIVATE}
@@ -122,6 +123,10 @@ the_receive state = record {
   state = state;
 }
 
+-- its type is 0
+abbrev pub the_refused : Called
+the_refused = record { by = 1; cred = receiver; asked = Msgsnd (pos 0) (pos 0) IPC_NOWAIT hello; released = 0; deeds = []; state = Over (Refused EINVAL) }
+
 -- it was left, and would have taken a second message
 abbrev pub left_at : Receiving
 left_at = record { cred = sender; id = pos 0; selector = Any; size = 100; noerror = true; nowait = false; seen = true }
@@ -140,7 +145,7 @@ abbrev pub the_removal : Called
 the_removal = record { by = 0; cred = superuser; asked = MsgctlRmid (pos 0); released = 0; deeds = discards ∷ forgets ∷ gives_back_none ∷ []; state = Over Zero }
 
 abbrev pub calls_with : State → List Called
-calls_with state = the_get ∷ the_receive state ∷ the_send ∷ the_left ∷ the_removal ∷ []
+calls_with state = the_get ∷ the_receive state ∷ the_send ∷ the_left ∷ the_removal ∷ the_refused ∷ []
 
 abbrev pub the_calls : List Called
 the_calls = calls_with (Over (Got (pos 5) hello))
@@ -157,7 +162,7 @@ pub record WorkedOrder : Type 0 where
   -- the receive has no other answer
   pub answered_otherwise : ¬ AreAll the_order (calls_with (Over (Refused ENOMSG)))
   -- no call is left out, and none stands before one that its pass made earlier
-  pub left_out : ¬ AreAll the_order (the_get ∷ the_receive (Over (Got (pos 5) hello)) ∷ the_left ∷ the_removal ∷ [])
-  pub out_of_turn : ¬ AreAll the_order (the_send ∷ the_get ∷ the_receive (Over (Got (pos 5) hello)) ∷ the_left ∷ the_removal ∷ [])
+  pub left_out : ¬ AreAll the_order (the_get ∷ the_receive (Over (Got (pos 5) hello)) ∷ the_left ∷ the_removal ∷ the_refused ∷ [])
+  pub out_of_turn : ¬ AreAll the_order (the_send ∷ the_get ∷ the_receive (Over (Got (pos 5) hello)) ∷ the_left ∷ the_removal ∷ the_refused ∷ [])
   -- no message is taken before it was sent
   pub taken_early : ¬ AreLegal 0 128 (turns_of (take 4 the_order ++ by 1 takes ∷ []))
