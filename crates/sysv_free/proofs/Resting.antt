@@ -22,7 +22,7 @@ use Rattle.sysv_core.specs.Conserved.{blocks_waiting, blocks_in_call, blocks_in_
 use Rattle.sysv_core.specs.Tending.{IsTended}
 use Rattle.sysv_free.specs.Order.{turns_of, Called}
 use Rattle.sysv_free.specs.OrderIsRun.{started_at, all_standing, Renamed, renamed_turn, EveryOrderIsARun}
-use Rattle.sysv_free.specs.AtRest.{Rests, EveryOrderComesToRest}
+use Rattle.sysv_free.specs.AtRest.{Rests, OrdersAtRest}
 use Rattle.sysv_free.proofs.Places.{sums_alike}
 use Rattle.sysv_free.proofs.Renaming.{Acts, held_alike, free_alike, rows_alike, lives_alike}
 
@@ -107,8 +107,8 @@ module _ (blocks : ℕ) (turns : List Turn) (w : World) (calls : List Called) (s
       by_life (inr gone) =
           absurd (untended row.id (tends (inr (λ h. gone (subst (λ o. HasId o row.id) (lives_alike (slot_of_id row.id) w.turns turns same) h)))))
 
-pub every_order_comes_to_rest : EveryOrderIsARun → EveryOrderComesToRest
-every_order_comes_to_rest law generation blocks order calls legal all rest =
+pub orders_at_rest : EveryOrderIsARun → OrdersAtRest
+orders_at_rest law generation blocks order calls legal all rest =
     let r = law generation blocks order calls legal all in
     let same : Acts r.world.turns (turns_of order) =
     ap (map (λ (t : Turn). t.deed)) (sym r.turns.in_world) ∙ (same_acts r.turns.renamed ∙ ap (λ ts. map (λ (t : Turn). t.deed) (turns_of ts)) r.turns.in_order) in

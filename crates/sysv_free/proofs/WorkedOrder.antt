@@ -14,7 +14,7 @@ use Rattle.sysv_steps.specs.State.{Goes, Waits, Over, Id, Zero, Got, Refused, On
 use Rattle.sysv_steps.specs.Played.{begins, steps, resumes}
 use Rattle.sysv_free.specs.Order.{Numbered, turns_of, Called, IsPlayed, AreAll, shows_row, deeds_by, deeds_in}
 use Rattle.sysv_free.specs.OrderIsRun.{EveryOrderIsARun}
-use Rattle.sysv_free.specs.AtRest.{Rests, EveryOrderComesToRest}
+use Rattle.sysv_free.specs.AtRest.{Rests, OrdersAtRest}
 use Rattle.sysv_free.proofs.Places.{number_other}
 use Rattle.sysv_free.proofs.Ordering.{by_another}
 use Rattle.sysv_free.specs.WorkedOrder.{sender, receiver, hello, hello_message, creating, makes, installs, settles, finds_none, looks, reserves, reads_row, places, takes, finds_no_other, gives_back, discards, forgets, gives_back_none, by, the_order, the_get, the_send, the_receive, left_at, the_left, the_refused, the_removal, calls_with, the_calls, WorkedOrder}
@@ -217,7 +217,7 @@ not_early l =
     none_is_named t.2.0 t.2.1
 
 pub worked_order : AreLegal 0 128 [] → ((generation blocks : ℕ) (turns : List Turn) (who : Who) (deed : Deed) → AreLegal generation blocks turns → IsLegalDeed generation blocks turns deed → AreLegal generation blocks (turns ++ record { who = who; deed = deed } ∷ [])) →
-    EachAnswerIsRight → EveryOrderIsARun → EveryOrderComesToRest → WorkedOrder
+    EachAnswerIsRight → EveryOrderIsARun → OrdersAtRest → WorkedOrder
 worked_order none more right law rest = record {
   legal = legal_order none more;
   all = all_calls;

@@ -1,5 +1,5 @@
 -- An order of turns, once no call of it is under way: each is over, or was left at a wait. Then no call holds a block,
--- and no key is bound to nothing (this profile's).
+-- and no key is bound to nothing. That it comes to this is not claimed (this profile's).
 use Rattle.std.specs.Prelude.{◌≡◌, ℕ, ◌+◌, true, List, All}
 use Rattle.sysv_model.specs.Live.{IsLive}
 use Rattle.sysv_model.specs.Turn.{Turn, slot_history, registry_history, pool_history}
@@ -24,6 +24,6 @@ pub record AreAtRest (blocks : ℕ) (turns : List Turn) : Type 0 where
   -- each row is settled, and its queue lives
   pub rows : (row : KeyRow) → IsRow (registry_history turns) row → (row.live ≡ true) × IsLive (slot_history (slot_of_id row.id) turns) row.id
 
-abbrev pub EveryOrderComesToRest : Type 0
-EveryOrderComesToRest = (generation blocks : ℕ) (order : List Numbered) (calls : List Called) →
+abbrev pub OrdersAtRest : Type 0
+OrdersAtRest = (generation blocks : ℕ) (order : List Numbered) (calls : List Called) →
     AreLegal generation blocks (turns_of order) → AreAll order calls → All (λ (c : Called). Rests c.state) calls → AreAtRest blocks (turns_of order)

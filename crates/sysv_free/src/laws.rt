@@ -1,6 +1,6 @@
 //! Laws of free runs.
 
-ghost use Rattle.sysv_free.specs.AtRest.{EveryOrderComesToRest};
+ghost use Rattle.sysv_free.specs.AtRest.{OrdersAtRest};
 ghost use Rattle.sysv_free.specs.OnThreads.{EveryThreadedRunObeys};
 ghost use Rattle.sysv_free.specs.Order.{NoCallReadsARow};
 ghost use Rattle.sysv_free.specs.OrderIsRun.{EveryOrderIsARun};
@@ -56,8 +56,8 @@ pub fn no_call_reads_a_row()
 
 /// Once no call of an order is under way, each block is free or under a queued message, and each key is bound to a
 /// queue that lives.
-pub fn every_order_comes_to_rest()
-    ensures { EveryOrderComesToRest }
+pub fn orders_at_rest()
+    ensures { OrdersAtRest }
 {
     every_order_is_a_run();
 }
@@ -70,5 +70,5 @@ pub fn worked_order()
     legal_turns();
     each_answer_is_right();
     every_order_is_a_run();
-    every_order_comes_to_rest();
+    orders_at_rest();
 }
