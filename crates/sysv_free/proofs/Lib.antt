@@ -1,3 +1,12 @@
+pub mod Places
+pub mod Renaming
+pub mod Playing
+pub mod Picking
+pub mod Ordering
+pub mod RowsApart
+pub mod Starting
+pub mod Resting
+pub mod WorkedOrder
 pub mod Reading
 pub mod Threading
 pub mod RunIsFree

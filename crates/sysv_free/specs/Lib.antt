@@ -19,3 +19,7 @@ pub use Rattle.sysv_core.specs.LastWords
 pub mod FreeRun
 pub mod OnThreads
 pub mod RunIsFree
+pub mod Order
+pub mod OrderIsRun
+pub mod WorkedOrder
+pub mod AtRest

@@ -1,7 +1,11 @@
 //! Free runs: what threads can make of a world. The turns are those of a world, and what a call reads between
-//! its turns may be anything that the step table admits. The crate contains only laws.
+//! its turns may be anything that the step table admits. One order of all turns, with the calls that made them, is
+//! such a run. The crate contains only laws.
 #![tactic(auto)]
 
 mod laws;
 
-pub use laws::{each_run_is_free, every_threaded_run_obeys};
+pub use laws::{
+    each_run_is_free, every_order_is_a_run, every_threaded_run_obeys, no_call_reads_a_row,
+    orders_at_rest, worked_order,
+};
