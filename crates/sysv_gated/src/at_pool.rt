@@ -27,7 +27,8 @@ impl Gates {
         requires { AreOf self.now seats.old }
         ensures seats { AreOf self.now seats.new }
         ensures ok { IfOk result (λ r. PoolAnswers seats.old call r seats.new) }
-        ensures worn { IfErr result (λ w. (w.call ≡ call) × FindsWorn seats.old (OfPool (pool_call call)) seats.new) }
+        ensures worn { IfErr result (λ w. (w.call ≡ call)
+            × FindsWorn seats.old (OfPool (pool_call call)) seats.new) }
     {
         self.pool.call(rt, &mut seats.pool, call)
     }
@@ -42,8 +43,10 @@ impl Gates {
         requires seats { AreOf self.now seats.old }
         requires short { size ≤ most_bytes }
         ensures seats { AreOf self.now seats.new }
-        ensures ok { IfOk result (λ chain. MakesTurnAt seats.old (AtPool (Reserve size) (reserve_reply chain)) seats.new) }
-        ensures chain { IfOk result (λ some. IfSome some (λ chain. chain ≡ record { blocks = blocks_for size; bytes = [] })) }
+        ensures ok { IfOk result (λ chain.
+            MakesTurnAt seats.old (AtPool (Reserve size) (reserve_reply chain)) seats.new) }
+        ensures chain { IfOk result (λ some.
+            IfSome some (λ chain. chain ≡ record { blocks = blocks_for size; bytes = [] })) }
         ensures worn { OnErr result (FindsWorn seats.old (OfPool (Reserve size)) seats.new) }
     {
         match self.at_pool(rt, seats, PoolCall::Reserve(TextSize::of(size))) {
@@ -67,9 +70,11 @@ impl Gates {
     ) -> Result<Result<(), Chain>, Chain>
         requires { AreOf self.now seats.old }
         ensures seats { AreOf self.now seats.new }
-        ensures ok { IfOk result (λ done. MakesTurnAt seats.old (AtPool (Release chain.blocks) (release_reply done)) seats.new) }
+        ensures ok { IfOk result (λ done.
+            MakesTurnAt seats.old (AtPool (Release chain.blocks) (release_reply done)) seats.new) }
         ensures refused { IfOk result (λ done. IfErr done (λ back. back ≡ chain)) }
-        ensures worn { IfErr result (λ back. (back ≡ chain) × FindsWorn seats.old (OfPool (Release chain.blocks)) seats.new) }
+        ensures worn { IfErr result (λ back. (back ≡ chain)
+            × FindsWorn seats.old (OfPool (Release chain.blocks)) seats.new) }
     {
         match self.at_pool(rt, seats, PoolCall::Release(chain)) {
             Ok(PoolReply::Released(done)) => Ok(done),

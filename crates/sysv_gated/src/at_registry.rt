@@ -26,7 +26,8 @@ impl Gates {
         requires { AreOf self.now seats.old }
         ensures seats { AreOf self.now seats.new }
         ensures ok { IfOk result (λ r. RegistryAnswers seats.old call r seats.new) }
-        ensures worn { OnErr result (FindsWorn seats.old (OfRegistry (registry_call call)) seats.new) }
+        ensures worn { OnErr result (FindsWorn seats.old
+            (OfRegistry (registry_call call)) seats.new) }
     {
         match self.registry.call(rt, &mut seats.registry, call) {
             Ok(reply) => Ok(reply),
@@ -44,7 +45,8 @@ impl Gates {
     ) -> Result<Begun, Worn>
         requires { AreOf self.now seats.old }
         ensures seats { AreOf self.now seats.new }
-        ensures ok { IfOk result (λ begun. MakesTurnAt seats.old (AtRegistry (Begin key flags) (begun_reply begun)) seats.new) }
+        ensures ok { IfOk result (λ begun.
+            MakesTurnAt seats.old (AtRegistry (Begin key flags) (begun_reply begun)) seats.new) }
         ensures worn { OnErr result (FindsWorn seats.old (OfRegistry (Begin key flags)) seats.new) }
     {
         match self.at_registry(rt, seats, RegistryCall::Begin { key, flags })? {
@@ -57,7 +59,8 @@ impl Gates {
     pub fn settle(&self, rt: &impl Wait, seats: &mut Seats, id: i32) -> Result<bool, Worn>
         requires { AreOf self.now seats.old }
         ensures seats { AreOf self.now seats.new }
-        ensures ok { IfOk result (λ done. MakesTurnAt seats.old (AtRegistry (Settle id) (Changed done)) seats.new) }
+        ensures ok { IfOk result (λ done.
+            MakesTurnAt seats.old (AtRegistry (Settle id) (Changed done)) seats.new) }
         ensures worn { OnErr result (FindsWorn seats.old (OfRegistry (Settle id)) seats.new) }
     {
         match self.at_registry(rt, seats, RegistryCall::Settle { id })? {
@@ -70,7 +73,8 @@ impl Gates {
     pub fn forget(&self, rt: &impl Wait, seats: &mut Seats, id: i32) -> Result<bool, Worn>
         requires { AreOf self.now seats.old }
         ensures seats { AreOf self.now seats.new }
-        ensures ok { IfOk result (λ done. MakesTurnAt seats.old (AtRegistry (Forget id) (Changed done)) seats.new) }
+        ensures ok { IfOk result (λ done.
+            MakesTurnAt seats.old (AtRegistry (Forget id) (Changed done)) seats.new) }
         ensures worn { OnErr result (FindsWorn seats.old (OfRegistry (Forget id)) seats.new) }
     {
         match self.at_registry(rt, seats, RegistryCall::Forget { id })? {

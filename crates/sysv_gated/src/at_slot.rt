@@ -37,7 +37,8 @@ impl Gates {
         requires slot { slot < SLOTS }
         ensures seats { AreOf self.now seats.new }
         ensures ok { IfOk result (λ r. SlotAnswers slot seats.old call r seats.new) }
-        ensures worn { IfErr result (λ w. (w.call ≡ call) × FindsWorn seats.old (OfSlot slot (slot_call call)) seats.new) }
+        ensures worn { IfErr result (λ w. (w.call ≡ call)
+            × FindsWorn seats.old (OfSlot slot (slot_call call)) seats.new) }
     {
         self.slots.call(rt, slot, &mut seats.slots, call)
     }
@@ -80,8 +81,11 @@ impl Gates {
     ) -> Result<bool, Worn>
         requires { AreOf self.now seats.old }
         ensures seats { AreOf self.now seats.new }
-        ensures ok { IfOk result (λ made. MakesTurnAt seats.old (AtSlot (slot_of_id id) (Install id key cred mode now) (Installed made)) seats.new) }
-        ensures worn { OnErr result (FindsWorn seats.old (OfSlot (slot_of_id id) (Install id key cred mode now)) seats.new) }
+        ensures ok { IfOk result (λ made.
+            MakesTurnAt seats.old (AtSlot (slot_of_id id) (Install id key cred mode now)
+            (Installed made)) seats.new) }
+        ensures worn { OnErr result (FindsWorn seats.old
+            (OfSlot (slot_of_id id) (Install id key cred mode now)) seats.new) }
     {
         match self.ask(
             rt,
@@ -111,8 +115,11 @@ impl Gates {
     ) -> Result<Probe, Worn>
         requires { AreOf self.now seats.old }
         ensures seats { AreOf self.now seats.new }
-        ensures ok { IfOk result (λ found. MakesTurnAt seats.old (AtSlot (slot_of_id id) (ProbeCall id cred flags) (probe_reply found)) seats.new) }
-        ensures worn { OnErr result (FindsWorn seats.old (OfSlot (slot_of_id id) (ProbeCall id cred flags)) seats.new) }
+        ensures ok { IfOk result (λ found.
+            MakesTurnAt seats.old (AtSlot (slot_of_id id) (ProbeCall id cred flags)
+            (probe_reply found)) seats.new) }
+        ensures worn { OnErr result (FindsWorn seats.old
+            (OfSlot (slot_of_id id) (ProbeCall id cred flags)) seats.new) }
     {
         match self.ask(
             rt,
@@ -136,8 +143,11 @@ impl Gates {
     ) -> Result<Look, Worn>
         requires { AreOf self.now seats.old }
         ensures seats { AreOf self.now seats.new }
-        ensures ok { IfOk result (λ found. MakesTurnAt seats.old (AtSlot (slot_of_id id) (LookCall id cred size) (look_reply found)) seats.new) }
-        ensures worn { OnErr result (FindsWorn seats.old (OfSlot (slot_of_id id) (LookCall id cred size)) seats.new) }
+        ensures ok { IfOk result (λ found.
+            MakesTurnAt seats.old (AtSlot (slot_of_id id) (LookCall id cred size)
+            (look_reply found)) seats.new) }
+        ensures worn { OnErr result (FindsWorn seats.old
+            (OfSlot (slot_of_id id) (LookCall id cred size)) seats.new) }
     {
         match self.ask(rt, seats, slot_of_id(id), SlotAsk::Look { id, cred, size })? {
             SlotReply::Looked(found) => Ok(found),
@@ -159,8 +169,11 @@ impl Gates {
     ) -> Result<Result<Taken, TakeRefused>, Worn>
         requires { AreOf self.now seats.old }
         ensures seats { AreOf self.now seats.new }
-        ensures ok { IfOk result (λ done. MakesTurnAt seats.old (AtSlot (slot_of_id id) (Take id cred selector size noerror now) (take_reply done)) seats.new) }
-        ensures worn { OnErr result (FindsWorn seats.old (OfSlot (slot_of_id id) (Take id cred selector size noerror now)) seats.new) }
+        ensures ok { IfOk result (λ done.
+            MakesTurnAt seats.old (AtSlot (slot_of_id id) (Take id cred selector size noerror now)
+            (take_reply done)) seats.new) }
+        ensures worn { OnErr result (FindsWorn seats.old
+            (OfSlot (slot_of_id id) (Take id cred selector size noerror now)) seats.new) }
     {
         match self.ask(
             rt,
@@ -190,8 +203,11 @@ impl Gates {
     ) -> Result<Result<Stat, Errno>, Worn>
         requires { AreOf self.now seats.old }
         ensures seats { AreOf self.now seats.new }
-        ensures ok { IfOk result (λ done. MakesTurnAt seats.old (AtSlot (slot_of_id id) (ReadStat id cred) (stat_reply done)) seats.new) }
-        ensures worn { OnErr result (FindsWorn seats.old (OfSlot (slot_of_id id) (ReadStat id cred)) seats.new) }
+        ensures ok { IfOk result (λ done.
+            MakesTurnAt seats.old (AtSlot (slot_of_id id) (ReadStat id cred) (stat_reply done))
+            seats.new) }
+        ensures worn { OnErr result (FindsWorn seats.old
+            (OfSlot (slot_of_id id) (ReadStat id cred)) seats.new) }
     {
         match self.ask(rt, seats, slot_of_id(id), SlotAsk::Stat { id, cred })? {
             SlotReply::Told(done) => Ok(done),
@@ -211,8 +227,11 @@ impl Gates {
     ) -> Result<Result<(), Errno>, Worn>
         requires { AreOf self.now seats.old }
         ensures seats { AreOf self.now seats.new }
-        ensures ok { IfOk result (λ done. MakesTurnAt seats.old (AtSlot (slot_of_id id) (Set id cred to now) (set_reply done)) seats.new) }
-        ensures worn { OnErr result (FindsWorn seats.old (OfSlot (slot_of_id id) (Set id cred to now)) seats.new) }
+        ensures ok { IfOk result (λ done.
+            MakesTurnAt seats.old (AtSlot (slot_of_id id) (Set id cred to now) (set_reply done))
+            seats.new) }
+        ensures worn { OnErr result (FindsWorn seats.old
+            (OfSlot (slot_of_id id) (Set id cred to now)) seats.new) }
     {
         match self.ask(
             rt,
@@ -230,7 +249,8 @@ impl Gates {
         requires seats { AreOf self.now seats.old }
         requires slot { slot < SLOTS }
         ensures seats { AreOf self.now seats.new }
-        ensures ok { IfOk result (λ row. MakesTurnAt seats.old (AtSlot slot (ReadRow) (Shown row)) seats.new) }
+        ensures ok { IfOk result (λ row.
+            MakesTurnAt seats.old (AtSlot slot (ReadRow) (Shown row)) seats.new) }
         ensures worn { OnErr result (FindsWorn seats.old (OfSlot slot (ReadRow)) seats.new) }
     {
         match self.ask(rt, seats, slot, SlotAsk::Row)? {
@@ -250,9 +270,12 @@ impl Gates {
         requires { AreOf self.now seats.old }
         ensures seats { AreOf self.now seats.new }
         // The blocks are those of the messages that are told as discarded.
-        ensures ok { IfOk result (λ done. (messages : List Message) × IfOk done (λ discarded. discarded ≡ blocks_of messages)
-            × MakesTurnAt seats.old (AtSlot (slot_of_id id) (Remove id cred) (remove_reply messages done)) seats.new) }
-        ensures worn { OnErr result (FindsWorn seats.old (OfSlot (slot_of_id id) (Remove id cred)) seats.new) }
+        ensures ok { IfOk result (λ done. (messages : List Message)
+            × IfOk done (λ discarded. discarded ≡ blocks_of messages)
+            × MakesTurnAt seats.old (AtSlot (slot_of_id id) (Remove id cred)
+            (remove_reply messages done)) seats.new) }
+        ensures worn { OnErr result (FindsWorn seats.old
+            (OfSlot (slot_of_id id) (Remove id cred)) seats.new) }
     {
         match self.ask(rt, seats, slot_of_id(id), SlotAsk::Remove { id, cred })? {
             SlotReply::Removed(done) => Ok(done),
@@ -273,9 +296,13 @@ impl Gates {
     ) -> Result<Result<u64, PlaceRefused>, Letter>
         requires { AreOf self.now seats.old }
         ensures seats { AreOf self.now seats.new }
-        ensures ok { IfOk result (λ done. MakesTurnAt seats.old (AtSlot (slot_of_id id) (Place id cred mtype letter.bytes now) (place_reply done)) seats.new) }
+        ensures ok { IfOk result (λ done.
+            MakesTurnAt seats.old (AtSlot (slot_of_id id) (Place id cred mtype letter.bytes now)
+            (place_reply done)) seats.new) }
         ensures refused { IfOk result (λ done. IfErr done (λ e. e.chain ≡ letter)) }
-        ensures worn { IfErr result (λ back. (back ≡ letter) × FindsWorn seats.old (OfSlot (slot_of_id id) (Place id cred mtype letter.bytes now)) seats.new) }
+        ensures worn { IfErr result (λ back. (back ≡ letter)
+            × FindsWorn seats.old (OfSlot (slot_of_id id) (Place id cred mtype letter.bytes now))
+            seats.new) }
     {
         let call = SlotCall::Place {
             id,

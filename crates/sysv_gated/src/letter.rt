@@ -25,7 +25,8 @@ impl Model for Letter {
 
     ghost view = { λ l. l.chain };
 
-    ghost invariant = { λ l. (length l.chain.bytes ≡ l.size) × (l.chain.blocks ≡ blocks_for l.size) × (l.size ≤ MESSAGE_BYTES) };
+    ghost invariant = { λ l. (length l.chain.bytes ≡ l.size) × (l.chain.blocks ≡ blocks_for l.size)
+        × (l.size ≤ MESSAGE_BYTES) };
 }
 
 impl Letter {

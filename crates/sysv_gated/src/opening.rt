@@ -54,9 +54,12 @@ impl Gates {
         first: u64,
         generation: u32,
     ) -> Result<(Gates, Seats), OpenRefused>
-        ensures open { IfOk result (λ o. AreOpen generation blocks first o.0 × (o.1 ≡ all_opened o.0)) }
+        ensures open { IfOk result (λ o. AreOpen generation blocks first o.0
+            × (o.1 ≡ all_opened o.0)) }
         ensures seats { IfOk result (λ o. AreOf o.0 o.1) }
-        ensures bad_size { (result ≡ Err OpenRefused.BadSize) ↔ ((blocks < least_blocks) ⊎ (most_blocks < blocks) ⊎ (2 ^ 62 < first) ⊎ (GENERATION_LAST < generation)) }
+        ensures bad_size { (result ≡ Err OpenRefused.BadSize)
+            ↔ ((blocks < least_blocks) ⊎ (most_blocks < blocks) ⊎ (2 ^ 62 < first)
+            ⊎ (GENERATION_LAST < generation)) }
     {
         if blocks < MIN_BLOCKS
             || blocks > MAX_BLOCKS
@@ -109,7 +112,8 @@ fn open_slots(alloc: Global, first: u64) -> Option<(Bank<GatedSlot>, BankSeat<Ga
 
 // As many vacant slots as there are. `None` where memory was refused.
 fn vacant_slots(alloc: Global) -> Option<Vec<GatedSlot>>
-    ensures { IfSome result (λ slots. (length slots.items ≡ SLOTS) × All (SlotStandsFor []) slots.items) }
+    ensures { IfSome result (λ slots. (length slots.items ≡ SLOTS)
+        × All (SlotStandsFor []) slots.items) }
 {
     let Ok(mut slots) = Vec::with_capacity(alloc, SLOTS) else {
         return None;
@@ -140,7 +144,8 @@ fn end_slot(slot: GatedSlot) {
 fn open_pool(alloc: Global, blocks: u32, first: u64) -> Option<(Gate<GatedPool>, Seat<GatedPool>)>
     requires blocks { (least_blocks ≤ blocks) × (blocks ≤ most_blocks) }
     requires first { first ≤ 2 ^ 62 }
-    ensures { IfSome result (λ o. PoolStandsFor [] o.0.opening × (o.0.opening.size ≡ blocks) × (o.0.first ≡ first) × (o.1 ≡ opened o.0)) }
+    ensures { IfSome result (λ o. PoolStandsFor [] o.0.opening × (o.0.opening.size ≡ blocks)
+        × (o.0.first ≡ first) × (o.1 ≡ opened o.0)) }
 {
     let Ok(pool) = Pool::open(alloc, blocks) else {
         return None;
@@ -162,7 +167,8 @@ fn open_registry(
 ) -> Option<(Gate<GatedRegistry>, Seat<GatedRegistry>)>
     requires generation { generation ≤ GENERATION_LAST }
     requires first { first ≤ 2 ^ 62 }
-    ensures { IfSome result (λ o. RegistryStandsFor generation [] o.0.opening × (o.0.first ≡ first) × (o.1 ≡ opened o.0)) }
+    ensures { IfSome result (λ o. RegistryStandsFor generation [] o.0.opening × (o.0.first ≡ first)
+        × (o.1 ≡ opened o.0)) }
 {
     let Ok(registry) = Registry::open_at(alloc, generation) else {
         return None;

@@ -17,7 +17,8 @@ impl Gates {
     pub fn split(&self, alloc: Global, seats: &mut Seats) -> Result<Seats, NoMemory>
         requires { AreOf self.now seats.old }
         ensures seats { AreOf self.now seats.new }
-        ensures ok { IfOk result (λ other. AreOf self.now other × AreSplit seats.old seats.new other) }
+        ensures ok { IfOk result (λ other. AreOf self.now other
+            × AreSplit seats.old seats.new other) }
         ensures err { OnErr result (seats.new ≡ seats.old) }
     {
         let Ok(slots) = self.slots.split(alloc, &mut seats.slots) else {

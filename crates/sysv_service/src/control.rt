@@ -35,7 +35,9 @@ impl Service {
     ) -> Result<Stat, Errno>
         requires { AreOf self.now pass.old.seats }
         ensures pass { AreOf self.now pass.new.seats }
-        ensures ran { (ending : Ends) × Comes no_moment (begins cred (MsgctlStat id) 0) pass.old (Over ending) pass.new × TellsStat ending result }
+        ensures ran { (ending : Ends)
+            × Comes no_moment (begins cred (MsgctlStat id) 0) pass.old (Over ending) pass.new
+            × TellsStat ending result }
     {
         let mut state = begin_stat(cred, id);
         for _ in rt.forever() {
@@ -53,7 +55,8 @@ impl Service {
         requires stats { Stats (Goes (phase_of phase [])) }
         ensures pass { AreOf self.now pass.new.seats }
         ensures stats { Stats (state_of result []) }
-        ensures steps { StepsOn no_moment (phase_of phase []) pass.old (state_of result []) pass.new }
+        ensures steps { StepsOn no_moment (phase_of phase []) pass.old
+            (state_of result []) pass.new }
     {
         let Phase::Stat { cred, id } = phase else {
             unreachable!()
@@ -76,7 +79,9 @@ impl Service {
     ) -> Result<(), Errno>
         requires { AreOf self.now pass.old.seats }
         ensures pass { AreOf self.now pass.new.seats }
-        ensures ran { (ending : Ends) × Comes (C.may clock.now) (begins cred (MsgctlSet id to) 0) pass.old (Over ending) pass.new × TellsZero ending result }
+        ensures ran { (ending : Ends)
+            × Comes (C.may clock.now) (begins cred (MsgctlSet id to) 0) pass.old
+            (Over ending) pass.new × TellsZero ending result }
     {
         let mut state = begin_set(cred, id, to);
         for _ in rt.forever() {
@@ -100,7 +105,8 @@ impl Service {
         requires sets { Sets (Goes (phase_of phase [])) }
         ensures pass { AreOf self.now pass.new.seats }
         ensures sets { Sets (state_of result []) }
-        ensures steps { StepsOn (C.may clock.now) (phase_of phase []) pass.old (state_of result []) pass.new }
+        ensures steps { StepsOn (C.may clock.now) (phase_of phase []) pass.old
+            (state_of result []) pass.new }
     {
         match phase {
             Phase::Set { cred, id, to } => {
@@ -128,7 +134,9 @@ impl Service {
     ) -> Result<(), Errno>
         requires { AreOf self.now pass.old.seats }
         ensures pass { AreOf self.now pass.new.seats }
-        ensures ran { (ending : Ends) × Comes no_moment (begins cred (MsgctlRmid id) 0) pass.old (Over ending) pass.new × TellsZero ending result }
+        ensures ran { (ending : Ends)
+            × Comes no_moment (begins cred (MsgctlRmid id) 0) pass.old (Over ending) pass.new
+            × TellsZero ending result }
     {
         let mut state = begin_remove(cred, id);
         for _ in rt.forever() {
@@ -147,7 +155,8 @@ impl Service {
         requires removes { Removes (Goes (phase_of phase [])) }
         ensures pass { AreOf self.now pass.new.seats }
         ensures removes { Removes (state_of result []) }
-        ensures steps { StepsOn no_moment (phase_of phase []) pass.old (state_of result []) pass.new }
+        ensures steps { StepsOn no_moment (phase_of phase []) pass.old
+            (state_of result []) pass.new }
     {
         match phase {
             Phase::Remove { cred, id } => {

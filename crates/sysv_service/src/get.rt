@@ -33,7 +33,9 @@ impl Service {
     ) -> Result<i32, Errno>
         requires { AreOf self.now pass.old.seats }
         ensures pass { AreOf self.now pass.new.seats }
-        ensures ran { (ending : Ends) × Comes (C.may clock.now) (begins cred (Msgget key flags) 0) pass.old (Over ending) pass.new × TellsId ending result }
+        ensures ran { (ending : Ends)
+            × Comes (C.may clock.now) (begins cred (Msgget key flags) 0) pass.old
+            (Over ending) pass.new × TellsId ending result }
     {
         let mut state = Getting::begin(cred, key, flags);
         for _ in rt.forever() {
@@ -58,7 +60,8 @@ impl Service {
         requires gets { Gets (Goes (phase_of phase [])) }
         ensures pass { AreOf self.now pass.new.seats }
         ensures gets { Gets (state_of result []) }
-        ensures steps { StepsOn (C.may clock.now) (phase_of phase []) pass.old (state_of result []) pass.new }
+        ensures steps { StepsOn (C.may clock.now) (phase_of phase []) pass.old
+            (state_of result []) pass.new }
     {
         match phase {
             Phase::Begin(get) => self.begin(rt, pass, get),
@@ -74,7 +77,8 @@ impl Service {
         requires { AreOf self.now pass.old.seats }
         ensures pass { AreOf self.now pass.new.seats }
         ensures gets { Gets (state_of result []) }
-        ensures steps { StepsOn no_moment (AtBegin (getting get)) pass.old (state_of result []) pass.new }
+        ensures steps { StepsOn no_moment (AtBegin (getting get)) pass.old
+            (state_of result []) pass.new }
     {
         match self.gates.begin(rt, &mut pass.seats, get.key, get.flags) {
             Ok(begun) => get.begun(begun),
@@ -94,7 +98,8 @@ impl Service {
         requires { AreOf self.now pass.old.seats }
         ensures pass { AreOf self.now pass.new.seats }
         ensures gets { Gets (state_of result []) }
-        ensures steps { StepsOn (C.may clock.now) (AtInstall (getting get) id) pass.old (state_of result []) pass.new }
+        ensures steps { StepsOn (C.may clock.now) (AtInstall (getting get) id) pass.old
+            (state_of result []) pass.new }
     {
         let now = clock.now();
         match self.gates.install(
@@ -137,7 +142,8 @@ impl Service {
         requires { AreOf self.now pass.old.seats }
         ensures pass { AreOf self.now pass.new.seats }
         ensures gets { Gets (state_of result []) }
-        ensures steps { StepsOn no_moment (AtProbe (getting get) id settled) pass.old (state_of result []) pass.new }
+        ensures steps { StepsOn no_moment (AtProbe (getting get) id settled) pass.old
+            (state_of result []) pass.new }
     {
         match self
             .gates

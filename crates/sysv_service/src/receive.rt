@@ -42,9 +42,13 @@ impl Service {
     ) -> Result<Delivery, Errno>
         requires { AreOf self.now pass.old.seats }
         ensures pass { AreOf self.now pass.new.seats }
-        ensures ran { (ending : Ends) × Comes (C.may clock.now) (begins cred (Msgrcv id size mtype flags) 0) pass.old (Over ending) pass.new × TellsGot ending result out.new }
+        ensures ran { (ending : Ends)
+            × Comes (C.may clock.now) (begins cred (Msgrcv id size mtype flags) 0) pass.old
+            (Over ending) pass.new × TellsGot ending result out.new }
         // The message that it gives is the one that it took.
-        ensures given { IfOk result (λ told. HasGiven (C.may clock.now) (begins cred (Msgrcv id size mtype flags) 0) pass.old told pass.new) }
+        ensures given { IfOk result (λ told.
+            HasGiven (C.may clock.now) (begins cred (Msgrcv id size mtype flags) 0) pass.old told
+            pass.new) }
     {
         match self.msgrcv_for(rt, pass, clock, &Stays, cred, id, out, size, mtype, flags) {
             Some(told) => told,
@@ -71,11 +75,13 @@ impl Service {
         requires { AreOf self.now pass.old.seats }
         ensures pass { AreOf self.now pass.new.seats }
         ensures ran { IfSome result (λ told. (ending : Ends)
-            × Comes (C.may clock.now) (begins cred (Msgrcv id size mtype flags) 0) pass.old (Over ending) pass.new
+            × Comes (C.may clock.now) (begins cred (Msgrcv id size mtype flags) 0) pass.old
+            (Over ending) pass.new
             × TellsGot ending told out.new) }
         // The message that it gives is the one that it took.
         ensures given { IfSome result (λ told. IfOk told (λ given.
-            HasGiven (C.may clock.now) (begins cred (Msgrcv id size mtype flags) 0) pass.old given pass.new)) }
+            HasGiven (C.may clock.now) (begins cred (Msgrcv id size mtype flags) 0) pass.old given
+            pass.new)) }
         ensures left { IfNone result (IsLeft (K.may_leave caller.now) (C.may clock.now)
             (begins cred (Msgrcv id size mtype flags) 0) pass.old pass.new) }
         ensures empty { IfNone result (out.new ≡ []) }
@@ -113,7 +119,8 @@ impl Service {
         ensures pass { AreOf self.now pass.new.seats }
         ensures receives { Receives (state_of result out.new) }
         ensures sized { IsSized result out.new }
-        ensures steps { StepsGiving (C.may clock.now) phase out.old pass.old result out.new pass.new }
+        ensures steps { StepsGiving (C.may clock.now) phase out.old pass.old result out.new
+            pass.new }
     {
         match phase {
             Phase::Take(receive) => self.take(rt, pass, clock, out, receive),
@@ -138,7 +145,8 @@ impl Service {
         ensures pass { AreOf self.now pass.new.seats }
         ensures receives { Receives (state_of result out.new) }
         ensures sized { IsSized result out.new }
-        ensures steps { StepsGiving (C.may clock.now) (Phase.Take receive) out.old pass.old result out.new pass.new }
+        ensures steps { StepsGiving (C.may clock.now)
+            (Phase.Take receive) out.old pass.old result out.new pass.new }
     {
         let Receiving {
             cred,

@@ -43,8 +43,11 @@ impl Service {
         requires { AreOf self.now pass.old.seats }
         ensures pass { AreOf self.now pass.new.seats }
         // Its start is the reading of the released count.
-        ensures ran { (released : ℕ) × (mid : Seen) × Reads Released released pass.old.seats mid.seats × (mid.held ≡ pass.old.held)
-            × (ending : Ends) × Comes (C.may clock.now) (begins cred (Msgsnd id mtype flags text.now) released) mid (Over ending) pass.new × TellsZero ending result }
+        ensures ran { (released : ℕ) × (mid : Seen)
+            × Reads Released released pass.old.seats mid.seats × (mid.held ≡ pass.old.held)
+            × (ending : Ends) × Comes (C.may clock.now)
+            (begins cred (Msgsnd id mtype flags text.now) released) mid (Over ending) pass.new
+            × TellsZero ending result }
     {
         match self.msgsnd_for(rt, pass, clock, &Stays, cred, id, mtype, text, flags) {
             Some(told) => told,
@@ -71,8 +74,10 @@ impl Service {
         ensures pass { AreOf self.now pass.new.seats }
         // Its start is the reading of the released count.
         ensures ran { IfSome result (λ told. (released : ℕ) × (mid : Seen)
-            × Reads Released released pass.old.seats mid.seats × (mid.held ≡ pass.old.held) × (ending : Ends)
-            × Comes (C.may clock.now) (begins cred (Msgsnd id mtype flags text.now) released) mid (Over ending) pass.new
+            × Reads Released released pass.old.seats mid.seats × (mid.held ≡ pass.old.held)
+            × (ending : Ends)
+            × Comes (C.may clock.now) (begins cred (Msgsnd id mtype flags text.now) released) mid
+            (Over ending) pass.new
             × TellsZero ending told) }
         ensures left { IfNone result ((released : ℕ) × (mid : Seen)
             × Reads Released released pass.old.seats mid.seats × (mid.held ≡ pass.old.held)
@@ -127,7 +132,8 @@ impl Service {
         requires sends { Sends (Goes (phase_of phase text.now)) }
         ensures pass { AreOf self.now pass.new.seats }
         ensures sends { Sends (state_of result text.now) }
-        ensures steps { StepsOn (C.may clock.now) (phase_of phase text.now) pass.old (state_of result text.now) pass.new }
+        ensures steps { StepsOn (C.may clock.now) (phase_of phase text.now) pass.old
+            (state_of result text.now) pass.new }
     {
         match phase {
             Phase::Look(send) => self.look(rt, pass, text, send),
@@ -146,7 +152,8 @@ impl Service {
         requires sends { IsShort (sending send text.now) }
         ensures pass { AreOf self.now pass.new.seats }
         ensures sends { Sends (state_of result text.now) }
-        ensures steps { StepsOn no_moment (AtLook (sending send text.now)) pass.old (state_of result text.now) pass.new }
+        ensures steps { StepsOn no_moment (AtLook (sending send text.now)) pass.old
+            (state_of result text.now) pass.new }
     {
         match self
             .gates
@@ -162,7 +169,8 @@ impl Service {
         requires sends { IsShort (sending send text.now) }
         ensures pass { AreOf self.now pass.new.seats }
         ensures sends { Sends (state_of result text.now) }
-        ensures steps { StepsOn no_moment (AtReserve (sending send text.now)) pass.old (state_of result text.now) pass.new }
+        ensures steps { StepsOn no_moment (AtReserve (sending send text.now)) pass.old
+            (state_of result text.now) pass.new }
     {
         match self.gates.reserve(rt, &mut pass.seats, text.len()) {
             Ok(chain) => send.reserved(chain),
@@ -181,10 +189,13 @@ impl Service {
         chain: Chain,
     ) -> State
         requires pass { AreOf self.now pass.old.seats }
-        requires sends { IsShort (sending send text.now) × (chain.blocks ≡ blocks_for (length text.now)) }
+        requires sends { IsShort (sending send text.now)
+            × (chain.blocks ≡ blocks_for (length text.now)) }
         ensures pass { AreOf self.now pass.new.seats }
         ensures sends { Sends (state_of result text.now) }
-        ensures steps { StepsOn (C.may clock.now) (AtPlace (sending send text.now) chain.blocks) pass.old (state_of result text.now) pass.new }
+        ensures steps { StepsOn (C.may clock.now)
+            (AtPlace (sending send text.now) chain.blocks) pass.old
+            (state_of result text.now) pass.new }
     {
         let letter = Letter::of(chain, text);
         let now = clock.now();

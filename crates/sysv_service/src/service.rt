@@ -32,9 +32,11 @@ impl Service {
     /// A service without queues, with a pool of this many blocks, 128 to 65,536, and its first pass. `BadSize` comes exactly
     /// where the number of blocks is out of that range. No later call but `split_pass` takes memory.
     pub fn open(alloc: Global, blocks: u32) -> Result<(Service, Pass), OpenRefused>
-        ensures open { IfOk result (λ o. AreOpen 0 blocks 0 o.0 × (o.1 ≡ record { seats = all_opened o.0; held = 0 })) }
+        ensures open { IfOk result (λ o. AreOpen 0 blocks 0 o.0
+            × (o.1 ≡ record { seats = all_opened o.0; held = 0 })) }
         ensures fits { IfOk result (λ o. AreOf o.0 o.1.seats) }
-        ensures bad_size { (result ≡ Err OpenRefused.BadSize) ↔ ((blocks < least_blocks) ⊎ (most_blocks < blocks)) }
+        ensures bad_size { (result ≡ Err OpenRefused.BadSize)
+            ↔ ((blocks < least_blocks) ⊎ (most_blocks < blocks)) }
     {
         Service::open_at(alloc, blocks, 0, 0)
     }
@@ -47,9 +49,12 @@ impl Service {
         first: u64,
         generation: u32,
     ) -> Result<(Service, Pass), OpenRefused>
-        ensures open { IfOk result (λ o. AreOpen generation blocks first o.0 × (o.1 ≡ record { seats = all_opened o.0; held = 0 })) }
+        ensures open { IfOk result (λ o. AreOpen generation blocks first o.0
+            × (o.1 ≡ record { seats = all_opened o.0; held = 0 })) }
         ensures fits { IfOk result (λ o. AreOf o.0 o.1.seats) }
-        ensures bad_size { (result ≡ Err OpenRefused.BadSize) ↔ ((blocks < least_blocks) ⊎ (most_blocks < blocks) ⊎ (2 ^ 62 < first) ⊎ (GENERATION_LAST < generation)) }
+        ensures bad_size { (result ≡ Err OpenRefused.BadSize)
+            ↔ ((blocks < least_blocks) ⊎ (most_blocks < blocks) ⊎ (2 ^ 62 < first)
+            ⊎ (GENERATION_LAST < generation)) }
     {
         let (gates, seats) = Gates::open_at(alloc, blocks, first, generation)?;
         let pass = Pass {
@@ -64,7 +69,8 @@ impl Service {
     pub fn split_pass(&self, alloc: Global, pass: &mut Pass) -> Result<Pass, NoMemory>
         requires { AreOf self.now pass.old.seats }
         ensures pass { AreOf self.now pass.new.seats }
-        ensures ok { IfOk result (λ other. AreOf self.now other.seats × AreSplit pass.old.seats pass.new.seats other.seats × (other.held ≡ 0)) }
+        ensures ok { IfOk result (λ other. AreOf self.now other.seats
+            × AreSplit pass.old.seats pass.new.seats other.seats × (other.held ≡ 0)) }
         ensures err { OnErr result (pass.new.seats ≡ pass.old.seats) }
         ensures held { pass.new.held ≡ pass.old.held }
     {

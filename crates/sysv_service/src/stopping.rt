@@ -25,7 +25,8 @@ impl Service {
     pub fn stop(&self, rt: &impl MayWait, pass: &mut Pass) -> Result<u32, Errno>
         requires { AreOf self.now pass.old.seats }
         ensures pass { AreOf self.now pass.new.seats }
-        ensures stopped { (removed : ℕ) × (worn : Bool) × Stops pass.old slot_count removed worn pass.new × TellsStop removed worn result }
+        ensures stopped { (removed : ℕ) × (worn : Bool)
+            × Stops pass.old slot_count removed worn pass.new × TellsStop removed worn result }
     {
         let mut removed = 0;
         let mut worn = false;

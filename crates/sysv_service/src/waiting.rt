@@ -57,7 +57,8 @@ impl Service {
     pub(crate) fn wait_on(&self, rt: &impl MayWait, pass: &mut Pass, wait: Wait) -> State
         requires { AreOf self.now pass.old.seats }
         ensures pass { AreOf self.now pass.new.seats }
-        ensures ended { (text : List ℕ) → EndsWait (wait_of wait text) pass.old (state_of result text) pass.new }
+        ensures ended { (text : List ℕ) →
+            EndsWait (wait_of wait text) pass.old (state_of result text) pass.new }
     {
         match self.wait_for(rt, pass, &Stays, wait) {
             Some(state) => state,
