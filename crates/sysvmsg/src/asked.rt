@@ -40,7 +40,7 @@ pub(crate) struct SocketFile<'a> {
     pub(crate) path: &'a str,
     /// Its mode. Without one that is 0777 less the umask.
     pub(crate) mode: Option<u32>,
-    /// Whether a socket at which nobody answers is removed before.
+    /// Whether a socket on which no server listens is removed before.
     pub(crate) replace: bool,
 }
 

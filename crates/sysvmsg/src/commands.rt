@@ -98,7 +98,7 @@ Example:
         (
             "replace",
             Form::Flag,
-            "Removes PATH first if it is a socket at which nobody answers",
+            "Removes PATH first if it is a socket on which no server listens",
         ),
         (
             "blocks",
@@ -128,12 +128,12 @@ Example:
         (
             "idle",
             Form::Value("SECONDS"),
-            "Ends a session that sends no request for so long, 0 for never [default: 0]",
+            "Ends a session that sends no request for this time, 0 for never [default: 0]",
         ),
         (
             "stall",
             Form::Value("SECONDS"),
-            "Ends a session that stands still in a frame for so long, 0 for never [default: 0]",
+            "Ends a session that stalls within a request or a reply for this time, 0 for never [default: 0]",
         ),
     ],
     either: Some(Either {

@@ -26,7 +26,7 @@ pub(crate) fn listen_at<R: Files + Net + AllocGlobal>(
     }
 }
 
-/// Removes what is at a path if that is a socket at which nobody answers.
+/// Removes what is at a path if that is a socket on which no server listens.
 fn remove_unused<R: Files + Net>(rt: &R, path: &str) -> io::Result<()> {
     let is_socket = fs::symlink_metadata(rt, path).is_ok_and(|found| found.file_type().is_socket());
     if !is_socket {
