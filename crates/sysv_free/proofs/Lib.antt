@@ -8,5 +8,6 @@ pub mod Starting
 pub mod Resting
 pub mod WorkedOrder
 pub mod Reading
+pub mod Forgetting
 pub mod Threading
 pub mod RunIsFree

@@ -39,6 +39,8 @@ use Rattle.sysv_core.proofs.Telling.{told_so}
 use Rattle.sysv_core.proofs.Obeying.{Inv, stands_there, goes_on, starts, turns_keep, opens, right_now}
 use Rattle.sysv_free.specs.FreeRun.{nobody, starting_with, Moment, Starts, TakesTurn, Wakes, Reads, StartsCall, TakesItsTurn, WakesUp, ReadsRow, Brings, LeadsOnThreads}
 use Rattle.sysv_free.specs.OnThreads.{IsRowRead, IsMadeOrRead, ObeysOnThreads}
+use Rattle.sysv_free.specs.Forgotten.{AllTakeTheirRows}
+use Rattle.sysv_free.proofs.Forgetting.{Owed, owed_idle, owed_read, owed_turn, begun_none, resumed_none}
 use Rattle.sysv_free.proofs.Reading.{row_counts, row_tends, row_facts, row_fits, row_keeps}
 
 -- a turn of nobody reads a row
@@ -51,6 +53,7 @@ record IsHeld (w : World) (given : List Given) : Type 0 where
   tends : Tends w
   kept : IsKept w
   reads : All ReadsIfNobody w.turns
+  owed : Owed w.turns w.actors
 
 made_so : (calls : List Started) (t : Turn) → IsMade calls t → ReadsIfNobody t → IsMadeOrRead calls t
 made_so calls t (inl nobody_did) reads = inl (reads nobody_did)
@@ -92,6 +95,7 @@ module _ (sound : StaysSound) (more : (generation blocks : ℕ) (turns : List Tu
         fit = stand_fits for_good registry_law w h.kept place None new_call (begun new_call) there (begun_fits for_good registry_law w.turns cred asked released (is_refused asked));
       };
       reads = h.reads;
+      owed = owed_idle w.turns w.actors place None new_call (begun new_call) there (begun_none cred asked released) h.owed;
     }
 
   starts_held : (w after : World) (given one : List Given) (actor : ℕ) (cred : Cred) (asked : SystemCall) (released : ℕ) → IsHeld w given → StartsCall w actor cred asked released one after → IsHeld after (given ++ one)
@@ -119,6 +123,8 @@ module _ (sound : StaysSound) (more : (generation blocks : ℕ) (turns : List Tu
           tends = turns_tend w after one place now call phase h.tends there t;
           kept = record { counts = continues_counts w after one place now call (Goes phase) s h.kept.counts there t; facts = holds.facts; fit = holds.fit };
           reads = subst (λ (v : World). All ReadsIfNobody v.turns) (sym t.6) (All-push ReadsIfNobody w.turns (turn_of call.who t.0) h.reads (own_turn t.0));
+          owed = subst (λ (v : World). Owed v.turns v.actors) (sym t.6)
+              (owed_turn for_good w s (registry_law w.generation (registry_history w.turns) s.legal.registry) h.kept.counts h.kept.facts h.kept.fit h.owed place call phase there now t.0 t.1 t.2 t.3 t.4);
         }
 
   turns_held : (w after : World) (given one : List Given) (actor now : ℕ) → IsHeld w given → TakesItsTurn w actor now one after → IsHeld after (given ++ one)
@@ -151,6 +157,7 @@ module _ (sound : StaysSound) (more : (generation blocks : ℕ) (turns : List Tu
             fit = stand_fits for_good registry_law w h.kept place (Some d) call on there (resumed_fits for_good registry_law w.turns wait value);
           };
           reads = h.reads;
+          owed = owed_idle w.turns w.actors place (Some d) call on there (resumed_none wait value) h.owed;
         }
 
   nothing_given : (after : World) (given one : List Given) → one ≡ [] → IsHeld after given → IsHeld after (given ++ one)
@@ -170,6 +177,7 @@ module _ (sound : StaysSound) (more : (generation blocks : ℕ) (turns : List Tu
         tends = row_tends w.turns slot reply w.actors legal h.tends;
         kept = record { counts = row_counts w.turns slot reply w.actors h.kept.counts; facts = row_facts w.turns slot reply legal h.kept.facts; fit = row_fits w.turns slot reply w.actors h.kept.fit };
         reads = All-push ReadsIfNobody w.turns (turn_of nobody (AtSlot slot ReadRow reply)) h.reads (λ e. (refl, (slot, reply, refl)));
+        owed = owed_read w.turns w.actors nobody slot ReadRow reply h.owed;
       })
 
   -- ---- a list of moments
@@ -196,6 +204,11 @@ module _ (sound : StaysSound) (more : (generation blocks : ℕ) (turns : List Tu
       fit = λ place e there. absurd (none_busy o.actors place e there);
     };
     reads = λ i t low. absurd (omega (arith, low));
+    owed = record {
+      rows = λ place d id there b. absurd (none_busy o.actors place d there);
+      alone = λ place at d e id there other b x. absurd (none_busy o.actors place d there);
+      taken = λ i t low. absurd (omega (arith, low));
+    };
   }
 
   -- ---- what a world was opened with
@@ -249,3 +262,11 @@ module _ (sound : StaysSound) (more : (generation blocks : ℕ) (turns : List Tu
             let f = i.fates call has in
             told_so w given call f told (asked call.cred call.asked call.released (deeds_of call.who w.turns) f.state f.plays) good id before after t whole removal q;
       }
+
+  -- ---- and each forget takes its row
+
+  pub run_forgets : ((generation blocks : ℕ) → AreLegal generation blocks []) →
+      (o : Opening) (list : List Moment) (given : List Given) (w : World) → LeadsOnThreads (opening o) list given w → AllTakeTheirRows w.turns
+  run_forgets none o list given w led =
+      let h : IsHeld w given = leads_held (opening o) w list [] given (opening_held o (none o.generation o.blocks)) led in
+      h.owed.taken

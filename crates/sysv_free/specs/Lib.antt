@@ -18,6 +18,7 @@ pub use Rattle.sysv_core.specs.Removed
 pub use Rattle.sysv_core.specs.LastWords
 pub mod FreeRun
 pub mod OnThreads
+pub mod Forgotten
 pub mod RunIsFree
 pub mod Order
 pub mod OrderIsRun

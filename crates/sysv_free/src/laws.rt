@@ -1,6 +1,7 @@
 //! Laws of free runs.
 
 ghost use Rattle.sysv_free.specs.AtRest.{OrdersAtRest};
+ghost use Rattle.sysv_free.specs.Forgotten.{EachForgetTakesItsRow};
 ghost use Rattle.sysv_free.specs.OnThreads.{EveryThreadedRunObeys};
 ghost use Rattle.sysv_free.specs.Order.{NoCallReadsARow};
 ghost use Rattle.sysv_free.specs.OrderIsRun.{EveryOrderIsARun};
@@ -33,6 +34,20 @@ pub fn every_threaded_run_obeys()
     each_answer_is_right();
     removed_for_good();
     after_removal();
+}
+
+/// No forget of a free run is answered false: each removal forgets the row of its identifier, which is there until
+/// then.
+pub fn each_forget_takes_its_row()
+    ensures { EachForgetTakesItsRow }
+{
+    each_world_is_sound();
+    legal_turns();
+    blocks_kept();
+    pool_law();
+    each_holds_its_blocks();
+    registry_law();
+    removed_for_good();
 }
 
 /// Each run of a world in which nothing is preset is a free run.
