@@ -12,6 +12,7 @@ use Rattle.sysv_clients.specs.declared.command.Task.TheVariants.{List as Table, 
 use Rattle.sysv_clients.specs.declared.fault.ClientFault.{ClientFault}
 use Rattle.sysv_clients.specs.declared.fault.ClientFault.TheVariants.{Refused, NoReply, NoMemory}
 use Rattle.sysv_clients.specs.Asks.{asks_of, is_receive, request_of, text_of}
+use Rattle.sysv_clients.specs.Blame.{Blames, ExchangedBy, RunsBlaming}
 use Rattle.sysv_clients.specs.Faults.{fault_line}
 use Rattle.sysv_clients.specs.Page.{answer_most, answer_text, page_text, task_head}
 use Rattle.sysv_clients.specs.Run.{Runs, Shows, TalksThrough}
@@ -258,3 +259,35 @@ short_head Table page same = omega (arith, ap length same)
 short_head (Remove target) page same = omega (arith, ap length same)
 short_head (Send key text mtype nowait) page same = omega (arith, ap length same)
 short_head (Receive key size mtype nowait noerror) page same = omega (arith, ap length same)
+
+-- a talk that a fault ends, by the counts
+blames : (command : Command) (why : ClientFault) (ask : Ask) (had has wrote writes : ℕ) (left mid rest taken more : Option (List ℕ)) (page : List ℕ) (place slots : ℕ) (id : ℤ)
+    → Talking command left mid taken more page place slots id → Some ask ≡ slice_get (asks_of command slots id) place → ExchangedBy ask (Err why) had has wrote writes mid rest
+    → Blames command (Err why) had has wrote writes left rest
+blames command (Refused error) ask had has wrote writes left mid rest taken more page place slots id so_far asked found = found
+blames command NoMemory ask had has wrote writes left mid rest taken more page place slots id so_far asked found = absurd found
+blames command NoReply ask had has wrote writes left mid rest taken more page place slots id so_far asked found =
+    (so_far.exchanges, ask, mid, so_far.talked, so_far.reads, is_next command left mid taken more page place slots id (Some ask) so_far asked, found)
+
+pub blamed : (command : Command) (why : ClientFault) (ask : Ask) (had held has wrote written writes : ℕ) (left mid rest taken more : Option (List ℕ)) (page : List ℕ) (place slots : ℕ) (id : ℤ)
+    → Talking command left mid taken more page place slots id → Some ask ≡ slice_get (asks_of command slots id) place → held ≡ had → written ≡ wrote
+    → ExchangedBy ask (Err why) held has written writes mid rest → Blames command (Err why) had has wrote writes left rest
+blamed command why ask had held has wrote written writes left mid rest taken more page place slots id so_far asked reads writ found =
+    blames command why ask had has wrote writes left mid rest taken more page place slots id so_far asked
+    (subst (λ (n : ℕ). ExchangedBy ask (Err why) n has wrote writes mid rest) reads (subst (λ (n : ℕ). ExchangedBy ask (Err why) held has n writes mid rest) writ found))
+
+pub runs_of : (command : Command) (status : ℤ) (left rest taken more shown after : Option (List ℕ)) (had has wrote writes : ℕ)
+    → RunsBlaming command status left rest taken more shown after had has wrote writes → Runs command status left rest taken more shown after
+runs_of command status left rest taken more shown after had has wrote writes runs =
+    record { exchanges = runs.exchanges; ended = runs.ended; talks = runs.talks; shows = runs.shows }
+
+pub refused_so : (command : Command) (status : ℤ) (left taken shown after : Option (List ℕ)) (had wrote : ℕ) → Shows status (pos 1) (fault_line NoMemory) shown after
+    → RunsBlaming command status left left taken taken shown after had had wrote wrote
+unfolding refused
+refused_so command status left taken shown after had wrote shows = record {
+  exchanges = [];
+  ended = Err NoMemory;
+  talks = (refused command status left taken shown after shows).talks;
+  shows = shows;
+  blames = (refl, refl);
+}

@@ -6,3 +6,4 @@ pub mod Page
 pub mod Run
 pub mod Words
 pub mod Course
+pub mod Blame

@@ -1,11 +1,13 @@
 //! A client, from its first request to what it shows.
 ghost use Rattle.std.specs.Prelude.{◌≡◌, ⊤, ℕ, pos, List, Result, Some, IfOk};
 ghost use Rattle.sysv_clients.specs.Asks.{text_of};
+ghost use Rattle.sysv_clients.specs.Blame.{Blames, RunsBlaming};
 ghost use Rattle.sysv_clients.specs.Course.{Makes, ShowsCourse};
 ghost use Rattle.sysv_clients.specs.Faults.{fault_line};
 ghost use Rattle.sysv_clients.specs.Page.{task_head};
 ghost use Rattle.sysv_clients.specs.Run.{HasShortText, Runs, Shows, TalksThrough};
 ghost use Rattle.sysv_clients.specs.Talk.{Exchange, id_after, slots_after};
+ghost use Rattle.sysv_model.specs.Watched.{failures_of, stream_name, stream_of};
 
 use crate::command::{Command, Task};
 use crate::exchange::exchange;
@@ -14,7 +16,7 @@ use crate::page::Page;
 use crate::screen::show;
 use std::alloc::Global;
 use std::io::{Read, Write};
-use sysv_model::{Body, NoMemory};
+use sysv_model::{Body, NoMemory, Watched};
 use sysv_wire::{Outcome, one_answer_to_replies, one_reply};
 
 /// Asks a server for what a command says, and shows what came of it; the status, 0 where all was done and
@@ -47,6 +49,40 @@ pub fn run_client<R: Read, W: Write, S: Write>(
         ShowsCourse command.now exchanges ended result (S.contents screen.old)
         (S.contents screen.new) }
 {
+    run_client_watched(
+        alloc,
+        command,
+        &mut Watched::new(reader),
+        &mut Watched::new(writer),
+        screen,
+    )
+}
+
+/// As `run_client`, and tells why there is no reply where there is none: the writer failed, or the reader did, or
+/// what was read is no reply to the last request. In no other case has one of the two failed, and at most one has.
+pub fn run_client_watched<R: Read, W: Write, S: Write>(
+    alloc: Global,
+    command: &Command<'_>,
+    reader: &mut Watched<'_, R>,
+    writer: &mut Watched<'_, W>,
+    screen: &mut S,
+) -> i32
+    requires { HasShortText command.now.task }
+    ensures runs { RunsBlaming command.now result (R.remaining (stream_of reader.old))
+        (R.remaining (stream_of reader.new)) (W.contents (stream_of writer.old))
+        (W.contents (stream_of writer.new)) (S.contents screen.old) (S.contents screen.new)
+        (failures_of reader.old) (failures_of reader.new)
+        (failures_of writer.old) (failures_of writer.new) }
+    // It shows what its input makes of the command, unless a stream fails or memory is refused.
+    ensures only { (input : List ℕ) (exchanges : List Exchange) (ended : Result ⊤ ClientFault) →
+        R.remaining (stream_of reader.old) ≡ Some input
+        → Makes command.now input exchanges ended →
+        ShowsCourse command.now exchanges ended result (S.contents screen.old)
+        (S.contents screen.new) }
+    // The streams are the same ones.
+    ensures same_reader { stream_name reader.new ≡ stream_name reader.old }
+    ensures same_writer { stream_name writer.new ≡ stream_name writer.old }
+{
     one_answer_to_replies();
     one_reply();
     talk_and_show(alloc, command, reader, writer, screen)
@@ -56,14 +92,18 @@ pub fn run_client<R: Read, W: Write, S: Write>(
 fn talk_and_show<R: Read, W: Write, S: Write>(
     alloc: Global,
     command: &Command<'_>,
-    reader: &mut R,
-    writer: &mut W,
+    reader: &mut Watched<'_, R>,
+    writer: &mut Watched<'_, W>,
     screen: &mut S,
 ) -> i32
     requires { HasShortText command.now.task }
-    ensures { Runs command.now result (R.remaining reader.old) (R.remaining reader.new)
-        (W.contents writer.old) (W.contents writer.new)
-        (S.contents screen.old) (S.contents screen.new) }
+    ensures runs { RunsBlaming command.now result (R.remaining (stream_of reader.old))
+        (R.remaining (stream_of reader.new)) (W.contents (stream_of writer.old))
+        (W.contents (stream_of writer.new)) (S.contents screen.old) (S.contents screen.new)
+        (failures_of reader.old) (failures_of reader.new)
+        (failures_of writer.old) (failures_of writer.new) }
+    ensures same_reader { stream_name reader.new ≡ stream_name reader.old }
+    ensures same_writer { stream_name writer.new ≡ stream_name writer.old }
 {
     match Client::open(alloc, &command.task) {
         Ok(mut client) => match client.talk(command, reader, writer) {
@@ -137,14 +177,19 @@ impl Client {
     fn talk<R: Read, W: Write>(
         &mut self,
         command: &Command<'_>,
-        reader: &mut R,
-        writer: &mut W,
+        reader: &mut Watched<'_, R>,
+        writer: &mut Watched<'_, W>,
     ) -> Result<(), ClientFault>
         requires text { self.old.text ≡ text_of command.now.task }
         requires page { self.old.page ≡ task_head command.now.task }
-        ensures { TalksThrough command.now result self.new.page (R.remaining reader.old)
-            (R.remaining reader.new)
-            (W.contents writer.old) (W.contents writer.new) }
+        ensures talks { TalksThrough command.now result self.new.page
+            (R.remaining (stream_of reader.old)) (R.remaining (stream_of reader.new))
+            (W.contents (stream_of writer.old)) (W.contents (stream_of writer.new)) }
+        ensures same_reader { stream_name reader.new ≡ stream_name reader.old }
+        ensures same_writer { stream_name writer.new ≡ stream_name writer.old }
+        ensures failed { Blames command.now result (failures_of reader.old)
+            (failures_of reader.new) (failures_of writer.old) (failures_of writer.new)
+            (R.remaining (stream_of reader.old)) (R.remaining (stream_of reader.new)) }
     {
         let mut place = 0;
         let mut slots = 0;

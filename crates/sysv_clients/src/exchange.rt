@@ -1,8 +1,10 @@
 //! One request and its reply.
-ghost use Rattle.std.specs.Prelude.{OnOk, OnErr};
+ghost use Rattle.std.specs.Prelude.{◌≡◌, is_err, OnOk, OnErr};
 ghost use Rattle.std.specs.Io.KnownBytes.{Appends};
 ghost use Rattle.sysv_clients.specs.Asks.{request_of};
+ghost use Rattle.sysv_clients.specs.Blame.{ExchangedBy, HeardBy};
 ghost use Rattle.sysv_clients.specs.Talk.{Exchanges, Hears};
+ghost use Rattle.sysv_model.specs.Watched.{failures_after, failures_of, stream_name, stream_of};
 ghost use Rattle.sysv_model.specs.Writing.{AppendsPrefix};
 ghost use Rattle.sysv_wire.specs.Requests.{request_spelling};
 
@@ -17,15 +19,20 @@ const SPOKEN: Version = Version::Two;
 /// Writes a request, flushes it, and reads its reply; what the operation gives. The text of a message
 /// is then in `given`.
 pub(crate) fn exchange<R: Read, W: Write>(
-    reader: &mut R,
-    writer: &mut W,
+    reader: &mut Watched<'_, R>,
+    writer: &mut Watched<'_, W>,
     ask: Ask,
     text: &Body,
     given: &mut Body,
 ) -> Result<Outcome, ClientFault>
-    ensures { Exchanges (request_spelling (request_of ask) text.now) ask result
-        (R.remaining reader.old) (R.remaining reader.new)
-        (W.contents writer.old) (W.contents writer.new) given.new }
+    ensures exchanges { Exchanges (request_spelling (request_of ask) text.now) ask result
+        (R.remaining (stream_of reader.old)) (R.remaining (stream_of reader.new))
+        (W.contents (stream_of writer.old)) (W.contents (stream_of writer.new)) given.new }
+    ensures same_reader { stream_name reader.new ≡ stream_name reader.old }
+    ensures same_writer { stream_name writer.new ≡ stream_name writer.old }
+    ensures failed { ExchangedBy ask result (failures_of reader.old) (failures_of reader.new)
+        (failures_of writer.old) (failures_of writer.new)
+        (R.remaining (stream_of reader.old)) (R.remaining (stream_of reader.new)) }
 {
     match send(writer, ask, text) {
         Ok(()) => hear(reader, ask, given),
@@ -34,18 +41,20 @@ pub(crate) fn exchange<R: Read, W: Write>(
 }
 
 /// Writes a request, and flushes it.
-fn send<W: Write>(writer: &mut W, ask: Ask, text: &Body) -> Result<(), WriteFault>
-    ensures ok { OnOk result (Appends (W.contents writer.old) (W.contents writer.new)
-        (request_spelling (request_of ask) text.now)) }
-    ensures err { OnErr result (AppendsPrefix (W.contents writer.old) (W.contents writer.new)
-        (request_spelling (request_of ask) text.now)) }
+fn send<W: Write>(writer: &mut Watched<'_, W>, ask: Ask, text: &Body) -> Result<(), WriteFault>
+    ensures ok { OnOk result (Appends (W.contents (stream_of writer.old))
+        (W.contents (stream_of writer.new)) (request_spelling (request_of ask) text.now)) }
+    ensures err { OnErr result (AppendsPrefix (W.contents (stream_of writer.old))
+        (W.contents (stream_of writer.new)) (request_spelling (request_of ask) text.now)) }
+    ensures same { stream_name writer.new ≡ stream_name writer.old }
+    ensures failed { failures_of writer.new
+        ≡ failures_after (is_err result) (failures_of writer.old) }
 {
-    let mut writer = Watched::new(writer);
     let request = Request {
         version: SPOKEN,
         ask,
     };
-    write_request(&mut writer, &request, text)?;
+    write_request(writer, &request, text)?;
     match writer.flush() {
         Ok(()) => Ok(()),
         Err(_) => Err(WriteFault),
@@ -53,11 +62,18 @@ fn send<W: Write>(writer: &mut W, ask: Ask, text: &Body) -> Result<(), WriteFaul
 }
 
 /// Reads the reply to a request.
-fn hear<R: Read>(reader: &mut R, ask: Ask, given: &mut Body) -> Result<Outcome, ClientFault>
-    ensures { Hears ask result (R.remaining reader.old) (R.remaining reader.new) given.new }
+fn hear<R: Read>(
+    reader: &mut Watched<'_, R>,
+    ask: Ask,
+    given: &mut Body,
+) -> Result<Outcome, ClientFault>
+    ensures hears { Hears ask result (R.remaining (stream_of reader.old))
+        (R.remaining (stream_of reader.new)) given.new }
+    ensures same { stream_name reader.new ≡ stream_name reader.old }
+    ensures failed { HeardBy ask result (failures_of reader.old) (failures_of reader.new)
+        (R.remaining (stream_of reader.old)) (R.remaining (stream_of reader.new)) }
 {
-    let mut reader = Watched::new(reader);
-    match read_reply(&mut reader, given) {
+    match read_reply(reader, given) {
         Ok(Some(reply)) if reply.version == SPOKEN && reply.op == ask.op().number() =>
             match reply.result {
                 Outcome::Refused(error) => Err(ClientFault::Refused(error)),

@@ -11,7 +11,7 @@ mod page;
 mod screen;
 mod words;
 
-pub use client::run_client;
+pub use client::{run_client, run_client_watched};
 pub use command::{Command, MAX_REQUESTS, MAX_ROWS, Target, Task};
 pub use fault::ClientFault;
 pub use words::{id_of, key_of, type_of};

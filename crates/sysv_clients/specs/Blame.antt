@@ -1,0 +1,62 @@
+-- Why a client has no reply (this profile's programs): a stream failed, as its count tells, or the bytes say so.
+use Rattle.std.specs.Prelude.{◌≡◌, ◌⊎◌, ⊤, ℕ, ℤ, true, List, [], Option, Some, Result, Ok, Err}
+use Rattle.std.specs.Io.KnownBytes.{Consumes, IsAtEnd}
+use Rattle.sysv_clients.specs.declared.command.Command.{Command}
+use Rattle.sysv_clients.specs.declared.fault.ClientFault.{ClientFault}
+use Rattle.sysv_clients.specs.declared.fault.ClientFault.TheVariants as fault
+use Rattle.sysv_clients.specs.Run.{Shows, shown_text, status_of}
+use Rattle.sysv_clients.specs.Talk.{Exchange, IsOther, Talked, Talks, answered_spelling, next_ask}
+use Rattle.sysv_model.specs.Watched.{failures_after}
+use Rattle.sysv_wire.specs.declared.fault.Fault.{Fault}
+use Rattle.sysv_wire.specs.declared.reply.Outcome.{Outcome}
+use Rattle.sysv_wire.specs.declared.reply.Reply.{Reply}
+use Rattle.sysv_wire.specs.declared.request.Ask.{Ask}
+use Rattle.sysv_wire.specs.Faults.{Faults, is_read}
+use Rattle.sysv_wire.specs.Replies.{FitsReply, reply_spelling}
+use Rattle.sysv_wire.specs.ReplyFaults.{ReplyFault}
+
+-- What comes is no reply to a request, and the reader's count was the first number and is the second: it has failed if
+-- and only if the fault is that it did.
+abbrev pub Unheard : Ask → (had has : ℕ) → (left rest : Option (List ℕ)) → Type 0
+Unheard ask had has left rest =
+    (Consumes left rest [] × IsAtEnd rest × (has ≡ had))
+    ⊎ ((fault : Fault) × Faults ReplyFault fault left rest × (has ≡ failures_after (is_read fault) had))
+    ⊎ ((reply : Reply) × (text : List ℕ) × FitsReply reply text × IsOther ask reply × Consumes left rest (reply_spelling reply text) × (has ≡ had))
+
+-- what was heard, by the reader's count
+abbrev pub HeardBy : Ask → Result Outcome ClientFault → (had has : ℕ) → (left rest : Option (List ℕ)) → Type 0
+HeardBy ask (Ok answer) had has left rest = has ≡ had
+HeardBy ask (Err (fault.Refused error)) had has left rest = has ≡ had
+HeardBy ask (Err fault.NoReply) had has left rest = Unheard ask had has left rest
+HeardBy ask (Err fault.NoMemory) had has left rest = ⊥
+
+-- There is no reply to a request: the writer failed, and nothing was read, or no reply to it came.
+abbrev pub Unanswered : Ask → (had has wrote writes : ℕ) → (left rest : Option (List ℕ)) → Type 0
+Unanswered ask had has wrote writes left rest =
+    ((writes ≡ failures_after true wrote) × (has ≡ had) × (rest ≡ left))
+    ⊎ ((writes ≡ wrote) × Unheard ask had has left rest)
+
+-- what came of a request, by the counts of the reader and of the writer
+abbrev pub ExchangedBy : Ask → Result Outcome ClientFault → (had has wrote writes : ℕ) → (left rest : Option (List ℕ)) → Type 0
+ExchangedBy ask (Ok answer) had has wrote writes left rest = (has ≡ had) × (writes ≡ wrote)
+ExchangedBy ask (Err (fault.Refused error)) had has wrote writes left rest = (has ≡ had) × (writes ≡ wrote)
+ExchangedBy ask (Err fault.NoReply) had has wrote writes left rest = Unanswered ask had has wrote writes left rest
+ExchangedBy ask (Err fault.NoMemory) had has wrote writes left rest = ⊥
+
+-- A talk that ended so, by the counts: no stream failed but where there is no reply, and there the request after these
+-- exchanges has none.
+abbrev pub Blames : Command → Result ⊤ ClientFault → (had has wrote writes : ℕ) → (left rest : Option (List ℕ)) → Type 0
+Blames command (Ok done) had has wrote writes left rest = (has ≡ had) × (writes ≡ wrote)
+Blames command (Err (fault.Refused error)) had has wrote writes left rest = (has ≡ had) × (writes ≡ wrote)
+Blames command (Err fault.NoMemory) had has wrote writes left rest = (has ≡ had) × (writes ≡ wrote)
+Blames command (Err fault.NoReply) had has wrote writes left rest =
+    (exchanges : List Exchange) × (ask : Ask) × (unread : Option (List ℕ)) × Talked command exchanges × Consumes left unread (answered_spelling exchanges)
+    × (next_ask command exchanges ≡ Some ask) × Unanswered ask had has wrote writes unread rest
+
+-- what a client that ended with this status did, as `Runs` says, and which stream failed
+pub record RunsBlaming (command : Command) (status : ℤ) (left rest taken more shown after : Option (List ℕ)) (had has wrote writes : ℕ) : Type 0 where
+  pub exchanges : List Exchange
+  pub ended : Result ⊤ ClientFault
+  pub talks : Talks command exchanges ended left rest taken more
+  pub shows : Shows status (status_of ended) (shown_text command.task exchanges ended) shown after
+  pub blames : Blames command ended had has wrote writes left rest
