@@ -1,2 +1,6 @@
 pub mod Places
-pub mod Openings
+pub mod Passes
+pub mod Calling
+pub mod Coming
+pub mod Ending
+pub mod Crossing

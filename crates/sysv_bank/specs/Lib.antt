@@ -1,2 +1,5 @@
 pub mod Banks
-pub mod Making
+pub mod Passes
+pub mod Resting
+pub mod Closing
+pub mod Laws

@@ -5,15 +5,18 @@ ghost use Rattle.sysv_gate.specs.Gates.{Answers, Learns, read_to, marked};
 ghost use Rattle.sysv_gate.specs.Refusals.{Refuses};
 ghost use Rattle.sysv_gate.specs.Waits.{Waited, WaitedWithin};
 ghost use Rattle.sysv_gate.specs.declared.count.Count.TheVariants.{Arrived, Freed};
+ghost use Rattle.sysv_lists.specs.Prefix.{IsPrefixOf};
 ghost use Rattle.sysv_bank.specs.Banks.{gates_of, ChangesAt};
+ghost use Rattle.sysv_bank.specs.Passes.{AddsToOrder};
 
 use crate::bank::Bank;
 use crate::seat::BankSeat;
 use std::sync::Wait;
-use sysv_gate::{Awaited, Object, TryRefused, Worn};
+use sysv_gate::{Awaited, Count, Object, TryRefused, Worn};
 
 impl<O: Object> Bank<O> {
-    /// Makes the call at the place in a turn of the seat's own, as `Gate::call`.
+    /// Makes the call at the place in a turn of the seat's own, as `Gate::call`. This turn is the last of the order that the
+    /// seat has seen then.
     pub fn call(
         &self,
         rt: &impl Wait,
@@ -21,13 +24,15 @@ impl<O: Object> Bank<O> {
         seat: &mut BankSeat<O>,
         call: O::Call,
     ) -> Result<O::Reply, Worn<O::Call>>
-        requires seat { gates_of seat.old ≡ self.now }
+        requires seat { gates_of seat.old.seats ≡ self.now }
         requires place { place < length self.now }
-        ensures gates { gates_of seat.new ≡ self.now }
-        ensures ok { IfOk result (λ r. ChangesAt place seat.old seat.new (λ before after. Answers (Moves O.meaning O.counted) O.counted before call r after × (before.worn ≡ false))) }
-        ensures worn { IfErr result (λ w. (w.call ≡ call) × ChangesAt place seat.old seat.new (λ before after. after ≡ marked before)) }
+        ensures gates { gates_of seat.new.seats ≡ self.now }
+        ensures order { OnOk result (AddsToOrder place seat.old seat.new) }
+        ensures longer { IsPrefixOf seat.old.order seat.new.order }
+        ensures ok { IfOk result (λ r. ChangesAt place seat.old.seats seat.new.seats (λ before after. Answers (Moves O.meaning O.counted) O.counted before call r after × (before.worn ≡ false))) }
+        ensures worn { IfErr result (λ w. (w.call ≡ call) × ChangesAt place seat.old.seats seat.new.seats (λ before after. after ≡ marked before)) }
     {
-        self.gates[place].call(rt, &mut seat.seats[place], call)
+        self.doors[place].call(rt, &self.hall, &mut seat.token, call)
     }
 
     /// Makes the call at the place where no other seat has the turn there or waits for it, as `Gate::try_call`.
@@ -37,47 +42,51 @@ impl<O: Object> Bank<O> {
         seat: &mut BankSeat<O>,
         call: O::Call,
     ) -> Result<O::Reply, TryRefused<O::Call>>
-        requires seat { gates_of seat.old ≡ self.now }
+        requires seat { gates_of seat.old.seats ≡ self.now }
         requires place { place < length self.now }
-        ensures gates { gates_of seat.new ≡ self.now }
-        ensures ok { IfOk result (λ r. ChangesAt place seat.old seat.new (λ before after. Answers (Moves O.meaning O.counted) O.counted before call r after × (before.worn ≡ false))) }
-        ensures err { IfErr result (λ e. ChangesAt place seat.old seat.new (λ before after. Refuses (Moves O.meaning O.counted) before call e after)) }
+        ensures gates { gates_of seat.new.seats ≡ self.now }
+        ensures order { OnOk result (AddsToOrder place seat.old seat.new) }
+        ensures longer { IsPrefixOf seat.old.order seat.new.order }
+        ensures ok { IfOk result (λ r. ChangesAt place seat.old.seats seat.new.seats (λ before after. Answers (Moves O.meaning O.counted) O.counted before call r after × (before.worn ≡ false))) }
+        ensures err { IfErr result (λ e. ChangesAt place seat.old.seats seat.new.seats (λ before after. Refuses (Moves O.meaning O.counted) before call e after)) }
     {
-        self.gates[place].try_call(&mut seat.seats[place], call)
+        self.doors[place].try_call(&self.hall, &mut seat.token, call)
     }
 
     /// Ends the sleep of each thread that waits at the place, as `Gate::wake`.
     pub fn wake(&self, rt: &impl Wait, place: usize)
         requires { place < length self.now }
     {
-        self.gates[place].wake(rt);
+        self.doors[place].wake(rt);
     }
 
     /// Wakes the next thread that sleeps in a bounded wait for the first count at the place, as `Gate::pass_on`.
     pub fn pass_on(&self, place: usize)
         requires { place < length self.now }
     {
-        self.gates[place].pass_on();
+        self.doors[place].pass_on();
     }
 
     /// The first count of the object at the place, as `Gate::arrived`.
     pub fn arrived(&self, place: usize, seat: &mut BankSeat<O>) -> u64
-        requires seat { gates_of seat.old ≡ self.now }
+        requires seat { gates_of seat.old.seats ≡ self.now }
         requires place { place < length self.now }
-        ensures gates { gates_of seat.new ≡ self.now }
-        ensures read { ChangesAt place seat.old seat.new (λ before after. (after ≡ read_to Arrived result before) × Learns O.counted Arrived before result) }
+        ensures gates { gates_of seat.new.seats ≡ self.now }
+        ensures longer { IsPrefixOf seat.old.order seat.new.order }
+        ensures read { ChangesAt place seat.old.seats seat.new.seats (λ before after. (after ≡ read_to Arrived result before) × Learns O.counted Arrived before result) }
     {
-        self.gates[place].arrived(&mut seat.seats[place])
+        self.doors[place].count(&self.hall, &mut seat.token, Count::Arrived)
     }
 
     /// The second count of the object at the place, as `Gate::freed`.
     pub fn freed(&self, place: usize, seat: &mut BankSeat<O>) -> u64
-        requires seat { gates_of seat.old ≡ self.now }
+        requires seat { gates_of seat.old.seats ≡ self.now }
         requires place { place < length self.now }
-        ensures gates { gates_of seat.new ≡ self.now }
-        ensures read { ChangesAt place seat.old seat.new (λ before after. (after ≡ read_to Freed result before) × Learns O.counted Freed before result) }
+        ensures gates { gates_of seat.new.seats ≡ self.now }
+        ensures longer { IsPrefixOf seat.old.order seat.new.order }
+        ensures read { ChangesAt place seat.old.seats seat.new.seats (λ before after. (after ≡ read_to Freed result before) × Learns O.counted Freed before result) }
     {
-        self.gates[place].freed(&mut seat.seats[place])
+        self.doors[place].count(&self.hall, &mut seat.token, Count::Freed)
     }
 
     /// Waits until the first count at the place is at least `goal`, as `Gate::await_arrived`.
@@ -88,12 +97,13 @@ impl<O: Object> Bank<O> {
         seat: &mut BankSeat<O>,
         goal: u64,
     ) -> Awaited
-        requires seat { gates_of seat.old ≡ self.now }
+        requires seat { gates_of seat.old.seats ≡ self.now }
         requires place { place < length self.now }
-        ensures gates { gates_of seat.new ≡ self.now }
-        ensures waited { ChangesAt place seat.old seat.new (λ before after. Waited O.counted Arrived goal before result after) }
+        ensures gates { gates_of seat.new.seats ≡ self.now }
+        ensures longer { IsPrefixOf seat.old.order seat.new.order }
+        ensures waited { ChangesAt place seat.old.seats seat.new.seats (λ before after. Waited O.counted Arrived goal before result after) }
     {
-        self.gates[place].await_arrived(rt, &mut seat.seats[place], goal)
+        self.doors[place].await_count(rt, &self.hall, &mut seat.token, Count::Arrived, goal)
     }
 
     /// Waits until the second count at the place is at least `goal`, as `Gate::await_freed`.
@@ -104,12 +114,13 @@ impl<O: Object> Bank<O> {
         seat: &mut BankSeat<O>,
         goal: u64,
     ) -> Awaited
-        requires seat { gates_of seat.old ≡ self.now }
+        requires seat { gates_of seat.old.seats ≡ self.now }
         requires place { place < length self.now }
-        ensures gates { gates_of seat.new ≡ self.now }
-        ensures waited { ChangesAt place seat.old seat.new (λ before after. Waited O.counted Freed goal before result after) }
+        ensures gates { gates_of seat.new.seats ≡ self.now }
+        ensures longer { IsPrefixOf seat.old.order seat.new.order }
+        ensures waited { ChangesAt place seat.old.seats seat.new.seats (λ before after. Waited O.counted Freed goal before result after) }
     {
-        self.gates[place].await_freed(rt, &mut seat.seats[place], goal)
+        self.doors[place].await_count(rt, &self.hall, &mut seat.token, Count::Freed, goal)
     }
 
     /// Waits for the first count at the place, and sleeps for a second at most, as `Gate::arrived_within`.
@@ -120,12 +131,13 @@ impl<O: Object> Bank<O> {
         seat: &mut BankSeat<O>,
         goal: u64,
     ) -> Option<Awaited>
-        requires seat { gates_of seat.old ≡ self.now }
+        requires seat { gates_of seat.old.seats ≡ self.now }
         requires place { place < length self.now }
-        ensures gates { gates_of seat.new ≡ self.now }
-        ensures waited { ChangesAt place seat.old seat.new (λ before after. WaitedWithin O.counted Arrived goal before result after) }
+        ensures gates { gates_of seat.new.seats ≡ self.now }
+        ensures longer { IsPrefixOf seat.old.order seat.new.order }
+        ensures waited { ChangesAt place seat.old.seats seat.new.seats (λ before after. WaitedWithin O.counted Arrived goal before result after) }
     {
-        self.gates[place].arrived_within(rt, &mut seat.seats[place], goal)
+        self.doors[place].await_within(rt, &self.hall, &mut seat.token, Count::Arrived, goal)
     }
 
     /// Waits for the second count at the place, and sleeps for a second at most, as `Gate::freed_within`.
@@ -136,11 +148,12 @@ impl<O: Object> Bank<O> {
         seat: &mut BankSeat<O>,
         goal: u64,
     ) -> Option<Awaited>
-        requires seat { gates_of seat.old ≡ self.now }
+        requires seat { gates_of seat.old.seats ≡ self.now }
         requires place { place < length self.now }
-        ensures gates { gates_of seat.new ≡ self.now }
-        ensures waited { ChangesAt place seat.old seat.new (λ before after. WaitedWithin O.counted Freed goal before result after) }
+        ensures gates { gates_of seat.new.seats ≡ self.now }
+        ensures longer { IsPrefixOf seat.old.order seat.new.order }
+        ensures waited { ChangesAt place seat.old.seats seat.new.seats (λ before after. WaitedWithin O.counted Freed goal before result after) }
     {
-        self.gates[place].freed_within(rt, &mut seat.seats[place], goal)
+        self.doors[place].await_within(rt, &self.hall, &mut seat.token, Count::Freed, goal)
     }
 }

@@ -1,16 +1,28 @@
 //! What is so of every seat of a bank.
 ghost use Rattle.sysv_gate.specs.History.{Moves};
 ghost use Rattle.sysv_bank.specs.Banks.{EachKnowsItsOwn};
+ghost use Rattle.sysv_bank.specs.Passes.{SeenInOrder};
+ghost use Rattle.sysv_bank.specs.Laws.{OneOrder};
 
 use crate::seat::BankSeat;
-use sysv_gate::{Object, each_seat_knows_its_own};
+use sysv_gate::Object;
 
-/// What the seat at each place has seen is legal, whatever calls were made with it, and it knows just the turns of its own
+/// What the seat has seen at each place is legal, whatever calls were made with it, and it knows just the turns of its own
 /// in it, each once.
 pub fn each_seat_of_a_bank_knows_its_own<O: Object>(seat: &BankSeat<O>)
-    ensures { EachKnowsItsOwn (Moves O.meaning O.counted) seat.now }
+    ensures { EachKnowsItsOwn (Moves O.meaning O.counted) seat.now.seats }
 {
-    for place in 0..seat.seats.len() {
-        each_seat_knows_its_own(&seat.seats[place]);
-    }
+    let _ = &seat.token;
 }
+
+/// What the seat has seen at each place is a beginning of that place's part of the order that it has seen.
+pub fn each_place_is_in_the_order<O: Object>(seat: &BankSeat<O>)
+    ensures { SeenInOrder seat.now }
+{
+    let _ = &seat.token;
+}
+
+/// The orders that any two passes of one bank have seen begin one another, whatever its state is.
+pub fn one_order<O: Object>()
+    ensures { OneOrder (Moves O.meaning O.counted) O.counted }
+{}

@@ -1,36 +1,42 @@
 //! The seats of banks.
-ghost use Rattle.std.specs.Prelude.{◌≡◌};
+ghost use Rattle.sysv_gate.specs.History.{Moves};
+ghost use Rattle.sysv_bank.specs.Resting.{IsTokenOf};
 
-use std::alloc::Global;
 use std::marker::Model;
-use sysv_gate::{Object, Seat};
+use std::snapshot::Snapshot;
+use sysv_gate::{HallKey, HallToken, Object};
 
-/// The right to take turns at each gate of a bank: one seat for each place. It is used only with the bank that gave it. It
-/// may go to another thread.
+/// The right to take turns at each place of a bank, and what its holder knows of the history there and of the order of all
+/// turns. It is used only with the bank that gave it. It may go to another thread.
 pub struct BankSeat<O: Object> {
-    pub(crate) seats: Vec<Seat<O>, Global>,
+    pub(crate) token: HallToken<O>,
+    pub(crate) key: Snapshot<HallKey<O>>,
 }
 
 impl<O: Object> Model for BankSeat<O> {
-    ghost use Rattle.std.specs.Prelude.{List};
-    ghost use Rattle.sysv_gate.specs.Gates.{Holding};
+    ghost use Rattle.sysv_bank.specs.Passes.{Pass};
 
-    ghost Value = { List (Holding O O.Call O.Reply) };
+    ghost Value = { Pass O O.Call O.Reply };
 
-    ghost view = { λ s. s.seats.items };
+    ghost use Rattle.sysv_bank.specs.Resting.{pass_of, Rests};
+    ghost use Rattle.sysv_gate.specs.History.{Moves};
+
+    ghost view = { pass_of };
+
+    ghost invariant = { Rests (Moves O.meaning O.counted) };
 }
 
 impl<O: Object> Drop for BankSeat<O> {
     fn drop(self) {
-        let BankSeat { seats: _ } = self;
+        let BankSeat { token: _, key: _ } = self;
     }
 }
 
 impl<O: Object> BankSeat<O> {
-    pub(crate) fn into_seats(self) -> Vec<Seat<O>, Global>
-        ensures { result.items ≡ self }
+    pub(crate) fn into_token(self) -> HallToken<O>
+        ensures { IsTokenOf (Moves O.meaning O.counted) self result }
     {
-        let BankSeat { seats } = self;
-        seats
+        let BankSeat { token, key: _ } = self;
+        token
     }
 }

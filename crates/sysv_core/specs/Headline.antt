@@ -1,11 +1,12 @@
--- The headline. For every list of atomic steps of any number of senders and receivers: what each queue
--- accepted is, each message once, what it delivered, discarded by removal or still holds; each receive
--- takes the very message its selector names; messages of one type leave in the order of acceptance; every
--- answer is decided by what its call asked for and by the turns of that call; a receive waits only while
--- no message is named, a send only while there is no room or too few blocks are free, a get only while another
--- call has its key in hand; after a removal nothing is accepted or leaves under that identifier, for good; and
--- then the sends and receives that had come to the queue answer EIDRM, and later ones EINVAL (what
--- POSIX.1-2017 says of msgget, msgsnd, msgrcv and msgctl, in this profile's steps).
+-- The headline. For every list of atomic steps of any number of senders and receivers:
+-- every accepted message is delivered exactly once, discarded when its queue is removed, or still queued;
+-- each receive takes the message that its selector names; messages of one type leave in the order of
+-- acceptance; every result follows from the call's arguments and from that call's own turns; a receive waits
+-- only while no message is named, a send only while there is no room or too few blocks are free, a get only
+-- while another call is creating or removing the queue of its key; after a removal nothing is accepted or
+-- delivered under that identifier, for good; sends and receives that had reached the queue before then fail
+-- with EIDRM, and later ones fail with EINVAL (what POSIX.1-2017 says of msgget, msgsnd, msgrcv and msgctl,
+-- in this profile's steps).
 --
 -- EveryRunObeys is the sentence. A world of the code stands for the list of what has happened in it, and
 -- a step, a preset and a run of events lead from the world of a list to the world of the longer list,
@@ -41,19 +42,19 @@ pub record Obeys (o : Opening) (w : World) (given : List Given) : Type 0 where
   pub pool : PoolLaw o.blocks (pool_history w.turns)
   -- each block is free, under a message that waits, or held by a call, and the pool takes back every chain
   pub conserved : AreConserved o.blocks w.turns w.actors
-  -- each call plays its own turns, and has one answer where it is over
+  -- each call plays its own turns, and has one answer once it is over
   pub calls : All (Fate w given) w.calls
   -- no two calls have one name
   pub apart : AllPairs (λ (c d : Started). c.who ≢ d.who) w.calls
-  -- nobody else makes a turn
+  -- no other call makes a turn
   pub made : All (IsMade w.calls) w.turns
   -- each turn of a call asks for what the call was asked, also of one under way
   pub asked : All (AsksAsItWasAsked w) w.calls
-  -- nobody else is given an answer
+  -- no other call has an answer
   pub known : All (λ (g : Given). Contains w.calls g.call) given
   -- each answer is the right one for what was asked and for the turns of that call
   pub right : All (λ (g : Given). IsRightAnswer g.call.asked (deeds_of g.call.who w.turns) g.ending) given
-  -- who waits has a reason to
+  -- each call that waits has a reason to
   pub parked : AreParkedRightly w
   -- a row that is not settled, or whose queue does not live, is some actor's to settle or to forget
   pub tended : AreTended w

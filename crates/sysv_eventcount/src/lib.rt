@@ -1,6 +1,6 @@
 //! Eventcounts and sequencers, after Reed and Kanodia. An eventcount is a number that only rises: threads advance it,
-//! read it, and wait until it has reached a goal. A sequencer gives the numbers from its first on, each once. Together
-//! they let one thread at a time do something, in the order of the numbers:
+//! read it, and wait until it has reached a goal. A sequencer issues the numbers from its first on, each once. Together
+//! they let threads do something one at a time, in the order of the numbers:
 //!
 //! ```rust
 //! let turn = turns.ticket(&mut drawing)?;

@@ -13,7 +13,7 @@ use Rattle.sysv_gate.proofs.Announcing.{exactly}
 use Rattle.sysv_gate.proofs.Keeping.{served_alone}
 
 -- of two prefixes of a list, one is a prefix of the other
-prefix_either : {A : Type 0} (xs ys xs' ys' : List A) → xs ++ xs' ≡ ys ++ ys' → IsPrefixOf ys xs ⊎ IsPrefixOf xs ys
+pub prefix_either : {A : Type 0} (xs ys xs' ys' : List A) → xs ++ xs' ≡ ys ++ ys' → IsPrefixOf ys xs ⊎ IsPrefixOf xs ys
 prefix_either [] ys xs' ys' same = inr (ys, refl)
 prefix_either (x ∷ xs) [] xs' ys' same = inl (x ∷ xs, refl)
 prefix_either {A} (x ∷ xs) (y ∷ ys) xs' ys' same =
@@ -48,10 +48,10 @@ module _ {O C R : Type 0} where
 
     pub counts_outside : (counted : O → ℕ × ℕ) → CountsOutsideATurn {C = C} {R = R} moves counted
     counts_outside counted opening first s held nobody = (
-      held.2.0,
-      held.2.2.legal,
-      held.2.1,
+      held.0,
+      held.1.3.legal,
+      held.1.2,
       λ count.
-          let told = held.2.3 count in
-          exactly count (of_count count (counted (after_all opening held.2.0))) (get_or s.words (word_of count) 0) s.views told (λ k u there. told.quiet k u there (nobody k u there)),
+          let told = held.1.4 count in
+          exactly count (of_count count (counted (after_all opening held.0))) (get_or s.words (word_of count) 0) s.views told (λ k u there. told.quiet k u there (nobody k u there)),
     )

@@ -5,7 +5,7 @@ use mathlib.Core.Logic.{dite}
 use native.Mathlib.Decide.{dec_le}
 use mathlib.Core.Option.{some, some-injective, some-ne-none}
 use lib.ListN.{get_elem?}
-use Rattle.atomic_table.specs.Table.{Final, Seen}
+use Rattle.atomic_table.specs.Table.{State, Final, Seen}
 use Rattle.atomic_table.specs.declared.shared.Seat.{Seat}
 use Rattle.sysv_gate.specs.declared.closing.Closing.{Closing}
 use Rattle.sysv_gate.specs.declared.view.View.{View}
@@ -13,7 +13,7 @@ use Rattle.sysv_gate.specs.declared.view.Turn.{Turn}
 use Rattle.sysv_lists.specs.Numbers.{times}
 use Rattle.sysv_lists.specs.Prefix.{IsPrefixOf}
 use Rattle.sysv_gate.specs.History.{IsLegal, after_all, HasItsOwn}
-use Rattle.sysv_gate.specs.Rule.{Homes, Spot, put, IsKept, Gated}
+use Rattle.sysv_gate.specs.Rule.{Homes, Spot, put, IsKept, GatedBy, Gated}
 use Rattle.sysv_gate.specs.Gates.{Holding}
 use Rattle.sysv_gate.specs.Held.{Rests}
 use Rattle.sysv_gate.specs.Closings.{held_object, ATurnIsDue, Closes}
@@ -32,9 +32,16 @@ module _ {O C R : Type 0} (moves : O → C → R → O → Type 0) (counted : O 
   pub spelled : (o o' : O) (f f' id : ℕ) (v : View O C R) (ws : List ℕ) (xs : List (Spot O C R)) → o ≡ o' → f ≡ f' → Final (Seen (Gated moves counted o f) id v) ws xs → Final (Seen (Gated moves counted o' f') id v) ws xs
   spelled o o' f f' id v ws xs same_object same_first final = subst (λ (n : ℕ). Final (Seen (Gated moves counted o' n) id v) ws xs) same_first (subst (λ (p : O). Final (Seen (Gated moves counted p f) id v) ws xs) same_object final)
 
-  -- what the last state of the table tells a seat that rests
-  pub record Ended (h : Holding O C R) (served next : ℕ) (spot : Spot O C R) : Type 0 where
-    pub log : List (Turn O C R)
+  -- the view is what the seat has, which holds no ticket
+  pub record Resembles (h : Holding O C R) (v : View O C R) : Type 0 where
+    pub numbers : v.numbers ≡ h.numbers
+    pub seen : v.seen ≡ h.seen
+    pub own : v.own ≡ h.own
+    pub alone : v.alone ≡ h.alone
+    pub no_ticket : v.tickets ≡ []
+
+  -- what the last state, with this history, tells a seat that rests
+  pub record Ended (log : List (Turn O C R)) (h : Holding O C R) (served next : ℕ) (spot : Spot O C R) : Type 0 where
     pub legal : IsLegal moves h.gate.opening log
     pub longer : IsPrefixOf h.seen log
     pub own : HasItsOwn h.numbers h.own log
@@ -62,32 +69,24 @@ module _ {O C R : Type 0} (moves : O → C → R → O → Type 0) (counted : O 
       let has = holder.3 in
       absurd (omega arith))
 
-  pub ended : (h : Holding O C R) (token : Seat (Spot O C R) (View O C R)) (ws : List ℕ) (xs : List (Spot O C R)) (served next : ℕ) (spot : Spot O C R) → Rests h token
-      → Final (Seen (Gated moves counted h.gate.opening h.gate.first) token.id token.me.0) ws xs → get_elem? ws 16 ≡ some served → get_elem? ws 32 ≡ some next → get_elem? xs 0 ≡ some spot → Ended h served next spot
-  ended h token ws xs served next spot rests final at_serving at_next at_spot =
-      let s = final.0 in
-      let held = final.1.0 in
-      let at = final.1.1 in
-      let log : List (Turn O C R) = held.2.0 in
-      let kept = held.2.2 in
+  pub ended_by : (h : Holding O C R) (id : ℕ) (v : View O C R) (s : State (Spot O C R) (View O C R)) (log : List (Turn O C R)) (served next : ℕ) (spot : Spot O C R)
+      → GatedBy moves counted h.gate.opening h.gate.first log s → get_elem? s.views id ≡ some v → Resembles h v → get_or s.words 16 0 ≡ served → get_or s.words 32 0 ≡ next → ((x : Spot O C R) → get_elem? s.homes 0 ≡ some (some x) → spot ≡ x) → Ended log h served next spot
+  ended_by h id v s log served next spot held at same same_served same_next back =
+      let kept = held.3 in
       let opening : O = h.gate.opening in
       let first : ℕ = h.gate.first in
       let drawn : ℕ = get_or s.words 32 0 in
-      let same_served : get_or s.words 16 0 ≡ served = ap (λ (l : List ℕ). get_or l 16 0) final.2 ∙ read_at ws 16 served at_serving in
-      let same_next : drawn ≡ next = ap (λ (l : List ℕ). get_or l 32 0) final.2 ∙ read_at ws 32 next at_next in
-      let count : served ≡ first + length log = sym same_served ∙ held.2.1 in
+      let count : served ≡ first + length log = sym same_served ∙ held.2 in
       let order = kept.order in
-      let own = own_turns moves opening first log drawn token.id s.homes s.views token.me.0 kept at in
+      let own = own_turns moves opening first log drawn id s.homes s.views v kept at in
       record {
-        log = log;
         legal = kept.legal;
-        longer = subst (λ (l : List (Turn O C R)). IsPrefixOf l log) rests.seen (kept.each token.id token.me.0 at).seen;
-        own = subst (λ (l : List ℕ). HasItsOwn h.numbers l log) rests.own (subst (λ (l : List ℕ). HasItsOwn l token.me.0.own log) rests.numbers own);
+        longer = subst (λ (l : List (Turn O C R)). IsPrefixOf l log) same.seen (kept.each id v at).seen;
+        own = subst (λ (l : List ℕ). HasItsOwn h.numbers l log) same.own (subst (λ (l : List ℕ). HasItsOwn l v.own log) same.numbers own);
         count = count;
         whole = λ all.
             let home = kept.home (no_ticket_no_turn moves opening first log drawn s.homes s.views kept (omega arith)) in
-            let back : get_elem? xs 0 ≡ some (put (after_all opening log) home.0) = final.4 0 (put (after_all opening log) home.0) home.1 in
-            ap held_object (some-injective spot (put (after_all opening log) home.0) (sym at_spot ∙ back));
+            ap held_object (back (put (after_all opening log) home.0) home.1);
         due = λ more.
             let s' : ℕ = first + length log in
             let less : s' < drawn = omega arith in
@@ -95,38 +94,53 @@ module _ {O C R : Type 0} (moves : O → C → R → O → Type 0) (counted : O 
             let holder = some_part (λ (v : View O C R). times s' v.tickets) s.views (omega (arith, once_between-first s' drawn less)) in
             (drawn, s.homes, s.views, kept, holder);
         alone = λ mark.
-            let one = kept.alone token.id token.me.0 at (rests.alone ∙ mark) in
-            let all = all_served opening first log drawn token.id s.homes s.views token.me.0 kept at one.0 rests.no_ticket in
-            (sym one.1 ∙ rests.seen, omega arith);
+            let one = kept.alone id v at (same.alone ∙ mark) in
+            let all = all_served opening first log drawn id s.homes s.views v kept at one.0 same.no_ticket in
+            (sym one.1 ∙ same.seen, omega arith);
       }
 
-  pub closes_whole : (h : Holding O C R) (served next : ℕ) (spot : Spot O C R) (c : Closing O) → Ended h served next spot → served ≡ next → c.object ≡ held_object spot → c.rest ≡ None → c.turns ≡ served - h.gate.first → Closes moves h c
-  closes_whole h served next spot c end all object rest turns =
-      let count = end.count in
-      let is : c.object ≡ Some (after_all h.gate.opening end.log) = object ∙ end.whole all in
-      record {
-        log = end.log;
-        legal = end.legal;
-        longer = end.longer;
-        own = end.own;
-        turns = turns ∙ (omega arith);
-        object = subst (λ (x : Option O). IfSome x (λ o. (o ≡ after_all h.gate.opening end.log) × (c.rest ≡ None))) (sym is) (refl, rest);
-        due = subst (λ (x : Option O). IfNone x (ATurnIsDue moves h.gate end.log)) (sym is) tt;
-        alone = λ mark.
-            let one = end.alone mark in
-            (one.0, is ∙ ap (λ (l : List (Turn O C R)). Some (after_all h.gate.opening l)) one.0);
-      }
+  pub ended : (h : Holding O C R) (token : Seat (Spot O C R) (View O C R)) (ws : List ℕ) (xs : List (Spot O C R)) (served next : ℕ) (spot : Spot O C R) → Rests h token
+      → Final (Seen (Gated moves counted h.gate.opening h.gate.first) token.id token.me.0) ws xs → get_elem? ws 16 ≡ some served → get_elem? ws 32 ≡ some next → get_elem? xs 0 ≡ some spot → (log : List (Turn O C R)) × Ended log h served next spot
+  ended h token ws xs served next spot rests final at_serving at_next at_spot =
+      let s = final.0 in
+      let held = final.1.0 in (
+        held.0,
+        ended_by h token.id token.me.0 s held.0 served next spot held.1 final.1.1 (record { numbers = rests.numbers; seen = rests.seen; own = rests.own; alone = rests.alone; no_ticket = rests.no_ticket })
+            (ap (λ (l : List ℕ). get_or l 16 0) final.2 ∙ read_at ws 16 served at_serving) (ap (λ (l : List ℕ). get_or l 32 0) final.2 ∙ read_at ws 32 next at_next)
+            (λ x there. some-injective spot x (sym at_spot ∙ final.4 0 x there)),
+      )
 
-  pub closes_due : (h : Holding O C R) (served next : ℕ) (spot : Spot O C R) (c : Closing O) → Ended h served next spot → served ≢ next → c.object ≡ None → c.turns ≡ served - h.gate.first → Closes moves h c
-  closes_due h served next spot c end more object turns =
+  pub closes_whole : (log : List (Turn O C R)) (h : Holding O C R) (served next : ℕ) (spot : Spot O C R) (c : Closing O) → Ended log h served next spot → served ≡ next → c.object ≡ held_object spot → c.rest ≡ None → c.turns ≡ served - h.gate.first → (closes : Closes moves h c) × (closes.log ≡ log)
+  closes_whole log h served next spot c end all object rest turns =
       let count = end.count in
-      record {
-        log = end.log;
-        legal = end.legal;
-        longer = end.longer;
-        own = end.own;
-        turns = turns ∙ (omega arith);
-        object = subst (λ (x : Option O). IfSome x (λ o. (o ≡ after_all h.gate.opening end.log) × (c.rest ≡ None))) (sym object) tt;
-        due = subst (λ (x : Option O). IfNone x (ATurnIsDue moves h.gate end.log)) (sym object) (end.due more);
-        alone = λ mark. absurd (more (end.alone mark).1);
-      }
+      let is : c.object ≡ Some (after_all h.gate.opening log) = object ∙ end.whole all in (
+        record {
+          log = log;
+          legal = end.legal;
+          longer = end.longer;
+          own = end.own;
+          turns = turns ∙ (omega arith);
+          object = subst (λ (x : Option O). IfSome x (λ o. (o ≡ after_all h.gate.opening log) × (c.rest ≡ None))) (sym is) (refl, rest);
+          due = subst (λ (x : Option O). IfNone x (ATurnIsDue moves h.gate log)) (sym is) tt;
+          alone = λ mark.
+              let one = end.alone mark in
+              (one.0, is ∙ ap (λ (l : List (Turn O C R)). Some (after_all h.gate.opening l)) one.0);
+        },
+        refl,
+      )
+
+  pub closes_due : (log : List (Turn O C R)) (h : Holding O C R) (served next : ℕ) (spot : Spot O C R) (c : Closing O) → Ended log h served next spot → served ≢ next → c.object ≡ None → c.turns ≡ served - h.gate.first → (closes : Closes moves h c) × (closes.log ≡ log)
+  closes_due log h served next spot c end more object turns =
+      let count = end.count in (
+        record {
+          log = log;
+          legal = end.legal;
+          longer = end.longer;
+          own = end.own;
+          turns = turns ∙ (omega arith);
+          object = subst (λ (x : Option O). IfSome x (λ o. (o ≡ after_all h.gate.opening log) × (c.rest ≡ None))) (sym object) tt;
+          due = subst (λ (x : Option O). IfNone x (ATurnIsDue moves h.gate log)) (sym object) (end.due more);
+          alone = λ mark. absurd (more (end.alone mark).1);
+        },
+        refl,
+      )

@@ -5,7 +5,7 @@ use denote.Param.Send.{IsSend, IsSync, AllSend, sendable, view_send, view_sync, 
 use Rattle.sysv_gate.specs.declared.object.Object.{Ghosts}
 use Rattle.sysv_gate.specs.History.{Moves}
 use Rattle.sysv_gate.specs.Rule.{Gated, start}
-use denote.Struct.Field.{row_field, u64-field}
+use denote.Struct.Field.{row_field, u64-field, usize-field}
 use Rattle.std.specs.contracts.option.Option as option
 use Rattle.std.proofs.option.Option.TheSendSync as crossing
 use denote.Struct.Tuple.{parts, type_at, TupleAt}
@@ -29,12 +29,17 @@ use Rattle.sysv_gate.proofs.bell.Bell.TheSendSync as bells
 use Rattle.sysv_gate.specs.contracts.bell.TurnBells as turns
 use Rattle.sysv_gate.proofs.bell.TurnBells.TheSendSync as turn_bells
 use Rattle.sysv_gate.specs.contracts.gate.Gate as gate
+use Rattle.std.specs.contracts.vec.Vec as vec
+use Rattle.std.specs.contracts.impls.GlobalAllocator.TheImpl as global
+use Rattle.sysv_gate.specs.contracts.hall.HallKey as hall_key
+use Rattle.sysv_gate.specs.contracts.door.Door as door
+use Rattle.sysv_gate.specs.contracts.door.Door.TheInside as door_inside
 use Rattle.sysv_gate.specs.contracts.gate.Gate.TheInside as within
 
-snapshot_send : (T : RattleType) → IsSend (snapshot.the_row T)
+pub snapshot_send : (T : RattleType) → IsSend (snapshot.the_row T)
 snapshot_send T = record { owned = λ d vs. ((λ vss. (tt, ((λ uss. (tt, tt)), tt))), tt); leaving = λ k d w. tt }
 
-snapshot_sync : (T : RattleType) → IsSync (snapshot.the_row T)
+pub snapshot_sync : (T : RattleType) → IsSync (snapshot.the_row T)
 snapshot_sync T = record { shared = λ d b o κ q. part_keyless (snapshot.the_row T) (snapshot_send T) q d b o }
 
 done_send : (C R : RattleType) → IsSend (done.the_row C R)
@@ -46,7 +51,7 @@ key_send O = declared_send (key.the_type O) (as_row_send (snapshot.the_field O) 
 place_send : (O C R : RattleType) → IsSend O → IsSend (place.the_row O C R)
 place_send O C R s = declared_send (place.the_type O C R) (as_row_send (row_field O) s, (as_row_send (option.the_field (done.the_row C R)) (crossing.the_field_send (done.the_row C R) (done_send C R)), tt))
 
-spot_send : (O C R : RattleType) → IsSend O → IsSend (option.the_row (place.the_row O C R))
+pub spot_send : (O C R : RattleType) → IsSend O → IsSend (option.the_row (place.the_row O C R))
 spot_send O C R s = crossing.the_send (place.the_row O C R) (place_send O C R s)
 
 key_sync : (O : RattleType) → IsSync (key.the_row O)
@@ -66,6 +71,16 @@ gate_sync O C R g s = view_sync (within.the_row O C R g) _ _ _ _
     (declared_sync (within.the_type O C R g) (
       tables.the_sync (option.the_row (place.the_row O C R)) (view.the_row O C R) (key.the_row O) (gating.the_row O) heap.the_row (record { holds = λ k. Gated (Moves g.meaning g.counted) g.counted k.opening.value k.first; first = λ k. start k.opening.value k.first }) _ (spot_send O C R s) heaps.the_send heaps.the_sync frees,
       (key_sync O, (as_row_sync turns.the_field turn_bells.the_field_sync, (as_row_sync bell.the_field bells.the_field_sync, (as_row_sync bell.the_field bells.the_field_sync, (as_row_sync bell.the_field bells.the_field_sync, tt))))),
+    ))
+
+pub hall_key_sync : (O : RattleType) → IsSync (hall_key.the_row O)
+hall_key_sync O = declared_sync (hall_key.the_type O) (as_row_sync (snapshot.the_field (vec.the_row O heap.the_row global.ghosts)) (snapshot_sync (vec.the_row O heap.the_row global.ghosts)), (as_row_sync u64-field (search sendable), tt))
+
+pub door_sync : (O C R : RattleType) (g : Ghosts O.Denot C.Denot R.Denot) → IsSync (door.the_row O C R g)
+door_sync O C R g = view_sync (door_inside.the_row O C R g) _ _ _ _
+    (declared_sync (door_inside.the_type O C R g) (
+      as_row_sync usize-field (search sendable),
+      (as_row_sync usize-field (search sendable), (as_row_sync (snapshot.the_field O) (snapshot_sync O), (as_row_sync turns.the_field turn_bells.the_field_sync, (as_row_sync bell.the_field bells.the_field_sync, (as_row_sync bell.the_field bells.the_field_sync, (as_row_sync bell.the_field bells.the_field_sync, tt)))))),
     ))
 
 -- what a closure captures goes to another thread where each part may

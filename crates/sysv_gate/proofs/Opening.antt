@@ -9,7 +9,7 @@ use Rattle.atomic_table.specs.Table.{opening}
 use Rattle.atomic_table.proofs.Lists.{at_snoc}
 use Rattle.sysv_gate.specs.declared.view.View.{View}
 use Rattle.sysv_lists.specs.Numbers.{times, once_between}
-use Rattle.sysv_gate.specs.Rule.{Spot, put, bearers, Fits, IsKept, IsAnnounced, AreAnnounced, Gated, start}
+use Rattle.sysv_gate.specs.Rule.{Spot, put, bearers, Fits, IsKept, IsAnnounced, AreAnnounced, GatedBy, start}
 use Rattle.sysv_gate.specs.declared.count.Count.{Count}
 use Rattle.sysv_gate.specs.declared.count.Count.TheVariants.{Arrived, Freed}
 use Rattle.sysv_gate.specs.Counts.{of_count}
@@ -66,15 +66,12 @@ module _ {O C R : Type 0} (moves : O → C → R → O → Type 0) (counted : O 
 
   -- the table of a new gate
   pub starts : (o : O) (first : ℕ) (ws : List ℕ) (xs : List (Spot O C R)) → length ws ≡ 80 → get_or ws 16 0 ≡ first → get_or ws 32 0 ≡ first → get_or ws 48 0 ≡ (counted o).0 → get_or ws 64 0 ≡ (counted o).1 → xs ≡ put o None ∷ [] → first ≤ 2 ^ 62
-      → Gated moves counted o first (opening ws xs (start o first))
+      → GatedBy moves counted o first [] (opening ws xs (start o first))
   starts o first ws xs wide serves draws arrived freed is le = (
     wide,
     ap (λ (ys : List (Spot O C R)). length (map some ys)) is,
-    (
-      [],
-      serves ∙ (omega arith),
-      subst (λ (ys : List (Spot O C R)). IsKept moves o first [] (get_or ws 32 0) (map some ys) (start o first ∷ [])) (sym is)
-          (subst (λ (n : ℕ). IsKept moves o first [] n (some (put o None) ∷ []) (start o first ∷ [])) (sym draws) (kept_at_start o first le)),
-      told_at_start o first ws arrived freed,
-    ),
+    serves ∙ (omega arith),
+    subst (λ (ys : List (Spot O C R)). IsKept moves o first [] (get_or ws 32 0) (map some ys) (start o first ∷ [])) (sym is)
+        (subst (λ (n : ℕ). IsKept moves o first [] n (some (put o None) ∷ []) (start o first ∷ [])) (sym draws) (kept_at_start o first le)),
+    told_at_start o first ws arrived freed,
   )

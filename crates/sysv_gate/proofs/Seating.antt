@@ -6,7 +6,7 @@ use native.Mathlib.Decide.{ℕ_discrete}
 use mathlib.Core.Option.{none, some}
 use lib.ListN.{get_elem?}
 use Rattle.std.proofs.lemmas.List.Sums.{sum_by_push}
-use Rattle.atomic_table.specs.Table.{State, step, keeps, Allows, Splits, Joins}
+use Rattle.atomic_table.specs.Table.{State, step, Splits, Joins}
 use Rattle.atomic_table.proofs.Lists.{at_set, at_longer, at_snoc, set_else}
 use Rattle.sysv_gate.specs.declared.view.View.{View}
 use Rattle.sysv_gate.specs.declared.view.Turn.{Turn}
@@ -14,7 +14,7 @@ use Rattle.sysv_lists.specs.Numbers.{times}
 use Rattle.sysv_lists.specs.Prefix.{IsPrefixOf}
 use Rattle.sysv_gate.specs.History.{IsLegal, after_all, made_at, HasItsOwn}
 use Rattle.sysv_gate.specs.Counts.{word_of, of_count, larger}
-use Rattle.sysv_gate.specs.Rule.{Homes, Spot, bearers, Fits, IsKept, AreAnnounced, Gated}
+use Rattle.sysv_gate.specs.Rule.{Homes, Spot, bearers, Fits, IsKept, AreAnnounced, GatedBy}
 use Rattle.sysv_gate.specs.Gates.{Gateway, Holding}
 use Rattle.sysv_gate.specs.Gates.{Joins as Joined}
 use Rattle.sysv_gate.specs.Steps.{Mine, parted, newcomer, named, both_of, spent, merged, Names, Gathers, Merges}
@@ -26,6 +26,7 @@ use Rattle.sysv_lists.proofs.Prefixes.{prefix_self}
 use Rattle.sysv_gate.proofs.Histories.{made_at-nobody, made_at-front, made_at-append}
 use Rattle.sysv_gate.proofs.Keeping.{own_turns, stays, still_alone, not_alone}
 use Rattle.sysv_gate.proofs.Announcing.{none_yet, larger_up_to, counts_on, counts_more}
+use Rattle.sysv_gate.proofs.Touching.{leaves, AllowsTo}
 use Rattle.sysv_gate.proofs.Stepping.{on_serving, told_on}
 
 module _ {O C R : Type 0} (moves : O → C → R → O → Type 0) (counted : O → ℕ × ℕ) (opening : O) (first : ℕ) where
@@ -41,8 +42,8 @@ module _ {O C R : Type 0} (moves : O → C → R → O → Type 0) (counted : O 
   abbrev M : Type 0
   M = Mine O C R
 
-  abbrev Holds : St → Type 0
-  Holds = Gated moves counted opening first
+  abbrev Holds : Log → St → Type 0
+  Holds log = GatedBy moves counted opening first log
 
   abbrev Told : Log → List ℕ → List V → Type 0
   Told log words views = AreAnnounced counted (after_all opening log) words views
@@ -94,18 +95,33 @@ module _ {O C R : Type 0} (moves : O → C → R → O → Type 0) (counted : O 
         alone = still_alone moves opening first log views id w kept.alone (kept.alone id v at);
       }
 
-  pub names : (slots id : ℕ) (me : M) (o : O) → me.0.opening ≡ Some o → me.0.numbers ≡ [] → me.0.in_turn ≡ false → Allows Holds slots id me 16 (λ n. n) (Names (step slots 16 0 0 none) me)
-  names slots id me o knows empty idle s held _ at _ =
+  pub names : (log : Log) (slots id : ℕ) (me : M) (o : O) → me.0.opening ≡ Some o → me.0.numbers ≡ [] → me.0.in_turn ≡ false → AllowsTo (Holds log) (Holds log) slots id me 16 (λ n. n) (Names (step slots 16 0 0 none) me)
+  names log slots id me o knows empty idle s held _ at _ =
       let w : V = named id me.0 in
-      let kept = held.2.2 in
-      let fits = kept.each id me.0 at in
-      let log : Log = held.2.0 in (
+      let kept = held.3 in
+      let fits = kept.each id me.0 at in (
         w,
-        keeps,
+        leaves,
         tt,
-        on_serving moves counted opening first s log (get_or s.words 16 0) s.homes (set s.views id w) held.0 held.1 held.2.1
-            (naming_keeps log (get_or s.words 32 0) id s.homes s.views me.0 o held.2.2 at knows empty idle) (told_on moves counted opening first s log id me.0 w held.2.3 at refl (λ _. idle) refl),
+        on_serving moves counted opening first s log (get_or s.words 16 0) s.homes (set s.views id w) held.0 held.1 held.2
+            (naming_keeps log (get_or s.words 32 0) id s.homes s.views me.0 o held.3 at knows empty idle) (told_on moves counted opening first s log id me.0 w held.4 at refl (λ _. idle) refl),
         (id, refl, made_at-front (id ∷ []) me.0.seen fits.seen.0 (λ p. subst (λ (l : Log). made_at (id ∷ []) l p ≡ 0) fits.seen.1 (kept.known id (kept.nameless id me.0 at o knows empty) p))),
+      )
+
+  -- the same where no word changes
+  pub names_here : (log : Log) (id : ℕ) (v : V) (o : O) (s : St) → Holds log s → get_elem? s.views id ≡ some v → v.opening ≡ Some o → v.numbers ≡ [] → v.in_turn ≡ false
+      → Holds log record { words = s.words; homes = s.homes; views = set s.views id (named id v) } × ((p : ℕ) → made_at (id ∷ []) v.seen p ≡ 0)
+  names_here log id v o s held at knows empty idle =
+      let kept = held.3 in
+      let fits = kept.each id v at in (
+        (
+          held.0,
+          held.1,
+          held.2,
+          naming_keeps log (get_or s.words 32 0) id s.homes s.views v o kept at knows empty idle,
+          told_on moves counted opening first s log id v (named id v) held.4 at refl (λ _. idle) refl,
+        ),
+        made_at-front (id ∷ []) v.seen fits.seen.0 (λ p. subst (λ (l : Log). made_at (id ∷ []) l p ≡ 0) fits.seen.1 (kept.known id (kept.nameless id v at o knows empty) p)),
       )
 
   -- a seat comes that has seen what another has
@@ -152,22 +168,18 @@ module _ {O C R : Type 0} (moves : O → C → R → O → Type 0) (counted : O 
   none_alone log views id v before at k u there =
       ⊎_elim (λ t. ap (λ (x : V). x.alone) (sym t.1)) (λ t. not_alone moves opening first log views id k v u before at t.0 t.1) (at_set views id k (parted v) u there)
 
-  pub splits : (id : ℕ) (v : V) → Splits Holds id v (parted v) (newcomer v)
-  splits id v s held at =
-      let log : Log = held.2.0 in
+  pub splits : (log : Log) (id : ℕ) (v : V) → Splits (Holds log) id v (parted v) (newcomer v)
+  splits log id v s held at =
       let drawn : ℕ = get_or s.words 32 0 in
       let p : V = parted v in
       let here = set_at s.views id v p at in
-      let kept = parting_keeps log drawn id s.homes s.views v held.2.2 at in
-      let told = told_on moves counted opening first s log id v p held.2.3 at refl (λ idle. idle) refl in (
+      let kept = parting_keeps log drawn id s.homes s.views v held.3 at in
+      let told = told_on moves counted opening first s log id v p held.4 at refl (λ idle. idle) refl in (
         held.0,
         held.1,
-        (
-          log,
-          held.2.1,
-          coming_keeps log drawn id s.homes (set s.views id p) p kept here (none_alone log s.views id v held.2.2.alone at),
-          counts_more counted (after_all opening log) s.words id (set s.views id p) p (newcomer v) told here none_yet refl,
-        ),
+        held.2,
+        coming_keeps log drawn id s.homes (set s.views id p) p kept here (none_alone log s.views id v held.3.alone at),
+        counts_more counted (after_all opening log) s.words id (set s.views id p) p (newcomer v) told here none_yet refl,
       )
 
   -- one seat takes in another
@@ -232,15 +244,14 @@ module _ {O C R : Type 0} (moves : O → C → R → O → Type 0) (counted : O 
       either_worn true b d one two mark = one refl
       either_worn false b d one two mark = two mark
 
-  pub joins : (id other : ℕ) (v w : V) → 1 ≤ times v.number v.numbers → v.in_turn ≡ false → w.tickets ≡ [] → w.in_turn ≡ false → Joins Holds id v other w (both_of v w) spent
-  joins id other v w named idle empty idle' s held at apart still =
-      let log : Log = held.2.0 in
+  pub joins : (log : Log) (id other : ℕ) (v w : V) → 1 ≤ times v.number v.numbers → v.in_turn ≡ false → w.tickets ≡ [] → w.in_turn ≡ false → Joins (Holds log) id v other w (both_of v w) spent
+  joins log id other v w named idle empty idle' s held at apart still =
       let b : V = both_of v w in
       let there : get_elem? s.views other ≡ some w = sym (set_else s.views id other b apart) ∙ still in
       let told : Told log s.words (set (set s.views id b) other spent) = λ count.
       let known : ℕ = of_count count (counted (after_all opening log)) in
       let value : ℕ = get_or s.words (word_of count) 0 in
-      let before = held.2.3 count in
+      let before = held.4 count in
       let quiet = before.quiet id v at idle in
       let quiet' = before.quiet other w there idle' in
       let read = before.read id v at in
@@ -248,25 +259,45 @@ module _ {O C R : Type 0} (moves : O → C → R → O → Type 0) (counted : O 
       let none = none_yet count in
       counts_on count known known value value other (set s.views id b) w spent
       (counts_on count known known value value id s.views v b before at (omega arith) (omega arith) (λ _. quiet) (larger_up_to count v.read w.read value read read')) still (omega arith) (omega arith) (λ _. none) (omega arith) in
-      (held.0, held.1, (log, held.2.1, joining_keeps log (get_or s.words 32 0) id other s.homes s.views v w held.2.2 at apart still named idle empty idle', told))
+      (held.0, held.1, held.2, joining_keeps log (get_or s.words 32 0) id other s.homes s.views v w held.3 at apart still named idle empty idle', told)
 
-  pub merges : (slots id : ℕ) (me : M) → me.0.in_turn ≡ false → Allows Holds slots id me 16 (λ n. n) (Merges moves (step slots 16 0 0 none) me)
-  merges slots id me idle s held _ at _ =
-      let log : Log = held.2.0 in
-      let kept = held.2.2 in
+  pub merges : (log : Log) (slots id : ℕ) (me : M) → me.0.in_turn ≡ false → AllowsTo (Holds log) (Holds log) slots id me 16 (λ n. n) (Merges moves (step slots 16 0 0 none) me)
+  merges log slots id me idle s held _ at _ =
+      let kept = held.3 in
       let fits = kept.each id me.0 at in
       let drawn : ℕ = get_or s.words 32 0 in
       let w : V = merged log me.0 in (
         w,
-        keeps,
+        leaves,
         tt,
-        on_serving moves counted opening first s log (get_or s.words 16 0) s.homes (set s.views id w) held.0 held.1 held.2.1
+        on_serving moves counted opening first s log (get_or s.words 16 0) s.homes (set s.views id w) held.0 held.1 held.2
             (stays moves opening first log drawn drawn id s.homes s.homes s.views me.0 w kept at (omega arith) kept.limit refl refl (λ x. refl) (λ _. (idle, refl))
             (record { start = fits.start; seen = prefix_self log; also = (log, refl); turn = λ turn. absurd (true≢false (sym turn ∙ idle)); own = fits.own; worn = fits.worn }) (λ mark. ((kept.alone id me.0 at mark).0, refl)))
-            (told_on moves counted opening first s log id me.0 w held.2.3 at refl (λ _. idle) refl),
+            (told_on moves counted opening first s log id me.0 w held.4 at refl (λ _. idle) refl),
         λ o is.
             let same : opening ≡ o = sym (fits.start o is).0 in
             record { log = log; one = fits.seen; two = fits.also; is = refl; legal = subst (λ (p : O). IsLegal moves p log) same kept.legal; own = own_turns moves opening first log drawn id s.homes s.views me.0 kept at },
+      )
+
+  -- the same where no word changes
+  pub merges_here : (log : Log) (id : ℕ) (v : V) (s : St) → Holds log s → get_elem? s.views id ≡ some v → v.in_turn ≡ false
+      → Holds log record { words = s.words; homes = s.homes; views = set s.views id (merged log v) } × ((c : List (ℕ × Spot O C R)) (o : O) → v.opening ≡ Some o → Gathers moves o (v, c) (merged log v, c))
+  merges_here log id v s held at idle =
+      let kept = held.3 in
+      let fits = kept.each id v at in
+      let drawn : ℕ = get_or s.words 32 0 in
+      let w : V = merged log v in (
+        (
+          held.0,
+          held.1,
+          held.2,
+          stays moves opening first log drawn drawn id s.homes s.homes s.views v w kept at (omega arith) kept.limit refl refl (λ x. refl) (λ _. (idle, refl))
+              (record { start = fits.start; seen = prefix_self log; also = (log, refl); turn = λ turn. absurd (true≢false (sym turn ∙ idle)); own = fits.own; worn = fits.worn }) (λ mark. ((kept.alone id v at mark).0, refl)),
+          told_on moves counted opening first s log id v w held.4 at refl (λ _. idle) refl,
+        ),
+        λ c o is.
+            let same : opening ≡ o = sym (fits.start o is).0 in
+            record { log = log; one = fits.seen; two = fits.also; is = refl; legal = subst (λ (p : O). IsLegal moves p log) same kept.legal; own = own_turns moves opening first log drawn id s.homes s.views v kept at },
       )
 
 module _ {O C R : Type 0} where

@@ -8,7 +8,7 @@ use mathlib.Core.Option.{none, some}
 use mathlib.Core.Option as maybe
 use lib.ListN.{get_elem?}
 use prog.Atomic.{either}
-use Rattle.atomic_table.specs.Table.{State, step, keeps, takes, gives, Act, Valid, stepped, carried_after, Allows}
+use Rattle.atomic_table.specs.Table.{State, step, Valid, stepped, carried_after}
 use Rattle.atomic_table.proofs.Lists.{set_here, exchanged}
 use Rattle.sysv_gate.specs.declared.view.View.{View}
 use Rattle.sysv_gate.specs.declared.view.Turn.{Turn}
@@ -17,7 +17,7 @@ use Rattle.sysv_gate.specs.declared.count.Count.{Count}
 use Rattle.sysv_lists.specs.Numbers.{times, once_between}
 use Rattle.sysv_lists.specs.Prefix.{IsPrefixOf}
 use Rattle.sysv_gate.specs.History.{after_all, IsLegal, HasItsOwn}
-use Rattle.sysv_gate.specs.Rule.{Homes, Spot, put, IsHome, Fits, IsKept, IsAnnounced, AreAnnounced, Gated}
+use Rattle.sysv_gate.specs.Rule.{Homes, Spot, put, IsHome, Fits, IsKept, IsAnnounced, AreAnnounced, GatedBy}
 use Rattle.sysv_gate.specs.Counts.{word_of, of_count}
 use Rattle.sysv_gate.specs.Steps.{weighed, drew, looked, entered, turn_of, announced_by, read_to, ended, Mine, Weighs, Draws, Turns, Enters, Announces, Reads, Ends}
 use Rattle.sysv_lists.proofs.Places.{set_at, one_there}
@@ -26,6 +26,7 @@ use Rattle.sysv_gate.proofs.Counting.{holds_some, marked_by, not_true}
 use Rattle.sysv_lists.proofs.Prefixes.{prefix_self, prefix_whole}
 use Rattle.sysv_gate.proofs.Histories.{after_all-snoc, grows_on}
 use Rattle.sysv_gate.proofs.Announcing.{put_in, of_other, none_yet, from_48, below_80, same_count, counts_on, counts_stay, set_aside, exactly}
+use Rattle.sysv_gate.proofs.Touching.{Touch, leaves, takes, gives, act_at, AllowsTo}
 use Rattle.sysv_gate.proofs.Keeping.{served_alone, nobody_in_turn, no_ticket_no_turn, own_turns, stays, grows}
 
 module _ {O C R : Type 0} (moves : O → C → R → O → Type 0) (counted : O → ℕ × ℕ) (opening : O) (first : ℕ) where
@@ -41,62 +42,56 @@ module _ {O C R : Type 0} (moves : O → C → R → O → Type 0) (counted : O 
   abbrev M : Type 0
   M = Mine O C R
 
-  abbrev Holds : St → Type 0
-  Holds = Gated moves counted opening first
+  abbrev Holds : Log → St → Type 0
+  Holds log = GatedBy moves counted opening first log
 
   abbrev Told : Log → List ℕ → List V → Type 0
   Told log words views = AreAnnounced counted (after_all opening log) words views
 
   -- what a step owes at one state
-  abbrev Goes : St → ℕ → ℕ → M → (ℕ → M → Type 0) → ℕ → Type 0
-  Goes s i id me then m = (w : V) × (a : Act (Spot O C R)) × Valid s.homes me.1 a × Holds (stepped s i m id me.1 w a) × then (get_or s.words i 0) (w, carried_after me.1 a)
+  abbrev Goes : Log → St → ℕ → ℕ → M → (ℕ → M → Type 0) → ℕ → Type 0
+  Goes log s i id me then m =
+      (w : V) × (a : Touch (Spot O C R)) × Valid s.homes me.1 (act_at 0 a) × Holds log (stepped s i m id me.1 w (act_at 0 a)) × then (get_or s.words i 0) (w, carried_after me.1 (act_at 0 a))
 
   -- a step on the word with the ticket that is drawn next
   on_ticket : (s : St) (log : Log) (drawn : ℕ) (homes : Homes O C R) (views : List V) → length s.words ≡ 80 → length homes ≡ 1 → get_or s.words 16 0 ≡ first + length log
-      → IsKept moves opening first log drawn homes views → Told log s.words views → Holds record { words = set s.words 32 drawn; homes = homes; views = views }
+      → IsKept moves opening first log drawn homes views → Told log s.words views → Holds log record { words = set s.words 32 drawn; homes = homes; views = views }
   on_ticket s log drawn homes views wide one serves kept told = (
     length-set s.words 32 drawn ∙ wide,
     one,
-    (
-      log,
-      get_or-set_other s.words 32 16 drawn 0 (λ e. omega arith) ∙ serves,
-      subst (λ (n : ℕ). IsKept moves opening first log n homes views) (sym (get_or-set_same s.words 32 drawn 0 (omega arith))) kept,
-      set_aside counted (after_all opening log) s.words 32 drawn views (omega arith) told,
-    ),
+    get_or-set_other s.words 32 16 drawn 0 (λ e. omega arith) ∙ serves,
+    subst (λ (n : ℕ). IsKept moves opening first log n homes views) (sym (get_or-set_same s.words 32 drawn 0 (omega arith))) kept,
+    set_aside counted (after_all opening log) s.words 32 drawn views (omega arith) told,
   )
 
   -- a step on the word with the ticket that is served
   pub on_serving : (s : St) (log : Log) (served : ℕ) (homes : Homes O C R) (views : List V) → length s.words ≡ 80 → length homes ≡ 1 → served ≡ first + length log
-      → IsKept moves opening first log (get_or s.words 32 0) homes views → Told log s.words views → Holds record { words = set s.words 16 served; homes = homes; views = views }
+      → IsKept moves opening first log (get_or s.words 32 0) homes views → Told log s.words views → Holds log record { words = set s.words 16 served; homes = homes; views = views }
   on_serving s log served homes views wide one serves kept told = (
     length-set s.words 16 served ∙ wide,
     one,
-    (
-      log,
-      get_or-set_same s.words 16 served 0 (omega arith) ∙ serves,
-      subst (λ (n : ℕ). IsKept moves opening first log n homes views) (sym (get_or-set_other s.words 16 32 served 0 (λ e. omega arith))) kept,
-      set_aside counted (after_all opening log) s.words 16 served views (omega arith) told,
-    ),
+    get_or-set_same s.words 16 served 0 (omega arith) ∙ serves,
+    subst (λ (n : ℕ). IsKept moves opening first log n homes views) (sym (get_or-set_other s.words 16 32 served 0 (λ e. omega arith))) kept,
+    set_aside counted (after_all opening log) s.words 16 served views (omega arith) told,
   )
 
   -- the counts where the view changes without having added anything
   pub told_on : (s : St) (log : Log) (id : ℕ) (v w : V) → Told log s.words s.views → get_elem? s.views id ≡ some v → w.announced ≡ v.announced → (w.in_turn ≡ false → v.in_turn ≡ false) → w.read ≡ v.read → Told log s.words (set s.views id w)
   told_on s log id v w told at = counts_stay counted (after_all opening log) s.words id s.views v w told at
 
-  pub weighs : (slots id : ℕ) (me : M) → Allows Holds slots id me 32 (λ n. n) (Weighs (step slots 32 0 0 none) me)
-  weighs slots id me s held _ at _ =
+  pub weighs : (log : Log) (slots id : ℕ) (me : M) → AllowsTo (Holds log) (Holds log) slots id me 32 (λ n. n) (Weighs (step slots 32 0 0 none) me)
+  weighs log slots id me s held _ at _ =
       let n : ℕ = get_or s.words 32 0 in
-      let log : Log = held.2.0 in
-      let kept = held.2.2 in
+      let kept = held.3 in
       let fits = kept.each id me.0 at in
       let w : V = weighed n me.0 in (
         w,
-        keeps,
+        leaves,
         tt,
-        on_ticket s log n s.homes (set s.views id w) held.0 held.1 held.2.1
+        on_ticket s log n s.homes (set s.views id w) held.0 held.1 held.2
             (stays moves opening first log n n id s.homes s.homes s.views me.0 w kept at (omega arith) kept.limit refl refl (λ x. refl) (λ idle. (idle, refl))
             (record { start = fits.start; seen = fits.seen; also = fits.also; turn = fits.turn; own = fits.own; worn = marked_by me.0.worn n n fits.worn (omega arith) }) (kept.alone id me.0 at))
-            (told_on s log id me.0 w held.2.3 at refl (λ idle. idle) refl),
+            (told_on s log id me.0 w held.4 at refl (λ idle. idle) refl),
         (refl, fits.worn),
       )
 
@@ -108,35 +103,34 @@ module _ {O C R : Type 0} (moves : O → C → R → O → Type 0) (counted : O 
   one_more : (s n x : ℕ) (tickets : List ℕ) → s ≤ n → tickets ≡ [] → times x (n ∷ []) + once_between s n x ≡ times x tickets + once_between s (n + 1) x
   one_more s n x tickets le empty = let gone : times x tickets ≡ 0 = ap (times x) empty in omega (arith, times-one x n, once_between-next s n x le)
 
-  pub draws : (slots id : ℕ) (me : M) (ticket next : ℕ) → next ≡ ticket + 1 → ticket < 2 ^ 62 → me.0.tickets ≡ [] → me.0.in_turn ≡ false
-      → Allows Holds slots id me 32 (λ n. either (eqb n ticket) next n) (Draws (step slots 32 ticket next none) me)
-  draws slots id me ticket next up low empty idle s held _ at _ =
+  pub draws : (log : Log) (slots id : ℕ) (me : M) (ticket next : ℕ) → next ≡ ticket + 1 → ticket < 2 ^ 62 → me.0.tickets ≡ [] → me.0.in_turn ≡ false
+      → AllowsTo (Holds log) (Holds log) slots id me 32 (λ n. either (eqb n ticket) next n) (Draws (step slots 32 ticket next none) me)
+  draws log slots id me ticket next up low empty idle s held _ at _ =
       let n : ℕ = get_or s.words 32 0 in
-      let log : Log = held.2.0 in
-      let kept = held.2.2 in
+      let kept = held.3 in
       let fits = kept.each id me.0 at in
       let order = kept.order in
       let then = Draws (step slots 32 ticket next none) me in
-      exchanged n ticket next (Goes s 32 id me then)
+      exchanged n ticket next (Goes log s 32 id me then)
       (λ hit.
       let w : V = drew n me.0 in
       let more : n + 1 ≡ next = omega arith in (
         w,
-        keeps,
+        leaves,
         tt,
-        subst (λ (m : ℕ). Holds (stepped s 32 m id me.1 w keeps)) more
-            (on_ticket s log (n + 1) s.homes (set s.views id w) held.0 held.1 held.2.1
+        subst (λ (m : ℕ). Holds log (stepped s 32 m id me.1 w (act_at 0 leaves))) more
+            (on_ticket s log (n + 1) s.homes (set s.views id w) held.0 held.1 held.2
             (stays moves opening first log n (n + 1) id s.homes s.homes s.views me.0 w kept at (omega arith) (omega arith) refl refl (λ x. one_more (first + length log) n x me.0.tickets order empty) (λ _. (idle, refl))
             (record { start = fits.start; seen = fits.seen; also = fits.also; turn = λ turn. absurd (true≢false (sym turn ∙ idle)); own = fits.own; worn = λ mark. let limit = fits.worn mark in omega arith }) (kept.alone id me.0 at))
-            (told_on s log id me.0 w held.2.3 at refl (λ _. idle) refl)),
+            (told_on s log id me.0 w held.4 at refl (λ _. idle) refl)),
         ((λ _. (refl, unmarked log n me.0 fits (omega arith))), λ miss. absurd (miss hit)),
       ))
       (λ miss. (
         me.0,
-        keeps,
+        leaves,
         tt,
-        on_ticket s log n s.homes (set s.views id me.0) held.0 held.1 held.2.1 (stays moves opening first log n n id s.homes s.homes s.views me.0 me.0 kept at (omega arith) kept.limit refl refl (λ x. refl) (λ turn. (turn, refl)) fits (kept.alone id me.0 at))
-            (told_on s log id me.0 me.0 held.2.3 at refl (λ turn. turn) refl),
+        on_ticket s log n s.homes (set s.views id me.0) held.0 held.1 held.2 (stays moves opening first log n n id s.homes s.homes s.views me.0 me.0 kept at (omega arith) kept.limit refl refl (λ x. refl) (λ turn. (turn, refl)) fits (kept.alone id me.0 at))
+            (told_on s log id me.0 me.0 held.4 at refl (λ turn. turn) refl),
         ((λ hit. absurd (miss hit)), λ _. refl),
       ))
 
@@ -161,53 +155,49 @@ module _ {O C R : Type 0} (moves : O → C → R → O → Type 0) (counted : O 
   )
 
   -- a look, where b says whether the seat holds the ticket that is served
-  looks_as : (b : Bool) (id : ℕ) (me : M) (s : St) → Holds s → get_elem? s.views id ≡ some me.0 → me.0.in_turn ≡ false → me.1 ≡ []
+  looks_as : (b : Bool) (log : Log) (id : ℕ) (me : M) (s : St) → Holds log s → get_elem? s.views id ≡ some me.0 → me.0.in_turn ≡ false → me.1 ≡ []
       → nat_lt 0 (times (get_or s.words 16 0) me.0.tickets) ≡ b
-      → (a : Act (Spot O C R)) × (log : Log) × Valid s.homes me.1 a × Holds (stepped s 16 (get_or s.words 16 0) id me.1 (record me.0 { seen = log; in_turn = b }) a) × IsPrefixOf me.0.seen log
+      → (a : Touch (Spot O C R)) × Valid s.homes me.1 (act_at 0 a) × Holds log (stepped s 16 (get_or s.words 16 0) id me.1 (record me.0 { seen = log; in_turn = b }) (act_at 0 a)) × IsPrefixOf me.0.seen log
       × (get_or s.words 16 0 ≡ first + length log) × IsLegal moves opening log
-      × (b ≡ true → (last : Option (Done C R)) × (carried_after me.1 a ≡ (0, put (after_all opening log) last) ∷ [])) × (b ≡ false → carried_after me.1 a ≡ me.1)
+      × (b ≡ true → (last : Option (Done C R)) × (carried_after me.1 (act_at 0 a) ≡ (0, put (after_all opening log) last) ∷ [])) × (b ≡ false → carried_after me.1 (act_at 0 a) ≡ me.1)
       × (b ≡ true → BeginsTurn log me.0)
       × HasItsOwn me.0.numbers me.0.own log
-  looks_as true id me s held at idle bare holds =
+  looks_as true log id me s held at idle bare holds =
       let n : ℕ = get_or s.words 16 0 in
-      let log : Log = held.2.0 in
-      let kept = held.2.2 in
+      let kept = held.3 in
       let fits = kept.each id me.0 at in
       let drawn : ℕ = get_or s.words 32 0 in
-      let serves : n ≡ first + length log = held.2.1 in
+      let serves : n ≡ first + length log = held.2 in
       let has : 1 ≤ times (first + length log) me.0.tickets = subst (λ (m : ℕ). 1 ≤ times m me.0.tickets) serves (holds_some _ holds) in
       let home = kept.home (nobody_in_turn moves opening first log drawn id s.homes s.views me.0 kept at has idle) in
       let w : V = record me.0 { seen = log; in_turn = true } in (
-        takes 0 (put (after_all opening log) home.0),
-        log,
+        takes (put (after_all opening log) home.0),
         home.1,
         on_serving s log n (set s.homes 0 none) (set s.views id w) held.0 (length-set s.homes 0 none ∙ held.1) serves
             (stays moves opening first log drawn drawn id s.homes (set s.homes 0 none) s.views me.0 w kept at (omega arith) kept.limit refl refl (λ x. refl) (λ turn. absurd (true≢false turn))
             (record { start = fits.start; seen = prefix_self log; also = fits.also; turn = λ _. (has, refl); own = fits.own; worn = fits.worn }) (λ mark. ((kept.alone id me.0 at mark).0, refl)))
-            (told_on s log id me.0 w held.2.3 at refl (λ _. idle) refl),
+            (told_on s log id me.0 w held.4 at refl (λ _. idle) refl),
         fits.seen,
         serves,
         kept.legal,
         (λ _. (home.0, ap (λ (xs : List (ℕ × Spot O C R)). (0, put (after_all opening log) home.0) ∷ xs) bare)),
         (λ turn. absurd (true≢false turn)),
-        (λ _. at_first s log id me.0 held.2.3 at (nobody_in_turn moves opening first log drawn id s.homes s.views me.0 kept at has idle)),
+        (λ _. at_first s log id me.0 held.4 at (nobody_in_turn moves opening first log drawn id s.homes s.views me.0 kept at has idle)),
         own_turns moves opening first log drawn id s.homes s.views me.0 kept at,
       )
-  looks_as false id me s held at idle bare holds =
+  looks_as false log id me s held at idle bare holds =
       let n : ℕ = get_or s.words 16 0 in
-      let log : Log = held.2.0 in
-      let kept = held.2.2 in
+      let kept = held.3 in
       let fits = kept.each id me.0 at in
       let drawn : ℕ = get_or s.words 32 0 in
-      let serves : n ≡ first + length log = held.2.1 in
+      let serves : n ≡ first + length log = held.2 in
       let w : V = record me.0 { seen = log; in_turn = false } in (
-        keeps,
-        log,
+        leaves,
         tt,
         on_serving s log n s.homes (set s.views id w) held.0 held.1 serves
             (stays moves opening first log drawn drawn id s.homes s.homes s.views me.0 w kept at (omega arith) kept.limit refl refl (λ x. refl) (λ _. (idle, refl))
             (record { start = fits.start; seen = prefix_self log; also = fits.also; turn = λ turn. absurd (true≢false (sym turn)); own = fits.own; worn = fits.worn }) (λ mark. ((kept.alone id me.0 at mark).0, refl)))
-            (told_on s log id me.0 w held.2.3 at refl (λ _. idle) refl),
+            (told_on s log id me.0 w held.4 at refl (λ _. idle) refl),
         fits.seen,
         serves,
         kept.legal,
@@ -217,50 +207,48 @@ module _ {O C R : Type 0} (moves : O → C → R → O → Type 0) (counted : O 
         own_turns moves opening first log drawn id s.homes s.views me.0 kept at,
       )
 
-  pub looks : (slots id : ℕ) (me : M) → me.0.in_turn ≡ false → me.1 ≡ [] → Allows Holds slots id me 16 (λ n. n) (Turns moves counted (step slots 16 0 0 none) me)
-  looks slots id me idle bare s held _ at _ =
+  pub looks : (log : Log) (slots id : ℕ) (me : M) → me.0.in_turn ≡ false → me.1 ≡ [] → AllowsTo (Holds log) (Holds log) slots id me 16 (λ n. n) (Turns moves counted (step slots 16 0 0 none) me)
+  looks log slots id me idle bare s held _ at _ =
       let n : ℕ = get_or s.words 16 0 in
-      let kept = held.2.2 in
+      let kept = held.3 in
       let fits = kept.each id me.0 at in
       let b : Bool = nat_lt 0 (times n me.0.tickets) in
-      let went = looks_as b id me s held at idle bare refl in
-      let log : Log = went.1 in (
+      let went = looks_as b log id me s held at idle bare refl in (
         looked n log me.0,
         went.0,
+        went.1,
         went.2,
-        went.3,
         λ o is.
             let start = fits.start o is in
             let same : opening ≡ o = sym start.0 in
-            let due : n ≡ me.0.first + length log = went.5 ∙ ap (λ (m : ℕ). m + length log) (sym start.1) in
-            let legal : IsLegal moves o log = subst (λ (p : O). IsLegal moves p log) same went.6 in (
-              record { log = log; longer = went.4; count = due; view = refl; own = went.10 },
+            let due : n ≡ me.0.first + length log = went.4 ∙ ap (λ (m : ℕ). m + length log) (sym start.1) in
+            let legal : IsLegal moves o log = subst (λ (p : O). IsLegal moves p log) same went.5 in (
+              record { log = log; longer = went.3; count = due; view = refl; own = went.9 },
               legal,
               (λ turn.
-                  let out = went.7 turn in
-                  let begins = went.9 turn in
+                  let out = went.6 turn in
+                  let begins = went.8 turn in
                   record {
                     legal = legal;
                     read = λ count. subst (λ (p : O). of_count count me.0.read ≤ of_count count (counted (after_all p log))) same (begins.0 count);
                     quiet = begins.1;
                     out = (out.0, out.1 ∙ ap (λ (p : O). (0, put (after_all p log) out.0) ∷ []) same);
                   }),
-              went.8,
+              went.7,
             ),
       )
 
-  pub enters : (slots id : ℕ) (me : M) (ticket next : ℕ) (o : O) → next ≡ ticket + 1 → ticket < 2 ^ 62 → me.0.opening ≡ Some o → ticket ≡ me.0.first + length me.0.seen → me.0.tickets ≡ [] → me.0.in_turn ≡ false
-      → me.1 ≡ [] → Allows Holds slots id me 32 (λ n. either (eqb n ticket) next n) (Enters moves counted (step slots 32 ticket next none) me)
-  enters slots id me ticket next o up low knows count empty idle bare s held _ at _ =
+  pub enters : (log : Log) (slots id : ℕ) (me : M) (ticket next : ℕ) (o : O) → next ≡ ticket + 1 → ticket < 2 ^ 62 → me.0.opening ≡ Some o → ticket ≡ me.0.first + length me.0.seen → me.0.tickets ≡ [] → me.0.in_turn ≡ false
+      → me.1 ≡ [] → AllowsTo (Holds log) (Holds log) slots id me 32 (λ n. either (eqb n ticket) next n) (Enters moves counted (step slots 32 ticket next none) me)
+  enters log slots id me ticket next o up low knows count empty idle bare s held _ at _ =
       let n : ℕ = get_or s.words 32 0 in
-      let log : Log = held.2.0 in
-      let kept = held.2.2 in
+      let kept = held.3 in
       let fits = kept.each id me.0 at in
       let order = kept.order in
       let start = fits.start o knows in
       let same_first : me.0.first ≡ first = start.1 in
       let then = Enters moves counted (step slots 32 ticket next none) me in
-      exchanged n ticket next (Goes s 32 id me then)
+      exchanged n ticket next (Goes log s 32 id me then)
       (λ hit.
       let w : V = entered n me.0 in
       let more : n + 1 ≡ next = omega arith in
@@ -269,17 +257,17 @@ module _ {O C R : Type 0} (moves : O → C → R → O → Type 0) (counted : O 
       let served : n ≡ first + length log = omega arith in
       let nobody = no_ticket_no_turn moves opening first log n s.homes s.views kept (omega arith) in
       let home = kept.home nobody in
-      let begins = at_first s log id me.0 held.2.3 at nobody in
+      let begins = at_first s log id me.0 held.4 at nobody in
       let out = set s.homes 0 maybe.none in
       let has : 1 ≤ times (first + length log) (n ∷ []) = subst (λ (m : ℕ). 1 ≤ times m (n ∷ [])) served (times-same n) in (
         w,
-        takes 0 (put (after_all opening log) home.0),
+        takes (put (after_all opening log) home.0),
         home.1,
-        subst (λ (m : ℕ). Holds (stepped s 32 m id me.1 w (takes 0 (put (after_all opening log) home.0)))) more
-            (on_ticket s log (n + 1) out (set s.views id w) held.0 (length-set s.homes 0 maybe.none ∙ held.1) held.2.1
+        subst (λ (m : ℕ). Holds log (stepped s 32 m id me.1 w (act_at 0 (takes (put (after_all opening log) home.0))))) more
+            (on_ticket s log (n + 1) out (set s.views id w) held.0 (length-set s.homes 0 maybe.none ∙ held.1) held.2
             (stays moves opening first log n (n + 1) id s.homes out s.views me.0 w kept at (omega arith) (omega arith) refl refl (λ x. one_more (first + length log) n x me.0.tickets order empty) (λ turn. absurd (true≢false turn))
             (record { start = fits.start; seen = fits.seen; also = fits.also; turn = λ _. (has, whole); own = fits.own; worn = λ mark. let limit = fits.worn mark in omega arith }) (kept.alone id me.0 at))
-            (told_on s log id me.0 w held.2.3 at refl (λ _. idle) refl)),
+            (told_on s log id me.0 w held.4 at refl (λ _. idle) refl)),
         λ p is.
             let same : opening ≡ p = sym (fits.start p is).0 in (
               (λ _. (
@@ -302,15 +290,15 @@ module _ {O C R : Type 0} (moves : O → C → R → O → Type 0) (counted : O 
       ))
       (λ miss. (
         me.0,
-        keeps,
+        leaves,
         tt,
-        on_ticket s log n s.homes (set s.views id me.0) held.0 held.1 held.2.1 (stays moves opening first log n n id s.homes s.homes s.views me.0 me.0 kept at (omega arith) kept.limit refl refl (λ x. refl) (λ turn. (turn, refl)) fits (kept.alone id me.0 at))
-            (told_on s log id me.0 me.0 held.2.3 at refl (λ turn. turn) refl),
+        on_ticket s log n s.homes (set s.views id me.0) held.0 held.1 held.2 (stays moves opening first log n n id s.homes s.homes s.views me.0 me.0 kept at (omega arith) kept.limit refl refl (λ x. refl) (λ turn. (turn, refl)) fits (kept.alone id me.0 at))
+            (told_on s log id me.0 me.0 held.4 at refl (λ turn. turn) refl),
         λ p is. ((λ hit. absurd (miss hit)), λ _. refl),
       ))
 
-  abbrev Ending : ℕ → ℕ → M → Type 0
-  Ending slots id me = Allows Holds slots id me 16 (λ n. (n + 1) % 2 ^ 64) (Ends (step slots 16 1 0 none) me)
+  abbrev Ending : Log → Turn O C R → ℕ → ℕ → M → Type 0
+  Ending log t slots id me = AllowsTo (Holds log) (Holds (log ++ t ∷ [])) slots id me 16 (λ n. (n + 1) % 2 ^ 64) (Ends (step slots 16 1 0 none) me)
 
   -- the counts have risen by what the seat has announced
   abbrev Announced : O → V → O → Type 0
@@ -330,13 +318,12 @@ module _ {O C R : Type 0} (moves : O → C → R → O → Type 0) (counted : O 
       subst (λ (o : O). IsAnnounced count (of_count count (counted o)) value (set views id w)) (sym (after_all-snoc opening log (turn_of v call reply after)))
       (counts_on count known later value value id views v w (told count) at (omega arith) (omega arith) (λ _. none) read)
 
-  ends_at : (slots id : ℕ) (v : V) (o : O) (ticket : ℕ) (after : O) (done : Done C R) → v.opening ≡ Some o → v.tickets ≡ ticket ∷ [] → v.in_turn ≡ true → 1 ≤ times v.number v.numbers
-      → moves (after_all o v.seen) done.call.value done.reply.value after → Announced o v after → Ending slots id (v, (0, put after (Some done)) ∷ [])
-  ends_at slots id v o ticket after done knows one turn named move announced s held _ at _ =
+  ends_at : (log : Log) (slots id : ℕ) (v : V) (o : O) (ticket : ℕ) (after : O) (done : Done C R) → v.opening ≡ Some o → v.tickets ≡ ticket ∷ [] → v.in_turn ≡ true → 1 ≤ times v.number v.numbers
+      → moves (after_all o v.seen) done.call.value done.reply.value after → Announced o v after → Ending log (turn_of v done.call.value done.reply.value after) slots id (v, (0, put after (Some done)) ∷ [])
+  ends_at log slots id v o ticket after done knows one turn named move announced s held _ at _ =
       let n : ℕ = get_or s.words 16 0 in
       let drawn : ℕ = get_or s.words 32 0 in
-      let log : Log = held.2.0 in
-      let kept = held.2.2 in
+      let kept = held.3 in
       let fits = kept.each id v at in
       let limit = kept.limit in
       let whole = (fits.turn turn).1 in
@@ -349,7 +336,7 @@ module _ {O C R : Type 0} (moves : O → C → R → O → Type 0) (counted : O 
       let grown = grows moves opening first log drawn id ticket s.homes homes s.views v done.call.value done.reply.value after (Some done) kept at one turn named
       (subst (λ (p : O). moves (after_all p v.seen) done.call.value done.reply.value after) same move) back in
       let less = grown.0 in
-      let serves : n ≡ first + length log = held.2.1 in
+      let serves : n ≡ first + length log = held.2 in
       let next : n + 1 ≡ first + length (log ++ t ∷ []) = omega (arith, length-append log (t ∷ [])) in
       let small : n + 1 ≡ (n + 1) % 18446744073709551616 = omega arith in
       let here = set_at s.views id v w at in
@@ -357,40 +344,37 @@ module _ {O C R : Type 0} (moves : O → C → R → O → Type 0) (counted : O 
         w,
         gives,
         tt,
-        subst (λ (m : ℕ). Holds record { words = set s.words 16 m; homes = homes; views = set s.views id w }) small
+        subst (λ (m : ℕ). Holds (log ++ t ∷ []) record { words = set s.words 16 m; homes = homes; views = set s.views id w }) small
             (on_serving s (log ++ t ∷ []) (n + 1) homes (set s.views id w) held.0 (length-set s.homes 0 (some (put after (Some done))) ∙ held.1) next grown.1
-            (told_after s.words log id s.views v done.call.value done.reply.value after held.2.3 at whole (subst (λ (p : O). Announced p v after) same announced))),
+            (told_after s.words log id s.views v done.call.value done.reply.value after held.4 at whole (subst (λ (p : O). Announced p v after) same announced))),
         (refl, subst (λ (l : Log). HasItsOwn v.numbers (v.own ++ length v.seen ∷ []) (l ++ t ∷ [])) (sym whole) own),
       )
 
-  pub ends : (slots id : ℕ) (me : M) (v : V) (o : O) (ticket : ℕ) (after : O) (done : Done C R) → me ≡ (v, (0, put after (Some done)) ∷ []) → v.opening ≡ Some o → v.tickets ≡ ticket ∷ [] → v.in_turn ≡ true
-      → 1 ≤ times v.number v.numbers → moves (after_all o v.seen) done.call.value done.reply.value after → Announced o v after → Ending slots id me
-  ends slots id me v o ticket after done has knows one turn named move announced = subst (Ending slots id) (sym has) (ends_at slots id v o ticket after done knows one turn named move announced)
+  pub ends : (log : Log) (slots id : ℕ) (me : M) (v : V) (o : O) (ticket : ℕ) (after : O) (done : Done C R) → me ≡ (v, (0, put after (Some done)) ∷ []) → v.opening ≡ Some o → v.tickets ≡ ticket ∷ [] → v.in_turn ≡ true
+      → 1 ≤ times v.number v.numbers → moves (after_all o v.seen) done.call.value done.reply.value after → Announced o v after → Ending log (turn_of v done.call.value done.reply.value after) slots id me
+  ends log slots id me v o ticket after done has knows one turn named move announced = subst (Ending log (turn_of v done.call.value done.reply.value after) slots id) (sym has) (ends_at log slots id v o ticket after done knows one turn named move announced)
 
   -- a step on the word of a count
-  on_count : (s : St) (log : Log) (count : Count) (n : ℕ) (views : List V) → Holds s → get_or s.words 16 0 ≡ first + length log → IsKept moves opening first log (get_or s.words 32 0) s.homes views
+  on_count : (s : St) (log : Log) (count : Count) (n : ℕ) (views : List V) → Holds log s → get_or s.words 16 0 ≡ first + length log → IsKept moves opening first log (get_or s.words 32 0) s.homes views
       → IsAnnounced count (of_count count (counted (after_all opening log))) n views
       → ((other : Count) → ¬ (count ≡ other) → IsAnnounced other (of_count other (counted (after_all opening log))) (get_or s.words (word_of other) 0) views)
-      → Holds record { words = set s.words (word_of count) n; homes = s.homes; views = views }
+      → Holds log record { words = set s.words (word_of count) n; homes = s.homes; views = views }
   on_count s log count n views held serves kept here others =
       let far = from_48 count in
       let near = below_80 count in
       let wide : length s.words ≡ 80 = held.0 in (
         length-set s.words (word_of count) n ∙ wide,
         held.1,
-        (
-          log,
-          get_or-set_other s.words (word_of count) 16 n 0 (λ e. omega arith) ∙ serves,
-          subst (λ (m : ℕ). IsKept moves opening first log m s.homes views) (sym (get_or-set_other s.words (word_of count) 32 n 0 (λ e. omega arith))) kept,
-          λ other.
-              dite (ℕ_discrete (word_of other) (word_of count))
-              (λ e.
-              subst (λ (c : Count). IsAnnounced c (of_count c (counted (after_all opening log))) (get_or (set s.words (word_of count) n) (word_of c) 0) views) (same_count count other (sym e))
-              (subst (λ (m : ℕ). IsAnnounced count (of_count count (counted (after_all opening log))) m views) (sym (get_or-set_same s.words (word_of count) n 0 (omega arith))) here))
-              (λ ne.
-              subst (λ (m : ℕ). IsAnnounced other (of_count other (counted (after_all opening log))) m views) (sym (get_or-set_other s.words (word_of count) (word_of other) n 0 ne))
-              (others other (λ is. ne (ap word_of (sym is))))),
-        ),
+        get_or-set_other s.words (word_of count) 16 n 0 (λ e. omega arith) ∙ serves,
+        subst (λ (m : ℕ). IsKept moves opening first log m s.homes views) (sym (get_or-set_other s.words (word_of count) 32 n 0 (λ e. omega arith))) kept,
+        λ other.
+            dite (ℕ_discrete (word_of other) (word_of count))
+            (λ e.
+            subst (λ (c : Count). IsAnnounced c (of_count c (counted (after_all opening log))) (get_or (set s.words (word_of count) n) (word_of c) 0) views) (same_count count other (sym e))
+            (subst (λ (m : ℕ). IsAnnounced count (of_count count (counted (after_all opening log))) m views) (sym (get_or-set_same s.words (word_of count) n 0 (omega arith))) here))
+            (λ ne.
+            subst (λ (m : ℕ). IsAnnounced other (of_count other (counted (after_all opening log))) m views) (sym (get_or-set_other s.words (word_of count) (word_of other) n 0 ne))
+            (others other (λ is. ne (ap word_of (sym is))))),
       )
 
   -- a view changes in what it has announced or read of one count
@@ -406,14 +390,13 @@ module _ {O C R : Type 0} (moves : O → C → R → O → Type 0) (counted : O 
       let seen = stay.1 in
       counts_on other known known value value id s.views v w (told other) at (omega arith) (omega arith) (λ still. added ∙ (told other).quiet id v at (idle still)) (omega arith)
 
-  pub announces : (slots id : ℕ) (me : M) (count : Count) (o : O) → me.0.opening ≡ Some o → me.0.in_turn ≡ true → of_count count me.0.announced ≡ 0 → of_count count (counted (after_all o me.0.seen)) < 2 ^ 63
-      → Allows Holds slots id me (word_of count) (λ n. (n + 1) % 2 ^ 64) (Announces (step slots (word_of count) 1 0 none) me)
-  announces slots id me count o knows turn quiet low s held _ at _ =
+  pub announces : (log : Log) (slots id : ℕ) (me : M) (count : Count) (o : O) → me.0.opening ≡ Some o → me.0.in_turn ≡ true → of_count count me.0.announced ≡ 0 → of_count count (counted (after_all o me.0.seen)) < 2 ^ 63
+      → AllowsTo (Holds log) (Holds log) slots id me (word_of count) (λ n. (n + 1) % 2 ^ 64) (Announces (step slots (word_of count) 1 0 none) me)
+  announces log slots id me count o knows turn quiet low s held _ at _ =
       let v : V = me.0 in
       let w : V = announced_by count 1 v in
-      let log : Log = held.2.0 in
-      let kept = held.2.2 in
-      let told = held.2.3 in
+      let kept = held.3 in
+      let told = held.4 in
       let fits = kept.each id v at in
       let drawn : ℕ = get_or s.words 32 0 in
       let n : ℕ = get_or s.words (word_of count) 0 in
@@ -430,10 +413,10 @@ module _ {O C R : Type 0} (moves : O → C → R → O → Type 0) (counted : O 
       let put : of_count count w.announced ≡ 1 = put_in count 1 v.announced in
       let read = (told count).read id v at in (
         w,
-        keeps,
+        leaves,
         tt,
-        subst (λ (m : ℕ). Holds record { words = set s.words (word_of count) m; homes = s.homes; views = set s.views id w }) small
-            (on_count s log count (n + 1) (set s.views id w) held held.2.1
+        subst (λ (m : ℕ). Holds log record { words = set s.words (word_of count) m; homes = s.homes; views = set s.views id w }) small
+            (on_count s log count (n + 1) (set s.views id w) held held.2
             (stays moves opening first log drawn drawn id s.homes s.homes s.views v w kept at (omega arith) kept.limit refl refl (λ x. refl) (λ idle. (idle, refl))
             (record { start = fits.start; seen = fits.seen; also = fits.also; turn = fits.turn; own = fits.own; worn = fits.worn }) (kept.alone id v at))
             (counts_on count known known n (n + 1) id s.views v w (told count) at (omega arith) (omega arith) (λ idle. absurd (true≢false (sym turn ∙ idle))) (omega arith))
@@ -441,13 +424,12 @@ module _ {O C R : Type 0} (moves : O → C → R → O → Type 0) (counted : O 
         λ c is. let m : M = (w, me.1) in subst (λ (x : Count). let m' : M = (announced_by x 1 v, me.1) in m ≡ m') (same_count count c is) refl,
       )
 
-  pub reads : (slots id : ℕ) (me : M) (count : Count) → ((o : O) (c : C) (r : R) (o' : O) → moves o c r o' → of_count count (counted o) ≤ of_count count (counted o')) → me.0.in_turn ≡ false
-      → Allows Holds slots id me (word_of count) (λ n. n) (Reads counted (step slots (word_of count) 0 0 none) me)
-  reads slots id me count grow idle s held _ at _ =
+  pub reads : (log : Log) (slots id : ℕ) (me : M) (count : Count) → ((o : O) (c : C) (r : R) (o' : O) → moves o c r o' → of_count count (counted o) ≤ of_count count (counted o')) → me.0.in_turn ≡ false
+      → AllowsTo (Holds log) (Holds log) slots id me (word_of count) (λ n. n) (Reads counted (step slots (word_of count) 0 0 none) me)
+  reads log slots id me count grow idle s held _ at _ =
       let v : V = me.0 in
-      let log : Log = held.2.0 in
-      let kept = held.2.2 in
-      let told = held.2.3 in
+      let kept = held.3 in
+      let told = held.4 in
       let fits = kept.each id v at in
       let drawn : ℕ = get_or s.words 32 0 in
       let n : ℕ = get_or s.words (word_of count) 0 in
@@ -459,9 +441,9 @@ module _ {O C R : Type 0} (moves : O → C → R → O → Type 0) (counted : O 
       let seen : of_count count (counted (after_all opening v.seen)) ≤ known = subst (λ (l : Log). of_count count (counted (after_all opening v.seen)) ≤ of_count count (counted (after_all opening l))) (sym fits.seen.1)
       (grows_on moves (λ (p : O). of_count count (counted p)) grow opening v.seen fits.seen.0 (subst (IsLegal moves opening) fits.seen.1 kept.legal)) in (
         w,
-        keeps,
+        leaves,
         tt,
-        on_count s log count n (set s.views id w) held held.2.1
+        on_count s log count n (set s.views id w) held held.2
             (stays moves opening first log drawn drawn id s.homes s.homes s.views v w kept at (omega arith) kept.limit refl refl (λ x. refl) (λ _. (idle, refl))
             (record { start = fits.start; seen = fits.seen; also = fits.also; turn = fits.turn; own = fits.own; worn = fits.worn }) (kept.alone id v at))
             (counts_on count known known n n id s.views v w (told count) at (omega arith) (omega arith) (λ _. (told count).quiet id v at idle) (omega arith))
@@ -473,10 +455,10 @@ module _ {O C R : Type 0} (moves : O → C → R → O → Type 0) (counted : O 
       )
 
   -- the same where the word is known by an equation
-  pub announces_at : (slots id : ℕ) (me : M) (count : Count) (word : ℕ) (o : O) → word ≡ word_of count → me.0.opening ≡ Some o → me.0.in_turn ≡ true → of_count count me.0.announced ≡ 0 → of_count count (counted (after_all o me.0.seen)) < 2 ^ 63
-      → Allows Holds slots id me word (λ n. (n + 1) % 2 ^ 64) (Announces (step slots word 1 0 none) me)
-  announces_at slots id me count word o is knows turn quiet low = subst (λ (i : ℕ). Allows Holds slots id me i (λ n. (n + 1) % 2 ^ 64) (Announces (step slots i 1 0 none) me)) (sym is) (announces slots id me count o knows turn quiet low)
+  pub announces_at : (log : Log) (slots id : ℕ) (me : M) (count : Count) (word : ℕ) (o : O) → word ≡ word_of count → me.0.opening ≡ Some o → me.0.in_turn ≡ true → of_count count me.0.announced ≡ 0 → of_count count (counted (after_all o me.0.seen)) < 2 ^ 63
+      → AllowsTo (Holds log) (Holds log) slots id me word (λ n. (n + 1) % 2 ^ 64) (Announces (step slots word 1 0 none) me)
+  announces_at log slots id me count word o is knows turn quiet low = subst (λ (i : ℕ). AllowsTo (Holds log) (Holds log) slots id me i (λ n. (n + 1) % 2 ^ 64) (Announces (step slots i 1 0 none) me)) (sym is) (announces log slots id me count o knows turn quiet low)
 
-  pub reads_at : (slots id : ℕ) (me : M) (count : Count) (word : ℕ) → word ≡ word_of count → ((o : O) (c : C) (r : R) (o' : O) → moves o c r o' → of_count count (counted o) ≤ of_count count (counted o')) → me.0.in_turn ≡ false
-      → Allows Holds slots id me word (λ n. n) (Reads counted (step slots word 0 0 none) me)
-  reads_at slots id me count word is grow idle = subst (λ (i : ℕ). Allows Holds slots id me i (λ n. n) (Reads counted (step slots i 0 0 none) me)) (sym is) (reads slots id me count grow idle)
+  pub reads_at : (log : Log) (slots id : ℕ) (me : M) (count : Count) (word : ℕ) → word ≡ word_of count → ((o : O) (c : C) (r : R) (o' : O) → moves o c r o' → of_count count (counted o) ≤ of_count count (counted o')) → me.0.in_turn ≡ false
+      → AllowsTo (Holds log) (Holds log) slots id me word (λ n. n) (Reads counted (step slots word 0 0 none) me)
+  reads_at log slots id me count word is grow idle = subst (λ (i : ℕ). AllowsTo (Holds log) (Holds log) slots id me i (λ n. n) (Reads counted (step slots i 0 0 none) me)) (sym is) (reads log slots id me count grow idle)

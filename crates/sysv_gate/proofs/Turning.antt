@@ -1,6 +1,6 @@
 -- What a seat learns from step to step of a call.
 use Rattle.std.proofs.Common.{◌≡◌, ◌≢◌, ℕ, ◌+◌, ◌<◌, ◌≤◌, ◌^◌, true, false, List, [], ◌∷◌, length, refl, sym, ap, ◌∙◌, subst, arith, Option, Some}
-use Rattle.std.specs.Prelude.{cond, nat_lt}
+use Rattle.std.specs.Prelude.{None, IfSome, IfNone, cond, nat_lt}
 use mathlib.Core.Option.{none}
 use Rattle.std.proofs.lemmas.Bool.Decides.{nat_tests}
 use Rattle.sysv_gate.specs.declared.view.View.{View}
@@ -19,7 +19,7 @@ use Rattle.sysv_lists.specs.Prefix.{IsPrefixOf}
 use Rattle.sysv_gate.specs.History.{after_all, IsLegal, HasItsOwn, Moves, AreUpTo, AreBelow}
 use Rattle.sysv_gate.specs.Rule.{Spot, put}
 use Rattle.sysv_gate.specs.Steps.{Mine, weighed, looked, entered, turn_of, announced_by, read_to, ended, Looks, Reads, HasTurn, after_turn}
-use Rattle.sysv_gate.specs.Turns.{Looked, TurnCame, SawMore, HasMade, rise, Applied, HasRead, ReadMore, HasWaited}
+use Rattle.sysv_gate.specs.Turns.{Looked, TurnCame, SawMore, HasMade, rise, Applied, HasRead, ReadMore, HasWaited, HasWaitedWithin, HasReadBelow}
 use Rattle.atomic_table.specs.Table.{step, rest}
 use Rattle.sysv_lists.proofs.Counting.{times-one}
 use Rattle.sysv_gate.proofs.Counting.{low_mark, high_mark}
@@ -206,3 +206,25 @@ module _ {O C R : Type 0} where
   pub waited_later : (counted : O → ℕ × ℕ) (o : O) (count : Count) (goal : ℕ) (m m' : Mine O C R) (a : Awaited) (m'' : Mine O C R) → ReadMore count m m' → HasWaited counted o count goal m' a m'' → HasWaited counted o count goal m a m''
   waited_later counted o count goal m m' (Reached n) m'' more waited = (waited.0, read_again counted o count m m' n m'' more waited.1)
   waited_later counted o count goal m m' awaited.Worn m'' more waited = (waited.0, waited.1, waited.2, read_again counted o count m m' waited.0 waited.1 more waited.3, waited.4)
+
+  -- a wait for a while that comes back after the count was read before
+  pub waited_within_later : (counted : O → ℕ × ℕ) (o : O) (count : Count) (goal : ℕ) (m m' : Mine O C R) (a : Option Awaited) (m'' : Mine O C R) → ReadMore count m m' → HasWaitedWithin counted o count goal m' a m'' → HasWaitedWithin counted o count goal m a m''
+  waited_within_later counted o count goal m m' (Some a) m'' more waited = waited_later counted o count goal m m' a m'' more waited
+  waited_within_later counted o count goal m m' None m'' more waited = (waited.0, waited.1, read_again counted o count m m' waited.0 m'' more waited.2)
+
+  -- it was read, if at all, once and then again
+  pub more_again : (count : Count) (m m' m'' : Mine O C R) → ReadMore count m m' → ReadMore count m' m'' → ReadMore count m m''
+  more_again count m m' m'' one two =
+      let view : m'.0 ≡ read_to count one.value m.0 = ap (λ (x : Mine O C R). x.0) one.is in
+      let was : of_count count m'.0.read ≡ one.value = ap (λ (v : View O C R). of_count count v.read) view ∙ put_in count one.value m.0.read in
+      let before = one.before in
+      let after = two.before in record {
+        value = two.value;
+        is = two.is ∙ ap (λ (v : View O C R). (read_to count two.value v, [])) view ∙ (λ i. (record m.0 { read = put_twice count two.value one.value m.0.read i }, []));
+        before = omega arith;
+      }
+
+  -- what a look tells is what the wait comes back with
+  pub if_within : (counted : O → ℕ × ℕ) (o : O) (count : Count) (goal : ℕ) (m : Mine O C R) (a : Option Awaited) (m' : Mine O C R) → IfSome a (λ w. HasWaited counted o count goal m w m') → IfNone a (HasReadBelow counted o count goal m m') → HasWaitedWithin counted o count goal m a m'
+  if_within counted o count goal m (Some a) m' over below = over
+  if_within counted o count goal m None m' over below = below

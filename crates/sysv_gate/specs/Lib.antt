@@ -2,10 +2,16 @@ pub mod History
 pub mod Counts
 pub mod Rule
 pub mod Steps
+pub mod Orders
+pub mod Halls
+pub mod Plays
+pub mod Doors
+pub mod Laying
 pub mod Gates
 pub mod Held
 pub mod Turns
 pub mod Refusals
 pub mod Waits
 pub mod Closings
+pub mod Ending
 pub mod Laws

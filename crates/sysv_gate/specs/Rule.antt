@@ -76,13 +76,15 @@ module _ {O C R : Type 0} where
   abbrev pub AreAnnounced : (O → ℕ × ℕ) → O → List ℕ → List (View O C R) → Type 0
   AreAnnounced counted object words views = (count : Count) → IsAnnounced count (of_count count (counted object)) (slice_index words (word_of count)) views
 
-  -- There is a log that the words, the slot and the views fit. The ticket that is served is the first one plus the
-  -- number of turns
-  abbrev pub Gated : (O → C → R → O → Type 0) → (O → ℕ × ℕ) → O → ℕ → State (Spot O C R) (View O C R) → Type 0
-  Gated moves counted opening first s =
+  -- The words, the slot and the views fit the log. The ticket that is served is the first one plus the number of turns
+  abbrev pub GatedBy : (O → C → R → O → Type 0) → (O → ℕ × ℕ) → O → ℕ → List (Turn O C R) → State (Spot O C R) (View O C R) → Type 0
+  GatedBy moves counted opening first log s =
       (length s.words ≡ 80) × (length s.homes ≡ 1)
-      × ((log : List (Turn O C R))
-      × (slice_index s.words 16 ≡ first + length log) × IsKept moves opening first log (slice_index s.words 32) s.homes s.views × AreAnnounced counted (after_all opening log) s.words s.views)
+      × (slice_index s.words 16 ≡ first + length log) × IsKept moves opening first log (slice_index s.words 32) s.homes s.views × AreAnnounced counted (after_all opening log) s.words s.views
+
+  -- there is a log that they fit
+  abbrev pub Gated : (O → C → R → O → Type 0) → (O → ℕ × ℕ) → O → ℕ → State (Spot O C R) (View O C R) → Type 0
+  Gated moves counted opening first s = (log : List (Turn O C R)) × GatedBy moves counted opening first log s
 
   -- the view of the first seat
   abbrev pub start : O → ℕ → View O C R

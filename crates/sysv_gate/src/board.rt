@@ -52,7 +52,7 @@ fn the_one<O, C, R>(mut slots: Vec<Option<Place<O, C, R>>, Global>) -> O
 }
 
 // The words of a new gate.
-fn words_at(first: u64, counts: (u64, u64)) -> [u64; WORDS]
+pub(crate) fn words_at(first: u64, counts: (u64, u64)) -> [u64; WORDS]
     ensures tickets { (length result ≡ 80) × (slice_index result 16 ≡ first) × (slice_index result 32 ≡ first) }
     ensures counts { (slice_index result 48 ≡ counts.0) × (slice_index result 64 ≡ counts.1) }
 {

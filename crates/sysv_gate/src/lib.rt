@@ -1,4 +1,4 @@
-//! A gate round an object, after Reed and Kanodia's mutual exclusion by a sequencer and an eventcount: threads call the
+//! A gate around an object, after Reed and Kanodia's mutual exclusion by a sequencer and an eventcount: threads call the
 //! object one turn at a time, in the order of their tickets, and all turns make one history.
 //!
 //! ```rust
@@ -17,9 +17,17 @@ mod bell;
 mod board;
 mod closing;
 mod count;
+mod door;
+mod door_calls;
+mod door_turns;
+mod door_waits;
+mod ending;
 mod gate;
+mod hall;
 mod laws;
+mod laying;
 mod object;
+mod passes;
 mod place;
 mod refusals;
 mod rule;
@@ -31,11 +39,18 @@ mod waits;
 pub use awaited::Awaited;
 pub use closing::Closing;
 pub use count::Count;
+pub use door::Door;
+pub use ending::close_place;
 pub use gate::Gate;
+pub use hall::{Hall, HallKey, HallRule, HallToken};
 pub use laws::{
     counts_outside_a_turn, each_seat_knows_its_own, no_turn_of_two_seats, one_history,
     one_turn_at_a_time,
 };
+pub use laying::lay_hall;
 pub use object::Object;
+pub use passes::{join_pass, split_pass};
+pub use place::{Done, Place};
 pub use refusals::{OpenRefused, TryRefused, Worn};
 pub use seat::Seat;
+pub use view::{Placed, Sight, Turn, View};

@@ -2,9 +2,9 @@
 use std::snapshot::Snapshot;
 
 /// A call that was served, with its reply. It has no bytes.
-pub(crate) struct Done<C, R> {
-    pub(crate) call: Snapshot<C>,
-    pub(crate) reply: Snapshot<R>,
+pub struct Done<C, R> {
+    pub call: Snapshot<C>,
+    pub reply: Snapshot<R>,
 }
 
 impl<C, R> Drop for Done<C, R> {
@@ -14,7 +14,7 @@ impl<C, R> Drop for Done<C, R> {
 }
 
 /// The object, beside the call that was served last. So the step that ends a turn can tell which turn it was.
-pub(crate) struct Place<O, C, R> {
-    pub(crate) object: O,
-    pub(crate) last: Option<Done<C, R>>,
+pub struct Place<O, C, R> {
+    pub object: O,
+    pub last: Option<Done<C, R>>,
 }

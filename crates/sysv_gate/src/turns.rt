@@ -18,7 +18,7 @@ use std::snapshot::Snapshot;
 use std::sync::Wait;
 
 /// How many times a waiter looks whether its ticket is served before it sleeps.
-const LOOKS: u64 = 1024;
+pub(crate) const LOOKS: u64 = 1024;
 
 // What came of a try to enter.
 pub(crate) enum Entry {
@@ -35,7 +35,10 @@ pub(crate) struct Rose {
 }
 
 // Makes the call. The object comes back beside the call that it served.
-fn apply<O: Object>(mut object: O, call: O::Call) -> (Place<O, O::Call, O::Reply>, O::Reply, Rose)
+pub(crate) fn apply<O: Object>(
+    mut object: O,
+    call: O::Call,
+) -> (Place<O, O::Call, O::Reply>, O::Reply, Rose)
     requires { AreBelow (2 ^ 63) (O.counted object) }
     ensures { Applied (Moves O.meaning O.counted) O.counted object call result.0 result.1 result.2 }
 {

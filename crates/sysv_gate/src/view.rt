@@ -40,3 +40,19 @@ pub struct View<O, C, R> {
     /// Whether no other seat was ever given.
     pub alone: bool,
 }
+
+/// One turn at one of several places.
+pub struct Placed<O, C, R> {
+    pub place: u64,
+    pub turn: Turn<O, C, R>,
+}
+
+/// What one pass knows of several places that share a table.
+pub struct Sight<O, C, R> {
+    /// What it knows of each place.
+    pub views: LinkedList<View<O, C, R>>,
+    /// The order of the turns at all places, as far as the pass has seen it.
+    pub seen: LinkedList<Placed<O, C, R>>,
+    /// What another pass had seen of it that was joined into this one, until the next look.
+    pub also: LinkedList<Placed<O, C, R>>,
+}

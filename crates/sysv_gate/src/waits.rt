@@ -18,7 +18,7 @@ use std::hint;
 use std::sync::Wait;
 
 /// How many times a waiter looks at a count before it sleeps.
-const LOOKS: u64 = 256;
+pub(crate) const LOOKS: u64 = 256;
 
 impl<O: Object> Gate<O> {
     /// The first count of the object, as it is announced now. It is no less than what the seat has read before, nor than

@@ -97,8 +97,8 @@ impl Gates {
 // A gate for each of as many vacant slots as there are. `None` where memory was refused.
 fn open_slots(alloc: Global, first: u64) -> Option<(Bank<GatedSlot>, BankSeat<GatedSlot>)>
     requires { first ≤ 2 ^ 62 }
-    ensures open { IfSome result (λ o. AreVacant first o.0 × (o.1 ≡ map opened o.0)) }
-    ensures fits { IfSome result (λ o. gates_of o.1 ≡ o.0) }
+    ensures open { IfSome result (λ o. AreVacant first o.0 × (o.1.seats ≡ map opened o.0)) }
+    ensures fits { IfSome result (λ o. gates_of o.1.seats ≡ o.0) }
 {
     let slots = vacant_slots(alloc)?;
     match Bank::open(alloc, slots, first) {

@@ -20,5 +20,5 @@ impl Model for Seats {
 
     ghost Value = { Seen };
 
-    ghost view = { λ s. record { slots = s.slots; registry = s.registry; pool = s.pool } };
+    ghost view = { λ s. record { slots = s.slots.seats; registry = s.registry; pool = s.pool } };
 }

@@ -16,8 +16,7 @@ use Rattle.sysv_gated.specs.contracts.seats.Seats as seats
 use Rattle.sysv_gated.specs.contracts.gates.Gates as gates
 use Rattle.sysv_service.specs.contracts.pass.Pass as pass
 use Rattle.sysv_service.specs.contracts.service.Service as service
-use Rattle.sysv_bank.specs.contracts.seat.BankSeat as bank_seat
-use Rattle.sysv_bank.specs.contracts.bank.Bank as bank
+use Rattle.sysv_bank.proofs.Crossing.{bank_seat_send, bank_sync}
 use Rattle.sysv_gate.specs.declared.object.Object.{Ghosts}
 
 pub ruleset crossing = (sendable, crosses, options.the_send, options.the_field_send, options.the_sync, options.the_field_sync, declared_send, declared_sync, as_row_send, as_row_sync)
@@ -30,12 +29,6 @@ slot_send = search (crossing, queue_send) depth 30
 
 pub slot_sync : IsSync gated_slot.the_row
 slot_sync = search (crossing, queue_sync) depth 30
-
-bank_seat_send : (O C R : RattleType) (g : Ghosts O.Denot C.Denot R.Denot) → IsSend O → IsSend (bank_seat.the_row O C R g)
-bank_seat_send O C R g s = search (crossing, seat_send) depth 30
-
-bank_sync : (O C R : RattleType) (g : Ghosts O.Denot C.Denot R.Denot) → IsSend O → IsSync O → IsSync (bank.the_row O C R g)
-bank_sync O C R g s y = search (crossing, gate_sync) depth 30
 
 seats_send : IsSend seats.the_row
 seats_send = search (crossing, bank_seat_send, seat_send, slot_send, registries.the_send, pool_send) depth 30

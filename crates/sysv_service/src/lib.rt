@@ -1,6 +1,6 @@
-//! System V message queues (POSIX.1-2017, `msgget`, `msgsnd`, `msgrcv`, `msgctl`) as a service that threads share: each call
-//! plays the steps of the table on the gates of the objects, and waits for its turns and for the counts. Each thread has a
-//! pass of its own:
+//! System V message queues (POSIX.1-2017, `msgget`, `msgsnd`, `msgrcv`, `msgctl`) as a service that threads share. A call
+//! makes the steps of the step table, each as a turn at the gate of one object, and waits for its turns and for counts.
+//! Each thread has a pass of its own:
 //!
 //! ```rust
 //! let id = service.msgget(&rt, &mut pass, &CLOCK, USER, 7, creating());

@@ -16,7 +16,7 @@ use sysv_gate::{Awaited, Closing, OpenRefused, TryRefused};
 
 // Three sums, of 10, 20 and 30.
 fn opened(alloc: Global, first: u64) -> Option<(Bank<Sum>, BankSeat<Sum>)>
-    ensures { IfSome result (λ o. (gates_of o.1 ≡ o.0) × (length o.0 ≡ 3)) }
+    ensures { IfSome result (λ o. (gates_of o.1.seats ≡ o.0) × (length o.0 ≡ 3)) }
 {
     let objects = Vec::from_array(alloc, [Sum::new(10), Sum::new(20), Sum::new(30)]).ok()?;
     Bank::open(alloc, objects, first).ok()

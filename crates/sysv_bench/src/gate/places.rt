@@ -40,9 +40,9 @@ fn split_all(
     seat: &mut BankSeat<Sum>,
     threads: usize,
 ) -> Vec<BankSeat<Sum>, Global>
-    requires { gates_of seat.old ≡ bank.now }
-    ensures seat { gates_of seat.new ≡ bank.now }
-    ensures seats { All (λ s. gates_of s ≡ bank.now) result.items }
+    requires { gates_of seat.old.seats ≡ bank.now }
+    ensures seat { gates_of seat.new.seats ≡ bank.now }
+    ensures seats { All (λ s. gates_of s.seats ≡ bank.now) result.items }
 {
     let mut seats = Vec::new(alloc);
     for _ in 0..threads {
@@ -59,7 +59,7 @@ fn call_timed<R: Threads + Wait + Clock + CpuClock + Sync>(
     seats: &mut [BankSeat<Sum>],
 ) -> Option<u64>
     requires bank { length bank.now ≡ 4 }
-    requires seats { All (λ s. gates_of s ≡ bank.now) seats.old }
+    requires seats { All (λ s. gates_of s.seats ≡ bank.now) seats.old }
 {
     let watch = Watch::start(rt, Time::Passed);
     call_all(rt, bank, seats);
@@ -68,7 +68,7 @@ fn call_timed<R: Threads + Wait + Clock + CpuClock + Sync>(
 
 fn call_all<R: Threads + Wait + Sync>(rt: &R, bank: &Bank<Sum>, seats: &mut [BankSeat<Sum>])
     requires bank { length bank.now ≡ 4 }
-    requires seats { All (λ s. gates_of s ≡ bank.now) seats.old }
+    requires seats { All (λ s. gates_of s.seats ≡ bank.now) seats.old }
 {
     let threads = seats.len().max(1);
     for_each_mut(
@@ -76,13 +76,13 @@ fn call_all<R: Threads + Wait + Sync>(rt: &R, bank: &Bank<Sum>, seats: &mut [Ban
         seats,
         threads,
         &|place, seat: &mut BankSeat<Sum>|
-            requires { IsSync R.row × (gates_of seat.now ≡ bank.now) × (length bank.now ≡ 4) }
+            requires { IsSync R.row × (gates_of seat.now.seats ≡ bank.now) × (length bank.now ≡ 4) }
         { call_often(rt, bank, place % PLACES, seat) },
     );
 }
 
 fn call_often(rt: &impl Wait, bank: &Bank<Sum>, place: usize, seat: &mut BankSeat<Sum>)
-    requires seat { gates_of seat.old ≡ bank.now }
+    requires seat { gates_of seat.old.seats ≡ bank.now }
     requires place { place < length bank.now }
 {
     for _ in 0..TIMES {

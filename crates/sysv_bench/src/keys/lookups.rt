@@ -10,7 +10,7 @@ use sysv_keys::{Begun, Registry};
 /// How often a key is looked up.
 const TIMES: u64 = 10_000_000;
 
-/// The most keys that have a row.
+/// How many keys have a row in the second measurement.
 const MOST: i32 = 64;
 
 /// How often the two are measured in turn.

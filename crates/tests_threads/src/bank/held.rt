@@ -27,7 +27,7 @@ struct Member<'a, 'b> {
     seat: BankSeat<Keeper<'a>>,
     role: Role<'a>,
     well: bool,
-    ghost fits: { gates_of seat ≡ bank.now },
+    ghost fits: { gates_of seat.seats ≡ bank.now },
     ghost two: { length bank.now ≡ 2 },
 }
 
@@ -62,9 +62,9 @@ fn hold_and_call<'a, R: Threads + Wait + Sync>(
     seat: &mut BankSeat<Keeper<'a>>,
     watch: Watch<'a>,
 ) -> Option<bool>
-    requires seat { gates_of seat.old ≡ bank.now }
+    requires seat { gates_of seat.old.seats ≡ bank.now }
     requires two { length bank.now ≡ 2 }
-    ensures { gates_of seat.new ≡ bank.now }
+    ensures { gates_of seat.new.seats ≡ bank.now }
 {
     let one = bank.split(alloc, seat).ok()?;
     let two = bank.split(alloc, seat).ok()?;
@@ -91,7 +91,7 @@ fn opened<'a>(
     mut begun: Place<'a>,
     mut answered: Place<'a>,
 ) -> Option<(Bank<Keeper<'a>>, BankSeat<Keeper<'a>>, Watch<'a>)>
-    ensures { IfSome result (λ o. (gates_of o.1 ≡ o.0) × (length o.0 ≡ 2)) }
+    ensures { IfSome result (λ o. (gates_of o.1.seats ≡ o.0) × (length o.0 ≡ 2)) }
 {
     let watch = Watch {
         begun: begun.split()?,

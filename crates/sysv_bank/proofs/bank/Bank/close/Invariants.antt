@@ -1,15 +1,21 @@
-use Rattle.std.proofs.Common.{◌≡◌, ◌≤◌, ◌+◌}
-use Rattle.std.specs.Prelude.{vec_capacity, vec_len}
-use Rattle.sysv_gate.specs.History.{Moves}
-use Rattle.sysv_gate.specs.Closings.{Closes}
-use Rattle.sysv_bank.specs.Banks.{gates_of}
-use Rattle.sysv_bank.proofs.Places.{IsClosing}
+use Rattle.std.proofs.Common.{◌≡◌, ℕ, ◌<◌, ◌≤◌, true, false, length}
+use Rattle.std.specs.Prelude.{slice_index_or, vec_capacity}
+use mathlib.Core.Option.{some}
+use lib.ListN.{get_elem?}
+use Rattle.std.specs.Mem.Slots.{slots_len, slots_items, slots_filled}
+use Rattle.sysv_gate.specs.Ending.{IsReadAt}
+use Rattle.sysv_gate.specs.declared.closing.Closing.{Closing}
 use Rattle.sysv_bank.proofs.bank.Bank.close.Given as goal
 
 -- how far it has come
-abbrev pub invariant-loop-gates : goal.invariant-loop-gates
-invariant-loop-gates g l = record { fit : gates_of l.seats.items ≡ l.gates.items; closing : IsClosing (Closes (Moves g.O.Object.meaning g.O.Object.counted)) l.fn.seat l.seats.items l.closings.items; room : vec_len l.seats + vec_len l.closings ≤ vec_capacity l.closings }
-
--- one less each time
-abbrev pub decreases-loop-gates : goal.decreases-loop-gates
-decreases-loop-gates g l = vec_len l.seats
+abbrev pub invariant-loop-place : goal.invariant-loop-place
+invariant-loop-place g l = record {
+  words : l.closed.words ≡ l.initial.closed.words;
+  slots : slots_items l.closed.slots ≡ slots_items l.initial.closed.slots;
+  many : slots_len l.closed.slots ≡ slots_len l.initial.closed.slots;
+  filled : (k : ℕ) → l.place ≤ k → k < slots_len l.initial.closed.slots → slice_index_or (slots_filled l.closed.slots) k false ≡ true;
+  empty : (k : ℕ) → k < l.place → slice_index_or (slots_filled l.closed.slots) k false ≡ false;
+  read : (place : ℕ) (c : Closing g.row.O.Denot) → get_elem? l.closings.items place ≡ some c → IsReadAt l.key.first (slots_items l.initial.closed.words) (slots_items l.initial.closed.slots) place c;
+  count : length l.closings.items ≡ l.place;
+  room : slots_len l.initial.closed.slots ≤ vec_capacity l.closings;
+}

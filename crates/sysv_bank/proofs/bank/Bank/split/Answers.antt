@@ -1,29 +1,55 @@
-use Rattle.std.proofs.Common.{◌≡◌, ◌+◌, sym, subst, ap, length, arith}
-use Rattle.sysv_bank.proofs.Places.{IsSplitting, split_goes, split_ends}
+use Rattle.std.proofs.Common.{ap, sym, subst, ◌∙◌, map, arith}
+use Rattle.sysv_gate.specs.History.{Moves}
+use Rattle.sysv_gate.specs.Gates.{parted, IsSplit}
+use Rattle.sysv_gate.specs.Doors.{KnowsAll}
+use Rattle.sysv_bank.specs.Banks.{Each2, gates_of}
+use Rattle.sysv_bank.specs.Resting.{pass_of}
+use Rattle.sysv_bank.proofs.Passes.{same_table, gates_same}
+use Rattle.sysv_bank.proofs.Coming.{knows_all, parted_now, parted_rests, split_now, split_rests, rests_key, seats_key}
 use Rattle.sysv_bank.proofs.bank.Bank.split.Goals as goal
 
-pub loop-place-preserved : goal.loop-place-preserved
-loop-place-preserved g c =
-    let told = c.loop-place.invariant in
-    let inside = c.loop-place-test.true in
-    let counted = c.len-count.ensures in
-    let long = c.seat.inside.seats.ok.0 in
-    let same : length c.seat.inside.seats.items ≡ length c.args.seat.now = ap length c.seat.view_is in
-    let goes = split_goes c.args.seat.now c.loop-place.seat c.loop-place.seats.items c.split_at.new.seat c.loop-place.place c.split_at.result told.splitting c.split_at.ensures.parted (omega arith) in
-    let room = told.room in
-    let count = told.count in
-    let more = c.push_reserved.ensures.len in
-    let kept = c.push_reserved.ensures.capacity in record {
-      fit = c.split_at.ensures.gates;
-      splitting = subst (λ l. IsSplitting c.args.seat.now c.split_at.new.seat l (c.loop-place.place + 1)) (sym c.push_reserved.ensures.items) goes;
-      room = omega arith;
-      count = omega arith;
-    }
+pub split_pass-token-requires-clause-table : goal.split_pass-token-requires-clause-table
+split_pass-token-requires-clause-table g c =
+    let same = same_table _ _ _ _ _ _ c.self.invariant c.seat.invariant c.self.view_is c.seat.view_is c.requires in
+    let words = c.self.invariant.words in
+    let some_place = c.self.invariant.some_place in
+    (same.0, omega arith)
+
+pub split_pass-token-requires-clause-rest : goal.split_pass-token-requires-clause-rest
+split_pass-token-requires-clause-rest g c =
+    let same = same_table _ _ _ _ _ _ c.self.invariant c.seat.invariant c.self.view_is c.seat.view_is c.requires in
+    subst (λ os. KnowsAll os c.seat.inside.token.me.0) (same.2 ∙ ap (λ k. k.openings.value.items) (sym c.self.invariant.key)) (knows_all _ c.seat.inside c.seat.invariant)
+
+pub invariant_of-seat : goal.invariant_of-seat
+invariant_of-seat g c = parted_rests _ c.seat.inside c.seat.invariant c.split_pass-token.new.token c.split_pass-token.ensures.same.0 c.split_pass-token.ensures.same.1
+
+pub returns-clause-gates : goal.returns-clause-gates
+returns-clause-gates g c =
+    let rest = parted_rests _ c.seat.inside c.seat.invariant c.split_pass-token.new.token c.split_pass-token.ensures.same.0 c.split_pass-token.ensures.same.1 in
+    gates_same _ c.seat.inside _ c.seat.invariant rest c.split_pass-token.ensures.same.0 ∙ ap (λ p. gates_of p.seats) c.seat.view_is ∙ c.requires
+
+pub invariant_of-result : goal.invariant_of-result
+invariant_of-result g c =
+    let same = same_table _ _ _ _ _ _ c.self.invariant c.seat.invariant c.self.view_is c.seat.view_is c.requires in
+    let token = c.split_pass-token.result in
+    let new = c.split_pass-token.ensures.new in
+    let first = ap (λ k. k.first) c.of.ensures ∙ sym same.1 in
+    let os = ap (λ k. k.openings.value.items) c.of.ensures ∙ sym same.2 in
+    let rest = split_rests (Moves g.O.Object.meaning g.O.Object.counted) c.seat.inside c.seat.invariant token new.0 new.1 in
+    rests_key _ (record { token = token; key = c.seat.inside.key }) c.of.result first os rest
 
 pub returns-clause-ok : goal.returns-clause-ok
 returns-clause-ok g c =
-    let over = c.loop-place-test.false in
-    let counted = c.len-count.ensures in
-    let long = c.seat.inside.seats.ok.0 in
-    let same : length c.seat.inside.seats.items ≡ length c.args.seat.now = ap length c.seat.view_is in
-    split_ends _ _ _ _ c.loop-place.place c.loop-place.invariant.splitting (omega arith) c.requires
+    let same = same_table _ _ _ _ _ _ c.self.invariant c.seat.invariant c.self.view_is c.seat.view_is c.requires in
+    let token = c.split_pass-token.result in
+    let new = c.split_pass-token.ensures.new in
+    let first = ap (λ k. k.first) c.of.ensures ∙ sym same.1 in
+    let os = ap (λ k. k.openings.value.items) c.of.ensures ∙ sym same.2 in
+    let rest = split_rests (Moves g.O.Object.meaning g.O.Object.counted) c.seat.inside c.seat.invariant token new.0 new.1 in
+    let seats = seats_key (Moves g.O.Object.meaning g.O.Object.counted) (record { token = token; key = c.seat.inside.key }) c.of.result first os in
+    let view = ap (λ p. p.seats) c.seat.view_is in (
+      ap gates_of seats ∙ gates_same _ c.seat.inside token c.seat.invariant rest new.0 ∙ ap gates_of view ∙ c.requires,
+      parted_now (Moves g.O.Object.meaning g.O.Object.counted) c.seat.inside c.seat.invariant c.split_pass-token.new.token c.split_pass-token.ensures.same.0 c.split_pass-token.ensures.same.1 ∙ ap (map parted) view,
+      subst (λ l. Each2 IsSplit l (pass_of (record { token = token; key = c.of.result })).seats) view
+          (subst (λ l. Each2 IsSplit (pass_of c.seat.inside).seats l) (sym seats) (split_now (Moves g.O.Object.meaning g.O.Object.counted) c.seat.inside c.seat.invariant token new.0 new.1)),
+    )

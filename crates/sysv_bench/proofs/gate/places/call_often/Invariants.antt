@@ -4,4 +4,4 @@ use Rattle.sysv_bench.proofs.gate.places.call_often.Given as goal
 
 -- it is a seat of the bank
 abbrev pub invariant-loop : goal.invariant-loop
-invariant-loop g l = gates_of l.seat ≡ l.bank
+invariant-loop g l = gates_of l.seat.seats ≡ l.bank

@@ -15,7 +15,7 @@ returns-then-served-next g c =
     let first' = ap (λ k. k.first) c.self.invariant.0 ∙ first in
     let final = spelled moves counted _ h.gate.opening _ h.gate.first _ _ _ _ opening first' c.close_with-closed.ensures.values.2 in
     let end = ended moves counted h token _ _ c.word-served.result c.word-next.result c.take.result c.into_token.ensures final c.word-served.ensures c.word-next.ensures c.take.ensures.value in
-    closes_due moves counted h c.word-served.result c.word-next.result c.take.result _ end c.if-served-next.true refl (ap (λ n. c.word-served.result - n) first)
+    (closes_due moves counted end.0 h c.word-served.result c.word-next.result c.take.result _ end.1 c.if-served-next.true refl (ap (λ n. c.word-served.result - n) first)).0
 
 pub returns : goal.returns
 returns g c =
@@ -29,4 +29,4 @@ returns g c =
     let first' = ap (λ k. k.first) c.self.invariant.0 ∙ first in
     let final = spelled moves counted _ h.gate.opening _ h.gate.first _ _ _ _ opening first' c.close_with-closed.ensures.values.2 in
     let end = ended moves counted h token _ _ c.word-served.result c.word-next.result c.take.result c.into_token.ensures final c.word-served.ensures c.word-next.ensures c.take.ensures.value in
-    closes_whole moves counted h c.word-served.result c.word-next.result c.take.result _ end c.if-served-next.false c.object_in-left.ensures refl (ap (λ n. c.word-served.result - n) first)
+    (closes_whole moves counted end.0 h c.word-served.result c.word-next.result c.take.result _ end.1 c.if-served-next.false c.object_in-left.ensures refl (ap (λ n. c.word-served.result - n) first)).0

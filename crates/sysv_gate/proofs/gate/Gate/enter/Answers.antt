@@ -2,12 +2,13 @@ use Rattle.std.proofs.Common.{rules, ap, ◌∙◌, refl, sym, subst, arith}
 use Rattle.sysv_gate.specs.History.{Moves, IsLegal, HasItsOwn}
 use Rattle.sysv_gate.specs.Steps.{entered}
 use Rattle.sysv_gate.specs.Turns.{Looked, SawMore}
+use Rattle.sysv_gate.proofs.Touching.{act_at}
 use Rattle.sysv_gate.proofs.Stepping.{weighs, enters}
 use Rattle.sysv_gate.proofs.Turning.{unweighed, idle_look, look_count, look_legal, look_own, came_at_once}
 use Rattle.sysv_gate.proofs.gate.Gate.enter.Goals as goal
 
 pub load-next-requires : goal.load-next-requires
-load-next-requires g c = (search rules, search rules, weighs _ g.O.Object.counted _ _ _ _ _)
+load-next-requires g c = (search rules, search rules, λ s held one at low. let went = weighs _ g.O.Object.counted _ _ held.0 _ _ _ s held.1 one at low in (went.0, act_at 0 went.1, went.2, (held.0, went.3), went.4))
 
 pub compare_exchange-found-requires : goal.compare_exchange-found-requires
 compare_exchange-found-requires g c =
@@ -22,8 +23,8 @@ compare_exchange-found-requires g c =
     let is = (idle_look moves counted o m n m' c.requires.idle.1 look).is in (
       search rules,
       search rules,
-      enters _ g.O.Object.counted _ _ _ _ m' n _ o refl (omega arith) (ap (λ x. x.0.opening) is ∙ c.requires.table.1) (look_count moves counted o m n m' c.requires.idle.1 look) (ap (λ x. x.0.tickets) is ∙ c.requires.idle.1)
-          (ap (λ x. x.0.in_turn) is ∙ c.requires.idle.2) (ap (λ x. x.1) is),
+      λ s held one at low. let went = enters _ g.O.Object.counted _ _ held.0 _ _ m' n _ o refl (omega arith) (ap (λ x. x.0.opening) is ∙ c.requires.table.1) (look_count moves counted o m n m' c.requires.idle.1 look) (ap (λ x. x.0.tickets) is ∙ c.requires.idle.1)
+          (ap (λ x. x.0.in_turn) is ∙ c.requires.idle.2) (ap (λ x. x.1) is) s held.1 one at low in (went.0, act_at 0 went.1, went.2, (held.0, went.3), went.4),
     )
 
 pub returns-then-found-served-clause-entered : goal.returns-then-found-served-clause-entered

@@ -1,15 +1,16 @@
 use Rattle.std.proofs.Common.{rules, ap, sym, subst, ◌∙◌, Some}
 use Rattle.sysv_gate.specs.History.{Moves, IsLegal, HasItsOwn}
+use Rattle.sysv_gate.proofs.Touching.{act_at}
 use Rattle.sysv_gate.proofs.Seating.{joins, merges, gathered, still_named, joins_holding}
 use Rattle.sysv_gate.proofs.gate.Gate.join.Goals as goal
 
 pub join_seat-requires : goal.join_seat-requires
 join_seat-requires g c =
     let rests = c.into_token-token.ensures in
-    (search rules, search rules, search rules, search rules, joins _ g.O.Object.counted _ _ _ _ _ _ c.seat.invariant.named c.seat.invariant.no_turn rests.no_ticket rests.no_turn)
+    (search rules, search rules, search rules, search rules, (λ s held at apart still. let went = joins _ g.O.Object.counted _ _ held.0 _ _ _ _ c.seat.invariant.named c.seat.invariant.no_turn rests.no_ticket rests.no_turn s held.1 at apart still in (held.0, went)))
 
 pub load-requires : goal.load-requires
-load-requires g c = (search rules, search rules, merges _ g.O.Object.counted _ _ _ _ _ (ap (λ m. m.0.in_turn) c.join_seat.ensures.2 ∙ c.seat.invariant.no_turn))
+load-requires g c = (search rules, search rules, λ s held one at low. let went = merges _ g.O.Object.counted _ _ held.0 _ _ _ (ap (λ m. m.0.in_turn) c.join_seat.ensures.2 ∙ c.seat.invariant.no_turn) s held.1 one at low in (went.0, act_at 0 went.1, went.2, (held.0, went.3), went.4))
 
 pub invariant_of-seat : goal.invariant_of-seat
 invariant_of-seat g c =

@@ -1,10 +1,11 @@
-use Rattle.std.proofs.Common.{rules, ap, sym, subst, ◌∙◌, ◌∷◌, ◌^◌, cond, []}
+use Rattle.std.proofs.Common.{rules, ap, sym, subst, ◌∙◌, ◌∷◌, ◌++◌, ◌^◌, cond, []}
 use Rattle.atomic_table.specs.Table.{rest}
 use Rattle.sysv_gate.specs.Rule.{put}
 use Rattle.sysv_gate.specs.History.{after_all, Moves, AreUpTo, AreBelow}
 use Rattle.sysv_gate.specs.Counts.{of_count}
-use Rattle.sysv_gate.specs.Steps.{announced_by}
+use Rattle.sysv_gate.specs.Steps.{announced_by, turn_of}
 use Rattle.sysv_gate.specs.declared.count.Count.TheVariants.{Arrived, Freed}
+use Rattle.sysv_gate.proofs.Touching.{act_at}
 use Rattle.sysv_gate.proofs.Stepping.{ends}
 use Rattle.sysv_gate.proofs.Turning.{object_out, refilled, made_turn, counts_low, handed, told_move, announced_all}
 use Rattle.sysv_gate.proofs.gate.Gate.serve.Goals as goal
@@ -73,7 +74,7 @@ fetch_add-requires g c =
     let v' = announced_by Freed (cond rose.freed 1 0) (announced_by Arrived (cond rose.arrived 1 0) v) in
     let has = two ∙ ap (λ s. (v', (0, s) ∷ [])) (handed moves counted _ _ _ _ _ served) in
     let move = told_move moves counted _ _ _ _ _ _ served was in
-    (search rules, search rules, ends _ counted _ _ _ _ _ v' opening _ _ served.last has c.requires.table.1 c.requires.ticket.1 c.requires.ticket.2 c.requires.named move (announced_all moves counted opening v _ _ _ _ _ served was))
+    (search rules, search rules, λ s held one at low. let went = ends _ counted _ _ held.0 _ _ _ v' opening _ _ served.last has c.requires.table.1 c.requires.ticket.1 c.requires.ticket.2 c.requires.named move (announced_all moves counted opening v _ _ _ _ _ served was) s held.1 one at low in (went.0, act_at 0 went.1, went.2, (held.0 ++ turn_of v' served.last.call.value served.last.reply.value c.apply-place.result.0.object ∷ [], went.3), went.4))
 
 pub returns-clause-made : goal.returns-clause-made
 returns-clause-made g c =

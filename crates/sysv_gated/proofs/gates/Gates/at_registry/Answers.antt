@@ -7,8 +7,8 @@ use Rattle.sysv_gated.proofs.gates.Gates.at_registry.Goals as goal
 
 pub returns-clause-ok : goal.returns-clause-ok
 returns-clause-ok g c =
-    let before : Seats = record { slots = c.seats.inside.slots; registry = c.seats.inside.registry; pool = c.seats.inside.pool } in
-    let after : Seats = record { slots = c.seats.inside.slots; registry = c.call.new.seat; pool = c.seats.inside.pool } in
+    let before : Seats = record { slots = c.seats.inside.slots.seats; registry = c.seats.inside.registry; pool = c.seats.inside.pool } in
+    let after : Seats = record { slots = c.seats.inside.slots.seats; registry = c.call.new.seat; pool = c.seats.inside.pool } in
     elim c.match-call.branch [
       | in-Ok w ↦
           subst (λ b. IfOk c.match-call.result (λ r. RegistryAnswers b c.args.call r after)) c.seats.view_is

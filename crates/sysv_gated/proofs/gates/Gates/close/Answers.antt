@@ -9,4 +9,4 @@ pub returns-clause-count : goal.returns-clause-count
 returns-clause-count c =
     let gates = ap (λ (g : Gates). g.slots) c.self.view_is in
     let seats = ap (λ (s : Seats). gates_of s.slots) c.seats.view_is in
-    sym (as_long _ _ _ c.close.ensures) ∙ sym (length-map c.seats.inside.slots (λ h. h.gate)) ∙ ap length (seats ∙ c.requires.slots ∙ sym gates) ∙ c.self.invariant
+    sym (as_long _ _ _ c.close.ensures.closed) ∙ sym (length-map c.seats.inside.slots.seats (λ h. h.gate)) ∙ ap length (seats ∙ c.requires.slots ∙ sym gates) ∙ c.self.invariant

@@ -1,0 +1,280 @@
+-- How seats of a bank come, and how one takes in another.
+use Rattle.std.proofs.Common.{◌≡◌, ℕ, zero, suc, ◌+◌, ◌<◌, List, [], ◌∷◌, ◌++◌, map, length, get_or, refl, sym, ap, ◌∙◌, subst, arith}
+use Rattle.std.proofs.lemmas.List.{length-map, get_or-map}
+use mathlib.Core.Option.{some}
+use lib.ListN.{get_elem?}
+use Rattle.atomic_table.specs.Seated.{TableId}
+use Rattle.atomic_table.specs.declared.shared.Seat.{Seat}
+use Rattle.atomic_table.proofs.Lists.{at_map}
+use Rattle.sysv_lists.specs.Prefix.{IsPrefixOf}
+use Rattle.sysv_lists.proofs.Counting.{times-same}
+use Rattle.sysv_lists.proofs.Prefixes.{prefix_self}
+use Rattle.sysv_gate.specs.declared.view.View.{View}
+use Rattle.sysv_gate.specs.declared.view.Turn.{Turn}
+use Rattle.sysv_gate.specs.declared.view.Sight.{Sight}
+use Rattle.sysv_gate.specs.declared.view.Placed.{Placed}
+use Rattle.sysv_gate.specs.History.{IsLegal, HasItsOwn, made_at}
+use Rattle.sysv_gate.specs.Rule.{Spot, start}
+use Rattle.sysv_gate.specs.Steps as step
+use Rattle.sysv_gate.specs.Steps.{spent, named, merged, Gathers}
+use Rattle.sysv_gate.specs.Gates.{Gateway, Holding, opened, parted, IsSplit, Joins}
+use Rattle.sysv_gate.specs.Orders.{turns_at}
+use Rattle.sysv_gate.specs.Halls.{view_at, Passing, me_at, outset}
+use Rattle.sysv_gate.specs.Plays.{at_each, both_views, both_of, merged_from, Merges}
+use Rattle.sysv_gate.specs.Doors.{IsNewcomer, KnowsAll}
+use Rattle.std.specs.declared.snapshot.Snapshot.{Snapshot}
+use Rattle.sysv_gate.specs.declared.hall.HallKey.{HallKey}
+use Rattle.sysv_gate.proofs.Passing.{both_there, both_length, merged_there, merged_length}
+use Rattle.sysv_gate.proofs.Seating.{still_named}
+use Rattle.sysv_bank.specs.declared.seat.BankSeat.TheInside.{Inside}
+use Rattle.sysv_bank.specs.Banks.{Each2, Each3, AreOpened}
+use Rattle.sysv_bank.specs.Passes.{holding, holdings}
+use Rattle.sysv_bank.specs.Resting.{RestsAt, pass_of, Rests, gateways}
+use Rattle.sysv_bank.proofs.Places.{at_below}
+use Rattle.sysv_bank.proofs.Passes.{read_at}
+
+-- who has made no turn has none of its own
+none_own : {O C R : Type 0} (n : ℕ) (seen : List (Turn O C R)) → ((k : ℕ) → made_at (n ∷ []) seen k ≡ 0) → HasItsOwn (n ∷ []) [] seen
+none_own n seen none = ((λ p. sym (none p)), λ x. omega arith)
+
+-- ---- the first seat
+
+module _ {O C R : Type 0} where
+  pub first_seats : (table : TableId) (first : ℕ) (os : List O) → holdings {C = C} {R = R} table first os (map (λ o. start o first) os) ≡ map opened (gateways table first os)
+  first_seats table first [] = refl
+  first_seats table first (o ∷ os) = ap (λ l. opened (record { table = table; opening = o; first = first }) ∷ l) (first_seats table first os)
+
+  pub first_rests : (moves : O → C → R → O → Type 0) (s : Inside O C R) → s.token.me ≡ (outset s.key.value.openings.value.items s.key.value.first, []) → Rests moves s
+  first_rests moves s is = record {
+    no_slot = ap (λ (m : Passing O C R). m.1) is;
+    nothing_else = ap (λ (m : Passing O C R). m.0.also) is;
+    many = ap (λ (m : Passing O C R). length m.0.views) is ∙ length-map s.key.value.openings.value.items _;
+    each = λ place o at.
+        let first : ℕ = s.key.value.first in
+        let view : view_at place s.token.me.0 ≡ start o first =
+        ap (λ (m : Passing O C R). view_at place m.0) is ∙ read_at (map (λ (p : O). start p first) s.key.value.openings.value.items) place spent (start o first) (at_map (λ (p : O). start p first) s.key.value.openings.value.items place o at) in
+        subst (λ (v : View O C R). RestsAt moves o first v × IsPrefixOf v.seen (turns_at place s.token.me.0.seen)) (sym view)
+        (record { no_ticket = refl; no_turn = refl; nothing_else = refl; opening = refl; first = refl; named = times-same 0; legal = tt; own = ((λ p. refl), λ x. omega arith) }, (turns_at place s.token.me.0.seen, refl));
+  }
+
+pub first_opened : {O : Type 0} (table : TableId) (first : ℕ) (os : List O) → AreOpened os first (gateways table first os)
+first_opened table first os = (objects os, λ k d less. firsts os k d less)
+  where
+    objects : {O : Type 0} (ps : List O) → map (λ g. g.opening) (gateways table first ps) ≡ ps
+    objects [] = refl
+    objects (p ∷ ps) = ap (λ l. p ∷ l) (objects ps)
+
+    firsts : {O : Type 0} (ps : List O) (k : ℕ) (d : Gateway O) → k < length (gateways table first ps) → (get_or (gateways table first ps) k d).first ≡ first
+    firsts [] k d less = absurd (omega arith)
+    firsts (p ∷ ps) zero d less = refl
+    firsts (p ∷ ps) (suc k) d less = firsts ps k d (omega arith)
+
+-- ---- a seat that is split off
+
+module _ {O C R : Type 0} (moves : O → C → R → O → Type 0) where
+  pub knows_all : (s : Inside O C R) → Rests moves s → KnowsAll s.key.value.openings.value.items s.token.me.0
+  knows_all s rest = (rest.many, λ place o at. let there = (rest.each place o at).0 in (there.opening, (there.no_ticket, there.no_turn, there.named)))
+
+  parted_seats : (table : TableId) (first : ℕ) (os : List O) (vs : List (View O C R)) → holdings table first os (map step.parted vs) ≡ map parted (holdings table first os vs)
+  parted_seats table first [] vs = refl
+  parted_seats table first (o ∷ os) [] = refl
+  parted_seats table first (o ∷ os) (v ∷ vs) = ap (λ l. parted (holding table first o v) ∷ l) (parted_seats table first os vs)
+
+  split_seats : (table : TableId) (first n : ℕ) (os : List O) (vs : List (View O C R)) → ((place k : ℕ) → place < length vs → made_at (n ∷ []) (get_or vs place spent).seen k ≡ 0)
+      → Each2 IsSplit (holdings table first os vs) (holdings table first os (map (named n) (map step.newcomer vs)))
+  split_seats table first n [] vs none = tt
+  split_seats table first n (o ∷ os) [] none = tt
+  split_seats table first n (o ∷ os) (v ∷ vs) none = ((n, refl, none_own n v.seen (λ k. none 0 k (omega arith))), split_seats table first n os vs (λ place k less. none (suc place) k (omega arith)))
+
+  module _ (s : Inside O C R) (rest : Rests moves s) (token : Seat (Spot O C R) (Sight O C R)) (same : token.table_id ≡ s.token.table_id) where
+    abbrev Now : Inside O C R
+    Now = record { token = token; key = s.key }
+
+    abbrev Os : List O
+    Os = s.key.value.openings.value.items
+
+    pub parted_now : token.me ≡ (at_each step.parted s.token.me.0, s.token.me.1) → (pass_of Now).seats ≡ map parted (pass_of s).seats
+    parted_now is =
+        ap (λ (m : Passing O C R). holdings token.table_id s.key.value.first Os m.0.views) is
+        ∙ ap (λ (t : TableId). holdings t s.key.value.first Os (map step.parted s.token.me.0.views)) same
+        ∙ parted_seats s.token.table_id s.key.value.first Os s.token.me.0.views
+
+    pub parted_rests : token.me ≡ (at_each step.parted s.token.me.0, s.token.me.1) → Rests moves Now
+    parted_rests is = record {
+      no_slot = ap (λ (m : Passing O C R). m.1) is ∙ rest.no_slot;
+      nothing_else = ap (λ (m : Passing O C R). m.0.also) is ∙ rest.nothing_else;
+      many = ap (λ (m : Passing O C R). length m.0.views) is ∙ length-map s.token.me.0.views step.parted ∙ rest.many;
+      each = λ place o at.
+          let old = rest.each place o at in
+          let r = old.0 in
+          let less = at_below Os place o at in
+          let many = rest.many in
+          let view : view_at place token.me.0 ≡ step.parted (view_at place s.token.me.0) = ap (λ (m : Passing O C R). view_at place m.0) is ∙ get_or-map step.parted s.token.me.0.views place spent spent (omega arith) in
+          let order : token.me.0.seen ≡ s.token.me.0.seen = ap (λ (m : Passing O C R). m.0.seen) is in
+          subst (λ (v : View O C R). RestsAt moves o s.key.value.first v × IsPrefixOf v.seen (turns_at place token.me.0.seen)) (sym view) (
+            record { no_ticket = r.no_ticket; no_turn = r.no_turn; nothing_else = r.nothing_else; opening = r.opening; first = r.first; named = r.named; legal = r.legal; own = r.own },
+            subst (λ (l : List (Placed O C R)). IsPrefixOf (view_at place s.token.me.0).seen (turns_at place l)) (sym order) old.1,
+          );
+    }
+
+    pub split_now : IsNewcomer s.token.me.0 token.me → Each2 IsSplit (pass_of s).seats (pass_of Now).seats
+    split_now new =
+        subst (λ (l : List (Holding O C R)). Each2 IsSplit (pass_of s).seats l)
+        (sym (ap (λ (m : Passing O C R). holdings token.table_id s.key.value.first Os m.0.views) new.1 ∙ ap (λ (t : TableId). holdings t s.key.value.first Os (map (named new.0) (map step.newcomer s.token.me.0.views))) same))
+        (split_seats s.token.table_id s.key.value.first new.0 Os s.token.me.0.views new.2)
+
+    pub split_rests : IsNewcomer s.token.me.0 token.me → Rests moves Now
+    split_rests new =
+        let is = new.1 in
+        let n : ℕ = new.0 in record {
+          no_slot = ap (λ (m : Passing O C R). m.1) is;
+          nothing_else = ap (λ (m : Passing O C R). m.0.also) is;
+          many = ap (λ (m : Passing O C R). length m.0.views) is ∙ length-map (map step.newcomer s.token.me.0.views) (named n) ∙ length-map s.token.me.0.views step.newcomer ∙ rest.many;
+          each = λ place o at.
+              let old = rest.each place o at in
+              let r = old.0 in
+              let less = at_below Os place o at in
+              let many = rest.many in
+              let few : place < length s.token.me.0.views = omega arith in
+              let long : length (map step.newcomer s.token.me.0.views) ≡ length s.token.me.0.views = length-map s.token.me.0.views step.newcomer in
+              let view : view_at place token.me.0 ≡ named n (step.newcomer (view_at place s.token.me.0)) =
+              ap (λ (m : Passing O C R). view_at place m.0) is
+              ∙ get_or-map (named n) (map step.newcomer s.token.me.0.views) place spent spent (omega arith)
+              ∙ ap (named n) (get_or-map step.newcomer s.token.me.0.views place spent spent few) in
+              let order : token.me.0.seen ≡ s.token.me.0.seen = ap (λ (m : Passing O C R). m.0.seen) is in
+              subst (λ (v : View O C R). RestsAt moves o s.key.value.first v × IsPrefixOf v.seen (turns_at place token.me.0.seen)) (sym view) (
+                record { no_ticket = refl; no_turn = refl; nothing_else = refl; opening = r.opening; first = r.first; named = times-same n; legal = r.legal; own = none_own n (view_at place s.token.me.0).seen (λ k. new.2 place k few) },
+                subst (λ (l : List (Placed O C R)). IsPrefixOf (view_at place s.token.me.0).seen (turns_at place l)) (sym order) old.1,
+              );
+        }
+
+-- ---- a seat that takes in another
+
+module _ {O C R : Type 0} (moves : O → C → R → O → Type 0) where
+  -- what is told of one place
+  abbrev Told : List (Placed O C R) → O → View O C R → View O C R → ℕ → Type 0
+  Told order o v w place = (c : List (ℕ × Spot O C R)) × Gathers moves o (step.both_of v w, c) (merged (turns_at place order) (step.both_of v w), c)
+
+  joined_one : (table table' : TableId) (first first' : ℕ) (o o' : O) (order : List (Placed O C R)) (place : ℕ) (v w : View O C R) → Told order o v w place
+      → Joins moves (holding table first o v) (holding table' first' o' w) (holding table first o (merged (turns_at place order) (step.both_of v w)))
+  joined_one table table' first first' o o' order place v w told =
+      let g = told.1 in
+      let same : turns_at place order ≡ g.log = ap (λ m. m.0.seen) g.is in record {
+        seen = turns_at place order;
+        begins_one = subst (IsPrefixOf v.seen) (sym same) g.one;
+        begins_two = subst (IsPrefixOf w.seen) (sym same) g.two;
+        joined = refl;
+        legal = subst (IsLegal moves o) (sym same) g.legal;
+        own = subst (HasItsOwn (v.numbers ++ w.numbers) (v.own ++ w.own)) (sym same) g.own;
+      }
+
+  joined_seats : (table table' : TableId) (first first' : ℕ) (order : List (Placed O C R)) (os os' : List O) (vs ws : List (View O C R)) (from : ℕ) → length vs ≡ length os → length ws ≡ length vs → length os' ≡ length os
+      → ((place : ℕ) (o : O) → get_elem? os place ≡ some o → Told order o (get_or vs place spent) (get_or ws place spent) (from + place))
+      → Each3 (Joins moves) (holdings table first os vs) (holdings table' first' os' ws) (holdings table first os (merged_from from order (both_views vs ws)))
+  joined_seats table table' first first' order [] [] vs ws from one two three each = tt
+  joined_seats table table' first first' order [] (o' ∷ os') vs ws from one two three each = absurd (omega arith)
+  joined_seats table table' first first' order (o ∷ os) [] vs ws from one two three each = absurd (omega arith)
+  joined_seats table table' first first' order (o ∷ os) (o' ∷ os') [] ws from one two three each = absurd (omega arith)
+  joined_seats table table' first first' order (o ∷ os) (o' ∷ os') (v ∷ vs) [] from one two three each = absurd (omega arith)
+  joined_seats table table' first first' order (o ∷ os) (o' ∷ os') (v ∷ vs) (w ∷ ws) from one two three each =
+      let here : from + 0 ≡ from = omega arith in (
+        joined_one table table' first first' o o' order from v w (subst (λ (k : ℕ). Told order o v w k) here (each 0 o refl)),
+        joined_seats table table' first first' order os os' vs ws (suc from) (omega arith) (omega arith) (omega arith)
+            (λ place p at. let there : from + suc place ≡ suc from + place = omega arith in subst (λ (k : ℕ). Told order p (get_or vs place spent) (get_or ws place spent) k) there (each (suc place) p at)),
+      )
+
+  -- a seat is the same under another spelling of its key
+  pub rests_key : (s : Inside O C R) (key : Snapshot (HallKey O)) → key.value.first ≡ s.key.value.first → key.value.openings.value.items ≡ s.key.value.openings.value.items → Rests moves s → Rests moves record { token = s.token; key = key }
+  rests_key s key first os rest = record {
+    no_slot = rest.no_slot;
+    nothing_else = rest.nothing_else;
+    many = rest.many ∙ ap length (sym os);
+    each = λ place o at.
+        let r = rest.each place o (subst (λ (l : List O). get_elem? l place ≡ some o) os at) in
+        (subst (λ (n : ℕ). RestsAt moves o n (view_at place s.token.me.0)) (sym first) r.0, r.1);
+  }
+
+  pub seats_key : (s : Inside O C R) (key : Snapshot (HallKey O)) → key.value.first ≡ s.key.value.first → key.value.openings.value.items ≡ s.key.value.openings.value.items
+      → (pass_of (record { token = s.token; key = key })).seats ≡ (pass_of s).seats
+  seats_key s key first os = λ i. holdings s.token.table_id (first i) (os i) s.token.me.0.views
+
+  module _ (s u : Inside O C R) (rest : Rests moves s) (rest' : Rests moves u) (same_os : u.key.value.openings.value.items ≡ s.key.value.openings.value.items) (token : Seat (Spot O C R) (Sight O C R)) (same : token.table_id ≡ s.token.table_id)
+      (told : Merges moves (both_of s.token.me.0 u.token.me.0, s.token.me.1) token.me) where
+    abbrev Here : Inside O C R
+    Here = record { token = token; key = s.key }
+
+    abbrev Ps : List O
+    Ps = s.key.value.openings.value.items
+
+    abbrev Vs : List (View O C R)
+    Vs = s.token.me.0.views
+
+    abbrev Ws : List (View O C R)
+    Ws = u.token.me.0.views
+
+    as_many : length Ws ≡ length Vs
+    as_many = rest'.many ∙ ap length same_os ∙ sym rest.many
+
+    few : (place : ℕ) (o : O) → get_elem? Ps place ≡ some o → place < length Vs
+    few place o at = let less = at_below Ps place o at in let many = rest.many in omega arith
+
+    both_at : (place : ℕ) (o : O) → get_elem? Ps place ≡ some o → view_at place (both_of s.token.me.0 u.token.me.0) ≡ step.both_of (view_at place s.token.me.0) (view_at place u.token.me.0)
+    both_at place o at = both_there Vs Ws place (few place o at) as_many
+
+    told_at : (place : ℕ) (o : O) → get_elem? Ps place ≡ some o → Told told.order o (view_at place s.token.me.0) (view_at place u.token.me.0) place
+    told_at place o at =
+        let less = few place o at in
+        let long : length (both_views Vs Ws) ≡ length Vs = both_length Vs Ws as_many in
+        let c = (me_at place (both_of s.token.me.0 u.token.me.0, s.token.me.1)).1 in (
+          c,
+          subst (λ (v : View O C R). Gathers moves o (v, c) (merged (turns_at place told.order) v, c)) (both_at place o at)
+              (told.there place (omega arith) o (ap (λ (v : View O C R). v.opening) (both_at place o at) ∙ (rest.each place o at).0.opening)),
+        )
+
+    pub joined_now : Each3 (Joins moves) (pass_of s).seats (pass_of u).seats (pass_of Here).seats
+    joined_now =
+        subst (λ (l : List (Holding O C R)). Each3 (Joins moves) (pass_of s).seats (pass_of u).seats l)
+        (sym (ap (λ (m : Passing O C R). holdings token.table_id s.key.value.first Ps m.0.views) told.is ∙ ap (λ (t : TableId). holdings t s.key.value.first Ps (merged_from 0 told.order (both_views Vs Ws))) same))
+        (joined_seats s.token.table_id u.token.table_id s.key.value.first u.key.value.first told.order Ps u.key.value.openings.value.items Vs Ws 0 rest.many as_many (ap length same_os)
+        (λ place o at. let here : place ≡ 0 + place = omega arith in subst (λ (k : ℕ). Told told.order o (view_at place s.token.me.0) (view_at place u.token.me.0) k) here (told_at place o at)))
+
+    pub joined_order : IsPrefixOf s.token.me.0.seen token.me.0.seen × IsPrefixOf u.token.me.0.seen token.me.0.seen
+    joined_order =
+        let order : token.me.0.seen ≡ told.order = ap (λ (m : Passing O C R). m.0.seen) told.is in
+        (subst (IsPrefixOf s.token.me.0.seen) (sym order) told.one, subst (IsPrefixOf u.token.me.0.seen) (sym order) told.two)
+
+    pub joined_rests : Rests moves Here
+    joined_rests = record {
+      no_slot = ap (λ (m : Passing O C R). m.1) told.is ∙ rest.no_slot;
+      nothing_else = ap (λ (m : Passing O C R). m.0.also) told.is;
+      many = ap (λ (m : Passing O C R). length m.0.views) told.is ∙ merged_length told.order (both_views Vs Ws) 0 ∙ both_length Vs Ws as_many ∙ rest.many;
+      each = λ place o at.
+          let v : View O C R = view_at place s.token.me.0 in
+          let w : View O C R = view_at place u.token.me.0 in
+          let r = (rest.each place o at).0 in
+          let g = (told_at place o at).1 in
+          let less = few place o at in
+          let long : length (both_views Vs Ws) ≡ length Vs = both_length Vs Ws as_many in
+          let log : List (Turn O C R) = turns_at place told.order in
+          let here : 0 + place ≡ place = omega arith in
+          let view : view_at place token.me.0 ≡ merged log (step.both_of v w) =
+          ap (λ (m : Passing O C R). view_at place m.0) told.is
+          ∙ merged_there told.order (both_views Vs Ws) 0 place (omega arith)
+          ∙ ap (λ (k : ℕ). merged (turns_at k told.order) (get_or (both_views Vs Ws) place spent)) here
+          ∙ ap (merged log) (both_at place o at) in
+          let order : token.me.0.seen ≡ told.order = ap (λ (m : Passing O C R). m.0.seen) told.is in
+          let is_log : log ≡ g.log = ap (λ m. m.0.seen) g.is in
+          subst (λ (x : View O C R). RestsAt moves o s.key.value.first x × IsPrefixOf x.seen (turns_at place token.me.0.seen)) (sym view) (
+            record {
+              no_ticket = r.no_ticket;
+              no_turn = r.no_turn;
+              nothing_else = refl;
+              opening = r.opening;
+              first = r.first;
+              named = still_named v w (merged log (step.both_of v w), []) [] log refl r.named;
+              legal = subst (IsLegal moves o) (sym is_log) g.legal;
+              own = subst (HasItsOwn (v.numbers ++ w.numbers) (v.own ++ w.own)) (sym is_log) g.own;
+            },
+            subst (λ (l : List (Placed O C R)). IsPrefixOf log (turns_at place l)) (sym order) (prefix_self log),
+          );
+    }

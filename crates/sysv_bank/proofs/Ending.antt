@@ -1,0 +1,121 @@
+-- What is known of a bank that was closed.
+use Rattle.std.proofs.Common.{◌≡◌, ℕ, zero, suc, ◌+◌, ◌*◌, ◌<◌, ◌≤◌, ⊎_elim, Bool, false, set, List, [], ◌∷◌, ◌++◌, length, get_or, refl, sym, ap, ◌∙◌, subst, arith}
+use mathlib.Core.Logic.{dite}
+use native.Mathlib.Decide.{ℕ_discrete}
+use mathlib.Core.Option.{none, some, some-injective, some-ne-none}
+use lib.ListN.{get_elem?}
+use Rattle.atomic_table.specs.Table.{State, Final, Seen}
+use Rattle.atomic_table.proofs.Lists.{at_map}
+use Rattle.sysv_lists.specs.Prefix.{IsPrefixOf}
+use Rattle.sysv_lists.proofs.Places.{at_snoc_place}
+use Rattle.sysv_gate.specs.declared.view.View.{View}
+use Rattle.sysv_gate.specs.declared.view.Turn.{Turn}
+use Rattle.sysv_gate.specs.declared.view.Sight.{Sight}
+use Rattle.sysv_gate.specs.declared.view.Placed.{Placed}
+use Rattle.sysv_gate.specs.declared.closing.Closing.{Closing}
+use Rattle.sysv_gate.specs.Rule.{Spot, GatedBy}
+use Rattle.sysv_gate.specs.Gates.{Holding}
+use Rattle.sysv_gate.specs.Closings.{Closes}
+use Rattle.sysv_gate.specs.Ending.{IsReadAt}
+use Rattle.sysv_gate.specs.Orders.{turns_at, AreBelow}
+use Rattle.sysv_gate.specs.Halls.{block, view_at, state_at, InOrder}
+use Rattle.sysv_gate.proofs.Blocks.{block_read}
+use Rattle.sysv_gate.proofs.Lifting.{read_there}
+use Rattle.sysv_gate.proofs.AtTheEnd.{ended_by, closes_whole, closes_due}
+use Rattle.sysv_bank.specs.declared.seat.BankSeat.TheInside.{Inside}
+use Rattle.sysv_bank.specs.Banks.{Each2}
+use Rattle.sysv_bank.specs.Passes.{holding, holdings}
+use Rattle.sysv_bank.specs.Resting.{pass_of, Rests}
+use Rattle.sysv_bank.specs.Closing.{ClosesInOrder}
+use Rattle.sysv_bank.proofs.Places.{at_below}
+use Rattle.sysv_bank.proofs.Passes.{read_at, opened_at, from_view}
+
+-- as many of both, and the fact at each place
+pub each2_of : {A B : Type 0} (fact : A → B → Type 0) (xs : List A) (ys : List B) → length xs ≡ length ys → ((k : ℕ) (x : A) (y : B) → get_elem? xs k ≡ some x → get_elem? ys k ≡ some y → fact x y) → Each2 fact xs ys
+each2_of fact [] [] same each = tt
+each2_of fact [] (y ∷ ys) same each = absurd (omega arith)
+each2_of fact (x ∷ xs) [] same each = absurd (omega arith)
+each2_of fact (x ∷ xs) (y ∷ ys) same each = (each 0 x y refl refl, each2_of fact xs ys (omega arith) (λ k a b at there. each (suc k) a b at there))
+
+-- a place that was taken is empty, wherever it lies
+pub emptied : (fs : List Bool) (i : ℕ) → get_or (set fs i false) i false ≡ false
+emptied [] i = refl
+emptied (f ∷ fs) zero = refl
+emptied (f ∷ fs) (suc i) = emptied fs i
+
+module _ {O C R : Type 0} (first : ℕ) (words : List ℕ) (slots : List (Spot O C R)) where
+  pub none_read : (closings : List (Closing O)) → closings ≡ [] → (place : ℕ) (c : Closing O) → get_elem? closings place ≡ some c → IsReadAt first words slots place c
+  none_read closings is place c at = absurd (some-ne-none c (sym at ∙ ap (λ (l : List (Closing O)). get_elem? l place) is))
+
+  pub one_read : (closings closings' : List (Closing O)) (d : Closing O) (count : ℕ) → ((place : ℕ) (c : Closing O) → get_elem? closings place ≡ some c → IsReadAt first words slots place c) → length closings ≡ count → closings' ≡ closings ++ d ∷ []
+      → IsReadAt first words slots count d → (place : ℕ) (c : Closing O) → get_elem? closings' place ≡ some c → IsReadAt first words slots place c
+  one_read closings closings' d count read many more new place c at =
+      ⊎_elim (λ t. read place c t)
+      (λ t. subst (λ (k : ℕ). IsReadAt first words slots k c) (sym (t.0 ∙ many)) (subst (IsReadAt first words slots count) t.1 new))
+      (at_snoc_place closings d c place (ap (λ (l : List (Closing O)). get_elem? l place) (sym more) ∙ at))
+
+module _ {O C R : Type 0} (moves : O → C → R → O → Type 0) (counted : O → ℕ × ℕ) (openings : List O) (first : ℕ) (id : ℕ) (v : Sight O C R) (words : List ℕ) (slots : List (Spot O C R)) (final : Final (Seen (InOrder moves counted openings first) id v) words slots) where
+  abbrev St : State (Spot O C R) (Sight O C R)
+  St = final.0
+
+  abbrev Order : List (Placed O C R)
+  Order = final.1.0.0
+
+  pub lengths_end : (length words ≡ 80 * length openings) × (length slots ≡ length openings)
+  lengths_end = (ap length (sym final.2) ∙ final.1.0.1.words, sym final.3 ∙ final.1.0.1.homes)
+
+  gated : (place : ℕ) (o : O) → get_elem? openings place ≡ some o → GatedBy moves counted o first (turns_at place Order) (state_at place St)
+  gated = final.1.0.1.each
+
+  word_there : (place i n : ℕ) → i < 80 → get_elem? words (80 * place + i) ≡ some n → get_or (block place St.words) i 0 ≡ n
+  word_there place i n low at = block_read place i 0 St.words low ∙ ap (λ (l : List ℕ). get_or l (80 * place + i) 0) final.2 ∙ read_at words (80 * place + i) 0 n at
+
+  -- no fewer tickets were served than the first one says
+  pub served_from : (place served : ℕ) → place < length openings → get_elem? words (80 * place + 16) ≡ some served → first ≤ served
+  served_from place served less at =
+      let o = opened_at openings place less in
+      let count = (gated place o.0 o.1).2 in
+      let is = word_there place 16 served (omega arith) at in
+      omega arith
+
+  module _ (u : Inside O C R) (rest : Rests moves u) (same_first : u.key.value.first ≡ first) (same_os : u.key.value.openings.value.items ≡ openings) (is_id : u.token.id ≡ id) (is_view : u.token.me.0 ≡ v) where
+    -- what one place gives back
+    pub closes_at : (place : ℕ) (h : Holding O C R) (c : Closing O) → get_elem? (pass_of u).seats place ≡ some h → IsReadAt first words slots place c → (closes : Closes moves h c) × (closes.log ≡ turns_at place Order)
+    closes_at place h c at read =
+        let from = from_view moves u rest place h at in
+        let o : O = from.0 in
+        let opens : get_elem? openings place ≡ some o = subst (λ (l : List O). get_elem? l place ≡ some o) same_os from.1 in
+        let few = at_below openings place o opens in
+        let many : length St.homes ≡ length openings = final.1.0.1.homes in
+        let log : List (Turn O C R) = turns_at place Order in
+        let hold : Holding O C R = holding u.token.table_id first o (view_at place u.token.me.0) in
+        let same : hold ≡ h = ap (λ (n : ℕ). holding u.token.table_id n o (view_at place u.token.me.0)) (sym same_first) ∙ from.2 in
+        let seen : get_elem? (state_at place St).views id ≡ some (view_at place u.token.me.0) = at_map (view_at place) St.views id v final.1.1 ∙ ap (λ (x : Sight O C R). some (view_at place x)) (sym is_view) in
+        let end = ended_by moves counted hold id (view_at place u.token.me.0) (state_at place St) log read.served read.next read.spot (gated place o opens) seen
+        (record { numbers = refl; seen = refl; own = refl; alone = refl; no_ticket = (rest.each place o from.1).0.no_ticket })
+        (word_there place 16 read.served (omega arith) read.at_served) (word_there place 32 read.next (omega arith) read.at_next)
+        (λ x there. some-injective read.spot x (sym read.at_spot ∙ final.4 place x (read_there St.homes place none (some x) (omega arith) (some-injective _ _ there)))) in
+        subst (λ (k : Holding O C R). (closes : Closes moves k c) × (closes.log ≡ log)) same
+        (dite (ℕ_discrete read.served read.next)
+        (λ all. let w = read.whole all in closes_whole moves counted log hold read.served read.next read.spot c end all w.0 w.1 read.turns)
+        (λ more. closes_due moves counted log hold read.served read.next read.spot c end more (read.due more) read.turns))
+
+    as_many : length (pass_of u).seats ≡ length openings
+    as_many = seats_length u.key.value.openings.value.items u.token.me.0.views rest.many ∙ ap length same_os
+      where
+        seats_length : (os : List O) (vs : List (View O C R)) → length vs ≡ length os → length (holdings u.token.table_id u.key.value.first os vs) ≡ length os
+        seats_length [] vs same = refl
+        seats_length (p ∷ os) [] same = absurd (omega arith)
+        seats_length (p ∷ os) (w ∷ vs) same = ap suc (seats_length os vs (omega arith))
+
+    module _ (closings : List (Closing O)) (read : (place : ℕ) (c : Closing O) → get_elem? closings place ≡ some c → IsReadAt first words slots place c) (count : length closings ≡ length openings) where
+      pub closes_all : Each2 (Closes moves) (pass_of u).seats closings
+      closes_all = each2_of (Closes moves) (pass_of u).seats closings (as_many ∙ sym count) (λ k h c at there. (closes_at k h c at (read k c there)).0)
+
+      pub closes_order : ClosesInOrder moves (pass_of u) closings
+      closes_order = record {
+        order = Order;
+        longer = subst (λ (x : Sight O C R). IsPrefixOf x.seen Order) (sym is_view) (final.1.0.1.seen id v final.1.1).0;
+        below = subst (λ (n : ℕ). AreBelow n Order) (sym as_many) final.1.0.1.below;
+        each = λ k h c at there. closes_at k h c at (read k c there);
+      }

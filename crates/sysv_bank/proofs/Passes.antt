@@ -1,0 +1,228 @@
+-- What a call at one place does to a seat of a bank.
+use Rattle.std.proofs.Common.{◌≡◌, ℕ, zero, suc, ◌<◌, ◌≤◌, List, [], ◌∷◌, ◌++◌, map, length, set, get_or, refl, sym, ap, ◌∙◌, subst, arith, get_or-set_other}
+use Rattle.std.proofs.lemmas.List.{length-map}
+use mathlib.Core.Logic.{dite}
+use native.Mathlib.Decide.{ℕ_discrete}
+use mathlib.Core.Option.{some, some-injective, some-ne-none}
+use lib.ListN.{get_elem?}
+use Rattle.atomic_table.specs.Seated.{TableId}
+use Rattle.atomic_table.specs.declared.shared.Seat.{Seat}
+use Rattle.sysv_lists.specs.Prefix.{IsPrefixOf}
+use Rattle.sysv_lists.proofs.Prefixes.{prefix_trans}
+use Rattle.sysv_gate.specs.declared.view.View.{View}
+use Rattle.sysv_gate.specs.declared.view.Sight.{Sight}
+use Rattle.sysv_gate.specs.Rule.{Spot}
+use Rattle.sysv_gate.specs.Steps.{spent}
+use Rattle.sysv_gate.specs.Gates.{Gateway, Holding, KnowsItsOwn}
+use Rattle.sysv_gate.specs.Orders.{turns_at}
+use Rattle.sysv_gate.specs.Halls.{view_at, me_at}
+use Rattle.sysv_gate.specs.Doors.{Doorway, IsDoorOf, IsAt, IsSame, Idles, EndsOrder}
+use Rattle.sysv_gate.proofs.Ordering.{turns_longer}
+use Rattle.sysv_bank.specs.declared.seat.BankSeat.TheInside.{Inside}
+use Rattle.sysv_bank.specs.declared.bank.Bank.TheInside.{Inside as BankInside}
+use Rattle.sysv_bank.specs.Banks.{ChangesAt, gates_of, EachKnowsItsOwn}
+use Rattle.sysv_bank.specs.Passes.{Pass, holding, holdings, AddsToOrder, SeenInOrder}
+use Rattle.sysv_bank.specs.Resting.{RestsAt, pass_of, Rests, gateways, IsOpen}
+use Rattle.sysv_bank.proofs.Places.{at_below}
+
+pub read_at : {A : Type 0} (xs : List A) (i : ℕ) (d a : A) → get_elem? xs i ≡ some a → get_or xs i d ≡ a
+read_at [] i d a at = absurd (some-ne-none a (sym at))
+read_at (x ∷ xs) zero d a at = some-injective x a at
+read_at (x ∷ xs) (suc i) d a at = read_at xs i d a at
+
+pub opened_at : {A : Type 0} (xs : List A) (i : ℕ) → i < length xs → (a : A) × (get_elem? xs i ≡ some a)
+opened_at [] i less = absurd (omega arith)
+opened_at (x ∷ xs) zero less = (x, refl)
+opened_at (x ∷ xs) (suc i) less = opened_at xs i (omega arith)
+
+module _ {O C R : Type 0} (table : TableId) (first : ℕ) where
+  pub holding_at : (os : List O) (vs : List (View O C R)) (place : ℕ) (o : O) → get_elem? os place ≡ some o → place < length vs → get_elem? (holdings table first os vs) place ≡ some (holding table first o (get_or vs place spent))
+  holding_at [] vs place o at less = absurd (some-ne-none o (sym at))
+  holding_at (p ∷ os) [] place o at less = absurd (omega arith)
+  holding_at (p ∷ os) (v ∷ vs) zero o at less = ap (λ (q : O). some (holding table first q v)) (some-injective p o at)
+  holding_at (p ∷ os) (v ∷ vs) (suc place) o at less = holding_at os vs place o at (omega arith)
+
+  pub holding_set : (os : List O) (vs : List (View O C R)) (place : ℕ) (o : O) (w : View O C R) → get_elem? os place ≡ some o → holdings table first os (set vs place w) ≡ set (holdings table first os vs) place (holding table first o w)
+  holding_set [] vs place o w at = absurd (some-ne-none o (sym at))
+  holding_set (p ∷ os) [] place o w at = refl
+  holding_set (p ∷ os) (v ∷ vs) zero o w at = ap (λ (q : O). holding table first q w ∷ holdings table first os vs) (some-injective p o at)
+  holding_set (p ∷ os) (v ∷ vs) (suc place) o w at = ap (λ l. holding table first p v ∷ l) (holding_set os vs place o w at)
+
+  pub gates_there : (os : List O) (vs : List (View O C R)) → length vs ≡ length os → gates_of (holdings table first os vs) ≡ gateways table first os
+  gates_there [] vs same = refl
+  gates_there (o ∷ os) [] same = absurd (omega arith)
+  gates_there (o ∷ os) (v ∷ vs) same = ap (λ l. record { table = table; opening = o; first = first } ∷ l) (gates_there os vs (omega arith))
+
+-- gates tell the table, the first ticket and the objects
+pub same_gates : {O : Type 0} (t t' : TableId) (f f' : ℕ) (os os' : List O) → 1 ≤ length os' → gateways t f os ≡ gateways t' f' os' → (t ≡ t') × (f ≡ f') × (os ≡ os')
+same_gates t t' f f' [] [] some_place is = absurd (omega arith)
+same_gates t t' f f' (o ∷ os) [] some_place is = absurd (omega arith)
+same_gates t t' f f' [] (o' ∷ os') some_place is = absurd (cc)
+same_gates {O} t t' f f' (o ∷ os) (o' ∷ os') some_place is =
+    let here : record { table = t; opening = o; first = f } ≡ record { table = t'; opening = o'; first = f' } = first_is _ _ _ _ is in
+    (ap (λ (g : Gateway O). g.table) here, ap (λ (g : Gateway O). g.first) here, objects (o ∷ os) (o' ∷ os') is)
+  where
+    first_is : (g g' : Gateway O) (gs gs' : List (Gateway O)) → g ∷ gs ≡ g' ∷ gs' → g ≡ g'
+    first_is g g' gs gs' is = cc
+
+    back : (u : TableId) (k : ℕ) (ps : List O) → map (λ (g : Gateway O). g.opening) (gateways u k ps) ≡ ps
+    back u k [] = refl
+    back u k (p ∷ ps) = ap (λ l. p ∷ l) (back u k ps)
+
+    objects : (ps qs : List O) → gateways t f ps ≡ gateways t' f' qs → ps ≡ qs
+    objects ps qs is = sym (back t f ps) ∙ ap (map (λ (g : Gateway O). g.opening)) is ∙ back t' f' qs
+
+-- each place has a door
+pub door_there : {O C R : Type 0} (counted : O → ℕ × ℕ) (b : BankInside O C R) (gates : List (Gateway O)) (place : ℕ) → IsOpen counted b → gateways b.hall.shared.table_id b.key.first b.key.openings.value.items ≡ gates → place < length gates → place < length b.doors.items
+door_there {O} counted b gates place opened viewed inside =
+    let same : length gates ≡ length b.key.openings.value.items = ap length (sym viewed) ∙ length-map b.key.openings.value.items _ in
+    let many = opened.doors.0 in
+    omega arith
+
+module _ {O C R : Type 0} (moves : O → C → R → O → Type 0) (counted : O → ℕ × ℕ) (b : BankInside O C R) (s : Inside O C R) (gates : List (Gateway O)) (pass : Pass O C R) (opened : IsOpen counted b) (rest : Rests moves s)
+    (viewed : gateways b.hall.shared.table_id b.key.first b.key.openings.value.items ≡ gates) (shown : pass_of s ≡ pass) (fit : gates_of pass.seats ≡ gates) where
+  abbrev Openings : List O
+  Openings = b.key.openings.value.items
+
+  pub same_table : (s.token.table_id ≡ b.hall.shared.table_id) × (s.key.value.first ≡ b.key.first) × (s.key.value.openings.value.items ≡ Openings)
+  same_table = same_gates _ _ _ _ _ _ opened.some_place (sym (gates_there s.token.table_id s.key.value.first s.key.value.openings.value.items s.token.me.0.views rest.many) ∙ ap (λ (p : Pass O C R). gates_of p.seats) shown ∙ fit ∙ sym viewed)
+
+  pub many_gates : length gates ≡ length Openings
+  many_gates = ap length (sym viewed) ∙ length-map Openings _
+
+  module _ (place : ℕ) (door : Doorway O) (inside : place < length gates) (at : door ≡ get_or b.doors.items place door) where
+    opens_at : (o : O) × (get_elem? Openings place ≡ some o)
+    opens_at = opened_at Openings place (let same = many_gates in omega arith)
+
+    is_door : door ≡ record { place = place; opening = opens_at.0 }
+    is_door = at ∙ read_at b.doors.items place door (record { place = place; opening = opens_at.0 }) (opened.doors.1 place opens_at.0 (let same = many_gates in omega arith) opens_at.1)
+
+    pub place_is : door.place ≡ place
+    place_is = ap (λ (d : Doorway O). d.place) is_door
+
+    pub opens : get_elem? Openings door.place ≡ some door.opening
+    opens = subst (λ (d : Doorway O). get_elem? Openings d.place ≡ some d.opening) (sym is_door) opens_at.1
+
+    pub door_of : IsDoorOf b.hall.shared.table_id b.hall.shared.key.openings.value.items door
+    door_of = (
+      subst (λ (os : List O). get_elem? os door.place ≡ some door.opening) (ap (λ k. k.openings.value.items) (sym opened.key)) opens,
+      let words = opened.words in let same = many_gates in let is = place_is in omega arith,
+    )
+
+    opens_mine : get_elem? s.key.value.openings.value.items door.place ≡ some door.opening
+    opens_mine = subst (λ (os : List O). get_elem? os door.place ≡ some door.opening) (sym same_table.2) opens
+
+    pub rests_there : RestsAt moves door.opening s.key.value.first (view_at door.place s.token.me.0)
+    rests_there = (rest.each door.place door.opening opens_mine).0
+
+    known : door.place < length s.token.me.0.views
+    known = let few = at_below s.key.value.openings.value.items door.place door.opening opens_mine in let many = rest.many in omega arith
+
+    pub is_at : IsAt b.hall.shared.table_id door s.token
+    is_at = (
+      same_table.0,
+      known,
+      rests_there.opening,
+      rest.no_slot ∙ sym (ap (map (λ (x : ℕ × Spot O C R). (door.place, x.1))) rest.no_slot),
+      (rest.each door.place door.opening opens_mine).1,
+    )
+
+    pub idles : Idles (me_at door.place s.token.me)
+    idles = record { no_slot = ap (map (λ (x : ℕ × Spot O C R). (0, x.1))) rest.no_slot; no_ticket = rests_there.no_ticket; no_turn = rests_there.no_turn; named = rests_there.named }
+
+    -- after steps at the place
+    module _ (token : Seat (Spot O C R) (Sight O C R)) (went : IsSame door.place s.token token) where
+      abbrev Now : Inside O C R
+      Now = record { token = token; key = s.key }
+
+      abbrev Was : Holding O C R
+      Was = holding s.token.table_id s.key.value.first door.opening (view_at door.place s.token.me.0)
+
+      abbrev Is : Holding O C R
+      Is = holding token.table_id s.key.value.first door.opening (view_at door.place token.me.0)
+
+      pub gates_after : gates_of (pass_of Now).seats ≡ gates
+      gates_after =
+          gates_there token.table_id s.key.value.first s.key.value.openings.value.items token.me.0.views (went.2.many ∙ rest.many)
+          ∙ ap (λ (t : TableId). gateways t s.key.value.first s.key.value.openings.value.items) went.0
+          ∙ sym (gates_there s.token.table_id s.key.value.first s.key.value.openings.value.items s.token.me.0.views rest.many)
+          ∙ ap (λ (p : Pass O C R). gates_of p.seats) shown
+          ∙ fit
+
+      pub changes : (how : Holding O C R → Holding O C R → Type 0) → how Was Is → ChangesAt place pass.seats (pass_of Now).seats how
+      changes how is = record {
+        was = Was;
+        is = Is;
+        at = ap (λ (p : Pass O C R). get_elem? p.seats place) (sym shown) ∙ ap (λ (k : ℕ). get_elem? (pass_of s).seats k) (sym place_is) ∙ holding_at s.token.table_id s.key.value.first s.key.value.openings.value.items s.token.me.0.views door.place door.opening opens_mine known;
+        others = ap (holdings token.table_id s.key.value.first s.key.value.openings.value.items) went.2.others
+            ∙ holding_set token.table_id s.key.value.first s.key.value.openings.value.items s.token.me.0.views door.place door.opening (view_at door.place token.me.0) opens_mine
+            ∙ ap (λ (t : TableId). set (holdings t s.key.value.first s.key.value.openings.value.items s.token.me.0.views) door.place Is) went.0
+            ∙ ap (λ (k : ℕ). set (pass_of s).seats k Is) place_is
+            ∙ ap (λ (p : Pass O C R). set p.seats place Is) shown;
+        change = is;
+      }
+
+      pub longer_order : IsPrefixOf pass.order token.me.0.seen
+      longer_order = subst (λ (p : Pass O C R). IsPrefixOf p.order token.me.0.seen) shown went.2.order
+
+      pub rests_after : token.me.1 ≡ [] → RestsAt moves door.opening s.key.value.first (view_at door.place token.me.0) → Rests moves Now
+      rests_after none there = record {
+        no_slot = none;
+        nothing_else = went.2.also ∙ rest.nothing_else;
+        many = went.2.many ∙ rest.many;
+        each = λ other o opens'.
+            dite (ℕ_discrete other door.place)
+            (λ e.
+            let same : door.opening ≡ o = some-injective door.opening o (sym opens_mine ∙ subst (λ (k : ℕ). get_elem? s.key.value.openings.value.items k ≡ some o) e opens') in
+            subst (λ (k : ℕ). RestsAt moves o s.key.value.first (view_at k token.me.0) × IsPrefixOf (view_at k token.me.0).seen (turns_at k token.me.0.seen)) (sym e)
+            (subst (λ (q : O). RestsAt moves q s.key.value.first (view_at door.place token.me.0)) same there, went.2.within))
+            (λ ne.
+            let old = rest.each other o opens' in
+            let view : view_at other token.me.0 ≡ view_at other s.token.me.0 =
+            ap (λ (vs : List (View O C R)). get_or vs other spent) went.2.others ∙ get_or-set_other s.token.me.0.views door.place other (view_at door.place token.me.0) spent ne in
+            subst (λ (v : View O C R). RestsAt moves o s.key.value.first v × IsPrefixOf v.seen (turns_at other token.me.0.seen)) (sym view)
+            (old.0, prefix_trans (view_at other s.token.me.0).seen (turns_at other s.token.me.0.seen) (turns_at other token.me.0.seen) old.1 (turns_longer other s.token.me.0.seen token.me.0.seen went.2.order)));
+      }
+
+      pub adds_to_order : EndsOrder door.place s.token.me token.me → AddsToOrder place pass (pass_of Now)
+      adds_to_order ends =
+          let longer : IsPrefixOf pass.order ends.front = subst (λ (p : Pass O C R). IsPrefixOf p.order ends.front) shown ends.longer in
+          record {
+            others = longer.0;
+            turn = ends.turn;
+            order = ends.order ∙ (λ i. longer.1 i ++ record { place = place_is i; turn = ends.turn } ∷ []);
+            seen = λ h there.
+                let is : Is ≡ h = some-injective Is h (sym (holding_at token.table_id s.key.value.first s.key.value.openings.value.items token.me.0.views door.place door.opening opens_mine (let many = went.2.many in let less = known in omega arith)) ∙ subst (λ (k : ℕ). get_elem? (pass_of Now).seats k ≡ some h) (sym place_is) there) in
+                ap (λ (x : Holding O C R). x.seen) (sym is) ∙ ends.seen ∙ ap (λ (k : ℕ). turns_at k token.me.0.seen) place_is;
+          }
+
+module _ {O C R : Type 0} (moves : O → C → R → O → Type 0) (s : Inside O C R) (rest : Rests moves s) where
+  -- what is seen of a place comes from the view there
+  pub from_view : (place : ℕ) (h : Holding O C R) → get_elem? (pass_of s).seats place ≡ some h
+      → (o : O) × (get_elem? s.key.value.openings.value.items place ≡ some o) × (holding s.token.table_id s.key.value.first o (view_at place s.token.me.0) ≡ h)
+  from_view place h at =
+      let gates = gates_there s.token.table_id s.key.value.first s.key.value.openings.value.items s.token.me.0.views rest.many in
+      let long : length (pass_of s).seats ≡ length s.key.value.openings.value.items = sym (length-map (pass_of s).seats _) ∙ ap length gates ∙ length-map s.key.value.openings.value.items _ in
+      let less = at_below (pass_of s).seats place h at in
+      let many = rest.many in
+      let o = opened_at s.key.value.openings.value.items place (omega arith) in
+      (o.0, o.1, some-injective _ h (sym (holding_at s.token.table_id s.key.value.first s.key.value.openings.value.items s.token.me.0.views place o.0 o.1 (omega arith)) ∙ at))
+
+  pub each_known : EachKnowsItsOwn moves (pass_of s).seats
+  each_known place h at =
+      let from = from_view place h at in
+      let r = (rest.each place from.0 from.1).0 in
+      subst (KnowsItsOwn moves) from.2 (record { legal = r.legal; own = r.own })
+
+  pub seen_in_order : SeenInOrder (pass_of s)
+  seen_in_order place h at =
+      let from = from_view place h at in
+      subst (λ (x : Holding O C R). IsPrefixOf x.seen (turns_at place s.token.me.0.seen)) from.2 (rest.each place from.0 from.1).1
+
+-- two states of one seat are of the same gates
+pub gates_same : {O C R : Type 0} (moves : O → C → R → O → Type 0) (s : Inside O C R) (token : Seat (Spot O C R) (Sight O C R)) → Rests moves s → Rests moves record { token = token; key = s.key } → token.table_id ≡ s.token.table_id
+    → gates_of (pass_of (record { token = token; key = s.key })).seats ≡ gates_of (pass_of s).seats
+gates_same moves s token rest rest' same =
+    gates_there token.table_id s.key.value.first s.key.value.openings.value.items token.me.0.views rest'.many
+    ∙ ap (λ (t : TableId). gateways t s.key.value.first s.key.value.openings.value.items) same
+    ∙ sym (gates_there s.token.table_id s.key.value.first s.key.value.openings.value.items s.token.me.0.views rest.many)

@@ -1,0 +1,19 @@
+-- What a bank gives back when it is closed.
+use Rattle.std.specs.Prelude.{◌≡◌, ℕ, List, length}
+use mathlib.Core.Option.{some}
+use lib.ListN.{get_elem?}
+use Rattle.sysv_lists.specs.Prefix.{IsPrefixOf}
+use Rattle.sysv_gate.specs.declared.closing.Closing.{Closing}
+use Rattle.sysv_gate.specs.declared.view.Placed.{Placed}
+use Rattle.sysv_gate.specs.Gates.{Holding}
+use Rattle.sysv_gate.specs.Closings.{Closes}
+use Rattle.sysv_gate.specs.Orders.{turns_at, AreBelow}
+use Rattle.sysv_bank.specs.Passes.{Pass}
+
+-- There is one order of all turns at the places. It begins with all that the pass had seen of it, and its part at each place
+-- is the history that `Closes` speaks of there
+pub record ClosesInOrder {O C R : Type 0} (moves : O → C → R → O → Type 0) (pass : Pass O C R) (closings : List (Closing O)) : Type 0 where
+  pub order : List (Placed O C R)
+  pub longer : IsPrefixOf pass.order order
+  pub below : AreBelow (length pass.seats) order
+  pub each : (place : ℕ) (h : Holding O C R) (c : Closing O) → get_elem? pass.seats place ≡ some h → get_elem? closings place ≡ some c → (closes : Closes moves h c) × (closes.log ≡ turns_at place order)

@@ -1,0 +1,61 @@
+-- How a bank and its seats are kept between two calls.
+use Rattle.std.specs.Prelude.{◌≡◌, ℕ, ◌*◌, ◌^◌, ◌≤◌, false, List, [], length, map, vec_capacity, Some}
+use mathlib.Core.Option.{some}
+use lib.ListN.{get_elem?}
+use Rattle.atomic_table.specs.Seated.{TableId}
+use Rattle.sysv_lists.specs.Numbers.{times}
+use Rattle.sysv_lists.specs.Prefix.{IsPrefixOf}
+use Rattle.atomic_table.specs.declared.shared.Seat.{Seat}
+use Rattle.sysv_gate.specs.declared.view.View.{View}
+use Rattle.sysv_gate.specs.declared.view.Sight.{Sight}
+use Rattle.sysv_gate.specs.Rule.{Spot}
+use Rattle.sysv_gate.specs.History.{IsLegal, HasItsOwn}
+use Rattle.sysv_gate.specs.Gates.{Gateway}
+use Rattle.sysv_gate.specs.Orders.{turns_at}
+use Rattle.sysv_gate.specs.Halls.{view_at}
+use Rattle.sysv_gate.specs.Laying.{AreDoorsUpTo}
+use Rattle.sysv_bank.specs.declared.seat.BankSeat.TheInside.{Inside}
+use Rattle.sysv_bank.specs.declared.bank.Bank.TheInside.{Inside as BankInside}
+use Rattle.sysv_bank.specs.Passes.{Pass, holdings}
+
+module _ {O C R : Type 0} where
+  -- A view at rest: it has no ticket and no turn, its number is one of its numbers, it knows the object that was at the place,
+  -- and has seen a legal history, in which its own turns are those under its numbers
+  pub record RestsAt (moves : O → C → R → O → Type 0) (o : O) (start : ℕ) (v : View O C R) : Type 0 where
+    pub no_ticket : v.tickets ≡ []
+    pub no_turn : v.in_turn ≡ false
+    pub nothing_else : v.also ≡ []
+    pub opening : v.opening ≡ Some o
+    pub first : v.first ≡ start
+    pub named : 1 ≤ times v.number v.numbers
+    pub legal : IsLegal moves o v.seen
+    pub own : HasItsOwn v.numbers v.own v.seen
+
+  abbrev pub pass_of : Inside O C R → Pass O C R
+  pass_of s = record { seats = holdings s.token.table_id s.key.value.first s.key.value.openings.value.items s.token.me.0.views; order = s.token.me.0.seen }
+
+  -- no slot is out, each view rests, and what was seen at each place is in the order that was seen
+  pub record Rests (moves : O → C → R → O → Type 0) (s : Inside O C R) : Type 0 where
+    pub no_slot : s.token.me.1 ≡ []
+    pub nothing_else : s.token.me.0.also ≡ []
+    pub many : length s.token.me.0.views ≡ length s.key.value.openings.value.items
+    pub each : (place : ℕ) (o : O) → get_elem? s.key.value.openings.value.items place ≡ some o
+        → RestsAt moves o s.key.value.first (view_at place s.token.me.0) × IsPrefixOf (view_at place s.token.me.0).seen (turns_at place s.token.me.0.seen)
+
+  -- the token is that of a seat of which this is seen
+  abbrev pub IsTokenOf : (O → C → R → O → Type 0) → Pass O C R → Seat (Spot O C R) (Sight O C R) → Type 0
+  IsTokenOf moves pass token = (s : Inside O C R) × (pass_of s ≡ pass) × Rests moves s × (s.token ≡ token)
+
+abbrev pub gateways : {O : Type 0} → TableId → ℕ → List O → List (Gateway O)
+gateways table first openings = map (λ o. record { table = table; opening = o; first = first }) openings
+
+-- The table has a place for each object, and each place has its door. There is room for what `close` answers
+pub record IsOpen {O C R : Type 0} (counted : O → ℕ × ℕ) (b : BankInside O C R) : Type 0 where
+  pub key : b.hall.shared.key ≡ b.key
+  pub words : b.hall.shared.table_id.words ≡ 80 * length b.key.openings.value.items
+  pub slots : b.hall.shared.table_id.slots ≡ length b.key.openings.value.items
+  pub some_place : 1 ≤ length b.key.openings.value.items
+  pub few : 80 * length b.key.openings.value.items ≤ 2 ^ 60
+  pub doors : AreDoorsUpTo b.key.openings.value.items (length b.key.openings.value.items) b.doors.items
+  pub none_yet : b.closings.items ≡ []
+  pub room : length b.key.openings.value.items ≤ vec_capacity b.closings

@@ -1,0 +1,107 @@
+-- A place of a table with several, and what the parts of a call there ask of a pass and leave of it.
+use Rattle.std.specs.Prelude.{◌≡◌, ℕ, ◌+◌, ◌*◌, ◌<◌, ◌≤◌, List, [], ◌∷◌, ◌++◌, false, length, slice_set, Some}
+use mathlib.Core.Option.{some}
+use lib.ListN.{get_elem?}
+use Rattle.atomic_table.specs.Seated.{TableId}
+use Rattle.atomic_table.specs.declared.shared.Seat.{Seat}
+use Rattle.sysv_gate.specs.declared.view.Turn.{Turn}
+use Rattle.sysv_gate.specs.declared.view.Placed.{Placed}
+use Rattle.sysv_gate.specs.declared.view.Sight.{Sight}
+use Rattle.sysv_lists.specs.Prefix.{IsPrefixOf}
+use Rattle.sysv_lists.specs.Numbers.{times}
+use Rattle.sysv_gate.specs.declared.count.Count.{Count}
+use Rattle.sysv_gate.specs.declared.refusals.TryRefused.{TryRefused}
+use Rattle.sysv_gate.specs.declared.refusals.TryRefused.TheVariants.{Busy, Worn}
+use Rattle.sysv_gate.specs.History.{IsLegal, after_all, HasItsOwn, made_at}
+use Rattle.sysv_gate.specs.Counts.{of_count}
+use Rattle.sysv_gate.specs.Steps.{Mine, turn_of, named}
+use Rattle.sysv_gate.specs.Plays.{at_each, newcomer}
+use Rattle.sysv_gate.specs.declared.view.View.{View}
+use Rattle.sysv_gate.specs.Turns.{SawMore, HasWorn}
+use Rattle.sysv_gate.specs.Orders.{turns_at}
+use Rattle.sysv_gate.specs.Rule.{Spot}
+use Rattle.sysv_gate.specs.Halls.{view_at, Passing, me_at, Carries}
+
+-- which place it is, and the object that was there when the table was laid
+pub record Doorway (O : Type 0) : Type 0 where
+  pub place : ℕ
+  pub opening : O
+
+-- it is a place of the table
+abbrev pub IsDoorOf : {O : Type 0} → TableId → List O → Doorway O → Type 0
+IsDoorOf table openings door = (get_elem? openings door.place ≡ some door.opening) × (80 * door.place + 80 ≤ table.words)
+
+module _ {O C R : Type 0} where
+  -- The pass is one of the table, and knows the object that was at the place. It has taken no slot but that of the place, and
+  -- the order that it has seen has all that it has seen of the place
+  abbrev pub IsAt : TableId → Doorway O → Seat (Spot O C R) (Sight O C R) → Type 0
+  IsAt table door token =
+      (token.table_id ≡ table) × (door.place < length token.me.0.views) × ((me_at door.place token.me).0.opening ≡ Some door.opening)
+      × Carries door.place token.me × IsPrefixOf (view_at door.place token.me.0).seen (turns_at door.place token.me.0.seen)
+
+  -- nothing has changed but what the pass has at the place, and it has seen no less of the order
+  pub record Only (place : ℕ) (m m' : Passing O C R) : Type 0 where
+    pub many : length m'.0.views ≡ length m.0.views
+    pub order : IsPrefixOf m.0.seen m'.0.seen
+    pub also : m'.0.also ≡ m.0.also
+    pub others : m'.0.views ≡ slice_set m.0.views place (view_at place m'.0)
+    pub carries : Carries place m'
+    pub within : IsPrefixOf (view_at place m'.0).seen (turns_at place m'.0.seen)
+
+  -- it is the same pass after steps at the place
+  abbrev pub IsSame : ℕ → Seat (Spot O C R) (Sight O C R) → Seat (Spot O C R) (Sight O C R) → Type 0
+  IsSame place before after = (after.table_id ≡ before.table_id) × (after.id ≡ before.id) × Only place before.me after.me
+
+  -- The order that the pass has seen goes on, and ends with a turn at the place. All turns there that are in it are those
+  -- that the pass has seen there
+  pub record EndsOrder (place : ℕ) (m m' : Passing O C R) : Type 0 where
+    pub front : List (Placed O C R)
+    pub turn : Turn O C R
+    pub longer : IsPrefixOf m.0.seen front
+    pub order : m'.0.seen ≡ front ++ record { place = place; turn = turn } ∷ []
+    pub seen : (view_at place m'.0).seen ≡ turns_at place m'.0.seen
+
+  -- a view holds no ticket and has no turn, and its number is one of its numbers
+  abbrev pub Idling : View O C R → Type 0
+  Idling v = (v.tickets ≡ []) × (v.in_turn ≡ false) × (1 ≤ times v.number v.numbers)
+
+  -- What the pass has at the place is at rest: no slot is out with it, it has no ticket and no turn, and its number is one
+  -- of its numbers
+  pub record Idles (m : Mine O C R) : Type 0 where
+    pub no_slot : m.1 ≡ []
+    pub no_ticket : m.0.tickets ≡ []
+    pub no_turn : m.0.in_turn ≡ false
+    pub named : 1 ≤ times m.0.number m.0.numbers
+
+  -- A call was answered in a turn of the pass's own: it has seen turns of others, and then this one
+  pub record HasCalled (moves : O → C → R → O → Type 0) (counted : O → ℕ × ℕ) (opening : O) (m : Mine O C R) (call : C) (reply : R) (m' : Mine O C R) : Type 0 where
+    pub others : List (Turn O C R)
+    pub object : O
+    pub is : m' ≡ (
+      record m.0 {
+        seen = (m.0.seen ++ others) ++ turn_of m.0 call reply object ∷ [];
+        own = m.0.own ++ length (m.0.seen ++ others) ∷ [];
+        tickets = [];
+        in_turn = false;
+        announced = (0, 0);
+      },
+      [],
+    )
+    pub legal : IsLegal moves opening m'.0.seen
+    pub own : HasItsOwn m'.0.numbers m'.0.own m'.0.seen
+    pub counts : (count : Count) → of_count count m.0.read ≤ of_count count (counted (after_all opening (m.0.seen ++ others)))
+    pub fresh : m.0.worn ≡ false
+
+  -- A try was refused, and the call comes back. The pass has seen more, or has found the tickets worn out
+  abbrev pub HasTried : (O → C → R → O → Type 0) → O → Mine O C R → C → TryRefused C → Mine O C R → Type 0
+  HasTried moves opening m call (Busy c) m' = (c ≡ call) × SawMore m.0 m' × IsLegal moves opening m'.0.seen × HasItsOwn m'.0.numbers m'.0.own m'.0.seen
+  HasTried moves opening m call (Worn c) m' = (c ≡ call) × HasWorn m m'
+
+  -- What a pass has that was split off: what its origin has seen, a number of its own, and no turn
+  abbrev pub IsNewcomer : Sight O C R → Passing O C R → Type 0
+  IsNewcomer sight m =
+      (number : ℕ) × (m ≡ (at_each (named number) (newcomer sight), [])) × ((place k : ℕ) → place < length sight.views → made_at (number ∷ []) (view_at place sight).seen k ≡ 0)
+
+  -- at each place the pass knows the object that was there
+  abbrev pub KnowsAll : List O → Sight O C R → Type 0
+  KnowsAll openings sight = (length sight.views ≡ length openings) × ((place : ℕ) (o : O) → get_elem? openings place ≡ some o → ((view_at place sight).opening ≡ Some o) × Idling (view_at place sight))

@@ -1,0 +1,57 @@
+-- The rule of a table with several places. Place p has the words from 80 p on, as the one place of a gate has them from 0
+-- on, and slot p. A pass has a view of each place, and has seen a beginning of the one order of all turns. At each place
+-- the rule of a gate holds, of the turns of the order that were made there.
+use Rattle.std.specs.Prelude.{◌≡◌, ℕ, ◌*◌, List, [], ◌∷◌, map, take, drop, length, slice_index_or}
+use mathlib.Core.Option.{none, some}
+use lib.ListN.{get_elem?}
+use Rattle.atomic_table.specs.Table.{State, Me}
+use Rattle.sysv_gate.specs.declared.view.View.{View}
+use Rattle.sysv_gate.specs.declared.view.Placed.{Placed}
+use Rattle.sysv_gate.specs.declared.view.Sight.{Sight}
+use Rattle.sysv_lists.specs.Prefix.{IsPrefixOf}
+use Rattle.sysv_gate.specs.Orders.{turns_at, AreBelow}
+use Rattle.sysv_gate.specs.Rule.{Spot, GatedBy, start}
+use Rattle.sysv_gate.specs.Steps.{Mine, spent}
+
+-- the words of a place
+abbrev pub block : ℕ → List ℕ → List ℕ
+block place words = take 80 (drop (80 * place) words)
+
+module _ {O C R : Type 0} where
+  -- the view of the place
+  abbrev pub view_at : ℕ → Sight O C R → View O C R
+  view_at place sight = slice_index_or sight.views place spent
+
+  -- what a gate with only this place would have
+  abbrev pub state_at : ℕ → State (Spot O C R) (Sight O C R) → State (Spot O C R) (View O C R)
+  state_at place s = record { words = block place s.words; homes = slice_index_or s.homes place none ∷ []; views = map (view_at place) s.views }
+
+  -- There is one order of all turns. Each pass has seen a beginning of it, and at each place the rule of a gate holds of
+  -- the turns that were made there
+  pub record Kept (moves : O → C → R → O → Type 0) (counted : O → ℕ × ℕ) (openings : List O) (first : ℕ) (order : List (Placed O C R)) (s : State (Spot O C R) (Sight O C R)) : Type 0 where
+    pub words : length s.words ≡ 80 * length openings
+    pub homes : length s.homes ≡ length openings
+    pub below : AreBelow (length openings) order
+    pub each : (place : ℕ) (o : O) → get_elem? openings place ≡ some o → GatedBy moves counted o first (turns_at place order) (state_at place s)
+    pub seen : (id : ℕ) (v : Sight O C R) → get_elem? s.views id ≡ some v → IsPrefixOf v.seen order × IsPrefixOf v.also order
+
+  abbrev pub InOrder : (O → C → R → O → Type 0) → (O → ℕ × ℕ) → List O → ℕ → State (Spot O C R) (Sight O C R) → Type 0
+  InOrder moves counted openings first s = (order : List (Placed O C R)) × Kept moves counted openings first order s
+
+  -- the sight of the first pass
+  abbrev pub outset : List O → ℕ → Sight O C R
+  outset openings first = record { views = map (λ o. start o first) openings; seen = []; also = [] }
+
+module _ (O C R : Type 0) where
+  -- a pass's sight, and the slots that it has taken
+  abbrev pub Passing : Type 0
+  Passing = Me (Spot O C R) (Sight O C R)
+
+module _ {O C R : Type 0} where
+  -- what the pass has at the place, as if it were the only one
+  abbrev pub me_at : ℕ → Passing O C R → Mine O C R
+  me_at place m = (view_at place m.0, map (λ (x : ℕ × Spot O C R). (0, x.1)) m.1)
+
+  -- the pass has taken no slot but that of the place
+  abbrev pub Carries : ℕ → Passing O C R → Type 0
+  Carries place m = m.1 ≡ map (λ (x : ℕ × Spot O C R). (place, x.1)) m.1

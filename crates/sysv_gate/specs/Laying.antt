@@ -1,0 +1,39 @@
+-- How a table with several places is laid.
+use Rattle.std.specs.Prelude.{◌≡◌, ℕ, ◌*◌, ◌<◌, List, [], length, map, slice_index, None}
+use mathlib.Core.Option.{some}
+use lib.ListN.{get_elem?}
+use Rattle.sysv_gate.specs.Rule.{Spot, put}
+use Rattle.atomic_table.specs.Seated.{TableId}
+use Rattle.atomic_table.specs.declared.shared.Seat.{Seat}
+use Rattle.sysv_gate.specs.declared.hall.HallKey.{HallKey}
+use Rattle.sysv_gate.specs.declared.view.Sight.{Sight}
+use Rattle.sysv_gate.specs.Halls.{block, outset}
+use Rattle.sysv_gate.specs.Doors.{Doorway}
+
+-- the words of a place: its tickets begin at the first one, and the counts are the object's
+abbrev pub IsLaid : {O : Type 0} → (O → ℕ × ℕ) → ℕ → O → List ℕ → Type 0
+IsLaid counted first o words =
+    (slice_index words 16 ≡ first) × (slice_index words 32 ≡ first) × (slice_index words 48 ≡ (counted o).0) × (slice_index words 64 ≡ (counted o).1)
+
+-- the words of the first places, so many
+abbrev pub AreLaidUpTo : {O : Type 0} → (O → ℕ × ℕ) → ℕ → List O → ℕ → List ℕ → Type 0
+AreLaidUpTo {O} counted first objects count words =
+    (length words ≡ 80 * count) × ((place : ℕ) (o : O) → place < count → get_elem? objects place ≡ some o → IsLaid counted first o (block place words))
+
+-- the doors of the first places, so many, each with its object
+abbrev pub AreDoorsUpTo : {O : Type 0} → List O → ℕ → List (Doorway O) → Type 0
+AreDoorsUpTo {O} objects count doors =
+    (length doors ≡ count) × ((place : ℕ) (o : O) → place < count → get_elem? objects place ≡ some o → get_elem? doors place ≡ some (record { place = place; opening = o }))
+
+-- each object is in its slot
+abbrev pub all_put : {O C R : Type 0} → List O → List (Spot O C R)
+all_put objects = map (λ o. put o None) objects
+
+module _ {O C R : Type 0} where
+  -- The table is new, as its first pass is
+  pub record IsNew (id : TableId) (known about : HallKey O) (token : Seat (Spot O C R) (Sight O C R)) : Type 0 where
+    pub key : known ≡ about
+    pub words : id.words ≡ 80 * length about.openings.value.items
+    pub slots : id.slots ≡ length about.openings.value.items
+    pub table : token.table_id ≡ id
+    pub me : token.me ≡ (outset about.openings.value.items about.first, [])

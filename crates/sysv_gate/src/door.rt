@@ -1,0 +1,156 @@
+//! One place of a table with several, and the steps on its words.
+ghost use Rattle.std.specs.Prelude.{◌≡◌, ◌+◌, ◌*◌, ◌^◌, ◌<◌, ◌≤◌, cond, true, [], length};
+ghost use mathlib.Core.Option.{none};
+ghost use Rattle.atomic_table.specs.Table.{step};
+ghost use Rattle.sysv_gate.specs.History.{Moves, AreUpTo, after_all};
+ghost use Rattle.sysv_gate.specs.Counts.{of_count};
+ghost use Rattle.sysv_gate.specs.Steps.{Weighs, Draws, Enters, announced_by};
+ghost use Rattle.sysv_gate.specs.Turns.{Waits, Looked, HasRead};
+ghost use Rattle.sysv_gate.specs.Halls.{me_at};
+ghost use Rattle.sysv_gate.specs.Doors.{IsDoorOf, IsAt, IsSame};
+
+use crate::bell::{Bell, TurnBells};
+use crate::board::{SERVING, TICKET};
+use crate::count::Count;
+use crate::hall::{Hall, HallToken};
+use crate::object::Object;
+use crate::rule::{Announcing, Drawing, Entering, Looking, Reading, Weighing};
+use std::marker::Model;
+use std::snapshot::Snapshot;
+
+/// One of several places that share a table, with the bells of those who wait there.
+#[derive(Drop)]
+pub struct Door<O: Object> {
+    pub(crate) place: usize,
+    /// The first of its words.
+    base: usize,
+    /// The object that was there when the table was laid.
+    opening: Snapshot<O>,
+    pub(crate) turns: TurnBells,
+    /// The bell of those who wait for the first count, however long it takes.
+    pub(crate) arrived: Bell,
+    /// The bell of those whose waits for the first count are bounded. A rise wakes one of them.
+    pub(crate) next_arrived: Bell,
+    pub(crate) freed: Bell,
+}
+
+impl<O: Object> Model for Door<O> {
+    ghost use Rattle.std.specs.Prelude.{◌≡◌, ◌*◌, ◌^◌, ◌≤◌};
+    ghost use Rattle.sysv_gate.specs.History.{AreUpTo};
+    ghost use Rattle.sysv_gate.specs.Doors.{Doorway};
+
+    ghost Value = { Doorway O };
+
+    ghost view = { λ d. record { place = d.place; opening = d.opening.value } };
+
+    ghost invariant = { λ d. (d.base ≡ 80 * d.place) × (d.base ≤ 2 ^ 60) × AreUpTo (2 ^ 61) (O.counted d.opening.value) };
+}
+
+impl<O: Object> Door<O> {
+    /// The door of the place, where this object is.
+    pub fn new(place: usize, object: &O) -> Door<O>
+        requires place { 80 * place ≤ 2 ^ 60 }
+        requires counts { AreUpTo (2 ^ 61) (O.counted object.now) }
+        ensures { (result.place ≡ place) × (result.opening ≡ object.now) }
+    {
+        Door {
+            place,
+            base: 80 * place,
+            opening: Snapshot::of(object),
+            turns: TurnBells::new(),
+            arrived: Bell::new(),
+            next_arrived: Bell::new(),
+            freed: Bell::new(),
+        }
+    }
+
+    // The number of the word of this place among those of the table.
+    pub(crate) fn word(&self, word: usize) -> usize
+        requires { word < 80 }
+        ensures { result ≡ 80 * self.now.place + word }
+    {
+        self.base + word
+    }
+
+    // Looks which ticket is drawn next.
+    pub(crate) fn weigh(&self, hall: &Hall<O>, token: &mut HallToken<O>) -> u64
+        requires door { IsDoorOf hall.now.shared.table_id hall.now.shared.key.openings.value.items self.now }
+        requires at { IsAt hall.now.shared.table_id self.now token.old }
+        ensures same { IsSame self.now.place token.old token.new }
+        ensures weighed { Weighs (step 1 32 0 0 none) (me_at self.now.place token.old.me) result (me_at self.now.place token.new.me) }
+    {
+        hall.shared.load::<Weighing>(token, self.word(TICKET))
+    }
+
+    // Draws the ticket, where it is the next one, and answers which was.
+    pub(crate) fn draw_next(&self, hall: &Hall<O>, token: &mut HallToken<O>, ticket: u64) -> u64
+        requires door { IsDoorOf hall.now.shared.table_id hall.now.shared.key.openings.value.items self.now }
+        requires at { IsAt hall.now.shared.table_id self.now token.old }
+        requires idle { Waits [] (me_at self.now.place token.old.me) }
+        requires low { ticket < 2 ^ 62 }
+        ensures same { IsSame self.now.place token.old token.new }
+        ensures drawn { Draws (step 1 32 ticket (ticket + 1) none) (me_at self.now.place token.old.me) result (me_at self.now.place token.new.me) }
+    {
+        hall.shared
+            .compare_exchange::<Drawing>(token, self.word(TICKET), ticket, ticket + 1)
+    }
+
+    // Draws the ticket, where it is the next one and is served, and so begins the turn. It answers which was the next one.
+    pub(crate) fn enter_next(&self, hall: &Hall<O>, token: &mut HallToken<O>, ticket: u64) -> u64
+        requires door { IsDoorOf hall.now.shared.table_id hall.now.shared.key.openings.value.items self.now }
+        requires at { IsAt hall.now.shared.table_id self.now token.old }
+        requires idle { Waits [] (me_at self.now.place token.old.me) }
+        requires low { ticket < 2 ^ 62 }
+        requires served { ticket ≡ (me_at self.now.place token.old.me).0.first + length (me_at self.now.place token.old.me).0.seen }
+        ensures same { IsSame self.now.place token.old token.new }
+        ensures entered { Enters (Moves O.meaning O.counted) O.counted (step 1 32 ticket (ticket + 1) none) (me_at self.now.place token.old.me) result (me_at self.now.place token.new.me) }
+    {
+        hall.shared
+            .compare_exchange::<Entering<O>>(token, self.word(TICKET), ticket, ticket + 1)
+    }
+
+    // Looks which ticket is served. Where it is the pass's, the turn begins.
+    pub(crate) fn look(&self, hall: &Hall<O>, token: &mut HallToken<O>) -> u64
+        requires door { IsDoorOf hall.now.shared.table_id hall.now.shared.key.openings.value.items self.now }
+        requires at { IsAt hall.now.shared.table_id self.now token.old }
+        requires idle { Waits (me_at self.now.place token.old.me).0.tickets (me_at self.now.place token.old.me) }
+        ensures same { IsSame self.now.place token.old token.new }
+        ensures looked { Looked (Moves O.meaning O.counted) O.counted self.now.opening (me_at self.now.place token.old.me) result (me_at self.now.place token.new.me) }
+    {
+        hall.shared.load::<Looking<O>>(token, self.word(SERVING))
+    }
+
+    /// Reads the count as it is announced now.
+    pub fn count(&self, hall: &Hall<O>, token: &mut HallToken<O>, count: Count) -> u64
+        requires door { IsDoorOf hall.now.shared.table_id hall.now.shared.key.openings.value.items self.now }
+        requires at { IsAt hall.now.shared.table_id self.now token.old }
+        requires idle { Waits [] (me_at self.now.place token.old.me) }
+        ensures same { IsSame self.now.place token.old token.new }
+        ensures read { HasRead O.counted self.now.opening count (me_at self.now.place token.old.me) result (me_at self.now.place token.new.me) }
+    {
+        hall.shared
+            .load::<Reading<O>>(token, self.word(count.word()))
+    }
+
+    // Announces a count in the pass's turn, where it has risen.
+    pub(crate) fn announce(
+        &self,
+        hall: &Hall<O>,
+        token: &mut HallToken<O>,
+        count: Count,
+        rose: bool,
+    )
+        requires door { IsDoorOf hall.now.shared.table_id hall.now.shared.key.openings.value.items self.now }
+        requires at { IsAt hall.now.shared.table_id self.now token.old }
+        requires turn { (me_at self.now.place token.old.me).0.in_turn ≡ true }
+        requires quiet { of_count count (me_at self.now.place token.old.me).0.announced ≡ 0 }
+        requires low { of_count count (O.counted (after_all self.now.opening (me_at self.now.place token.old.me).0.seen)) < 2 ^ 63 }
+        ensures same { IsSame self.now.place token.old token.new }
+        ensures announced { me_at self.now.place token.new.me ≡ (announced_by count (cond rose 1 0) (me_at self.now.place token.old.me).0, (me_at self.now.place token.old.me).1) }
+    {
+        if rose {
+            hall.shared
+                .fetch_add::<Announcing>(token, self.word(count.word()), 1);
+        }
+    }
+}

@@ -1,0 +1,75 @@
+//! The calls at a place.
+ghost use Rattle.std.specs.Prelude.{◌≡◌, IfOk, IfErr, OnOk};
+ghost use Rattle.sysv_gate.specs.History.{Moves};
+ghost use Rattle.sysv_gate.specs.Turns.{HasWorn};
+ghost use Rattle.sysv_gate.specs.Halls.{me_at};
+ghost use Rattle.sysv_gate.specs.Doors.{IsDoorOf, IsAt, IsSame, EndsOrder, Idles, HasCalled, HasTried};
+
+use crate::door::Door;
+use crate::hall::{Hall, HallToken};
+use crate::object::Object;
+use crate::refusals::{TryRefused, Worn};
+use crate::turns::Entry;
+use std::sync::Wait;
+
+impl<O: Object> Door<O> {
+    /// Makes the call in a turn of the pass's own, as `Gate::call`. The turn is the last of the order that the pass has seen
+    /// then.
+    pub fn call(
+        &self,
+        rt: &impl Wait,
+        hall: &Hall<O>,
+        token: &mut HallToken<O>,
+        call: O::Call,
+    ) -> Result<O::Reply, Worn<O::Call>>
+        requires door { IsDoorOf hall.now.shared.table_id hall.now.shared.key.openings.value.items self.now }
+        requires at { IsAt hall.now.shared.table_id self.now token.old }
+        requires idle { Idles (me_at self.now.place token.old.me) }
+        ensures same { IsSame self.now.place token.old token.new }
+        ensures order { OnOk result (EndsOrder self.now.place token.old.me token.new.me) }
+        ensures ok { IfOk result (λ r. HasCalled (Moves O.meaning O.counted) O.counted self.now.opening (me_at self.now.place token.old.me) call r (me_at self.now.place token.new.me)) }
+        ensures worn { IfErr result (λ w. (w.call ≡ call) × HasWorn (me_at self.now.place token.old.me) (me_at self.now.place token.new.me)) }
+    {
+        let Some(ticket) = self.draw(rt, hall, token) else {
+            return Err(Worn { call });
+        };
+        self.tell_worn(ticket);
+        self.reach(rt, hall, token, ticket);
+        let (reply, rose) = self.serve(hall, token, call);
+        self.wake_after(ticket, rose);
+        Ok(reply)
+    }
+
+    /// Makes the call where no other pass has the turn or waits for it, as `Gate::try_call`.
+    pub fn try_call(
+        &self,
+        hall: &Hall<O>,
+        token: &mut HallToken<O>,
+        call: O::Call,
+    ) -> Result<O::Reply, TryRefused<O::Call>>
+        requires door { IsDoorOf hall.now.shared.table_id hall.now.shared.key.openings.value.items self.now }
+        requires at { IsAt hall.now.shared.table_id self.now token.old }
+        requires idle { Idles (me_at self.now.place token.old.me) }
+        ensures same { IsSame self.now.place token.old token.new }
+        ensures order { OnOk result (EndsOrder self.now.place token.old.me token.new.me) }
+        ensures ok { IfOk result (λ r. HasCalled (Moves O.meaning O.counted) O.counted self.now.opening (me_at self.now.place token.old.me) call r (me_at self.now.place token.new.me)) }
+        ensures err { IfErr result (λ e. HasTried (Moves O.meaning O.counted) self.now.opening (me_at self.now.place token.old.me) call e (me_at self.now.place token.new.me)) }
+    {
+        match self.enter(hall, token) {
+            Entry::Turn => Ok(self.serve(hall, token, call).0),
+            Entry::Busy => Err(TryRefused::Busy(call)),
+            Entry::Worn => Err(TryRefused::Worn(call)),
+        }
+    }
+
+    /// Ends the sleep of each thread that waits at the place, as `Gate::wake`.
+    pub fn wake(&self, _rt: &impl Wait) {
+        self.turns.ring_all();
+        self.ring();
+    }
+
+    /// Wakes the next thread that sleeps in a bounded wait for the first count, as `Gate::pass_on`.
+    pub fn pass_on(&self) {
+        self.next_arrived.ring_for_one();
+    }
+}

@@ -1,0 +1,202 @@
+//! The parts of a call at a place, each of which makes some steps on the table.
+ghost use Rattle.std.specs.Prelude.{◌≡◌, ◌≢◌, ℕ, ◌^◌, ◌<◌, ◌≤◌, true, [], ◌∷◌, length, IfSome, IfNone};
+ghost use Rattle.sysv_gate.specs.History.{Moves};
+ghost use Rattle.sysv_gate.specs.Steps.{HasTurn};
+ghost use Rattle.sysv_gate.specs.Turns.{Waits, HasDrawn, HasWorn, SawMore, TurnCame, HasMade, Entered};
+ghost use Rattle.sysv_gate.specs.Halls.{me_at};
+ghost use Rattle.sysv_gate.specs.Doors.{IsDoorOf, IsAt, IsSame, EndsOrder};
+ghost use Rattle.sysv_lists.specs.Numbers.{times};
+
+use crate::bell::Sleep;
+use crate::board::{LIMIT, SERVING};
+use crate::count::Count;
+use crate::door::Door;
+use crate::hall::{Hall, HallToken};
+use crate::object::Object;
+use crate::place::Place;
+use crate::rule::Ending;
+use crate::turns::{Entry, LOOKS, Rose, apply};
+use std::hint;
+use std::sync::Wait;
+
+impl<O: Object> Door<O> {
+    // Draws a ticket. `None` comes where the tickets have reached 2^62.
+    pub(crate) fn draw(
+        &self,
+        rt: &impl Wait,
+        hall: &Hall<O>,
+        token: &mut HallToken<O>,
+    ) -> Option<u64>
+        requires door { IsDoorOf hall.now.shared.table_id hall.now.shared.key.openings.value.items self.now }
+        requires at { IsAt hall.now.shared.table_id self.now token.old }
+        requires idle { Waits [] (me_at self.now.place token.old.me) }
+        ensures same { IsSame self.now.place token.old token.new }
+        ensures drawn { IfSome result (λ t. HasDrawn (me_at self.now.place token.old.me) t (me_at self.now.place token.new.me)) }
+        ensures worn { IfNone result (HasWorn (me_at self.now.place token.old.me) (me_at self.now.place token.new.me)) }
+    {
+        for _ in rt.forever() {
+            let next = self.weigh(hall, token);
+            if next >= LIMIT {
+                return None;
+            }
+            let found = self.draw_next(hall, token, next);
+            if found == next {
+                return Some(next);
+            }
+        }
+        unreachable!()
+    }
+
+    // Draws the ticket that is served, where no other pass holds it, and so begins the turn.
+    pub(crate) fn enter(&self, hall: &Hall<O>, token: &mut HallToken<O>) -> Entry
+        requires door { IsDoorOf hall.now.shared.table_id hall.now.shared.key.openings.value.items self.now }
+        requires at { IsAt hall.now.shared.table_id self.now token.old }
+        requires idle { Waits [] (me_at self.now.place token.old.me) }
+        ensures same { IsSame self.now.place token.old token.new }
+        ensures entered { Entered (Moves O.meaning O.counted) O.counted self.now.opening (me_at self.now.place token.old.me) result (me_at self.now.place token.new.me) }
+    {
+        let next = self.weigh(hall, token);
+        if next >= LIMIT {
+            return Entry::Worn;
+        }
+        let served = self.look(hall, token);
+        if served != next {
+            return Entry::Busy;
+        }
+        let found = self.enter_next(hall, token, served);
+        if found != served {
+            return Entry::Busy;
+        }
+        Entry::Turn
+    }
+
+    // Waits until the ticket is served.
+    pub(crate) fn reach(
+        &self,
+        rt: &impl Wait,
+        hall: &Hall<O>,
+        token: &mut HallToken<O>,
+        ticket: u64,
+    )
+        requires door { IsDoorOf hall.now.shared.table_id hall.now.shared.key.openings.value.items self.now }
+        requires at { IsAt hall.now.shared.table_id self.now token.old }
+        requires waits { Waits (ticket ∷ []) (me_at self.now.place token.old.me) }
+        ensures same { IsSame self.now.place token.old token.new }
+        ensures turn { TurnCame (Moves O.meaning O.counted) O.counted self.now.opening (me_at self.now.place token.old.me).0 ticket (me_at self.now.place token.new.me) }
+    {
+        for _ in rt.forever() {
+            if self.spin(hall, token, ticket) == ticket {
+                return;
+            }
+            if self.doze_until(rt, hall, token, ticket) == ticket {
+                return;
+            }
+        }
+        unreachable!()
+    }
+
+    // Sleeps until the ticket may be served, where it is not served yet, and answers the one that was.
+    fn doze_until(
+        &self,
+        rt: &impl Wait,
+        hall: &Hall<O>,
+        token: &mut HallToken<O>,
+        ticket: u64,
+    ) -> u64
+        requires door { IsDoorOf hall.now.shared.table_id hall.now.shared.key.openings.value.items self.now }
+        requires at { IsAt hall.now.shared.table_id self.now token.old }
+        requires waits { Waits (ticket ∷ []) (me_at self.now.place token.old.me) }
+        ensures same { IsSame self.now.place token.old token.new }
+        ensures turn { result ≡ ticket → TurnCame (Moves O.meaning O.counted) O.counted self.now.opening (me_at self.now.place token.old.me).0 ticket (me_at self.now.place token.new.me) }
+        ensures waits { result ≢ ticket → SawMore (me_at self.now.place token.old.me).0 (me_at self.now.place token.new.me) }
+    {
+        let bell = self.turns.of(ticket);
+        let rung = bell.enter();
+        let served = self.look(hall, token);
+        if served != ticket {
+            bell.sleep(rt, rung, Sleep::UntilRung);
+        }
+        bell.leave();
+        served
+    }
+
+    // Looks some times whether the ticket is served, and answers the one that is.
+    fn spin(&self, hall: &Hall<O>, token: &mut HallToken<O>, ticket: u64) -> u64
+        requires door { IsDoorOf hall.now.shared.table_id hall.now.shared.key.openings.value.items self.now }
+        requires at { IsAt hall.now.shared.table_id self.now token.old }
+        requires waits { Waits (ticket ∷ []) (me_at self.now.place token.old.me) }
+        ensures same { IsSame self.now.place token.old token.new }
+        ensures turn { result ≡ ticket → TurnCame (Moves O.meaning O.counted) O.counted self.now.opening (me_at self.now.place token.old.me).0 ticket (me_at self.now.place token.new.me) }
+        ensures waits { result ≢ ticket → SawMore (me_at self.now.place token.old.me).0 (me_at self.now.place token.new.me) }
+    {
+        let mut served = self.look(hall, token);
+        for _ in 1..LOOKS {
+            if served == ticket {
+                break;
+            }
+            hint::spin_loop();
+            served = self.look(hall, token);
+        }
+        served
+    }
+
+    // Makes the turn: takes the object out of the slot, calls it, announces its counts, gives it home, and enters the
+    // turn into the history.
+    pub(crate) fn serve(
+        &self,
+        hall: &Hall<O>,
+        token: &mut HallToken<O>,
+        call: O::Call,
+    ) -> (O::Reply, Rose)
+        requires door { IsDoorOf hall.now.shared.table_id hall.now.shared.key.openings.value.items self.now }
+        requires at { IsAt hall.now.shared.table_id self.now token.old }
+        requires turn { HasTurn (Moves O.meaning O.counted) O.counted self.now.opening (me_at self.now.place token.old.me) }
+        requires ticket { (t : ℕ) × ((me_at self.now.place token.old.me).0.tickets ≡ t ∷ []) × ((me_at self.now.place token.old.me).0.in_turn ≡ true) }
+        requires named { 1 ≤ times (me_at self.now.place token.old.me).0.number (me_at self.now.place token.old.me).0.numbers }
+        requires room { length (me_at self.now.place token.old.me).0.seen < 2 ^ 62 }
+        ensures same { IsSame self.now.place token.old token.new }
+        ensures order { EndsOrder self.now.place token.old.me token.new.me }
+        ensures made { HasMade (Moves O.meaning O.counted) self.now.opening (me_at self.now.place token.old.me).0 call result.0 (me_at self.now.place token.new.me) }
+    {
+        let shared = &hall.shared;
+        let Some(Place { object, last: _ }) = shared.exchange(token, self.place, None) else {
+            unreachable!()
+        };
+        let (place, reply, rose) = apply(object, call);
+        let left = shared.exchange(token, self.place, Some(place));
+        let None = left else { unreachable!() };
+        self.announce(hall, token, Count::Arrived, rose.arrived);
+        self.announce(hall, token, Count::Freed, rose.freed);
+        shared.fetch_add::<Ending>(token, self.word(SERVING), 1);
+        (reply, rose)
+    }
+
+    // Wakes the thread that has the next ticket, and those who wait for what rose: one of those whose waits for the first
+    // count are bounded, and all others.
+    pub(crate) fn wake_after(&self, ticket: u64, rose: Rose)
+        requires { ticket < 2 ^ 62 }
+    {
+        self.turns.of(ticket + 1).ring();
+        if rose.arrived {
+            self.arrived.ring();
+            self.next_arrived.ring_for_one();
+        }
+        if rose.freed {
+            self.freed.ring();
+        }
+    }
+
+    // Tells those who wait for a count, where this was the last ticket.
+    pub(crate) fn tell_worn(&self, ticket: u64) {
+        if ticket >= LIMIT - 1 {
+            self.ring();
+        }
+    }
+
+    // Wakes those who wait for a count.
+    pub(crate) fn ring(&self) {
+        self.arrived.ring();
+        self.next_arrived.ring();
+        self.freed.ring();
+    }
+}

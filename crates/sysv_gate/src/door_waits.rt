@@ -1,0 +1,161 @@
+//! Waiting for the counts of the object at a place.
+ghost use Rattle.std.specs.Prelude.{◌≡◌, IfSome, IfNone, IsTrue, true, false, []};
+ghost use Rattle.sysv_gate.specs.Turns.{Waits, HasWorn, HasRead, HasReadBelow, ReadMore, HasWaited, HasWaitedWithin};
+ghost use Rattle.sysv_gate.specs.Halls.{me_at};
+ghost use Rattle.sysv_gate.specs.Doors.{IsDoorOf, IsAt, IsSame};
+
+use crate::awaited::Awaited;
+use crate::bell::{Bell, Sleep};
+use crate::board::LIMIT;
+use crate::count::Count;
+use crate::door::Door;
+use crate::hall::{Hall, HallToken};
+use crate::object::Object;
+use crate::waits::LOOKS;
+use std::hint;
+use std::sync::Wait;
+
+impl<O: Object> Door<O> {
+    // Reads the count some times, until it is at least the goal, and answers what it read last.
+    fn count_to(&self, hall: &Hall<O>, token: &mut HallToken<O>, count: Count, goal: u64) -> u64
+        requires door { IsDoorOf hall.now.shared.table_id hall.now.shared.key.openings.value.items self.now }
+        requires at { IsAt hall.now.shared.table_id self.now token.old }
+        requires idle { Waits [] (me_at self.now.place token.old.me) }
+        ensures same { IsSame self.now.place token.old token.new }
+        ensures read { HasRead O.counted self.now.opening count (me_at self.now.place token.old.me) result (me_at self.now.place token.new.me) }
+    {
+        let mut value = self.count(hall, token, count);
+        for _ in 1..LOOKS {
+            if value >= goal {
+                break;
+            }
+            hint::spin_loop();
+            value = self.count(hall, token, count);
+        }
+        value
+    }
+
+    // Whether the tickets have reached 2^62.
+    fn is_worn(&self, hall: &Hall<O>, token: &mut HallToken<O>) -> bool
+        requires door { IsDoorOf hall.now.shared.table_id hall.now.shared.key.openings.value.items self.now }
+        requires at { IsAt hall.now.shared.table_id self.now token.old }
+        requires idle { Waits [] (me_at self.now.place token.old.me) }
+        ensures same { IsSame self.now.place token.old token.new }
+        ensures worn { IsTrue result → HasWorn (me_at self.now.place token.old.me) (me_at self.now.place token.new.me) }
+        ensures not_worn { result ≡ false → (me_at self.now.place token.new.me) ≡ (me_at self.now.place token.old.me) }
+    {
+        self.weigh(hall, token) >= LIMIT
+    }
+
+    // Looks whether the wait is over. If it is not, the count is below the goal.
+    fn judge(
+        &self,
+        hall: &Hall<O>,
+        token: &mut HallToken<O>,
+        count: Count,
+        goal: u64,
+    ) -> Option<Awaited>
+        requires door { IsDoorOf hall.now.shared.table_id hall.now.shared.key.openings.value.items self.now }
+        requires at { IsAt hall.now.shared.table_id self.now token.old }
+        requires idle { Waits [] (me_at self.now.place token.old.me) }
+        ensures same { IsSame self.now.place token.old token.new }
+        ensures over { IfSome result (λ a. HasWaited O.counted self.now.opening count goal (me_at self.now.place token.old.me) a (me_at self.now.place token.new.me)) }
+        ensures goes_on { IfNone result (HasReadBelow O.counted self.now.opening count goal (me_at self.now.place token.old.me) (me_at self.now.place token.new.me)) }
+    {
+        let value = self.count(hall, token, count);
+        if value >= goal {
+            return Some(Awaited::Reached(value));
+        }
+        if self.is_worn(hall, token) {
+            return Some(Awaited::Worn);
+        }
+        None
+    }
+
+    fn bell(&self, count: Count, sleep: Sleep) -> &Bell {
+        match (count, sleep) {
+            (Count::Arrived, Sleep::UntilRung) => &self.arrived,
+            (Count::Arrived, Sleep::Bounded) => &self.next_arrived,
+            (Count::Freed, _) => &self.freed,
+        }
+    }
+
+    // Sleeps until the count may have risen, where the wait is not over.
+    fn doze(
+        &self,
+        rt: &impl Wait,
+        hall: &Hall<O>,
+        token: &mut HallToken<O>,
+        count: Count,
+        goal: u64,
+        sleep: Sleep,
+    ) -> Option<Awaited>
+        requires door { IsDoorOf hall.now.shared.table_id hall.now.shared.key.openings.value.items self.now }
+        requires at { IsAt hall.now.shared.table_id self.now token.old }
+        requires idle { Waits [] (me_at self.now.place token.old.me) }
+        ensures same { IsSame self.now.place token.old token.new }
+        ensures over { IfSome result (λ a. HasWaited O.counted self.now.opening count goal (me_at self.now.place token.old.me) a (me_at self.now.place token.new.me)) }
+        ensures goes_on { IfNone result (ReadMore count (me_at self.now.place token.old.me) (me_at self.now.place token.new.me)) }
+    {
+        let bell = self.bell(count, sleep);
+        let rung = bell.enter();
+        let found = self.judge(hall, token, count, goal);
+        if found.is_none() {
+            bell.sleep(rt, rung, sleep);
+        }
+        bell.leave();
+        found
+    }
+
+    /// Waits until the count is at least `goal`, as `Gate::await_arrived`.
+    pub fn await_count(
+        &self,
+        rt: &impl Wait,
+        hall: &Hall<O>,
+        token: &mut HallToken<O>,
+        count: Count,
+        goal: u64,
+    ) -> Awaited
+        requires door { IsDoorOf hall.now.shared.table_id hall.now.shared.key.openings.value.items self.now }
+        requires at { IsAt hall.now.shared.table_id self.now token.old }
+        requires idle { Waits [] (me_at self.now.place token.old.me) }
+        ensures same { IsSame self.now.place token.old token.new }
+        ensures waited { HasWaited O.counted self.now.opening count goal (me_at self.now.place token.old.me) result (me_at self.now.place token.new.me) }
+    {
+        for _ in rt.forever() {
+            let value = self.count_to(hall, token, count, goal);
+            if value >= goal {
+                return Awaited::Reached(value);
+            }
+            if let Some(awaited) = self.doze(rt, hall, token, count, goal, Sleep::UntilRung) {
+                return awaited;
+            }
+        }
+        unreachable!()
+    }
+
+    /// Waits until the count is at least `goal`, but sleeps only once, and for a second at most.
+    pub fn await_within(
+        &self,
+        rt: &impl Wait,
+        hall: &Hall<O>,
+        token: &mut HallToken<O>,
+        count: Count,
+        goal: u64,
+    ) -> Option<Awaited>
+        requires door { IsDoorOf hall.now.shared.table_id hall.now.shared.key.openings.value.items self.now }
+        requires at { IsAt hall.now.shared.table_id self.now token.old }
+        requires idle { Waits [] (me_at self.now.place token.old.me) }
+        ensures same { IsSame self.now.place token.old token.new }
+        ensures waited { HasWaitedWithin O.counted self.now.opening count goal (me_at self.now.place token.old.me) result (me_at self.now.place token.new.me) }
+    {
+        let value = self.count_to(hall, token, count, goal);
+        if value >= goal {
+            return Some(Awaited::Reached(value));
+        }
+        match self.doze(rt, hall, token, count, goal, Sleep::Bounded) {
+            Some(awaited) => Some(awaited),
+            None => self.judge(hall, token, count, goal),
+        }
+    }
+}

@@ -1,0 +1,140 @@
+//! One table for several places, its rule, and the kinds of step that it allows.
+use crate::object::Object;
+use crate::place::Place;
+use crate::rule::{
+    Announcing, Drawing, Ending, Entering, Gathering, Looking, Merging, Naming, Reading, Sharing,
+    Weighing,
+};
+use crate::view::Sight;
+use atomic_table::{Join, Play, Split, Table, TableRule};
+use std::alloc::Global;
+use std::marker::PhantomData;
+use std::snapshot::Snapshot;
+
+pub(crate) type Spot<O> = Option<Place<O, <O as Object>::Call, <O as Object>::Reply>>;
+
+type Knows<O> = Sight<O, <O as Object>::Call, <O as Object>::Reply>;
+
+/// The table of several places.
+pub type Hall<O> = Table<Spot<O>, Knows<O>, HallKey<O>, HallRule<O>, Global>;
+
+/// The right to take turns at each place of a table.
+pub type HallToken<O> = atomic_table::Seat<Spot<O>, Knows<O>>;
+
+/// What is fixed when the table is laid: the objects, for proofs, and the first ticket.
+pub struct HallKey<O> {
+    pub openings: Snapshot<Vec<O, Global>>,
+    pub first: u64,
+}
+
+impl<O> Drop for HallKey<O> {
+    fn drop(self) {
+        let HallKey {
+            openings: _,
+            first: _,
+        } = self;
+    }
+}
+
+/// The rule of the table.
+pub struct HallRule<O> {
+    object: PhantomData<O>,
+}
+
+impl<O: Object> TableRule<
+    Option<Place<O, O::Call, O::Reply>>,
+    Sight<O, O::Call, O::Reply>,
+    HallKey<O>,
+> for HallRule<O> {
+    ghost use Rattle.sysv_gate.specs.History.{Moves};
+    ghost use Rattle.sysv_gate.specs.Halls.{InOrder, outset};
+
+    ghost holds = { λ key. InOrder (Moves O.meaning O.counted) O.counted key.openings.value.items key.first };
+
+    ghost first = { λ key. outset key.openings.value.items key.first };
+}
+
+impl<O, C, R> Play<Option<Place<O, C, R>>, Sight<O, C, R>> for Weighing {
+    ghost use Rattle.sysv_gate.specs.Steps.{Weighs};
+    ghost use Rattle.sysv_gate.specs.Plays.{AddsNone};
+
+    ghost then = { AddsNone Weighs };
+}
+
+impl<O, C, R> Play<Option<Place<O, C, R>>, Sight<O, C, R>> for Drawing {
+    ghost use Rattle.sysv_gate.specs.Steps.{Draws};
+    ghost use Rattle.sysv_gate.specs.Plays.{AddsNone};
+
+    ghost then = { AddsNone Draws };
+}
+
+impl<O: Object> Play<Option<Place<O, O::Call, O::Reply>>, Sight<O, O::Call, O::Reply>>
+    for Looking<O> {
+    ghost use Rattle.sysv_gate.specs.History.{Moves};
+    ghost use Rattle.sysv_gate.specs.Steps.{Turns};
+    ghost use Rattle.sysv_gate.specs.Plays.{AddsNone};
+
+    ghost then = { AddsNone (Turns (Moves O.meaning O.counted) O.counted) };
+}
+
+impl<O: Object> Play<Option<Place<O, O::Call, O::Reply>>, Sight<O, O::Call, O::Reply>>
+    for Entering<O> {
+    ghost use Rattle.sysv_gate.specs.History.{Moves};
+    ghost use Rattle.sysv_gate.specs.Steps.{Enters};
+    ghost use Rattle.sysv_gate.specs.Plays.{AddsNone};
+
+    ghost then = { AddsNone (Enters (Moves O.meaning O.counted) O.counted) };
+}
+
+impl<O, C, R> Play<Option<Place<O, C, R>>, Sight<O, C, R>> for Announcing {
+    ghost use Rattle.sysv_gate.specs.Steps.{Announces};
+    ghost use Rattle.sysv_gate.specs.Plays.{AddsNone};
+
+    ghost then = { AddsNone Announces };
+}
+
+impl<O: Object> Play<Option<Place<O, O::Call, O::Reply>>, Sight<O, O::Call, O::Reply>>
+    for Reading<O> {
+    ghost use Rattle.sysv_gate.specs.Steps.{Reads};
+    ghost use Rattle.sysv_gate.specs.Plays.{AddsNone};
+
+    ghost then = { AddsNone (Reads O.counted) };
+}
+
+impl<O, C, R> Play<Option<Place<O, C, R>>, Sight<O, C, R>> for Ending {
+    ghost use Rattle.sysv_gate.specs.Steps.{Ends};
+    ghost use Rattle.sysv_gate.specs.Plays.{AtAPlace, turns_told};
+
+    ghost then = { AtAPlace turns_told Ends };
+}
+
+impl<O, C, R> Play<Option<Place<O, C, R>>, Sight<O, C, R>> for Naming {
+    ghost use Rattle.sysv_gate.specs.Plays.{Names};
+
+    ghost then = { Names };
+}
+
+impl<O: Object> Play<Option<Place<O, O::Call, O::Reply>>, Sight<O, O::Call, O::Reply>>
+    for Merging<O> {
+    ghost use Rattle.sysv_gate.specs.History.{Moves};
+    ghost use Rattle.sysv_gate.specs.Plays.{Merges};
+
+    ghost then = { λ st m n m'. Merges (Moves O.meaning O.counted) m m' };
+}
+
+impl<O, C, R> Split<Sight<O, C, R>> for Sharing {
+    ghost use Rattle.sysv_gate.specs.Steps.{parted};
+    ghost use Rattle.sysv_gate.specs.Plays.{at_each, newcomer};
+
+    ghost left = { at_each parted };
+
+    ghost right = { newcomer };
+}
+
+impl<O, C, R> Join<Sight<O, C, R>> for Gathering {
+    ghost use Rattle.sysv_gate.specs.Plays.{both_of, spent};
+
+    ghost both = { both_of };
+
+    ghost spent = { spent };
+}

@@ -1,0 +1,136 @@
+//! Laying a table with several places.
+ghost use Rattle.std.specs.Prelude.{◌≡◌, ◌*◌, ◌^◌, ◌≤◌, List, [], length, vec_capacity, None, IfSome, IfNone};
+ghost use Rattle.std.specs.List.{All};
+ghost use Rattle.sysv_gate.specs.History.{AreUpTo};
+ghost use Rattle.sysv_gate.specs.Rule.{put};
+ghost use Rattle.sysv_gate.specs.Laying.{AreLaidUpTo, AreDoorsUpTo, all_put, IsNew};
+
+use crate::board::words_at;
+use crate::door::Door;
+use crate::hall::{Hall, HallKey, HallToken, Spot};
+use crate::object::Object;
+use crate::place::Place;
+use atomic_table::{Refused, Table};
+use std::alloc::Global;
+
+// The words of the places. `None` comes where there is no memory.
+fn words_for<O: Object>(
+    alloc: Global,
+    objects: &Vec<O, Global>,
+    first: u64,
+) -> Option<Vec<u64, Global>>
+    ensures { IfSome result (λ words. AreLaidUpTo O.counted first objects.now.items (length objects.now.items) words.items) }
+{
+    let mut words = Vec::new(alloc);
+    for place in 0..objects.len() {
+        let new = words_at(first, objects[place].counts());
+        let Ok(()) = words.extend_from_slice(&new) else {
+            return None;
+        };
+    }
+    Some(words)
+}
+
+// A door for each place. `None` comes where there is no memory.
+fn doors_for<O: Object>(alloc: Global, objects: &Vec<O, Global>) -> Option<Vec<Door<O>, Global>>
+    requires few { 80 * length objects.now.items ≤ 2 ^ 60 }
+    requires counts { All (λ o. AreUpTo (2 ^ 61) (O.counted o)) objects.now.items }
+    ensures { IfSome result (λ doors. AreDoorsUpTo objects.now.items (length objects.now.items) doors.items) }
+{
+    let Ok(mut doors) = Vec::with_capacity(alloc, objects.len()) else {
+        return None;
+    };
+    for place in 0..objects.len() {
+        doors.push_reserved(Door::new(place, &objects[place]));
+    }
+    Some(doors)
+}
+
+// Puts each object into a slot.
+fn fill<O: Object>(objects: &mut Vec<O, Global>, spots: &mut Vec<Spot<O>, Global>)
+    requires room { (spots.old.items ≡ []) × (length objects.old.items ≤ vec_capacity spots.old) }
+    ensures spots { spots.new.items ≡ all_put objects.old.items }
+    ensures none { objects.new.items ≡ [] }
+    ensures room { vec_capacity objects.new ≡ vec_capacity objects.old }
+{
+    objects.reverse();
+    while let Some(object) = objects.pop() {
+        spots.push_reserved(Some(Place { object, last: None }));
+    }
+}
+
+// The object of a slot that was filled.
+fn object_out<O: Object>(spot: Spot<O>) -> O
+    requires { (o : O) × (spot ≡ put o None) }
+    ensures { spot ≡ put result None }
+{
+    let Some(Place { object, last: _ }) = spot else {
+        unreachable!()
+    };
+    object
+}
+
+// Takes each object out of its slot again.
+fn empty<O: Object>(mut spots: Vec<Spot<O>, Global>, objects: &mut Vec<O, Global>)
+    requires spots { (all : List O) × (spots.items ≡ all_put all) × (length all ≤ vec_capacity objects.old) }
+    requires none { objects.old.items ≡ [] }
+    ensures back { spots.items ≡ all_put objects.new.items }
+{
+    while let Some(spot) = spots.pop() {
+        objects.push_reserved(object_out(spot));
+    }
+    spots.destroy_empty();
+    objects.reverse();
+}
+
+/// Lays the table of the objects, and gives its first pass and the door of each place. Without memory the objects stay where
+/// they are.
+pub fn lay_hall<O: Object>(
+    alloc: Global,
+    objects: &mut Vec<O, Global>,
+    key: &HallKey<O>,
+) -> Option<(Hall<O>, HallToken<O>, Vec<Door<O>, Global>)>
+    requires key { (key.now.openings.value.items ≡ objects.old.items) × (key.now.first ≤ 2 ^ 62) }
+    requires counts { All (λ o. AreUpTo (2 ^ 61) (O.counted o)) objects.old.items }
+    ensures some { IfSome result (λ t. IsNew t.0.shared.table_id t.0.shared.key key.now t.1) }
+    ensures doors { IfSome result (λ t. AreDoorsUpTo objects.old.items (length objects.old.items) t.2.items × (80 * length objects.old.items ≤ 2 ^ 60)) }
+    ensures laid { IfSome result (λ t. objects.new.items ≡ []) }
+    ensures none { IfNone result (objects.new.items ≡ objects.old.items) }
+{
+    let Some(words) = words_for(alloc, objects, key.first) else {
+        return None;
+    };
+    let Some(doors) = doors_for(alloc, objects) else {
+        return None;
+    };
+    match raise(alloc, &words, objects, key) {
+        Some((hall, token)) => Some((hall, token, doors)),
+        None => None,
+    }
+}
+
+// Lays the table of the objects over these words.
+fn raise<O: Object>(
+    alloc: Global,
+    words: &Vec<u64, Global>,
+    objects: &mut Vec<O, Global>,
+    key: &HallKey<O>,
+) -> Option<(Hall<O>, HallToken<O>)>
+    requires key { (key.now.openings.value.items ≡ objects.old.items) × (key.now.first ≤ 2 ^ 62) }
+    requires laid { AreLaidUpTo O.counted key.now.first objects.old.items (length objects.old.items) words.now.items }
+    ensures some { IfSome result (λ t. IsNew t.0.shared.table_id t.0.shared.key key.now t.1) }
+    ensures laid { IfSome result (λ t. objects.new.items ≡ []) }
+    ensures none { IfNone result (objects.new.items ≡ objects.old.items) }
+{
+    let Ok(mut spots) = Vec::with_capacity(alloc, objects.len()) else {
+        return None;
+    };
+    fill(objects, &mut spots);
+    match Table::new(alloc, words, spots, key) {
+        Ok(made) => Some(made),
+        Err(Refused { slots }) => {
+            empty(slots, objects);
+            None
+        }
+    }
+}
