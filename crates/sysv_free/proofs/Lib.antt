@@ -4,6 +4,8 @@ pub mod Playing
 pub mod Picking
 pub mod Ordering
 pub mod RowsApart
+pub mod Sharing
+pub mod Homing
 pub mod Starting
 pub mod Resting
 pub mod WorkedOrder

@@ -1,6 +1,7 @@
 //! Laws of free runs.
 
 ghost use Rattle.sysv_free.specs.AtRest.{OrdersAtRest};
+ghost use Rattle.sysv_free.specs.Crew.{EveryServiceIsARun};
 ghost use Rattle.sysv_free.specs.Forgotten.{EachForgetTakesItsRow};
 ghost use Rattle.sysv_free.specs.OnThreads.{EveryThreadedRunObeys};
 ghost use Rattle.sysv_free.specs.Order.{NoCallReadsARow};
@@ -75,6 +76,15 @@ pub fn orders_at_rest()
     ensures { OrdersAtRest }
 {
     every_order_is_a_run();
+}
+
+/// Once all passes of a service have been joined into one, the order of all turns that its closing finds is a run,
+/// with all calls that its passes made, if each reply in it is legal and no call found a gate worn out.
+pub fn every_service_that_came_home_is_a_run()
+    ensures { EveryServiceIsARun }
+{
+    every_order_is_a_run();
+    orders_at_rest();
 }
 
 /// An order in which the turns of three passes interleave, with a receive that waited and one that was left, is
