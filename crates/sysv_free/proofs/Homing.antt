@@ -1,5 +1,5 @@
 -- What each pass did in calls, as far as its own order tells, is what its calls did, since no number is two passes'.
-use Rattle.std.proofs.Common.{◌≡◌, ◌≢◌, ◌⊎◌, inl, inr, ℕ, zero, suc, ◌+◌, ◌≤◌, ◌==◌, ◌&&◌, Bool, true, false, cond, not, List, [], ◌∷◌, ◌++◌, map, slice_index_or, refl, sym, ap, subst, ◌∙◌, arith, append_assoc}
+use Rattle.std.proofs.Common.{◌≡◌, ◌≢◌, inl, inr, ℕ, ◌+◌, ◌≤◌, ◌==◌, ◌&&◌, Bool, true, false, cond, not, List, [], ◌∷◌, ◌++◌, map, slice_index_or, refl, sym, ap, subst, ◌∙◌, arith, append_assoc}
 use Rattle.std.specs.List.{All, filter, flat_map}
 use Rattle.std.proofs.lemmas.Grind.{flat_map-append}
 use Rattle.std.proofs.lemmas.List.{map-append, append-nil}
@@ -12,13 +12,9 @@ use Rattle.sysv_free.specs.Order.{Numbered, Called, IsPlayed, AreAll, shows_row,
 use Rattle.sysv_free.specs.OrderIsRun.{EveryOrderIsARun}
 use Rattle.sysv_free.specs.AtRest.{OrdersAtRest}
 use Rattle.sysv_free.specs.Crew.{Member, under, AreWhole, AreOfOthers, AreOwn, IsCrew, opens, calls, reads, goes_on, splits, joins, turns_to, Does, starts, sees, makes, Splits, Joins, Closes, EveryServiceIsARun}
-use Rattle.sysv_free.proofs.Places.{number_other}
+use Rattle.sysv_free.proofs.Places.{number_other, none_or_some}
 use Rattle.sysv_free.proofs.RowsApart.{no_call_reads_a_row}
 use Rattle.sysv_free.proofs.Sharing.{all_have_the_whole}
-
-none_or_some : (n : ℕ) → (n ≡ 0) ⊎ (1 ≤ n)
-none_or_some zero = inl refl
-none_or_some (suc n) = inr (omega arith)
 
 -- ---- turns in calls
 
@@ -53,9 +49,9 @@ deeds_by-one : (x number : ℕ) (deed : Deed) → deeds_by x (record { by = numb
 deeds_by-one x number deed = kept_if (record { by = number; deed = deed }) (number == x) (is_quiet deed)
 
 -- the turns under a number are enough to tell what it did in calls
-skipped : (t : Numbered) (a b : Bool) (ts : List Numbered) → filter (λ (s : Numbered). is_quiet s.deed) (cond a (t ∷ ts) ts) ≡ cond a (cond (is_quiet t.deed) (t ∷ filter (λ (s : Numbered). is_quiet s.deed) ts) (filter (λ (s : Numbered). is_quiet s.deed) ts)) (filter (λ (s : Numbered). is_quiet s.deed) ts)
-skipped t true b ts = refl
-skipped t false b ts = refl
+skipped : (t : Numbered) (a : Bool) (ts : List Numbered) → filter (λ (s : Numbered). is_quiet s.deed) (cond a (t ∷ ts) ts) ≡ cond a (cond (is_quiet t.deed) (t ∷ filter (λ (s : Numbered). is_quiet s.deed) ts) (filter (λ (s : Numbered). is_quiet s.deed) ts)) (filter (λ (s : Numbered). is_quiet s.deed) ts)
+skipped t true ts = refl
+skipped t false ts = refl
 
 both_kept : (a b : Bool) (t : Numbered) (ts : List Numbered) → cond (a && b) (t ∷ ts) ts ≡ cond a (cond b (t ∷ ts) ts) ts
 both_kept true b t ts = refl
@@ -66,7 +62,7 @@ in_calls_under x [] = refl
 in_calls_under x (t ∷ ts) =
     ap (λ us. cond (is_in_call_of x t) (t ∷ us) us) (in_calls_under x ts)
     ∙ (both_kept (t.by == x) (is_quiet t.deed) t (filter (λ (s : Numbered). is_quiet s.deed) (under x ts))
-    ∙ sym (skipped t (t.by == x) true (under x ts)))
+    ∙ sym (skipped t (t.by == x) (under x ts)))
 
 same_under : (x : ℕ) (xs ys : List Numbered) → under x xs ≡ under x ys → deeds_by x xs ≡ deeds_by x ys
 same_under x xs ys e =

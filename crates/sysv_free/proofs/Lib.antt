@@ -9,6 +9,7 @@ pub mod Homing
 pub mod Starting
 pub mod Resting
 pub mod WorkedOrder
+pub mod WorkedCrew
 pub mod Reading
 pub mod Forgetting
 pub mod Threading

@@ -27,3 +27,4 @@ pub mod OrderIsRun
 pub mod WorkedOrder
 pub mod AtRest
 pub mod Crew
+pub mod WorkedCrew

@@ -7,6 +7,7 @@ ghost use Rattle.sysv_free.specs.OnThreads.{EveryThreadedRunObeys};
 ghost use Rattle.sysv_free.specs.Order.{NoCallReadsARow};
 ghost use Rattle.sysv_free.specs.OrderIsRun.{EveryOrderIsARun};
 ghost use Rattle.sysv_free.specs.RunIsFree.{EachRunIsFree};
+ghost use Rattle.sysv_free.specs.WorkedCrew.{WorkedCrew};
 ghost use Rattle.sysv_free.specs.WorkedOrder.{WorkedOrder};
 
 use sysv_core::each_world_is_sound;
@@ -96,4 +97,13 @@ pub fn worked_order()
     each_answer_is_right();
     every_order_is_a_run();
     orders_at_rest();
+}
+
+/// The worked order is that of a service of three passes: it is opened, two passes are split off, calls are made, and
+/// all passes come home. It does not come home without one of the calls.
+pub fn worked_crew()
+    ensures { WorkedCrew }
+{
+    worked_order();
+    every_service_that_came_home_is_a_run();
 }
