@@ -1,5 +1,5 @@
 -- The shares of all passes together are the whole, at all times.
-use Rattle.std.proofs.Common.{◌≡◌, ℕ, suc, ◌+◌, ◌-◌, ◌*◌, ◌^◌, ◌≤◌, List, [], ◌∷◌, ◌++◌, map, refl, sym, ap, subst, ◌∙◌, arith, append_assoc}
+use Rattle.std.proofs.Common.{◌≡◌, ℕ, zero, suc, ◌+◌, ◌-◌, ◌*◌, ◌^◌, ◌≤◌, List, [], ◌∷◌, ◌++◌, map, refl, sym, ap, subst, ◌∙◌, arith, append_assoc}
 use Rattle.std.specs.List.{All, flat_map}
 use Rattle.std.proofs.Math.Nat.{pow-suc}
 use Rattle.std.proofs.lemmas.Grind.{flat_map-append}
@@ -24,7 +24,7 @@ all_right P (x ∷ xs) ys a = all_right P xs ys (All-tail P x (xs ++ ys) a)
 
 -- ---- parts
 
-abbrev AtMost : ℕ → ℕ → Type 0
+abbrev pub AtMost : ℕ → ℕ → Type 0
 AtMost fine depth = depth ≤ fine
 
 abbrev part : ℕ → ℕ → ℕ
@@ -54,6 +54,30 @@ parts_of_halves fine (x ∷ xs) =
     let same : suc fine - suc x ≡ fine - x = omega arith in
     let e : part (suc fine) (suc x) ≡ part fine x = ap (λ n. 2 ^ n) same in
     omega (arith, sum_by-cons (part (suc fine)) (suc x) (map suc xs), sum_by-cons (part fine) x xs, e, parts_of_halves fine xs)
+
+-- the whole in parts of one size is the whole in parts of any other that are as fine as each share
+abbrev IsWholeIn : List ℕ → ℕ → Type 0
+IsWholeIn xs fine = parts fine xs ≡ 2 ^ fine
+
+finer_whole : (k fine : ℕ) (xs : List ℕ) → All (AtMost fine) xs → IsWholeIn xs fine → IsWholeIn xs (k + fine)
+finer_whole zero fine xs low w = subst (IsWholeIn xs) (omega arith) w
+finer_whole (suc k) fine xs low w =
+    let finer : All (AtMost (k + fine)) xs = All-weaker (AtMost fine) (AtMost (k + fine)) (λ x le. omega arith) xs low in
+    let more : IsWholeIn xs (suc (k + fine)) = omega (arith, finer_whole k fine xs low w, twice_parts (k + fine) xs finer, pow-suc 2 (k + fine)) in
+    subst (IsWholeIn xs) (omega arith) more
+
+coarser_whole : (k fine : ℕ) (xs : List ℕ) → All (AtMost fine) xs → IsWholeIn xs (k + fine) → IsWholeIn xs fine
+coarser_whole zero fine xs low w = subst (IsWholeIn xs) (omega arith) w
+coarser_whole (suc k) fine xs low w =
+    let finer : All (AtMost (k + fine)) xs = All-weaker (AtMost fine) (AtMost (k + fine)) (λ x le. omega arith) xs low in
+    let more : IsWholeIn xs (suc (k + fine)) = subst (IsWholeIn xs) (omega arith) w in
+    let less : IsWholeIn xs (k + fine) = omega (arith, more, twice_parts (k + fine) xs finer, pow-suc 2 (k + fine)) in
+    coarser_whole k fine xs low less
+
+pub whole_in_any : (xs : List ℕ) → AreWhole xs → (fine : ℕ) → All (AtMost fine) xs → parts fine xs ≡ 2 ^ fine
+whole_in_any xs w fine low =
+    let finest : IsWholeIn xs (fine + w.0) = finer_whole fine w.0 xs w.1 w.2 in
+    coarser_whole w.0 fine xs low (subst (IsWholeIn xs) (omega arith) finest)
 
 -- ---- what is done keeps the whole
 

@@ -1,9 +1,7 @@
 -- The worked service, step by step.
-use Rattle.std.proofs.Common.{◌≡◌, ◌≢◌, ℕ, ◌==◌, cond, zero, suc, ◌+◌, ◌≤◌, ◌-◌, ◌*◌, ◌^◌, List, [], ◌∷◌, ◌++◌, Some, refl, sym, ap, subst, ◌∙◌, arith, inl, inr, take, drop, pos}
+use Rattle.std.proofs.Common.{◌≡◌, ◌≢◌, ℕ, ◌==◌, cond, zero, suc, ◌+◌, ◌≤◌, List, [], ◌∷◌, ◌++◌, Some, refl, ap, subst, arith, inl, inr, take, drop, pos}
 use Rattle.std.specs.List.{AllByRecursion}
-use Rattle.std.proofs.lemmas.List.Elements.{All-head, All-from_recursion}
-use Rattle.std.proofs.lemmas.List.Sums.{sum_by-cons}
-use Rattle.std.proofs.Math.Nat.{pow-suc, one-le-pow}
+use Rattle.std.proofs.lemmas.List.Elements.{All-cons, All-nil, All-from_recursion}
 use Rattle.sysv_lists.specs.Numbers.{times, NoneTwice}
 use Rattle.sysv_lists.proofs.Counting.{the-one, times-append}
 use Rattle.sysv_model.specs.History.{Shown}
@@ -12,8 +10,9 @@ use Rattle.sysv_objects.specs.LegalDeed.{AreLegal}
 use Rattle.sysv_steps.specs.State.{Got, Over}
 use Rattle.sysv_steps.specs.Played.{begins}
 use Rattle.sysv_free.specs.Order.{Numbered, turns_of, Called, AreAll}
-use Rattle.sysv_free.specs.Crew.{under, AreOfOthers, AreOwn, AreWhole, parts, MakesTurn, Does, starts, makes, Splits, Joins, Closes, IsCrew, opens, calls, reads, splits, joins, turns_to, EveryServiceIsARun}
+use Rattle.sysv_free.specs.Crew.{under, AreOfOthers, AreOwn, AreWhole, MakesTurn, Does, starts, makes, Splits, Joins, Closes, IsCrew, opens, calls, reads, splits, joins, turns_to, EveryServiceIsARun}
 use Rattle.sysv_free.specs.WorkedOrder.{hello, makes as makes_queue, installs, settles, finds_none, looks, reserves, reads_row, the_row, places, takes, finds_no_other, gives_back, discards, forgets, gives_back_none, by, the_order, the_get, the_send, the_receive, the_left, the_refused, the_removal}
+use Rattle.sysv_free.proofs.Sharing.{AtMost, whole_in_any}
 use Rattle.sysv_free.proofs.Places.{number_other, none_or_some}
 use Rattle.sysv_free.proofs.WorkedOrder.{plays_get, plays_receive, plays_send, plays_left, plays_removal}
 use Rattle.sysv_free.specs.WorkedCrew.{seen, with_one, with_all, calls_of_crew, WorkedCrew}
@@ -168,16 +167,7 @@ closes_all = record { longer = ([], refl); apart = apart_all; all = λ w. (refl,
 
 -- half of a half is not the whole
 not_whole : ¬ AreWhole (2 ∷ [])
-not_whole w =
-    let fine : ℕ = w.0 in
-    let low : 2 ≤ fine = All-head (λ depth. depth ≤ fine) 2 [] w.1 in
-    let e : suc (suc (fine - 2)) ≡ fine = omega arith in
-    let quarter : parts fine (2 ∷ []) ≡ 2 ^ (fine - 2) = omega (arith, sum_by-cons (λ depth. 2 ^ (fine - depth)) 2 []) in
-    let twice : 2 ^ suc (fine - 2) ≡ 2 ^ (fine - 2) * 2 = pow-suc 2 (fine - 2) in
-    let four : 2 ^ suc (suc (fine - 2)) ≡ 2 ^ suc (fine - 2) * 2 = pow-suc 2 (suc (fine - 2)) in
-    let whole : 2 ^ suc (suc (fine - 2)) ≡ 2 ^ (fine - 2) = ap (λ n. 2 ^ n) e ∙ (sym w.2 ∙ quarter) in
-    let some : 1 ≤ 2 ^ (fine - 2) = one-le-pow (fine - 2) 2 (omega arith) in
-    omega arith
+not_whole w = let whole : ◌≡◌ {A = ℕ} 1 4 = whole_in_any (2 ∷ []) w 2 (All-cons (AtMost 2) 2 [] (omega arith) (All-nil (AtMost 2))) in omega arith
 
 pub worked_crew : AreLegal 0 128 (turns_of the_order) → EveryServiceIsARun → WorkedCrew
 worked_crew legal law = record {

@@ -1,8 +1,7 @@
--- The passes of a service, from its opening until all have come home, and the calls that they made. What is said of each
--- call, split and join is what the pass that did it has seen. Nothing is said of the time at which it was done. So any
--- list of these that keeps what came of what is a course of the service, however its threads ran. Once all passes have
--- been joined into one, the order that is found when the service is closed is a run of a world, with those calls
--- (this profile's).
+-- The passes of a service, from its opening until all have come home, and the calls that they made. What a pass does says
+-- what it has seen, and nothing of time. So what passes did can be listed one after the other, however their threads ran.
+-- Once all have been joined into one, the order that is found when the service is closed is a run of a world, with those
+-- calls (this profile's).
 use Rattle.std.specs.Prelude.{◌≡◌, ℕ, suc, ◌-◌, ◌^◌, ◌≤◌, ◌==◌, List, [], ◌∷◌, ◌++◌, All, filter, map}
 use Rattle.std.specs.List.{sum_by}
 use Rattle.sysv_lists.specs.Numbers.{times, NoneTwice}
