@@ -4,9 +4,12 @@ pub mod Playing
 pub mod Picking
 pub mod Ordering
 pub mod RowsApart
+pub mod Sharing
+pub mod Homing
 pub mod Starting
 pub mod Resting
 pub mod WorkedOrder
+pub mod WorkedCrew
 pub mod Reading
 pub mod Forgetting
 pub mod Threading

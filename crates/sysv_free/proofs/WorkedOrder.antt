@@ -108,28 +108,28 @@ module _ (none : AreLegal 0 128 []) (more : (generation blocks : ℕ) (turns : L
 
 -- ---- the calls
 
-plays_get : IsPlayed the_get
+pub plays_get : IsPlayed the_get
 plays_get =
     steps settles 0 (Over (Id (pos 0)))
     (steps installs 10 (Goes (AtSettle (pos 0)))
     (steps makes 0 (Goes (AtInstall (record { cred = sender; key = pos 0; flags = creating }) (pos 0))) begins refl refl) refl refl) refl refl
 
-plays_receive : IsPlayed (the_receive (Over (Got (pos 5) hello)))
+pub plays_receive : IsPlayed (the_receive (Over (Got (pos 5) hello)))
 plays_receive =
     steps gives_back 0 (Over (Got (pos 5) hello))
     (steps takes 13 (Goes (AtReceiveGiveback 1 (pos 5) hello))
     (resumes 1 (steps finds_none 11 (Waits (OnArrived 1 (record { cred = receiver; id = pos 0; selector = Any; size = 100; noerror = true; nowait = false; seen = true }))) begins refl refl) (omega arith)) refl refl) refl refl
 
-plays_send : IsPlayed the_send
+pub plays_send : IsPlayed the_send
 plays_send =
     steps places 12 (Over Zero)
     (steps reserves 0 (Goes (AtPlace (record { cred = sender; id = pos 0; mtype = pos 5; text = hello; nowait = true; released = 0; seen = true }) 1))
     (steps looks 0 (Goes (AtReserve (record { cred = sender; id = pos 0; mtype = pos 5; text = hello; nowait = true; released = 0; seen = true }))) begins refl refl) refl refl) refl refl
 
-plays_left : IsPlayed the_left
+pub plays_left : IsPlayed the_left
 plays_left = steps finds_no_other 14 (Waits (OnArrived 2 left_at)) begins refl refl
 
-plays_removal : IsPlayed the_removal
+pub plays_removal : IsPlayed the_removal
 plays_removal =
     steps gives_back_none 0 (Over Zero)
     (steps forgets 0 (Goes (AtRemoveGiveback 0))

@@ -1,3 +1,5 @@
+pub use Rattle.sysv_lists.specs.Numbers
+pub use Rattle.sysv_lists.specs.Prefix
 pub use Rattle.sysv_model.specs.History
 pub use Rattle.sysv_model.specs.Turn
 pub use Rattle.sysv_pool.specs.PoolLaw
@@ -24,3 +26,5 @@ pub mod Order
 pub mod OrderIsRun
 pub mod WorkedOrder
 pub mod AtRest
+pub mod Crew
+pub mod WorkedCrew

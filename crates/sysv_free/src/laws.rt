@@ -1,11 +1,13 @@
 //! Laws of free runs.
 
 ghost use Rattle.sysv_free.specs.AtRest.{OrdersAtRest};
+ghost use Rattle.sysv_free.specs.Crew.{EveryServiceIsARun};
 ghost use Rattle.sysv_free.specs.Forgotten.{EachForgetTakesItsRow};
 ghost use Rattle.sysv_free.specs.OnThreads.{EveryThreadedRunObeys};
 ghost use Rattle.sysv_free.specs.Order.{NoCallReadsARow};
 ghost use Rattle.sysv_free.specs.OrderIsRun.{EveryOrderIsARun};
 ghost use Rattle.sysv_free.specs.RunIsFree.{EachRunIsFree};
+ghost use Rattle.sysv_free.specs.WorkedCrew.{WorkedCrew};
 ghost use Rattle.sysv_free.specs.WorkedOrder.{WorkedOrder};
 
 use sysv_core::each_world_is_sound;
@@ -77,6 +79,15 @@ pub fn orders_at_rest()
     every_order_is_a_run();
 }
 
+/// Once all passes of a service have been joined into one, the order of all turns that its closing finds is a run,
+/// with all calls that its passes made, if each reply in it is legal and no call found a gate worn out.
+pub fn every_service_that_came_home_is_a_run()
+    ensures { EveryServiceIsARun }
+{
+    every_order_is_a_run();
+    orders_at_rest();
+}
+
 /// An order in which the turns of three passes interleave, with a receive that waited and one that was left, is
 /// legal, and it is a run with the calls that made it. Calls that do not belong to it are refused.
 pub fn worked_order()
@@ -86,4 +97,13 @@ pub fn worked_order()
     each_answer_is_right();
     every_order_is_a_run();
     orders_at_rest();
+}
+
+/// The worked order is that of a service of three passes: it is opened, two passes are split off, calls are made, and
+/// all passes come home. It does not come home without one of the calls.
+pub fn worked_crew()
+    ensures { WorkedCrew }
+{
+    worked_order();
+    every_service_that_came_home_is_a_run();
 }
