@@ -25,7 +25,7 @@ set_twice (x ∷ xs) (suc i) a b = ap (λ l. x ∷ l) (set_twice xs i a b)
 module _ {O C R : Type 0} (place : ℕ) where
   -- nothing was done
   pub only_self : (m : Passing O C R) → Carries place m → IsPrefixOf (view_at place m.0).seen (turns_at place m.0.seen) → Only place m m
-  only_self m carries within = record { many = refl; order = prefix_self m.0.seen; also = refl; others = sym (set-get_or m.0.views place spent); carries = carries; within = within }
+  only_self m carries within = record { many = refl; order = prefix_self m.0.seen; also = refl; others = sym (set-get_or m.0.views place spent); carries = carries; within = within; owns = λ o. o }
 
   -- one step after another
   pub only_trans : (m m' m'' : Passing O C R) → Only place m m' → Only place m' m'' → Only place m m''
@@ -36,6 +36,7 @@ module _ {O C R : Type 0} (place : ℕ) where
     others = two.others ∙ ap (λ l. set l place (view_at place m''.0)) one.others ∙ set_twice m.0.views place (view_at place m'.0) (view_at place m''.0);
     carries = two.carries;
     within = two.within;
+    owns = λ o. two.owns (one.owns o);
   }
 
   -- one step
@@ -47,6 +48,7 @@ module _ {O C R : Type 0} (place : ℕ) where
     others = went.views;
     carries = went.carries;
     within = went.within;
+    owns = λ _. went.owns;
   }
 
   pub same_trans : (before mid after : Seat (Spot O C R) (Sight O C R)) → IsSame place before mid → IsSame place mid after → IsSame place before after

@@ -1,5 +1,5 @@
 -- The rule holds when a table with several places is laid.
-use Rattle.std.proofs.Common.{◌≡◌, ℕ, zero, suc, ◌+◌, ◌*◌, ◌^◌, ◌<◌, ◌≤◌, List, [], ◌∷◌, ◌++◌, map, length, reverse, get_or, take, drop, refl, sym, ap, ◌∙◌, subst, ⊎_elim, arith, length-append, append_assoc}
+use Rattle.std.proofs.Common.{◌≡◌, ◌⊎◌, inr, ℕ, zero, suc, ◌+◌, ◌*◌, ◌^◌, ◌<◌, ◌≤◌, List, [], ◌∷◌, ◌++◌, map, length, reverse, get_or, take, drop, refl, sym, ap, ◌∙◌, subst, ⊎_elim, arith, length-append, append_assoc}
 use Rattle.std.specs.Prelude.{Some, None}
 use mathlib.Core.Logic.{dite}
 use native.Mathlib.Decide.{ℕ_discrete}
@@ -86,6 +86,7 @@ module _ {O C R : Type 0} (moves : O → C → R → O → Type 0) (counted : O 
           subst (GatedBy moves counted o first [])
           (λ i. record { words = block place words; homes = sym (read_at (map some spots) place none (some (put o None)) home) i ∷ []; views = sym sees i ∷ [] }) gated;
       seen = λ id v at. ⊎_elim (λ t. absurd (some-ne-none v (sym t))) (λ t. subst (λ (x : Sight O C R). IsPrefixOf x.seen [] × IsPrefixOf x.also []) t (([], refl), ([], refl))) (at_snoc [] (outset objects first) v id at);
+      whole = λ id v at. ⊎_elim (λ t. absurd (some-ne-none v (sym t))) (λ t. subst (λ (x : Sight O C R). (x.views ≡ []) ⊎ (length x.views ≡ length objects)) t (inr (length-map objects (λ (o : O). start {C = C} {R = R} o first)))) (at_snoc [] (outset objects first) v id at);
     },
   )
     where

@@ -12,11 +12,12 @@ use Rattle.sysv_gate.specs.History.{made_at}
 use Rattle.sysv_gate.specs.Orders.{turns_at, placed}
 use Rattle.sysv_gate.specs.Steps as gate
 use Rattle.sysv_gate.specs.Steps.{Mine, At, turn_of, Gathers}
-use Rattle.sysv_gate.specs.Halls.{view_at, Passing, me_at, Carries}
+use Rattle.sysv_gate.specs.Halls.{view_at, OwnsInOrder, Passing, me_at, Carries}
 
 module _ {O C R : Type 0} where
   -- The step is one at this place, where it tells `told`. Nothing changes at another place. The pass sees the order as it is
-  -- then, which begins with all that it had seen; these turns at the place are added to it
+  -- then, which begins with all that it had seen; these turns at the place are added to it. It knows just the turns of its
+  -- own in what it sees then
   pub record StepsAt (place : ℕ) (added : List (Turn O C R)) (told : Mine O C R → Type 0) (m m' : Passing O C R) : Type 0 where
     pub order : List (Placed O C R)
     pub longer : IsPrefixOf m.0.seen order
@@ -25,6 +26,7 @@ module _ {O C R : Type 0} where
     pub views : m'.0.views ≡ slice_set m.0.views place (view_at place m'.0)
     pub within : IsPrefixOf (view_at place m'.0).seen (turns_at place m'.0.seen)
     pub turn : (view_at place m.0).in_turn ≡ true → (view_at place m.0).seen ≡ turns_at place order
+    pub owns : OwnsInOrder m'.0
     pub carries : Carries place m'
     pub there : told (me_at place m')
 
@@ -77,6 +79,7 @@ module _ {O C R : Type 0} where
   abbrev pub Names : At O C R → Passing O C R → ℕ → Passing O C R → Type 0
   Names st m n m' =
       (number : ℕ) × (m' ≡ (at_each (gate.named number) m.0, m.1)) × ((place k : ℕ) → place < length m.0.views → made_at (number ∷ []) (view_at place m.0).seen k ≡ 0)
+      × ((place k : ℕ) → place < length m.0.views → made_at (number ∷ []) (turns_at place m.0.seen) k ≡ 0)
 
   -- what a look after a join tells
   pub record Merges (moves : O → C → R → O → Type 0) (m m' : Passing O C R) : Type 0 where
@@ -85,3 +88,4 @@ module _ {O C R : Type 0} where
     pub two : IsPrefixOf m.0.also order
     pub is : m' ≡ (record { views = merged_from 0 order m.0.views; seen = order; also = [] }, m.1)
     pub there : (place : ℕ) → place < length m.0.views → (opening : O) → (view_at place m.0).opening ≡ Some opening → Gathers moves opening (me_at place m) (gate.merged (turns_at place order) (view_at place m.0), (me_at place m).1)
+    pub owns : OwnsInOrder m'.0
