@@ -1,5 +1,5 @@
 -- A step of a gate is one at a place of a table with several.
-use Rattle.std.proofs.Common.{◌≡◌, ◌≢◌, ◌⊎◌, inr, ⊎_elim, ℕ, zero, suc, ◌+◌, ◌*◌, ◌<◌, List, [], ◌∷◌, ◌++◌, map, length, set, get_or, sym, refl, ap, ◌∙◌, subst, arith, length-set, get_or-set_same, get_or-set_other}
+use Rattle.std.proofs.Common.{◌≡◌, ◌≢◌, inr, ⊎_elim, ℕ, zero, suc, ◌+◌, ◌*◌, ◌<◌, List, [], ◌∷◌, ◌++◌, map, length, set, get_or, sym, refl, ap, ◌∙◌, subst, arith, length-set, get_or-set_same, get_or-set_other}
 use mathlib.Core.Logic.{dite}
 use native.Mathlib.Decide.{ℕ_discrete}
 use mathlib.Core.Option.{none, some}
@@ -18,10 +18,11 @@ use Rattle.sysv_lists.proofs.Places.{at_below, set_at, there}
 use Rattle.sysv_gate.specs.Rule.{Spot, GatedBy}
 use Rattle.sysv_gate.specs.Steps.{Mine, At, spent}
 use Rattle.sysv_gate.specs.Orders.{turns_at, placed, AreBelow}
-use Rattle.sysv_gate.specs.Halls.{block, view_at, state_at, InOrder, Passing, me_at, Carries}
+use Rattle.sysv_gate.specs.Halls.{block, view_at, state_at, IsFull, InOrder, Passing, me_at, Carries}
 use Rattle.sysv_gate.specs.Plays.{StepsAt, AtAPlace}
 use Rattle.sysv_gate.proofs.Blocks.{block_read, block_set, block_else}
 use Rattle.sysv_gate.proofs.Ordering.{turns_append, turns_here, turns_else, below_more, below_placed}
+use Rattle.sysv_gate.proofs.Sharing.{still_whole}
 use Rattle.sysv_gate.proofs.Touching.{Touch, leaves, takes, gives, act_at, AllowsTo}
 
 -- what lies at a number, where something does
@@ -106,7 +107,7 @@ module _ {O C R : Type 0} (moves : O → C → R → O → Type 0) (counted : O 
       let w : View O C R = went.0 in
       let a : Touch (Spot O C R) = went.1 in
       let next : List (Placed O C R) = order ++ placed place added in
-      let sight : Sight O C R = record { views = set m.0.views place w; seen = next; also = m.0.also } in
+      let sight : Sight O C R = record { views = set m.0.views place w; seen = next; also = m.0.also; shares = m.0.shares } in
       let n : ℕ = f (get_or s.words (80 * place + i) 0) in
       let s' : St = stepped s (80 * place + i) n id m.1 sight (act_at place a) in
       let sees : view_at place sight ≡ w = get_or-set_same m.0.views place w spent known in
@@ -121,7 +122,7 @@ module _ {O C R : Type 0} (moves : O → C → R → O → Type 0) (counted : O 
       subst (λ (l : Log). By o l (state_at place s')) (sym turns) (subst (By o (log ++ added)) (sym step_there) went.3) in
       let mine : get_elem? (map (view_at place) (set s.views id sight)) id ≡ some (view_at place sight) = at_map (view_at place) (set s.views id sight) id sight (set_at s.views id m.0 sight at) in
       let longer : IsPrefixOf m.0.seen order = (kept.seen id m.0 at).0 in
-      let wide : length m.0.views ≡ length openings = ⊎_elim (λ t. let none : length m.0.views ≡ 0 = ap length t in absurd (omega arith)) (λ t. t) (kept.whole id m.0 at) in
+      let wide : length m.0.views ≡ length openings = ⊎_elim (λ t. let none : length m.0.views ≡ 0 = ap length t in absurd (omega arith)) (λ t. t) (kept.full id m.0 at).views in
       let long : length sight.views ≡ length openings = length-set m.0.views place w ∙ wide in
       let below : AreBelow (length openings) next = below_more (length openings) order (placed place added) kept.below (below_placed (length openings) place added few) in
       let each : (other : ℕ) (p : O) → get_elem? openings other ≡ some p → By p (turns_at other next) (state_at other s') = (λ other p opens'.
@@ -155,10 +156,11 @@ module _ {O C R : Type 0} (moves : O → C → R → O → Type 0) (counted : O 
                 ⊎_elim
                 (λ t. subst (λ (x : Sight O C R). IsPrefixOf x.seen next × IsPrefixOf x.also next) t.1 (([], sym (append-nil next)), prefix_longer m.0.also order (placed place added) (kept.seen id m.0 at).1))
                 (λ t. let old = kept.seen k v t.1 in (prefix_longer v.seen order (placed place added) old.0, prefix_longer v.also order (placed place added) old.1)) (at_set s.views id k sight v there');
-            whole = λ k v there'.
+            full = λ k v there'.
                 ⊎_elim
-                (λ t. subst (λ (x : Sight O C R). (x.views ≡ []) ⊎ (length x.views ≡ length openings)) t.1 (inr long))
-                (λ t. kept.whole k v t.1) (at_set s.views id k sight v there');
+                (λ t. subst (IsFull openings) t.1 (record { views = inr long; shareless = λ none. ap (λ (vs : List (View O C R)). set vs place w) ((kept.full id m.0 at).shareless none) }))
+                (λ t. kept.full k v t.1) (at_set s.views id k sight v there');
+            shared = still_whole s.views id m.0 sight at refl kept.shared;
           },
         ),
         record {
@@ -166,6 +168,7 @@ module _ {O C R : Type 0} (moves : O → C → R → O → Type 0) (counted : O 
           longer = longer;
           seen = refl;
           also = refl;
+          shares = refl;
           views = ap (set m.0.views place) (sym sees);
           within = (now.3.each id (view_at place sight) mine).seen;
           turn = λ turn. ((here.3.each id (view_at place m.0) (at_map (view_at place) s.views id m.0 at)).turn turn).1;

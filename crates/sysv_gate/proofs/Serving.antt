@@ -51,7 +51,7 @@ module _ {O C R : Type 0} where
 
   -- nothing but what is in the slot has changed
   pub refilled_only : (place : ℕ) (m m' : Passing O C R) (x : Spot O C R) → m' ≡ (m.0, (place, x) ∷ []) → IsPrefixOf (view_at place m.0).seen (turns_at place m.0.seen) → Only place m m'
-  refilled_only place m m' x is within = subst (Only place m) (sym is) (record { many = refl; order = prefix_self m.0.seen; also = refl; others = sym (set-get_or m.0.views place spent); carries = refl; within = within; owns = λ o. o })
+  refilled_only place m m' x is within = subst (Only place m) (sym is) (record { many = refl; order = prefix_self m.0.seen; also = refl; shares = refl; others = sym (set-get_or m.0.views place spent); carries = refl; within = within; owns = λ o. o })
 
   -- the turn that the slot tells of is added to the history
   pub ends_told : (moves : O → C → R → O → Type 0) (counted : O → ℕ × ℕ) (opening : O) (first : ℕ) (log : List (Turn O C R)) (slots id : ℕ) (me : Mine O C R) (v : View O C R) (o : O) (ticket : ℕ) (after : O) (done : Done C R)

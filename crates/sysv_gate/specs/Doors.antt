@@ -45,6 +45,7 @@ module _ {O C R : Type 0} where
     pub many : length m'.0.views ≡ length m.0.views
     pub order : IsPrefixOf m.0.seen m'.0.seen
     pub also : m'.0.also ≡ m.0.also
+    pub shares : m'.0.shares ≡ m.0.shares
     pub others : m'.0.views ≡ slice_set m.0.views place (view_at place m'.0)
     pub carries : Carries place m'
     pub within : IsPrefixOf (view_at place m'.0).seen (turns_at place m'.0.seen)

@@ -1,5 +1,5 @@
 -- The one order of the turns at several places.
-use Rattle.std.specs.Prelude.{◌≡◌, ℕ, ◌<◌, ◌==◌, List, [], ◌∷◌, map, filter}
+use Rattle.std.specs.Prelude.{◌≡◌, ℕ, ◌<◌, ◌≤◌, ◌==◌, List, [], ◌∷◌, map, filter}
 use Rattle.sysv_gate.specs.declared.view.Turn.{Turn}
 use Rattle.sysv_gate.specs.declared.view.Placed.{Placed}
 use Rattle.sysv_lists.specs.Numbers.{times}
@@ -23,6 +23,11 @@ module _ {O C R : Type 0} where
   abbrev pub NoneMadeUnder : List ℕ → List (Placed O C R) → Type 0
   NoneMadeUnder numbers [] = Unit {0}
   NoneMadeUnder numbers (t ∷ ts) = (times t.turn.by numbers ≡ 0) × NoneMadeUnder numbers ts
+
+  -- each of the turns was made under one of the numbers
+  abbrev pub AllMadeUnder : List ℕ → List (Placed O C R) → Type 0
+  AllMadeUnder numbers [] = Unit {0}
+  AllMadeUnder numbers (t ∷ ts) = (1 ≤ times t.turn.by numbers) × AllMadeUnder numbers ts
 
   -- one order goes on to another, by turns none of which was made under one of the numbers
   abbrev pub GoesOnWithout : List ℕ → List (Placed O C R) → List (Placed O C R) → Type 0

@@ -10,6 +10,7 @@ use Rattle.sysv_gate.specs.declared.place.Done.{Done}
 use Rattle.sysv_lists.specs.Prefix.{IsPrefixOf}
 use Rattle.sysv_gate.specs.History.{made_at}
 use Rattle.sysv_gate.specs.Orders.{turns_at, placed}
+use Rattle.sysv_gate.specs.Shares.{half}
 use Rattle.sysv_gate.specs.Steps as gate
 use Rattle.sysv_gate.specs.Steps.{Mine, At, turn_of, Gathers}
 use Rattle.sysv_gate.specs.Halls.{view_at, OwnsInOrder, Passing, me_at, Carries}
@@ -23,6 +24,7 @@ module _ {O C R : Type 0} where
     pub longer : IsPrefixOf m.0.seen order
     pub seen : m'.0.seen ≡ order ++ placed place added
     pub also : m'.0.also ≡ m.0.also
+    pub shares : m'.0.shares ≡ m.0.shares
     pub views : m'.0.views ≡ slice_set m.0.views place (view_at place m'.0)
     pub within : IsPrefixOf (view_at place m'.0).seen (turns_at place m'.0.seen)
     pub turn : (view_at place m.0).in_turn ≡ true → (view_at place m.0).seen ≡ turns_at place order
@@ -53,9 +55,13 @@ module _ {O C R : Type 0} where
   abbrev pub at_each : (View O C R → View O C R) → Sight O C R → Sight O C R
   at_each change sight = record sight { views = map change sight.views }
 
-  -- what a split gives
+  -- what a split leaves: half of the share
+  abbrev pub halved : Sight O C R → Sight O C R
+  halved sight = record sight { views = map gate.parted sight.views; shares = half sight.shares }
+
+  -- what it gives: the other half
   abbrev pub newcomer : Sight O C R → Sight O C R
-  newcomer sight = record { views = map gate.newcomer sight.views; seen = sight.seen; also = [] }
+  newcomer sight = record { views = map gate.newcomer sight.views; seen = sight.seen; also = []; shares = half sight.shares }
 
   abbrev pub both_views : List (View O C R) → List (View O C R) → List (View O C R)
   both_views [] ws = []
@@ -64,11 +70,11 @@ module _ {O C R : Type 0} where
 
   -- two sights in one
   abbrev pub both_of : Sight O C R → Sight O C R → Sight O C R
-  both_of one two = record { views = both_views one.views two.views; seen = one.seen; also = two.seen }
+  both_of one two = record { views = both_views one.views two.views; seen = one.seen; also = two.seen; shares = one.shares ++ two.shares }
 
   -- what is left of a sight that was joined into another
   abbrev pub spent : Sight O C R
-  spent = record { views = []; seen = []; also = [] }
+  spent = record { views = []; seen = []; also = []; shares = [] }
 
   -- what the places from this one on have seen after a look at the whole order
   abbrev pub merged_from : ℕ → List (Placed O C R) → List (View O C R) → List (View O C R)
@@ -86,6 +92,6 @@ module _ {O C R : Type 0} where
     pub order : List (Placed O C R)
     pub one : IsPrefixOf m.0.seen order
     pub two : IsPrefixOf m.0.also order
-    pub is : m' ≡ (record { views = merged_from 0 order m.0.views; seen = order; also = [] }, m.1)
+    pub is : m' ≡ (record m.0 { views = merged_from 0 order m.0.views; seen = order; also = [] }, m.1)
     pub there : (place : ℕ) → place < length m.0.views → (opening : O) → (view_at place m.0).opening ≡ Some opening → Gathers moves opening (me_at place m) (gate.merged (turns_at place order) (view_at place m.0), (me_at place m).1)
     pub owns : OwnsInOrder m'.0
