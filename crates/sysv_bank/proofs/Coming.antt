@@ -24,7 +24,7 @@ use Rattle.sysv_gate.specs.Orders.{turns_at, AreBelow, NoneMadeUnder}
 use Rattle.sysv_gate.proofs.Ordering.{turns_longer}
 use Rattle.sysv_gate.proofs.Histories.{made_at-append}
 use Rattle.sysv_gate.specs.Halls.{view_at, Passing, me_at, outset}
-use Rattle.sysv_gate.specs.Plays.{at_each, both_views, both_of, merged_from, Merges}
+use Rattle.sysv_gate.specs.Plays.{halved, both_views, both_of, merged_from, Merges}
 use Rattle.sysv_gate.specs.Doors.{IsNewcomer, KnowsAll}
 use Rattle.std.specs.declared.snapshot.Snapshot.{Snapshot}
 use Rattle.sysv_gate.specs.declared.hall.HallKey.{HallKey}
@@ -126,19 +126,19 @@ module _ {O C R : Type 0} (moves : O → C → R → O → Type 0) where
     abbrev Os : List O
     Os = s.key.value.openings.value.items
 
-    pub parted_now : token.me ≡ (at_each step.parted s.token.me.0, s.token.me.1) → (pass_of Now).seats ≡ map parted (pass_of s).seats
+    pub parted_now : token.me ≡ (halved s.token.me.0, s.token.me.1) → (pass_of Now).seats ≡ map parted (pass_of s).seats
     parted_now is =
         ap (λ (m : Passing O C R). holdings token.table_id s.key.value.first Os m.0.views) is
         ∙ ap (λ (t : TableId). holdings t s.key.value.first Os (map step.parted s.token.me.0.views)) same
         ∙ parted_seats s.token.table_id s.key.value.first Os s.token.me.0.views
 
-    parted_view : token.me ≡ (at_each step.parted s.token.me.0, s.token.me.1) → (place : ℕ) → place < length s.token.me.0.views → view_at place token.me.0 ≡ step.parted (view_at place s.token.me.0)
+    parted_view : token.me ≡ (halved s.token.me.0, s.token.me.1) → (place : ℕ) → place < length s.token.me.0.views → view_at place token.me.0 ≡ step.parted (view_at place s.token.me.0)
     parted_view is place less = ap (λ (m : Passing O C R). view_at place m.0) is ∙ get_or-map step.parted s.token.me.0.views place spent spent less
 
-    parted_many : token.me ≡ (at_each step.parted s.token.me.0, s.token.me.1) → length token.me.0.views ≡ length s.token.me.0.views
+    parted_many : token.me ≡ (halved s.token.me.0, s.token.me.1) → length token.me.0.views ≡ length s.token.me.0.views
     parted_many is = ap (λ (m : Passing O C R). length m.0.views) is ∙ length-map s.token.me.0.views step.parted
 
-    pub parted_rests : token.me ≡ (at_each step.parted s.token.me.0, s.token.me.1) → Rests moves Now
+    pub parted_rests : token.me ≡ (halved s.token.me.0, s.token.me.1) → Rests moves Now
     parted_rests is = record {
       no_slot = ap (λ (m : Passing O C R). m.1) is ∙ rest.no_slot;
       nothing_else = ap (λ (m : Passing O C R). m.0.also) is ∙ rest.nothing_else;
@@ -225,7 +225,7 @@ module _ {O C R : Type 0} (moves : O → C → R → O → Type 0) where
         }
 
     -- the order that the two have seen, and their numbers
-    pub split_order : (key : Snapshot (HallKey O)) (parent : Seat (Spot O C R) (Sight O C R)) → 1 ≤ length Os → parent.me ≡ (at_each step.parted s.token.me.0, s.token.me.1) → IsNewcomer s.token.me.0 token.me
+    pub split_order : (key : Snapshot (HallKey O)) (parent : Seat (Spot O C R) (Sight O C R)) → 1 ≤ length Os → parent.me ≡ (halved s.token.me.0, s.token.me.1) → IsNewcomer s.token.me.0 token.me
         → SplitsOff (pass_of s) (pass_of (record { token = parent; key = s.key })) (pass_of (record { token = token; key = key }))
     split_order key parent some_place is new =
         let many = rest.many in
@@ -241,6 +241,8 @@ module _ {O C R : Type 0} (moves : O → C → R → O → Type 0) where
           order = ap (λ (m : Passing O C R). m.0.seen) is;
           number = ap (λ (v : View O C R). v.number) theirs;
           numbers = ap (λ (v : View O C R). v.numbers) theirs;
+          shares = ap (λ (m : Passing O C R). m.0.shares) is;
+          new_shares = ap (λ (m : Passing O C R). m.0.shares) new.1;
           new_order = order;
           new_numbers = numbers ∙ ap (λ (k : ℕ). k ∷ []) (sym number);
           no_turn = subst (λ (l : List ℕ). NoneMadeUnder l token.me.0.seen) (sym numbers) (subst (NoneMadeUnder (n ∷ [])) (sym order) none);
@@ -390,6 +392,7 @@ module _ {O C R : Type 0} (moves : O → C → R → O → Type 0) where
           begins_two = (two, goes_without ks count own' u.token.me.0.seen token.me.0.seen two told.owns.below (λ q p less. (parts q p less).1) (λ q p less. (parts q p less).3));
           number = ap (λ (v : View O C R). v.number) here;
           numbers = ap (λ (v : View O C R). v.numbers) here;
+          shares = ap (λ (m : Passing O C R). m.0.shares) told.is;
         }
 
     pub joined_rests : Rests moves Here

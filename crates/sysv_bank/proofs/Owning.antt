@@ -2,13 +2,14 @@
 use Rattle.std.proofs.Common.{◌≡◌, ℕ, zero, suc, ◌+◌, ◌<◌, ◌≤◌, List, [], ◌∷◌, ◌++◌, length, refl, sym, ap, ◌∙◌, subst, arith, lt_of_not-le}
 use mathlib.Core.Logic.{dite}
 use native.Mathlib.Decide.{ℕ_discrete, dec_le}
+use Rattle.std.proofs.lemmas.List.{append-nil}
 use Rattle.sysv_lists.specs.Numbers.{times}
 use Rattle.sysv_lists.specs.Prefix.{IsPrefixOf}
 use Rattle.sysv_lists.proofs.Counting.{times-append, times-one}
 use Rattle.sysv_gate.specs.declared.view.Turn.{Turn}
 use Rattle.sysv_gate.specs.declared.view.Placed.{Placed}
 use Rattle.sysv_gate.specs.History.{made_at}
-use Rattle.sysv_gate.specs.Orders.{turns_at, AreBelow, NoneMadeUnder}
+use Rattle.sysv_gate.specs.Orders.{turns_at, AreBelow, NoneMadeUnder, AllMadeUnder}
 use Rattle.sysv_gate.proofs.Counting.{another}
 use Rattle.sysv_gate.proofs.Ordering.{turns_append, turns_here, turns_else, below_back}
 
@@ -79,3 +80,33 @@ module _ {O C R : Type 0} (numbers : List ℕ) where
   goes_without count own xs ys longer below is most =
       none_made count longer.0 (below_back count xs longer.0 (subst (AreBelow count) longer.1 below))
       (λ q j less. none_more (own q) (turns_at q xs) (turns_at q longer.0) (λ p. subst (λ (l : List (Turn O C R)). made_at numbers l p ≤ times p (own q)) (ap (turns_at q) longer.1 ∙ turns_append q xs longer.0) (most q p less)) (λ p. is q p less) j)
+
+  -- where each turn at each place was made under them, all were
+  pub all_made : (count : ℕ) (order : List (Placed O C R)) → AreBelow count order → ((q j : ℕ) → q < count → j < length (turns_at q order) → 1 ≤ made_at numbers (turns_at q order) j) → AllMadeUnder numbers order
+  all_made count [] below each = tt
+  all_made count (t ∷ ts) below each =
+      let here : turns_at t.place (t ∷ ts) ≡ t.turn ∷ turns_at t.place ts = turns_append t.place (t ∷ []) ts ∙ ap (λ (l : List (Turn O C R)). l ++ turns_at t.place ts) (turns_here t.place (t.turn ∷ [])) in
+      let long : length (turns_at t.place (t ∷ ts)) ≡ suc (length (turns_at t.place ts)) = ap length here in (
+        subst (λ (l : List (Turn O C R)). 1 ≤ made_at numbers l 0) here (each t.place 0 below.0 (omega arith)),
+        all_made count ts below.1
+            (λ q j less near.
+            dite (ℕ_discrete q t.place)
+            (λ e.
+            let near' : j < length (turns_at t.place ts) = subst (λ (k : ℕ). j < length (turns_at k ts)) e near in
+            subst (λ (k : ℕ). 1 ≤ made_at numbers (turns_at k ts) j) (sym e) (subst (λ (l : List (Turn O C R)). 1 ≤ made_at numbers l (suc j)) here (each t.place (suc j) below.0 (omega arith))))
+            (λ ne.
+            let same : turns_at q (t ∷ ts) ≡ turns_at q ts = turns_append q (t ∷ []) ts ∙ ap (λ (l : List (Turn O C R)). l ++ turns_at q ts) (turns_else t.place q ne (t.turn ∷ [])) in
+            subst (λ (l : List (Turn O C R)). 1 ≤ made_at numbers l j) same (each q j less (subst (λ (l : List (Turn O C R)). j < length l) (sym same) near)))),
+      )
+
+  all_back : (xs ys : List (Placed O C R)) → AllMadeUnder numbers (xs ++ ys) → AllMadeUnder numbers ys
+  all_back [] ys all = all
+  all_back (x ∷ xs) ys all = all_back xs ys all.1
+
+  -- an order does not go on where each turn was made under the numbers, and none after it was
+  pub ends_there : (xs ys : List (Placed O C R)) (longer : IsPrefixOf xs ys) → NoneMadeUnder numbers longer.0 → AllMadeUnder numbers ys → ys ≡ xs
+  ends_there xs ys longer none all = longer.1 ∙ ap (λ (l : List (Placed O C R)). xs ++ l) (nothing longer.0 none (all_back xs longer.0 (subst (AllMadeUnder numbers) longer.1 all))) ∙ append-nil xs
+    where
+      nothing : (zs : List (Placed O C R)) → NoneMadeUnder numbers zs → AllMadeUnder numbers zs → zs ≡ []
+      nothing [] none' all' = refl
+      nothing (z ∷ zs) none' all' = let a = none'.0 in let b = all'.0 in absurd (omega arith)

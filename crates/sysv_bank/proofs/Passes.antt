@@ -208,7 +208,7 @@ module _ {O C R : Type 0} (moves : O → C → R → O → Type 0) (counted : O 
           let named = ap (λ (l : List ℕ). made_at l (turns_at q token.me.0.seen) p) ((names_at stays.names q).1 ∙ (rest.named q (omega arith)).1) in
           let same = ap (times p) (still q) in
           omega arith) in
-          subst (λ (p : Pass O C R). GoesOn p (pass_of Now)) shown (record { order = (went.2.order, goes); number = (names_at stays.names 0).0; numbers = (names_at stays.names 0).1 })
+          subst (λ (p : Pass O C R). GoesOn p (pass_of Now)) shown (record { order = (went.2.order, goes); number = (names_at stays.names 0).0; numbers = (names_at stays.names 0).1; shares = went.2.shares })
 
       pub rests_after : token.me.1 ≡ [] → RestsAt moves door.opening s.key.value.first (view_at door.place token.me.0) → IsNamedAs (view_at door.place s.token.me.0) (view_at door.place token.me.0) → Rests moves Now
       rests_after none there names = record {
@@ -272,6 +272,7 @@ module _ {O C R : Type 0} (moves : O → C → R → O → Type 0) (counted : O 
             by = ends.by ∙ more.names.0 ∙ (rest.named door.place known).0 ∙ ap (λ (p : Pass O C R). p.number) shown;
             number = number;
             numbers = (names_at more.names 0).1 ∙ ap (λ (p : Pass O C R). p.numbers) shown;
+            shares = went.2.shares ∙ ap (λ (p : Pass O C R). p.shares) shown;
           }
 
 module _ {O C R : Type 0} (moves : O → C → R → O → Type 0) (s : Inside O C R) (rest : Rests moves s) where

@@ -8,7 +8,8 @@ use Rattle.sysv_gate.specs.declared.closing.Closing.{Closing}
 use Rattle.sysv_gate.specs.declared.view.Placed.{Placed}
 use Rattle.sysv_gate.specs.Gates.{Holding}
 use Rattle.sysv_gate.specs.Closings.{Closes}
-use Rattle.sysv_gate.specs.Orders.{turns_at, AreBelow, NoneMadeUnder}
+use Rattle.sysv_gate.specs.Shares.{IsWhole}
+use Rattle.sysv_gate.specs.Orders.{turns_at, AreBelow, NoneMadeUnder, AllMadeUnder}
 use Rattle.sysv_bank.specs.Passes.{Pass}
 
 -- There is one order of all turns at the places. It begins with all that the pass had seen of it, goes on without a turn of
@@ -18,5 +19,6 @@ pub record ClosesInOrder {O C R : Type 0} (moves : O → C → R → O → Type 
   pub longer : IsPrefixOf pass.order order
   pub strangers : NoneMadeUnder pass.numbers longer.0
   pub apart : NoneTwice pass.numbers
+  pub home : IsWhole pass.shares → (order ≡ pass.order) × AllMadeUnder pass.numbers order
   pub below : AreBelow (length pass.seats) order
   pub each : (place : ℕ) (h : Holding O C R) (c : Closing O) → get_elem? pass.seats place ≡ some h → get_elem? closings place ≡ some c → (closes : Closes moves h c) × (closes.log ≡ turns_at place order)

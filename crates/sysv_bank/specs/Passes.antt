@@ -10,15 +10,17 @@ use Rattle.sysv_gate.specs.declared.view.Turn.{Turn}
 use Rattle.sysv_gate.specs.declared.view.Placed.{Placed}
 use Rattle.sysv_gate.specs.Gates.{Holding}
 use Rattle.sysv_gate.specs.History.{HasItsOwn}
+use Rattle.sysv_gate.specs.Shares.{half}
 use Rattle.sysv_gate.specs.Orders.{turns_at, NoneMadeUnder, GoesOnWithout}
 
 -- A seat at each place, the order of the turns at all places, as far as it was seen, the number under which the pass makes
--- its turns, and this number with those of the passes that were joined into it
+-- its turns, this number with those of the passes that were joined into it, and its share of the bank
 pub record Pass (O C R : Type 0) : Type 0 where
   pub seats : List (Holding O C R)
   pub order : List (Placed O C R)
   pub number : ℕ
   pub numbers : List ℕ
+  pub shares : List ℕ
 
 module _ {O C R : Type 0} where
   -- what is seen of one place
@@ -40,11 +42,13 @@ module _ {O C R : Type 0} where
   holdings table first (o ∷ os) [] = []
   holdings table first (o ∷ os) (v ∷ vs) = holding table first o v ∷ holdings table first os vs
 
-  -- the order that was seen goes on with turns of others, and the pass makes its turns under the same numbers
+  -- The order that was seen goes on with turns of others. The pass makes its turns under the same numbers, and has the same
+  -- share
   pub record GoesOn (before after : Pass O C R) : Type 0 where
     pub order : GoesOnWithout before.numbers before.order after.order
     pub number : after.number ≡ before.number
     pub numbers : after.numbers ≡ before.numbers
+    pub shares : after.shares ≡ before.shares
 
   -- The order that was seen goes on with turns of others, and ends with a turn of this place, made under the pass's number.
   -- All turns there that are in it are those that were seen there, so that the last of these is the last of the order
@@ -57,24 +61,28 @@ module _ {O C R : Type 0} where
     pub by : turn.by ≡ before.number
     pub number : after.number ≡ before.number
     pub numbers : after.numbers ≡ before.numbers
+    pub shares : after.shares ≡ before.shares
 
   -- Another pass was split off. It has seen as much of the order, and has a number of its own, under which none of these
-  -- turns was made
+  -- turns was made. Each of the two has half of the share
   pub record SplitsOff (before after new : Pass O C R) : Type 0 where
     pub order : after.order ≡ before.order
     pub number : after.number ≡ before.number
     pub numbers : after.numbers ≡ before.numbers
+    pub shares : after.shares ≡ half before.shares
+    pub new_shares : new.shares ≡ half before.shares
     pub new_order : new.order ≡ before.order
     pub new_numbers : new.numbers ≡ new.number ∷ []
     pub no_turn : NoneMadeUnder new.numbers new.order
 
-  -- One pass has taken in another, and has the numbers of both. The order that it has seen begins with that of either, and
+  -- One pass has taken in another, and has the numbers and the shares of both. The order that it has seen begins with that of either, and
   -- goes on from there without a turn of that one
   pub record JoinsOrders (one two after : Pass O C R) : Type 0 where
     pub begins_one : GoesOnWithout one.numbers one.order after.order
     pub begins_two : GoesOnWithout two.numbers two.order after.order
     pub number : after.number ≡ one.number
     pub numbers : after.numbers ≡ one.numbers ++ two.numbers
+    pub shares : after.shares ≡ one.shares ++ two.shares
 
   -- what was seen at each place is a beginning of its part of the order
   abbrev pub SeenInOrder : Pass O C R → Type 0

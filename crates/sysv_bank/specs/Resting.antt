@@ -37,6 +37,7 @@ module _ {O C R : Type 0} where
     order = s.token.me.0.seen;
     number = (view_at 0 s.token.me.0).number;
     numbers = (view_at 0 s.token.me.0).numbers;
+    shares = s.token.me.0.shares;
   }
 
   -- the same number, and the same numbers

@@ -43,8 +43,8 @@ impl<O: Object> Model for Bank<O> {
 }
 
 impl<O: Object> Bank<O> {
-    /// A bank of the objects, whose tickets begin at `first` at each place, and its first seat. `BadStart` comes where
-    /// `first` is above 2^62, and `NoMemory` where there is no memory. The objects come back in either.
+    /// A bank of the objects, whose tickets begin at `first` at each place, and its first seat, which has the whole of the
+    /// bank as its share. `BadStart` comes where `first` is above 2^62, and `NoMemory` where there is no memory. The objects come back in either.
     pub fn open(
         alloc: Global,
         mut objects: Vec<O, Global>,
@@ -55,6 +55,7 @@ impl<O: Object> Bank<O> {
         ensures ok { IfOk result (λ o. AreOpened objects.items first o.0 × (o.1.seats ≡ map opened o.0) × (first ≤ 2 ^ 62)) }
         ensures fits { IfOk result (λ o. (gates_of o.1.seats ≡ o.0) × (length o.0 ≡ length objects.items)) }
         ensures order { IfOk result (λ o. (o.1.order ≡ []) × (o.1.number ≡ 0) × (o.1.numbers ≡ 0 ∷ [])) }
+        ensures share { IfOk result (λ o. o.1.shares ≡ 0 ∷ []) }
         ensures err { IfErr result (λ e. GivesBack first objects.items e) }
     {
         if first > LIMIT {
@@ -90,7 +91,8 @@ impl<O: Object> Bank<O> {
     }
 
     /// Gives a new seat, which has seen at each place what this seat has seen there, and as much of the order. It has made no
-    /// turn: none that it has seen was made under its number, at any place. It takes no memory.
+    /// turn: none that it has seen was made under its number, at any place. Each of the two seats has half of the share that
+    /// this seat had. It takes no memory.
     pub fn split(&self, _alloc: Global, seat: &mut BankSeat<O>) -> Result<BankSeat<O>, NoMemory>
         requires { gates_of seat.old.seats ≡ self.now }
         ensures gates { gates_of seat.new.seats ≡ self.now }
@@ -105,7 +107,8 @@ impl<O: Object> Bank<O> {
         })
     }
 
-    /// Takes in another seat of this bank: what it has seen at each place and of the order, its turns, and its numbers.
+    /// Takes in another seat of this bank: what it has seen at each place and of the order, its turns, its numbers and its
+    /// share.
     pub fn join(&self, seat: &mut BankSeat<O>, other: BankSeat<O>)
         requires seat { gates_of seat.old.seats ≡ self.now }
         requires other { gates_of other.seats ≡ self.now }
@@ -117,8 +120,9 @@ impl<O: Object> Bank<O> {
     }
 
     /// Gives back what is at each place, in their order. There is one order of all turns, which begins with all that the seat
-    /// had seen of it, and whose part at each place is the history there. All turns of the seat were seen by it. It takes no
-    /// memory.
+    /// had seen of it, and whose part at each place is the history there. All turns of the seat were seen by it. If the seat
+    /// has the whole of the bank as its share, all seats have come home: it has seen all turns, and each belongs to it or to
+    /// a seat that was joined into it. It takes no memory.
     pub fn close(self, seat: BankSeat<O>) -> Vec<Closing<O>, Global>
         requires { gates_of seat.seats ≡ self }
         ensures closed { Each2 (Closes (Moves O.meaning O.counted)) seat.seats result.items }

@@ -70,3 +70,6 @@ returns-in-Some-clause-order g c =
     let some_place = c.requires.some in
     let named = first_named (record { token = c.in-Some.token; key = c.of-in-Some.result }) (omega arith) is in
     (ap (λ m. m.0.seen) new.me, named.0, named.1)
+
+pub returns-in-Some-clause-share : goal.returns-in-Some-clause-share
+returns-in-Some-clause-share g c = ap (λ m. m.0.shares) c.in-Some.ensures.some.me
