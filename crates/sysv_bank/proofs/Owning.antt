@@ -1,5 +1,8 @@
 -- Which turns of an order were made under the numbers of a pass.
-use Rattle.std.proofs.Common.{◌≡◌, ℕ, zero, suc, ◌+◌, ◌<◌, ◌≤◌, List, [], ◌∷◌, ◌++◌, length, refl, sym, ap, ◌∙◌, subst, arith, lt_of_not-le}
+use Rattle.std.proofs.Common.{◌≡◌, ◌≢◌, ℕ, zero, suc, ◌+◌, ◌<◌, ◌≤◌, ◌==◌, cond, false, List, [], ◌∷◌, ◌++◌, length, refl, sym, ap, ◌∙◌, subst, arith, lt_of_not-le}
+use Rattle.std.specs.List.{filter}
+use Rattle.std.proofs.lemmas.Bool.Decides.{nat_tests}
+use Rattle.std.proofs.lemmas.List.Elements.{filter-append}
 use mathlib.Core.Logic.{dite}
 use native.Mathlib.Decide.{ℕ_discrete, dec_le}
 use Rattle.std.proofs.lemmas.List.{append-nil}
@@ -12,6 +15,9 @@ use Rattle.sysv_gate.specs.History.{made_at}
 use Rattle.sysv_gate.specs.Orders.{turns_at, AreBelow, NoneMadeUnder, AllMadeUnder}
 use Rattle.sysv_gate.proofs.Counting.{another}
 use Rattle.sysv_gate.proofs.Ordering.{turns_append, turns_here, turns_else, below_back}
+
+other_number : (n k : ℕ) → n ≢ k → (n == k) ≡ false
+other_number n k apart = grind (arith, nat_tests)
 
 module _ {O C R : Type 0} (numbers : List ℕ) where
   -- ---- in the turns of one place
@@ -110,3 +116,20 @@ module _ {O C R : Type 0} (numbers : List ℕ) where
       nothing : (zs : List (Placed O C R)) → NoneMadeUnder numbers zs → AllMadeUnder numbers zs → zs ≡ []
       nothing [] none' all' = refl
       nothing (z ∷ zs) none' all' = let a = none'.0 in let b = all'.0 in absurd (omega arith)
+
+  -- the turns under each of the numbers are the same, after an order has gone on without them
+  pub same_under : (x : ℕ) → 1 ≤ times x numbers → (xs ys : List (Placed O C R)) (longer : IsPrefixOf xs ys) → NoneMadeUnder numbers longer.0
+      → filter (λ (t : Placed O C R). t.turn.by == x) ys ≡ filter (λ (t : Placed O C R). t.turn.by == x) xs
+  same_under x some_number xs ys longer none =
+      ap (filter (λ (t : Placed O C R). t.turn.by == x)) longer.1
+      ∙ filter-append (λ (t : Placed O C R). t.turn.by == x) xs longer.0
+      ∙ ap (λ (l : List (Placed O C R)). filter (λ (t : Placed O C R). t.turn.by == x) xs ++ l) (bare longer.0 none)
+      ∙ append-nil (filter (λ (t : Placed O C R). t.turn.by == x) xs)
+    where
+      bare : (zs : List (Placed O C R)) → NoneMadeUnder numbers zs → filter (λ (t : Placed O C R). t.turn.by == x) zs ≡ []
+      bare [] none' = refl
+      bare (z ∷ zs) none' =
+          let theirs = none'.0 in
+          let apart : z.turn.by ≢ x = (λ e. let same : times z.turn.by numbers ≡ times x numbers = ap (λ (n : ℕ). times n numbers) e in absurd (omega arith)) in
+          let rest : List (Placed O C R) = filter (λ (t : Placed O C R). t.turn.by == x) zs in
+          ap (λ b. cond b (z ∷ rest) rest) (other_number z.turn.by x apart) ∙ bare zs none'.1

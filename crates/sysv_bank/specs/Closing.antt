@@ -13,7 +13,9 @@ use Rattle.sysv_gate.specs.Orders.{turns_at, AreBelow, NoneMadeUnder, AllMadeUnd
 use Rattle.sysv_bank.specs.Passes.{Pass}
 
 -- There is one order of all turns at the places. It begins with all that the pass had seen of it, goes on without a turn of
--- the pass, and its part at each place is the history that `Closes` speaks of there. No number of the pass stands twice
+-- the pass, and its part at each place is the history that `Closes` speaks of there. No number of the pass stands twice.
+-- Where the pass has the whole of the bank, so that all others have come home, it had seen all of the order, and each turn
+-- was made under a number of its own
 pub record ClosesInOrder {O C R : Type 0} (moves : O → C → R → O → Type 0) (pass : Pass O C R) (closings : List (Closing O)) : Type 0 where
   pub order : List (Placed O C R)
   pub longer : IsPrefixOf pass.order order

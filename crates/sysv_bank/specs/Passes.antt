@@ -75,8 +75,8 @@ module _ {O C R : Type 0} where
     pub new_numbers : new.numbers ≡ new.number ∷ []
     pub no_turn : NoneMadeUnder new.numbers new.order
 
-  -- One pass has taken in another, and has the numbers and the shares of both. The order that it has seen begins with that of either, and
-  -- goes on from there without a turn of that one
+  -- One pass has taken in another, and has the numbers and the shares of both. The order that it has seen begins with that
+  -- of either, and goes on from there without a turn of that one
   pub record JoinsOrders (one two after : Pass O C R) : Type 0 where
     pub begins_one : GoesOnWithout one.numbers one.order after.order
     pub begins_two : GoesOnWithout two.numbers two.order after.order

@@ -43,8 +43,9 @@ impl<O: Object> Model for Bank<O> {
 }
 
 impl<O: Object> Bank<O> {
-    /// A bank of the objects, whose tickets begin at `first` at each place, and its first seat, which has the whole of the
-    /// bank as its share. `BadStart` comes where `first` is above 2^62, and `NoMemory` where there is no memory. The objects come back in either.
+    /// A bank of the objects, whose tickets begin at `first` at each place, and its first seat. The share of this seat is the
+    /// whole bank. `BadStart` comes where `first` is above 2^62, and `NoMemory` where there is no memory. The objects come
+    /// back in either.
     pub fn open(
         alloc: Global,
         mut objects: Vec<O, Global>,
@@ -54,7 +55,8 @@ impl<O: Object> Bank<O> {
         requires counts { All (λ o. AreUpTo (2 ^ 61) (O.counted o)) objects.items }
         ensures ok { IfOk result (λ o. AreOpened objects.items first o.0 × (o.1.seats ≡ map opened o.0) × (first ≤ 2 ^ 62)) }
         ensures fits { IfOk result (λ o. (gates_of o.1.seats ≡ o.0) × (length o.0 ≡ length objects.items)) }
-        ensures order { IfOk result (λ o. (o.1.order ≡ []) × (o.1.number ≡ 0) × (o.1.numbers ≡ 0 ∷ [])) }
+        ensures order { IfOk result (λ o. o.1.order ≡ []) }
+        ensures numbers { IfOk result (λ o. (o.1.number ≡ 0) × (o.1.numbers ≡ 0 ∷ [])) }
         ensures share { IfOk result (λ o. o.1.shares ≡ 0 ∷ []) }
         ensures err { IfErr result (λ e. GivesBack first objects.items e) }
     {

@@ -62,14 +62,14 @@ returns-in-Some-clause-fits g c =
       length-map os _ ∙ ap length items,
     )
 
-pub returns-in-Some-clause-order : goal.returns-in-Some-clause-order
-returns-in-Some-clause-order g c =
+pub returns-in-Some-clause-numbers : goal.returns-in-Some-clause-numbers
+returns-in-Some-clause-numbers g c =
     let new = c.in-Some.ensures.some in
     let is = new.me ∙ ap (λ k. (outset k.openings.value.items k.first, [])) (sym c.of-in-Some.ensures) in
     let many = ap (λ k. length k.openings.value.items) c.of-in-Some.ensures ∙ ap (λ v. length v.items) c.of.ensures in
     let some_place = c.requires.some in
     let named = first_named (record { token = c.in-Some.token; key = c.of-in-Some.result }) (omega arith) is in
-    (ap (λ m. m.0.seen) new.me, named.0, named.1)
+    named
 
 pub returns-in-Some-clause-share : goal.returns-in-Some-clause-share
 returns-in-Some-clause-share g c = ap (λ m. m.0.shares) c.in-Some.ensures.some.me
