@@ -17,7 +17,11 @@ use Rattle.sysv_gate.specs.Rule.{Spot, GatedBy}
 use Rattle.sysv_gate.specs.Gates.{Holding}
 use Rattle.sysv_gate.specs.Closings.{Closes}
 use Rattle.sysv_gate.specs.Ending.{IsReadAt}
-use Rattle.sysv_gate.specs.Orders.{turns_at, AreBelow}
+use Rattle.sysv_gate.specs.History.{made_at}
+use Rattle.sysv_gate.specs.Orders.{turns_at, AreBelow, NoneMadeUnder, AllMadeUnder}
+use Rattle.sysv_gate.proofs.Keeping.{numbers_once}
+use Rattle.sysv_gate.proofs.Sharing.{all_mine}
+use Rattle.sysv_gate.specs.Shares.{IsWhole}
 use Rattle.sysv_gate.specs.Halls.{block, view_at, state_at, InOrder}
 use Rattle.sysv_gate.proofs.Blocks.{block_read}
 use Rattle.sysv_gate.proofs.Lifting.{read_there}
@@ -28,7 +32,8 @@ use Rattle.sysv_bank.specs.Passes.{holding, holdings}
 use Rattle.sysv_bank.specs.Resting.{pass_of, Rests}
 use Rattle.sysv_bank.specs.Closing.{ClosesInOrder}
 use Rattle.sysv_bank.proofs.Places.{at_below}
-use Rattle.sysv_bank.proofs.Passes.{read_at, opened_at, from_view}
+use Rattle.sysv_bank.proofs.Owning.{goes_without, all_made, ends_there}
+use Rattle.sysv_bank.proofs.Passes.{read_at, opened_at, from_view, own_named}
 
 -- as many of both, and the fact at each place
 pub each2_of : {A B : Type 0} (fact : A → B → Type 0) (xs : List A) (ys : List B) → length xs ≡ length ys → ((k : ℕ) (x : A) (y : B) → get_elem? xs k ≡ some x → get_elem? ys k ≡ some y → fact x y) → Each2 fact xs ys
@@ -100,6 +105,35 @@ module _ {O C R : Type 0} (moves : O → C → R → O → Type 0) (counted : O 
         (λ all. let w = read.whole all in closes_whole moves counted log hold read.served read.next read.spot c end all w.0 w.1 read.turns)
         (λ more. closes_due moves counted log hold read.served read.next read.spot c end more (read.due more) read.turns))
 
+    my_view : (place : ℕ) → get_elem? (state_at place St).views id ≡ some (view_at place u.token.me.0)
+    my_view place = at_map (view_at place) St.views id v final.1.1 ∙ ap (λ (x : Sight O C R). some (view_at place x)) (sym is_view)
+
+    begins : IsPrefixOf u.token.me.0.seen Order
+    begins = subst (λ (x : Sight O C R). IsPrefixOf x.seen Order) (sym is_view) (final.1.0.1.seen id v final.1.1).0
+
+    few : (place : ℕ) → place < length openings → place < length u.token.me.0.views
+    few place less = let many = rest.many in let same = ap length same_os in omega arith
+
+    strangers_end : NoneMadeUnder (pass_of u).numbers begins.0
+    strangers_end =
+        goes_without (pass_of u).numbers (length openings) (λ q. (view_at q u.token.me.0).own) u.token.me.0.seen Order begins final.1.0.1.below (λ q p less. own_named moves u rest q p (let many = rest.many in let same = ap length same_os in omega arith))
+        (λ q p less.
+        let o = opened_at openings q less in
+        let mine = ((gated q o.0 o.1).3.each id (view_at q u.token.me.0) (my_view q)).own p in
+        let many = rest.many in
+        let same = ap length same_os in
+        let named = ap (λ (l : List ℕ). made_at l (turns_at q Order) p) (rest.named q (omega arith)).1 in
+        omega arith)
+
+    -- where all passes have come home, all turns are this one's
+    all_end : IsWhole (pass_of u).shares → AllMadeUnder (pass_of u).numbers Order
+    all_end whole =
+        all_made (pass_of u).numbers (length openings) Order final.1.0.1.below
+        (λ q j less near.
+        let o = opened_at openings q less in
+        let mine = all_mine moves counted openings first Order St id u.token.me.0 final.1.0.1 (final.1.1 ∙ ap some (sym is_view)) whole q o.0 o.1 j near in
+        subst (λ (l : List ℕ). 1 ≤ made_at l (turns_at q Order) j) (rest.named q (few q less)).1 mine)
+
     as_many : length (pass_of u).seats ≡ length openings
     as_many = seats_length u.key.value.openings.value.items u.token.me.0.views rest.many ∙ ap length same_os
       where
@@ -112,10 +146,15 @@ module _ {O C R : Type 0} (moves : O → C → R → O → Type 0) (counted : O 
       pub closes_all : Each2 (Closes moves) (pass_of u).seats closings
       closes_all = each2_of (Closes moves) (pass_of u).seats closings (as_many ∙ sym count) (λ k h c at there. (closes_at k h c at (read k c there)).0)
 
-      pub closes_order : ClosesInOrder moves (pass_of u) closings
-      closes_order = record {
+      pub closes_order : 1 ≤ length openings → ClosesInOrder moves (pass_of u) closings
+      closes_order some_place = record {
         order = Order;
-        longer = subst (λ (x : Sight O C R). IsPrefixOf x.seen Order) (sym is_view) (final.1.0.1.seen id v final.1.1).0;
+        longer = begins;
+        strangers = strangers_end;
+        apart =
+            let o = opened_at openings 0 (omega arith) in
+            numbers_once moves o.0 first (turns_at 0 Order) (get_or (state_at 0 St).words 32 0) id (state_at 0 St).homes (state_at 0 St).views (view_at 0 u.token.me.0) (gated 0 o.0 o.1).3 (my_view 0);
+        home = λ whole. (ends_there (pass_of u).numbers u.token.me.0.seen Order begins strangers_end (all_end whole), all_end whole);
         below = subst (λ (n : ℕ). AreBelow n Order) (sym as_many) final.1.0.1.below;
         each = λ k h c at there. closes_at k h c at (read k c there);
       }

@@ -1,6 +1,7 @@
 pub mod Places
-pub mod Passes
+pub mod Owning
 pub mod Calling
+pub mod Passes
 pub mod Coming
 pub mod Ending
 pub mod Crossing

@@ -1,5 +1,5 @@
 -- What a call at one place does to a seat of a bank.
-use Rattle.std.proofs.Common.{◌≡◌, ℕ, zero, suc, ◌<◌, ◌≤◌, List, [], ◌∷◌, ◌++◌, map, length, set, get_or, refl, sym, ap, ◌∙◌, subst, arith, get_or-set_other}
+use Rattle.std.proofs.Common.{◌≡◌, ◌≢◌, ℕ, zero, suc, ◌<◌, ◌≤◌, List, [], ◌∷◌, ◌++◌, map, length, set, get_or, refl, sym, ap, ◌∙◌, subst, arith, length-append, get_or-set_other}
 use Rattle.std.proofs.lemmas.List.{length-map}
 use mathlib.Core.Logic.{dite}
 use native.Mathlib.Decide.{ℕ_discrete}
@@ -7,23 +7,29 @@ use mathlib.Core.Option.{some, some-injective, some-ne-none}
 use lib.ListN.{get_elem?}
 use Rattle.atomic_table.specs.Seated.{TableId}
 use Rattle.atomic_table.specs.declared.shared.Seat.{Seat}
+use Rattle.sysv_lists.specs.Numbers.{times}
 use Rattle.sysv_lists.specs.Prefix.{IsPrefixOf}
 use Rattle.sysv_lists.proofs.Prefixes.{prefix_trans}
 use Rattle.sysv_gate.specs.declared.view.View.{View}
+use Rattle.sysv_gate.specs.declared.view.Turn.{Turn}
+use Rattle.sysv_gate.specs.declared.view.Placed.{Placed}
 use Rattle.sysv_gate.specs.declared.view.Sight.{Sight}
 use Rattle.sysv_gate.specs.Rule.{Spot}
 use Rattle.sysv_gate.specs.Steps.{spent}
 use Rattle.sysv_gate.specs.Gates.{Gateway, Holding, KnowsItsOwn}
-use Rattle.sysv_gate.specs.Orders.{turns_at}
+use Rattle.sysv_gate.specs.History.{made_at}
+use Rattle.sysv_gate.specs.Orders.{turns_at, AreBelow, NoneMadeUnder}
 use Rattle.sysv_gate.specs.Halls.{view_at, me_at}
 use Rattle.sysv_gate.specs.Doors.{Doorway, IsDoorOf, IsAt, IsSame, Idles, EndsOrder}
-use Rattle.sysv_gate.proofs.Ordering.{turns_longer}
+use Rattle.sysv_gate.proofs.Ordering.{turns_append, turns_here, turns_longer, below_front}
 use Rattle.sysv_bank.specs.declared.seat.BankSeat.TheInside.{Inside}
 use Rattle.sysv_bank.specs.declared.bank.Bank.TheInside.{Inside as BankInside}
 use Rattle.sysv_bank.specs.Banks.{ChangesAt, gates_of, EachKnowsItsOwn}
-use Rattle.sysv_bank.specs.Passes.{Pass, holding, holdings, AddsToOrder, SeenInOrder}
-use Rattle.sysv_bank.specs.Resting.{RestsAt, pass_of, Rests, gateways, IsOpen}
+use Rattle.sysv_bank.specs.Passes.{Pass, holding, holdings, GoesOn, AddsToOrder, SeenInOrder, IsOfPass, KnowsItsTurns}
+use Rattle.sysv_bank.specs.Resting.{RestsAt, IsNamedAs, pass_of, Rests, gateways, IsOpen}
 use Rattle.sysv_bank.proofs.Places.{at_below}
+use Rattle.sysv_bank.proofs.Owning.{made_at-longer, before_last, goes_without}
+use Rattle.sysv_bank.proofs.Calling.{Stays, Adds}
 
 pub read_at : {A : Type 0} (xs : List A) (i : ℕ) (d a : A) → get_elem? xs i ≡ some a → get_or xs i d ≡ a
 read_at [] i d a at = absurd (some-ne-none a (sym at))
@@ -78,6 +84,11 @@ door_there {O} counted b gates place opened viewed inside =
     let same : length gates ≡ length b.key.openings.value.items = ap length (sym viewed) ∙ length-map b.key.openings.value.items _ in
     let many = opened.doors.0 in
     omega arith
+
+-- what a pass has of the turns of the order that it has seen, under the numbers that it has everywhere
+pub own_named : {O C R : Type 0} (moves : O → C → R → O → Type 0) (s : Inside O C R) (rest : Rests moves s) (q p : ℕ) → q < length s.token.me.0.views
+    → times p (view_at q s.token.me.0).own ≡ made_at (pass_of s).numbers (turns_at q s.token.me.0.seen) p
+own_named moves s rest q p less = rest.owns.own q p less ∙ ap (λ (l : List ℕ). made_at l (turns_at q s.token.me.0.seen) p) (rest.named q less).1
 
 module _ {O C R : Type 0} (moves : O → C → R → O → Type 0) (counted : O → ℕ × ℕ) (b : BankInside O C R) (s : Inside O C R) (gates : List (Gateway O)) (pass : Pass O C R) (opened : IsOpen counted b) (rest : Rests moves s)
     (viewed : gateways b.hall.shared.table_id b.key.first b.key.openings.value.items ≡ gates) (shown : pass_of s ≡ pass) (fit : gates_of pass.seats ≡ gates) where
@@ -162,11 +173,45 @@ module _ {O C R : Type 0} (moves : O → C → R → O → Type 0) (counted : O 
         change = is;
       }
 
-      pub longer_order : IsPrefixOf pass.order token.me.0.seen
-      longer_order = subst (λ (p : Pass O C R). IsPrefixOf p.order token.me.0.seen) shown went.2.order
+      view_else : (other : ℕ) → other ≢ door.place → view_at other token.me.0 ≡ view_at other s.token.me.0
+      view_else other ne = ap (λ (vs : List (View O C R)). get_or vs other spent) went.2.others ∙ get_or-set_other s.token.me.0.views door.place other (view_at door.place token.me.0) spent ne
 
-      pub rests_after : token.me.1 ≡ [] → RestsAt moves door.opening s.key.value.first (view_at door.place token.me.0) → Rests moves Now
-      rests_after none there = record {
+      module _ (names : IsNamedAs (view_at door.place s.token.me.0) (view_at door.place token.me.0)) where
+        -- at each place the names stay
+        pub names_at : (other : ℕ) → IsNamedAs (view_at other s.token.me.0) (view_at other token.me.0)
+        names_at other =
+            dite (ℕ_discrete other door.place)
+            (λ e. subst (λ (k : ℕ). IsNamedAs (view_at k s.token.me.0) (view_at k token.me.0)) (sym e) names)
+            (λ ne. (ap (λ (v : View O C R). v.number) (view_else other ne), ap (λ (v : View O C R). v.numbers) (view_else other ne)))
+
+        names_still : (other : ℕ) → other < length token.me.0.views → IsNamedAs (view_at 0 token.me.0) (view_at other token.me.0)
+        names_still other less =
+            let many = went.2.many in
+            let old = rest.named other (omega arith) in
+            let here = names_at other in
+            let zero_here = names_at 0 in
+            (here.0 ∙ old.0 ∙ sym zero_here.0, here.1 ∙ old.1 ∙ sym zero_here.1)
+
+      -- where no turn was made, the order goes on by turns of others
+      pub goes_on : Stays (view_at door.place s.token.me.0) (view_at door.place token.me.0) → GoesOn pass (pass_of Now)
+      goes_on stays =
+          let many = went.2.many in
+          let owns = went.2.owns rest.owns in
+          let still : (other : ℕ) → (view_at other token.me.0).own ≡ (view_at other s.token.me.0).own = (λ other.
+          dite (ℕ_discrete other door.place)
+          (λ e. subst (λ (k : ℕ). (view_at k token.me.0).own ≡ (view_at k s.token.me.0).own) (sym e) stays.own)
+          (λ ne. ap (λ (v : View O C R). v.own) (view_else other ne))) in
+          let goes : NoneMadeUnder (pass_of s).numbers went.2.order.0 =
+          goes_without (pass_of s).numbers (length token.me.0.views) (λ q. (view_at q s.token.me.0).own) s.token.me.0.seen token.me.0.seen went.2.order owns.below (λ q p less. own_named moves s rest q p (omega arith))
+          (λ q p less.
+          let mine = owns.own q p less in
+          let named = ap (λ (l : List ℕ). made_at l (turns_at q token.me.0.seen) p) ((names_at stays.names q).1 ∙ (rest.named q (omega arith)).1) in
+          let same = ap (times p) (still q) in
+          omega arith) in
+          subst (λ (p : Pass O C R). GoesOn p (pass_of Now)) shown (record { order = (went.2.order, goes); number = (names_at stays.names 0).0; numbers = (names_at stays.names 0).1; shares = went.2.shares })
+
+      pub rests_after : token.me.1 ≡ [] → RestsAt moves door.opening s.key.value.first (view_at door.place token.me.0) → IsNamedAs (view_at door.place s.token.me.0) (view_at door.place token.me.0) → Rests moves Now
+      rests_after none there names = record {
         no_slot = none;
         nothing_else = went.2.also ∙ rest.nothing_else;
         many = went.2.many ∙ rest.many;
@@ -178,22 +223,56 @@ module _ {O C R : Type 0} (moves : O → C → R → O → Type 0) (counted : O 
             (subst (λ (q : O). RestsAt moves q s.key.value.first (view_at door.place token.me.0)) same there, went.2.within))
             (λ ne.
             let old = rest.each other o opens' in
-            let view : view_at other token.me.0 ≡ view_at other s.token.me.0 =
-            ap (λ (vs : List (View O C R)). get_or vs other spent) went.2.others ∙ get_or-set_other s.token.me.0.views door.place other (view_at door.place token.me.0) spent ne in
-            subst (λ (v : View O C R). RestsAt moves o s.key.value.first v × IsPrefixOf v.seen (turns_at other token.me.0.seen)) (sym view)
+            subst (λ (v : View O C R). RestsAt moves o s.key.value.first v × IsPrefixOf v.seen (turns_at other token.me.0.seen)) (sym (view_else other ne))
             (old.0, prefix_trans (view_at other s.token.me.0).seen (turns_at other s.token.me.0.seen) (turns_at other token.me.0.seen) old.1 (turns_longer other s.token.me.0.seen token.me.0.seen went.2.order)));
+        named = names_still names;
+        owns = went.2.owns rest.owns;
       }
 
-      pub adds_to_order : EndsOrder door.place s.token.me token.me → AddsToOrder place pass (pass_of Now)
-      adds_to_order ends =
-          let longer : IsPrefixOf pass.order ends.front = subst (λ (p : Pass O C R). IsPrefixOf p.order ends.front) shown ends.longer in
+      pub adds_to_order : EndsOrder door.place s.token.me token.me → Adds (view_at door.place s.token.me.0) (view_at door.place token.me.0) → AddsToOrder place pass (pass_of Now)
+      adds_to_order ends more =
+          let many = went.2.many in
+          let owns = went.2.owns rest.owns in
+          let t : Placed O C R = record { place = door.place; turn = ends.turn } in
+          let cut : (q : ℕ) → turns_at q token.me.0.seen ≡ turns_at q ends.front ++ turns_at q (t ∷ []) = (λ q. ap (turns_at q) ends.order ∙ turns_append q ends.front (t ∷ [])) in
+          let here : turns_at door.place token.me.0.seen ≡ turns_at door.place ends.front ++ ends.turn ∷ [] = cut door.place ∙ ap (λ (l : List (Turn O C R)). turns_at door.place ends.front ++ l) (turns_here door.place (ends.turn ∷ [])) in
+          let mine : (q p : ℕ) → q < length token.me.0.views → times p (view_at q token.me.0).own ≡ made_at (pass_of s).numbers (turns_at q token.me.0.seen) p = (λ q p less.
+          owns.own q p less ∙ ap (λ (l : List ℕ). made_at l (turns_at q token.me.0.seen) p) ((names_at more.names q).1 ∙ (rest.named q (omega arith)).1)) in
+          let most : (q p : ℕ) → q < length token.me.0.views → made_at (pass_of s).numbers (turns_at q ends.front) p ≤ times p (view_at q s.token.me.0).own = (λ q p less.
+          dite (ℕ_discrete q door.place)
+          (λ e.
+          let fewer : door.place < length token.me.0.views = omega arith in
+          let last : more.last ≡ length (turns_at door.place ends.front) = (
+          let a = more.seen in
+          let b = ap length ends.seen in
+          let c = ap length here in
+          let d = length-append (turns_at door.place ends.front) (ends.turn ∷ []) in
+          omega arith) in
+          subst (λ (k : ℕ). made_at (pass_of s).numbers (turns_at k ends.front) p ≤ times p (view_at k s.token.me.0).own) (sym e)
+          (before_last (pass_of s).numbers (view_at door.place s.token.me.0).own (turns_at door.place ends.front) ends.turn more.last last
+          (λ p'. ap (times p') (sym more.own) ∙ mine door.place p' fewer ∙ ap (λ (l : List (Turn O C R)). made_at (pass_of s).numbers l p') here) p))
+          (λ ne.
+          let a = mine q p less in
+          let same = ap (λ (v : View O C R). times p v.own) (view_else q ne) in
+          let b = made_at-longer (pass_of s).numbers (turns_at q ends.front) (turns_at q (t ∷ [])) p in
+          let c = ap (λ (l : List (Turn O C R)). made_at (pass_of s).numbers l p) (cut q) in
+          omega arith)) in
+          let reach : AreBelow (length token.me.0.views) ends.front = below_front (length token.me.0.views) ends.front (t ∷ []) (subst (AreBelow (length token.me.0.views)) ends.order owns.below) in
+          let goes : NoneMadeUnder (pass_of s).numbers ends.longer.0 =
+          goes_without (pass_of s).numbers (length token.me.0.views) (λ q. (view_at q s.token.me.0).own) s.token.me.0.seen ends.front ends.longer reach (λ q p less. own_named moves s rest q p (omega arith)) most in
+          let number : (pass_of Now).number ≡ pass.number = (names_at more.names 0).0 ∙ ap (λ (p : Pass O C R). p.number) shown in
           record {
-            others = longer.0;
+            others = ends.longer.0;
             turn = ends.turn;
-            order = ends.order ∙ (λ i. longer.1 i ++ record { place = place_is i; turn = ends.turn } ∷ []);
+            order = ends.order ∙ (λ i. (ends.longer.1 ∙ ap (λ (p : Pass O C R). p.order ++ ends.longer.0) shown) i ++ record { place = place_is i; turn = ends.turn } ∷ []);
             seen = λ h there.
                 let is : Is ≡ h = some-injective Is h (sym (holding_at token.table_id s.key.value.first s.key.value.openings.value.items token.me.0.views door.place door.opening opens_mine (let many = went.2.many in let less = known in omega arith)) ∙ subst (λ (k : ℕ). get_elem? (pass_of Now).seats k ≡ some h) (sym place_is) there) in
                 ap (λ (x : Holding O C R). x.seen) (sym is) ∙ ends.seen ∙ ap (λ (k : ℕ). turns_at k token.me.0.seen) place_is;
+            strangers = subst (λ (p : Pass O C R). NoneMadeUnder p.numbers ends.longer.0) shown goes;
+            by = ends.by ∙ more.names.0 ∙ (rest.named door.place known).0 ∙ ap (λ (p : Pass O C R). p.number) shown;
+            number = number;
+            numbers = (names_at more.names 0).1 ∙ ap (λ (p : Pass O C R). p.numbers) shown;
+            shares = went.2.shares ∙ ap (λ (p : Pass O C R). p.shares) shown;
           }
 
 module _ {O C R : Type 0} (moves : O → C → R → O → Type 0) (s : Inside O C R) (rest : Rests moves s) where
@@ -218,6 +297,22 @@ module _ {O C R : Type 0} (moves : O → C → R → O → Type 0) (s : Inside O
   seen_in_order place h at =
       let from = from_view place h at in
       subst (λ (x : Holding O C R). IsPrefixOf x.seen (turns_at place s.token.me.0.seen)) from.2 (rest.each place from.0 from.1).1
+
+  pub knows_turns : KnowsItsTurns (pass_of s)
+  knows_turns place h at =
+      let from = from_view place h at in
+      let r = (rest.each place from.0 from.1).0 in
+      let less = at_below s.key.value.openings.value.items place from.0 from.1 in
+      let many = rest.many in
+      let few : place < length s.token.me.0.views = omega arith in
+      let named = rest.named place few in
+      subst (IsOfPass (pass_of s) place) from.2
+      (record {
+        number = named.0;
+        numbers = named.1;
+        named = subst (λ (n : ℕ). 1 ≤ times n (pass_of s).numbers) named.0 (subst (λ (l : List ℕ). 1 ≤ times (view_at place s.token.me.0).number l) named.1 r.named);
+        own = ((λ p. own_named moves s rest place p few), r.own.1);
+      })
 
 -- two states of one seat are of the same gates
 pub gates_same : {O C R : Type 0} (moves : O → C → R → O → Type 0) (s : Inside O C R) (token : Seat (Spot O C R) (Sight O C R)) → Rests moves s → Rests moves record { token = token; key = s.key } → token.table_id ≡ s.token.table_id

@@ -1,6 +1,6 @@
 -- Answers by their case, and what lies at a place of a list.
 use Rattle.std.proofs.Common.{◌≡◌, ℕ, zero, suc, ◌<◌, List, [], ◌∷◌, length, sym, arith}
-use Rattle.std.specs.Prelude.{Result, Ok, Err, IfOk, IfErr, OnOk}
+use Rattle.std.specs.Prelude.{Result, Ok, Err, IfOk, IfErr, OnOk, OnErr}
 use mathlib.Core.Option.{some, some-ne-none}
 use lib.ListN.{get_elem?}
 
@@ -15,6 +15,15 @@ if_err (Err e) P Q is goes = goes e is
 pub on_ok : {T E : Type 0} (r : Result T E) (P Q : Type 0) → OnOk r P → (P → Q) → OnOk r Q
 on_ok (Ok x) P Q is goes = goes is
 on_ok (Err e) P Q is goes = tt
+
+-- what is so of an answer, and of each good one
+pub both_ok : {T E : Type 0} (r : Result T E) (P : T → Type 0) (Q S : Type 0) → IfOk r P → OnOk r Q → ((x : T) → P x → Q → S) → OnOk r S
+both_ok (Ok x) P Q S is on goes = goes x is on
+both_ok (Err e) P Q S is on goes = tt
+
+pub on_err : {T E : Type 0} (r : Result T E) (P : E → Type 0) (S : Type 0) → IfErr r P → ((e : E) → P e → S) → OnErr r S
+on_err (Ok x) P S is goes = tt
+on_err (Err e) P S is goes = goes e is
 
 module _ {A : Type 0} where
   pub at_below : (xs : List A) (i : ℕ) (a : A) → get_elem? xs i ≡ some a → i < length xs

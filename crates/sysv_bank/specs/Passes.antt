@@ -1,19 +1,26 @@
 -- What contracts see of a bank's seat, and how the order that it has seen goes on.
-use Rattle.std.specs.Prelude.{◌≡◌, ℕ, List, [], ◌∷◌, ◌++◌}
+use Rattle.std.specs.Prelude.{◌≡◌, ℕ, ◌≤◌, List, [], ◌∷◌, ◌++◌}
 use mathlib.Core.Option.{some}
 use lib.ListN.{get_elem?}
 use Rattle.atomic_table.specs.Seated.{TableId}
+use Rattle.sysv_lists.specs.Numbers.{times}
 use Rattle.sysv_lists.specs.Prefix.{IsPrefixOf}
 use Rattle.sysv_gate.specs.declared.view.View.{View}
 use Rattle.sysv_gate.specs.declared.view.Turn.{Turn}
 use Rattle.sysv_gate.specs.declared.view.Placed.{Placed}
 use Rattle.sysv_gate.specs.Gates.{Holding}
-use Rattle.sysv_gate.specs.Orders.{turns_at}
+use Rattle.sysv_gate.specs.History.{HasItsOwn}
+use Rattle.sysv_gate.specs.Shares.{half}
+use Rattle.sysv_gate.specs.Orders.{turns_at, NoneMadeUnder, GoesOnWithout}
 
--- a seat at each place, and the order of the turns at all places, as far as it was seen
+-- A seat at each place, the order of the turns at all places, as far as it was seen, the number under which the pass makes
+-- its turns, this number with those of the passes that were joined into it, and its share of the bank
 pub record Pass (O C R : Type 0) : Type 0 where
   pub seats : List (Holding O C R)
   pub order : List (Placed O C R)
+  pub number : ℕ
+  pub numbers : List ℕ
+  pub shares : List ℕ
 
 module _ {O C R : Type 0} where
   -- what is seen of one place
@@ -35,14 +42,60 @@ module _ {O C R : Type 0} where
   holdings table first (o ∷ os) [] = []
   holdings table first (o ∷ os) (v ∷ vs) = holding table first o v ∷ holdings table first os vs
 
-  -- The order that was seen goes on with turns of others, and ends with a turn of this place. All turns there that are in it
-  -- are those that were seen there, so that the last of these is the last of the order
+  -- The order that was seen goes on with turns of others. The pass makes its turns under the same numbers, and has the same
+  -- share
+  pub record GoesOn (before after : Pass O C R) : Type 0 where
+    pub order : GoesOnWithout before.numbers before.order after.order
+    pub number : after.number ≡ before.number
+    pub numbers : after.numbers ≡ before.numbers
+    pub shares : after.shares ≡ before.shares
+
+  -- The order that was seen goes on with turns of others, and ends with a turn of this place, made under the pass's number.
+  -- All turns there that are in it are those that were seen there, so that the last of these is the last of the order
   pub record AddsToOrder (place : ℕ) (before after : Pass O C R) : Type 0 where
     pub others : List (Placed O C R)
     pub turn : Turn O C R
     pub order : after.order ≡ (before.order ++ others) ++ record { place = place; turn = turn } ∷ []
     pub seen : (h : Holding O C R) → get_elem? after.seats place ≡ some h → h.seen ≡ turns_at place after.order
+    pub strangers : NoneMadeUnder before.numbers others
+    pub by : turn.by ≡ before.number
+    pub number : after.number ≡ before.number
+    pub numbers : after.numbers ≡ before.numbers
+    pub shares : after.shares ≡ before.shares
+
+  -- Another pass was split off. It has seen as much of the order, and has a number of its own, under which none of these
+  -- turns was made. Each of the two has half of the share
+  pub record SplitsOff (before after new : Pass O C R) : Type 0 where
+    pub order : after.order ≡ before.order
+    pub number : after.number ≡ before.number
+    pub numbers : after.numbers ≡ before.numbers
+    pub shares : after.shares ≡ half before.shares
+    pub new_shares : new.shares ≡ half before.shares
+    pub new_order : new.order ≡ before.order
+    pub new_numbers : new.numbers ≡ new.number ∷ []
+    pub no_turn : NoneMadeUnder new.numbers new.order
+
+  -- One pass has taken in another, and has the numbers and the shares of both. The order that it has seen begins with that of either, and
+  -- goes on from there without a turn of that one
+  pub record JoinsOrders (one two after : Pass O C R) : Type 0 where
+    pub begins_one : GoesOnWithout one.numbers one.order after.order
+    pub begins_two : GoesOnWithout two.numbers two.order after.order
+    pub number : after.number ≡ one.number
+    pub numbers : after.numbers ≡ one.numbers ++ two.numbers
+    pub shares : after.shares ≡ one.shares ++ two.shares
 
   -- what was seen at each place is a beginning of its part of the order
   abbrev pub SeenInOrder : Pass O C R → Type 0
   SeenInOrder pass = (place : ℕ) (h : Holding O C R) → get_elem? pass.seats place ≡ some h → IsPrefixOf h.seen (turns_at place pass.order)
+
+  -- The seat at the place makes its turns under the pass's number, which is one of the pass's numbers. Its own turns are
+  -- those of the order there that were made under these
+  pub record IsOfPass (pass : Pass O C R) (place : ℕ) (h : Holding O C R) : Type 0 where
+    pub number : h.number ≡ pass.number
+    pub numbers : h.numbers ≡ pass.numbers
+    pub named : 1 ≤ times pass.number pass.numbers
+    pub own : HasItsOwn pass.numbers h.own (turns_at place pass.order)
+
+  -- so at each place
+  abbrev pub KnowsItsTurns : Pass O C R → Type 0
+  KnowsItsTurns pass = (place : ℕ) (h : Holding O C R) → get_elem? pass.seats place ≡ some h → IsOfPass pass place h

@@ -1,5 +1,5 @@
 -- How a bank and its seats are kept between two calls.
-use Rattle.std.specs.Prelude.{◌≡◌, ℕ, ◌*◌, ◌^◌, ◌≤◌, false, List, [], length, map, vec_capacity, Some}
+use Rattle.std.specs.Prelude.{◌≡◌, ℕ, ◌*◌, ◌^◌, ◌<◌, ◌≤◌, false, List, [], length, map, vec_capacity, Some}
 use mathlib.Core.Option.{some}
 use lib.ListN.{get_elem?}
 use Rattle.atomic_table.specs.Seated.{TableId}
@@ -12,7 +12,7 @@ use Rattle.sysv_gate.specs.Rule.{Spot}
 use Rattle.sysv_gate.specs.History.{IsLegal, HasItsOwn}
 use Rattle.sysv_gate.specs.Gates.{Gateway}
 use Rattle.sysv_gate.specs.Orders.{turns_at}
-use Rattle.sysv_gate.specs.Halls.{view_at}
+use Rattle.sysv_gate.specs.Halls.{view_at, OwnsInOrder}
 use Rattle.sysv_gate.specs.Laying.{AreDoorsUpTo}
 use Rattle.sysv_bank.specs.declared.seat.BankSeat.TheInside.{Inside}
 use Rattle.sysv_bank.specs.declared.bank.Bank.TheInside.{Inside as BankInside}
@@ -32,15 +32,28 @@ module _ {O C R : Type 0} where
     pub own : HasItsOwn v.numbers v.own v.seen
 
   abbrev pub pass_of : Inside O C R → Pass O C R
-  pass_of s = record { seats = holdings s.token.table_id s.key.value.first s.key.value.openings.value.items s.token.me.0.views; order = s.token.me.0.seen }
+  pass_of s = record {
+    seats = holdings s.token.table_id s.key.value.first s.key.value.openings.value.items s.token.me.0.views;
+    order = s.token.me.0.seen;
+    number = (view_at 0 s.token.me.0).number;
+    numbers = (view_at 0 s.token.me.0).numbers;
+    shares = s.token.me.0.shares;
+  }
 
-  -- no slot is out, each view rests, and what was seen at each place is in the order that was seen
+  -- the same number, and the same numbers
+  abbrev pub IsNamedAs : View O C R → View O C R → Type 0
+  IsNamedAs v w = (w.number ≡ v.number) × (w.numbers ≡ v.numbers)
+
+  -- No slot is out, each view rests, and what was seen at each place is in the order that was seen. The numbers are the same
+  -- at each place, and the turns of the order that were made under them are the pass's own
   pub record Rests (moves : O → C → R → O → Type 0) (s : Inside O C R) : Type 0 where
     pub no_slot : s.token.me.1 ≡ []
     pub nothing_else : s.token.me.0.also ≡ []
     pub many : length s.token.me.0.views ≡ length s.key.value.openings.value.items
     pub each : (place : ℕ) (o : O) → get_elem? s.key.value.openings.value.items place ≡ some o
         → RestsAt moves o s.key.value.first (view_at place s.token.me.0) × IsPrefixOf (view_at place s.token.me.0).seen (turns_at place s.token.me.0.seen)
+    pub named : (place : ℕ) → place < length s.token.me.0.views → IsNamedAs (view_at 0 s.token.me.0) (view_at place s.token.me.0)
+    pub owns : OwnsInOrder s.token.me.0
 
   -- the token is that of a seat of which this is seen
   abbrev pub IsTokenOf : (O → C → R → O → Type 0) → Pass O C R → Seat (Spot O C R) (Sight O C R) → Type 0

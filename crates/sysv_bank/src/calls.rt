@@ -1,13 +1,12 @@
 //! The calls at the places of a bank.
-ghost use Rattle.std.specs.Prelude.{◌≡◌, ◌<◌, length, IfOk, IfErr, OnOk, false};
+ghost use Rattle.std.specs.Prelude.{◌≡◌, ◌<◌, length, IfOk, IfErr, OnOk, OnErr, false};
 ghost use Rattle.sysv_gate.specs.History.{Moves};
 ghost use Rattle.sysv_gate.specs.Gates.{Answers, Learns, read_to, marked};
 ghost use Rattle.sysv_gate.specs.Refusals.{Refuses};
 ghost use Rattle.sysv_gate.specs.Waits.{Waited, WaitedWithin};
 ghost use Rattle.sysv_gate.specs.declared.count.Count.TheVariants.{Arrived, Freed};
-ghost use Rattle.sysv_lists.specs.Prefix.{IsPrefixOf};
 ghost use Rattle.sysv_bank.specs.Banks.{gates_of, ChangesAt};
-ghost use Rattle.sysv_bank.specs.Passes.{AddsToOrder};
+ghost use Rattle.sysv_bank.specs.Passes.{GoesOn, AddsToOrder};
 
 use crate::bank::Bank;
 use crate::seat::BankSeat;
@@ -28,7 +27,7 @@ impl<O: Object> Bank<O> {
         requires place { place < length self.now }
         ensures gates { gates_of seat.new.seats ≡ self.now }
         ensures order { OnOk result (AddsToOrder place seat.old seat.new) }
-        ensures longer { IsPrefixOf seat.old.order seat.new.order }
+        ensures longer { OnErr result (GoesOn seat.old seat.new) }
         ensures ok { IfOk result (λ r. ChangesAt place seat.old.seats seat.new.seats (λ before after. Answers (Moves O.meaning O.counted) O.counted before call r after × (before.worn ≡ false))) }
         ensures worn { IfErr result (λ w. (w.call ≡ call) × ChangesAt place seat.old.seats seat.new.seats (λ before after. after ≡ marked before)) }
     {
@@ -46,7 +45,7 @@ impl<O: Object> Bank<O> {
         requires place { place < length self.now }
         ensures gates { gates_of seat.new.seats ≡ self.now }
         ensures order { OnOk result (AddsToOrder place seat.old seat.new) }
-        ensures longer { IsPrefixOf seat.old.order seat.new.order }
+        ensures longer { OnErr result (GoesOn seat.old seat.new) }
         ensures ok { IfOk result (λ r. ChangesAt place seat.old.seats seat.new.seats (λ before after. Answers (Moves O.meaning O.counted) O.counted before call r after × (before.worn ≡ false))) }
         ensures err { IfErr result (λ e. ChangesAt place seat.old.seats seat.new.seats (λ before after. Refuses (Moves O.meaning O.counted) before call e after)) }
     {
@@ -72,7 +71,7 @@ impl<O: Object> Bank<O> {
         requires seat { gates_of seat.old.seats ≡ self.now }
         requires place { place < length self.now }
         ensures gates { gates_of seat.new.seats ≡ self.now }
-        ensures longer { IsPrefixOf seat.old.order seat.new.order }
+        ensures longer { GoesOn seat.old seat.new }
         ensures read { ChangesAt place seat.old.seats seat.new.seats (λ before after. (after ≡ read_to Arrived result before) × Learns O.counted Arrived before result) }
     {
         self.doors[place].count(&self.hall, &mut seat.token, Count::Arrived)
@@ -83,7 +82,7 @@ impl<O: Object> Bank<O> {
         requires seat { gates_of seat.old.seats ≡ self.now }
         requires place { place < length self.now }
         ensures gates { gates_of seat.new.seats ≡ self.now }
-        ensures longer { IsPrefixOf seat.old.order seat.new.order }
+        ensures longer { GoesOn seat.old seat.new }
         ensures read { ChangesAt place seat.old.seats seat.new.seats (λ before after. (after ≡ read_to Freed result before) × Learns O.counted Freed before result) }
     {
         self.doors[place].count(&self.hall, &mut seat.token, Count::Freed)
@@ -100,7 +99,7 @@ impl<O: Object> Bank<O> {
         requires seat { gates_of seat.old.seats ≡ self.now }
         requires place { place < length self.now }
         ensures gates { gates_of seat.new.seats ≡ self.now }
-        ensures longer { IsPrefixOf seat.old.order seat.new.order }
+        ensures longer { GoesOn seat.old seat.new }
         ensures waited { ChangesAt place seat.old.seats seat.new.seats (λ before after. Waited O.counted Arrived goal before result after) }
     {
         self.doors[place].await_count(rt, &self.hall, &mut seat.token, Count::Arrived, goal)
@@ -117,7 +116,7 @@ impl<O: Object> Bank<O> {
         requires seat { gates_of seat.old.seats ≡ self.now }
         requires place { place < length self.now }
         ensures gates { gates_of seat.new.seats ≡ self.now }
-        ensures longer { IsPrefixOf seat.old.order seat.new.order }
+        ensures longer { GoesOn seat.old seat.new }
         ensures waited { ChangesAt place seat.old.seats seat.new.seats (λ before after. Waited O.counted Freed goal before result after) }
     {
         self.doors[place].await_count(rt, &self.hall, &mut seat.token, Count::Freed, goal)
@@ -134,7 +133,7 @@ impl<O: Object> Bank<O> {
         requires seat { gates_of seat.old.seats ≡ self.now }
         requires place { place < length self.now }
         ensures gates { gates_of seat.new.seats ≡ self.now }
-        ensures longer { IsPrefixOf seat.old.order seat.new.order }
+        ensures longer { GoesOn seat.old seat.new }
         ensures waited { ChangesAt place seat.old.seats seat.new.seats (λ before after. WaitedWithin O.counted Arrived goal before result after) }
     {
         self.doors[place].await_within(rt, &self.hall, &mut seat.token, Count::Arrived, goal)
@@ -151,7 +150,7 @@ impl<O: Object> Bank<O> {
         requires seat { gates_of seat.old.seats ≡ self.now }
         requires place { place < length self.now }
         ensures gates { gates_of seat.new.seats ≡ self.now }
-        ensures longer { IsPrefixOf seat.old.order seat.new.order }
+        ensures longer { GoesOn seat.old seat.new }
         ensures waited { ChangesAt place seat.old.seats seat.new.seats (λ before after. WaitedWithin O.counted Freed goal before result after) }
     {
         self.doors[place].await_within(rt, &self.hall, &mut seat.token, Count::Freed, goal)

@@ -1,7 +1,7 @@
 //! What is so of every seat of a bank.
 ghost use Rattle.sysv_gate.specs.History.{Moves};
 ghost use Rattle.sysv_bank.specs.Banks.{EachKnowsItsOwn};
-ghost use Rattle.sysv_bank.specs.Passes.{SeenInOrder};
+ghost use Rattle.sysv_bank.specs.Passes.{SeenInOrder, KnowsItsTurns};
 ghost use Rattle.sysv_bank.specs.Laws.{OneOrder};
 
 use crate::seat::BankSeat;
@@ -18,6 +18,14 @@ pub fn each_seat_of_a_bank_knows_its_own<O: Object>(seat: &BankSeat<O>)
 /// What the seat has seen at each place is a beginning of that place's part of the order that it has seen.
 pub fn each_place_is_in_the_order<O: Object>(seat: &BankSeat<O>)
     ensures { SeenInOrder seat.now }
+{
+    let _ = &seat.token;
+}
+
+/// The seat makes its turns under one number at all places, and it knows just the turns of the order that were made under
+/// its numbers, place by place, each once.
+pub fn each_pass_knows_its_turns<O: Object>(seat: &BankSeat<O>)
+    ensures { KnowsItsTurns seat.now }
 {
     let _ = &seat.token;
 }

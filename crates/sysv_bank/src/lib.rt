@@ -9,6 +9,9 @@ mod refusals;
 mod seat;
 
 pub use bank::Bank;
-pub use laws::{each_place_is_in_the_order, each_seat_of_a_bank_knows_its_own, one_order};
+pub use laws::{
+    each_pass_knows_its_turns, each_place_is_in_the_order, each_seat_of_a_bank_knows_its_own,
+    one_order,
+};
 pub use refusals::NoMemory;
 pub use seat::BankSeat;

@@ -74,4 +74,4 @@ module _ {O C R : Type 0} (moves : O → C → R → O → Type 0) (counted : O 
 
 -- what went before the turn leaves it the last of the order
 pub order_later : {O C R : Type 0} (place : ℕ) (m mid m' : Passing O C R) → Only place m mid → EndsOrder place mid m' → EndsOrder place m m'
-order_later place m mid m' only order = record { front = order.front; turn = order.turn; longer = prefix_trans m.0.seen mid.0.seen order.front only.order order.longer; order = order.order; seen = order.seen }
+order_later place m mid m' only order = record { front = order.front; turn = order.turn; longer = prefix_trans m.0.seen mid.0.seen order.front only.order order.longer; order = order.order; seen = order.seen; by = order.by }

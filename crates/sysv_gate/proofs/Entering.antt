@@ -25,7 +25,7 @@ set_twice (x ∷ xs) (suc i) a b = ap (λ l. x ∷ l) (set_twice xs i a b)
 module _ {O C R : Type 0} (place : ℕ) where
   -- nothing was done
   pub only_self : (m : Passing O C R) → Carries place m → IsPrefixOf (view_at place m.0).seen (turns_at place m.0.seen) → Only place m m
-  only_self m carries within = record { many = refl; order = prefix_self m.0.seen; also = refl; others = sym (set-get_or m.0.views place spent); carries = carries; within = within }
+  only_self m carries within = record { many = refl; order = prefix_self m.0.seen; also = refl; shares = refl; others = sym (set-get_or m.0.views place spent); carries = carries; within = within; owns = λ o. o }
 
   -- one step after another
   pub only_trans : (m m' m'' : Passing O C R) → Only place m m' → Only place m' m'' → Only place m m''
@@ -33,9 +33,11 @@ module _ {O C R : Type 0} (place : ℕ) where
     many = two.many ∙ one.many;
     order = prefix_trans m.0.seen m'.0.seen m''.0.seen one.order two.order;
     also = two.also ∙ one.also;
+    shares = two.shares ∙ one.shares;
     others = two.others ∙ ap (λ l. set l place (view_at place m''.0)) one.others ∙ set_twice m.0.views place (view_at place m'.0) (view_at place m''.0);
     carries = two.carries;
     within = two.within;
+    owns = λ o. two.owns (one.owns o);
   }
 
   -- one step
@@ -44,9 +46,11 @@ module _ {O C R : Type 0} (place : ℕ) where
     many = ap length went.views ∙ length-set m.0.views place (view_at place m'.0);
     order = subst (IsPrefixOf m.0.seen) (sym went.seen) (prefix_longer m.0.seen went.order (placed place added) went.longer);
     also = went.also;
+    shares = went.shares;
     others = went.views;
     carries = went.carries;
     within = went.within;
+    owns = λ _. went.owns;
   }
 
   pub same_trans : (before mid after : Seat (Spot O C R) (Sight O C R)) → IsSame place before mid → IsSame place mid after → IsSame place before after

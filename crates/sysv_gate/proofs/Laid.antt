@@ -1,5 +1,5 @@
 -- The rule holds when a table with several places is laid.
-use Rattle.std.proofs.Common.{◌≡◌, ℕ, zero, suc, ◌+◌, ◌*◌, ◌^◌, ◌<◌, ◌≤◌, List, [], ◌∷◌, ◌++◌, map, length, reverse, get_or, take, drop, refl, sym, ap, ◌∙◌, subst, ⊎_elim, arith, length-append, append_assoc}
+use Rattle.std.proofs.Common.{◌≡◌, inr, ℕ, zero, suc, ◌+◌, ◌*◌, ◌^◌, ◌<◌, ◌≤◌, List, [], ◌∷◌, ◌++◌, map, length, reverse, get_or, take, drop, refl, sym, ap, ◌∙◌, subst, ⊎_elim, arith, length-append, append_assoc}
 use Rattle.std.specs.Prelude.{Some, None}
 use mathlib.Core.Logic.{dite}
 use native.Mathlib.Decide.{ℕ_discrete}
@@ -16,11 +16,12 @@ use Rattle.sysv_lists.specs.Prefix.{IsPrefixOf}
 use Rattle.sysv_gate.specs.Rule.{Spot, put, GatedBy, start}
 use Rattle.sysv_gate.specs.Closings.{held_object}
 use Rattle.sysv_gate.specs.Steps as gate
-use Rattle.sysv_gate.specs.Halls.{block, view_at, InOrder, outset}
+use Rattle.sysv_gate.specs.Halls.{block, view_at, IsFull, InOrder, outset}
 use Rattle.sysv_gate.specs.Laying.{IsLaid, AreLaidUpTo, AreDoorsUpTo, all_put}
 use Rattle.sysv_gate.specs.Doors.{Doorway}
 use Rattle.sysv_gate.proofs.Blocks.{block_length}
 use Rattle.sysv_gate.proofs.Opening.{starts}
+use Rattle.sysv_gate.proofs.Sharing.{first_whole}
 
 -- the words of another place come behind
 block_before : (place count : ℕ) (words new : List ℕ) → length words ≡ 80 * count → place < count → block place (words ++ new) ≡ block place words
@@ -86,6 +87,9 @@ module _ {O C R : Type 0} (moves : O → C → R → O → Type 0) (counted : O 
           subst (GatedBy moves counted o first [])
           (λ i. record { words = block place words; homes = sym (read_at (map some spots) place none (some (put o None)) home) i ∷ []; views = sym sees i ∷ [] }) gated;
       seen = λ id v at. ⊎_elim (λ t. absurd (some-ne-none v (sym t))) (λ t. subst (λ (x : Sight O C R). IsPrefixOf x.seen [] × IsPrefixOf x.also []) t (([], refl), ([], refl))) (at_snoc [] (outset objects first) v id at);
+      full = λ id v at. ⊎_elim (λ t. absurd (some-ne-none v (sym t)))
+          (λ t. subst (IsFull objects) t (record { views = inr (length-map objects (λ (o : O). start {C = C} {R = R} o first)); shareless = λ none. absurd (cc) })) (at_snoc [] (outset objects first) v id at);
+      shared = λ depth within. first_whole {C = C} {R = R} (outset objects first) depth refl;
     },
   )
     where

@@ -3,6 +3,7 @@ pub mod Histories
 pub mod Keeping
 pub mod Announcing
 pub mod Touching
+pub mod Sharing
 pub mod Stepping
 pub mod Opening
 pub mod Turning

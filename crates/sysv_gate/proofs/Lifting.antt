@@ -1,5 +1,5 @@
 -- A step of a gate is one at a place of a table with several.
-use Rattle.std.proofs.Common.{◌≡◌, ◌≢◌, ⊎_elim, ℕ, zero, suc, ◌+◌, ◌*◌, ◌<◌, List, [], ◌∷◌, ◌++◌, map, length, set, get_or, sym, refl, ap, ◌∙◌, subst, arith, length-set, get_or-set_same, get_or-set_other}
+use Rattle.std.proofs.Common.{◌≡◌, ◌≢◌, inr, ⊎_elim, ℕ, zero, suc, ◌+◌, ◌*◌, ◌<◌, List, [], ◌∷◌, ◌++◌, map, length, set, get_or, sym, refl, ap, ◌∙◌, subst, arith, length-set, get_or-set_same, get_or-set_other}
 use mathlib.Core.Logic.{dite}
 use native.Mathlib.Decide.{ℕ_discrete}
 use mathlib.Core.Option.{none, some}
@@ -14,14 +14,15 @@ use Rattle.sysv_gate.specs.declared.view.Placed.{Placed}
 use Rattle.sysv_gate.specs.declared.view.Sight.{Sight}
 use Rattle.sysv_lists.specs.Prefix.{IsPrefixOf}
 use Rattle.sysv_lists.proofs.Prefixes.{prefix_longer}
-use Rattle.sysv_lists.proofs.Places.{at_below, set_at}
+use Rattle.sysv_lists.proofs.Places.{at_below, set_at, there}
 use Rattle.sysv_gate.specs.Rule.{Spot, GatedBy}
 use Rattle.sysv_gate.specs.Steps.{Mine, At, spent}
-use Rattle.sysv_gate.specs.Orders.{turns_at, placed}
-use Rattle.sysv_gate.specs.Halls.{block, view_at, state_at, InOrder, Passing, me_at, Carries}
+use Rattle.sysv_gate.specs.Orders.{turns_at, placed, AreBelow}
+use Rattle.sysv_gate.specs.Halls.{block, view_at, state_at, IsFull, InOrder, Passing, me_at, Carries}
 use Rattle.sysv_gate.specs.Plays.{StepsAt, AtAPlace}
 use Rattle.sysv_gate.proofs.Blocks.{block_read, block_set, block_else}
 use Rattle.sysv_gate.proofs.Ordering.{turns_append, turns_here, turns_else, below_more, below_placed}
+use Rattle.sysv_gate.proofs.Sharing.{still_whole}
 use Rattle.sysv_gate.proofs.Touching.{Touch, leaves, takes, gives, act_at, AllowsTo}
 
 -- what lies at a number, where something does
@@ -106,21 +107,41 @@ module _ {O C R : Type 0} (moves : O → C → R → O → Type 0) (counted : O 
       let w : View O C R = went.0 in
       let a : Touch (Spot O C R) = went.1 in
       let next : List (Placed O C R) = order ++ placed place added in
-      let sight : Sight O C R = record { views = set m.0.views place w; seen = next; also = m.0.also } in
+      let sight : Sight O C R = record { views = set m.0.views place w; seen = next; also = m.0.also; shares = m.0.shares } in
       let n : ℕ = f (get_or s.words (80 * place + i) 0) in
       let s' : St = stepped s (80 * place + i) n id m.1 sight (act_at place a) in
       let sees : view_at place sight ≡ w = get_or-set_same m.0.views place w spent known in
       let turns : turns_at place next ≡ log ++ added = turns_append place order (placed place added) ∙ ap (λ (l : Log). log ++ l) (turns_here place added) in
-      let there : state_at place s' ≡ stepped (state_at place s) i (f (get_or (block place s.words) i 0)) id (me_at place m).1 w (act_at 0 a) =
+      let step_there : state_at place s' ≡ stepped (state_at place s) i (f (get_or (block place s.words) i 0)) id (me_at place m).1 w (act_at 0 a) =
       (λ j. record {
         words = (block_set place i n s.words inside ∙ ap (λ (k : ℕ). set (block place s.words) i (f k)) (sym read)) j;
         homes = touch_homes place a s.homes m.1 (omega arith) all j;
         views = (map-set (view_at place) s.views id sight ∙ ap (set (map (view_at place) s.views) id) sees) j;
       }) in
       let now : By o (turns_at place next) (state_at place s') =
-      subst (λ (l : Log). By o l (state_at place s')) (sym turns) (subst (By o (log ++ added)) (sym there) went.3) in
+      subst (λ (l : Log). By o l (state_at place s')) (sym turns) (subst (By o (log ++ added)) (sym step_there) went.3) in
       let mine : get_elem? (map (view_at place) (set s.views id sight)) id ≡ some (view_at place sight) = at_map (view_at place) (set s.views id sight) id sight (set_at s.views id m.0 sight at) in
-      let longer : IsPrefixOf m.0.seen order = (kept.seen id m.0 at).0 in (
+      let longer : IsPrefixOf m.0.seen order = (kept.seen id m.0 at).0 in
+      let wide : length m.0.views ≡ length openings = ⊎_elim (λ t. let none : length m.0.views ≡ 0 = ap length t in absurd (omega arith)) (λ t. t) (kept.full id m.0 at).views in
+      let long : length sight.views ≡ length openings = length-set m.0.views place w ∙ wide in
+      let below : AreBelow (length openings) next = below_more (length openings) order (placed place added) kept.below (below_placed (length openings) place added few) in
+      let each : (other : ℕ) (p : O) → get_elem? openings other ≡ some p → By p (turns_at other next) (state_at other s') = (λ other p opens'.
+      dite (ℕ_discrete other place)
+      (λ e.
+      let at_place : get_elem? openings place ≡ some p = subst (λ (k : ℕ). get_elem? openings k ≡ some p) e opens' in
+      let same : o ≡ p = maybe.some-injective o p (sym opens ∙ at_place) in
+      subst (λ (k : ℕ). By p (turns_at k next) (state_at k s')) (sym e) (subst (λ (q : O). By q (turns_at place next) (state_at place s')) same now))
+      (λ ne.
+      let old = kept.each other p opens' in
+      let unchanged : view_at other sight ≡ view_at other m.0 = get_or-set_other m.0.views place other w spent ne in
+      let still : state_at other s ≡ state_at other s' =
+      (λ j. record {
+        words = sym (block_else place other i n s.words inside ne) j;
+        homes = sym (touch_else place a s.homes m.1 other ne all) j ∷ [];
+        views = sym (map-set (view_at other) s.views id sight ∙ ap (set (map (view_at other) s.views) id) unchanged ∙ set_again (map (view_at other) s.views) id (view_at other m.0) (at_map (view_at other) s.views id m.0 at)) j;
+      }) in
+      let none_new : turns_at other order ≡ turns_at other next = sym (turns_append other order (placed place added) ∙ ap (λ (l : Log). turns_at other order ++ l) (turns_else place other ne added) ∙ append-nil (turns_at other order)) in
+      subst (λ (l : Log). By p l (state_at other s')) none_new (subst (By p (turns_at other order)) still old))) in (
         sight,
         act_at place a,
         touch_valid place a s.homes m.1 (omega arith) went.2,
@@ -129,28 +150,17 @@ module _ {O C R : Type 0} (moves : O → C → R → O → Type 0) (counted : O 
           record {
             words = length-set s.words (80 * place + i) n ∙ kept.words;
             homes = touch_length place a s.homes m.1 ∙ kept.homes;
-            below = below_more (length openings) order (placed place added) kept.below (below_placed (length openings) place added few);
-            each = λ other p opens'.
-                dite (ℕ_discrete other place)
-                (λ e.
-                let at_place : get_elem? openings place ≡ some p = subst (λ (k : ℕ). get_elem? openings k ≡ some p) e opens' in
-                let same : o ≡ p = maybe.some-injective o p (sym opens ∙ at_place) in
-                subst (λ (k : ℕ). By p (turns_at k next) (state_at k s')) (sym e) (subst (λ (q : O). By q (turns_at place next) (state_at place s')) same now))
-                (λ ne.
-                let old = kept.each other p opens' in
-                let unchanged : view_at other sight ≡ view_at other m.0 = get_or-set_other m.0.views place other w spent ne in
-                let still : state_at other s ≡ state_at other s' =
-                (λ j. record {
-                  words = sym (block_else place other i n s.words inside ne) j;
-                  homes = sym (touch_else place a s.homes m.1 other ne all) j ∷ [];
-                  views = sym (map-set (view_at other) s.views id sight ∙ ap (set (map (view_at other) s.views) id) unchanged ∙ set_again (map (view_at other) s.views) id (view_at other m.0) (at_map (view_at other) s.views id m.0 at)) j;
-                }) in
-                let none_new : turns_at other order ≡ turns_at other next = sym (turns_append other order (placed place added) ∙ ap (λ (l : Log). turns_at other order ++ l) (turns_else place other ne added) ∙ append-nil (turns_at other order)) in
-                subst (λ (l : Log). By p l (state_at other s')) none_new (subst (By p (turns_at other order)) still old));
+            below = below;
+            each = each;
             seen = λ k v there'.
                 ⊎_elim
                 (λ t. subst (λ (x : Sight O C R). IsPrefixOf x.seen next × IsPrefixOf x.also next) t.1 (([], sym (append-nil next)), prefix_longer m.0.also order (placed place added) (kept.seen id m.0 at).1))
                 (λ t. let old = kept.seen k v t.1 in (prefix_longer v.seen order (placed place added) old.0, prefix_longer v.also order (placed place added) old.1)) (at_set s.views id k sight v there');
+            full = λ k v there'.
+                ⊎_elim
+                (λ t. subst (IsFull openings) t.1 (record { views = inr long; shareless = λ none. ap (λ (vs : List (View O C R)). set vs place w) ((kept.full id m.0 at).shareless none) }))
+                (λ t. kept.full k v t.1) (at_set s.views id k sight v there');
+            shared = still_whole s.views id m.0 sight at refl kept.shared;
           },
         ),
         record {
@@ -158,9 +168,17 @@ module _ {O C R : Type 0} (moves : O → C → R → O → Type 0) (counted : O 
           longer = longer;
           seen = refl;
           also = refl;
+          shares = refl;
           views = ap (set m.0.views place) (sym sees);
           within = (now.3.each id (view_at place sight) mine).seen;
           turn = λ turn. ((here.3.each id (view_at place m.0) (at_map (view_at place) s.views id m.0 at)).turn turn).1;
+          owns = record {
+            below = subst (λ (c : ℕ). AreBelow c next) (sym long) below;
+            own = λ other p less.
+                let there' = there openings other (omega arith) in
+                let seen' : get_elem? (map (view_at other) (set s.views id sight)) id ≡ some (view_at other sight) = at_map (view_at other) (set s.views id sight) id sight (set_at s.views id m.0 sight at) in
+                ((each other there'.0 there'.1).3.each id (view_at other sight) seen').own p;
+          };
           carries = touch_all place a m.1 all;
           there = subst (λ (k : ℕ). then k (me_at place (sight, carried_after m.1 (act_at place a)))) read
               (subst (λ (x : Mine O C R). then (get_or (block place s.words) i 0) x) (λ j. (sym sees j, sym (touch_carried place a m.1) j)) went.4);

@@ -1,5 +1,5 @@
 -- The turns of an order, place by place.
-use Rattle.std.proofs.Common.{◌≡◌, ◌≢◌, ℕ, ◌<◌, ◌==◌, cond, true, false, List, [], ◌∷◌, ◌++◌, map, ap, ◌∙◌, refl, arith}
+use Rattle.std.proofs.Common.{◌≡◌, ◌≢◌, ℕ, ◌<◌, ◌≤◌, ◌==◌, cond, true, false, List, [], ◌∷◌, ◌++◌, map, ap, ◌∙◌, refl, arith}
 use Rattle.std.specs.List.{filter}
 use Rattle.std.proofs.lemmas.Bool.Decides.{nat_tests}
 use Rattle.std.proofs.lemmas.List.{map-append}
@@ -36,6 +36,22 @@ module _ {O C R : Type 0} where
   -- a longer order has no fewer turns at a place
   pub turns_longer : (place : ℕ) (xs ys : List (Placed O C R)) → IsPrefixOf xs ys → IsPrefixOf (turns_at place xs) (turns_at place ys)
   turns_longer place xs ys longer = (turns_at place longer.0, ap (turns_at place) longer.1 ∙ turns_append place xs longer.0)
+
+  -- an order has no turns at a place that it does not reach
+  pub turns_none : (count place : ℕ) (order : List (Placed O C R)) → AreBelow count order → count ≤ place → turns_at place order ≡ []
+  turns_none count place [] below far = refl
+  turns_none count place (t ∷ ts) below far =
+      let low = below.0 in
+      turns_append place (t ∷ []) ts ∙ ap (λ l. l ++ turns_at place ts) (turns_else t.place place (λ e. omega arith) (t.turn ∷ [])) ∙ turns_none count place ts below.1 far
+
+  -- a part of an order reaches no further
+  pub below_front : (count : ℕ) (xs ys : List (Placed O C R)) → AreBelow count (xs ++ ys) → AreBelow count xs
+  below_front count [] ys below = tt
+  below_front count (x ∷ xs) ys below = (below.0, below_front count xs ys below.1)
+
+  pub below_back : (count : ℕ) (xs ys : List (Placed O C R)) → AreBelow count (xs ++ ys) → AreBelow count ys
+  below_back count [] ys below = below
+  below_back count (x ∷ xs) ys below = below_back count xs ys below.1
 
   pub below_more : (count : ℕ) (xs ys : List (Placed O C R)) → AreBelow count xs → AreBelow count ys → AreBelow count (xs ++ ys)
   below_more count [] ys one two = two

@@ -1,5 +1,5 @@
 -- How passes come, and how one is joined into another.
-use Rattle.std.proofs.Common.{◌≡◌, ⊎_elim, ℕ, zero, suc, ◌+◌, ◌<◌, ◌≤◌, false, List, [], ◌∷◌, ◌++◌, map, length, set, get_or, sym, refl, ap, ◌∙◌, subst, arith}
+use Rattle.std.proofs.Common.{◌≡◌, inl, inr, ⊎_elim, ℕ, zero, suc, ◌+◌, ◌<◌, ◌≤◌, false, List, [], ◌∷◌, ◌++◌, map, length, set, get_or, sym, refl, ap, ◌∙◌, subst, arith}
 use Rattle.std.specs.Prelude.{Some}
 use mathlib.Core.Option.{none, some}
 use mathlib.Core.Option as maybe
@@ -19,10 +19,13 @@ use Rattle.sysv_gate.specs.History.{made_at}
 use Rattle.sysv_gate.specs.Rule.{Spot, GatedBy}
 use Rattle.sysv_gate.specs.Steps as gate
 use Rattle.sysv_gate.specs.Steps.{parted, named, merged, Gathers}
-use Rattle.sysv_gate.specs.Orders.{turns_at}
-use Rattle.sysv_gate.specs.Halls.{block, view_at, state_at, Kept, InOrder, Passing, me_at}
-use Rattle.sysv_gate.specs.Plays.{at_each, newcomer, both_views, both_of, spent, merged_from, Names, Merges}
+use Rattle.sysv_gate.specs.Orders.{turns_at, AreBelow}
+use Rattle.sysv_gate.specs.Halls.{block, view_at, state_at, IsFull, AreTheWhole, Kept, InOrder, Passing, me_at}
+use Rattle.sysv_gate.specs.Plays.{at_each, halved, newcomer, both_views, both_of, spent, merged_from, Names, Merges}
 use Rattle.sysv_gate.specs.Doors.{IsNewcomer}
+use Rattle.sysv_gate.proofs.Histories.{made_at-front}
+use Rattle.sysv_gate.proofs.Ordering.{turns_longer}
+use Rattle.sysv_gate.proofs.Sharing.{half_none, front_none, still_whole, split_whole, joined_whole}
 use Rattle.sysv_gate.proofs.Seating.{splits, joins, names_here, merges_here}
 
 module _ {O C R : Type 0} where
@@ -58,38 +61,50 @@ module _ {O C R : Type 0} (moves : O → C → R → O → Type 0) (counted : O 
   abbrev Holds : St → Type 0
   Holds = InOrder {C = C} {R = R} moves counted openings first
 
+  abbrev Full : Sight O C R → Type 0
+  Full v = IsFull openings v
+
   -- the rule where the words, the slots and the order stay, and each place has these views
   changed : (order : List (Placed O C R)) (s : St) (views : List (Sight O C R)) (there : ℕ → List (View O C R)) → Kept moves counted openings first order s
       → ((place : ℕ) (o : O) → get_elem? openings place ≡ some o → map (view_at place) views ≡ there place)
       → ((place : ℕ) (o : O) → get_elem? openings place ≡ some o → GatedBy moves counted o first (turns_at place order) record { words = block place s.words; homes = (state_at place s).homes; views = there place })
       → ((id : ℕ) (v : Sight O C R) → get_elem? views id ≡ some v → IsPrefixOf v.seen order × IsPrefixOf v.also order)
+      → ((id : ℕ) (v : Sight O C R) → get_elem? views id ≡ some v → Full v)
+      → AreTheWhole views
       → Kept moves counted openings first order record { words = s.words; homes = s.homes; views = views }
-  changed order s views there kept same each seen = record {
+  changed order s views there kept same each seen full shared = record {
     words = kept.words;
     homes = kept.homes;
     below = kept.below;
     each = λ place o opens. subst (λ (vs : List (View O C R)). GatedBy moves counted o first (turns_at place order) record { words = block place s.words; homes = (state_at place s).homes; views = vs }) (sym (same place o opens)) (each place o opens);
     seen = seen;
+    full = full;
+    shared = shared;
   }
 
-  pub splits_all : (id : ℕ) (v : Sight O C R) → length v.views ≡ length openings → Splits Holds id v (at_each parted v) (newcomer v)
+  pub splits_all : (id : ℕ) (v : Sight O C R) → length v.views ≡ length openings → Splits Holds id v (halved v) (newcomer v)
   splits_all id v long s held at =
       let order : List (Placed O C R) = held.0 in
       let kept = held.1 in
       let old = kept.seen id v at in
-      let left : Sight O C R = at_each parted v in
+      let left : Sight O C R = halved v in
       let right : Sight O C R = newcomer v in (
         order,
         changed order s (set s.views id left ++ right ∷ []) (λ place. set (map (view_at place) s.views) id (parted (view_at place v)) ++ gate.newcomer (view_at place v) ∷ []) kept
             (λ place o opens.
             let less : place < length v.views = (let few = at_below openings place o opens in omega arith) in
             map-append (view_at place) (set s.views id left) (right ∷ [])
-            ∙ (λ i. (map-set (view_at place) s.views id left ∙ ap (set (map (view_at place) s.views) id) (view_each parted v place less)) i ++ get_or-map gate.newcomer v.views place gate.spent gate.spent less i ∷ []))
+            ∙ (λ i. (map-set (view_at place) s.views id left ∙ ap (set (map (view_at place) s.views) id) (get_or-map parted v.views place gate.spent gate.spent less)) i ++ get_or-map gate.newcomer v.views place gate.spent gate.spent less i ∷ []))
             (λ place o opens. splits moves counted o first (turns_at place order) id (view_at place v) (state_at place s) (kept.each place o opens) (at_map (view_at place) s.views id v at))
             (λ k u there.
             ⊎_elim
             (λ t. ⊎_elim (λ r. subst (λ (x : Sight O C R). IsPrefixOf x.seen order × IsPrefixOf x.also order) r.1 old) (λ r. kept.seen k u r.1) (at_set s.views id k left u t))
-            (λ t. subst (λ (x : Sight O C R). IsPrefixOf x.seen order × IsPrefixOf x.also order) t (old.0, (order, refl))) (at_snoc (set s.views id left) right u k there)),
+            (λ t. subst (λ (x : Sight O C R). IsPrefixOf x.seen order × IsPrefixOf x.also order) t (old.0, (order, refl))) (at_snoc (set s.views id left) right u k there))
+            (λ k u there.
+            ⊎_elim
+            (λ t. ⊎_elim (λ r. subst Full r.1 (record { views = inr (length-map v.views parted ∙ long); shareless = λ none. ap (map parted) ((kept.full id v at).shareless (half_none v.shares none)) })) (λ r. kept.full k u r.1) (at_set s.views id k left u t))
+            (λ t. subst Full t (record { views = inr (length-map v.views gate.newcomer ∙ long); shareless = λ none. ap (map gate.newcomer) ((kept.full id v at).shareless (half_none v.shares none)) })) (at_snoc (set s.views id left) right u k there))
+            (split_whole s.views id v left right at refl refl kept.shared),
       )
 
   pub names_all : (slots id : ℕ) (m : Passing O C R) → length m.0.views ≡ length openings → ((place : ℕ) (o : O) → get_elem? openings place ≡ some o → ((view_at place m.0).opening ≡ Some o) × ((view_at place m.0).numbers ≡ []) × ((view_at place m.0).in_turn ≡ false))
@@ -113,9 +128,23 @@ module _ {O C R : Type 0} (moves : O → C → R → O → Type 0) (counted : O 
               let less : place < length v.views = (let few = at_below openings place o opens in omega arith) in
               map-set (view_at place) s.views id now ∙ ap (set (map (view_at place) s.views) id) (view_each (named id) v place less))
               (λ place o opens. (here place o opens).0)
-              (λ k u there. ⊎_elim (λ r. subst (λ (x : Sight O C R). IsPrefixOf x.seen order × IsPrefixOf x.also order) r.1 (kept.seen id v at)) (λ r. kept.seen k u r.1) (at_set s.views id k now u there)),
+              (λ k u there. ⊎_elim (λ r. subst (λ (x : Sight O C R). IsPrefixOf x.seen order × IsPrefixOf x.also order) r.1 (kept.seen id v at)) (λ r. kept.seen k u r.1) (at_set s.views id k now u there))
+              (λ k u there. ⊎_elim (λ r. subst Full r.1 (record { views = inr (length-map v.views (named id) ∙ long); shareless = λ none. ap (map (named id)) ((kept.full id v at).shareless none) })) (λ r. kept.full k u r.1) (at_set s.views id k now u there))
+              (still_whole s.views id v now at refl kept.shared),
         ),
-        (id, refl, λ place k less. let o = there openings place (omega arith) in (here place o.0 o.1).1 k),
+        (
+          id,
+          refl,
+          λ place k less. let o = there openings place (omega arith) in (here place o.0 o.1).1 k,
+          λ place k less.
+              let o = there openings place (omega arith) in
+              let b = bare place o.0 o.1 in
+              let old = (kept.each place o.0 o.1).3 in
+              let mine : get_elem? (map (view_at place) s.views) id ≡ some (view_at place v) = at_map (view_at place) s.views id v at in
+              let longer = turns_longer place v.seen order (kept.seen id v at).0 in
+              made_at-front (id ∷ []) (turns_at place v.seen) longer.0
+              (λ p. subst (λ (l : List (Turn O C R)). made_at (id ∷ []) l p ≡ 0) longer.1 (old.known id (old.nameless id (view_at place v) mine o.0 b.0 b.1) p)) k,
+        ),
       )
 
   pub joins_all : (id other : ℕ) (v w : Sight O C R) → length v.views ≡ length openings → length w.views ≡ length openings
@@ -140,7 +169,12 @@ module _ {O C R : Type 0} (moves : O → C → R → O → Type 0) (counted : O 
             (λ k u here.
             ⊎_elim (λ t. subst (λ (x : Sight O C R). IsPrefixOf x.seen order × IsPrefixOf x.also order) t.1 ((order, refl), (order, refl)))
             (λ t. ⊎_elim (λ r. subst (λ (x : Sight O C R). IsPrefixOf x.seen order × IsPrefixOf x.also order) r.1 ((kept.seen id v at).0, (kept.seen other w other_there).0)) (λ r. kept.seen k u r.1) (at_set s.views id k both u t.1))
-            (at_set middle other k spent u here)),
+            (at_set middle other k spent u here))
+            (λ k u here.
+            ⊎_elim (λ t. subst Full t.1 (record { views = inl refl; shareless = λ _. refl }))
+            (λ t. ⊎_elim (λ r. subst Full r.1 (record { views = inr (both_length v.views w.views (long' ∙ sym long) ∙ long); shareless = λ none. ap (λ (vs : List (View O C R)). both_views vs w.views) ((kept.full id v at).shareless (front_none v.shares w.shares none)) })) (λ r. kept.full k u r.1) (at_set s.views id k both u t.1))
+            (at_set middle other k spent u here))
+            (joined_whole s.views id other v w both spent apart at there refl refl kept.shared),
       )
 
   pub merges_all : (slots id : ℕ) (m : Passing O C R) → length m.0.views ≡ length openings → ((place : ℕ) (o : O) → get_elem? openings place ≡ some o → (view_at place m.0).in_turn ≡ false)
@@ -150,7 +184,7 @@ module _ {O C R : Type 0} (moves : O → C → R → O → Type 0) (counted : O 
       let kept = held.1 in
       let v : Sight O C R = m.0 in
       let old = kept.seen id v at in
-      let now : Sight O C R = record { views = merged_from 0 order v.views; seen = order; also = [] } in
+      let now : Sight O C R = record v { views = merged_from 0 order v.views; seen = order; also = [] } in
       let still : set s.words 16 (get_or s.words 16 0) ≡ s.words = set-get_or s.words 16 0 in
       let here = (λ (place : ℕ) (o : O) (opens : get_elem? openings place ≡ some o).
       merges_here moves counted o first (turns_at place order) id (view_at place v) (state_at place s) (kept.each place o opens) (at_map (view_at place) s.views id v at) (idle place o opens)) in (
@@ -164,7 +198,9 @@ module _ {O C R : Type 0} (moves : O → C → R → O → Type 0) (counted : O 
               let less : place < length v.views = (let few = at_below openings place o opens in omega arith) in
               map-set (view_at place) s.views id now ∙ ap (set (map (view_at place) s.views) id) (merged_there order v.views 0 place less ∙ (let same : 0 + place ≡ place = omega arith in ap (λ (k : ℕ). merged (turns_at k order) (view_at place v)) same)))
               (λ place o opens. (here place o opens).0)
-              (λ k u there. ⊎_elim (λ r. subst (λ (x : Sight O C R). IsPrefixOf x.seen order × IsPrefixOf x.also order) r.1 (prefix_self order, (order, refl))) (λ r. kept.seen k u r.1) (at_set s.views id k now u there)),
+              (λ k u there. ⊎_elim (λ r. subst (λ (x : Sight O C R). IsPrefixOf x.seen order × IsPrefixOf x.also order) r.1 (prefix_self order, (order, refl))) (λ r. kept.seen k u r.1) (at_set s.views id k now u there))
+              (λ k u there. ⊎_elim (λ r. subst Full r.1 (record { views = inr (merged_length order v.views 0 ∙ long); shareless = λ none. ap (merged_from 0 order) ((kept.full id v at).shareless none) })) (λ r. kept.full k u r.1) (at_set s.views id k now u there))
+              (still_whole s.views id v now at refl kept.shared),
         ),
         record {
           order = order;
@@ -172,6 +208,16 @@ module _ {O C R : Type 0} (moves : O → C → R → O → Type 0) (counted : O 
           two = old.1;
           is = refl;
           there = λ place less o is. let p = there openings place (omega arith) in (here place p.0 p.1).1 (me_at place m).1 o is;
+          owns = record {
+            below = subst (λ (c : ℕ). AreBelow c order) (sym (merged_length order v.views 0 ∙ long)) kept.below;
+            own = λ place p less.
+                let many = merged_length order v.views 0 in
+                let o = there openings place (omega arith) in
+                let mine : get_elem? (map (view_at place) s.views) id ≡ some (view_at place v) = at_map (view_at place) s.views id v at in
+                let zero_more : 0 + place ≡ place = omega arith in
+                let view : view_at place now ≡ merged (turns_at place order) (view_at place v) = merged_there order v.views 0 place (omega arith) ∙ ap (λ (k : ℕ). merged (turns_at k order) (view_at place v)) zero_more in
+                subst (λ (x : View O C R). times p x.own ≡ made_at x.numbers (turns_at place order) p) (sym view) (((kept.each place o.0 o.1).3.each id (view_at place v) mine).own p);
+          };
         },
       )
 
@@ -192,6 +238,10 @@ module _ {O C R : Type 0} where
         let seen : (view_at place m.0).seen ≡ (view_at place sight).seen = ap (λ (n : Passing O C R). (view_at place n.0).seen) is ∙ ap (λ (v : View O C R). v.seen) (get_or-map gate.newcomer sight.views place gate.spent gate.spent less) in
         let many : length m.0.views ≡ length sight.views = ap (λ (n : Passing O C R). length n.0.views) is ∙ length-map sight.views gate.newcomer in
         ap (λ (l : List (Turn O C R)). made_at (told.0 ∷ []) l k) (sym seen) ∙ told.2 place k (omega arith),
+    λ place k less.
+        let seen : m.0.seen ≡ sight.seen = ap (λ (n : Passing O C R). n.0.seen) is in
+        let many : length m.0.views ≡ length sight.views = ap (λ (n : Passing O C R). length n.0.views) is ∙ length-map sight.views gate.newcomer in
+        ap (λ (l : List (Placed O C R)). made_at (told.0 ∷ []) (turns_at place l) k) (sym seen) ∙ told.3 place k (omega arith),
   )
 
   -- two views in one have no turn

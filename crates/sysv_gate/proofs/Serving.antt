@@ -51,7 +51,7 @@ module _ {O C R : Type 0} where
 
   -- nothing but what is in the slot has changed
   pub refilled_only : (place : ℕ) (m m' : Passing O C R) (x : Spot O C R) → m' ≡ (m.0, (place, x) ∷ []) → IsPrefixOf (view_at place m.0).seen (turns_at place m.0.seen) → Only place m m'
-  refilled_only place m m' x is within = subst (Only place m) (sym is) (record { many = refl; order = prefix_self m.0.seen; also = refl; others = sym (set-get_or m.0.views place spent); carries = refl; within = within })
+  refilled_only place m m' x is within = subst (Only place m) (sym is) (record { many = refl; order = prefix_self m.0.seen; also = refl; shares = refl; others = sym (set-get_or m.0.views place spent); carries = refl; within = within; owns = λ o. o })
 
   -- the turn that the slot tells of is added to the history
   pub ends_told : (moves : O → C → R → O → Type 0) (counted : O → ℕ × ℕ) (opening : O) (first : ℕ) (log : List (Turn O C R)) (slots id : ℕ) (me : Mine O C R) (v : View O C R) (o : O) (ticket : ℕ) (after : O) (done : Done C R)
@@ -78,4 +78,5 @@ module _ {O C R : Type 0} where
         seen = ap (λ (n : Mine O C R). n.0.seen) ends
             ∙ ap (λ (l : List (Turn O C R)). l ++ t ∷ []) whole
             ∙ sym (ap (turns_at place) order ∙ turns_append place went.order (record { place = place; turn = t } ∷ []) ∙ ap (λ (l : List (Turn O C R)). turns_at place went.order ++ l) (turns_here place (t ∷ [])));
+        by = ap (λ (n : Mine O C R). n.0.number) (sym ends);
       }

@@ -20,7 +20,7 @@ use Rattle.sysv_gate.specs.declared.view.View.{View}
 use Rattle.sysv_gate.specs.Turns.{SawMore, HasWorn}
 use Rattle.sysv_gate.specs.Orders.{turns_at}
 use Rattle.sysv_gate.specs.Rule.{Spot}
-use Rattle.sysv_gate.specs.Halls.{view_at, Passing, me_at, Carries}
+use Rattle.sysv_gate.specs.Halls.{view_at, OwnsInOrder, Passing, me_at, Carries}
 
 -- which place it is, and the object that was there when the table was laid
 pub record Doorway (O : Type 0) : Type 0 where
@@ -39,27 +39,31 @@ module _ {O C R : Type 0} where
       (token.table_id ≡ table) × (door.place < length token.me.0.views) × ((me_at door.place token.me).0.opening ≡ Some door.opening)
       × Carries door.place token.me × IsPrefixOf (view_at door.place token.me.0).seen (turns_at door.place token.me.0.seen)
 
-  -- nothing has changed but what the pass has at the place, and it has seen no less of the order
+  -- Nothing has changed but what the pass has at the place, and it has seen no less of the order. If it knew just the turns
+  -- of its own in what it had seen, it still does
   pub record Only (place : ℕ) (m m' : Passing O C R) : Type 0 where
     pub many : length m'.0.views ≡ length m.0.views
     pub order : IsPrefixOf m.0.seen m'.0.seen
     pub also : m'.0.also ≡ m.0.also
+    pub shares : m'.0.shares ≡ m.0.shares
     pub others : m'.0.views ≡ slice_set m.0.views place (view_at place m'.0)
     pub carries : Carries place m'
     pub within : IsPrefixOf (view_at place m'.0).seen (turns_at place m'.0.seen)
+    pub owns : OwnsInOrder m.0 → OwnsInOrder m'.0
 
   -- it is the same pass after steps at the place
   abbrev pub IsSame : ℕ → Seat (Spot O C R) (Sight O C R) → Seat (Spot O C R) (Sight O C R) → Type 0
   IsSame place before after = (after.table_id ≡ before.table_id) × (after.id ≡ before.id) × Only place before.me after.me
 
-  -- The order that the pass has seen goes on, and ends with a turn at the place. All turns there that are in it are those
-  -- that the pass has seen there
+  -- The order that the pass has seen goes on, and ends with a turn at the place, made under the pass's number. All turns
+  -- there that are in it are those that the pass has seen there
   pub record EndsOrder (place : ℕ) (m m' : Passing O C R) : Type 0 where
     pub front : List (Placed O C R)
     pub turn : Turn O C R
     pub longer : IsPrefixOf m.0.seen front
     pub order : m'.0.seen ≡ front ++ record { place = place; turn = turn } ∷ []
     pub seen : (view_at place m'.0).seen ≡ turns_at place m'.0.seen
+    pub by : turn.by ≡ (view_at place m'.0).number
 
   -- a view holds no ticket and has no turn, and its number is one of its numbers
   abbrev pub Idling : View O C R → Type 0
@@ -101,6 +105,7 @@ module _ {O C R : Type 0} where
   abbrev pub IsNewcomer : Sight O C R → Passing O C R → Type 0
   IsNewcomer sight m =
       (number : ℕ) × (m ≡ (at_each (named number) (newcomer sight), [])) × ((place k : ℕ) → place < length sight.views → made_at (number ∷ []) (view_at place sight).seen k ≡ 0)
+      × ((place k : ℕ) → place < length sight.views → made_at (number ∷ []) (turns_at place sight.seen) k ≡ 0)
 
   -- at each place the pass knows the object that was there
   abbrev pub KnowsAll : List O → Sight O C R → Type 0

@@ -1,15 +1,18 @@
 -- The rule of a table with several places. Place p has the words from 80 p on, as the one place of a gate has them from 0
 -- on, and slot p. A pass has a view of each place, and has seen a beginning of the one order of all turns. At each place
 -- the rule of a gate holds, of the turns of the order that were made there.
-use Rattle.std.specs.Prelude.{◌≡◌, ℕ, ◌*◌, List, [], ◌∷◌, map, take, drop, length, slice_index_or}
+use Rattle.std.specs.Prelude.{◌≡◌, ◌⊎◌, ℕ, ◌*◌, ◌^◌, ◌<◌, List, [], ◌∷◌, map, take, drop, length, slice_index_or, sum_by}
 use mathlib.Core.Option.{none, some}
 use lib.ListN.{get_elem?}
 use Rattle.atomic_table.specs.Table.{State, Me}
 use Rattle.sysv_gate.specs.declared.view.View.{View}
 use Rattle.sysv_gate.specs.declared.view.Placed.{Placed}
 use Rattle.sysv_gate.specs.declared.view.Sight.{Sight}
+use Rattle.sysv_lists.specs.Numbers.{times}
 use Rattle.sysv_lists.specs.Prefix.{IsPrefixOf}
+use Rattle.sysv_gate.specs.History.{made_at}
 use Rattle.sysv_gate.specs.Orders.{turns_at, AreBelow}
+use Rattle.sysv_gate.specs.Shares.{AreWithin, parts}
 use Rattle.sysv_gate.specs.Rule.{Spot, GatedBy, start}
 use Rattle.sysv_gate.specs.Steps.{Mine, spent}
 
@@ -26,21 +29,38 @@ module _ {O C R : Type 0} where
   abbrev pub state_at : ℕ → State (Spot O C R) (Sight O C R) → State (Spot O C R) (View O C R)
   state_at place s = record { words = block place s.words; homes = slice_index_or s.homes place none ∷ []; views = map (view_at place) s.views }
 
+  -- The order that a pass has seen has turns at its places alone. At each place those turns of it are the pass's own that
+  -- were made under its numbers
+  pub record OwnsInOrder (sight : Sight O C R) : Type 0 where
+    pub below : AreBelow (length sight.views) sight.seen
+    pub own : (place p : ℕ) → place < length sight.views → times p (view_at place sight).own ≡ made_at (view_at place sight).numbers (turns_at place sight.seen) p
+
+  -- A pass has a view of each place, or it was joined into another and has none. Without a share of the table it has none
+  pub record IsFull (openings : List O) (v : Sight O C R) : Type 0 where
+    pub views : (v.views ≡ []) ⊎ (length v.views ≡ length openings)
+    pub shareless : v.shares ≡ [] → v.views ≡ []
+
+  -- the shares of all passes together are the whole of the table
+  abbrev pub AreTheWhole : List (Sight O C R) → Type 0
+  AreTheWhole sights = (depth : ℕ) → ((id : ℕ) (v : Sight O C R) → get_elem? sights id ≡ some v → AreWithin depth v.shares) → sum_by (λ v. parts depth v.shares) sights ≡ 2 ^ depth
+
   -- There is one order of all turns. Each pass has seen a beginning of it, and at each place the rule of a gate holds of
-  -- the turns that were made there
+  -- the turns that were made there. Together the passes have the whole of the table
   pub record Kept (moves : O → C → R → O → Type 0) (counted : O → ℕ × ℕ) (openings : List O) (first : ℕ) (order : List (Placed O C R)) (s : State (Spot O C R) (Sight O C R)) : Type 0 where
     pub words : length s.words ≡ 80 * length openings
     pub homes : length s.homes ≡ length openings
     pub below : AreBelow (length openings) order
     pub each : (place : ℕ) (o : O) → get_elem? openings place ≡ some o → GatedBy moves counted o first (turns_at place order) (state_at place s)
     pub seen : (id : ℕ) (v : Sight O C R) → get_elem? s.views id ≡ some v → IsPrefixOf v.seen order × IsPrefixOf v.also order
+    pub full : (id : ℕ) (v : Sight O C R) → get_elem? s.views id ≡ some v → IsFull openings v
+    pub shared : AreTheWhole s.views
 
   abbrev pub InOrder : (O → C → R → O → Type 0) → (O → ℕ × ℕ) → List O → ℕ → State (Spot O C R) (Sight O C R) → Type 0
   InOrder moves counted openings first s = (order : List (Placed O C R)) × Kept moves counted openings first order s
 
   -- the sight of the first pass
   abbrev pub outset : List O → ℕ → Sight O C R
-  outset openings first = record { views = map (λ o. start o first) openings; seen = []; also = [] }
+  outset openings first = record { views = map (λ o. start o first) openings; seen = []; also = []; shares = 0 ∷ [] }
 
 module _ (O C R : Type 0) where
   -- a pass's sight, and the slots that it has taken

@@ -3,6 +3,7 @@ pub mod Counts
 pub mod Rule
 pub mod Steps
 pub mod Orders
+pub mod Shares
 pub mod Halls
 pub mod Plays
 pub mod Doors

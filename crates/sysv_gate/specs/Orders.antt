@@ -1,7 +1,9 @@
 -- The one order of the turns at several places.
-use Rattle.std.specs.Prelude.{ℕ, ◌<◌, ◌==◌, List, [], ◌∷◌, map, filter}
+use Rattle.std.specs.Prelude.{◌≡◌, ℕ, ◌<◌, ◌≤◌, ◌==◌, List, [], ◌∷◌, map, filter}
 use Rattle.sysv_gate.specs.declared.view.Turn.{Turn}
 use Rattle.sysv_gate.specs.declared.view.Placed.{Placed}
+use Rattle.sysv_lists.specs.Numbers.{times}
+use Rattle.sysv_lists.specs.Prefix.{IsPrefixOf}
 
 module _ {O C R : Type 0} where
   -- the turns at the place, in their order
@@ -16,3 +18,17 @@ module _ {O C R : Type 0} where
   abbrev pub AreBelow : ℕ → List (Placed O C R) → Type 0
   AreBelow count [] = Unit {0}
   AreBelow count (t ∷ ts) = (t.place < count) × AreBelow count ts
+
+  -- none of the turns was made under one of the numbers
+  abbrev pub NoneMadeUnder : List ℕ → List (Placed O C R) → Type 0
+  NoneMadeUnder numbers [] = Unit {0}
+  NoneMadeUnder numbers (t ∷ ts) = (times t.turn.by numbers ≡ 0) × NoneMadeUnder numbers ts
+
+  -- each of the turns was made under one of the numbers
+  abbrev pub AllMadeUnder : List ℕ → List (Placed O C R) → Type 0
+  AllMadeUnder numbers [] = Unit {0}
+  AllMadeUnder numbers (t ∷ ts) = (1 ≤ times t.turn.by numbers) × AllMadeUnder numbers ts
+
+  -- one order goes on to another, by turns none of which was made under one of the numbers
+  abbrev pub GoesOnWithout : List ℕ → List (Placed O C R) → List (Placed O C R) → Type 0
+  GoesOnWithout numbers before after = (longer : IsPrefixOf before after) × NoneMadeUnder numbers longer.0

@@ -10,21 +10,25 @@ use Rattle.sysv_gate.specs.declared.place.Done.{Done}
 use Rattle.sysv_lists.specs.Prefix.{IsPrefixOf}
 use Rattle.sysv_gate.specs.History.{made_at}
 use Rattle.sysv_gate.specs.Orders.{turns_at, placed}
+use Rattle.sysv_gate.specs.Shares.{half}
 use Rattle.sysv_gate.specs.Steps as gate
 use Rattle.sysv_gate.specs.Steps.{Mine, At, turn_of, Gathers}
-use Rattle.sysv_gate.specs.Halls.{view_at, Passing, me_at, Carries}
+use Rattle.sysv_gate.specs.Halls.{view_at, OwnsInOrder, Passing, me_at, Carries}
 
 module _ {O C R : Type 0} where
   -- The step is one at this place, where it tells `told`. Nothing changes at another place. The pass sees the order as it is
-  -- then, which begins with all that it had seen; these turns at the place are added to it
+  -- then, which begins with all that it had seen; these turns at the place are added to it. It knows just the turns of its
+  -- own in what it sees then
   pub record StepsAt (place : ℕ) (added : List (Turn O C R)) (told : Mine O C R → Type 0) (m m' : Passing O C R) : Type 0 where
     pub order : List (Placed O C R)
     pub longer : IsPrefixOf m.0.seen order
     pub seen : m'.0.seen ≡ order ++ placed place added
     pub also : m'.0.also ≡ m.0.also
+    pub shares : m'.0.shares ≡ m.0.shares
     pub views : m'.0.views ≡ slice_set m.0.views place (view_at place m'.0)
     pub within : IsPrefixOf (view_at place m'.0).seen (turns_at place m'.0.seen)
     pub turn : (view_at place m.0).in_turn ≡ true → (view_at place m.0).seen ≡ turns_at place order
+    pub owns : OwnsInOrder m'.0
     pub carries : Carries place m'
     pub there : told (me_at place m')
 
@@ -51,9 +55,13 @@ module _ {O C R : Type 0} where
   abbrev pub at_each : (View O C R → View O C R) → Sight O C R → Sight O C R
   at_each change sight = record sight { views = map change sight.views }
 
-  -- what a split gives
+  -- what a split leaves: half of the share
+  abbrev pub halved : Sight O C R → Sight O C R
+  halved sight = record sight { views = map gate.parted sight.views; shares = half sight.shares }
+
+  -- what it gives: the other half
   abbrev pub newcomer : Sight O C R → Sight O C R
-  newcomer sight = record { views = map gate.newcomer sight.views; seen = sight.seen; also = [] }
+  newcomer sight = record { views = map gate.newcomer sight.views; seen = sight.seen; also = []; shares = half sight.shares }
 
   abbrev pub both_views : List (View O C R) → List (View O C R) → List (View O C R)
   both_views [] ws = []
@@ -62,11 +70,11 @@ module _ {O C R : Type 0} where
 
   -- two sights in one
   abbrev pub both_of : Sight O C R → Sight O C R → Sight O C R
-  both_of one two = record { views = both_views one.views two.views; seen = one.seen; also = two.seen }
+  both_of one two = record { views = both_views one.views two.views; seen = one.seen; also = two.seen; shares = one.shares ++ two.shares }
 
   -- what is left of a sight that was joined into another
   abbrev pub spent : Sight O C R
-  spent = record { views = []; seen = []; also = [] }
+  spent = record { views = []; seen = []; also = []; shares = [] }
 
   -- what the places from this one on have seen after a look at the whole order
   abbrev pub merged_from : ℕ → List (Placed O C R) → List (View O C R) → List (View O C R)
@@ -77,11 +85,13 @@ module _ {O C R : Type 0} where
   abbrev pub Names : At O C R → Passing O C R → ℕ → Passing O C R → Type 0
   Names st m n m' =
       (number : ℕ) × (m' ≡ (at_each (gate.named number) m.0, m.1)) × ((place k : ℕ) → place < length m.0.views → made_at (number ∷ []) (view_at place m.0).seen k ≡ 0)
+      × ((place k : ℕ) → place < length m.0.views → made_at (number ∷ []) (turns_at place m.0.seen) k ≡ 0)
 
   -- what a look after a join tells
   pub record Merges (moves : O → C → R → O → Type 0) (m m' : Passing O C R) : Type 0 where
     pub order : List (Placed O C R)
     pub one : IsPrefixOf m.0.seen order
     pub two : IsPrefixOf m.0.also order
-    pub is : m' ≡ (record { views = merged_from 0 order m.0.views; seen = order; also = [] }, m.1)
+    pub is : m' ≡ (record m.0 { views = merged_from 0 order m.0.views; seen = order; also = [] }, m.1)
     pub there : (place : ℕ) → place < length m.0.views → (opening : O) → (view_at place m.0).opening ≡ Some opening → Gathers moves opening (me_at place m) (gate.merged (turns_at place order) (view_at place m.0), (me_at place m).1)
+    pub owns : OwnsInOrder m'.0

@@ -123,10 +123,9 @@ impl<O: Object> Play<Option<Place<O, O::Call, O::Reply>>, Sight<O, O::Call, O::R
 }
 
 impl<O, C, R> Split<Sight<O, C, R>> for Sharing {
-    ghost use Rattle.sysv_gate.specs.Steps.{parted};
-    ghost use Rattle.sysv_gate.specs.Plays.{at_each, newcomer};
+    ghost use Rattle.sysv_gate.specs.Plays.{halved, newcomer};
 
-    ghost left = { at_each parted };
+    ghost left = { halved };
 
     ghost right = { newcomer };
 }

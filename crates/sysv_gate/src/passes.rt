@@ -1,8 +1,7 @@
 //! How passes of a table come, and how one is joined into another.
 ghost use Rattle.std.specs.Prelude.{◌≡◌, ◌≤◌, []};
 ghost use Rattle.sysv_gate.specs.History.{Moves};
-ghost use Rattle.sysv_gate.specs.Steps.{parted};
-ghost use Rattle.sysv_gate.specs.Plays.{at_each, both_of, Merges};
+ghost use Rattle.sysv_gate.specs.Plays.{halved, both_of, Merges};
 ghost use Rattle.sysv_gate.specs.Doors.{IsNewcomer, KnowsAll};
 
 use crate::board::SERVING;
@@ -15,7 +14,7 @@ use crate::rule::{Gathering, Merging, Naming, Sharing};
 pub fn split_pass<O: Object>(hall: &Hall<O>, token: &mut HallToken<O>) -> HallToken<O>
     requires table { (token.old.table_id ≡ hall.now.shared.table_id) × (80 ≤ hall.now.shared.table_id.words) }
     requires rest { KnowsAll hall.now.shared.key.openings.value.items token.old.me.0 }
-    ensures same { (token.new.table_id ≡ token.old.table_id) × (token.new.me ≡ (at_each parted token.old.me.0, token.old.me.1)) }
+    ensures same { (token.new.table_id ≡ token.old.table_id) × (token.new.me ≡ (halved token.old.me.0, token.old.me.1)) }
     ensures new { (result.table_id ≡ token.old.table_id) × IsNewcomer token.old.me.0 result.me }
 {
     let mut other = hall.shared.split_seat::<Sharing>(token);

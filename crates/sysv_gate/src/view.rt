@@ -55,4 +55,6 @@ pub struct Sight<O, C, R> {
     pub seen: LinkedList<Placed<O, C, R>>,
     /// What another pass had seen of it that was joined into this one, until the next look.
     pub also: LinkedList<Placed<O, C, R>>,
+    /// The share that it has of the table, as a list of depths. Depth d stands for 2^-d.
+    pub shares: LinkedList<u64>,
 }

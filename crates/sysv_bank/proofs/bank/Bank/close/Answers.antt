@@ -179,4 +179,4 @@ returns-clause-order g c =
     let most = c.loop-place.auto.place-end in
     let count = inv.count in
     subst (λ p. ClosesInOrder moves p c.loop-place.closings.items) tok.1
-    (closes_order moves counted key.openings.value.items key.first _ _ _ _ final u tok.2 same.1 same.2 (ap (λ t. t.id) tok.3) (ap (λ t. t.me.0) tok.3) c.loop-place.closings.items inv.read (omega arith))
+    (closes_order moves counted key.openings.value.items key.first _ _ _ _ final u tok.2 same.1 same.2 (ap (λ t. t.id) tok.3) (ap (λ t. t.me.0) tok.3) c.loop-place.closings.items inv.read (omega arith) c.self.invariant.some_place)

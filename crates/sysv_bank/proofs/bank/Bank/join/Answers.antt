@@ -1,10 +1,10 @@
-use Rattle.std.proofs.Common.{ap, sym, subst, ◌∙◌, arith}
+use Rattle.std.proofs.Common.{ap, sym, subst, ◌∙◌, ◌≤◌, length, arith}
 use Rattle.sysv_gate.specs.History.{Moves}
 use Rattle.sysv_gate.specs.Gates.{Joins}
 use Rattle.sysv_gate.specs.Doors.{KnowsAll}
 use Rattle.sysv_gate.specs.Plays.{both_of, Merges}
-use Rattle.sysv_lists.specs.Prefix.{IsPrefixOf}
 use Rattle.sysv_bank.specs.Banks.{Each3, gates_of}
+use Rattle.sysv_bank.specs.Passes.{JoinsOrders}
 use Rattle.sysv_bank.specs.Resting.{pass_of}
 use Rattle.sysv_bank.proofs.Passes.{same_table, gates_same}
 use Rattle.sysv_bank.proofs.Coming.{knows_all, joined_now, joined_rests, joined_order}
@@ -91,7 +91,7 @@ returns-clause-order g c =
     let theirs = same_table moves _ _ u _ _ c.self.invariant other.2 c.self.view_is other.1 c.requires.other in
     let told = subst (λ t. Merges moves (both_of s.token.me.0 t.me.0, s.token.me.1) c.join_pass.new.token.me) (sym other.3) c.join_pass.ensures.joined in
     let os = theirs.2 ∙ sym same.2 in
-    let order = joined_order moves s u c.seat.invariant other.2 os c.join_pass.new.token c.join_pass.ensures.same told in (
-      subst (λ p. IsPrefixOf p.order c.join_pass.new.token.me.0.seen) c.seat.view_is order.0,
-      subst (λ p. IsPrefixOf p.order c.join_pass.new.token.me.0.seen) other.1 order.1,
-    )
+    let now = pass_of (record { token = c.join_pass.new.token; key = s.key }) in
+    subst (λ p. JoinsOrders p c.args.other now) c.seat.view_is
+    (subst (λ p. JoinsOrders (pass_of s) p now) other.1
+    (joined_order moves s u c.seat.invariant other.2 os c.join_pass.new.token c.join_pass.ensures.same told (subst (λ l. 1 ≤ length l) (sym same.2) c.self.invariant.some_place)))

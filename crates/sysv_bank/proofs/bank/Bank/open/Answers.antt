@@ -7,7 +7,7 @@ use Rattle.sysv_bank.specs.Banks.{AreOpened, gates_of}
 use Rattle.sysv_bank.specs.Passes.{holdings}
 use Rattle.sysv_bank.specs.Resting.{gateways}
 use Rattle.sysv_bank.proofs.Passes.{gates_there}
-use Rattle.sysv_bank.proofs.Coming.{first_rests, first_seats, first_opened}
+use Rattle.sysv_bank.proofs.Coming.{first_rests, first_named, first_seats, first_opened}
 use Rattle.sysv_bank.proofs.bank.Bank.open.Goals as goal
 
 pub invariant_of-bank : goal.invariant_of-bank
@@ -61,3 +61,15 @@ returns-in-Some-clause-fits g c =
           ∙ ap (λ t. gateways t first os) new.table,
       length-map os _ ∙ ap length items,
     )
+
+pub returns-in-Some-clause-order : goal.returns-in-Some-clause-order
+returns-in-Some-clause-order g c =
+    let new = c.in-Some.ensures.some in
+    let is = new.me ∙ ap (λ k. (outset k.openings.value.items k.first, [])) (sym c.of-in-Some.ensures) in
+    let many = ap (λ k. length k.openings.value.items) c.of-in-Some.ensures ∙ ap (λ v. length v.items) c.of.ensures in
+    let some_place = c.requires.some in
+    let named = first_named (record { token = c.in-Some.token; key = c.of-in-Some.result }) (omega arith) is in
+    (ap (λ m. m.0.seen) new.me, named.0, named.1)
+
+pub returns-in-Some-clause-share : goal.returns-in-Some-clause-share
+returns-in-Some-clause-share g c = ap (λ m. m.0.shares) c.in-Some.ensures.some.me

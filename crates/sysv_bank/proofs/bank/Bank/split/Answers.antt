@@ -1,11 +1,12 @@
-use Rattle.std.proofs.Common.{ap, sym, subst, ◌∙◌, map, arith}
+use Rattle.std.proofs.Common.{ap, sym, subst, ◌∙◌, ◌≤◌, map, length, arith}
 use Rattle.sysv_gate.specs.History.{Moves}
 use Rattle.sysv_gate.specs.Gates.{parted, IsSplit}
 use Rattle.sysv_gate.specs.Doors.{KnowsAll}
 use Rattle.sysv_bank.specs.Banks.{Each2, gates_of}
+use Rattle.sysv_bank.specs.Passes.{SplitsOff}
 use Rattle.sysv_bank.specs.Resting.{pass_of}
 use Rattle.sysv_bank.proofs.Passes.{same_table, gates_same}
-use Rattle.sysv_bank.proofs.Coming.{knows_all, parted_now, parted_rests, split_now, split_rests, rests_key, seats_key}
+use Rattle.sysv_bank.proofs.Coming.{knows_all, parted_now, parted_rests, split_now, split_rests, split_order, rests_key, seats_key}
 use Rattle.sysv_bank.proofs.bank.Bank.split.Goals as goal
 
 pub split_pass-token-requires-clause-table : goal.split_pass-token-requires-clause-table
@@ -53,3 +54,11 @@ returns-clause-ok g c =
       subst (λ l. Each2 IsSplit l (pass_of (record { token = token; key = c.of.result })).seats) view
           (subst (λ l. Each2 IsSplit (pass_of c.seat.inside).seats l) (sym seats) (split_now (Moves g.O.Object.meaning g.O.Object.counted) c.seat.inside c.seat.invariant token new.0 new.1)),
     )
+
+pub returns-clause-order : goal.returns-clause-order
+returns-clause-order g c =
+    let same = same_table _ _ _ _ _ _ c.self.invariant c.seat.invariant c.self.view_is c.seat.view_is c.requires in
+    let token = c.split_pass-token.result in
+    let new = c.split_pass-token.ensures.new in
+    subst (λ p. SplitsOff p (pass_of (record { token = c.split_pass-token.new.token; key = c.seat.inside.key })) (pass_of (record { token = token; key = c.of.result }))) c.seat.view_is
+    (split_order (Moves g.O.Object.meaning g.O.Object.counted) c.seat.inside c.seat.invariant token new.0 c.of.result c.split_pass-token.new.token (subst (λ l. 1 ≤ length l) (sym same.2) c.self.invariant.some_place) c.split_pass-token.ensures.same.1 new.1)
