@@ -1,4 +1,5 @@
 pub mod Rising
+pub mod Seeing
 pub mod Answering
 pub mod Vacancy
 pub mod Histories

@@ -5,6 +5,8 @@ pub use Rattle.sysv_model.specs.Turn
 pub mod SlotTurns
 pub mod RegistryTurns
 pub mod PoolTurns
+pub mod Kinds
+pub mod Gated
 pub mod Seats
 pub mod Answered
 pub mod Reading
