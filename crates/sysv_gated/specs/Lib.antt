@@ -8,6 +8,7 @@ pub mod PoolTurns
 pub mod Kinds
 pub mod Gated
 pub mod Seats
+pub mod Banked
 pub mod Answered
 pub mod Reading
 pub mod Opened
