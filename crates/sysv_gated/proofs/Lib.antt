@@ -1,4 +1,7 @@
 pub mod Rising
+pub mod Seeing
+pub mod Keeping
+pub mod Placing
 pub mod Answering
 pub mod Vacancy
 pub mod Histories

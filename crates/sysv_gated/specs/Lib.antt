@@ -5,7 +5,10 @@ pub use Rattle.sysv_model.specs.Turn
 pub mod SlotTurns
 pub mod RegistryTurns
 pub mod PoolTurns
+pub mod Kinds
+pub mod Gated
 pub mod Seats
+pub mod Banked
 pub mod Answered
 pub mod Reading
 pub mod Opened

@@ -7,6 +7,7 @@ mod at_registry;
 mod at_slot;
 mod counts;
 mod gates;
+mod kinds;
 mod laws;
 mod letter;
 mod opening;
