@@ -7,3 +7,5 @@ pub mod Vacancy
 pub mod Histories
 pub mod Closing
 pub mod Obeying
+pub mod Ordered
+pub mod OrderedHistories

@@ -1,3 +1,6 @@
+pub use Rattle.sysv_crew.specs.Order
+pub use Rattle.sysv_crew.specs.Members
+pub use Rattle.sysv_objects.specs.LegalDeed
 pub use Rattle.sysv_model.specs.History
 pub use Rattle.sysv_model.specs.Registry
 pub use Rattle.sysv_model.specs.Pool
@@ -14,3 +17,4 @@ pub mod Reading
 pub mod Opened
 pub mod SeenHistories
 pub mod Sharing
+pub mod Ordered

@@ -1,5 +1,6 @@
 //! Laws over the definitions alone.
 
+ghost use Rattle.sysv_gated.specs.Ordered.{OrdersAreOfCrews};
 ghost use Rattle.sysv_gated.specs.SeenHistories.{SeenHistories, SeenHistoriesObey, EachKnowsItsOwn, ObeysIfOpen, OwnTurnsAreLast};
 
 use crate::seats::Seats;
@@ -39,4 +40,10 @@ pub fn each_seat_obeys(seats: &Seats)
 /// A turn of the seat's own is the last entry of what it has seen then, after all that it had seen before.
 pub fn own_turns_are_last()
     ensures { OwnTurnsAreLast }
+{}
+
+/// What a bank of these objects says of its passes and of the order of its turns is what a pass of a service does, in turns
+/// of the world. The replies in the order that is found when the bank is closed are legal.
+pub fn orders_are_of_crews()
+    ensures { OrdersAreOfCrews }
 {}
