@@ -3,6 +3,7 @@ pub mod Seeing
 pub mod Keeping
 pub mod Placing
 pub mod Answering
+pub mod Asking
 pub mod Vacancy
 pub mod Histories
 pub mod Closing

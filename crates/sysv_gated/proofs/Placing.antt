@@ -165,8 +165,7 @@ changes_slot slot (r ∷ []) after how how' kinds goes c = absurd kinds
 changes_slot slot (r ∷ p ∷ ss) after how how' kinds goes c =
     let now : after ≡ r ∷ p ∷ set ss slot c.is = c.others ∙ ap (λ n. set (r ∷ p ∷ ss) n c.is) (two_more slot) in
     let at : get_elem? ss slot ≡ some c.was = ap (get_elem? (r ∷ p ∷ ss)) (sym (two_more slot)) ∙ c.at in
-    let is = slot_there (gates_of (r ∷ p ∷ ss)) slot c.was.gate kinds (at_map (λ (h : Mark). h.gate) (r ∷ p ∷ ss) (slot + 2) c.was c.at) in
-    (
+    let is = slot_there (gates_of (r ∷ p ∷ ss)) slot c.was.gate kinds (at_map (λ (h : Mark). h.gate) (r ∷ p ∷ ss) (slot + 2) c.was c.at) in (
       record {
         was = seat_as as_slot c.was;
         is = seat_as as_slot c.is;
@@ -186,8 +185,7 @@ changes_registry (r ∷ []) after how how' kinds goes c = absurd kinds
 changes_registry (r ∷ p ∷ ss) after how how' kinds goes c =
     let now : after ≡ c.is ∷ p ∷ ss = c.others in
     let was : c.was ≡ r = sym (some-injective r c.was c.at) in
-    let change = goes r c.is refl kinds.0 (subst (λ (h : Mark). how h c.is) was c.change) in
-    (
+    let change = goes r c.is refl kinds.0 (subst (λ (h : Mark). how h c.is) was c.change) in (
       subst (λ l. how' (seat_as as_registry r) (seats_seen l).registry) (sym now) change,
       ap (λ l. (seats_seen l).slots) now,
       ap (λ l. (seats_seen l).pool) now,
@@ -201,8 +199,7 @@ changes_pool (r ∷ []) after how how' kinds goes c = absurd kinds
 changes_pool (r ∷ p ∷ ss) after how how' kinds goes c =
     let now : after ≡ r ∷ c.is ∷ ss = c.others in
     let was : c.was ≡ p = sym (some-injective p c.was c.at) in
-    let change = goes p c.is refl kinds.1 (subst (λ (h : Mark). how h c.is) was c.change) in
-    (
+    let change = goes p c.is refl kinds.1 (subst (λ (h : Mark). how h c.is) was c.change) in (
       subst (λ l. how' (seat_as as_pool p) (seats_seen l).pool) (sym now) change,
       ap (λ l. (seats_seen l).slots) now,
       ap (λ l. (seats_seen l).registry) now,

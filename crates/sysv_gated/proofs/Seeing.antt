@@ -200,8 +200,7 @@ module _ {O C R O' C' R' : Type 0} (kind : Kind O C R O' C' R') (Is : O → Type
   due_as : (gate : Gateway O) (log : List (Turn O C R)) → Is gate.opening → ATurnIsDue moves gate log → ATurnIsDue moves' (gate_as kind gate) (map (turn_as kind) log)
   due_as gate log is due =
       let there = due.4 in
-      let views = due.2 in
-      (
+      let views = due.2 in (
         due.0,
         some (put (after_all (kind.object gate.opening) (map (turn_as kind) log)) None) ∷ [],
         map view_as views,

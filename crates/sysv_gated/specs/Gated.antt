@@ -50,6 +50,11 @@ IsSlotCall (asked.Slot call) = ⊤
 IsSlotCall (asked.Registry call) = ⊥
 IsSlotCall (asked.Pool call) = ⊥
 
+abbrev pub IsRegistryCall : GatedCall → Type 0
+IsRegistryCall (asked.Slot call) = ⊥
+IsRegistryCall (asked.Registry call) = ⊤
+IsRegistryCall (asked.Pool call) = ⊥
+
 abbrev pub IsPoolCall : GatedCall → Type 0
 IsPoolCall (asked.Slot call) = ⊥
 IsPoolCall (asked.Registry call) = ⊥

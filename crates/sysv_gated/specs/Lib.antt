@@ -15,6 +15,7 @@ pub mod Banked
 pub mod Answered
 pub mod Reading
 pub mod Opened
+pub mod Fresh
 pub mod SeenHistories
 pub mod Sharing
 pub mod Ordered

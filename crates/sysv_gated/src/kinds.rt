@@ -1,12 +1,12 @@
 //! The slots, the registry and the pool, as objects of one bank.
 
+ghost use Rattle.std.specs.Prelude.{◌≡◌};
+ghost use Rattle.sysv_gated.specs.Gated.{GatedMoves, gated_counts, Accepts, IsSlotCall, IsRegistryCall, IsPoolCall, IsSlotReply, IsRegistryReply, IsPoolReply};
+
 use crate::pool::{GatedPool, PoolCall, PoolReply};
 use crate::registry::{GatedRegistry, RegistryCall, RegistryReply};
 use crate::slot::{GatedSlot, SlotCall, SlotReply};
 use sysv_gate::Object;
-
-ghost use Rattle.std.specs.Prelude.{◌≡◌};
-ghost use Rattle.sysv_gated.specs.Gated.{GatedMoves, gated_counts, Accepts, IsSlotCall, IsPoolCall, IsSlotReply, IsRegistryReply, IsPoolReply};
 
 /// An object behind a gate, of one of three kinds. It stays of its kind.
 pub enum Gated {
@@ -37,6 +37,17 @@ impl GatedCall {
     {
         match self {
             GatedCall::Slot(call) => call,
+            _other => unreachable!(),
+        }
+    }
+
+    // What the registry is asked.
+    pub(crate) fn into_registry(self) -> RegistryCall
+        requires { IsRegistryCall self }
+        ensures { self ≡ GatedCall.Registry result }
+    {
+        match self {
+            GatedCall::Registry(call) => call,
             _other => unreachable!(),
         }
     }

@@ -5,7 +5,6 @@ ghost use Rattle.sysv_gated.specs.SeenHistories.{SeenHistories, SeenHistoriesObe
 
 use crate::seats::Seats;
 use sysv_bank::each_seat_of_a_bank_knows_its_own;
-use sysv_gate::each_seat_knows_its_own;
 use sysv_keys::registry_law;
 use sysv_pool::pool_law;
 use sysv_queue::queue_law;
@@ -31,9 +30,7 @@ pub fn each_seat_obeys(seats: &Seats)
     ensures knows { EachKnowsItsOwn seats.now }
     ensures obeys { ObeysIfOpen seats.now }
 {
-    each_seat_of_a_bank_knows_its_own(&seats.slots);
-    each_seat_knows_its_own(&seats.registry);
-    each_seat_knows_its_own(&seats.pool);
+    each_seat_of_a_bank_knows_its_own(&seats.seat);
     seen_histories_obey();
 }
 
