@@ -81,7 +81,7 @@ module _ (gates : List (Gateway Gated)) where
   own_of numbers earlier (t ∷ ts) all =
       All-cons (IsOwn numbers) (deed_after earlier t) (deeds_after gates (earlier ++ t ∷ []) ts) all.0 (own_of numbers (earlier ++ t ∷ []) ts all.1)
 
-  longer_of : (xs ys : List GatedPlaced) → IsPrefixOf xs ys → IsPrefixOf (deeds_of gates xs) (deeds_of gates ys)
+  abbrev longer_of : (xs ys : List GatedPlaced) → IsPrefixOf xs ys → IsPrefixOf (deeds_of gates xs) (deeds_of gates ys)
   longer_of xs ys longer = (deeds_after gates xs longer.0, ap (deeds_of gates) longer.1 ∙ deeds_of-append xs longer.0)
 
   -- an order that goes on without a turn under one of the numbers has no more turns under it

@@ -52,8 +52,16 @@ same_place n k e = grind (arith, nat_tests)
 other_place : (n k : ℕ) → n ≢ k → (n == k) ≡ false
 other_place n k apart = grind (arith, nat_tests)
 
--- ---- one more turn
+two_on : (a b : ℕ) → (suc (suc a) == suc (suc b)) ≡ (a == b)
+two_on a b =
+    dite (ℕ_discrete a b)
+    (λ e. same_place (suc (suc a)) (suc (suc b)) (ap (λ n. suc (suc n)) e) ∙ sym (same_place a b e))
+    (λ apart. other_place (suc (suc a)) (suc (suc b)) (λ e. apart (omega arith)) ∙ sym (other_place a b apart))
 
+none_at : {E : Type 0} (e : E) (at place : ℕ) → at ≢ place → [] ≡ cond (at == place) (e ∷ []) []
+none_at e at place apart = sym (ap (λ b. cond b (e ∷ []) []) (other_place at place apart))
+
+-- ---- one more turn
 
 turns_if : (place : ℕ) (t : GatedPlaced) (ts : List GatedPlaced) → turns_at place (t ∷ ts) ≡ turns_at place (t ∷ []) ++ turns_at place ts
 turns_if place t ts = turns_append place (t ∷ []) ts
@@ -109,19 +117,19 @@ module _ (gates : List (Gateway Gated)) where
         ∙ ap (entries_of (object_at gates place earlier)) (sym (turns_if place t ts ∙ ap (λ us. us ++ turns_at place ts) (elsewhere place t apart)))))
 
   slot_adds : (slot : ℕ) → Adds (suc (suc slot)) as_slot slot_entry (λ (t : WorldTurn). world_slot_entry slot t.who t.deed)
-  slot_adds slot zero before t = refl
-  slot_adds slot (suc zero) before t = refl
-  slot_adds slot (suc (suc at)) before t = refl
+  slot_adds slot zero before t = none_at (slot_entry (slot_in before) (turn_as as_slot t)) zero (suc (suc slot)) (λ e. omega arith)
+  slot_adds slot (suc zero) before t = none_at (slot_entry (slot_in before) (turn_as as_slot t)) (suc zero) (suc (suc slot)) (λ e. omega arith)
+  slot_adds slot (suc (suc at)) before t = ap (λ b. cond b (slot_entry (slot_in before) (turn_as as_slot t) ∷ []) []) (sym (two_on at slot))
 
   registry_adds : Adds zero as_registry registry_entry (λ (t : WorldTurn). world_registry_entry t.who t.deed)
   registry_adds zero before t = refl
-  registry_adds (suc zero) before t = refl
-  registry_adds (suc (suc at)) before t = refl
+  registry_adds (suc zero) before t = none_at (registry_entry (registry_in before) (turn_as as_registry t)) (suc zero) zero (λ e. omega arith)
+  registry_adds (suc (suc at)) before t = none_at (registry_entry (registry_in before) (turn_as as_registry t)) (suc (suc at)) zero (λ e. omega arith)
 
   pool_adds : Adds (suc zero) as_pool pool_entry (λ (t : WorldTurn). world_pool_entry t.who t.deed)
-  pool_adds zero before t = refl
+  pool_adds zero before t = none_at (pool_entry (pool_in before) (turn_as as_pool t)) zero (suc zero) (λ e. omega arith)
   pool_adds (suc zero) before t = refl
-  pool_adds (suc (suc at)) before t = refl
+  pool_adds (suc (suc at)) before t = none_at (pool_entry (pool_in before) (turn_as as_pool t)) (suc (suc at)) (suc zero) (λ e. omega arith)
 
   pub slot_history_of : (slot : ℕ) (order : List GatedPlaced) →
       slot_history slot (turns_of (deeds_of gates order)) ≡ entries slot_entry (slot_in (opening_at gates (suc (suc slot)))) (map (turn_as as_slot) (turns_at (suc (suc slot)) order))
@@ -175,9 +183,9 @@ pool_legal blocks o ts is stands many legal =
 
 legal : (generation blocks first : ℕ) (gates : List (Gateway Gated)) (order : List GatedPlaced) → AreByKind gates → AreOpen generation blocks first (gates_seen gates) → IsLegalOrder gates order →
     AreLegal generation blocks (turns_of (deeds_of gates order))
-legal generation blocks first [] order kinds open l = absurd kinds
-legal generation blocks first (r ∷ []) order kinds open l = absurd kinds
-legal generation blocks first (r ∷ p ∷ ss) order kinds open l =
+legal generation blocks first [] order kinds fresh l = absurd kinds
+legal generation blocks first (r ∷ []) order kinds fresh l = absurd kinds
+legal generation blocks first (r ∷ p ∷ ss) order kinds fresh l =
     let gates : List (Gateway Gated) = r ∷ p ∷ ss in
     record {
       slots = λ slot.
@@ -185,7 +193,7 @@ legal generation blocks first (r ∷ p ∷ ss) order kinds open l =
           (dite (dec_le (suc slot) (length ss))
           (λ less.
           let g = there ss slot less in
-          let v = vacant_at ss slot g.0 open.slots.1.0 kinds.2 g.1 in
+          let v = vacant_at ss slot g.0 fresh.slots.1 kinds.2 g.1 in
           subst (λ o. IsLegalHistory (entries slot_entry (slot_in o) (map (turn_as as_slot) (turns_at (suc (suc slot)) order)))) (sym v.0)
           (slot_legal g.0.opening (turns_at (suc (suc slot)) order) v.1 v.2 (l.each (suc (suc slot)) g.0 g.1)))
           (λ far.
@@ -195,10 +203,10 @@ legal generation blocks first (r ∷ p ∷ ss) order kinds open l =
           no_turn_is_legal));
       registry =
           subst (IsLegalRegistryHistory generation) (sym (registry_history_of gates order))
-          (registry_legal generation r.opening (turns_at zero order) kinds.0 open.registry.0 (l.each zero r refl));
+          (registry_legal generation r.opening (turns_at zero order) kinds.0 fresh.registry.0 (l.each zero r refl));
       pool =
           subst (IsLegalPoolHistory blocks) (sym (pool_history_of gates order))
-          (pool_legal blocks p.opening (turns_at (suc zero) order) kinds.1 open.pool.0 open.pool.1 (l.each (suc zero) p refl));
+          (pool_legal blocks p.opening (turns_at (suc zero) order) kinds.1 fresh.pool.0 fresh.pool.1 (l.each (suc zero) p refl));
     }
 
 pub orders_are_of_crews : OrdersAreOfCrews
