@@ -5,7 +5,7 @@ use Rattle.std.specs.List.{sum_by}
 use Rattle.sysv_lists.specs.Numbers.{times, NoneTwice}
 use Rattle.sysv_lists.specs.Prefix.{IsPrefixOf}
 use Rattle.sysv_model.specs.Turn.{Deed}
-use Rattle.sysv_crew.specs.Order.{Numbered}
+use Rattle.sysv_crew.specs.Turns.{Numbered}
 
 -- ---- a pass
 

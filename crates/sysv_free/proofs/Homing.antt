@@ -8,7 +8,7 @@ use Rattle.sysv_lists.specs.Numbers.{times, NoneTwice}
 use Rattle.sysv_lists.proofs.Counting.{times-append, times-same, the-one}
 use Rattle.sysv_model.specs.History.{ReadRow}
 use Rattle.sysv_model.specs.Turn.{Deed, AtSlot}
-use Rattle.sysv_crew.specs.Order.{Numbered}
+use Rattle.sysv_crew.specs.Turns.{Numbered}
 use Rattle.sysv_free.specs.Order.{Called, IsPlayed, AreAll, shows_row, is_in_call_of, deeds_by, deeds_in}
 use Rattle.sysv_free.specs.OrderIsRun.{EveryOrderIsARun}
 use Rattle.sysv_free.specs.AtRest.{OrdersAtRest}

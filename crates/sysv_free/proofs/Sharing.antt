@@ -1,5 +1,5 @@
 -- The shares of all passes together are the whole, at all times.
-use Rattle.std.proofs.Common.{◌≡◌, List, ◌∷◌, ◌++◌, map, suc, sym, ap, subst, append_assoc}
+use Rattle.std.proofs.Common.{◌≡◌, ℕ, suc, List, ◌∷◌, ◌++◌, map, sym, ap, subst, append_assoc}
 use Rattle.std.specs.List.{flat_map}
 use Rattle.std.proofs.lemmas.Grind.{flat_map-append}
 use Rattle.sysv_crew.specs.Members.{Member, AreWhole}

@@ -9,7 +9,7 @@ use Rattle.sysv_model.specs.Turn.{Deed}
 use Rattle.sysv_objects.specs.LegalDeed.{AreLegal}
 use Rattle.sysv_steps.specs.State.{Got, Over}
 use Rattle.sysv_steps.specs.Played.{begins}
-use Rattle.sysv_crew.specs.Order.{Numbered, turns_of}
+use Rattle.sysv_crew.specs.Turns.{Numbered, turns_of}
 use Rattle.sysv_free.specs.Order.{Called, AreAll}
 use Rattle.sysv_crew.specs.Members.{under, AreOfOthers, AreOwn, AreWhole, MakesTurn, Does, starts, makes, Splits, Joins, Closes}
 use Rattle.sysv_free.specs.Crew.{IsCrew, opens, calls, reads, splits, joins, turns_to, EveryServiceIsARun}

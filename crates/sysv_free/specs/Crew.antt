@@ -5,7 +5,7 @@
 use Rattle.std.specs.Prelude.{◌≡◌, ℕ, List, [], ◌∷◌, ◌++◌, All}
 use Rattle.sysv_model.specs.History.{ReadRow, Reply}
 use Rattle.sysv_model.specs.Turn.{AtSlot}
-use Rattle.sysv_crew.specs.Order.{Numbered, turns_of}
+use Rattle.sysv_crew.specs.Turns.{Numbered, turns_of}
 use Rattle.sysv_crew.specs.Members.{Member, first_with, SeesMore, MakesTurn, Does, Splits, Joins, Closes}
 use Rattle.sysv_objects.specs.LegalDeed.{AreLegal}
 use Rattle.sysv_free.specs.Order.{Called, IsPlayed, AreAll}

@@ -5,7 +5,7 @@ pub use Rattle.sysv_model.specs.Turn
 pub use Rattle.sysv_pool.specs.PoolLaw
 pub use Rattle.sysv_queue.specs.QueueLaw
 pub use Rattle.sysv_keys.specs.RegistryLaw
-pub use Rattle.sysv_crew.specs.Order
+pub use Rattle.sysv_crew.specs.Turns
 pub use Rattle.sysv_crew.specs.Members
 pub use Rattle.sysv_objects.specs.LegalDeed
 pub use Rattle.sysv_steps.specs.Call

@@ -9,7 +9,7 @@ use lib.ListN.{get_elem?}
 use Rattle.sysv_lists.specs.Numbers.{times}
 use Rattle.sysv_lists.specs.Prefix.{IsPrefixOf}
 use Rattle.sysv_lists.proofs.Places.{at_below, there}
-use Rattle.sysv_crew.specs.Order.{Numbered}
+use Rattle.sysv_crew.specs.Turns.{Numbered}
 use Rattle.sysv_crew.specs.Members.{under, AreWhole, AreOfOthers, AreOwn, first_with, SeesMore, MakesTurn, Splits, Joins, Closes}
 use Rattle.sysv_crew.proofs.Sharing.{AtMost, whole_in_any}
 use Rattle.sysv_gate.specs.declared.view.Placed.{Placed}

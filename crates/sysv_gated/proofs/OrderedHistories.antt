@@ -13,7 +13,7 @@ use Rattle.sysv_model.specs.History.{Seat, Entry}
 use Rattle.sysv_model.specs.Registry.{RegistryEntry}
 use Rattle.sysv_model.specs.Pool.{PoolEntry}
 use Rattle.sysv_model.specs.Turn.{Turn as WorldTurn, slot_entry as world_slot_entry, registry_entry as world_registry_entry, pool_entry as world_pool_entry, slot_history, registry_history, pool_history}
-use Rattle.sysv_crew.specs.Order.{Numbered, turn_of, turns_of}
+use Rattle.sysv_crew.specs.Turns.{Numbered, turn_of, turns_of}
 use Rattle.sysv_queue.specs.Slot.{Slot}
 use Rattle.sysv_queue.specs.StandsFor.{StandsFor as SlotStandsFor}
 use Rattle.sysv_queue.specs.LegalReply.{IsLegalHistory}

@@ -1,4 +1,4 @@
-pub use Rattle.sysv_crew.specs.Order
+pub use Rattle.sysv_crew.specs.Turns
 pub use Rattle.sysv_crew.specs.Members
 pub use Rattle.sysv_objects.specs.LegalDeed
 pub use Rattle.sysv_model.specs.History

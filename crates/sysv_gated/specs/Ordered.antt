@@ -4,7 +4,7 @@ use Rattle.std.specs.Prelude.{◌≡◌, ℕ, zero, suc, List, [], ◌∷◌, �
 use mathlib.Core.Option.{some}
 use lib.ListN.{get_elem?}
 use Rattle.sysv_model.specs.Turn.{Deed, AtSlot, AtRegistry, AtPool}
-use Rattle.sysv_crew.specs.Order.{Numbered, turns_of}
+use Rattle.sysv_crew.specs.Turns.{Numbered, turns_of}
 use Rattle.sysv_crew.specs.Members.{Member, first_with, SeesMore, MakesTurn, Splits, Joins, Closes}
 use Rattle.sysv_objects.specs.LegalDeed.{AreLegal}
 use Rattle.sysv_gate.specs.declared.view.Turn.{Turn}

@@ -1,4 +1,4 @@
--- One order of the turns that passes make on threads. A pass has a number (this profile's).
+-- The turns that passes make on threads, in one order. A pass has a number (this profile's).
 use Rattle.std.specs.Prelude.{ℕ, List, map}
 use Rattle.sysv_model.specs.History.{Seat}
 use Rattle.sysv_model.specs.Turn.{Deed, Turn}
