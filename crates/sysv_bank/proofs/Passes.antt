@@ -6,6 +6,7 @@ use native.Mathlib.Decide.{ℕ_discrete}
 use mathlib.Core.Option.{some, some-injective, some-ne-none}
 use lib.ListN.{get_elem?}
 use Rattle.atomic_table.specs.Seated.{TableId}
+use Rattle.atomic_table.proofs.Lists.{at_map}
 use Rattle.atomic_table.specs.declared.shared.Seat.{Seat}
 use Rattle.sysv_lists.specs.Numbers.{times}
 use Rattle.sysv_lists.specs.Prefix.{IsPrefixOf}
@@ -16,6 +17,7 @@ use Rattle.sysv_gate.specs.declared.view.Placed.{Placed}
 use Rattle.sysv_gate.specs.declared.view.Sight.{Sight}
 use Rattle.sysv_gate.specs.Rule.{Spot}
 use Rattle.sysv_gate.specs.Steps.{spent}
+use Rattle.sysv_gate.specs.History.{IsLegal, after_all}
 use Rattle.sysv_gate.specs.Gates.{Gateway, Holding, KnowsItsOwn}
 use Rattle.sysv_gate.specs.History.{made_at}
 use Rattle.sysv_gate.specs.Orders.{turns_at, AreBelow, NoneMadeUnder}
@@ -113,6 +115,14 @@ module _ {O C R : Type 0} (moves : O → C → R → O → Type 0) (counted : O 
 
     pub opens : get_elem? Openings door.place ≡ some door.opening
     opens = subst (λ (d : Doorway O). get_elem? Openings d.place ≡ some d.opening) (sym is_door) opens_at.1
+
+    pub accepted : {D : Type 0} (made : O → C → R → O → Type 0) (accepts : O → D → Type 0) (call : D)
+        → ((gate : Gateway O) → get_elem? gates place ≡ some gate → (log : List (Turn O C R)) → IsLegal made gate.opening log → accepts (after_all gate.opening log) call)
+        → (log : List (Turn O C R)) → IsLegal made door.opening log → accepts (after_all door.opening log) call
+    accepted made accepts call fits =
+        let gate : Gateway O = record { table = b.hall.shared.table_id; opening = door.opening; first = b.key.first } in
+        let there = at_map (λ (o : O). record { table = b.hall.shared.table_id; opening = o; first = b.key.first }) Openings place door.opening (subst (λ n. get_elem? Openings n ≡ some door.opening) place_is opens) in
+        fits gate (subst (λ gs. get_elem? gs place ≡ some gate) viewed there)
 
     pub door_of : IsDoorOf b.hall.shared.table_id b.hall.shared.key.openings.value.items door
     door_of = (

@@ -4,6 +4,7 @@ use Rattle.std.specs.List.{All}
 use mathlib.Core.Option.{some}
 use lib.ListN.{get_elem?}
 use Rattle.sysv_lists.specs.Prefix.{IsPrefixOf}
+use Rattle.sysv_gate.specs.History.{IsAccepted}
 use Rattle.sysv_gate.specs.Gates.{Gateway, Holding, KnowsItsOwn}
 use Rattle.sysv_gate.specs.declared.refusals.OpenRefused.{OpenRefused}
 use Rattle.sysv_gate.specs.declared.refusals.OpenRefused.TheVariants.{NoMemory, BadStart}
@@ -44,6 +45,10 @@ module _ {O C R : Type 0} where
   -- each of the seats has seen a legal history, and knows just the turns of its own in it
   abbrev pub EachKnowsItsOwn : (O → C → R → O → Type 0) → List (Holding O C R) → Type 0
   EachKnowsItsOwn moves seats = (place : ℕ) (h : Holding O C R) → get_elem? seats place ≡ some h → KnowsItsOwn moves h
+
+-- the object at the place accepts the call, whatever turns were made there
+abbrev pub AcceptsAt : {O C R : Type 0} → (O → C → R → O → Type 0) → (O → C → Type 0) → ℕ → List (Gateway O) → C → Type 0
+AcceptsAt {O} moves accepts place gates call = (gate : Gateway O) → get_elem? gates place ≡ some gate → IsAccepted moves accepts gate.opening call
 
 module _ {O : Type 0} where
   -- the gates were opened with these objects, and with this first ticket

@@ -5,7 +5,7 @@ ghost use Rattle.sysv_gate.specs.Gates.{Answers, Learns, read_to, marked};
 ghost use Rattle.sysv_gate.specs.Refusals.{Refuses};
 ghost use Rattle.sysv_gate.specs.Waits.{Waited, WaitedWithin};
 ghost use Rattle.sysv_gate.specs.declared.count.Count.TheVariants.{Arrived, Freed};
-ghost use Rattle.sysv_bank.specs.Banks.{gates_of, ChangesAt};
+ghost use Rattle.sysv_bank.specs.Banks.{gates_of, ChangesAt, AcceptsAt};
 ghost use Rattle.sysv_bank.specs.Passes.{GoesOn, AddsToOrder};
 
 use crate::bank::Bank;
@@ -25,6 +25,7 @@ impl<O: Object> Bank<O> {
     ) -> Result<O::Reply, Worn<O::Call>>
         requires seat { gates_of seat.old.seats ≡ self.now }
         requires place { place < length self.now }
+        requires fits { AcceptsAt (Moves O.meaning O.counted) O.accepts place self.now call }
         ensures gates { gates_of seat.new.seats ≡ self.now }
         ensures order { OnOk result (AddsToOrder place seat.old seat.new) }
         ensures longer { OnErr result (GoesOn seat.old seat.new) }
@@ -43,6 +44,7 @@ impl<O: Object> Bank<O> {
     ) -> Result<O::Reply, TryRefused<O::Call>>
         requires seat { gates_of seat.old.seats ≡ self.now }
         requires place { place < length self.now }
+        requires fits { AcceptsAt (Moves O.meaning O.counted) O.accepts place self.now call }
         ensures gates { gates_of seat.new.seats ≡ self.now }
         ensures order { OnOk result (AddsToOrder place seat.old seat.new) }
         ensures longer { OnErr result (GoesOn seat.old seat.new) }

@@ -8,10 +8,12 @@ use Rattle.sysv_lists.specs.Numbers.{times, NoneTwice}
 use Rattle.sysv_lists.proofs.Counting.{times-append, times-same, the-one}
 use Rattle.sysv_model.specs.History.{ReadRow}
 use Rattle.sysv_model.specs.Turn.{Deed, AtSlot}
-use Rattle.sysv_free.specs.Order.{Numbered, Called, IsPlayed, AreAll, shows_row, is_in_call_of, deeds_by, deeds_in}
+use Rattle.sysv_crew.specs.Turns.{Numbered}
+use Rattle.sysv_free.specs.Order.{Called, IsPlayed, AreAll, shows_row, is_in_call_of, deeds_by, deeds_in}
 use Rattle.sysv_free.specs.OrderIsRun.{EveryOrderIsARun}
 use Rattle.sysv_free.specs.AtRest.{OrdersAtRest}
-use Rattle.sysv_free.specs.Crew.{Member, under, AreWhole, AreOfOthers, AreOwn, IsCrew, opens, calls, reads, goes_on, splits, joins, turns_to, Does, starts, sees, makes, Splits, Joins, Closes, EveryServiceIsARun}
+use Rattle.sysv_crew.specs.Members.{Member, under, AreWhole, AreOfOthers, AreOwn, Does, starts, sees, makes, Splits, Joins, Closes}
+use Rattle.sysv_free.specs.Crew.{IsCrew, opens, calls, reads, goes_on, splits, joins, turns_to, EveryServiceIsARun}
 use Rattle.sysv_free.proofs.Places.{number_other, none_or_some}
 use Rattle.sysv_free.proofs.RowsApart.{no_call_reads_a_row}
 use Rattle.sysv_free.proofs.Sharing.{all_have_the_whole}

@@ -11,7 +11,8 @@ use Rattle.sysv_model.specs.Turn.{Deed, AtSlot, AtRegistry, AtPool, Turn, is_sam
 use Rattle.sysv_objects.specs.LegalDeed.{IsLegalDeed, AreLegal}
 use Rattle.sysv_core.specs.World.{World, Given, doing_in, with_turn}
 use Rattle.sysv_free.specs.FreeRun.{nobody, Moment, Reads, LeadsOnThreads}
-use Rattle.sysv_free.specs.Order.{Numbered, turn_of, turns_of, shows_row, is_in_call_of, deeds_by}
+use Rattle.sysv_crew.specs.Turns.{Numbered, turn_of, turns_of}
+use Rattle.sysv_free.specs.Order.{shows_row, is_in_call_of, deeds_by}
 use Rattle.sysv_free.specs.OrderIsRun.{name_at, Renamed, turn_as, renamed_turn, turns_by}
 use Rattle.sysv_free.proofs.Places.{number_same, number_other, and_false, same_or_other, get_set_same, get_set_other, set_same, same_name, other_name, not_nobody}
 use Rattle.sysv_free.proofs.Renaming.{Acts, legal_alike}

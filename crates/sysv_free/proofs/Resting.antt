@@ -20,7 +20,8 @@ use Rattle.sysv_steps.specs.Tended.{HasToSettle, HasToForget}
 use Rattle.sysv_core.specs.World.{World, Started, Doing, doing_in}
 use Rattle.sysv_core.specs.Conserved.{blocks_waiting, blocks_in_call, blocks_in_calls}
 use Rattle.sysv_core.specs.Tending.{IsTended}
-use Rattle.sysv_free.specs.Order.{turns_of, Called}
+use Rattle.sysv_crew.specs.Turns.{turns_of}
+use Rattle.sysv_free.specs.Order.{Called}
 use Rattle.sysv_free.specs.OrderIsRun.{started_at, all_standing, Renamed, renamed_turn, EveryOrderIsARun}
 use Rattle.sysv_free.specs.AtRest.{Rests, OrdersAtRest}
 use Rattle.sysv_free.proofs.Places.{sums_alike}

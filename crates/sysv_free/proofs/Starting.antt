@@ -16,7 +16,8 @@ use Rattle.sysv_core.specs.World.{World, Opening, Started, Doing, Given, opening
 use Rattle.sysv_core.specs.AnswerLaw.{Fate, stands_in, standing_of, ended, standing}
 use Rattle.sysv_free.specs.FreeRun.{Moment, Starts, LeadsOnThreads, starting_with}
 use Rattle.sysv_free.specs.OnThreads.{ObeysOnThreads, EveryThreadedRunObeys}
-use Rattle.sysv_free.specs.Order.{Numbered, turns_of, Called, IsPlayed, deeds_in, AreAll}
+use Rattle.sysv_crew.specs.Turns.{Numbered, turns_of}
+use Rattle.sysv_free.specs.Order.{Called, IsPlayed, deeds_in, AreAll}
 use Rattle.sysv_free.specs.OrderIsRun.{opening_for, name_at, started_at, all_started, all_standing, EndsAs, renamed_turn, turn_as, turns_in, IsRunWith, EveryOrderIsARun}
 use Rattle.sysv_free.proofs.Places.{same_name}
 use Rattle.sysv_free.proofs.Playing.{leads_more, PlaysOn, is_there, plays_on, IsSettled}

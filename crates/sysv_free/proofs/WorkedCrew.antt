@@ -9,10 +9,12 @@ use Rattle.sysv_model.specs.Turn.{Deed}
 use Rattle.sysv_objects.specs.LegalDeed.{AreLegal}
 use Rattle.sysv_steps.specs.State.{Got, Over}
 use Rattle.sysv_steps.specs.Played.{begins}
-use Rattle.sysv_free.specs.Order.{Numbered, turns_of, Called, AreAll}
-use Rattle.sysv_free.specs.Crew.{under, AreOfOthers, AreOwn, AreWhole, MakesTurn, Does, starts, makes, Splits, Joins, Closes, IsCrew, opens, calls, reads, splits, joins, turns_to, EveryServiceIsARun}
+use Rattle.sysv_crew.specs.Turns.{Numbered, turns_of}
+use Rattle.sysv_free.specs.Order.{Called, AreAll}
+use Rattle.sysv_crew.specs.Members.{under, AreOfOthers, AreOwn, AreWhole, MakesTurn, Does, starts, makes, Splits, Joins, Closes}
+use Rattle.sysv_free.specs.Crew.{IsCrew, opens, calls, reads, splits, joins, turns_to, EveryServiceIsARun}
 use Rattle.sysv_free.specs.WorkedOrder.{hello, makes as makes_queue, installs, settles, finds_none, looks, reserves, reads_row, the_row, places, takes, finds_no_other, gives_back, discards, forgets, gives_back_none, by, the_order, the_get, the_send, the_receive, the_left, the_refused, the_removal}
-use Rattle.sysv_free.proofs.Sharing.{AtMost, whole_in_any}
+use Rattle.sysv_crew.proofs.Sharing.{AtMost, whole_in_any}
 use Rattle.sysv_free.proofs.Places.{number_other, none_or_some}
 use Rattle.sysv_free.proofs.WorkedOrder.{plays_get, plays_receive, plays_send, plays_left, plays_removal}
 use Rattle.sysv_free.specs.WorkedCrew.{seen, with_one, with_all, calls_of_crew, WorkedCrew}

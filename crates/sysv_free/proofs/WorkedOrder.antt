@@ -12,7 +12,8 @@ use Rattle.sysv_queue.specs.Named.{IsNamed}
 use Rattle.sysv_objects.specs.LegalDeed.{IsLegalDeed, AreLegal}
 use Rattle.sysv_steps.specs.State.{Goes, Waits, Over, Id, Zero, Got, Refused, OnArrived, AtInstall, AtSettle, AtReserve, AtPlace, AtReceiveGiveback, AtForget, AtRemoveGiveback}
 use Rattle.sysv_steps.specs.Played.{begins, steps, resumes}
-use Rattle.sysv_free.specs.Order.{Numbered, turns_of, Called, IsPlayed, AreAll, shows_row, deeds_by, deeds_in}
+use Rattle.sysv_crew.specs.Turns.{Numbered, turns_of}
+use Rattle.sysv_free.specs.Order.{Called, IsPlayed, AreAll, shows_row, deeds_by, deeds_in}
 use Rattle.sysv_free.specs.OrderIsRun.{EveryOrderIsARun}
 use Rattle.sysv_free.specs.AtRest.{Rests, OrdersAtRest}
 use Rattle.sysv_free.proofs.Places.{number_other}

@@ -10,7 +10,8 @@ use Rattle.sysv_keys.specs.Rows.{IsRow}
 use Rattle.sysv_objects.specs.LegalDeed.{AreLegal}
 use Rattle.sysv_steps.specs.State.{State, Goes, Waits, Over}
 use Rattle.sysv_core.specs.Conserved.{blocks_waiting}
-use Rattle.sysv_free.specs.Order.{Numbered, turns_of, Called, AreAll}
+use Rattle.sysv_crew.specs.Turns.{Numbered, turns_of}
+use Rattle.sysv_free.specs.Order.{Called, AreAll}
 
 -- the call makes no more turns
 abbrev pub Rests : State → Type 0

@@ -5,6 +5,8 @@ pub use Rattle.sysv_model.specs.Turn
 pub use Rattle.sysv_pool.specs.PoolLaw
 pub use Rattle.sysv_queue.specs.QueueLaw
 pub use Rattle.sysv_keys.specs.RegistryLaw
+pub use Rattle.sysv_crew.specs.Turns
+pub use Rattle.sysv_crew.specs.Members
 pub use Rattle.sysv_objects.specs.LegalDeed
 pub use Rattle.sysv_steps.specs.Call
 pub use Rattle.sysv_steps.specs.State

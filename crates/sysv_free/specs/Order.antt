@@ -1,28 +1,14 @@
--- One order of the turns that passes make on threads, and the calls that made them. A pass has a number, and makes one
--- call at a time (this profile's).
+-- The calls that made the turns of one order. A pass makes one call at a time (this profile's).
 use Rattle.std.specs.Prelude.{◌≡◌, ℕ, ◌==◌, ◌&&◌, Bool, true, false, not, List, [], All, filter, map, if◌then◌else◌}
 use Rattle.std.specs.List.{flat_map}
 use Rattle.sysv_model.specs.declared.cred.Cred.{Cred}
-use Rattle.sysv_model.specs.History.{Seat, ReadRow}
-use Rattle.sysv_model.specs.Turn.{Deed, AtSlot, Turn}
+use Rattle.sysv_model.specs.History.{ReadRow}
+use Rattle.sysv_model.specs.Turn.{Deed, AtSlot}
+use Rattle.sysv_crew.specs.Turns.{Numbered}
 use Rattle.sysv_steps.specs.Call.{SystemCall}
 use Rattle.sysv_steps.specs.State.{State}
 use Rattle.sysv_steps.specs.Begin.{begin}
 use Rattle.sysv_steps.specs.Played.{Plays}
-
--- ---- the order
-
--- a turn, and the number of the pass that made it
-pub record Numbered : Type 0 where
-  pub by : ℕ
-  pub deed : Deed
-
--- as in the histories of the objects, where a seat has the number of its pass
-abbrev pub turn_of : Numbered → Turn
-turn_of t = record { who = Seat t.by; deed = t.deed }
-
-abbrev pub turns_of : List Numbered → List Turn
-turns_of order = map turn_of order
 
 -- The turn reads the row of a slot. It belongs to no call: a pass makes it to list the queues, or to stop
 abbrev pub shows_row : Deed → Bool

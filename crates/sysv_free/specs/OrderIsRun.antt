@@ -15,7 +15,8 @@ use Rattle.sysv_core.specs.World.{World, Opening, Started, Doing, Given, opening
 use Rattle.sysv_core.specs.AnswerLaw.{endings_of, ended}
 use Rattle.sysv_free.specs.FreeRun.{nobody, Moment, LeadsOnThreads}
 use Rattle.sysv_free.specs.OnThreads.{ObeysOnThreads}
-use Rattle.sysv_free.specs.Order.{Numbered, turns_of, shows_row, Called, is_in_call_of, AreAll}
+use Rattle.sysv_crew.specs.Turns.{Numbered, turns_of}
+use Rattle.sysv_free.specs.Order.{shows_row, Called, is_in_call_of, AreAll}
 
 -- ---- the calls in the world
 

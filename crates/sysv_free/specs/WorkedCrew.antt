@@ -4,7 +4,8 @@
 use Rattle.std.specs.Prelude.{ℕ, List, [], ◌∷◌, take, pos}
 use Rattle.sysv_steps.specs.State.{Got, Over}
 use Rattle.sysv_free.specs.Order.{Called}
-use Rattle.sysv_free.specs.Crew.{Member, AreWhole, IsCrew, Closes, IsServed}
+use Rattle.sysv_crew.specs.Members.{Member, AreWhole, Closes}
+use Rattle.sysv_free.specs.Crew.{IsCrew, IsServed}
 use Rattle.sysv_free.specs.WorkedOrder.{hello, the_order, the_get, the_send, the_receive, the_left, the_removal, the_refused}
 
 -- a pass of its own number, with this share, that has seen that many turns

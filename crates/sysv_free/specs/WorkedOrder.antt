@@ -19,7 +19,8 @@ use Rattle.sysv_model.specs.Turn.{Deed, AtSlot, AtRegistry, AtPool}
 use Rattle.sysv_objects.specs.LegalDeed.{AreLegal}
 use Rattle.sysv_steps.specs.Call.{Msgget, Msgsnd, Msgrcv, MsgctlRmid}
 use Rattle.sysv_steps.specs.State.{Receiving, OnArrived, Id, Zero, Got, Refused, State, Waits, Over}
-use Rattle.sysv_free.specs.Order.{Numbered, turns_of, Called, AreAll}
+use Rattle.sysv_crew.specs.Turns.{Numbered, turns_of}
+use Rattle.sysv_free.specs.Order.{Called, AreAll}
 use Rattle.sysv_free.specs.OrderIsRun.{IsRunWith}
 use Rattle.sysv_free.specs.AtRest.{AreAtRest}
 

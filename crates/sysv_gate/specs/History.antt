@@ -34,6 +34,10 @@ module _ {O C R : Type 0} where
   IsLegal moves opening [] = Unit {0}
   IsLegal moves opening (t ∷ ts) = moves opening t.call t.reply t.after × IsLegal moves t.after ts
 
+  -- the call is accepted by the object that was there at first, and by each to which legal turns lead from it
+  abbrev pub IsAccepted : (O → C → R → O → Type 0) → (O → C → Type 0) → O → C → Type 0
+  IsAccepted moves accepts opening call = (log : List (Turn O C R)) → IsLegal moves opening log → accepts (after_all opening log) call
+
   -- 1 where the turn at the place p of the history was made under one of the numbers, else 0
   abbrev pub made_at : List ℕ → List (Turn O C R) → ℕ → ℕ
   made_at numbers [] p = 0

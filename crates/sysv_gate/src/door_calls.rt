@@ -1,6 +1,6 @@
 //! The calls at a place.
 ghost use Rattle.std.specs.Prelude.{◌≡◌, IfOk, IfErr, OnOk};
-ghost use Rattle.sysv_gate.specs.History.{Moves};
+ghost use Rattle.sysv_gate.specs.History.{Moves, IsAccepted};
 ghost use Rattle.sysv_gate.specs.Turns.{HasWorn};
 ghost use Rattle.sysv_gate.specs.Halls.{me_at};
 ghost use Rattle.sysv_gate.specs.Doors.{IsDoorOf, IsAt, IsSame, EndsOrder, Idles, HasCalled, HasTried};
@@ -25,6 +25,7 @@ impl<O: Object> Door<O> {
         requires door { IsDoorOf hall.now.shared.table_id hall.now.shared.key.openings.value.items self.now }
         requires at { IsAt hall.now.shared.table_id self.now token.old }
         requires idle { Idles (me_at self.now.place token.old.me) }
+        requires fits { IsAccepted (Moves O.meaning O.counted) O.accepts self.now.opening call }
         ensures same { IsSame self.now.place token.old token.new }
         ensures order { OnOk result (EndsOrder self.now.place token.old.me token.new.me) }
         ensures ok { IfOk result (λ r. HasCalled (Moves O.meaning O.counted) O.counted self.now.opening (me_at self.now.place token.old.me) call r (me_at self.now.place token.new.me)) }
@@ -50,6 +51,7 @@ impl<O: Object> Door<O> {
         requires door { IsDoorOf hall.now.shared.table_id hall.now.shared.key.openings.value.items self.now }
         requires at { IsAt hall.now.shared.table_id self.now token.old }
         requires idle { Idles (me_at self.now.place token.old.me) }
+        requires fits { IsAccepted (Moves O.meaning O.counted) O.accepts self.now.opening call }
         ensures same { IsSame self.now.place token.old token.new }
         ensures order { OnOk result (EndsOrder self.now.place token.old.me token.new.me) }
         ensures ok { IfOk result (λ r. HasCalled (Moves O.meaning O.counted) O.counted self.now.opening (me_at self.now.place token.old.me) call r (me_at self.now.place token.new.me)) }

@@ -1,6 +1,6 @@
 //! The parts of a call at a place, each of which makes some steps on the table.
 ghost use Rattle.std.specs.Prelude.{◌≡◌, ◌≢◌, ℕ, ◌^◌, ◌<◌, ◌≤◌, true, [], ◌∷◌, length, IfSome, IfNone};
-ghost use Rattle.sysv_gate.specs.History.{Moves};
+ghost use Rattle.sysv_gate.specs.History.{Moves, IsAccepted};
 ghost use Rattle.sysv_gate.specs.Steps.{HasTurn};
 ghost use Rattle.sysv_gate.specs.Turns.{Waits, HasDrawn, HasWorn, SawMore, TurnCame, HasMade, Entered};
 ghost use Rattle.sysv_gate.specs.Halls.{me_at};
@@ -154,6 +154,7 @@ impl<O: Object> Door<O> {
         requires ticket { (t : ℕ) × ((me_at self.now.place token.old.me).0.tickets ≡ t ∷ []) × ((me_at self.now.place token.old.me).0.in_turn ≡ true) }
         requires named { 1 ≤ times (me_at self.now.place token.old.me).0.number (me_at self.now.place token.old.me).0.numbers }
         requires room { length (me_at self.now.place token.old.me).0.seen < 2 ^ 62 }
+        requires fits { IsAccepted (Moves O.meaning O.counted) O.accepts self.now.opening call }
         ensures same { IsSame self.now.place token.old token.new }
         ensures order { EndsOrder self.now.place token.old.me token.new.me }
         ensures made { HasMade (Moves O.meaning O.counted) self.now.opening (me_at self.now.place token.old.me).0 call result.0 (me_at self.now.place token.new.me) }

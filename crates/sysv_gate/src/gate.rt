@@ -1,6 +1,6 @@
 //! Gates.
 ghost use Rattle.std.specs.Prelude.{◌≡◌, ℕ, ◌^◌, ◌≤◌, false, IfOk, IfErr, OnOk};
-ghost use Rattle.sysv_gate.specs.History.{Moves, AreUpTo};
+ghost use Rattle.sysv_gate.specs.History.{Moves, IsAccepted, AreUpTo};
 ghost use Rattle.sysv_gate.specs.Gates.{opened, marked, parted, Answers, IsSplit, Joins};
 ghost use Rattle.sysv_gate.specs.Refusals.{HandsBack, Refuses};
 ghost use Rattle.sysv_gate.specs.Closings.{Closes};
@@ -101,7 +101,8 @@ impl<O: Object> Gate<O> {
         seat: &mut Seat<O>,
         call: O::Call,
     ) -> Result<O::Reply, Worn<O::Call>>
-        requires { seat.old.gate ≡ self.now }
+        requires gate { seat.old.gate ≡ self.now }
+        requires fits { IsAccepted (Moves O.meaning O.counted) O.accepts self.now.opening call }
         ensures gate { seat.new.gate ≡ self.now }
         ensures ok { IfOk result (λ r. Answers (Moves O.meaning O.counted) O.counted seat.old call r seat.new) }
         ensures not_worn { OnOk result (seat.old.worn ≡ false) }
@@ -125,7 +126,8 @@ impl<O: Object> Gate<O> {
         seat: &mut Seat<O>,
         call: O::Call,
     ) -> Result<O::Reply, TryRefused<O::Call>>
-        requires { seat.old.gate ≡ self.now }
+        requires gate { seat.old.gate ≡ self.now }
+        requires fits { IsAccepted (Moves O.meaning O.counted) O.accepts self.now.opening call }
         ensures gate { seat.new.gate ≡ self.now }
         ensures ok { IfOk result (λ r. Answers (Moves O.meaning O.counted) O.counted seat.old call r seat.new) }
         ensures not_worn { OnOk result (seat.old.worn ≡ false) }

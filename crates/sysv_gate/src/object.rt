@@ -1,5 +1,5 @@
 //! What a gate serves.
-ghost use Rattle.std.specs.Prelude.{◌≡◌, ℕ, ◌^◌};
+ghost use Rattle.std.specs.Prelude.{◌≡◌, ℕ, ◌^◌, ⊤};
 ghost use Rattle.sysv_gate.specs.History.{RiseByOneAtMost, AreBelow};
 
 /// A state with one kind of call, and two counts that calls can announce.
@@ -14,9 +14,13 @@ pub trait Object {
     /// The two counts.
     ghost counted: { Self → ℕ × ℕ };
 
+    /// Which calls the object may be asked: each, where an `impl` does not say which.
+    ghost accepts: { Self → Self.Call → Type 0 } = { λ object call. ⊤ };
+
     /// Makes the call. Each count stays or rises by one.
     fn apply(&mut self, call: Self::Call) -> Self::Reply
-        requires { AreBelow (2 ^ 63) (counted self.old) }
+        requires counts { AreBelow (2 ^ 63) (counted self.old) }
+        requires accepted { accepts self.old call }
         ensures meaning { meaning self.old call result self.new }
         ensures counts { RiseByOneAtMost (counted self.old) (counted self.new) };
 

@@ -1,6 +1,6 @@
 //! The parts of a call, each of which makes some steps on the table.
 ghost use Rattle.std.specs.Prelude.{◌≡◌, ◌≢◌, ℕ, ◌^◌, ◌<◌, ◌≤◌, cond, true, [], ◌∷◌, length, IfSome, IfNone};
-ghost use Rattle.sysv_gate.specs.History.{Moves, AreBelow, after_all};
+ghost use Rattle.sysv_gate.specs.History.{Moves, IsAccepted, AreBelow, after_all};
 ghost use Rattle.sysv_gate.specs.Counts.{of_count};
 ghost use Rattle.sysv_gate.specs.Steps.{announced_by, HasTurn};
 ghost use Rattle.sysv_gate.specs.Turns.{IsOf, IsSameToken, Waits, Looked, HasDrawn, HasWorn, SawMore, TurnCame, HasMade, Entered, Applied};
@@ -39,7 +39,8 @@ pub(crate) fn apply<O: Object>(
     mut object: O,
     call: O::Call,
 ) -> (Place<O, O::Call, O::Reply>, O::Reply, Rose)
-    requires { AreBelow (2 ^ 63) (O.counted object) }
+    requires counts { AreBelow (2 ^ 63) (O.counted object) }
+    requires accepted { O.accepts object call }
     ensures { Applied (Moves O.meaning O.counted) O.counted object call result.0 result.1 result.2 }
 {
     let before = object.counts();
@@ -197,6 +198,7 @@ impl<O: Object> Gate<O> {
         requires ticket { (t : ℕ) × (token.old.me.0.tickets ≡ t ∷ []) × (token.old.me.0.in_turn ≡ true) }
         requires named { 1 ≤ times token.old.me.0.number token.old.me.0.numbers }
         requires room { length token.old.me.0.seen < 2 ^ 62 }
+        requires fits { IsAccepted (Moves O.meaning O.counted) O.accepts self.now.opening call }
         ensures same { IsSameToken token.old token.new }
         ensures made { HasMade (Moves O.meaning O.counted) self.now.opening token.old.me.0 call result.0 token.new.me }
     {

@@ -26,24 +26,29 @@ use Rattle.sysv_gated.specs.SeenHistories.{SeenHistories, OwnTurnsAreLast}
 
 -- ---- the objects stand for what was seen
 
-slot_on : (h : History) (slot : Slot) (ts : List (Turn Slot SlotCall SlotReply)) → SlotStandsFor h slot → IsLegal (Moves SlotMoves slot_counts) slot ts → SlotStandsFor (h ++ entries slot_entry slot ts) (after_all slot ts)
+pub slot_on : (h : History) (slot : Slot) (ts : List (Turn Slot SlotCall SlotReply)) → SlotStandsFor h slot → IsLegal (Moves SlotMoves slot_counts) slot ts → SlotStandsFor (h ++ entries slot_entry slot ts) (after_all slot ts)
 slot_on h slot [] st legal = subst (λ x. SlotStandsFor x slot) (sym (append-nil h)) st
 slot_on h slot (t ∷ ts) st legal =
     subst (λ x. SlotStandsFor x (after_all t.after ts)) (append_assoc h (slot_entry slot t ∷ []) (entries slot_entry t.after ts))
     (slot_on (h ++ slot_entry slot t ∷ []) t.after ts (legal.0.0.turn.stands h (Seat t.by) st) legal.1)
 
-registry_on : (generation : ℕ) (h : RegistryHistory) (registry : Registry) (ts : List (Turn Registry RegistryCall RegistryReply)) → RegistryStandsFor generation h registry →
+pub registry_on : (generation : ℕ) (h : RegistryHistory) (registry : Registry) (ts : List (Turn Registry RegistryCall RegistryReply)) → RegistryStandsFor generation h registry →
     IsLegal (Moves RegistryMoves registry_counts) registry ts → RegistryStandsFor generation (h ++ entries registry_entry registry ts) (after_all registry ts)
 registry_on generation h registry [] st legal = subst (λ x. RegistryStandsFor generation x registry) (sym (append-nil h)) st
 registry_on generation h registry (t ∷ ts) st legal =
     subst (λ x. RegistryStandsFor generation x (after_all t.after ts)) (append_assoc h (registry_entry registry t ∷ []) (entries registry_entry t.after ts))
     (registry_on generation (h ++ registry_entry registry t ∷ []) t.after ts (legal.0.0.turn.stands generation h (Seat t.by) st) legal.1)
 
-pool_on : (h : PoolHistory) (pool : State) (ts : List (Turn State PoolCall PoolReply)) → PoolStandsFor h pool → IsLegal (Moves PoolMoves pool_counts) pool ts → PoolStandsFor (h ++ entries pool_entry pool ts) (after_all pool ts)
+pub pool_on : (h : PoolHistory) (pool : State) (ts : List (Turn State PoolCall PoolReply)) → PoolStandsFor h pool → IsLegal (Moves PoolMoves pool_counts) pool ts → PoolStandsFor (h ++ entries pool_entry pool ts) (after_all pool ts)
 pool_on h pool [] st legal = subst (λ x. PoolStandsFor x pool) (sym (append-nil h)) st
 pool_on h pool (t ∷ ts) st legal =
     subst (λ x. PoolStandsFor x (after_all t.after ts)) (append_assoc h (pool_entry pool t ∷ []) (entries pool_entry t.after ts))
     (pool_on (h ++ pool_entry pool t ∷ []) t.after ts (legal.0.0.turn.stands h (Seat t.by) st) legal.1)
+
+-- the pool stays of one size
+pub pool_sized : (pool : State) (ts : List (Turn State PoolCall PoolReply)) → IsLegal (Moves PoolMoves pool_counts) pool ts → (after_all pool ts).size ≡ pool.size
+pool_sized pool [] legal = refl
+pool_sized pool (t ∷ ts) legal = pool_sized t.after ts legal.1 ∙ legal.0.0.size
 
 pub seen_histories : SeenHistories
 seen_histories = record {

@@ -1,6 +1,12 @@
 pub mod Rising
+pub mod Seeing
+pub mod Keeping
+pub mod Placing
 pub mod Answering
+pub mod Asking
 pub mod Vacancy
 pub mod Histories
 pub mod Closing
 pub mod Obeying
+pub mod Ordered
+pub mod OrderedHistories

@@ -1,3 +1,6 @@
+pub use Rattle.sysv_crew.specs.Turns
+pub use Rattle.sysv_crew.specs.Members
+pub use Rattle.sysv_objects.specs.LegalDeed
 pub use Rattle.sysv_model.specs.History
 pub use Rattle.sysv_model.specs.Registry
 pub use Rattle.sysv_model.specs.Pool
@@ -5,9 +8,14 @@ pub use Rattle.sysv_model.specs.Turn
 pub mod SlotTurns
 pub mod RegistryTurns
 pub mod PoolTurns
+pub mod Kinds
+pub mod Gated
 pub mod Seats
+pub mod Banked
 pub mod Answered
 pub mod Reading
 pub mod Opened
+pub mod Fresh
 pub mod SeenHistories
 pub mod Sharing
+pub mod Ordered

@@ -34,7 +34,8 @@ FitsPoolCall (asked.Release chain) (told.Released (Ok done)) = ⊤
 FitsPoolCall (asked.Release chain) (told.Released (Err back)) = back ≡ chain
 FitsPoolCall call reply = ⊥
 
--- the pool makes the turn
+-- the pool makes the turn, and is of the size that it was
 pub record PoolMoves (before : State) (call : Asked) (reply : Told) (after : State) : Type 0 where
   pub turn : MakesTurn before (pool_call call) (pool_reply reply) after
+  pub size : after.size ≡ before.size
   pub fits : FitsPoolCall call reply

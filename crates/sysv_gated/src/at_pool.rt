@@ -9,7 +9,8 @@ ghost use Rattle.sysv_gated.specs.PoolTurns.{pool_call};
 ghost use Rattle.sysv_gated.specs.Seats.{AreOf, MakesTurnAt, FindsWorn};
 ghost use Rattle.sysv_gated.specs.Answered.{PoolAnswers};
 
-use crate::gates::{Gates, Worn};
+use crate::gates::{Gates, POOL, Worn};
+use crate::kinds::GatedCall;
 use crate::pool::{PoolCall, PoolReply, TextSize};
 use crate::seats::Seats;
 use std::sync::Wait;
@@ -30,7 +31,15 @@ impl Gates {
         ensures worn { IfErr result (λ w. (w.call ≡ call)
             × FindsWorn seats.old (OfPool (pool_call call)) seats.new) }
     {
-        self.pool.call(rt, &mut seats.pool, call)
+        match self
+            .bank
+            .call(rt, POOL, &mut seats.seat, GatedCall::Pool(call))
+        {
+            Ok(reply) => Ok(reply.into_pool()),
+            Err(GateWorn { call }) => Err(GateWorn {
+                call: call.into_pool(),
+            }),
+        }
     }
 
     /// `Pool::reserve`, for a text of at most 8,192 bytes.

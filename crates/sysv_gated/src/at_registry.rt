@@ -8,10 +8,12 @@ ghost use Rattle.sysv_gated.specs.RegistryTurns.{registry_call};
 ghost use Rattle.sysv_gated.specs.Seats.{AreOf, MakesTurnAt, FindsWorn};
 ghost use Rattle.sysv_gated.specs.Answered.{RegistryAnswers};
 
-use crate::gates::{Gates, Worn};
+use crate::gates::{Gates, REGISTRY, Worn};
+use crate::kinds::GatedCall;
 use crate::registry::{RegistryCall, RegistryReply};
 use crate::seats::Seats;
 use std::sync::Wait;
+use sysv_gate::Worn as GateWorn;
 use sysv_keys::Begun;
 use sysv_model::Flags;
 
@@ -29,9 +31,15 @@ impl Gates {
         ensures worn { OnErr result (FindsWorn seats.old
             (OfRegistry (registry_call call)) seats.new) }
     {
-        match self.registry.call(rt, &mut seats.registry, call) {
-            Ok(reply) => Ok(reply),
-            Err(_worn) => Err(Worn),
+        match self
+            .bank
+            .call(rt, REGISTRY, &mut seats.seat, GatedCall::Registry(call))
+        {
+            Ok(reply) => Ok(reply.into_registry()),
+            Err(GateWorn { call }) => {
+                let _call = call.into_registry();
+                Err(Worn)
+            }
         }
     }
 

@@ -14,7 +14,8 @@ ghost use Rattle.sysv_gated.specs.SlotTurns.{ask_of, slot_call};
 ghost use Rattle.sysv_gated.specs.Seats.{AreOf, MakesTurnAt, FindsWorn};
 ghost use Rattle.sysv_gated.specs.Answered.{SlotAnswers};
 
-use crate::gates::{Gates, Worn};
+use crate::gates::{FIRST_SLOT, Gates, Worn};
+use crate::kinds::GatedCall;
 use crate::letter::Letter;
 use crate::seats::Seats;
 use crate::slot::{SlotAsk, SlotCall, SlotReply};
@@ -40,7 +41,17 @@ impl Gates {
         ensures worn { IfErr result (λ w. (w.call ≡ call)
             × FindsWorn seats.old (OfSlot slot (slot_call call)) seats.new) }
     {
-        self.slots.call(rt, slot, &mut seats.slots, call)
+        match self.bank.call(
+            rt,
+            slot + FIRST_SLOT,
+            &mut seats.seat,
+            GatedCall::Slot(call),
+        ) {
+            Ok(reply) => Ok(reply.into_slot()),
+            Err(GateWorn { call }) => Err(GateWorn {
+                call: call.into_slot(),
+            }),
+        }
     }
 
     // A turn at the slot, without a text.

@@ -6,9 +6,10 @@ ghost use Rattle.sysv_steps.specs.Resume.{ArrivedOf, FreedOf, Settled, Released}
 ghost use Rattle.sysv_gated.specs.Seats.{AreOf};
 ghost use Rattle.sysv_gated.specs.Reading.{Reads, Awaits, AwaitsWithin};
 
-use crate::gates::Gates;
+use crate::gates::{FIRST_SLOT, Gates, POOL, REGISTRY};
 use crate::seats::Seats;
 use std::sync::Wait;
+use sysv_bank::each_seat_of_a_bank_knows_its_own;
 use sysv_gate::Awaited;
 use sysv_keys::slot_of_id;
 
@@ -19,7 +20,8 @@ impl Gates {
         ensures seats { AreOf self.now seats.new }
         ensures read { Reads Released result seats.old seats.new }
     {
-        self.pool.arrived(&mut seats.pool)
+        each_seat_of_a_bank_knows_its_own(&seats.seat);
+        self.bank.arrived(POOL, &mut seats.seat)
     }
 
     /// Waits until the released count of the pool is at least `goal`.
@@ -28,7 +30,8 @@ impl Gates {
         ensures seats { AreOf self.now seats.new }
         ensures waited { Awaits Released goal seats.old result seats.new }
     {
-        self.pool.await_arrived(rt, &mut seats.pool, goal)
+        each_seat_of_a_bank_knows_its_own(&seats.seat);
+        self.bank.await_arrived(rt, POOL, &mut seats.seat, goal)
     }
 
     /// Waits until the settled count of the registry is at least `goal`.
@@ -37,7 +40,8 @@ impl Gates {
         ensures seats { AreOf self.now seats.new }
         ensures waited { Awaits Settled goal seats.old result seats.new }
     {
-        self.registry.await_arrived(rt, &mut seats.registry, goal)
+        each_seat_of_a_bank_knows_its_own(&seats.seat);
+        self.bank.await_arrived(rt, REGISTRY, &mut seats.seat, goal)
     }
 
     /// Waits until the arrived count of the identifier's slot is at least `goal`.
@@ -46,8 +50,9 @@ impl Gates {
         ensures seats { AreOf self.now seats.new }
         ensures waited { Awaits (ArrivedOf (slot_of_id id)) goal seats.old result seats.new }
     {
-        self.slots
-            .await_arrived(rt, slot_of_id(id), &mut seats.slots, goal)
+        each_seat_of_a_bank_knows_its_own(&seats.seat);
+        self.bank
+            .await_arrived(rt, slot_of_id(id) + FIRST_SLOT, &mut seats.seat, goal)
     }
 
     /// Waits until the freed count of the identifier's slot is at least `goal`.
@@ -56,8 +61,9 @@ impl Gates {
         ensures seats { AreOf self.now seats.new }
         ensures waited { Awaits (FreedOf (slot_of_id id)) goal seats.old result seats.new }
     {
-        self.slots
-            .await_freed(rt, slot_of_id(id), &mut seats.slots, goal)
+        each_seat_of_a_bank_knows_its_own(&seats.seat);
+        self.bank
+            .await_freed(rt, slot_of_id(id) + FIRST_SLOT, &mut seats.seat, goal)
     }
 
     /// Waits for the released count of the pool as `await_released` does, but sleeps only once, and for a second at most.
@@ -68,9 +74,10 @@ impl Gates {
         ensures seats { AreOf self.now seats.new }
         ensures waited { AwaitsWithin Released goal seats.old result seats.new }
     {
-        let awaited = self.pool.arrived_within(rt, &mut seats.pool, goal);
+        each_seat_of_a_bank_knows_its_own(&seats.seat);
+        let awaited = self.bank.arrived_within(rt, POOL, &mut seats.seat, goal);
         if awaited.is_some() {
-            self.pool.pass_on();
+            self.bank.pass_on(POOL);
         }
         awaited
     }
@@ -81,9 +88,12 @@ impl Gates {
         ensures seats { AreOf self.now seats.new }
         ensures waited { AwaitsWithin Settled goal seats.old result seats.new }
     {
-        let awaited = self.registry.arrived_within(rt, &mut seats.registry, goal);
+        each_seat_of_a_bank_knows_its_own(&seats.seat);
+        let awaited = self
+            .bank
+            .arrived_within(rt, REGISTRY, &mut seats.seat, goal);
         if awaited.is_some() {
-            self.registry.pass_on();
+            self.bank.pass_on(REGISTRY);
         }
         awaited
     }
@@ -102,8 +112,9 @@ impl Gates {
         ensures seats { AreOf self.now seats.new }
         ensures waited { AwaitsWithin (ArrivedOf (slot_of_id id)) goal seats.old result seats.new }
     {
-        self.slots
-            .arrived_within(rt, slot_of_id(id), &mut seats.slots, goal)
+        each_seat_of_a_bank_knows_its_own(&seats.seat);
+        self.bank
+            .arrived_within(rt, slot_of_id(id) + FIRST_SLOT, &mut seats.seat, goal)
     }
 
     /// Waits for the freed count of the identifier's slot, as `arrived_within` does for the other, but a rise wakes all
@@ -119,12 +130,13 @@ impl Gates {
         ensures seats { AreOf self.now seats.new }
         ensures waited { AwaitsWithin (FreedOf (slot_of_id id)) goal seats.old result seats.new }
     {
-        self.slots
-            .freed_within(rt, slot_of_id(id), &mut seats.slots, goal)
+        each_seat_of_a_bank_knows_its_own(&seats.seat);
+        self.bank
+            .freed_within(rt, slot_of_id(id) + FIRST_SLOT, &mut seats.seat, goal)
     }
 
     /// Wakes the next thread that sleeps in `arrived_within` at the identifier's slot, if there is one.
     pub fn pass_arrived_on(&self, id: i32) {
-        self.slots.pass_on(slot_of_id(id));
+        self.bank.pass_on(slot_of_id(id) + FIRST_SLOT);
     }
 }

@@ -1,33 +1,44 @@
 //! The gates of all objects.
 
-use crate::pool::GatedPool;
-use crate::registry::GatedRegistry;
+use crate::kinds::Gated;
 use crate::slot::GatedSlot;
+use std::alloc::Global;
 use std::marker::Model;
 use sysv_bank::Bank;
-use sysv_gate::Gate;
+use sysv_gate::Closing;
+
+/// The place of the registry in the bank.
+pub(crate) const REGISTRY: usize = 0;
+
+/// The place of the pool.
+pub(crate) const POOL: usize = 1;
+
+/// The place of slot 0. The others follow it.
+pub(crate) const FIRST_SLOT: usize = 2;
 
 /// The gate is worn out: its tickets have reached 2^62, and no turn was made.
 #[derive(Clone, Copy, PartialEq, Eq, Debug)]
 pub struct Worn;
 
-/// The slots of the queues, each under its number, the registry and the pool, each behind a gate of its own. Threads share
-/// them by reference, and each takes turns with seats of its own. A call on an identifier goes to the slot that its number
-/// tells, whether a queue lives under it or not. Each call waits for its turn.
+/// The slots of the queues, each under its number, the registry and the pool, each behind a gate of its own. All turns at
+/// all of them have one order. Threads share them by reference, and each takes turns with seats of its own. A call on an
+/// identifier goes to the slot that its number tells, whether a queue lives under it or not. Each call waits for its turn.
 pub struct Gates {
-    pub(crate) slots: Bank<GatedSlot>,
-    pub(crate) registry: Gate<GatedRegistry>,
-    pub(crate) pool: Gate<GatedPool>,
+    pub(crate) bank: Bank<Gated>,
+    /// Room for what `close` answers.
+    pub(crate) closings: Vec<Closing<GatedSlot>, Global>,
 }
 
 impl Model for Gates {
-    ghost use Rattle.std.specs.Prelude.{◌≡◌, length};
+    ghost use Rattle.std.specs.Prelude.{◌≡◌, ◌+◌, ◌≤◌, [], length, vec_capacity};
     ghost use Rattle.sysv_keys.specs.declared.identifier.TheConstants.{SLOTS};
     ghost use Rattle.sysv_gated.specs.Seats.{Gates as Seen};
+    ghost use Rattle.sysv_gated.specs.Banked.{gates_seen, AreByKind};
 
     ghost Value = { Seen };
 
-    ghost view = { λ g. record { slots = g.slots; registry = g.registry; pool = g.pool } };
+    ghost view = { λ g. gates_seen g.bank };
 
-    ghost invariant = { λ g. length g.slots ≡ SLOTS };
+    ghost invariant = { λ g. AreByKind g.bank × (length g.bank ≡ SLOTS + 2) × (g.closings.items ≡ [])
+        × (SLOTS ≤ vec_capacity g.closings) };
 }

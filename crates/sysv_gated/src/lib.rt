@@ -7,6 +7,7 @@ mod at_registry;
 mod at_slot;
 mod counts;
 mod gates;
+mod kinds;
 mod laws;
 mod letter;
 mod opening;
@@ -17,7 +18,9 @@ mod sharing;
 mod slot;
 
 pub use gates::{Gates, Worn};
-pub use laws::{each_seat_obeys, own_turns_are_last, seen_histories, seen_histories_obey};
+pub use laws::{
+    each_seat_obeys, orders_are_of_crews, own_turns_are_last, seen_histories, seen_histories_obey,
+};
 pub use letter::Letter;
 pub use opening::{GatesClosed, OpenRefused};
 pub use pool::{GatedPool, PoolCall, PoolReply, TextSize};

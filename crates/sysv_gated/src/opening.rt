@@ -1,25 +1,21 @@
 //! Opening and closing the gates.
 
-ghost use Rattle.std.specs.Prelude.{◌≡◌, ◌<◌, ◌≤◌, ◌⊎◌, ◌↔◌, ◌^◌, [], length, map, IfOk, IfSome, Err};
-ghost use Rattle.std.specs.List.{All};
+ghost use Rattle.std.specs.Prelude.{◌≡◌, ◌<◌, ◌≤◌, ◌⊎◌, ◌↔◌, ◌^◌, IfOk, IfSome, Err};
 ghost use Rattle.sysv_model.specs.declared.limits.TheConstants.{MIN_BLOCKS as least_blocks, MAX_BLOCKS as most_blocks};
-ghost use Rattle.sysv_keys.specs.declared.identifier.TheConstants.{SLOTS, GENERATION_LAST};
-ghost use Rattle.sysv_keys.specs.StandsFor.{StandsFor as RegistryStandsFor};
-ghost use Rattle.sysv_pool.specs.StandsFor.{StandsFor as PoolStandsFor};
-ghost use Rattle.sysv_queue.specs.StandsFor.{StandsFor as SlotStandsFor};
-ghost use Rattle.sysv_gate.specs.Gates.{opened};
-ghost use Rattle.sysv_bank.specs.Banks.{gates_of};
-ghost use Rattle.sysv_gated.specs.Opened.{AreOpen, AreVacant, all_opened};
+ghost use Rattle.sysv_keys.specs.declared.identifier.TheConstants.{GENERATION_LAST};
+ghost use Rattle.sysv_gated.specs.Opened.{AreOpen, all_opened};
+ghost use Rattle.sysv_gated.specs.Fresh.{AreFresh};
 ghost use Rattle.sysv_gated.specs.Seats.{AreOf};
 
-use crate::gates::Gates;
+use crate::gates::{FIRST_SLOT, Gates};
+use crate::kinds::Gated;
 use crate::pool::GatedPool;
 use crate::registry::GatedRegistry;
 use crate::seats::Seats;
 use crate::slot::GatedSlot;
 use std::alloc::Global;
-use sysv_bank::{Bank, BankSeat};
-use sysv_gate::{Closing, Gate, OpenRefused as GateRefused, Seat};
+use sysv_bank::Bank;
+use sysv_gate::{Closing, OpenRefused as GateRefused};
 use sysv_keys::{GENERATION_LAST, Registry, SLOTS};
 use sysv_model::{MAX_BLOCKS, MIN_BLOCKS};
 use sysv_pool::Pool;
@@ -68,143 +64,69 @@ impl Gates {
         {
             return Err(OpenRefused::BadSize);
         }
-        let Some((slots, slot_seats)) = open_slots(alloc, first) else {
+        let Ok(closings) = Vec::with_capacity(alloc, SLOTS) else {
             return Err(OpenRefused::NoMemory);
         };
-        let Some((pool, pool_seat)) = open_pool(alloc, blocks, first) else {
-            end_slots(slots.close(slot_seats));
+        let Some(objects) = fresh_objects(alloc, blocks, generation) else {
+            closings.destroy_empty();
             return Err(OpenRefused::NoMemory);
         };
-        let Some((registry, registry_seat)) = open_registry(alloc, generation, first) else {
-            end_slots(slots.close(slot_seats));
-            end_pool(pool.close(pool_seat));
-            return Err(OpenRefused::NoMemory);
-        };
-        let gates = Gates {
-            slots,
-            registry,
-            pool,
-        };
-        let seats = Seats {
-            slots: slot_seats,
-            registry: registry_seat,
-            pool: pool_seat,
-        };
-        Ok((gates, seats))
-    }
-}
-
-// A gate for each of as many vacant slots as there are. `None` where memory was refused.
-fn open_slots(alloc: Global, first: u64) -> Option<(Bank<GatedSlot>, BankSeat<GatedSlot>)>
-    requires { first ≤ 2 ^ 62 }
-    ensures open { IfSome result (λ o. AreVacant first o.0 × (o.1.seats ≡ map opened o.0)) }
-    ensures fits { IfSome result (λ o. gates_of o.1.seats ≡ o.0) }
-{
-    let slots = vacant_slots(alloc)?;
-    match Bank::open(alloc, slots, first) {
-        Ok(opened) => Some(opened),
-        Err(GateRefused::NoMemory(slots) | GateRefused::BadStart(slots)) => {
-            end_all(slots);
-            None
+        match Bank::open(alloc, objects, first) {
+            Ok((bank, seat)) => Ok((Gates { bank, closings }, Seats { seat })),
+            Err(GateRefused::NoMemory(objects) | GateRefused::BadStart(objects)) => {
+                end_all(objects);
+                closings.destroy_empty();
+                Err(OpenRefused::NoMemory)
+            }
         }
     }
 }
 
-// As many vacant slots as there are. `None` where memory was refused.
-fn vacant_slots(alloc: Global) -> Option<Vec<GatedSlot>>
-    ensures { IfSome result (λ slots. (length slots.items ≡ SLOTS)
-        × All (SlotStandsFor []) slots.items) }
+// A registry without rows, whose slots all have this generation, a pool of so many blocks, and as many vacant slots as there
+// are. `None` where memory was refused.
+fn fresh_objects(alloc: Global, blocks: u32, generation: u32) -> Option<Vec<Gated>>
+    requires blocks { (least_blocks ≤ blocks) × (blocks ≤ most_blocks) }
+    requires generation { generation ≤ GENERATION_LAST }
+    ensures { IfSome result (λ objects. AreFresh generation blocks objects.items) }
 {
-    let Ok(mut slots) = Vec::with_capacity(alloc, SLOTS) else {
+    let Ok(mut objects) = Vec::with_capacity(alloc, SLOTS + FIRST_SLOT) else {
         return None;
     };
+    let Ok(registry) = Registry::open_at(alloc, generation) else {
+        objects.destroy_empty();
+        return None;
+    };
+    objects.push_reserved(Gated::Registry(GatedRegistry::of(registry)));
+    let Ok(pool) = Pool::open(alloc, blocks) else {
+        end_all(objects);
+        return None;
+    };
+    objects.push_reserved(Gated::Pool(GatedPool::of(pool)));
     for _ in 0..SLOTS {
         let Ok(slot) = QueueSlot::open(alloc) else {
-            end_all(slots);
+            end_all(objects);
             return None;
         };
-        slots.push_reserved(GatedSlot::of(slot));
+        objects.push_reserved(Gated::Slot(GatedSlot::of(slot)));
     }
-    Some(slots)
+    Some(objects)
 }
 
-// Frees the slots.
-fn end_all(mut slots: Vec<GatedSlot>) {
-    while let Some(slot) = slots.pop() {
-        end_slot(slot);
+// Frees the objects.
+fn end_all(mut objects: Vec<Gated>) {
+    while let Some(object) = objects.pop() {
+        end_object(object);
     }
-    slots.destroy_empty();
+    objects.destroy_empty();
 }
 
-fn end_slot(slot: GatedSlot) {
-    slot.into_slot().end().end();
-}
-
-// A gate for a pool of so many blocks. `None` where memory was refused.
-fn open_pool(alloc: Global, blocks: u32, first: u64) -> Option<(Gate<GatedPool>, Seat<GatedPool>)>
-    requires blocks { (least_blocks ≤ blocks) × (blocks ≤ most_blocks) }
-    requires first { first ≤ 2 ^ 62 }
-    ensures { IfSome result (λ o. PoolStandsFor [] o.0.opening × (o.0.opening.size ≡ blocks)
-        × (o.0.first ≡ first) × (o.1 ≡ opened o.0)) }
-{
-    let Ok(pool) = Pool::open(alloc, blocks) else {
-        return None;
-    };
-    match Gate::starting_at(alloc, GatedPool::of(pool), first) {
-        Ok(opened) => Some(opened),
-        Err(GateRefused::NoMemory(pool) | GateRefused::BadStart(pool)) => {
-            pool.into_pool().end();
-            None
+// Frees the object.
+pub(crate) fn end_object(object: Gated) {
+    match object {
+        Gated::Slot(slot) => {
+            slot.into_slot().end().end();
         }
-    }
-}
-
-// A gate for a registry without rows, whose slots all have this generation. `None` where memory was refused.
-fn open_registry(
-    alloc: Global,
-    generation: u32,
-    first: u64,
-) -> Option<(Gate<GatedRegistry>, Seat<GatedRegistry>)>
-    requires generation { generation ≤ GENERATION_LAST }
-    requires first { first ≤ 2 ^ 62 }
-    ensures { IfSome result (λ o. RegistryStandsFor generation [] o.0.opening × (o.0.first ≡ first)
-        × (o.1 ≡ opened o.0)) }
-{
-    let Ok(registry) = Registry::open_at(alloc, generation) else {
-        return None;
-    };
-    Gate::starting_at(alloc, GatedRegistry::of(registry), first).ok()
-}
-
-// Frees what is left of the gates of slots.
-pub(crate) fn end_slots(mut closings: Vec<Closing<GatedSlot>>) {
-    while let Some(closing) = closings.pop() {
-        let Closing {
-            object,
-            rest,
-            turns: _,
-        } = closing;
-        if let Some(slot) = object {
-            end_slot(slot);
-        }
-        if let Some(slot) = rest {
-            end_slot(slot);
-        }
-    }
-    closings.destroy_empty();
-}
-
-// Frees what is left of the gate of the pool.
-pub(crate) fn end_pool(closing: Closing<GatedPool>) {
-    let Closing {
-        object,
-        rest,
-        turns: _,
-    } = closing;
-    if let Some(pool) = object {
-        pool.into_pool().end();
-    }
-    if let Some(pool) = rest {
-        pool.into_pool().end();
+        Gated::Registry(_registry) => {}
+        Gated::Pool(pool) => pool.into_pool().end(),
     }
 }

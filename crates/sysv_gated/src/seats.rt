@@ -1,24 +1,23 @@
 //! A seat at each gate.
 
-use crate::pool::GatedPool;
-use crate::registry::GatedRegistry;
-use crate::slot::GatedSlot;
+use crate::kinds::Gated;
 use std::marker::Model;
 use sysv_bank::BankSeat;
-use sysv_gate::Seat;
 
 /// The right to take turns at each slot, at the registry and at the pool. It is used only with the gates that gave it, and
 /// may go to another thread.
 pub struct Seats {
-    pub(crate) slots: BankSeat<GatedSlot>,
-    pub(crate) registry: Seat<GatedRegistry>,
-    pub(crate) pool: Seat<GatedPool>,
+    pub(crate) seat: BankSeat<Gated>,
 }
 
 impl Model for Seats {
+    ghost use Rattle.sysv_bank.specs.Banks.{gates_of};
     ghost use Rattle.sysv_gated.specs.Seats.{Seats as Seen};
+    ghost use Rattle.sysv_gated.specs.Banked.{seats_seen, AreByKind};
 
     ghost Value = { Seen };
 
-    ghost view = { λ s. record { slots = s.slots.seats; registry = s.registry; pool = s.pool } };
+    ghost view = { λ s. seats_seen s.seat.seats };
+
+    ghost invariant = { λ s. AreByKind (gates_of s.seat.seats) };
 }

@@ -7,7 +7,7 @@ use Rattle.sysv_bank.specs.Banks.{ChangesAt}
 use Rattle.sysv_bank.specs.Passes.{GoesOn, AddsToOrder}
 use Rattle.sysv_bank.specs.Resting.{pass_of}
 use Rattle.sysv_bank.proofs.Places.{if_ok, if_err, both_ok, on_err}
-use Rattle.sysv_bank.proofs.Passes.{door_there, door_of, is_at, idles, rests_there, gates_after, changes, goes_on, rests_after, adds_to_order}
+use Rattle.sysv_bank.proofs.Passes.{door_there, door_of, is_at, idles, accepted, rests_there, gates_after, changes, goes_on, rests_after, adds_to_order}
 use Rattle.sysv_bank.proofs.Calling.{bare, try_rests, answers, refused, try_names, adds, stays_tried}
 use Rattle.sysv_bank.proofs.bank.Bank.try_call.Goals as goal
 
@@ -25,6 +25,9 @@ try_call-requires-clause-at g c = is_at _ _ _ _ _ _ c.self.invariant c.seat.inva
 
 pub try_call-requires-clause-idle : goal.try_call-requires-clause-idle
 try_call-requires-clause-idle g c = idles _ _ _ _ _ _ c.self.invariant c.seat.invariant c.self.view_is c.seat.view_is c.requires.seat _ _ c.requires.place c.index.ensures
+
+pub try_call-requires-clause-fits : goal.try_call-requires-clause-fits
+try_call-requires-clause-fits g c = accepted _ _ _ _ _ _ c.self.invariant c.seat.invariant c.self.view_is c.seat.view_is c.requires.seat _ _ c.requires.place c.index.ensures (Moves g.O.Object.meaning g.O.Object.counted) g.O.Object.accepts c.args.call c.requires.fits
 
 pub invariant_of-seat : goal.invariant_of-seat
 invariant_of-seat g c =

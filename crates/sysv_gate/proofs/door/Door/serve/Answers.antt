@@ -28,8 +28,8 @@ exchange-requires g c =
     let there = out_there p m s c.requires.at.3 out.1 ∙ ap (λ k. (k, s) ∷ []) (sym same) in
     (search rules, (s, there ∙ ap (λ xs. (c.self.inside.place, s) ∷ rest xs) (sym there)))
 
-pub apply-place-requires : goal.apply-place-requires
-apply-place-requires g c =
+pub apply-place-requires-clause-counts : goal.apply-place-requires-clause-counts
+apply-place-requires-clause-counts g c =
     let counted = g.O.Object.counted in
     let moves = Moves g.O.Object.meaning counted in
     let p = c.args.self.now.place in
@@ -44,6 +44,19 @@ apply-place-requires g c =
     let below = counts_low g.O.Object.meaning counted o v.seen c.requires.turn.legal low c.requires.room in
     let was = object_there _ _ _ _ _ _ _ c.exchange.ensures.2 there c.in-Some.is in
     subst (λ q. AreBelow (2 ^ 63) (counted q)) (sym was) below
+
+pub apply-place-requires-clause-accepted : goal.apply-place-requires-clause-accepted
+apply-place-requires-clause-accepted g c =
+    let p = c.args.self.now.place in
+    let m = c.args.token.now.me in
+    let v = view_at p m.0 in
+    let o = c.args.self.now.opening in
+    let out = c.requires.turn.out in
+    let s = put (after_all o v.seen) out.0 in
+    let same = ap (λ d. d.place) c.self.view_is in
+    let there = out_there p m s c.requires.at.3 out.1 ∙ ap (λ k. (k, s) ∷ []) (sym same) in
+    let was = object_there _ _ _ _ _ _ _ c.exchange.ensures.2 there c.in-Some.is in
+    subst (λ q. g.O.Object.accepts q c.args.call) (sym was) (c.requires.fits v.seen c.requires.turn.legal)
 
 pub announce-requires-clause-quiet : goal.announce-requires-clause-quiet
 announce-requires-clause-quiet g c =

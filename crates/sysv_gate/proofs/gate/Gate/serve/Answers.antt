@@ -16,13 +16,19 @@ exchange-requires g c =
     let s = put (after_all c.args.self.now.opening c.args.token.now.me.0.seen) out.0 in
     (search rules, (s, out.1 ∙ ap (λ xs. (0, s) ∷ rest xs) (sym out.1)))
 
-pub apply-place-requires : goal.apply-place-requires
-apply-place-requires g c =
+pub apply-place-requires-clause-counts : goal.apply-place-requires-clause-counts
+apply-place-requires-clause-counts g c =
     let counted = g.O.Object.counted in
     let out = c.requires.turn.out in
     let was = object_out _ _ _ _ _ _ c.exchange.ensures.2 out.1 c.in-Some.is in
     let low = subst (λ o. AreUpTo (2 ^ 61) (counted o)) (ap (λ w. w.opening) c.self.view_is) c.self.invariant.3 in
     subst (λ o. AreBelow (2 ^ 63) (counted o)) (sym was) (counts_low g.O.Object.meaning counted c.args.self.now.opening c.args.token.now.me.0.seen c.requires.turn.legal low c.requires.room)
+
+pub apply-place-requires-clause-accepted : goal.apply-place-requires-clause-accepted
+apply-place-requires-clause-accepted g c =
+    let out = c.requires.turn.out in
+    let was = object_out _ _ _ _ _ _ c.exchange.ensures.2 out.1 c.in-Some.is in
+    subst (λ o. g.O.Object.accepts o c.args.call) (sym was) (c.requires.fits c.args.token.now.me.0.seen c.requires.turn.legal)
 
 pub announce-requires-clause-quiet : goal.announce-requires-clause-quiet
 announce-requires-clause-quiet g c =

@@ -1,0 +1,99 @@
+-- What a call at a place of the bank tells of the object that was called.
+use Rattle.std.proofs.Common.{◌≡◌, ℕ, ◌+◌, false, List, refl, sym, ap, subst, ◌∙◌}
+use Rattle.sysv_model.specs.Turn.{OfSlot, OfRegistry, OfPool}
+use Rattle.sysv_queue.specs.Slot.{Slot}
+use Rattle.sysv_keys.specs.StandsFor.{Registry}
+use Rattle.sysv_pool.specs.State.{State}
+use Rattle.sysv_gate.specs.History.{Moves}
+use Rattle.sysv_gate.specs.Gates.{Holding, Answers, marked}
+use Rattle.sysv_bank.specs.Banks.{gates_of, ChangesAt}
+use Rattle.sysv_gated.specs.declared.kinds.Gated.{Gated}
+use Rattle.sysv_gated.specs.declared.kinds.GatedCall.{GatedCall}
+use Rattle.sysv_gated.specs.declared.kinds.GatedCall.TheVariants as asked
+use Rattle.sysv_gated.specs.declared.kinds.GatedReply.{GatedReply}
+use Rattle.sysv_gated.specs.declared.kinds.GatedReply.TheVariants as told
+use Rattle.sysv_gated.specs.declared.slot.SlotCall.{SlotCall}
+use Rattle.sysv_gated.specs.declared.slot.SlotReply.{SlotReply}
+use Rattle.sysv_gated.specs.declared.registry.RegistryCall.{RegistryCall}
+use Rattle.sysv_gated.specs.declared.registry.RegistryReply.{RegistryReply}
+use Rattle.sysv_gated.specs.declared.pool.PoolCall.{PoolCall}
+use Rattle.sysv_gated.specs.declared.pool.PoolReply.{PoolReply}
+use Rattle.sysv_gated.specs.SlotTurns.{slot_counts, slot_call, SlotMoves}
+use Rattle.sysv_gated.specs.RegistryTurns.{registry_counts, registry_call, RegistryMoves}
+use Rattle.sysv_gated.specs.PoolTurns.{pool_counts, pool_call, PoolMoves}
+use Rattle.sysv_gated.specs.Gated.{IsSlot, IsRegistry, IsPool, IsSlotCall, IsRegistryCall, IsPoolCall, IsSlotReply, IsRegistryReply, IsPoolReply, slot_call_in, registry_call_in, pool_call_in, as_slot, as_registry, as_pool, GatedMoves, gated_counts}
+use Rattle.sysv_gated.specs.Kinds.{seat_as}
+use Rattle.sysv_gated.specs.Seats.{FindsWorn}
+use Rattle.sysv_gated.specs.Answered.{SlotAnswers, RegistryAnswers, PoolAnswers}
+use Rattle.sysv_gated.specs.Banked.{AreByKind, seats_seen}
+use Rattle.sysv_gated.proofs.Seeing.{answers_as}
+use Rattle.sysv_gated.proofs.Keeping.{keeps_slot, keeps_registry, keeps_pool, slot_replies, registry_replies, pool_replies}
+use Rattle.sysv_gated.proofs.Placing.{Mark, changes_slot, changes_registry, changes_pool}
+use Rattle.sysv_gated.proofs.Answering.{object_before, turn_meant, slot_answers, registry_answers, pool_answers}
+
+-- what the bank answers
+abbrev pub Called : GatedCall → GatedReply → Mark → Mark → Type 0
+Called call reply b a = Answers (Moves GatedMoves gated_counts) gated_counts b call reply a × (b.worn ≡ false)
+
+meant : (call : GatedCall) (reply : GatedReply) (b a : Mark) (c : Called call reply b a) → GatedMoves (object_before GatedMoves gated_counts b call reply a c.0) call reply c.0.object
+meant call reply b a c = turn_meant GatedMoves gated_counts b call reply a c.0
+
+-- ---- a slot
+
+pub slot_reply_there : (place : ℕ) (before after : List Mark) (call : SlotCall) (r : GatedReply) → ChangesAt place before after (Called (asked.Slot call) r) → IsSlotReply r
+slot_reply_there place before after call r c = slot_replies _ call r _ (meant (asked.Slot call) r c.was c.is c.change)
+
+pub slot_call_there : (call : SlotCall) (c : GatedCall) → c ≡ asked.Slot call → IsSlotCall c
+slot_call_there call c is = subst IsSlotCall (sym is) tt
+
+pub slot_call_back : (call back : SlotCall) (c : GatedCall) → c ≡ asked.Slot call → c ≡ asked.Slot back → back ≡ call
+slot_call_back call back c one two = ap slot_call_in (sym two ∙ one)
+
+pub slot_called : (slot : ℕ) (before after : List Mark) (call : SlotCall) (r : GatedReply) (reply : SlotReply) → AreByKind (gates_of before) → r ≡ told.Slot reply → ChangesAt (slot + 2) before after (Called (asked.Slot call) r) → SlotAnswers slot (seats_seen before) call reply (seats_seen after)
+slot_called slot before after call r reply kinds is c =
+    let mine = subst (λ x. ChangesAt (slot + 2) before after (Called (asked.Slot call) x)) is c in
+    let went = changes_slot slot before after (Called (asked.Slot call) (told.Slot reply)) (λ b a. Answers (Moves SlotMoves slot_counts) slot_counts b call reply a × (b.worn ≡ false)) kinds
+        (λ b a at kind how. (answers_as as_slot IsSlot (Moves GatedMoves gated_counts) gated_counts (Moves SlotMoves slot_counts) slot_counts keeps_slot b (asked.Slot call) (told.Slot reply) a kind how.0, how.1)) mine in
+    slot_answers slot (seats_seen before) call reply (seats_seen after) went.0 went.1 went.2
+
+pub slot_worn : (slot : ℕ) (before after : List Mark) (call : SlotCall) → AreByKind (gates_of before) → ChangesAt (slot + 2) before after (λ b a. a ≡ marked b) → FindsWorn (seats_seen before) (OfSlot slot (slot_call call)) (seats_seen after)
+slot_worn slot before after call kinds c = changes_slot slot before after (λ b a. a ≡ marked b) (λ b a. a ≡ marked b) kinds (λ b a at kind how. ap (seat_as as_slot) how) c
+
+-- ---- the registry
+
+pub registry_reply_there : (place : ℕ) (before after : List Mark) (call : RegistryCall) (r : GatedReply) → ChangesAt place before after (Called (asked.Registry call) r) → IsRegistryReply r
+registry_reply_there place before after call r c = registry_replies _ call r _ (meant (asked.Registry call) r c.was c.is c.change)
+
+pub registry_call_there : (call : RegistryCall) (c : GatedCall) → c ≡ asked.Registry call → IsRegistryCall c
+registry_call_there call c is = subst IsRegistryCall (sym is) tt
+
+pub registry_called : (before after : List Mark) (call : RegistryCall) (r : GatedReply) (reply : RegistryReply) → AreByKind (gates_of before) → r ≡ told.Registry reply → ChangesAt 0 before after (Called (asked.Registry call) r) → RegistryAnswers (seats_seen before) call reply (seats_seen after)
+registry_called before after call r reply kinds is c =
+    let mine = subst (λ x. ChangesAt 0 before after (Called (asked.Registry call) x)) is c in
+    let went = changes_registry before after (Called (asked.Registry call) (told.Registry reply)) (λ b a. Answers (Moves RegistryMoves registry_counts) registry_counts b call reply a × (b.worn ≡ false)) kinds
+        (λ b a at kind how. (answers_as as_registry IsRegistry (Moves GatedMoves gated_counts) gated_counts (Moves RegistryMoves registry_counts) registry_counts keeps_registry b (asked.Registry call) (told.Registry reply) a kind how.0, how.1)) mine in
+    registry_answers (seats_seen before) call reply (seats_seen after) went.0.0 went.0.1 went.1 went.2
+
+pub registry_worn : (before after : List Mark) (call : RegistryCall) → AreByKind (gates_of before) → ChangesAt 0 before after (λ b a. a ≡ marked b) → FindsWorn (seats_seen before) (OfRegistry (registry_call call)) (seats_seen after)
+registry_worn before after call kinds c = changes_registry before after (λ b a. a ≡ marked b) (λ b a. a ≡ marked b) kinds (λ b a at kind how. ap (seat_as as_registry) how) c
+
+-- ---- the pool
+
+pub pool_reply_there : (place : ℕ) (before after : List Mark) (call : PoolCall) (r : GatedReply) → ChangesAt place before after (Called (asked.Pool call) r) → IsPoolReply r
+pool_reply_there place before after call r c = pool_replies _ call r _ (meant (asked.Pool call) r c.was c.is c.change)
+
+pub pool_call_there : (call : PoolCall) (c : GatedCall) → c ≡ asked.Pool call → IsPoolCall c
+pool_call_there call c is = subst IsPoolCall (sym is) tt
+
+pub pool_call_back : (call back : PoolCall) (c : GatedCall) → c ≡ asked.Pool call → c ≡ asked.Pool back → back ≡ call
+pool_call_back call back c one two = ap pool_call_in (sym two ∙ one)
+
+pub pool_called : (before after : List Mark) (call : PoolCall) (r : GatedReply) (reply : PoolReply) → AreByKind (gates_of before) → r ≡ told.Pool reply → ChangesAt 1 before after (Called (asked.Pool call) r) → PoolAnswers (seats_seen before) call reply (seats_seen after)
+pool_called before after call r reply kinds is c =
+    let mine = subst (λ x. ChangesAt 1 before after (Called (asked.Pool call) x)) is c in
+    let went = changes_pool before after (Called (asked.Pool call) (told.Pool reply)) (λ b a. Answers (Moves PoolMoves pool_counts) pool_counts b call reply a × (b.worn ≡ false)) kinds
+        (λ b a at kind how. (answers_as as_pool IsPool (Moves GatedMoves gated_counts) gated_counts (Moves PoolMoves pool_counts) pool_counts keeps_pool b (asked.Pool call) (told.Pool reply) a kind how.0, how.1)) mine in
+    pool_answers (seats_seen before) call reply (seats_seen after) went.0.0 went.0.1 went.1 went.2
+
+pub pool_worn : (before after : List Mark) (call : PoolCall) → AreByKind (gates_of before) → ChangesAt 1 before after (λ b a. a ≡ marked b) → FindsWorn (seats_seen before) (OfPool (pool_call call)) (seats_seen after)
+pool_worn before after call kinds c = changes_pool before after (λ b a. a ≡ marked b) (λ b a. a ≡ marked b) kinds (λ b a at kind how. ap (seat_as as_pool) how) c

@@ -1,0 +1,44 @@
+-- How the places of a bank are seen as those of the registry, of the pool and of the slots (this profile's).
+use Rattle.std.specs.Prelude.{List, [], ◌∷◌, map}
+use Rattle.atomic_table.specs.Seated.{TableId}
+use Rattle.sysv_gate.specs.Gates.{Gateway, Holding, opened}
+use Rattle.sysv_gated.specs.declared.kinds.Gated.{Gated}
+use Rattle.sysv_gated.specs.declared.kinds.GatedCall.{GatedCall}
+use Rattle.sysv_gated.specs.declared.kinds.GatedReply.{GatedReply}
+use Rattle.sysv_gated.specs.Kinds.{gate_as, seat_as}
+use Rattle.sysv_gated.specs.Gated.{IsSlot, IsRegistry, IsPool, as_slot, as_registry, as_pool}
+use Rattle.sysv_gated.specs.Seats.{Gates, Seats}
+
+abbrev pub AreSlots : List (Gateway Gated) → Type 0
+AreSlots [] = Unit {0}
+AreSlots (g ∷ gs) = IsSlot g.opening × AreSlots gs
+
+-- the registry is at the first place, the pool at the second, and the slots are at the others
+abbrev pub AreByKind : List (Gateway Gated) → Type 0
+AreByKind [] = ⊥
+AreByKind (r ∷ []) = ⊥
+AreByKind (r ∷ p ∷ ss) = IsRegistry r.opening × IsPool p.opening × AreSlots ss
+
+-- what is seen where there are not even these two places, of which nothing is said
+abbrev pub no_table : TableId
+no_table = record { words = 0; slots = 0; views_name = 0; atom = 0; block = 0; offset = 0; slot_names = [] }
+
+abbrev pub no_gates : Gates
+no_gates = record {
+  slots = [];
+  registry = record { table = no_table; opening = record { places = []; settled = 0 }; first = 0 };
+  pool = record { table = no_table; opening = record { size = 0; free = 0; released = 0 }; first = 0 };
+}
+
+abbrev pub no_seats : Seats
+no_seats = record { slots = []; registry = opened no_gates.registry; pool = opened no_gates.pool }
+
+abbrev pub gates_seen : List (Gateway Gated) → Gates
+gates_seen [] = no_gates
+gates_seen (r ∷ []) = no_gates
+gates_seen (r ∷ p ∷ ss) = record { slots = map (gate_as as_slot) ss; registry = gate_as as_registry r; pool = gate_as as_pool p }
+
+abbrev pub seats_seen : List (Holding Gated GatedCall GatedReply) → Seats
+seats_seen [] = no_seats
+seats_seen (r ∷ []) = no_seats
+seats_seen (r ∷ p ∷ ss) = record { slots = map (seat_as as_slot) ss; registry = seat_as as_registry r; pool = seat_as as_pool p }

@@ -1,0 +1,37 @@
+-- One kind among the objects of a bank: what is seen of a gate, of a seat and of what is given back, where an object, a call
+-- and a reply are seen as those of the kind (this profile's).
+use Rattle.std.specs.Prelude.{◌≡◌, List, map, option_map, None}
+use Rattle.sysv_gate.specs.declared.view.Turn.{Turn}
+use Rattle.sysv_gate.specs.declared.closing.Closing.{Closing}
+use Rattle.sysv_gate.specs.Gates.{Gateway, Holding}
+
+-- how they are seen as those of the kind
+pub record Kind (O C R O' C' R' : Type 0) : Type 0 where
+  pub object : O → O'
+  pub call : C → C'
+  pub reply : R → R'
+
+module _ {O C R O' C' R' : Type 0} (kind : Kind O C R O' C' R') where
+  abbrev pub turn_as : Turn O C R → Turn O' C' R'
+  turn_as t = record { by = t.by; call = kind.call t.call; reply = kind.reply t.reply; after = kind.object t.after }
+
+  abbrev pub gate_as : Gateway O → Gateway O'
+  gate_as g = record { table = g.table; opening = kind.object g.opening; first = g.first }
+
+  abbrev pub seat_as : Holding O C R → Holding O' C' R'
+  seat_as h = record {
+    gate = gate_as h.gate;
+    number = h.number;
+    numbers = h.numbers;
+    seen = map turn_as h.seen;
+    own = h.own;
+    worn = h.worn;
+    read = h.read;
+    alone = h.alone;
+  }
+
+  -- what is given back is the same, but for what is known of nothing
+  pub record IsClosingAs (c : Closing O) (c' : Closing O') : Type 0 where
+    pub object : c'.object ≡ option_map kind.object c.object
+    pub rest : c.rest ≡ None → c'.rest ≡ None
+    pub turns : c'.turns ≡ c.turns
