@@ -9,4 +9,5 @@ pub mod Histories
 pub mod Closing
 pub mod Obeying
 pub mod Ordered
+pub mod OrderedTurns
 pub mod OrderedHistories
