@@ -1,5 +1,6 @@
 -- What splits, joins and the end of a bank tell of the registry, of the pool and of the slots.
-use Rattle.std.proofs.Common.{◌≡◌, ℕ, suc, List, [], ◌∷◌, map, IfSome, refl, sym, ap, subst, ◌∙◌}
+use Rattle.std.proofs.Common.{◌≡◌, ℕ, suc, List, [], ◌∷◌, ◌++◌, map, length, IfSome, refl, sym, ap, subst, ◌∙◌, arith}
+use Rattle.std.proofs.lemmas.List.{length-append}
 use mathlib.Core.Option.{some}
 use lib.ListN.{get_elem?}
 use Rattle.atomic_table.proofs.Lists.{at_map}
@@ -122,3 +123,11 @@ all_close (x ∷ y ∷ ss) cs done r p closed kinds e is slots registry pool =
           closes_as as_pool IsPool (Moves GatedMoves gated_counts) gated_counts (Moves PoolMoves pool_counts) pool_counts keeps_pool y p closed.pool kinds.1
           (pool (object_kept as_pool IsPool (Moves GatedMoves gated_counts) gated_counts (Moves PoolMoves pool_counts) pool_counts keeps_pool y p kinds.1 each.1.0)) each.1.0;
     }
+
+-- two are left at the end
+pub two_left : {A : Type 0} (cs l m e done : List A) (r p : A) → cs ≡ l ++ done → l ≡ m ++ p ∷ [] → m ≡ e ++ r ∷ [] → length l ≡ 2 → cs ≡ r ∷ p ∷ done
+two_left cs l m [] done r p is last first two = is ∙ ap (λ xs. xs ++ done) (last ∙ ap (λ xs. xs ++ p ∷ []) first)
+two_left cs l m (x ∷ xs) done r p is last first two =
+    let one = ap length first ∙ length-append (x ∷ xs) (r ∷ []) in
+    let both = ap length last ∙ length-append m (p ∷ []) in
+    absurd (omega (arith, one, both, two))
