@@ -53,7 +53,7 @@ pub slot_called : (slot : ℕ) (before after : List Mark) (call : SlotCall) (r :
 slot_called slot before after call r reply kinds is c =
     let mine = subst (λ x. ChangesAt (slot + 2) before after (Called (asked.Slot call) x)) is c in
     let went = changes_slot slot before after (Called (asked.Slot call) (told.Slot reply)) (λ b a. Answers (Moves SlotMoves slot_counts) slot_counts b call reply a × (b.worn ≡ false)) kinds
-        (λ b a at kind how. (answers_as as_slot IsSlot (Moves GatedMoves gated_counts) gated_counts (Moves SlotMoves slot_counts) slot_counts keeps_slot b (asked.Slot call) (told.Slot reply) a kind how.0, how.1)) mine in
+    (λ b a at kind how. (answers_as as_slot IsSlot (Moves GatedMoves gated_counts) gated_counts (Moves SlotMoves slot_counts) slot_counts keeps_slot b (asked.Slot call) (told.Slot reply) a kind how.0, how.1)) mine in
     slot_answers slot (seats_seen before) call reply (seats_seen after) went.0 went.1 went.2
 
 pub slot_worn : (slot : ℕ) (before after : List Mark) (call : SlotCall) → AreByKind (gates_of before) → ChangesAt (slot + 2) before after (λ b a. a ≡ marked b) → FindsWorn (seats_seen before) (OfSlot slot (slot_call call)) (seats_seen after)
@@ -71,7 +71,7 @@ pub registry_called : (before after : List Mark) (call : RegistryCall) (r : Gate
 registry_called before after call r reply kinds is c =
     let mine = subst (λ x. ChangesAt 0 before after (Called (asked.Registry call) x)) is c in
     let went = changes_registry before after (Called (asked.Registry call) (told.Registry reply)) (λ b a. Answers (Moves RegistryMoves registry_counts) registry_counts b call reply a × (b.worn ≡ false)) kinds
-        (λ b a at kind how. (answers_as as_registry IsRegistry (Moves GatedMoves gated_counts) gated_counts (Moves RegistryMoves registry_counts) registry_counts keeps_registry b (asked.Registry call) (told.Registry reply) a kind how.0, how.1)) mine in
+    (λ b a at kind how. (answers_as as_registry IsRegistry (Moves GatedMoves gated_counts) gated_counts (Moves RegistryMoves registry_counts) registry_counts keeps_registry b (asked.Registry call) (told.Registry reply) a kind how.0, how.1)) mine in
     registry_answers (seats_seen before) call reply (seats_seen after) went.0.0 went.0.1 went.1 went.2
 
 pub registry_worn : (before after : List Mark) (call : RegistryCall) → AreByKind (gates_of before) → ChangesAt 0 before after (λ b a. a ≡ marked b) → FindsWorn (seats_seen before) (OfRegistry (registry_call call)) (seats_seen after)
@@ -92,7 +92,7 @@ pub pool_called : (before after : List Mark) (call : PoolCall) (r : GatedReply) 
 pool_called before after call r reply kinds is c =
     let mine = subst (λ x. ChangesAt 1 before after (Called (asked.Pool call) x)) is c in
     let went = changes_pool before after (Called (asked.Pool call) (told.Pool reply)) (λ b a. Answers (Moves PoolMoves pool_counts) pool_counts b call reply a × (b.worn ≡ false)) kinds
-        (λ b a at kind how. (answers_as as_pool IsPool (Moves GatedMoves gated_counts) gated_counts (Moves PoolMoves pool_counts) pool_counts keeps_pool b (asked.Pool call) (told.Pool reply) a kind how.0, how.1)) mine in
+    (λ b a at kind how. (answers_as as_pool IsPool (Moves GatedMoves gated_counts) gated_counts (Moves PoolMoves pool_counts) pool_counts keeps_pool b (asked.Pool call) (told.Pool reply) a kind how.0, how.1)) mine in
     pool_answers (seats_seen before) call reply (seats_seen after) went.0.0 went.0.1 went.1 went.2
 
 pub pool_worn : (before after : List Mark) (call : PoolCall) → AreByKind (gates_of before) → ChangesAt 1 before after (λ b a. a ≡ marked b) → FindsWorn (seats_seen before) (OfPool (pool_call call)) (seats_seen after)

@@ -4,9 +4,12 @@ pub mod Keeping
 pub mod Placing
 pub mod Answering
 pub mod Asking
-pub mod Vacancy
+pub mod Telling
+pub mod Dividing
+pub mod Beginning
 pub mod Histories
 pub mod Closing
 pub mod Obeying
 pub mod Ordered
+pub mod OrderedTurns
 pub mod OrderedHistories

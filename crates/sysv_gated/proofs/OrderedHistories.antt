@@ -45,6 +45,7 @@ use Rattle.sysv_gated.proofs.Seeing.{legal_as}
 use Rattle.sysv_gated.proofs.Keeping.{keeps_slot, keeps_registry, keeps_pool}
 use Rattle.sysv_gated.proofs.Histories.{slot_on, registry_on, pool_on, pool_sized}
 use Rattle.sysv_gated.proofs.Ordered.{opens, sees, makes, splits, joins, closes, ends}
+use Rattle.sysv_gated.proofs.OrderedTurns.{answered}
 
 same_place : (n k : ℕ) → n ≡ k → (n == k) ≡ true
 same_place n k e = grind (arith, nat_tests)
@@ -210,4 +211,4 @@ legal generation blocks first (r ∷ p ∷ ss) order kinds fresh l =
     }
 
 pub orders_are_of_crews : OrdersAreOfCrews
-orders_are_of_crews = record { opens = opens; sees = sees; makes = makes; splits = splits; joins = joins; closes = closes; ends = ends; legal = legal }
+orders_are_of_crews = record { opens = opens; sees = sees; makes = makes; answered = answered; splits = splits; joins = joins; closes = closes; ends = ends; legal = legal }

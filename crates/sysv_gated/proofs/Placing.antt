@@ -62,10 +62,10 @@ same_gate {O} g h t o f =
     let at : (table : TableId) (opening : O) (first : ℕ) → Gateway O = λ table opening first. record { table = table; opening = opening; first = first } in
     ap (λ x. at x g.opening g.first) t ∙ (ap (λ x. at h.table x g.first) o ∙ ap (λ x. at h.table h.opening x) f)
 
-head_of : {A : Type 0} (x y : A) (xs ys : List A) → x ∷ xs ≡ y ∷ ys → x ≡ y
+pub head_of : {A : Type 0} (x y : A) (xs ys : List A) → x ∷ xs ≡ y ∷ ys → x ≡ y
 head_of x y xs ys e = cc
 
-tail_of : {A : Type 0} (x y : A) (xs ys : List A) → x ∷ xs ≡ y ∷ ys → xs ≡ ys
+pub tail_of : {A : Type 0} (x y : A) (xs ys : List A) → x ∷ xs ≡ y ∷ ys → xs ≡ ys
 tail_of x y xs ys e = cc
 
 slots_back : (gs hs : List (Gateway Gated)) → AreSlots gs → AreSlots hs → map (gate_as as_slot) gs ≡ map (gate_as as_slot) hs → gs ≡ hs
@@ -121,7 +121,7 @@ of_bank bank seats gates seen kinds own viewed shown fit =
 two_more : (n : ℕ) → n + 2 ≡ suc (suc n)
 two_more n = omega arith
 
-slots_at : (gs : List (Gateway Gated)) (slot : ℕ) (g : Gateway Gated) → AreSlots gs → get_elem? gs slot ≡ some g → IsSlot g.opening
+pub slots_at : (gs : List (Gateway Gated)) (slot : ℕ) (g : Gateway Gated) → AreSlots gs → get_elem? gs slot ≡ some g → IsSlot g.opening
 slots_at [] slot g are at = absurd (some-ne-none g (sym at))
 slots_at (h ∷ gs) zero g are at = subst (λ (x : Gateway Gated). IsSlot x.opening) (some-injective h g at) are.0
 slots_at (h ∷ gs) (suc slot) g are at = slots_at gs slot g are.1 at

@@ -27,7 +27,7 @@ sum_as f g [] = refl
 sum_as f g (x ∷ xs) = sum_by-cons g (f x) (map f xs) ∙ ap (λ n. g (f x) + n) (sum_as f g xs) ∙ sym (sum_by-cons (λ y. g (f y)) x xs)
 
 -- an element of the list that another is taken to
-back_as : {A B : Type 0} (f : A → B) (xs : List A) (i : ℕ) (b : B) → get_elem? (map f xs) i ≡ some b → (a : A) × (get_elem? xs i ≡ some a) × (b ≡ f a)
+pub back_as : {A B : Type 0} (f : A → B) (xs : List A) (i : ℕ) (b : B) → get_elem? (map f xs) i ≡ some b → (a : A) × (get_elem? xs i ≡ some a) × (b ≡ f a)
 back_as f [] i b at = absurd (some-ne-none b (sym at))
 back_as f (x ∷ xs) zero b at = (x, refl, sym (some-injective (f x) b at))
 back_as f (x ∷ xs) (suc i) b at = back_as f xs i b at
@@ -41,11 +41,11 @@ from_none : {A B : Type 0} (f : A → B) (o : Option A) → option_map f o ≡ N
 from_none f (Some a) is = cc
 from_none f None is = refl
 
-some_then : {A : Type 0} (o : Option A) (P : A → Type 0) → ((a : A) → o ≡ Some a → P a) → IfSome o P
+pub some_then : {A : Type 0} (o : Option A) (P : A → Type 0) → ((a : A) → o ≡ Some a → P a) → IfSome o P
 some_then (Some a) P goes = goes a refl
 some_then None P goes = tt
 
-some_of : {A : Type 0} (o : Option A) (P : A → Type 0) (a : A) → o ≡ Some a → IfSome o P → P a
+pub some_of : {A : Type 0} (o : Option A) (P : A → Type 0) (a : A) → o ≡ Some a → IfSome o P → P a
 some_of o P a is has = subst (λ p. IfSome p P) is has
 
 none_then : {A : Type 0} (o : Option A) (P : Type 0) → (o ≡ None → P) → IfNone o P
@@ -212,6 +212,9 @@ module _ {O C R O' C' R' : Type 0} (kind : Kind O C R O' C' R') (Is : O → Type
           subst (λ n. 1 ≤ times (gate.first + n) there.1.tickets) (sym (length-map log (turn_as kind))) there.3,
         ),
       )
+
+  pub object_kept : (seat : Holding O C R) (c : Closing O) → Is seat.gate.opening → Closes moves seat c → IfSome c.object Is
+  object_kept seat c is k = some_then c.object Is (λ o there. subst Is (sym (some_of c.object _ o there k.object).0) (is_after seat.gate.opening k.log is k.legal))
 
   pub closes_as : (seat : Holding O C R) (c : Closing O) (c' : Closing O') → Is seat.gate.opening → IsClosingAs kind c c' → Closes moves seat c → Closes moves' (seat_as kind seat) c'
   closes_as seat c c' is same k = record {

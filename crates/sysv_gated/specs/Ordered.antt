@@ -1,6 +1,6 @@
 -- The order of the turns at all places of a bank, as turns of the world, and what its passes are and do in these words. The
 -- registry is at place 0, the pool at place 1, and slot k at place k + 2 (this profile's).
-use Rattle.std.specs.Prelude.{◌≡◌, ℕ, zero, suc, List, [], ◌∷◌, ◌++◌, length}
+use Rattle.std.specs.Prelude.{◌≡◌, ℕ, zero, suc, false, List, [], ◌∷◌, ◌++◌, length}
 use mathlib.Core.Option.{some}
 use lib.ListN.{get_elem?}
 use Rattle.sysv_model.specs.Turn.{Deed, AtSlot, AtRegistry, AtPool}
@@ -11,9 +11,9 @@ use Rattle.sysv_gate.specs.declared.view.Turn.{Turn}
 use Rattle.sysv_gate.specs.declared.view.Placed.{Placed}
 use Rattle.sysv_gate.specs.declared.closing.Closing.{Closing}
 use Rattle.sysv_gate.specs.History.{Moves, IsLegal, after_all}
-use Rattle.sysv_gate.specs.Gates.{Gateway}
+use Rattle.sysv_gate.specs.Gates.{Gateway, Holding, Answers}
 use Rattle.sysv_gate.specs.Orders.{turns_at, AreBelow}
-use Rattle.sysv_bank.specs.Banks.{gates_of}
+use Rattle.sysv_bank.specs.Banks.{gates_of, ChangesAt}
 use Rattle.sysv_bank.specs.Passes.{Pass, GoesOn, AddsToOrder, SplitsOff, JoinsOrders}
 use Rattle.sysv_bank.specs.Closing.{ClosesInOrder}
 use Rattle.sysv_gated.specs.declared.kinds.Gated.{Gated}
@@ -72,6 +72,17 @@ member_of gates pass = record { number = pass.number; numbers = pass.numbers; sh
 abbrev pub deed_added : (gates : List (Gateway Gated)) (place : ℕ) (before after : GatedPass) → AddsToOrder place before after → Deed
 deed_added gates place before after adds = deed_at place (object_at gates place (before.order ++ adds.others)) adds.turn
 
+-- the object at the place has answered so, in a turn of the pass's own
+abbrev pub AnswersAt : ℕ → GatedPass → GatedCall → GatedReply → GatedPass → Type 0
+AnswersAt place before call reply after =
+    ChangesAt place before.seats after.seats (λ b a. Answers (Moves GatedMoves gated_counts) gated_counts b call reply a × (b.worn ≡ false))
+
+-- and that turn in the world
+abbrev pub deed_answered : (place : ℕ) (before : GatedPass) (call : GatedCall) (reply : GatedReply) (after : GatedPass) → AnswersAt place before call reply after → Deed
+deed_answered place before call reply after c =
+    let a = c.change.0 in
+    deed_at place (after_all c.was.gate.opening (c.was.seen ++ a.others)) (record { by = c.was.number; call = call; reply = reply; after = a.object })
+
 -- Each turn of the order is one that the object at its place can make, and there is no turn where there is no gate
 pub record IsLegalOrder (gates : List (Gateway Gated)) (order : List GatedPlaced) : Type 0 where
   pub below : AreBelow (length gates) order
@@ -84,6 +95,9 @@ pub record OrdersAreOfCrews : Type 0 where
   pub sees : (gates : List (Gateway Gated)) (before after : GatedPass) → GoesOn before after → SeesMore (member_of gates before) (member_of gates after)
   pub makes : (gates : List (Gateway Gated)) (place : ℕ) (before after : GatedPass) (adds : AddsToOrder place before after) →
       MakesTurn (member_of gates before) (deed_added gates place before after adds) (member_of gates after)
+  -- the turn that was added is the one that was answered
+  pub answered : (place : ℕ) (before after : GatedPass) (call : GatedCall) (reply : GatedReply) (adds : AddsToOrder place before after) (c : AnswersAt place before call reply after) →
+      deed_added (gates_of before.seats) place before after adds ≡ deed_answered place before call reply after c
   pub splits : (gates : List (Gateway Gated)) (before kept new : GatedPass) → SplitsOff before kept new →
       Splits (member_of gates before) (member_of gates kept) (member_of gates new)
   pub joins : (gates : List (Gateway Gated)) (one two after : GatedPass) → JoinsOrders one two after →
