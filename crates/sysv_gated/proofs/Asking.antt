@@ -1,13 +1,9 @@
 -- What a call at a place of the bank tells of the object that was called.
-use Rattle.std.proofs.Common.{◌≡◌, ℕ, ◌+◌, false, List, refl, sym, ap, subst, ◌∙◌}
+use Rattle.std.proofs.Common.{◌≡◌, ℕ, ◌+◌, false, List, sym, ap, subst, ◌∙◌}
 use Rattle.sysv_model.specs.Turn.{OfSlot, OfRegistry, OfPool}
-use Rattle.sysv_queue.specs.Slot.{Slot}
-use Rattle.sysv_keys.specs.StandsFor.{Registry}
-use Rattle.sysv_pool.specs.State.{State}
 use Rattle.sysv_gate.specs.History.{Moves}
-use Rattle.sysv_gate.specs.Gates.{Holding, Answers, marked}
+use Rattle.sysv_gate.specs.Gates.{Answers, marked}
 use Rattle.sysv_bank.specs.Banks.{gates_of, ChangesAt}
-use Rattle.sysv_gated.specs.declared.kinds.Gated.{Gated}
 use Rattle.sysv_gated.specs.declared.kinds.GatedCall.{GatedCall}
 use Rattle.sysv_gated.specs.declared.kinds.GatedCall.TheVariants as asked
 use Rattle.sysv_gated.specs.declared.kinds.GatedReply.{GatedReply}
@@ -21,7 +17,7 @@ use Rattle.sysv_gated.specs.declared.pool.PoolReply.{PoolReply}
 use Rattle.sysv_gated.specs.SlotTurns.{slot_counts, slot_call, SlotMoves}
 use Rattle.sysv_gated.specs.RegistryTurns.{registry_counts, registry_call, RegistryMoves}
 use Rattle.sysv_gated.specs.PoolTurns.{pool_counts, pool_call, PoolMoves}
-use Rattle.sysv_gated.specs.Gated.{IsSlot, IsRegistry, IsPool, IsSlotCall, IsRegistryCall, IsPoolCall, IsSlotReply, IsRegistryReply, IsPoolReply, slot_call_in, registry_call_in, pool_call_in, as_slot, as_registry, as_pool, GatedMoves, gated_counts}
+use Rattle.sysv_gated.specs.Gated.{IsSlot, IsRegistry, IsPool, IsSlotCall, IsRegistryCall, IsPoolCall, IsSlotReply, IsRegistryReply, IsPoolReply, slot_call_in, pool_call_in, as_slot, as_registry, as_pool, GatedMoves, gated_counts}
 use Rattle.sysv_gated.specs.Kinds.{seat_as}
 use Rattle.sysv_gated.specs.Seats.{FindsWorn}
 use Rattle.sysv_gated.specs.Answered.{SlotAnswers, RegistryAnswers, PoolAnswers}

@@ -1,4 +1,4 @@
-use Rattle.std.proofs.Common.{rules, refl, sym, ap, subst, ◌∙◌}
+use Rattle.std.proofs.Common.{refl, sym, ap, subst, ◌∙◌}
 use Rattle.sysv_gated.specs.Banked.{AreByKind, seats_seen}
 use Rattle.sysv_gated.proofs.Placing.{are_of}
 use Rattle.sysv_gated.proofs.Beginning.{fresh_low, fresh_many, opened_kinds, opened_open, first_seats}
