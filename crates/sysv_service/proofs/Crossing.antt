@@ -7,11 +7,11 @@ use denote.Struct.Tuple.{parts, type_at, TupleAt}
 use denote.Param.SendFields.{FieldsHave, declared_send, declared_sync, as_row_send, as_row_sync}
 use Rattle.std.proofs.Crossing.{crosses}
 use Rattle.std.proofs.option.Option.TheSendSync as options
-use Rattle.sysv_gate.proofs.Crossing.{seat_send, gate_sync}
-use Rattle.sysv_queue.proofs.Crossing.{block_send, chain_send, queue_send, queue_sync}
+use Rattle.sysv_queue.proofs.Crossing.{block_send, block_sync, chain_send, queue_send, queue_sync}
 use Rattle.sysv_gated.specs.contracts.slot.GatedSlot as gated_slot
 use Rattle.sysv_gated.specs.contracts.pool.GatedPool as gated_pool
 use Rattle.sysv_gated.proofs.registry.GatedRegistry.TheSendSync as registries
+use Rattle.sysv_gated.specs.contracts.kinds.Gated as gated
 use Rattle.sysv_gated.specs.contracts.seats.Seats as seats
 use Rattle.sysv_gated.specs.contracts.gates.Gates as gates
 use Rattle.sysv_service.specs.contracts.pass.Pass as pass
@@ -30,14 +30,23 @@ slot_send = search (crossing, queue_send) depth 30
 pub slot_sync : IsSync gated_slot.the_row
 slot_sync = search (crossing, queue_sync) depth 30
 
+pool_sync : IsSync gated_pool.the_row
+pool_sync = search (crossing, block_sync) depth 30
+
+gated_send : IsSend gated.the_row
+gated_send = search (crossing, slot_send, registries.the_send, pool_send) depth 30
+
+gated_sync : IsSync gated.the_row
+gated_sync = search (crossing, slot_sync, registries.the_sync, pool_sync) depth 30
+
 seats_send : IsSend seats.the_row
-seats_send = search (crossing, bank_seat_send, seat_send, slot_send, registries.the_send, pool_send) depth 30
+seats_send = search (crossing, bank_seat_send, gated_send) depth 30
 
 pub pass_send : IsSend pass.the_row
 pass_send = search (crossing, seats_send, chain_send) depth 30
 
 gates_sync : IsSync gates.the_row
-gates_sync = search (crossing, bank_sync, gate_sync, slot_send, slot_sync, registries.the_send, pool_send) depth 30
+gates_sync = search (crossing, bank_sync, gated_send, gated_sync, slot_sync) depth 30
 
 pub service_sync : IsSync service.the_row
 service_sync = search (crossing, gates_sync) depth 30
