@@ -1,12 +1,19 @@
--- The last worker's sums are added.
-use Rattle.std.proofs.Common.{◌≡◌, ◌∙◌, ◌∷◌, [], map, ap}
+-- The last worker's pass is one of the service, and its sums are added.
+use Rattle.std.proofs.Common.{◌≡◌, ◌∙◌, ◌∷◌, [], map, ap, subst}
 use Rattle.std.proofs.lemmas.List.{map-append}
+use Rattle.sysv_gated.specs.Seats.{AreOf}
 use Rattle.sysv_server.specs.declared.session.Worker.{Worker}
 use Rattle.sysv_server.specs.declared.sums.Sums.{Sums}
 use Rattle.sysv_server.specs.Added.{added}
 use Rattle.sysv_server.proofs.Adding.{adding_one}
-use Rattle.sysv_server.proofs.Shifts.{but_last}
+use Rattle.sysv_server.proofs.Shifts.{but_last, the_last}
 use Rattle.sysv_server.proofs.crew.dismiss.Goals as goal
+
+pub join_pass-requires-clause-other : goal.join_pass-requires-clause-other
+join_pass-requires-clause-other g c =
+    let P : Worker g.row.R.Denot → Type 0 = λ w. w.kernel.service.now ≡ c.args.service.now in
+    let is = the_last P c.pop.new.self.items c.loop-worker.workers.items c.in-Some.worker c.in-Some.ensures.items c.loop-worker.invariant.workers in
+    subst (λ s. AreOf s c.into_parts-theirs.result.0.seats) is c.into_parts-theirs.ensures.fits
 
 pub loop-worker-preserved : goal.loop-worker-preserved
 loop-worker-preserved g c =
