@@ -1,5 +1,8 @@
 -- What a gate answered is a turn of the object.
-use Rattle.std.proofs.Common.{◌≡◌, ℕ, List, [], ◌∷◌, ◌++◌, false, Result, Ok, Err, IfOk, OnOk, refl, subst}
+use Rattle.std.proofs.Common.{◌≡◌, ℕ, List, [], ◌∷◌, ◌++◌, false, Result, Ok, Err, IfOk, OnOk, refl, sym, subst}
+use Rattle.sysv_model.specs.Turn.{AtSlot, AtRegistry, AtPool}
+use Rattle.sysv_crew.specs.Members.{MakesTurn}
+use Rattle.sysv_queue.specs.Slot.{Slot}
 use Rattle.sysv_gate.specs.declared.view.Turn.{Turn}
 use Rattle.sysv_gate.specs.History.{Moves, IsLegal, after_all}
 use Rattle.sysv_gate.specs.Gates.{Holding, Answers, made, saw}
@@ -10,9 +13,9 @@ use Rattle.sysv_gated.specs.declared.registry.RegistryCall.{RegistryCall}
 use Rattle.sysv_gated.specs.declared.registry.RegistryReply.{RegistryReply}
 use Rattle.sysv_gated.specs.declared.pool.PoolCall.{PoolCall}
 use Rattle.sysv_gated.specs.declared.pool.PoolReply.{PoolReply}
-use Rattle.sysv_gated.specs.SlotTurns.{slot_counts, SlotMoves}
-use Rattle.sysv_gated.specs.RegistryTurns.{registry_counts, RegistryMoves}
-use Rattle.sysv_gated.specs.PoolTurns.{pool_counts, PoolMoves}
+use Rattle.sysv_gated.specs.SlotTurns.{slot_counts, slot_call, slot_reply, SlotMoves}
+use Rattle.sysv_gated.specs.RegistryTurns.{registry_counts, registry_call, registry_reply, RegistryMoves}
+use Rattle.sysv_gated.specs.PoolTurns.{pool_counts, pool_call, pool_reply, PoolMoves}
 use Rattle.sysv_gated.specs.Seats.{Seats}
 use Rattle.sysv_gated.specs.Answered.{SlotAnswers, RegistryAnswers, PoolAnswers}
 
@@ -47,40 +50,45 @@ pub if_ok_too : {T E : Type 0} (r : Result T E) (P Q : T → Type 0) (W : Type 0
 if_ok_too (Ok x) P Q W is also goes = goes x is also
 if_ok_too (Err e) P Q W is also goes = tt
 
-pub slot_answers : (number : ℕ) (before : Seats) (call : SlotCall) (reply : SlotReply) (after : Seats) →
-    ChangesAt number before.slots after.slots (λ b a. Answers (Moves SlotMoves slot_counts) slot_counts b call reply a × (b.worn ≡ false)) → after.registry ≡ before.registry → after.pool ≡ before.pool →
+-- with the object just before the turn, as it is seen otherwise
+pub slot_answers : (number : ℕ) (before : Seats) (call : SlotCall) (reply : SlotReply) (after : Seats) (slot : Slot) →
+    ChangesAt number before.slots after.slots
+    (λ b a. (answered : Answers (Moves SlotMoves slot_counts) slot_counts b call reply a × (b.worn ≡ false)) × (object_before SlotMoves slot_counts b call reply a answered.0 ≡ slot)) →
+    after.registry ≡ before.registry → after.pool ≡ before.pool → MakesTurn before.member (AtSlot number (slot_call call) (slot_reply slot reply)) after.member →
     SlotAnswers number before call reply after
-slot_answers number before call reply after c registry pool =
+slot_answers number before call reply after slot c registry pool made =
     let b = c.was in
-    let meant = turn_meant SlotMoves slot_counts b call reply c.is c.change.0 in
+    let answered = c.change.0 in
+    let meant = turn_meant SlotMoves slot_counts b call reply c.is answered.0 in
     record {
-      slot = object_before SlotMoves slot_counts b call reply c.is c.change.0;
+      slot = object_before SlotMoves slot_counts b call reply c.is answered.0;
       turn = (
         record {
           was = c.was;
           is = c.is;
           at = c.at;
           others = c.others;
-          change = record { call = call; reply = reply; answers = c.change.0; fresh = c.change.1; entered = refl };
+          change = record { call = call; reply = reply; answers = answered.0; fresh = answered.1; entered = refl };
         },
         registry,
         pool,
+        subst (λ s. MakesTurn before.member (AtSlot number (slot_call call) (slot_reply s reply)) after.member) (sym c.change.1) made,
       );
       fits = meant.fits;
     }
 
 pub registry_answers : (before : Seats) (call : RegistryCall) (reply : RegistryReply) (after : Seats) →
     Answers (Moves RegistryMoves registry_counts) registry_counts before.registry call reply after.registry → before.registry.worn ≡ false → after.slots ≡ before.slots → after.pool ≡ before.pool →
-    RegistryAnswers before call reply after
-registry_answers before call reply after a fresh slots pool = record {
-  turn = (record { call = call; reply = reply; answers = a; fresh = fresh; entered = refl }, slots, pool);
+    MakesTurn before.member (AtRegistry (registry_call call) (registry_reply reply)) after.member → RegistryAnswers before call reply after
+registry_answers before call reply after a fresh slots pool made = record {
+  turn = (record { call = call; reply = reply; answers = a; fresh = fresh; entered = refl }, slots, pool, made);
   fits = (turn_meant RegistryMoves registry_counts before.registry call reply after.registry a).fits;
 }
 
 pub pool_answers : (before : Seats) (call : PoolCall) (reply : PoolReply) (after : Seats) →
     Answers (Moves PoolMoves pool_counts) pool_counts before.pool call reply after.pool → before.pool.worn ≡ false → after.slots ≡ before.slots → after.registry ≡ before.registry →
-    PoolAnswers before call reply after
-pool_answers before call reply after a fresh slots registry = record {
-  turn = (record { call = call; reply = reply; answers = a; fresh = fresh; entered = refl }, slots, registry);
+    MakesTurn before.member (AtPool (pool_call call) (pool_reply reply)) after.member → PoolAnswers before call reply after
+pool_answers before call reply after a fresh slots registry made = record {
+  turn = (record { call = call; reply = reply; answers = a; fresh = fresh; entered = refl }, slots, registry, made);
   fits = (turn_meant PoolMoves pool_counts before.pool call reply after.pool a).fits;
 }

@@ -1,9 +1,16 @@
 -- What a call at a place of the bank tells of the object that was called.
-use Rattle.std.proofs.Common.{◌≡◌, ℕ, ◌+◌, false, List, sym, ap, subst, ◌∙◌}
-use Rattle.sysv_model.specs.Turn.{OfSlot, OfRegistry, OfPool}
-use Rattle.sysv_gate.specs.History.{Moves}
-use Rattle.sysv_gate.specs.Gates.{Answers, marked}
+use Rattle.std.proofs.Common.{◌≡◌, ℕ, ◌+◌, ◌++◌, false, List, map, refl, sym, ap, subst, ◌∙◌}
+use Rattle.std.proofs.lemmas.List.{map-append}
+use Rattle.sysv_model.specs.Turn.{OfSlot, OfRegistry, OfPool, AtSlot, AtRegistry, AtPool}
+use Rattle.sysv_crew.specs.Members.{MakesTurn}
+use Rattle.sysv_queue.specs.Slot.{Slot}
+use Rattle.sysv_keys.specs.StandsFor.{Registry}
+use Rattle.sysv_pool.specs.State.{State}
+use Rattle.sysv_gate.specs.History.{Moves, after_all}
+use Rattle.sysv_gate.specs.Gates.{Gateway, Holding, Answers, marked}
 use Rattle.sysv_bank.specs.Banks.{gates_of, ChangesAt}
+use Rattle.sysv_bank.specs.Passes.{GoesOn, AddsToOrder}
+use Rattle.sysv_gated.specs.declared.kinds.Gated.{Gated}
 use Rattle.sysv_gated.specs.declared.kinds.GatedCall.{GatedCall}
 use Rattle.sysv_gated.specs.declared.kinds.GatedCall.TheVariants as asked
 use Rattle.sysv_gated.specs.declared.kinds.GatedReply.{GatedReply}
@@ -14,17 +21,19 @@ use Rattle.sysv_gated.specs.declared.registry.RegistryCall.{RegistryCall}
 use Rattle.sysv_gated.specs.declared.registry.RegistryReply.{RegistryReply}
 use Rattle.sysv_gated.specs.declared.pool.PoolCall.{PoolCall}
 use Rattle.sysv_gated.specs.declared.pool.PoolReply.{PoolReply}
-use Rattle.sysv_gated.specs.SlotTurns.{slot_counts, slot_call, SlotMoves}
-use Rattle.sysv_gated.specs.RegistryTurns.{registry_counts, registry_call, RegistryMoves}
-use Rattle.sysv_gated.specs.PoolTurns.{pool_counts, pool_call, PoolMoves}
-use Rattle.sysv_gated.specs.Gated.{IsSlot, IsRegistry, IsPool, IsSlotCall, IsRegistryCall, IsPoolCall, IsSlotReply, IsRegistryReply, IsPoolReply, slot_call_in, pool_call_in, as_slot, as_registry, as_pool, GatedMoves, gated_counts}
-use Rattle.sysv_gated.specs.Kinds.{seat_as}
-use Rattle.sysv_gated.specs.Seats.{FindsWorn}
+use Rattle.sysv_gated.specs.SlotTurns.{slot_counts, slot_call, slot_reply, SlotMoves}
+use Rattle.sysv_gated.specs.RegistryTurns.{registry_counts, registry_call, registry_reply, RegistryMoves}
+use Rattle.sysv_gated.specs.PoolTurns.{pool_counts, pool_call, pool_reply, PoolMoves}
+use Rattle.sysv_gated.specs.Gated.{IsSlot, IsRegistry, IsPool, IsSlotCall, IsRegistryCall, IsPoolCall, IsSlotReply, IsRegistryReply, IsPoolReply, slot_in, slot_call_in, registry_call_in, pool_call_in, as_slot, as_registry, as_pool, GatedMoves, gated_counts}
+use Rattle.sysv_gated.specs.Kinds.{turn_as, seat_as}
+use Rattle.sysv_gated.specs.Seats.{SlotSeat, FindsWorn}
+use Rattle.sysv_gated.specs.Order.{GatedPass, member_of}
 use Rattle.sysv_gated.specs.Answered.{SlotAnswers, RegistryAnswers, PoolAnswers}
 use Rattle.sysv_gated.specs.Banked.{AreByKind, seats_seen}
-use Rattle.sysv_gated.proofs.Seeing.{answers_as}
+use Rattle.sysv_gated.proofs.Seeing.{answers_as, others_as, after_as}
 use Rattle.sysv_gated.proofs.Keeping.{keeps_slot, keeps_registry, keeps_pool, slot_replies, registry_replies, pool_replies}
-use Rattle.sysv_gated.proofs.Placing.{Mark, changes_slot, changes_registry, changes_pool}
+use Rattle.sysv_gated.proofs.Placing.{Mark, changes_slot, changes_registry, changes_pool, sees_more}
+use Rattle.sysv_gated.proofs.OrderedTurns.{object_was, slot_made, registry_made, pool_made}
 use Rattle.sysv_gated.proofs.Answering.{object_before, turn_meant, slot_answers, registry_answers, pool_answers}
 
 -- what the bank answers
@@ -45,15 +54,31 @@ slot_call_there call c is = subst IsSlotCall (sym is) tt
 pub slot_call_back : (call back : SlotCall) (c : GatedCall) → c ≡ asked.Slot call → c ≡ asked.Slot back → back ≡ call
 slot_call_back call back c one two = ap slot_call_in (sym two ∙ one)
 
-pub slot_called : (slot : ℕ) (before after : List Mark) (call : SlotCall) (r : GatedReply) (reply : SlotReply) → AreByKind (gates_of before) → r ≡ told.Slot reply → ChangesAt (slot + 2) before after (Called (asked.Slot call) r) → SlotAnswers slot (seats_seen before) call reply (seats_seen after)
-slot_called slot before after call r reply kinds is c =
-    let mine = subst (λ x. ChangesAt (slot + 2) before after (Called (asked.Slot call) x)) is c in
-    let went = changes_slot slot before after (Called (asked.Slot call) (told.Slot reply)) (λ b a. Answers (Moves SlotMoves slot_counts) slot_counts b call reply a × (b.worn ≡ false)) kinds
-    (λ b a at kind how. (answers_as as_slot IsSlot (Moves GatedMoves gated_counts) gated_counts (Moves SlotMoves slot_counts) slot_counts keeps_slot b (asked.Slot call) (told.Slot reply) a kind how.0, how.1)) mine in
-    slot_answers slot (seats_seen before) call reply (seats_seen after) went.0 went.1 went.2
+pub slot_called : (slot : ℕ) (bank : List (Gateway Gated)) (before after : GatedPass) (call : SlotCall) (r : GatedReply) (reply : SlotReply) → AreByKind (gates_of before.seats) → gates_of before.seats ≡ bank → gates_of after.seats ≡ bank → AddsToOrder (slot + 2) before after → r ≡ told.Slot reply → ChangesAt (slot + 2) before.seats after.seats (Called (asked.Slot call) r) → SlotAnswers slot (seats_seen before) call reply (seats_seen after)
+slot_called slot bank before after call r reply kinds one two adds is c =
+    let mine = subst (λ x. ChangesAt (slot + 2) before.seats after.seats (Called (asked.Slot call) x)) is c in
+    let o : Gated = object_was (slot + 2) before (asked.Slot call) (told.Slot reply) after mine in
+    let m = (seats_seen before).member in
+    let m' = (seats_seen after).member in
+    let called : Mark → Mark → Type 0 = (λ b a. (k : Called (asked.Slot call) (told.Slot reply) b a) × (after_all b.gate.opening (b.seen ++ k.0.others) ≡ o)) in
+    let answered : SlotSeat → SlotSeat → Type 0 =
+    (λ b a. (k : Answers (Moves SlotMoves slot_counts) slot_counts b call reply a × (b.worn ≡ false)) × (object_before SlotMoves slot_counts b call reply a k.0 ≡ slot_in o)) in
+    let went = changes_slot m m' slot before.seats after.seats called answered kinds
+    (λ b a at kind how. (
+      (answers_as as_slot IsSlot (Moves GatedMoves gated_counts) gated_counts (Moves SlotMoves slot_counts) slot_counts keeps_slot b (asked.Slot call) (told.Slot reply) a kind how.0.0, how.0.1),
+      ap (λ os. after_all (slot_in b.gate.opening) (map (turn_as as_slot) b.seen ++ os))
+          (others_as as_slot IsSlot (Moves GatedMoves gated_counts) gated_counts (Moves SlotMoves slot_counts) slot_counts keeps_slot b (asked.Slot call) (told.Slot reply) a kind how.0.0)
+          ∙ ap (after_all (slot_in b.gate.opening)) (sym (map-append (turn_as as_slot) b.seen how.0.0.others)) ∙ (sym (after_as as_slot b.gate.opening (b.seen ++ how.0.0.others)) ∙ ap slot_in how.1),
+    ))
+    (record { was = mine.was; is = mine.is; at = mine.at; others = mine.others; change = (mine.change, refl) }) in
+    let made = slot_made slot before after call reply adds mine in
+    slot_answers slot (seats_seen before) call reply (seats_seen after) (slot_in o) went.0 went.1 went.2
+    (subst (λ gs. MakesTurn (member_of (gates_of before.seats) before) (AtSlot slot (slot_call call) (slot_reply (slot_in o) reply)) (member_of gs after)) (one ∙ sym two) made)
 
-pub slot_worn : (slot : ℕ) (before after : List Mark) (call : SlotCall) → AreByKind (gates_of before) → ChangesAt (slot + 2) before after (λ b a. a ≡ marked b) → FindsWorn (seats_seen before) (OfSlot slot (slot_call call)) (seats_seen after)
-slot_worn slot before after call kinds c = changes_slot slot before after (λ b a. a ≡ marked b) (λ b a. a ≡ marked b) kinds (λ b a at kind how. ap (seat_as as_slot) how) c
+pub slot_worn : (slot : ℕ) (bank : List (Gateway Gated)) (before after : GatedPass) (call : SlotCall) → AreByKind (gates_of before.seats) → gates_of before.seats ≡ bank → gates_of after.seats ≡ bank → GoesOn before after → ChangesAt (slot + 2) before.seats after.seats (λ b a. a ≡ marked b) → FindsWorn (seats_seen before) (OfSlot slot (slot_call call)) (seats_seen after)
+slot_worn slot bank before after call kinds one two goes c =
+    let went = changes_slot (seats_seen before).member (seats_seen after).member slot before.seats after.seats (λ b a. a ≡ marked b) (λ b a. a ≡ marked b) kinds (λ b a at kind how. ap (seat_as as_slot) how) c in
+    (went.0, went.1, went.2, sees_more bank before after one two goes)
 
 -- ---- the registry
 
@@ -63,15 +88,18 @@ registry_reply_there place before after call r c = registry_replies _ call r _ (
 pub registry_call_there : (call : RegistryCall) (c : GatedCall) → c ≡ asked.Registry call → IsRegistryCall c
 registry_call_there call c is = subst IsRegistryCall (sym is) tt
 
-pub registry_called : (before after : List Mark) (call : RegistryCall) (r : GatedReply) (reply : RegistryReply) → AreByKind (gates_of before) → r ≡ told.Registry reply → ChangesAt 0 before after (Called (asked.Registry call) r) → RegistryAnswers (seats_seen before) call reply (seats_seen after)
-registry_called before after call r reply kinds is c =
-    let mine = subst (λ x. ChangesAt 0 before after (Called (asked.Registry call) x)) is c in
-    let went = changes_registry before after (Called (asked.Registry call) (told.Registry reply)) (λ b a. Answers (Moves RegistryMoves registry_counts) registry_counts b call reply a × (b.worn ≡ false)) kinds
+pub registry_called : (bank : List (Gateway Gated)) (before after : GatedPass) (call : RegistryCall) (r : GatedReply) (reply : RegistryReply) → AreByKind (gates_of before.seats) → gates_of before.seats ≡ bank → gates_of after.seats ≡ bank → AddsToOrder 0 before after → r ≡ told.Registry reply → ChangesAt 0 before.seats after.seats (Called (asked.Registry call) r) → RegistryAnswers (seats_seen before) call reply (seats_seen after)
+registry_called bank before after call r reply kinds one two adds is c =
+    let mine = subst (λ x. ChangesAt 0 before.seats after.seats (Called (asked.Registry call) x)) is c in
+    let went = changes_registry (seats_seen before).member (seats_seen after).member before.seats after.seats (Called (asked.Registry call) (told.Registry reply)) (λ b a. Answers (Moves RegistryMoves registry_counts) registry_counts b call reply a × (b.worn ≡ false)) kinds
     (λ b a at kind how. (answers_as as_registry IsRegistry (Moves GatedMoves gated_counts) gated_counts (Moves RegistryMoves registry_counts) registry_counts keeps_registry b (asked.Registry call) (told.Registry reply) a kind how.0, how.1)) mine in
     registry_answers (seats_seen before) call reply (seats_seen after) went.0.0 went.0.1 went.1 went.2
+    (subst (λ gs. MakesTurn (member_of (gates_of before.seats) before) (AtRegistry (registry_call call) (registry_reply reply)) (member_of gs after)) (one ∙ sym two) (registry_made before after call reply adds mine))
 
-pub registry_worn : (before after : List Mark) (call : RegistryCall) → AreByKind (gates_of before) → ChangesAt 0 before after (λ b a. a ≡ marked b) → FindsWorn (seats_seen before) (OfRegistry (registry_call call)) (seats_seen after)
-registry_worn before after call kinds c = changes_registry before after (λ b a. a ≡ marked b) (λ b a. a ≡ marked b) kinds (λ b a at kind how. ap (seat_as as_registry) how) c
+pub registry_worn : (bank : List (Gateway Gated)) (before after : GatedPass) (call : RegistryCall) → AreByKind (gates_of before.seats) → gates_of before.seats ≡ bank → gates_of after.seats ≡ bank → GoesOn before after → ChangesAt 0 before.seats after.seats (λ b a. a ≡ marked b) → FindsWorn (seats_seen before) (OfRegistry (registry_call call)) (seats_seen after)
+registry_worn bank before after call kinds one two goes c =
+    let went = changes_registry (seats_seen before).member (seats_seen after).member before.seats after.seats (λ b a. a ≡ marked b) (λ b a. a ≡ marked b) kinds (λ b a at kind how. ap (seat_as as_registry) how) c in
+    (went.0, went.1, went.2, sees_more bank before after one two goes)
 
 -- ---- the pool
 
@@ -84,12 +112,15 @@ pool_call_there call c is = subst IsPoolCall (sym is) tt
 pub pool_call_back : (call back : PoolCall) (c : GatedCall) → c ≡ asked.Pool call → c ≡ asked.Pool back → back ≡ call
 pool_call_back call back c one two = ap pool_call_in (sym two ∙ one)
 
-pub pool_called : (before after : List Mark) (call : PoolCall) (r : GatedReply) (reply : PoolReply) → AreByKind (gates_of before) → r ≡ told.Pool reply → ChangesAt 1 before after (Called (asked.Pool call) r) → PoolAnswers (seats_seen before) call reply (seats_seen after)
-pool_called before after call r reply kinds is c =
-    let mine = subst (λ x. ChangesAt 1 before after (Called (asked.Pool call) x)) is c in
-    let went = changes_pool before after (Called (asked.Pool call) (told.Pool reply)) (λ b a. Answers (Moves PoolMoves pool_counts) pool_counts b call reply a × (b.worn ≡ false)) kinds
+pub pool_called : (bank : List (Gateway Gated)) (before after : GatedPass) (call : PoolCall) (r : GatedReply) (reply : PoolReply) → AreByKind (gates_of before.seats) → gates_of before.seats ≡ bank → gates_of after.seats ≡ bank → AddsToOrder 1 before after → r ≡ told.Pool reply → ChangesAt 1 before.seats after.seats (Called (asked.Pool call) r) → PoolAnswers (seats_seen before) call reply (seats_seen after)
+pool_called bank before after call r reply kinds one two adds is c =
+    let mine = subst (λ x. ChangesAt 1 before.seats after.seats (Called (asked.Pool call) x)) is c in
+    let went = changes_pool (seats_seen before).member (seats_seen after).member before.seats after.seats (Called (asked.Pool call) (told.Pool reply)) (λ b a. Answers (Moves PoolMoves pool_counts) pool_counts b call reply a × (b.worn ≡ false)) kinds
     (λ b a at kind how. (answers_as as_pool IsPool (Moves GatedMoves gated_counts) gated_counts (Moves PoolMoves pool_counts) pool_counts keeps_pool b (asked.Pool call) (told.Pool reply) a kind how.0, how.1)) mine in
     pool_answers (seats_seen before) call reply (seats_seen after) went.0.0 went.0.1 went.1 went.2
+    (subst (λ gs. MakesTurn (member_of (gates_of before.seats) before) (AtPool (pool_call call) (pool_reply reply)) (member_of gs after)) (one ∙ sym two) (pool_made before after call reply adds mine))
 
-pub pool_worn : (before after : List Mark) (call : PoolCall) → AreByKind (gates_of before) → ChangesAt 1 before after (λ b a. a ≡ marked b) → FindsWorn (seats_seen before) (OfPool (pool_call call)) (seats_seen after)
-pool_worn before after call kinds c = changes_pool before after (λ b a. a ≡ marked b) (λ b a. a ≡ marked b) kinds (λ b a at kind how. ap (seat_as as_pool) how) c
+pub pool_worn : (bank : List (Gateway Gated)) (before after : GatedPass) (call : PoolCall) → AreByKind (gates_of before.seats) → gates_of before.seats ≡ bank → gates_of after.seats ≡ bank → GoesOn before after → ChangesAt 1 before.seats after.seats (λ b a. a ≡ marked b) → FindsWorn (seats_seen before) (OfPool (pool_call call)) (seats_seen after)
+pool_worn bank before after call kinds one two goes c =
+    let went = changes_pool (seats_seen before).member (seats_seen after).member before.seats after.seats (λ b a. a ≡ marked b) (λ b a. a ≡ marked b) kinds (λ b a at kind how. ap (seat_as as_pool) how) c in
+    (went.0, went.1, went.2, sees_more bank before after one two goes)

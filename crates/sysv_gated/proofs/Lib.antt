@@ -13,3 +13,4 @@ pub mod Obeying
 pub mod Ordered
 pub mod OrderedTurns
 pub mod OrderedHistories
+pub mod Parting

@@ -25,7 +25,8 @@ use Rattle.sysv_gated.specs.declared.kinds.Gated.{Gated}
 use Rattle.sysv_gated.specs.declared.kinds.GatedCall.{GatedCall}
 use Rattle.sysv_gated.specs.declared.kinds.GatedReply.{GatedReply}
 use Rattle.sysv_gated.specs.Gated.{GatedMoves, gated_counts}
-use Rattle.sysv_gated.specs.Ordered.{GatedPlaced, GatedPass, object_at, deed_at, deeds_after, deeds_of, member_of, deed_added, IsLegalOrder}
+use Rattle.sysv_gated.specs.Order.{GatedPlaced, GatedPass, object_at, deed_at, deeds_after, deeds_of, member_of}
+use Rattle.sysv_gated.specs.Ordered.{deed_added, IsLegalOrder}
 
 -- ---- numbers
 

@@ -23,12 +23,15 @@ use Rattle.sysv_pool.specs.StandsFor.{StandsFor as PoolStandsFor}
 use Rattle.sysv_pool.specs.LegalReply.{IsLegalHistory as IsLegalPoolHistory}
 use Rattle.sysv_objects.specs.LegalDeed.{AreLegal}
 use Rattle.sysv_gate.specs.declared.view.Turn.{Turn}
+use Rattle.sysv_gate.specs.declared.closing.Closing.{Closing}
 use Rattle.sysv_gate.specs.declared.view.Placed.{Placed}
 use Rattle.sysv_gate.specs.History.{Moves, IsLegal, after_all}
 use Rattle.sysv_gate.specs.Gates.{Gateway}
 use Rattle.sysv_gate.specs.Orders.{turns_at, AreBelow}
 use Rattle.sysv_gate.proofs.Ordering.{turns_append, turns_here, turns_else, turns_none}
 use Rattle.sysv_gate.proofs.Histories.{after_all-snoc}
+use Rattle.sysv_bank.specs.Banks.{gates_of}
+use Rattle.sysv_bank.specs.Closing.{ClosesInOrder}
 use Rattle.sysv_gated.specs.declared.kinds.Gated.{Gated}
 use Rattle.sysv_gated.specs.declared.kinds.GatedCall.{GatedCall}
 use Rattle.sysv_gated.specs.declared.kinds.GatedReply.{GatedReply}
@@ -39,13 +42,16 @@ use Rattle.sysv_gated.specs.Kinds.{Kind, turn_as, gate_as}
 use Rattle.sysv_gated.specs.Gated.{IsSlot, IsRegistry, IsPool, slot_in, registry_in, pool_in, as_slot, as_registry, as_pool, GatedMoves, gated_counts}
 use Rattle.sysv_gated.specs.Seats.{entries, slot_entry, registry_entry, pool_entry}
 use Rattle.sysv_gated.specs.Opened.{AreOpen}
-use Rattle.sysv_gated.specs.Banked.{AreSlots, AreByKind, gates_seen}
-use Rattle.sysv_gated.specs.Ordered.{GatedTurn, GatedPlaced, opening_at, object_at, deed_at, deeds_after, deeds_of, IsLegalOrder, OrdersAreOfCrews}
+use Rattle.sysv_gated.specs.Banked.{AreSlots, AreByKind, gates_seen, seats_seen}
+use Rattle.sysv_gated.specs.Sharing.{LegalIfOpen}
+use Rattle.sysv_gated.specs.Order.{GatedTurn, GatedPlaced, GatedPass, opening_at, object_at, deed_at, deeds_after, deeds_of}
+use Rattle.sysv_gated.specs.Ordered.{IsLegalOrder, OrdersAreOfCrews}
 use Rattle.sysv_gated.proofs.Seeing.{legal_as}
 use Rattle.sysv_gated.proofs.Keeping.{keeps_slot, keeps_registry, keeps_pool}
 use Rattle.sysv_gated.proofs.Histories.{slot_on, registry_on, pool_on, pool_sized}
 use Rattle.sysv_gated.proofs.Ordered.{opens, sees, makes, splits, joins, closes, ends}
 use Rattle.sysv_gated.proofs.OrderedTurns.{answered}
+use Rattle.sysv_gated.proofs.Placing.{gates_known}
 
 same_place : (n k : ℕ) → n ≡ k → (n == k) ≡ true
 same_place n k e = grind (arith, nat_tests)
@@ -209,6 +215,11 @@ legal generation blocks first (r ∷ p ∷ ss) order kinds fresh l =
           subst (IsLegalPoolHistory blocks) (sym (pool_history_of gates order))
           (pool_legal blocks p.opening (turns_at (suc zero) order) kinds.1 fresh.pool.0 fresh.pool.1 (l.each (suc zero) p refl));
     }
+
+pub order_legal : (last : GatedPass) (closings : List (Closing Gated)) → AreByKind (gates_of last.seats) → length closings ≡ length last.seats → (c : ClosesInOrder (Moves GatedMoves gated_counts) last closings) →
+    LegalIfOpen (seats_seen last) (deeds_of (gates_of last.seats) c.order)
+order_legal last closings kinds many c generation blocks first gates fresh fit =
+    legal generation blocks first (gates_of last.seats) c.order kinds (subst (AreOpen generation blocks first) (sym (gates_known last gates fit)) fresh) (ends last closings many c)
 
 pub orders_are_of_crews : OrdersAreOfCrews
 orders_are_of_crews = record { opens = opens; sees = sees; makes = makes; answered = answered; splits = splits; joins = joins; closes = closes; ends = ends; legal = legal }

@@ -27,7 +27,8 @@ use Rattle.sysv_gated.specs.SlotTurns.{slot_call, slot_reply}
 use Rattle.sysv_gated.specs.RegistryTurns.{registry_call, registry_reply}
 use Rattle.sysv_gated.specs.PoolTurns.{pool_call, pool_reply}
 use Rattle.sysv_gated.specs.Gated.{slot_in}
-use Rattle.sysv_gated.specs.Ordered.{GatedTurn, GatedPlaced, GatedPass, opening_at, deed_at, member_of, deed_added, AnswersAt, deed_answered}
+use Rattle.sysv_gated.specs.Order.{GatedTurn, GatedPlaced, GatedPass, opening_at, deed_at, member_of}
+use Rattle.sysv_gated.specs.Ordered.{deed_added, AnswersAt, deed_answered}
 use Rattle.sysv_gated.proofs.Ordered.{makes}
 
 opening_of : (seats : List (Holding Gated GatedCall GatedReply)) (place : ℕ) (h : Holding Gated GatedCall GatedReply) → get_elem? seats place ≡ some h → opening_at (gates_of seats) place ≡ h.gate.opening
@@ -55,7 +56,7 @@ two_more n = omega arith
 
 -- ---- a turn at each object, as the calls say it
 
-abbrev object_was : (place : ℕ) (before : GatedPass) (call : GatedCall) (reply : GatedReply) (after : GatedPass) → AnswersAt place before call reply after → Gated
+abbrev pub object_was : (place : ℕ) (before : GatedPass) (call : GatedCall) (reply : GatedReply) (after : GatedPass) → AnswersAt place before call reply after → Gated
 object_was place before call reply after c = after_all c.was.gate.opening (c.was.seen ++ c.change.0.others)
 
 pub slot_made : (slot : ℕ) (before after : GatedPass) (call : SlotCall) (reply : SlotReply) → AddsToOrder (slot + 2) before after → (c : AnswersAt (slot + 2) before (asked.Slot call) (told.Slot reply) after) →

@@ -4,9 +4,11 @@ use mathlib.Core.Option.{some, some-injective, some-ne-none}
 use lib.ListN.{get_elem?}
 use Rattle.atomic_table.specs.Seated.{TableId}
 use Rattle.atomic_table.proofs.Lists.{at_map}
+use Rattle.sysv_crew.specs.Members.{Member, SeesMore}
 use Rattle.sysv_gate.specs.History.{Moves}
 use Rattle.sysv_gate.specs.Gates.{Gateway, Holding}
 use Rattle.sysv_bank.specs.Banks.{gates_of, ChangesAt, AcceptsAt}
+use Rattle.sysv_bank.specs.Passes.{GoesOn}
 use Rattle.sysv_gated.specs.declared.kinds.Gated.{Gated}
 use Rattle.sysv_gated.specs.declared.kinds.Gated.TheVariants as gated
 use Rattle.sysv_gated.specs.declared.kinds.GatedCall.{GatedCall}
@@ -27,8 +29,10 @@ use Rattle.sysv_gated.specs.PoolTurns.{pool_counts, PoolMoves}
 use Rattle.sysv_gated.specs.Kinds.{gate_as, seat_as}
 use Rattle.sysv_gated.specs.Gated.{IsSlot, IsRegistry, IsPool, slot_in, registry_in, pool_in, as_slot, as_registry, as_pool, Accepts, GatedMoves, gated_counts}
 use Rattle.sysv_gated.specs.Seats.{Gates, Seats, AreOf}
-use Rattle.sysv_gated.specs.Banked.{AreSlots, AreByKind, gates_seen, seats_seen}
+use Rattle.sysv_gated.specs.Banked.{AreSlots, AreByKind, gates_seen, seats_at, seats_seen}
+use Rattle.sysv_gated.specs.Order.{GatedPass, member_of}
 use Rattle.sysv_gated.proofs.Seeing.{is_after}
+use Rattle.sysv_gated.proofs.Ordered.{sees}
 use Rattle.sysv_gated.proofs.Keeping.{keeps_slot, keeps_registry, keeps_pool}
 
 abbrev pub Mark : Type 0
@@ -95,10 +99,10 @@ gates_map : (ss : List Mark) → gates_of (map (seat_as as_slot) ss) ≡ map (ga
 gates_map [] = refl
 gates_map (s ∷ ss) = ap (λ gs. gate_as as_slot s.gate ∷ gs) (gates_map ss)
 
-of_its_own : (seats : List Mark) → AreOf (gates_seen (gates_of seats)) (seats_seen seats)
-of_its_own [] = record { slots = refl; registry = refl; pool = refl }
-of_its_own (r ∷ []) = record { slots = refl; registry = refl; pool = refl }
-of_its_own (r ∷ p ∷ ss) = record { slots = gates_map ss; registry = refl; pool = refl }
+of_its_own : (seats : List Mark) (m : Member) → AreOf (gates_seen (gates_of seats)) (seats_at seats m)
+of_its_own [] m = record { slots = refl; registry = refl; pool = refl }
+of_its_own (r ∷ []) m = record { slots = refl; registry = refl; pool = refl }
+of_its_own (r ∷ p ∷ ss) m = record { slots = gates_map ss; registry = refl; pool = refl }
 
 same_gates : (a b : Gates) → a.slots ≡ b.slots → a.registry ≡ b.registry → a.pool ≡ b.pool → a ≡ b
 same_gates a b s r p =
@@ -106,15 +110,25 @@ same_gates a b s r p =
     ap (λ x. at x a.registry a.pool) s ∙ (ap (λ x. at b.slots x a.pool) r ∙ ap (λ x. at b.slots b.registry x) p)
 
 -- seats that are seen as of the gates are of the bank, and the other way round
-pub are_of : (bank : List (Gateway Gated)) (seats : List Mark) (gates : Gates) (seen : Seats) → gates_seen bank ≡ gates → seats_seen seats ≡ seen → gates_of seats ≡ bank → AreOf gates seen
-are_of bank seats gates seen viewed shown fit =
-    subst (λ g. AreOf g seen) viewed (subst (λ s. AreOf (gates_seen bank) s) shown (subst (λ b. AreOf (gates_seen b) (seats_seen seats)) fit (of_its_own seats)))
+pub are_of : (bank : List (Gateway Gated)) (pass : GatedPass) (gates : Gates) (seen : Seats) → gates_seen bank ≡ gates → seats_seen pass ≡ seen → gates_of pass.seats ≡ bank → AreOf gates seen
+are_of bank pass gates seen viewed shown fit =
+    subst (λ g. AreOf g seen) viewed (subst (λ s. AreOf (gates_seen bank) s) shown (subst (λ b. AreOf (gates_seen b) (seats_seen pass)) fit (of_its_own pass.seats (member_of (gates_of pass.seats) pass))))
 
-pub of_bank : (bank : List (Gateway Gated)) (seats : List Mark) (gates : Gates) (seen : Seats) → AreByKind bank → AreByKind (gates_of seats) → gates_seen bank ≡ gates → seats_seen seats ≡ seen → AreOf gates seen → gates_of seats ≡ bank
-of_bank bank seats gates seen kinds own viewed shown fit =
-    let theirs : AreOf (gates_seen bank) (seats_seen seats) = subst (λ g. AreOf g (seats_seen seats)) (sym viewed) (subst (λ s. AreOf gates s) (sym shown) fit) in
-    let mine = of_its_own seats in
-    gates_back (gates_of seats) bank own kinds (same_gates (gates_seen (gates_of seats)) (gates_seen bank) (sym mine.slots ∙ theirs.slots) (sym mine.registry ∙ theirs.registry) (sym mine.pool ∙ theirs.pool))
+-- what the seats are of is what is seen of their gates
+pub gates_known : (pass : GatedPass) (gates : Gates) → AreOf gates (seats_seen pass) → gates_seen (gates_of pass.seats) ≡ gates
+gates_known pass gates fit =
+    let mine = of_its_own pass.seats (member_of (gates_of pass.seats) pass) in
+    same_gates (gates_seen (gates_of pass.seats)) gates (sym mine.slots ∙ fit.slots) (sym mine.registry ∙ fit.registry) (sym mine.pool ∙ fit.pool)
+
+pub of_bank : (bank : List (Gateway Gated)) (pass : GatedPass) (gates : Gates) (seen : Seats) → AreByKind bank → AreByKind (gates_of pass.seats) → gates_seen bank ≡ gates → seats_seen pass ≡ seen → AreOf gates seen → gates_of pass.seats ≡ bank
+of_bank bank pass gates seen kinds own viewed shown fit =
+    let theirs : AreOf (gates_seen bank) (seats_seen pass) = subst (λ g. AreOf g (seats_seen pass)) (sym viewed) (subst (λ s. AreOf gates s) (sym shown) fit) in
+    gates_back (gates_of pass.seats) bank own kinds (gates_known pass (gates_seen bank) theirs)
+
+-- the order that was seen goes on
+pub sees_more : (bank : List (Gateway Gated)) (before after : GatedPass) → gates_of before.seats ≡ bank → gates_of after.seats ≡ bank → GoesOn before after → SeesMore (seats_seen before).member (seats_seen after).member
+sees_more bank before after one two goes =
+    subst (λ gs. SeesMore (member_of (gates_of before.seats) before) (member_of gs after)) (one ∙ sym two) (sees (gates_of before.seats) before after goes)
 
 -- ---- what is at a place
 
@@ -157,12 +171,12 @@ map_set f [] i x = refl
 map_set f (y ∷ ys) zero x = refl
 map_set f (y ∷ ys) (suc i) x = ap (λ l. f y ∷ l) (map_set f ys i x)
 
-pub changes_slot : (slot : ℕ) (before after : List Mark) (how : Mark → Mark → Type 0) (how' : Holding Slot SlotCall SlotReply → Holding Slot SlotCall SlotReply → Type 0) → AreByKind (gates_of before)
+pub changes_slot : (m m' : Member) (slot : ℕ) (before after : List Mark) (how : Mark → Mark → Type 0) (how' : Holding Slot SlotCall SlotReply → Holding Slot SlotCall SlotReply → Type 0) → AreByKind (gates_of before)
     → ((b a : Mark) → get_elem? before (slot + 2) ≡ some b → IsSlot b.gate.opening → how b a → how' (seat_as as_slot b) (seat_as as_slot a)) → ChangesAt (slot + 2) before after how
-    → ChangesAt slot (seats_seen before).slots (seats_seen after).slots how' × ((seats_seen after).registry ≡ (seats_seen before).registry) × ((seats_seen after).pool ≡ (seats_seen before).pool)
-changes_slot slot [] after how how' kinds goes c = absurd kinds
-changes_slot slot (r ∷ []) after how how' kinds goes c = absurd kinds
-changes_slot slot (r ∷ p ∷ ss) after how how' kinds goes c =
+    → ChangesAt slot (seats_at before m).slots (seats_at after m').slots how' × ((seats_at after m').registry ≡ (seats_at before m).registry) × ((seats_at after m').pool ≡ (seats_at before m).pool)
+changes_slot m m' slot [] after how how' kinds goes c = absurd kinds
+changes_slot m m' slot (r ∷ []) after how how' kinds goes c = absurd kinds
+changes_slot m m' slot (r ∷ p ∷ ss) after how how' kinds goes c =
     let now : after ≡ r ∷ p ∷ set ss slot c.is = c.others ∙ ap (λ n. set (r ∷ p ∷ ss) n c.is) (two_more slot) in
     let at : get_elem? ss slot ≡ some c.was = ap (get_elem? (r ∷ p ∷ ss)) (sym (two_more slot)) ∙ c.at in
     let is = slot_there (gates_of (r ∷ p ∷ ss)) slot c.was.gate kinds (at_map (λ (h : Mark). h.gate) (r ∷ p ∷ ss) (slot + 2) c.was c.at) in (
@@ -170,37 +184,37 @@ changes_slot slot (r ∷ p ∷ ss) after how how' kinds goes c =
         was = seat_as as_slot c.was;
         is = seat_as as_slot c.is;
         at = at_map (seat_as as_slot) ss slot c.was at;
-        others = ap (λ l. (seats_seen l).slots) now ∙ map_set (seat_as as_slot) ss slot c.is;
+        others = ap (λ l. (seats_at l m').slots) now ∙ map_set (seat_as as_slot) ss slot c.is;
         change = goes c.was c.is c.at is c.change;
       },
-      ap (λ l. (seats_seen l).registry) now,
-      ap (λ l. (seats_seen l).pool) now,
+      ap (λ l. (seats_at l m').registry) now,
+      ap (λ l. (seats_at l m').pool) now,
     )
 
-pub changes_registry : (before after : List Mark) (how : Mark → Mark → Type 0) (how' : Holding Registry RegistryCall RegistryReply → Holding Registry RegistryCall RegistryReply → Type 0) → AreByKind (gates_of before)
+pub changes_registry : (m m' : Member) (before after : List Mark) (how : Mark → Mark → Type 0) (how' : Holding Registry RegistryCall RegistryReply → Holding Registry RegistryCall RegistryReply → Type 0) → AreByKind (gates_of before)
     → ((b a : Mark) → get_elem? before 0 ≡ some b → IsRegistry b.gate.opening → how b a → how' (seat_as as_registry b) (seat_as as_registry a)) → ChangesAt 0 before after how
-    → how' (seats_seen before).registry (seats_seen after).registry × ((seats_seen after).slots ≡ (seats_seen before).slots) × ((seats_seen after).pool ≡ (seats_seen before).pool)
-changes_registry [] after how how' kinds goes c = absurd kinds
-changes_registry (r ∷ []) after how how' kinds goes c = absurd kinds
-changes_registry (r ∷ p ∷ ss) after how how' kinds goes c =
+    → how' (seats_at before m).registry (seats_at after m').registry × ((seats_at after m').slots ≡ (seats_at before m).slots) × ((seats_at after m').pool ≡ (seats_at before m).pool)
+changes_registry m m' [] after how how' kinds goes c = absurd kinds
+changes_registry m m' (r ∷ []) after how how' kinds goes c = absurd kinds
+changes_registry m m' (r ∷ p ∷ ss) after how how' kinds goes c =
     let now : after ≡ c.is ∷ p ∷ ss = c.others in
     let was : c.was ≡ r = sym (some-injective r c.was c.at) in
     let change = goes r c.is refl kinds.0 (subst (λ (h : Mark). how h c.is) was c.change) in (
-      subst (λ l. how' (seat_as as_registry r) (seats_seen l).registry) (sym now) change,
-      ap (λ l. (seats_seen l).slots) now,
-      ap (λ l. (seats_seen l).pool) now,
+      subst (λ l. how' (seat_as as_registry r) (seats_at l m').registry) (sym now) change,
+      ap (λ l. (seats_at l m').slots) now,
+      ap (λ l. (seats_at l m').pool) now,
     )
 
-pub changes_pool : (before after : List Mark) (how : Mark → Mark → Type 0) (how' : Holding State PoolCall PoolReply → Holding State PoolCall PoolReply → Type 0) → AreByKind (gates_of before)
+pub changes_pool : (m m' : Member) (before after : List Mark) (how : Mark → Mark → Type 0) (how' : Holding State PoolCall PoolReply → Holding State PoolCall PoolReply → Type 0) → AreByKind (gates_of before)
     → ((b a : Mark) → get_elem? before 1 ≡ some b → IsPool b.gate.opening → how b a → how' (seat_as as_pool b) (seat_as as_pool a)) → ChangesAt 1 before after how
-    → how' (seats_seen before).pool (seats_seen after).pool × ((seats_seen after).slots ≡ (seats_seen before).slots) × ((seats_seen after).registry ≡ (seats_seen before).registry)
-changes_pool [] after how how' kinds goes c = absurd kinds
-changes_pool (r ∷ []) after how how' kinds goes c = absurd kinds
-changes_pool (r ∷ p ∷ ss) after how how' kinds goes c =
+    → how' (seats_at before m).pool (seats_at after m').pool × ((seats_at after m').slots ≡ (seats_at before m).slots) × ((seats_at after m').registry ≡ (seats_at before m).registry)
+changes_pool m m' [] after how how' kinds goes c = absurd kinds
+changes_pool m m' (r ∷ []) after how how' kinds goes c = absurd kinds
+changes_pool m m' (r ∷ p ∷ ss) after how how' kinds goes c =
     let now : after ≡ r ∷ c.is ∷ ss = c.others in
     let was : c.was ≡ p = sym (some-injective p c.was c.at) in
     let change = goes p c.is refl kinds.1 (subst (λ (h : Mark). how h c.is) was c.change) in (
-      subst (λ l. how' (seat_as as_pool p) (seats_seen l).pool) (sym now) change,
-      ap (λ l. (seats_seen l).slots) now,
-      ap (λ l. (seats_seen l).registry) now,
+      subst (λ l. how' (seat_as as_pool p) (seats_at l m').pool) (sym now) change,
+      ap (λ l. (seats_at l m').slots) now,
+      ap (λ l. (seats_at l m').registry) now,
     )

@@ -1,5 +1,5 @@
 -- What is so of a gate whose objects stay of one kind is so of it as one of that kind.
-use Rattle.std.proofs.Common.{◌≡◌, ℕ, zero, suc, ◌+◌, ◌≤◌, Option, Some, None, IfSome, IfNone, List, [], ◌∷◌, ◌++◌, map, length, sum_by, ap, sym, subst, refl, ◌∙◌}
+use Rattle.std.proofs.Common.{◌≡◌, ℕ, zero, suc, ◌+◌, ◌≤◌, true, false, Bool, Option, Some, None, IfSome, IfNone, List, [], ◌∷◌, ◌++◌, map, length, sum_by, ap, sym, subst, refl, ◌∙◌}
 use Rattle.std.specs.Prelude.{option_map}
 use Rattle.std.proofs.lemmas.List.{map-append, length-map}
 use Rattle.std.proofs.lemmas.List.Sums.{sum_by-cons}
@@ -131,6 +131,12 @@ module _ {O C R O' C' R' : Type 0} (kind : Kind O C R O' C' R') (Is : O → Type
         counts = λ count. subst (λ k. of_count count before.read ≤ of_count count k) counts (a.counts count);
       }
 
+  -- with the turns of others that came before
+  pub others_as : (before : Holding O C R) (call : C) (reply : R) (after : Holding O C R) (is : Is before.gate.opening) (a : Answers moves counted before call reply after) →
+      (answers_as before call reply after is a).others ≡ map (turn_as kind) a.others
+  unfolding answers_as
+  others_as before call reply after is a = refl
+
   pub joins_as : (one two after : Holding O C R) → Is one.gate.opening → Joins moves one two after → Joins moves' (seat_as kind one) (seat_as kind two) (seat_as kind after)
   joins_as one two after is j = record {
     seen = map (turn_as kind) j.seen;
@@ -232,3 +238,9 @@ module _ {O C R O' C' R' : Type 0} (kind : Kind O C R O' C' R') (Is : O → Type
         let a = k.alone yes in
         (ap (map (turn_as kind)) a.0, same.object ∙ ap (option_map kind.object) a.1 ∙ ap (λ o. Some o) (after_as kind seat.gate.opening seat.seen));
   }
+
+  -- with the turns as those of the kind
+  pub log_as : (seat : Holding O C R) (c : Closing O) (c' : Closing O') (is : Is seat.gate.opening) (same : IsClosingAs kind c c') (k : Closes moves seat c) →
+      (closes_as seat c c' is same k).log ≡ map (turn_as kind) k.log
+  unfolding closes_as
+  log_as seat c c' is same k = refl

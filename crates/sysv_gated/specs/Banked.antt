@@ -1,13 +1,16 @@
 -- How the places of a bank are seen as those of the registry, of the pool and of the slots (this profile's).
 use Rattle.std.specs.Prelude.{List, [], ◌∷◌, map}
 use Rattle.atomic_table.specs.Seated.{TableId}
+use Rattle.sysv_crew.specs.Members.{Member}
+use Rattle.sysv_bank.specs.Banks.{gates_of}
 use Rattle.sysv_gate.specs.Gates.{Gateway, Holding, opened}
 use Rattle.sysv_gated.specs.declared.kinds.Gated.{Gated}
 use Rattle.sysv_gated.specs.declared.kinds.GatedCall.{GatedCall}
 use Rattle.sysv_gated.specs.declared.kinds.GatedReply.{GatedReply}
+use Rattle.sysv_gated.specs.Order.{GatedPass, member_of}
 use Rattle.sysv_gated.specs.Kinds.{gate_as, seat_as}
 use Rattle.sysv_gated.specs.Gated.{IsSlot, IsRegistry, IsPool, as_slot, as_registry, as_pool}
-use Rattle.sysv_gated.specs.Seats.{Gates, Seats}
+use Rattle.sysv_gated.specs.Seats.{SlotSeat, RegistrySeat, PoolSeat, Gates, Seats}
 
 abbrev pub AreSlots : List (Gateway Gated) → Type 0
 AreSlots [] = Unit {0}
@@ -30,15 +33,29 @@ no_gates = record {
   pool = record { table = no_table; opening = record { size = 0; free = 0; released = 0 }; first = 0 };
 }
 
-abbrev pub no_seats : Seats
-no_seats = record { slots = []; registry = opened no_gates.registry; pool = opened no_gates.pool }
+abbrev pub slot_seats : List (Holding Gated GatedCall GatedReply) → List SlotSeat
+slot_seats [] = []
+slot_seats (r ∷ []) = []
+slot_seats (r ∷ p ∷ ss) = map (seat_as as_slot) ss
+
+abbrev pub registry_seat : List (Holding Gated GatedCall GatedReply) → RegistrySeat
+registry_seat [] = opened no_gates.registry
+registry_seat (r ∷ []) = opened no_gates.registry
+registry_seat (r ∷ p ∷ ss) = seat_as as_registry r
+
+abbrev pub pool_seat : List (Holding Gated GatedCall GatedReply) → PoolSeat
+pool_seat [] = opened no_gates.pool
+pool_seat (r ∷ []) = opened no_gates.pool
+pool_seat (r ∷ p ∷ ss) = seat_as as_pool p
+
+abbrev pub seats_at : List (Holding Gated GatedCall GatedReply) → Member → Seats
+seats_at seats member = record { slots = slot_seats seats; registry = registry_seat seats; pool = pool_seat seats; member = member }
 
 abbrev pub gates_seen : List (Gateway Gated) → Gates
 gates_seen [] = no_gates
 gates_seen (r ∷ []) = no_gates
 gates_seen (r ∷ p ∷ ss) = record { slots = map (gate_as as_slot) ss; registry = gate_as as_registry r; pool = gate_as as_pool p }
 
-abbrev pub seats_seen : List (Holding Gated GatedCall GatedReply) → Seats
-seats_seen [] = no_seats
-seats_seen (r ∷ []) = no_seats
-seats_seen (r ∷ p ∷ ss) = record { slots = map (seat_as as_slot) ss; registry = seat_as as_registry r; pool = seat_as as_pool p }
+-- what a pass of the bank is seen as
+abbrev pub seats_seen : GatedPass → Seats
+seats_seen pass = seats_at pass.seats (member_of (gates_of pass.seats) pass)

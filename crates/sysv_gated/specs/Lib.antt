@@ -10,6 +10,7 @@ pub mod RegistryTurns
 pub mod PoolTurns
 pub mod Kinds
 pub mod Gated
+pub mod Order
 pub mod Seats
 pub mod Banked
 pub mod Answered

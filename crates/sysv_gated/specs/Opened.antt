@@ -1,6 +1,7 @@
 -- What gates are when they are opened, and their first seats (this profile's).
 use Rattle.std.specs.Prelude.{◌≡◌, ℕ, List, [], length, map}
 use Rattle.std.specs.List.{All}
+use Rattle.sysv_crew.specs.Members.{first_with}
 use Rattle.sysv_keys.specs.declared.identifier.TheConstants.{SLOTS}
 use Rattle.sysv_keys.specs.StandsFor.{StandsFor as RegistryStandsFor}
 use Rattle.sysv_pool.specs.StandsFor.{StandsFor as PoolStandsFor}
@@ -23,4 +24,4 @@ pub record AreOpen (generation blocks first : ℕ) (gates : Gates) : Type 0 wher
 
 -- the first seats
 abbrev pub all_opened : Gates → Seats
-all_opened gates = record { slots = map opened gates.slots; registry = opened gates.registry; pool = opened gates.pool }
+all_opened gates = record { slots = map opened gates.slots; registry = opened gates.registry; pool = opened gates.pool; member = first_with 0 }

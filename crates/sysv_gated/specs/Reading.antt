@@ -1,5 +1,6 @@
 -- What a seat reads of the counts of the objects (this profile's; Reed and Kanodia's read and await of an eventcount).
 use Rattle.std.specs.Prelude.{◌≡◌, ℕ, ◌<◌, ◌≤◌, Option, Some, None}
+use Rattle.sysv_crew.specs.Members.{SeesMore}
 use Rattle.sysv_steps.specs.Resume.{Count, ArrivedOf, FreedOf, Settled, Released}
 use Rattle.sysv_gate.specs.Gates.{Holding, marked, read_to, Learns}
 use Rattle.sysv_gate.specs.declared.count.Count.{Count as OfObject}
@@ -19,13 +20,13 @@ Finds counted count value before after = (after ≡ read_to count value before) 
 -- the seat at the object that has the count found this value, and nothing else was done at any object
 abbrev pub Reads : Count → ℕ → Seats → Seats → Type 0
 Reads (ArrivedOf slot) value before after =
-    ChangesAt slot before.slots after.slots (Finds slot_counts Arrived value) × (after.registry ≡ before.registry) × (after.pool ≡ before.pool)
+    ChangesAt slot before.slots after.slots (Finds slot_counts Arrived value) × (after.registry ≡ before.registry) × (after.pool ≡ before.pool) × SeesMore before.member after.member
 Reads (FreedOf slot) value before after =
-    ChangesAt slot before.slots after.slots (Finds slot_counts Freed value) × (after.registry ≡ before.registry) × (after.pool ≡ before.pool)
+    ChangesAt slot before.slots after.slots (Finds slot_counts Freed value) × (after.registry ≡ before.registry) × (after.pool ≡ before.pool) × SeesMore before.member after.member
 Reads Settled value before after =
-    Finds registry_counts Arrived value before.registry after.registry × (after.slots ≡ before.slots) × (after.pool ≡ before.pool)
+    Finds registry_counts Arrived value before.registry after.registry × (after.slots ≡ before.slots) × (after.pool ≡ before.pool) × SeesMore before.member after.member
 Reads Released value before after =
-    Finds pool_counts Arrived value before.pool after.pool × (after.slots ≡ before.slots) × (after.registry ≡ before.registry)
+    Finds pool_counts Arrived value before.pool after.pool × (after.slots ≡ before.slots) × (after.registry ≡ before.registry) × SeesMore before.member after.member
 
 -- the seat found this value, and that the gate is worn out
 abbrev pub FindsAndGivesUp : {O C R : Type 0} → (O → ℕ × ℕ) → OfObject → ℕ → Holding O C R → Holding O C R → Type 0
@@ -33,13 +34,13 @@ FindsAndGivesUp counted count value before after = Learns counted count before v
 
 abbrev pub GivesUp : Count → ℕ → Seats → Seats → Type 0
 GivesUp (ArrivedOf slot) value before after =
-    ChangesAt slot before.slots after.slots (FindsAndGivesUp slot_counts Arrived value) × (after.registry ≡ before.registry) × (after.pool ≡ before.pool)
+    ChangesAt slot before.slots after.slots (FindsAndGivesUp slot_counts Arrived value) × (after.registry ≡ before.registry) × (after.pool ≡ before.pool) × SeesMore before.member after.member
 GivesUp (FreedOf slot) value before after =
-    ChangesAt slot before.slots after.slots (FindsAndGivesUp slot_counts Freed value) × (after.registry ≡ before.registry) × (after.pool ≡ before.pool)
+    ChangesAt slot before.slots after.slots (FindsAndGivesUp slot_counts Freed value) × (after.registry ≡ before.registry) × (after.pool ≡ before.pool) × SeesMore before.member after.member
 GivesUp Settled value before after =
-    FindsAndGivesUp registry_counts Arrived value before.registry after.registry × (after.slots ≡ before.slots) × (after.pool ≡ before.pool)
+    FindsAndGivesUp registry_counts Arrived value before.registry after.registry × (after.slots ≡ before.slots) × (after.pool ≡ before.pool) × SeesMore before.member after.member
 GivesUp Released value before after =
-    FindsAndGivesUp pool_counts Arrived value before.pool after.pool × (after.slots ≡ before.slots) × (after.registry ≡ before.registry)
+    FindsAndGivesUp pool_counts Arrived value before.pool after.pool × (after.slots ≡ before.slots) × (after.registry ≡ before.registry) × SeesMore before.member after.member
 
 -- A wait for the count ends with a value that is at least the goal, or is given up at a worn gate, where the count was
 -- below the goal

@@ -5,6 +5,7 @@ use Rattle.sysv_model.specs.History.{Seat, Entry, History}
 use Rattle.sysv_model.specs.Registry.{RegistryEntry, RegistryHistory}
 use Rattle.sysv_model.specs.Pool.{PoolEntry, PoolHistory}
 use Rattle.sysv_model.specs.Turn.{Ask, OfSlot, OfRegistry, OfPool, Deed, AtSlot, AtRegistry, AtPool}
+use Rattle.sysv_crew.specs.Members.{Member, SeesMore, MakesTurn}
 use Rattle.sysv_queue.specs.Slot.{Slot}
 use Rattle.sysv_keys.specs.StandsFor.{Registry}
 use Rattle.sysv_pool.specs.State.{State}
@@ -39,11 +40,12 @@ pub record Gates : Type 0 where
   pub registry : Gateway Registry
   pub pool : Gateway State
 
--- a seat at each of them
+-- a seat at each of them, and what the seats together have seen and done, as those of one pass
 pub record Seats : Type 0 where
   pub slots : List SlotSeat
   pub registry : RegistrySeat
   pub pool : PoolSeat
+  pub member : Member
 
 -- the seats are of these gates
 pub record AreOf (gates : Gates) (seats : Seats) : Type 0 where
@@ -92,23 +94,23 @@ pub record TakesTurn {O C R E : Type 0} (moves : O → C → R → O → Type 0)
   pub fresh : before.worn ≡ false
   pub entered : entry (after_all before.gate.opening (before.seen ++ answers.others)) (record { by = before.number; call = call; reply = reply; after = answers.object }) ≡ e
 
--- the turn was made at its object, and nothing was done at any other
+-- the turn was made at its object, and nothing was done at any other. It is the last of the order that was seen
 abbrev pub MakesTurnAt : Seats → Deed → Seats → Type 0
 MakesTurnAt before (AtSlot slot call reply) after =
     ChangesAt slot before.slots after.slots (λ b a. TakesTurn SlotMoves slot_counts slot_entry (record { who = Seat b.number; call = call; reply = reply }) b a)
-    × (after.registry ≡ before.registry) × (after.pool ≡ before.pool)
+    × (after.registry ≡ before.registry) × (after.pool ≡ before.pool) × MakesTurn before.member (AtSlot slot call reply) after.member
 MakesTurnAt before (AtRegistry call reply) after =
     TakesTurn RegistryMoves registry_counts registry_entry (record { who = Seat before.registry.number; call = call; reply = reply }) before.registry after.registry
-    × (after.slots ≡ before.slots) × (after.pool ≡ before.pool)
+    × (after.slots ≡ before.slots) × (after.pool ≡ before.pool) × MakesTurn before.member (AtRegistry call reply) after.member
 MakesTurnAt before (AtPool call reply) after =
     TakesTurn PoolMoves pool_counts pool_entry (record { who = Seat before.pool.number; call = call; reply = reply }) before.pool after.pool
-    × (after.slots ≡ before.slots) × (after.registry ≡ before.registry)
+    × (after.slots ≡ before.slots) × (after.registry ≡ before.registry) × MakesTurn before.member (AtPool call reply) after.member
 
 -- the gate of the object that was to be asked was found worn out, and nothing was done at any object
 abbrev pub FindsWorn : Seats → Ask → Seats → Type 0
 FindsWorn before (OfSlot slot call) after =
-    ChangesAt slot before.slots after.slots (λ b a. a ≡ marked b) × (after.registry ≡ before.registry) × (after.pool ≡ before.pool)
+    ChangesAt slot before.slots after.slots (λ b a. a ≡ marked b) × (after.registry ≡ before.registry) × (after.pool ≡ before.pool) × SeesMore before.member after.member
 FindsWorn before (OfRegistry call) after =
-    (after.registry ≡ marked before.registry) × (after.slots ≡ before.slots) × (after.pool ≡ before.pool)
+    (after.registry ≡ marked before.registry) × (after.slots ≡ before.slots) × (after.pool ≡ before.pool) × SeesMore before.member after.member
 FindsWorn before (OfPool call) after =
-    (after.pool ≡ marked before.pool) × (after.slots ≡ before.slots) × (after.registry ≡ before.registry)
+    (after.pool ≡ marked before.pool) × (after.slots ≡ before.slots) × (after.registry ≡ before.registry) × SeesMore before.member after.member

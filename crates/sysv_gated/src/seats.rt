@@ -17,7 +17,7 @@ impl Model for Seats {
 
     ghost Value = { Seen };
 
-    ghost view = { λ s. seats_seen s.seat.seats };
+    ghost view = { λ s. seats_seen s.seat };
 
     ghost invariant = { λ s. AreByKind (gates_of s.seat.seats) };
 }

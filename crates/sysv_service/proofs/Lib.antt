@@ -9,3 +9,7 @@ pub mod Owning
 pub mod Wearing
 pub mod Answering
 pub mod Retrying
+pub mod Doing
+pub mod Living
+pub mod NoneKept
+pub mod Emptying

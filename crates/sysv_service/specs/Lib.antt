@@ -2,6 +2,8 @@ pub use Rattle.sysv_model.specs.History
 pub use Rattle.sysv_model.specs.Turn
 pub use Rattle.sysv_steps.specs.State
 pub use Rattle.sysv_steps.specs.Next
+pub use Rattle.sysv_free.specs.Order
+pub use Rattle.sysv_free.specs.Crew
 pub mod Ran
 pub mod Kinds
 pub mod Waited
@@ -14,3 +16,5 @@ pub mod OwnTurns
 pub mod RightAnswers
 pub mod Delivered
 pub mod Retried
+pub mod Life
+pub mod PoolWhole

@@ -1,14 +1,17 @@
 //! Laws over the definitions alone.
 
 ghost use Rattle.sysv_gated.specs.SeenHistories.{ObeysIfOpen};
+ghost use Rattle.sysv_service.specs.Life.{EachRunIsAtAnyMoment, EveryServiceObeys};
 ghost use Rattle.sysv_service.specs.OwnTurns.{EachPlaysItsOwn, KnowTheirOwn};
+ghost use Rattle.sysv_service.specs.PoolWhole.{EveryPoolIsWhole};
 ghost use Rattle.sysv_service.specs.RightAnswers.{EachRunAnswersRight};
 ghost use Rattle.sysv_service.specs.Ran.{no_moment};
 ghost use Rattle.sysv_service.specs.Retried.{EachRetryIsAtItsGoal};
 
 use crate::clock::Clock;
 use crate::pass::Pass;
-use sysv_gated::each_seat_obeys;
+use sysv_free::every_service_that_came_home_is_a_run;
+use sysv_gated::{each_seat_obeys, seen_histories};
 use sysv_steps::{each_answer_is_right, each_plays_apart};
 
 /// Whatever calls were made with a pass, and whether it was opened, split off or joined, each of its seats knows just the
@@ -44,3 +47,23 @@ pub fn each_plays_its_own<C: Clock>(clock: &C)
 pub fn each_retry_is_at_its_goal<C: Clock>(clock: &C)
     ensures { EachRetryIsAtItsGoal (C.may clock.now) }
 {}
+
+/// Whatever the passes of a service did, from its opening until all of them were joined into one, with which it was closed: the
+/// calls of all passes are all that made the order of turns that is found there, that order is a run of a world with them, and
+/// it obeys the headline of threads. This is so if no call found a gate worn out, whatever clock it had.
+pub fn every_service_obeys<C: Clock>(clock: &C)
+    ensures obeys { EveryServiceObeys }
+    ensures stamped { EachRunIsAtAnyMoment (C.may clock.now) }
+    ensures unstamped { EachRunIsAtAnyMoment no_moment }
+{
+    every_service_that_came_home_is_a_run();
+}
+
+/// Once all passes of a service have come home, and each of their calls is over or was left at a wait, all blocks of the pool are
+/// free after the close, if no gate is held and no call found one worn out.
+pub fn every_pool_is_whole()
+    ensures { EveryPoolIsWhole }
+{
+    seen_histories();
+    every_service_that_came_home_is_a_run();
+}

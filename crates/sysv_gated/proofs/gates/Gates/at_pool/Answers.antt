@@ -1,4 +1,4 @@
-use Rattle.std.proofs.Common.{IfOk, IfErr, ◌≡◌, refl, sym, subst}
+use Rattle.std.proofs.Common.{IfOk, IfErr, OnErr, ◌≡◌, refl, sym, subst}
 use Rattle.sysv_model.specs.Turn.{OfPool}
 use Rattle.sysv_gated.specs.PoolTurns.{pool_call}
 use Rattle.sysv_gated.specs.Seats.{FindsWorn}
@@ -10,7 +10,7 @@ use Rattle.sysv_gated.proofs.gates.Gates.at_pool.Goals.{in-Ok, in-Err}
 use Rattle.sysv_gated.proofs.gates.Gates.at_pool.Goals as goal
 
 pub call-requires-clause-seat : goal.call-requires-clause-seat
-call-requires-clause-seat g c = of_bank c.self.inside.bank c.seats.inside.seat.seats _ _ c.self.invariant.0 c.seats.invariant c.self.view_is c.seats.view_is c.requires
+call-requires-clause-seat g c = of_bank c.self.inside.bank c.seats.inside.seat _ _ c.self.invariant.0 c.seats.invariant c.self.view_is c.seats.view_is c.requires
 
 pub call-requires-clause-fits : goal.call-requires-clause-fits
 call-requires-clause-fits g c = accepts_pool c.self.inside.bank c.args.call c.self.invariant.0
@@ -19,28 +19,32 @@ pub into_pool-requires : goal.into_pool-requires
 into_pool-requires g c = pool_reply_there _ _ _ c.args.call c.in-Ok.reply c.in-Ok.ensures.ok
 
 pub returns-clause-seats : goal.returns-clause-seats
-returns-clause-seats g c = are_of c.self.inside.bank c.call.new.seat.seats _ _ c.self.view_is refl c.call.ensures.gates
+returns-clause-seats g c = are_of c.self.inside.bank c.call.new.seat _ _ c.self.view_is refl c.call.ensures.gates
 
 pub returns-clause-ok : goal.returns-clause-ok
 returns-clause-ok g c =
-    let before = c.seats.inside.seat.seats in
-    let after = c.call.new.seat.seats in
+    let before = c.seats.inside.seat in
+    let after = c.call.new.seat in
     elim c.match-call.branch [
       | in-Ok w ↦
           subst (λ b. IfOk c.match-call.result (λ r. PoolAnswers b c.args.call r (seats_seen after))) c.seats.view_is
           (subst (λ s. IfOk s (λ r. PoolAnswers (seats_seen before) c.args.call r (seats_seen after))) (sym w.result-is)
-          (pool_called before after c.args.call w.in-Ok.reply w.into_pool.result c.seats.invariant w.into_pool.ensures w.in-Ok.ensures.ok))
+          (pool_called c.self.inside.bank before after c.args.call w.in-Ok.reply w.into_pool.result c.seats.invariant
+          (of_bank c.self.inside.bank before _ _ c.self.invariant.0 c.seats.invariant c.self.view_is c.seats.view_is c.requires) c.call.ensures.gates w.in-Ok.ensures.order w.into_pool.ensures w.in-Ok.ensures.ok))
       | in-Err w ↦ subst (λ s. IfOk s (λ r. PoolAnswers c.args.seats.now c.args.call r (seats_seen after))) (sym w.result-is) tt
     ]
 
 pub returns-clause-worn : goal.returns-clause-worn
 returns-clause-worn g c =
-    let before = c.seats.inside.seat.seats in
-    let after = c.call.new.seat.seats in
+    let before = c.seats.inside.seat in
+    let after = c.call.new.seat in
     elim c.match-call.branch [
       | in-Ok w ↦ subst (λ s. IfErr s (λ e. (e.call ≡ c.args.call) × FindsWorn c.args.seats.now (OfPool (pool_call c.args.call)) (seats_seen after))) (sym w.result-is) tt
       | in-Err w ↦
           subst (λ b. IfErr c.match-call.result (λ e. (e.call ≡ c.args.call) × FindsWorn b (OfPool (pool_call c.args.call)) (seats_seen after))) c.seats.view_is
-          (subst (λ s. IfErr s (λ e. (e.call ≡ c.args.call) × FindsWorn (seats_seen before) (OfPool (pool_call c.args.call)) (seats_seen after))) (sym w.result-is)
-          (pool_call_back c.args.call w.into_pool-in-Err.result _ w.in-Err.ensures.worn.0 w.into_pool-in-Err.ensures, pool_worn before after c.args.call c.seats.invariant w.in-Err.ensures.worn.1))
+          (subst (λ s. IfErr s (λ e. (e.call ≡ c.args.call) × FindsWorn (seats_seen before) (OfPool (pool_call c.args.call)) (seats_seen after))) (sym w.result-is) (
+            pool_call_back c.args.call w.into_pool-in-Err.result _ w.in-Err.ensures.worn.0 w.into_pool-in-Err.ensures,
+            pool_worn c.self.inside.bank before after c.args.call c.seats.invariant
+                (of_bank c.self.inside.bank before _ _ c.self.invariant.0 c.seats.invariant c.self.view_is c.seats.view_is c.requires) c.call.ensures.gates w.in-Err.ensures.longer w.in-Err.ensures.worn.1,
+          ))
     ]

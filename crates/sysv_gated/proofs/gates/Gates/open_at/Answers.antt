@@ -1,6 +1,8 @@
-use Rattle.std.proofs.Common.{refl, sym, ap, subst, ◌∙◌}
-use Rattle.sysv_gated.specs.Banked.{AreByKind, seats_seen}
+use Rattle.std.proofs.Common.{rules, refl, sym, ap, subst, ◌∙◌}
+use Rattle.sysv_bank.specs.Banks.{gates_of}
+use Rattle.sysv_gated.specs.Banked.{AreByKind, seats_at}
 use Rattle.sysv_gated.proofs.Placing.{are_of}
+use Rattle.sysv_gated.proofs.Ordered.{opens}
 use Rattle.sysv_gated.proofs.Beginning.{fresh_low, fresh_many, opened_kinds, opened_open, first_seats}
 use Rattle.sysv_gated.proofs.gates.Gates.open_at.Goals as goal
 
@@ -17,8 +19,11 @@ invariant_of-result-in-Ok-open c =
     subst AreByKind (sym c.in-Ok-open.ensures.fits.0) (opened_kinds c.args.generation c.args.blocks c.args.first c.in-Some.objects.items c.in-Ok-open.bank c.in-Some.ensures c.in-Ok-open.ensures.ok.0)
 
 pub returns-in-Ok-open-clause-open : goal.returns-in-Ok-open-clause-open
-returns-in-Ok-open-clause-open c =
-    (opened_open c.args.generation c.args.blocks c.args.first c.in-Some.objects.items c.in-Ok-open.bank c.in-Some.ensures c.in-Ok-open.ensures.ok.0, ap seats_seen c.in-Ok-open.ensures.ok.1 ∙ first_seats c.in-Ok-open.bank)
+returns-in-Ok-open-clause-open c = (
+  opened_open c.args.generation c.args.blocks c.args.first c.in-Some.objects.items c.in-Ok-open.bank c.in-Some.ensures c.in-Ok-open.ensures.ok.0,
+  (λ i. seats_at (c.in-Ok-open.ensures.ok.1 i)
+      (opens (gates_of c.in-Ok-open.seat.seats) c.in-Ok-open.seat c.in-Ok-open.ensures.order c.in-Ok-open.ensures.share i)) ∙ first_seats c.in-Ok-open.bank,
+)
 
 pub returns-in-Ok-open-clause-seats : goal.returns-in-Ok-open-clause-seats
-returns-in-Ok-open-clause-seats c = are_of c.in-Ok-open.bank c.in-Ok-open.seat.seats _ _ refl refl c.in-Ok-open.ensures.fits.0
+returns-in-Ok-open-clause-seats c = are_of c.in-Ok-open.bank c.in-Ok-open.seat _ _ refl refl c.in-Ok-open.ensures.fits.0
