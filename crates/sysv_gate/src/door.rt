@@ -10,11 +10,10 @@ ghost use Rattle.sysv_gate.specs.Halls.{me_at};
 ghost use Rattle.sysv_gate.specs.Doors.{IsDoorOf, IsAt, IsSame};
 
 use crate::bell::{Bell, TurnBells};
-use crate::board::{SERVING, TICKET};
 use crate::count::Count;
-use crate::hall::{Hall, HallToken};
+use crate::hall::{Announcing, Drawing, Entering, Hall, HallToken, Looking, Reading, Weighing};
 use crate::object::Object;
-use crate::rule::{Announcing, Drawing, Entering, Looking, Reading, Weighing};
+use crate::words::{SERVING, TICKET};
 use std::marker::Model;
 use std::snapshot::Snapshot;
 

@@ -4,13 +4,25 @@ ghost use mathlib.Core.Option.{some};
 ghost use lib.ListN.{get_elem?};
 ghost use Rattle.std.specs.Mem.Slots.{IsFull, slots_len, slots_items, slots_filled};
 ghost use Rattle.sysv_gate.specs.Ending.{IsReadAt};
+ghost use Rattle.sysv_gate.specs.Closings.{held_object};
 
-use crate::board::{SERVING, TICKET, object_in};
 use crate::closing::Closing;
 use crate::hall::Spot;
 use crate::object::Object;
+use crate::place::Place;
+use crate::words::{SERVING, TICKET};
 use atomic_table::Closed;
 use std::alloc::Global;
+
+// The object that the slot has, if it has one.
+fn object_in<O, C, R>(spot: Option<Place<O, C, R>>) -> Option<O>
+    ensures { result ≡ held_object spot }
+{
+    match spot {
+        Some(Place { object, last: _ }) => Some(object),
+        None => None,
+    }
+}
 
 /// What a closed table gives back of the place.
 pub fn close_place<O: Object>(

@@ -1,17 +1,18 @@
 //! Laying a table with several places.
-ghost use Rattle.std.specs.Prelude.{◌≡◌, ◌*◌, ◌^◌, ◌≤◌, List, [], length, vec_capacity, None, IfSome, IfNone};
+ghost use Rattle.std.specs.Prelude.{◌≡◌, ◌*◌, ◌^◌, ◌≤◌, List, [], length, vec_capacity, None, IfSome, IfNone, IfOk, IfErr};
 ghost use Rattle.std.specs.List.{All};
 ghost use Rattle.sysv_gate.specs.History.{AreUpTo};
 ghost use Rattle.sysv_gate.specs.Rule.{put};
-ghost use Rattle.sysv_gate.specs.Laying.{AreLaidUpTo, AreDoorsUpTo, all_put, IsNew};
+ghost use Rattle.sysv_gate.specs.Laying.{AreLaidUpTo, AreDoorsUpTo, all_put, IsNew, IsLaidOut};
 
-use crate::board::words_at;
 use crate::door::Door;
 use crate::hall::{Hall, HallKey, HallToken, Spot};
 use crate::object::Object;
 use crate::place::Place;
+use crate::words::words_at;
 use atomic_table::{Refused, Table};
 use std::alloc::Global;
+use std::snapshot::Snapshot;
 
 // The words of the places. `None` comes where there is no memory.
 fn words_for<O: Object>(
@@ -106,6 +107,44 @@ pub fn lay_hall<O: Object>(
     match raise(alloc, &words, objects, key) {
         Some((hall, token)) => Some((hall, token, doors)),
         None => None,
+    }
+}
+
+// Lays the table of a gate, which has one place, and gives its first pass and the door. Without memory the object comes
+// back.
+pub(crate) fn lay_one<O: Object>(
+    alloc: Global,
+    object: O,
+    first: u64,
+) -> Result<(Hall<O>, HallToken<O>, Door<O>), O>
+    requires low { first ≤ 2 ^ 62 }
+    requires counts { AreUpTo (2 ^ 61) (O.counted object) }
+    ensures ok { IfOk result (λ t. IsLaidOut object first t.0.shared.table_id t.0.shared.key t.2 t.1) }
+    ensures err { IfErr result (λ o. o ≡ object) }
+{
+    let Ok(mut objects) = Vec::with_capacity(alloc, 1) else {
+        return Err(object);
+    };
+    objects.push_reserved(object);
+    let key = HallKey {
+        openings: Snapshot::of(&objects),
+        first,
+    };
+    match lay_hall(alloc, &mut objects, &key) {
+        Some((hall, token, mut doors)) => {
+            objects.destroy_empty();
+            let Some(door) = doors.pop() else {
+                unreachable!()
+            };
+            Ok((hall, token, door))
+        }
+        None => {
+            let Some(object) = objects.pop() else {
+                unreachable!()
+            };
+            objects.destroy_empty();
+            Err(object)
+        }
     }
 }
 

@@ -4,10 +4,9 @@ ghost use Rattle.sysv_gate.specs.History.{Moves};
 ghost use Rattle.sysv_gate.specs.Plays.{halved, both_of, Merges};
 ghost use Rattle.sysv_gate.specs.Doors.{IsNewcomer, KnowsAll};
 
-use crate::board::SERVING;
-use crate::hall::{Hall, HallToken};
+use crate::hall::{Gathering, Hall, HallToken, Merging, Naming, Sharing};
 use crate::object::Object;
-use crate::rule::{Gathering, Merging, Naming, Sharing};
+use crate::words::SERVING;
 
 /// Gives a new pass, which has seen what this one has seen, and has made no turn: none that it has seen was made under its
 /// number. It may go to another thread.
