@@ -45,7 +45,8 @@ impl<O: Object> Gate<O> {
     /// A gate whose tickets begin at 0, and its first seat. Where there is no memory the object comes back.
     pub fn open(alloc: Global, object: O) -> Result<(Gate<O>, Seat<O>), OpenRefused<O>>
         requires { AreUpTo (2 ^ 61) (O.counted object) }
-        ensures ok { IfOk result (λ o. (o.0.opening ≡ object) × (o.0.first ≡ 0) × (o.1 ≡ opened o.0)) }
+        ensures ok { IfOk result (λ o. (o.0.opening ≡ object) × (o.0.first ≡ 0)
+            × (o.1 ≡ opened o.0)) }
         ensures err { IfErr result (λ e. e ≡ NoMemory object) }
     {
         Gate::starting_at(alloc, object, 0)
@@ -59,7 +60,8 @@ impl<O: Object> Gate<O> {
         first: u64,
     ) -> Result<(Gate<O>, Seat<O>), OpenRefused<O>>
         requires { AreUpTo (2 ^ 61) (O.counted object) }
-        ensures ok { IfOk result (λ o. (o.0.opening ≡ object) × (o.0.first ≡ first) × (o.1 ≡ opened o.0) × (first ≤ 2 ^ 62)) }
+        ensures ok { IfOk result (λ o. (o.0.opening ≡ object) × (o.0.first ≡ first)
+            × (o.1 ≡ opened o.0) × (first ≤ 2 ^ 62)) }
         ensures err { IfErr result (λ e. HandsBack first object e) }
     {
         if first > LIMIT {
@@ -93,7 +95,8 @@ impl<O: Object> Gate<O> {
         requires gate { seat.old.gate ≡ self.now }
         requires fits { IsAccepted (Moves O.meaning O.counted) O.accepts self.now.opening call }
         ensures gate { seat.new.gate ≡ self.now }
-        ensures ok { IfOk result (λ r. Answers (Moves O.meaning O.counted) O.counted seat.old call r seat.new) }
+        ensures ok { IfOk result (λ r. Answers (Moves O.meaning O.counted) O.counted seat.old call r
+            seat.new) }
         ensures not_worn { OnOk result (seat.old.worn ≡ false) }
         ensures worn { IfErr result (λ w. (w.call ≡ call) × (seat.new ≡ marked seat.old)) }
     {
@@ -111,9 +114,11 @@ impl<O: Object> Gate<O> {
         requires gate { seat.old.gate ≡ self.now }
         requires fits { IsAccepted (Moves O.meaning O.counted) O.accepts self.now.opening call }
         ensures gate { seat.new.gate ≡ self.now }
-        ensures ok { IfOk result (λ r. Answers (Moves O.meaning O.counted) O.counted seat.old call r seat.new) }
+        ensures ok { IfOk result (λ r. Answers (Moves O.meaning O.counted) O.counted seat.old call r
+            seat.new) }
         ensures not_worn { OnOk result (seat.old.worn ≡ false) }
-        ensures err { IfErr result (λ e. Refuses (Moves O.meaning O.counted) seat.old call e seat.new) }
+        ensures err { IfErr result (λ e. Refuses (Moves O.meaning O.counted) seat.old call e
+            seat.new) }
     {
         self.door.try_call(&self.hall, &mut seat.token, call)
     }

@@ -45,7 +45,8 @@ impl<O: Object> TableRule<
     ghost use Rattle.sysv_gate.specs.History.{Moves};
     ghost use Rattle.sysv_gate.specs.Halls.{InOrder, outset};
 
-    ghost holds = { λ key. InOrder (Moves O.meaning O.counted) O.counted key.openings.value.items key.first };
+    ghost holds = { λ key. InOrder (Moves O.meaning O.counted) O.counted key.openings.value.items
+        key.first };
 
     ghost first = { λ key. outset key.openings.value.items key.first };
 }

@@ -20,7 +20,8 @@ fn words_for<O: Object>(
     objects: &Vec<O, Global>,
     first: u64,
 ) -> Option<Vec<u64, Global>>
-    ensures { IfSome result (λ words. AreLaidUpTo O.counted first objects.now.items (length objects.now.items) words.items) }
+    ensures { IfSome result (λ words. AreLaidUpTo O.counted first objects.now.items
+        (length objects.now.items) words.items) }
 {
     let mut words = Vec::new(alloc);
     for place in 0..objects.len() {
@@ -36,7 +37,8 @@ fn words_for<O: Object>(
 fn doors_for<O: Object>(alloc: Global, objects: &Vec<O, Global>) -> Option<Vec<Door<O>, Global>>
     requires few { 80 * length objects.now.items ≤ 2 ^ 60 }
     requires counts { All (λ o. AreUpTo (2 ^ 61) (O.counted o)) objects.now.items }
-    ensures { IfSome result (λ doors. AreDoorsUpTo objects.now.items (length objects.now.items) doors.items) }
+    ensures { IfSome result (λ doors. AreDoorsUpTo objects.now.items (length objects.now.items)
+        doors.items) }
 {
     let Ok(mut doors) = Vec::with_capacity(alloc, objects.len()) else {
         return None;
@@ -73,7 +75,8 @@ fn object_out<O: Object>(spot: Spot<O>) -> O
 
 // Takes each object out of its slot again.
 fn empty<O: Object>(mut spots: Vec<Spot<O>, Global>, objects: &mut Vec<O, Global>)
-    requires spots { (all : List O) × (spots.items ≡ all_put all) × (length all ≤ vec_capacity objects.old) }
+    requires spots { (all : List O) × (spots.items ≡ all_put all)
+        × (length all ≤ vec_capacity objects.old) }
     requires none { objects.old.items ≡ [] }
     ensures back { spots.items ≡ all_put objects.new.items }
 {
@@ -94,7 +97,8 @@ pub fn lay_hall<O: Object>(
     requires key { (key.now.openings.value.items ≡ objects.old.items) × (key.now.first ≤ 2 ^ 62) }
     requires counts { All (λ o. AreUpTo (2 ^ 61) (O.counted o)) objects.old.items }
     ensures some { IfSome result (λ t. IsNew t.0.shared.table_id t.0.shared.key key.now t.1) }
-    ensures doors { IfSome result (λ t. AreDoorsUpTo objects.old.items (length objects.old.items) t.2.items × (80 * length objects.old.items ≤ 2 ^ 60)) }
+    ensures doors { IfSome result (λ t. AreDoorsUpTo objects.old.items (length objects.old.items)
+        t.2.items × (80 * length objects.old.items ≤ 2 ^ 60)) }
     ensures laid { IfSome result (λ t. objects.new.items ≡ []) }
     ensures none { IfNone result (objects.new.items ≡ objects.old.items) }
 {
@@ -119,7 +123,8 @@ pub(crate) fn lay_one<O: Object>(
 ) -> Result<(Hall<O>, HallToken<O>, Door<O>), O>
     requires low { first ≤ 2 ^ 62 }
     requires counts { AreUpTo (2 ^ 61) (O.counted object) }
-    ensures ok { IfOk result (λ t. IsLaidOut object first t.0.shared.table_id t.0.shared.key t.2 t.1) }
+    ensures ok { IfOk result (λ t. IsLaidOut object first t.0.shared.table_id t.0.shared.key t.2
+        t.1) }
     ensures err { IfErr result (λ o. o ≡ object) }
 {
     let Ok(mut objects) = Vec::with_capacity(alloc, 1) else {
@@ -156,7 +161,8 @@ fn raise<O: Object>(
     key: &HallKey<O>,
 ) -> Option<(Hall<O>, HallToken<O>)>
     requires key { (key.now.openings.value.items ≡ objects.old.items) × (key.now.first ≤ 2 ^ 62) }
-    requires laid { AreLaidUpTo O.counted key.now.first objects.old.items (length objects.old.items) words.now.items }
+    requires laid { AreLaidUpTo O.counted key.now.first objects.old.items (length objects.old.items)
+        words.now.items }
     ensures some { IfSome result (λ t. IsNew t.0.shared.table_id t.0.shared.key key.now t.1) }
     ensures laid { IfSome result (λ t. objects.new.items ≡ []) }
     ensures none { IfNone result (objects.new.items ≡ objects.old.items) }

@@ -71,12 +71,15 @@ impl<O: Object> Door<O> {
         hall: &Hall<O>,
         token: &mut HallToken<O>,
     ) -> Option<u64>
-        requires door { IsDoorOf hall.now.shared.table_id hall.now.shared.key.openings.value.items self.now }
+        requires door { IsDoorOf hall.now.shared.table_id hall.now.shared.key.openings.value.items
+            self.now }
         requires at { IsAt hall.now.shared.table_id self.now token.old }
         requires idle { Waits [] (me_at self.now.place token.old.me) }
         ensures same { IsSame self.now.place token.old token.new }
-        ensures drawn { IfSome result (λ t. HasDrawn (me_at self.now.place token.old.me) t (me_at self.now.place token.new.me)) }
-        ensures worn { IfNone result (HasWorn (me_at self.now.place token.old.me) (me_at self.now.place token.new.me)) }
+        ensures drawn { IfSome result (λ t. HasDrawn (me_at self.now.place token.old.me) t
+            (me_at self.now.place token.new.me)) }
+        ensures worn { IfNone result (HasWorn (me_at self.now.place token.old.me)
+            (me_at self.now.place token.new.me)) }
     {
         for _ in rt.forever() {
             let next = self.weigh(hall, token);
@@ -93,11 +96,13 @@ impl<O: Object> Door<O> {
 
     // Draws the ticket that is served, where no other pass holds it, and so begins the turn.
     pub(crate) fn enter(&self, hall: &Hall<O>, token: &mut HallToken<O>) -> Entry
-        requires door { IsDoorOf hall.now.shared.table_id hall.now.shared.key.openings.value.items self.now }
+        requires door { IsDoorOf hall.now.shared.table_id hall.now.shared.key.openings.value.items
+            self.now }
         requires at { IsAt hall.now.shared.table_id self.now token.old }
         requires idle { Waits [] (me_at self.now.place token.old.me) }
         ensures same { IsSame self.now.place token.old token.new }
-        ensures entered { Entered (Moves O.meaning O.counted) O.counted self.now.opening (me_at self.now.place token.old.me) result (me_at self.now.place token.new.me) }
+        ensures entered { Entered (Moves O.meaning O.counted) O.counted self.now.opening
+            (me_at self.now.place token.old.me) result (me_at self.now.place token.new.me) }
     {
         let next = self.weigh(hall, token);
         if next >= LIMIT {
@@ -122,11 +127,13 @@ impl<O: Object> Door<O> {
         token: &mut HallToken<O>,
         ticket: u64,
     )
-        requires door { IsDoorOf hall.now.shared.table_id hall.now.shared.key.openings.value.items self.now }
+        requires door { IsDoorOf hall.now.shared.table_id hall.now.shared.key.openings.value.items
+            self.now }
         requires at { IsAt hall.now.shared.table_id self.now token.old }
         requires waits { Waits (ticket ∷ []) (me_at self.now.place token.old.me) }
         ensures same { IsSame self.now.place token.old token.new }
-        ensures turn { TurnCame (Moves O.meaning O.counted) O.counted self.now.opening (me_at self.now.place token.old.me).0 ticket (me_at self.now.place token.new.me) }
+        ensures turn { TurnCame (Moves O.meaning O.counted) O.counted self.now.opening
+            (me_at self.now.place token.old.me).0 ticket (me_at self.now.place token.new.me) }
     {
         for _ in rt.forever() {
             if self.spin(hall, token, ticket) == ticket {
@@ -147,12 +154,16 @@ impl<O: Object> Door<O> {
         token: &mut HallToken<O>,
         ticket: u64,
     ) -> u64
-        requires door { IsDoorOf hall.now.shared.table_id hall.now.shared.key.openings.value.items self.now }
+        requires door { IsDoorOf hall.now.shared.table_id hall.now.shared.key.openings.value.items
+            self.now }
         requires at { IsAt hall.now.shared.table_id self.now token.old }
         requires waits { Waits (ticket ∷ []) (me_at self.now.place token.old.me) }
         ensures same { IsSame self.now.place token.old token.new }
-        ensures turn { result ≡ ticket → TurnCame (Moves O.meaning O.counted) O.counted self.now.opening (me_at self.now.place token.old.me).0 ticket (me_at self.now.place token.new.me) }
-        ensures waits { result ≢ ticket → SawMore (me_at self.now.place token.old.me).0 (me_at self.now.place token.new.me) }
+        ensures turn { result ≡ ticket → TurnCame (Moves O.meaning O.counted) O.counted
+            self.now.opening (me_at self.now.place token.old.me).0 ticket
+            (me_at self.now.place token.new.me) }
+        ensures waits { result ≢ ticket
+            → SawMore (me_at self.now.place token.old.me).0 (me_at self.now.place token.new.me) }
     {
         let bell = self.turns.of(ticket);
         let rung = bell.enter();
@@ -166,12 +177,16 @@ impl<O: Object> Door<O> {
 
     // Looks some times whether the ticket is served, and answers the one that is.
     fn spin(&self, hall: &Hall<O>, token: &mut HallToken<O>, ticket: u64) -> u64
-        requires door { IsDoorOf hall.now.shared.table_id hall.now.shared.key.openings.value.items self.now }
+        requires door { IsDoorOf hall.now.shared.table_id hall.now.shared.key.openings.value.items
+            self.now }
         requires at { IsAt hall.now.shared.table_id self.now token.old }
         requires waits { Waits (ticket ∷ []) (me_at self.now.place token.old.me) }
         ensures same { IsSame self.now.place token.old token.new }
-        ensures turn { result ≡ ticket → TurnCame (Moves O.meaning O.counted) O.counted self.now.opening (me_at self.now.place token.old.me).0 ticket (me_at self.now.place token.new.me) }
-        ensures waits { result ≢ ticket → SawMore (me_at self.now.place token.old.me).0 (me_at self.now.place token.new.me) }
+        ensures turn { result ≡ ticket → TurnCame (Moves O.meaning O.counted) O.counted
+            self.now.opening (me_at self.now.place token.old.me).0 ticket
+            (me_at self.now.place token.new.me) }
+        ensures waits { result ≢ ticket
+            → SawMore (me_at self.now.place token.old.me).0 (me_at self.now.place token.new.me) }
     {
         let mut served = self.look(hall, token);
         for _ in 1..LOOKS {
@@ -192,16 +207,22 @@ impl<O: Object> Door<O> {
         token: &mut HallToken<O>,
         call: O::Call,
     ) -> (O::Reply, Rose)
-        requires door { IsDoorOf hall.now.shared.table_id hall.now.shared.key.openings.value.items self.now }
+        requires door { IsDoorOf hall.now.shared.table_id hall.now.shared.key.openings.value.items
+            self.now }
         requires at { IsAt hall.now.shared.table_id self.now token.old }
-        requires turn { HasTurn (Moves O.meaning O.counted) O.counted self.now.opening (me_at self.now.place token.old.me) }
-        requires ticket { (t : ℕ) × ((me_at self.now.place token.old.me).0.tickets ≡ t ∷ []) × ((me_at self.now.place token.old.me).0.in_turn ≡ true) }
-        requires named { 1 ≤ times (me_at self.now.place token.old.me).0.number (me_at self.now.place token.old.me).0.numbers }
+        requires turn { HasTurn (Moves O.meaning O.counted) O.counted self.now.opening
+            (me_at self.now.place token.old.me) }
+        requires ticket { (t : ℕ) × ((me_at self.now.place token.old.me).0.tickets ≡ t ∷ [])
+            × ((me_at self.now.place token.old.me).0.in_turn ≡ true) }
+        requires named { 1 ≤ times (me_at self.now.place token.old.me).0.number
+            (me_at self.now.place token.old.me).0.numbers }
         requires room { length (me_at self.now.place token.old.me).0.seen < 2 ^ 62 }
         requires fits { IsAccepted (Moves O.meaning O.counted) O.accepts self.now.opening call }
         ensures same { IsSame self.now.place token.old token.new }
         ensures order { EndsOrder self.now.place token.old.me token.new.me }
-        ensures made { HasMade (Moves O.meaning O.counted) self.now.opening (me_at self.now.place token.old.me).0 call result.0 (me_at self.now.place token.new.me) }
+        ensures made { HasMade (Moves O.meaning O.counted) self.now.opening
+            (me_at self.now.place token.old.me).0 call result.0
+            (me_at self.now.place token.new.me) }
     {
         let shared = &hall.shared;
         let Some(Place { object, last: _ }) = shared.exchange(token, self.place, None) else {

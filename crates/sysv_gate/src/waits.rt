@@ -20,11 +20,13 @@ pub(crate) const LOOKS: u64 = 256;
 impl<O: Object> Door<O> {
     // Reads the count some times, until it is at least the goal, and answers what it read last.
     fn count_to(&self, hall: &Hall<O>, token: &mut HallToken<O>, count: Count, goal: u64) -> u64
-        requires door { IsDoorOf hall.now.shared.table_id hall.now.shared.key.openings.value.items self.now }
+        requires door { IsDoorOf hall.now.shared.table_id hall.now.shared.key.openings.value.items
+            self.now }
         requires at { IsAt hall.now.shared.table_id self.now token.old }
         requires idle { Waits [] (me_at self.now.place token.old.me) }
         ensures same { IsSame self.now.place token.old token.new }
-        ensures read { HasRead O.counted self.now.opening count (me_at self.now.place token.old.me) result (me_at self.now.place token.new.me) }
+        ensures read { HasRead O.counted self.now.opening count (me_at self.now.place token.old.me)
+            result (me_at self.now.place token.new.me) }
     {
         let mut value = self.count(hall, token, count);
         for _ in 1..LOOKS {
@@ -39,12 +41,15 @@ impl<O: Object> Door<O> {
 
     // Whether the tickets have reached 2^62.
     fn is_worn(&self, hall: &Hall<O>, token: &mut HallToken<O>) -> bool
-        requires door { IsDoorOf hall.now.shared.table_id hall.now.shared.key.openings.value.items self.now }
+        requires door { IsDoorOf hall.now.shared.table_id hall.now.shared.key.openings.value.items
+            self.now }
         requires at { IsAt hall.now.shared.table_id self.now token.old }
         requires idle { Waits [] (me_at self.now.place token.old.me) }
         ensures same { IsSame self.now.place token.old token.new }
-        ensures worn { IsTrue result → HasWorn (me_at self.now.place token.old.me) (me_at self.now.place token.new.me) }
-        ensures not_worn { result ≡ false → (me_at self.now.place token.new.me) ≡ (me_at self.now.place token.old.me) }
+        ensures worn { IsTrue result → HasWorn (me_at self.now.place token.old.me)
+            (me_at self.now.place token.new.me) }
+        ensures not_worn { result ≡ false → (me_at self.now.place token.new.me)
+            ≡ (me_at self.now.place token.old.me) }
     {
         self.weigh(hall, token) >= LIMIT
     }
@@ -57,12 +62,16 @@ impl<O: Object> Door<O> {
         count: Count,
         goal: u64,
     ) -> Option<Awaited>
-        requires door { IsDoorOf hall.now.shared.table_id hall.now.shared.key.openings.value.items self.now }
+        requires door { IsDoorOf hall.now.shared.table_id hall.now.shared.key.openings.value.items
+            self.now }
         requires at { IsAt hall.now.shared.table_id self.now token.old }
         requires idle { Waits [] (me_at self.now.place token.old.me) }
         ensures same { IsSame self.now.place token.old token.new }
-        ensures over { IfSome result (λ a. HasWaited O.counted self.now.opening count goal (me_at self.now.place token.old.me) a (me_at self.now.place token.new.me)) }
-        ensures goes_on { IfNone result (HasReadBelow O.counted self.now.opening count goal (me_at self.now.place token.old.me) (me_at self.now.place token.new.me)) }
+        ensures over { IfSome result (λ a. HasWaited O.counted self.now.opening count goal
+            (me_at self.now.place token.old.me) a (me_at self.now.place token.new.me)) }
+        ensures goes_on { IfNone result
+            (HasReadBelow O.counted self.now.opening count goal (me_at self.now.place token.old.me)
+            (me_at self.now.place token.new.me)) }
     {
         let value = self.count(hall, token, count);
         if value >= goal {
@@ -92,12 +101,16 @@ impl<O: Object> Door<O> {
         goal: u64,
         sleep: Sleep,
     ) -> Option<Awaited>
-        requires door { IsDoorOf hall.now.shared.table_id hall.now.shared.key.openings.value.items self.now }
+        requires door { IsDoorOf hall.now.shared.table_id hall.now.shared.key.openings.value.items
+            self.now }
         requires at { IsAt hall.now.shared.table_id self.now token.old }
         requires idle { Waits [] (me_at self.now.place token.old.me) }
         ensures same { IsSame self.now.place token.old token.new }
-        ensures over { IfSome result (λ a. HasWaited O.counted self.now.opening count goal (me_at self.now.place token.old.me) a (me_at self.now.place token.new.me)) }
-        ensures goes_on { IfNone result (ReadMore count (me_at self.now.place token.old.me) (me_at self.now.place token.new.me)) }
+        ensures over { IfSome result (λ a. HasWaited O.counted self.now.opening count goal
+            (me_at self.now.place token.old.me) a (me_at self.now.place token.new.me)) }
+        ensures goes_on { IfNone result
+            (ReadMore count (me_at self.now.place token.old.me)
+            (me_at self.now.place token.new.me)) }
     {
         let bell = self.bell(count, sleep);
         let rung = bell.enter();
@@ -118,11 +131,13 @@ impl<O: Object> Door<O> {
         count: Count,
         goal: u64,
     ) -> Awaited
-        requires door { IsDoorOf hall.now.shared.table_id hall.now.shared.key.openings.value.items self.now }
+        requires door { IsDoorOf hall.now.shared.table_id hall.now.shared.key.openings.value.items
+            self.now }
         requires at { IsAt hall.now.shared.table_id self.now token.old }
         requires idle { Waits [] (me_at self.now.place token.old.me) }
         ensures same { IsSame self.now.place token.old token.new }
-        ensures waited { HasWaited O.counted self.now.opening count goal (me_at self.now.place token.old.me) result (me_at self.now.place token.new.me) }
+        ensures waited { HasWaited O.counted self.now.opening count goal
+            (me_at self.now.place token.old.me) result (me_at self.now.place token.new.me) }
     {
         for _ in rt.forever() {
             let value = self.count_to(hall, token, count, goal);
@@ -145,11 +160,13 @@ impl<O: Object> Door<O> {
         count: Count,
         goal: u64,
     ) -> Option<Awaited>
-        requires door { IsDoorOf hall.now.shared.table_id hall.now.shared.key.openings.value.items self.now }
+        requires door { IsDoorOf hall.now.shared.table_id hall.now.shared.key.openings.value.items
+            self.now }
         requires at { IsAt hall.now.shared.table_id self.now token.old }
         requires idle { Waits [] (me_at self.now.place token.old.me) }
         ensures same { IsSame self.now.place token.old token.new }
-        ensures waited { HasWaitedWithin O.counted self.now.opening count goal (me_at self.now.place token.old.me) result (me_at self.now.place token.new.me) }
+        ensures waited { HasWaitedWithin O.counted self.now.opening count goal
+            (me_at self.now.place token.old.me) result (me_at self.now.place token.new.me) }
     {
         let value = self.count_to(hall, token, count, goal);
         if value >= goal {

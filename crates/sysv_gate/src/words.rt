@@ -21,7 +21,8 @@ const WORDS: usize = 80;
 
 // The words of a place whose tickets begin at the first one.
 pub(crate) fn words_at(first: u64, counts: (u64, u64)) -> [u64; WORDS]
-    ensures tickets { (length result ≡ 80) × (slice_index result 16 ≡ first) × (slice_index result 32 ≡ first) }
+    ensures tickets { (length result ≡ 80) × (slice_index result 16 ≡ first)
+        × (slice_index result 32 ≡ first) }
     ensures counts { (slice_index result 48 ≡ counts.0) × (slice_index result 64 ≡ counts.1) }
 {
     let mut words = [0; WORDS];
