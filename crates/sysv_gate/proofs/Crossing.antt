@@ -20,6 +20,8 @@ use Rattle.std.proofs.Crossing.{frees}
 use Rattle.sysv_gate.specs.contracts.hall.HallRule as hall_rule
 use Rattle.sysv_gate.specs.contracts.view.Sight as sight
 use Rattle.sysv_gate.specs.contracts.place.Done as done
+use Rattle.sysv_gate.specs.contracts.place.Beside as beside
+use Rattle.sysv_gate.specs.contracts.place.Beside.TheInside as beside_inside
 use Rattle.sysv_gate.specs.contracts.place.Place as place
 use Rattle.sysv_gate.specs.contracts.seat.Key as key
 use Rattle.sysv_gate.specs.contracts.seat.Seat as seat
@@ -45,8 +47,11 @@ snapshot_sync T = record { shared = λ d b o κ q. part_keyless (snapshot.the_ro
 done_send : (C R : RattleType) → IsSend (done.the_row C R)
 done_send C R = declared_send (done.the_type C R) (as_row_send (snapshot.the_field C) (snapshot_send C), (as_row_send (snapshot.the_field R) (snapshot_send R), tt))
 
+beside_send : (C R : RattleType) → IsSend (beside.the_row C R)
+beside_send C R = view_send (beside_inside.the_row C R) _ _ _ _ (declared_send (beside_inside.the_type C R) (as_row_send (option.the_field (done.the_row C R)) (crossing.the_field_send (done.the_row C R) (done_send C R)), (search sendable, tt)))
+
 place_send : (O C R : RattleType) → IsSend O → IsSend (place.the_row O C R)
-place_send O C R s = declared_send (place.the_type O C R) (as_row_send (row_field O) s, (as_row_send (option.the_field (done.the_row C R)) (crossing.the_field_send (done.the_row C R) (done_send C R)), tt))
+place_send O C R s = declared_send (place.the_type O C R) (as_row_send (row_field O) s, (as_row_send (beside.the_field C R) (beside_send C R), tt))
 
 pub spot_send : (O C R : RattleType) → IsSend O → IsSend (option.the_row (place.the_row O C R))
 spot_send O C R s = crossing.the_send (place.the_row O C R) (place_send O C R s)

@@ -17,7 +17,7 @@ use Rattle.sysv_gate.specs.Counts.{word_of, of_count}
 use Rattle.sysv_lists.specs.Numbers.{times}
 use Rattle.sysv_lists.specs.Prefix.{IsPrefixOf}
 use Rattle.sysv_gate.specs.History.{after_all, IsLegal, HasItsOwn, Moves, AreUpTo, AreBelow}
-use Rattle.sysv_gate.specs.Rule.{put}
+use Rattle.sysv_gate.specs.Rule.{Spot, put}
 use Rattle.sysv_gate.specs.Steps.{Mine, weighed, looked, entered, turn_of, announced_by, read_to, ended, Looks, Reads, HasTurn, after_turn}
 use Rattle.sysv_gate.specs.Turns.{Looked, TurnCame, SawMore, HasMade, rise, Applied, HasRead, ReadMore, HasWaited, HasWaitedWithin, HasReadBelow}
 use Rattle.atomic_table.specs.Table.{step, rest}
@@ -112,6 +112,12 @@ module _ {O C R : Type 0} where
   -- a ticket below 2^62 leaves the view
   pub unweighed : (m m' : Mine O C R) (n : ℕ) → m' ≡ (weighed n m.0, m.1) → n < 2 ^ 62 → m' ≡ m
   unweighed m m' n is low = is ∙ (λ i. (record m.0 { worn = low_mark m.0.worn n low i }, m.1))
+
+  -- the object that is in the slot
+  pub same_object : (p : Place O C R) (o : O) (last : Option (Done C R)) (s : Spot O C R) → s ≡ Some p → s ≡ put o last → p.object ≡ o
+  same_object p o last s is was =
+      let place : p ≡ record { object = o; last = last } = cc in
+      ap (λ (q : Place O C R). q.object) place
 
   pub made_turn : (moves : O → C → R → O → Type 0) (o : O) (v : View O C R) (m m' : Mine O C R) (after : O) (done : Done C R) (call : C) (reply : R) → m ≡ (v, (0, put after (Some done)) ∷ []) → done.call.value ≡ call
       → done.reply.value ≡ reply → m' ≡ (after_turn m.0 m.1, rest m.1) → HasItsOwn m'.0.numbers m'.0.own m'.0.seen → IsLegal moves o v.seen → moves (after_all o v.seen) call reply after → HasMade moves o v call reply m'

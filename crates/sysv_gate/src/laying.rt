@@ -8,7 +8,7 @@ ghost use Rattle.sysv_gate.specs.Laying.{AreLaidUpTo, AreDoorsUpTo, all_put, IsN
 use crate::door::Door;
 use crate::hall::{Hall, HallKey, HallToken, Spot};
 use crate::object::Object;
-use crate::place::Place;
+use crate::place::{Beside, Place};
 use crate::words::words_at;
 use atomic_table::{Refused, Table};
 use std::alloc::Global;
@@ -58,7 +58,10 @@ fn fill<O: Object>(objects: &mut Vec<O, Global>, spots: &mut Vec<Spot<O>, Global
 {
     objects.reverse();
     while let Some(object) = objects.pop() {
-        spots.push_reserved(Some(Place { object, last: None }));
+        spots.push_reserved(Some(Place {
+            object,
+            last: Beside::none(),
+        }));
     }
 }
 

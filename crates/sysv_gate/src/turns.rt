@@ -1,5 +1,8 @@
 //! The parts of a call at a place, each of which makes some steps on the table.
-ghost use Rattle.std.specs.Prelude.{◌≡◌, ◌≢◌, ℕ, ◌^◌, ◌<◌, ◌≤◌, true, [], ◌∷◌, length, IfSome, IfNone};
+ghost use Rattle.std.specs.Prelude.{◌≡◌, ◌≢◌, ℕ, ◌^◌, ◌<◌, ◌≤◌, true, [], ◌∷◌, length, Option, Some, IfSome, IfNone};
+ghost use Rattle.sysv_gate.specs.declared.place.Done.{Done as Served};
+ghost use Rattle.sysv_gate.specs.declared.place.Place.{Place as Filled};
+ghost use Rattle.sysv_gate.specs.Rule.{put};
 ghost use Rattle.sysv_gate.specs.History.{Moves, IsAccepted, AreBelow};
 ghost use Rattle.sysv_gate.specs.Steps.{HasTurn};
 ghost use Rattle.sysv_gate.specs.Turns.{Waits, HasDrawn, HasWorn, SawMore, TurnCame, HasMade, Entered, Applied};
@@ -10,7 +13,7 @@ ghost use Rattle.sysv_lists.specs.Numbers.{times};
 use crate::bell::Sleep;
 use crate::count::Count;
 use crate::door::Door;
-use crate::hall::{Ending, Hall, HallToken};
+use crate::hall::{Ending, Hall, HallToken, Spot};
 use crate::object::Object;
 use crate::place::{Done, Place};
 use crate::words::{LIMIT, SERVING};
@@ -35,32 +38,42 @@ pub(crate) struct Rose {
     pub(crate) freed: bool,
 }
 
-// Makes the call. The object comes back beside the call that it served.
+// Makes the call, and leaves beside the object the call that it served.
 pub(crate) fn apply<O: Object>(
-    mut object: O,
+    place: &mut Place<O, O::Call, O::Reply>,
     call: O::Call,
-) -> (Place<O, O::Call, O::Reply>, O::Reply, Rose)
-    requires counts { AreBelow (2 ^ 63) (O.counted object) }
-    requires accepted { O.accepts object call }
-    ensures { Applied (Moves O.meaning O.counted) O.counted object call result.0 result.1 result.2 }
+) -> (O::Reply, Rose)
+    requires counts { AreBelow (2 ^ 63) (O.counted place.old.object) }
+    requires accepted { O.accepts place.old.object call }
+    ensures { Applied (Moves O.meaning O.counted) O.counted place.old.object call place.new
+        result.0 result.1 }
 {
-    let before = object.counts();
+    let before = place.object.counts();
     let asked = Snapshot::of(&call);
-    let reply = object.apply(call);
-    let after = object.counts();
-    let last = Done {
+    let reply = place.object.apply(call);
+    let after = place.object.counts();
+    place.last.tell(Done {
         call: asked,
         reply: Snapshot::of(&reply),
-    };
+    });
     let rose = Rose {
         arrived: after.0 > before.0,
         freed: after.1 > before.1,
     };
-    let place = Place {
-        object,
-        last: Some(last),
-    };
-    (place, reply, rose)
+    (reply, rose)
+}
+
+// Makes the call at the object that is in the slot.
+pub(crate) fn apply_in<O: Object>(spot: &mut Spot<O>, call: O::Call) -> (O::Reply, Rose)
+    requires full { (object : O) × (last : Option (Served O.Call O.Reply))
+        × (spot.old ≡ put object last) × AreBelow (2 ^ 63) (O.counted object)
+        × O.accepts object call }
+    ensures { (object : O) (last : Option (Served O.Call O.Reply)) → spot.old ≡ put object last →
+        (place : Filled O O.Call O.Reply) × (spot.new ≡ Some place)
+        × Applied (Moves O.meaning O.counted) O.counted object call place result.0 result.1 }
+{
+    let Some(place) = spot else { unreachable!() };
+    apply(place, call)
 }
 
 impl<O: Object> Door<O> {
@@ -224,16 +237,12 @@ impl<O: Object> Door<O> {
             (me_at self.now.place token.old.me).0 call result.0
             (me_at self.now.place token.new.me) }
     {
-        let shared = &hall.shared;
-        let Some(Place { object, last: _ }) = shared.exchange(token, self.place, None) else {
-            unreachable!()
-        };
-        let (place, reply, rose) = apply(object, call);
-        let left = shared.exchange(token, self.place, Some(place));
-        let None = left else { unreachable!() };
+        let spot = token.slot_mut(&hall.shared, self.place);
+        let (reply, rose) = apply_in(spot, call);
         self.announce(hall, token, Count::Arrived, rose.arrived);
         self.announce(hall, token, Count::Freed, rose.freed);
-        shared.fetch_add::<Ending>(token, self.word(SERVING), 1);
+        hall.shared
+            .fetch_add::<Ending>(token, self.word(SERVING), 1);
         (reply, rose)
     }
 
