@@ -8,14 +8,13 @@ use Rattle.atomic_table.specs.declared.shared.Seat.{Seat}
 use Rattle.atomic_table.proofs.Lists.{at_map}
 use Rattle.sysv_lists.specs.Prefix.{IsPrefixOf}
 use Rattle.sysv_lists.specs.Numbers.{times}
-use Rattle.sysv_lists.proofs.Places.{there}
+use Rattle.sysv_lists.proofs.Places.{at_below, there}
 use Rattle.sysv_lists.proofs.Counting.{times-same, times-append}
-use Rattle.sysv_lists.proofs.Prefixes.{prefix_self}
 use Rattle.sysv_gate.specs.declared.view.View.{View}
 use Rattle.sysv_gate.specs.declared.view.Turn.{Turn}
 use Rattle.sysv_gate.specs.declared.view.Sight.{Sight}
 use Rattle.sysv_gate.specs.declared.view.Placed.{Placed}
-use Rattle.sysv_gate.specs.History.{IsLegal, HasItsOwn, made_at}
+use Rattle.sysv_gate.specs.History.{made_at}
 use Rattle.sysv_gate.specs.Rule.{Spot, start}
 use Rattle.sysv_gate.specs.Steps as step
 use Rattle.sysv_gate.specs.Steps.{spent, named, merged, Gathers}
@@ -23,24 +22,20 @@ use Rattle.sysv_gate.specs.Gates.{Gateway, Holding, opened, parted, IsSplit, Joi
 use Rattle.sysv_gate.specs.Orders.{turns_at, AreBelow, NoneMadeUnder}
 use Rattle.sysv_gate.proofs.Ordering.{turns_longer}
 use Rattle.sysv_gate.proofs.Histories.{made_at-append}
-use Rattle.sysv_gate.specs.Halls.{view_at, Passing, me_at, outset}
+use Rattle.sysv_gate.specs.Halls.{view_at, Passing, outset}
 use Rattle.sysv_gate.specs.Plays.{halved, both_views, both_of, merged_from, Merges}
 use Rattle.sysv_gate.specs.Doors.{IsNewcomer, KnowsAll}
 use Rattle.std.specs.declared.snapshot.Snapshot.{Snapshot}
 use Rattle.sysv_gate.specs.declared.hall.HallKey.{HallKey}
-use Rattle.sysv_gate.proofs.Passing.{both_there, both_length, merged_there, merged_length}
-use Rattle.sysv_gate.proofs.Seating.{still_named}
+use Rattle.sysv_gate.proofs.Passing.{both_length, merged_length}
 use Rattle.sysv_bank.specs.declared.seat.BankSeat.TheInside.{Inside}
 use Rattle.sysv_bank.specs.Banks.{Each2, Each3, AreOpened}
-use Rattle.sysv_bank.specs.Passes.{holding, holdings, SplitsOff, JoinsOrders}
-use Rattle.sysv_bank.specs.Resting.{RestsAt, pass_of, Rests, gateways}
-use Rattle.sysv_bank.proofs.Places.{at_below}
+use Rattle.sysv_gate.specs.Held.{holding, RestsAt, RestsThere}
+use Rattle.sysv_gate.proofs.Coming.{Told, none_own, parted_view, parted_there, newcomer_view, newcomer_there, joined_one, joined_view, joined_told, joined_there}
+use Rattle.sysv_bank.specs.Passes.{holdings, SplitsOff, JoinsOrders}
+use Rattle.sysv_bank.specs.Resting.{pass_of, Rests, gateways}
 use Rattle.sysv_bank.proofs.Owning.{made_at-longer, none_made, goes_without}
 use Rattle.sysv_bank.proofs.Passes.{read_at, own_named}
-
--- who has made no turn has none of its own
-none_own : {O C R : Type 0} (n : ℕ) (seen : List (Turn O C R)) → ((k : ℕ) → made_at (n ∷ []) seen k ≡ 0) → HasItsOwn (n ∷ []) [] seen
-none_own n seen none = ((λ p. sym (none p)), λ x. omega arith)
 
 -- ---- the first seat
 
@@ -132,8 +127,8 @@ module _ {O C R : Type 0} (moves : O → C → R → O → Type 0) where
         ∙ ap (λ (t : TableId). holdings t s.key.value.first Os (map step.parted s.token.me.0.views)) same
         ∙ parted_seats s.token.table_id s.key.value.first Os s.token.me.0.views
 
-    parted_view : token.me ≡ (halved s.token.me.0, s.token.me.1) → (place : ℕ) → place < length s.token.me.0.views → view_at place token.me.0 ≡ step.parted (view_at place s.token.me.0)
-    parted_view is place less = ap (λ (m : Passing O C R). view_at place m.0) is ∙ get_or-map step.parted s.token.me.0.views place spent spent less
+    parted_at : token.me ≡ (halved s.token.me.0, s.token.me.1) → (place : ℕ) → place < length s.token.me.0.views → view_at place token.me.0 ≡ step.parted (view_at place s.token.me.0)
+    parted_at is place less = ap (λ (m : Passing O C R). view_at place m.0) is ∙ parted_view moves place s.token.me.0 less
 
     parted_many : token.me ≡ (halved s.token.me.0, s.token.me.1) → length token.me.0.views ≡ length s.token.me.0.views
     parted_many is = ap (λ (m : Passing O C R). length m.0.views) is ∙ length-map s.token.me.0.views step.parted
@@ -144,20 +139,13 @@ module _ {O C R : Type 0} (moves : O → C → R → O → Type 0) where
       nothing_else = ap (λ (m : Passing O C R). m.0.also) is ∙ rest.nothing_else;
       many = parted_many is ∙ rest.many;
       each = λ place o at.
-          let old = rest.each place o at in
-          let r = old.0 in
           let less = at_below Os place o at in
           let many = rest.many in
-          let view = parted_view is place (omega arith) in
-          let order : token.me.0.seen ≡ s.token.me.0.seen = ap (λ (m : Passing O C R). m.0.seen) is in
-          subst (λ (v : View O C R). RestsAt moves o s.key.value.first v × IsPrefixOf v.seen (turns_at place token.me.0.seen)) (sym view) (
-            record { no_ticket = r.no_ticket; no_turn = r.no_turn; nothing_else = r.nothing_else; opening = r.opening; first = r.first; named = r.named; legal = r.legal; own = r.own },
-            subst (λ (l : List (Placed O C R)). IsPrefixOf (view_at place s.token.me.0).seen (turns_at place l)) (sym order) old.1,
-          );
+          subst (λ (m : Passing O C R). RestsThere moves place o s.key.value.first m.0) (sym is) (parted_there moves place s.token.me.0 (omega arith) o s.key.value.first (rest.each place o at));
       named = λ place less.
           let many = parted_many is in
-          let one = parted_view is place (omega arith) in
-          let two = parted_view is 0 (omega arith) in
+          let one = parted_at is place (omega arith) in
+          let two = parted_at is 0 (omega arith) in
           let old = rest.named place (omega arith) in
           (ap (λ (v : View O C R). v.number) one ∙ old.0 ∙ sym (ap (λ (v : View O C R). v.number) two), ap (λ (v : View O C R). v.numbers) one ∙ old.1 ∙ sym (ap (λ (v : View O C R). v.numbers) two));
       owns =
@@ -166,7 +154,7 @@ module _ {O C R : Type 0} (moves : O → C → R → O → Type 0) where
           record {
             below = subst (λ (n : ℕ). AreBelow n token.me.0.seen) (sym many) (subst (AreBelow (length s.token.me.0.views)) (sym order) rest.owns.below);
             own = λ place p less.
-                let view = parted_view is place (omega arith) in
+                let view = parted_at is place (omega arith) in
                 subst (λ (v : View O C R). times p v.own ≡ made_at v.numbers (turns_at place token.me.0.seen) p) (sym view)
                 (subst (λ (l : List (Placed O C R)). times p (view_at place s.token.me.0).own ≡ made_at (view_at place s.token.me.0).numbers (turns_at place l) p) (sym order) (rest.owns.own place p (omega arith)));
           };
@@ -181,12 +169,8 @@ module _ {O C R : Type 0} (moves : O → C → R → O → Type 0) where
     split_many : IsNewcomer s.token.me.0 token.me → length token.me.0.views ≡ length s.token.me.0.views
     split_many new = ap (λ (m : Passing O C R). length m.0.views) new.1 ∙ length-map (map step.newcomer s.token.me.0.views) (named new.0) ∙ length-map s.token.me.0.views step.newcomer
 
-    split_view : (new : IsNewcomer s.token.me.0 token.me) (place : ℕ) → place < length s.token.me.0.views → view_at place token.me.0 ≡ named new.0 (step.newcomer (view_at place s.token.me.0))
-    split_view new place few =
-        let long : length (map step.newcomer s.token.me.0.views) ≡ length s.token.me.0.views = length-map s.token.me.0.views step.newcomer in
-        ap (λ (m : Passing O C R). view_at place m.0) new.1
-        ∙ get_or-map (named new.0) (map step.newcomer s.token.me.0.views) place spent spent (omega arith)
-        ∙ ap (named new.0) (get_or-map step.newcomer s.token.me.0.views place spent spent few)
+    split_at : (new : IsNewcomer s.token.me.0 token.me) (place : ℕ) → place < length s.token.me.0.views → view_at place token.me.0 ≡ named new.0 (step.newcomer (view_at place s.token.me.0))
+    split_at new place few = ap (λ (m : Passing O C R). view_at place m.0) new.1 ∙ newcomer_view moves place s.token.me.0 few new.0
 
     pub split_rests : IsNewcomer s.token.me.0 token.me → Rests moves Now
     split_rests new =
@@ -196,21 +180,14 @@ module _ {O C R : Type 0} (moves : O → C → R → O → Type 0) where
           nothing_else = ap (λ (m : Passing O C R). m.0.also) is;
           many = split_many new ∙ rest.many;
           each = λ place o at.
-              let old = rest.each place o at in
-              let r = old.0 in
               let less = at_below Os place o at in
               let many = rest.many in
               let few : place < length s.token.me.0.views = omega arith in
-              let view = split_view new place few in
-              let order : token.me.0.seen ≡ s.token.me.0.seen = ap (λ (m : Passing O C R). m.0.seen) is in
-              subst (λ (v : View O C R). RestsAt moves o s.key.value.first v × IsPrefixOf v.seen (turns_at place token.me.0.seen)) (sym view) (
-                record { no_ticket = refl; no_turn = refl; nothing_else = refl; opening = r.opening; first = r.first; named = times-same n; legal = r.legal; own = none_own n (view_at place s.token.me.0).seen (λ k. new.2 place k few) },
-                subst (λ (l : List (Placed O C R)). IsPrefixOf (view_at place s.token.me.0).seen (turns_at place l)) (sym order) old.1,
-              );
+              subst (λ (m : Passing O C R). RestsThere moves place o s.key.value.first m.0) (sym is) (newcomer_there moves place s.token.me.0 few n o s.key.value.first (λ k. new.2 place k few) (rest.each place o at));
           named = λ place less.
               let many = split_many new in
-              let one = split_view new place (omega arith) in
-              let two = split_view new 0 (omega arith) in
+              let one = split_at new place (omega arith) in
+              let two = split_at new 0 (omega arith) in
               (ap (λ (v : View O C R). v.number) one ∙ sym (ap (λ (v : View O C R). v.number) two), ap (λ (v : View O C R). v.numbers) one ∙ sym (ap (λ (v : View O C R). v.numbers) two));
           owns =
               let order : token.me.0.seen ≡ s.token.me.0.seen = ap (λ (m : Passing O C R). m.0.seen) is in
@@ -218,7 +195,7 @@ module _ {O C R : Type 0} (moves : O → C → R → O → Type 0) where
               record {
                 below = subst (λ (k : ℕ). AreBelow k token.me.0.seen) (sym many) (subst (AreBelow (length s.token.me.0.views)) (sym order) rest.owns.below);
                 own = λ place p less.
-                    let view = split_view new place (omega arith) in
+                    let view = split_at new place (omega arith) in
                     subst (λ (v : View O C R). times p v.own ≡ made_at v.numbers (turns_at place token.me.0.seen) p) (sym view)
                     (subst (λ (l : List (Placed O C R)). 0 ≡ made_at (n ∷ []) (turns_at place l) p) (sym order) (sym (new.3 place p (omega arith))));
               };
@@ -232,7 +209,7 @@ module _ {O C R : Type 0} (moves : O → C → R → O → Type 0) where
         let some_view : 0 < length s.token.me.0.views = omega arith in
         let n : ℕ = new.0 in
         let theirs : view_at 0 parent.me.0 ≡ step.parted (view_at 0 s.token.me.0) = ap (λ (m : Passing O C R). view_at 0 m.0) is ∙ get_or-map step.parted s.token.me.0.views 0 spent spent some_view in
-        let mine = split_view new 0 some_view in
+        let mine = split_at new 0 some_view in
         let order : token.me.0.seen ≡ s.token.me.0.seen = ap (λ (m : Passing O C R). m.0.seen) new.1 in
         let numbers : (pass_of Now).numbers ≡ n ∷ [] = ap (λ (v : View O C R). v.numbers) mine in
         let number : (pass_of Now).number ≡ n = ap (λ (v : View O C R). v.number) mine in
@@ -251,25 +228,8 @@ module _ {O C R : Type 0} (moves : O → C → R → O → Type 0) where
 -- ---- a seat that takes in another
 
 module _ {O C R : Type 0} (moves : O → C → R → O → Type 0) where
-  -- what is told of one place
-  abbrev Told : List (Placed O C R) → O → View O C R → View O C R → ℕ → Type 0
-  Told order o v w place = (c : List (ℕ × Spot O C R)) × Gathers moves o (step.both_of v w, c) (merged (turns_at place order) (step.both_of v w), c)
-
-  joined_one : (table table' : TableId) (first first' : ℕ) (o o' : O) (order : List (Placed O C R)) (place : ℕ) (v w : View O C R) → Told order o v w place
-      → Joins moves (holding table first o v) (holding table' first' o' w) (holding table first o (merged (turns_at place order) (step.both_of v w)))
-  joined_one table table' first first' o o' order place v w told =
-      let g = told.1 in
-      let same : turns_at place order ≡ g.log = ap (λ m. m.0.seen) g.is in record {
-        seen = turns_at place order;
-        begins_one = subst (IsPrefixOf v.seen) (sym same) g.one;
-        begins_two = subst (IsPrefixOf w.seen) (sym same) g.two;
-        joined = refl;
-        legal = subst (IsLegal moves o) (sym same) g.legal;
-        own = subst (HasItsOwn (v.numbers ++ w.numbers) (v.own ++ w.own)) (sym same) g.own;
-      }
-
   joined_seats : (table table' : TableId) (first first' : ℕ) (order : List (Placed O C R)) (os os' : List O) (vs ws : List (View O C R)) (from : ℕ) → length vs ≡ length os → length ws ≡ length vs → length os' ≡ length os
-      → ((place : ℕ) (o : O) → get_elem? os place ≡ some o → Told order o (get_or vs place spent) (get_or ws place spent) (from + place))
+      → ((place : ℕ) (o : O) → get_elem? os place ≡ some o → Told moves order o (get_or vs place spent) (get_or ws place spent) (from + place))
       → Each3 (Joins moves) (holdings table first os vs) (holdings table' first' os' ws) (holdings table first os (merged_from from order (both_views vs ws)))
   joined_seats table table' first first' order [] [] vs ws from one two three each = tt
   joined_seats table table' first first' order [] (o' ∷ os') vs ws from one two three each = absurd (omega arith)
@@ -278,9 +238,9 @@ module _ {O C R : Type 0} (moves : O → C → R → O → Type 0) where
   joined_seats table table' first first' order (o ∷ os) (o' ∷ os') (v ∷ vs) [] from one two three each = absurd (omega arith)
   joined_seats table table' first first' order (o ∷ os) (o' ∷ os') (v ∷ vs) (w ∷ ws) from one two three each =
       let here : from + 0 ≡ from = omega arith in (
-        joined_one table table' first first' o o' order from v w (subst (λ (k : ℕ). Told order o v w k) here (each 0 o refl)),
+        joined_one moves table table' first first' o o' order from v w (subst (λ (k : ℕ). Told moves order o v w k) here (each 0 o refl)),
         joined_seats table table' first first' order os os' vs ws (suc from) (omega arith) (omega arith) (omega arith)
-            (λ place p at. let there : from + suc place ≡ suc from + place = omega arith in subst (λ (k : ℕ). Told order p (get_or vs place spent) (get_or ws place spent) k) there (each (suc place) p at)),
+            (λ place p at. let there : from + suc place ≡ suc from + place = omega arith in subst (λ (k : ℕ). Told moves order p (get_or vs place spent) (get_or ws place spent) k) there (each (suc place) p at)),
       )
 
   -- a seat is the same under another spelling of its key
@@ -320,34 +280,18 @@ module _ {O C R : Type 0} (moves : O → C → R → O → Type 0) where
     few : (place : ℕ) (o : O) → get_elem? Ps place ≡ some o → place < length Vs
     few place o at = let less = at_below Ps place o at in let many = rest.many in omega arith
 
-    both_at : (place : ℕ) (o : O) → get_elem? Ps place ≡ some o → view_at place (both_of s.token.me.0 u.token.me.0) ≡ step.both_of (view_at place s.token.me.0) (view_at place u.token.me.0)
-    both_at place o at = both_there Vs Ws place (few place o at) as_many
-
-    told_at : (place : ℕ) (o : O) → get_elem? Ps place ≡ some o → Told told.order o (view_at place s.token.me.0) (view_at place u.token.me.0) place
-    told_at place o at =
-        let less = few place o at in
-        let long : length (both_views Vs Ws) ≡ length Vs = both_length Vs Ws as_many in
-        let c = (me_at place (both_of s.token.me.0 u.token.me.0, s.token.me.1)).1 in (
-          c,
-          subst (λ (v : View O C R). Gathers moves o (v, c) (merged (turns_at place told.order) v, c)) (both_at place o at)
-              (told.there place (omega arith) o (ap (λ (v : View O C R). v.opening) (both_at place o at) ∙ (rest.each place o at).0.opening)),
-        )
+    told_at : (place : ℕ) (o : O) → get_elem? Ps place ≡ some o → Told moves told.order o (view_at place s.token.me.0) (view_at place u.token.me.0) place
+    told_at place o at = joined_told moves place s.token.me.0 u.token.me.0 (few place o at) as_many s.token.me.1 token.me told o s.key.value.first (rest.each place o at)
 
     pub joined_now : Each3 (Joins moves) (pass_of s).seats (pass_of u).seats (pass_of Here).seats
     joined_now =
         subst (λ (l : List (Holding O C R)). Each3 (Joins moves) (pass_of s).seats (pass_of u).seats l)
         (sym (ap (λ (m : Passing O C R). holdings token.table_id s.key.value.first Ps m.0.views) told.is ∙ ap (λ (t : TableId). holdings t s.key.value.first Ps (merged_from 0 told.order (both_views Vs Ws))) same))
         (joined_seats s.token.table_id u.token.table_id s.key.value.first u.key.value.first told.order Ps u.key.value.openings.value.items Vs Ws 0 rest.many as_many (ap length same_os)
-        (λ place o at. let here : place ≡ 0 + place = omega arith in subst (λ (k : ℕ). Told told.order o (view_at place s.token.me.0) (view_at place u.token.me.0) k) here (told_at place o at)))
+        (λ place o at. let here : place ≡ 0 + place = omega arith in subst (λ (k : ℕ). Told moves told.order o (view_at place s.token.me.0) (view_at place u.token.me.0) k) here (told_at place o at)))
 
-    joined_view : (place : ℕ) → place < length Vs → view_at place token.me.0 ≡ merged (turns_at place told.order) (step.both_of (view_at place s.token.me.0) (view_at place u.token.me.0))
-    joined_view place less =
-        let here : 0 + place ≡ place = omega arith in
-        let long : length (both_views Vs Ws) ≡ length Vs = both_length Vs Ws as_many in
-        ap (λ (m : Passing O C R). view_at place m.0) told.is
-        ∙ merged_there told.order (both_views Vs Ws) 0 place (omega arith)
-        ∙ ap (λ (k : ℕ). merged (turns_at k told.order) (get_or (both_views Vs Ws) place spent)) here
-        ∙ ap (merged (turns_at place told.order)) (both_there Vs Ws place less as_many)
+    joined_at : (place : ℕ) → place < length Vs → view_at place token.me.0 ≡ merged (turns_at place told.order) (step.both_of (view_at place s.token.me.0) (view_at place u.token.me.0))
+    joined_at place less = joined_view moves place s.token.me.0 u.token.me.0 less as_many s.token.me.1 token.me told
 
     joined_many : length token.me.0.views ≡ length Vs
     joined_many = ap (λ (m : Passing O C R). length m.0.views) told.is ∙ merged_length told.order (both_views Vs Ws) 0 ∙ both_length Vs Ws as_many
@@ -359,7 +303,7 @@ module _ {O C R : Type 0} (moves : O → C → R → O → Type 0) where
         let order : token.me.0.seen ≡ told.order = ap (λ (m : Passing O C R). m.0.seen) told.is in
         let one : IsPrefixOf s.token.me.0.seen token.me.0.seen = subst (IsPrefixOf s.token.me.0.seen) (sym order) told.one in
         let two : IsPrefixOf u.token.me.0.seen token.me.0.seen = subst (IsPrefixOf u.token.me.0.seen) (sym order) told.two in
-        let here = joined_view 0 some_view in
+        let here = joined_at 0 some_view in
         let ns : List ℕ = (pass_of s).numbers in
         let ks : List ℕ = (pass_of u).numbers in
         let own : ℕ → List ℕ = (λ q. (view_at q s.token.me.0).own) in
@@ -382,7 +326,7 @@ module _ {O C R : Type 0} (moves : O → C → R → O → Type 0) where
         let c' = ap (λ (l : List (Turn O C R)). made_at ns l p) long.1 in
         let d = made_at-longer ks (turns_at q u.token.me.0.seen) long'.0 p in
         let d' = ap (λ (l : List (Turn O C R)). made_at ks l p) long'.1 in
-        let all : times p (v.own ++ w.own) ≡ made_at (v.numbers ++ w.numbers) log p = subst (λ (x : View O C R). times p x.own ≡ made_at x.numbers log p) (joined_view q few) (told.owns.own q p less) in
+        let all : times p (v.own ++ w.own) ≡ made_at (v.numbers ++ w.numbers) log p = subst (λ (x : View O C R). times p x.own ≡ made_at x.numbers log p) (joined_at q few) (told.owns.own q p less) in
         let names : made_at (v.numbers ++ w.numbers) log p ≡ made_at (ns ++ ks) log p = (λ i. made_at ((rest.named q few).1 i ++ (rest'.named q few').1 i) log p) in
         let sum = times-append p v.own w.own in
         let made = made_at-append ns ks log p in
@@ -400,34 +344,12 @@ module _ {O C R : Type 0} (moves : O → C → R → O → Type 0) where
       no_slot = ap (λ (m : Passing O C R). m.1) told.is ∙ rest.no_slot;
       nothing_else = ap (λ (m : Passing O C R). m.0.also) told.is;
       many = joined_many ∙ rest.many;
-      each = λ place o at.
-          let v : View O C R = view_at place s.token.me.0 in
-          let w : View O C R = view_at place u.token.me.0 in
-          let r = (rest.each place o at).0 in
-          let g = (told_at place o at).1 in
-          let less = few place o at in
-          let log : List (Turn O C R) = turns_at place told.order in
-          let view = joined_view place less in
-          let order : token.me.0.seen ≡ told.order = ap (λ (m : Passing O C R). m.0.seen) told.is in
-          let is_log : log ≡ g.log = ap (λ m. m.0.seen) g.is in
-          subst (λ (x : View O C R). RestsAt moves o s.key.value.first x × IsPrefixOf x.seen (turns_at place token.me.0.seen)) (sym view) (
-            record {
-              no_ticket = r.no_ticket;
-              no_turn = r.no_turn;
-              nothing_else = refl;
-              opening = r.opening;
-              first = r.first;
-              named = still_named v w (merged log (step.both_of v w), []) [] log refl r.named;
-              legal = subst (IsLegal moves o) (sym is_log) g.legal;
-              own = subst (HasItsOwn (v.numbers ++ w.numbers) (v.own ++ w.own)) (sym is_log) g.own;
-            },
-            subst (λ (l : List (Placed O C R)). IsPrefixOf log (turns_at place l)) (sym order) (prefix_self log),
-          );
+      each = λ place o at. joined_there moves place s.token.me.0 u.token.me.0 (few place o at) as_many s.token.me.1 token.me told o s.key.value.first (rest.each place o at);
       named = λ place less.
           let wide = joined_many in
           let same = as_many in
-          let one = joined_view place (omega arith) in
-          let two = joined_view 0 (omega arith) in
+          let one = joined_at place (omega arith) in
+          let two = joined_at 0 (omega arith) in
           let mine = rest.named place (omega arith) in
           let theirs = rest'.named place (omega arith) in
           (ap (λ (v : View O C R). v.number) one ∙ mine.0 ∙ sym (ap (λ (v : View O C R). v.number) two), ap (λ (v : View O C R). v.numbers) one ∙ (λ i. mine.1 i ++ theirs.1 i) ∙ sym (ap (λ (v : View O C R). v.numbers) two));

@@ -1,19 +1,15 @@
 -- What is known of a bank that was closed.
-use Rattle.std.proofs.Common.{◌≡◌, ℕ, zero, suc, ◌+◌, ◌*◌, ◌<◌, ◌≤◌, ⊎_elim, Bool, false, set, List, [], ◌∷◌, ◌++◌, length, get_or, refl, sym, ap, ◌∙◌, subst, arith}
-use mathlib.Core.Logic.{dite}
-use native.Mathlib.Decide.{ℕ_discrete}
-use mathlib.Core.Option.{none, some, some-injective, some-ne-none}
+use Rattle.std.proofs.Common.{◌≡◌, ℕ, zero, suc, ◌*◌, ◌<◌, ◌≤◌, ⊎_elim, Bool, false, set, List, [], ◌∷◌, ◌++◌, length, get_or, refl, sym, ap, ◌∙◌, subst, arith}
+use mathlib.Core.Option.{some, some-ne-none}
 use lib.ListN.{get_elem?}
 use Rattle.atomic_table.specs.Table.{State, Final, Seen}
-use Rattle.atomic_table.proofs.Lists.{at_map}
 use Rattle.sysv_lists.specs.Prefix.{IsPrefixOf}
-use Rattle.sysv_lists.proofs.Places.{at_snoc_place}
+use Rattle.sysv_lists.proofs.Places.{at_snoc_place, there}
 use Rattle.sysv_gate.specs.declared.view.View.{View}
-use Rattle.sysv_gate.specs.declared.view.Turn.{Turn}
 use Rattle.sysv_gate.specs.declared.view.Sight.{Sight}
 use Rattle.sysv_gate.specs.declared.view.Placed.{Placed}
 use Rattle.sysv_gate.specs.declared.closing.Closing.{Closing}
-use Rattle.sysv_gate.specs.Rule.{Spot, GatedBy}
+use Rattle.sysv_gate.specs.Rule.{Spot}
 use Rattle.sysv_gate.specs.Gates.{Holding}
 use Rattle.sysv_gate.specs.Closings.{Closes}
 use Rattle.sysv_gate.specs.Ending.{IsReadAt}
@@ -22,18 +18,16 @@ use Rattle.sysv_gate.specs.Orders.{turns_at, AreBelow, NoneMadeUnder, AllMadeUnd
 use Rattle.sysv_gate.proofs.Keeping.{numbers_once}
 use Rattle.sysv_gate.proofs.Sharing.{all_mine}
 use Rattle.sysv_gate.specs.Shares.{IsWhole}
-use Rattle.sysv_gate.specs.Halls.{block, view_at, state_at, InOrder}
-use Rattle.sysv_gate.proofs.Blocks.{block_read}
-use Rattle.sysv_gate.proofs.Lifting.{read_there}
-use Rattle.sysv_gate.proofs.AtTheEnd.{ended_by, closes_whole, closes_due}
+use Rattle.sysv_gate.specs.Halls.{view_at, state_at, InOrder}
+use Rattle.sysv_gate.proofs.AtTheEnd as end
 use Rattle.sysv_bank.specs.declared.seat.BankSeat.TheInside.{Inside}
 use Rattle.sysv_bank.specs.Banks.{Each2}
-use Rattle.sysv_bank.specs.Passes.{holding, holdings}
+use Rattle.sysv_gate.specs.Held.{holding}
+use Rattle.sysv_bank.specs.Passes.{holdings}
 use Rattle.sysv_bank.specs.Resting.{pass_of, Rests}
 use Rattle.sysv_bank.specs.Closing.{ClosesInOrder}
-use Rattle.sysv_bank.proofs.Places.{at_below}
 use Rattle.sysv_bank.proofs.Owning.{goes_without, all_made, ends_there}
-use Rattle.sysv_bank.proofs.Passes.{read_at, opened_at, from_view, own_named}
+use Rattle.sysv_bank.proofs.Passes.{from_view, own_named}
 
 -- as many of both, and the fact at each place
 pub each2_of : {A B : Type 0} (fact : A → B → Type 0) (xs : List A) (ys : List B) → length xs ≡ length ys → ((k : ℕ) (x : A) (y : B) → get_elem? xs k ≡ some x → get_elem? ys k ≡ some y → fact x y) → Each2 fact xs ys
@@ -69,20 +63,6 @@ module _ {O C R : Type 0} (moves : O → C → R → O → Type 0) (counted : O 
   pub lengths_end : (length words ≡ 80 * length openings) × (length slots ≡ length openings)
   lengths_end = (ap length (sym final.2) ∙ final.1.0.1.words, sym final.3 ∙ final.1.0.1.homes)
 
-  gated : (place : ℕ) (o : O) → get_elem? openings place ≡ some o → GatedBy moves counted o first (turns_at place Order) (state_at place St)
-  gated = final.1.0.1.each
-
-  word_there : (place i n : ℕ) → i < 80 → get_elem? words (80 * place + i) ≡ some n → get_or (block place St.words) i 0 ≡ n
-  word_there place i n low at = block_read place i 0 St.words low ∙ ap (λ (l : List ℕ). get_or l (80 * place + i) 0) final.2 ∙ read_at words (80 * place + i) 0 n at
-
-  -- no fewer tickets were served than the first one says
-  pub served_from : (place served : ℕ) → place < length openings → get_elem? words (80 * place + 16) ≡ some served → first ≤ served
-  served_from place served less at =
-      let o = opened_at openings place less in
-      let count = (gated place o.0 o.1).2 in
-      let is = word_there place 16 served (omega arith) at in
-      omega arith
-
   module _ (u : Inside O C R) (rest : Rests moves u) (same_first : u.key.value.first ≡ first) (same_os : u.key.value.openings.value.items ≡ openings) (is_id : u.token.id ≡ id) (is_view : u.token.me.0 ≡ v) where
     -- what one place gives back
     pub closes_at : (place : ℕ) (h : Holding O C R) (c : Closing O) → get_elem? (pass_of u).seats place ≡ some h → IsReadAt first words slots place c → (closes : Closes moves h c) × (closes.log ≡ turns_at place Order)
@@ -90,23 +70,13 @@ module _ {O C R : Type 0} (moves : O → C → R → O → Type 0) (counted : O 
         let from = from_view moves u rest place h at in
         let o : O = from.0 in
         let opens : get_elem? openings place ≡ some o = subst (λ (l : List O). get_elem? l place ≡ some o) same_os from.1 in
-        let few = at_below openings place o opens in
-        let many : length St.homes ≡ length openings = final.1.0.1.homes in
-        let log : List (Turn O C R) = turns_at place Order in
-        let hold : Holding O C R = holding u.token.table_id first o (view_at place u.token.me.0) in
-        let same : hold ≡ h = ap (λ (n : ℕ). holding u.token.table_id n o (view_at place u.token.me.0)) (sym same_first) ∙ from.2 in
-        let seen : get_elem? (state_at place St).views id ≡ some (view_at place u.token.me.0) = at_map (view_at place) St.views id v final.1.1 ∙ ap (λ (x : Sight O C R). some (view_at place x)) (sym is_view) in
-        let end = ended_by moves counted hold id (view_at place u.token.me.0) (state_at place St) log read.served read.next read.spot (gated place o opens) seen
-        (record { numbers = refl; seen = refl; own = refl; alone = refl; no_ticket = (rest.each place o from.1).0.no_ticket })
-        (word_there place 16 read.served (omega arith) read.at_served) (word_there place 32 read.next (omega arith) read.at_next)
-        (λ x there. some-injective read.spot x (sym read.at_spot ∙ final.4 place x (read_there St.homes place none (some x) (omega arith) (some-injective _ _ there)))) in
-        subst (λ (k : Holding O C R). (closes : Closes moves k c) × (closes.log ≡ log)) same
-        (dite (ℕ_discrete read.served read.next)
-        (λ all. let w = read.whole all in closes_whole moves counted log hold read.served read.next read.spot c end all w.0 w.1 read.turns)
-        (λ more. closes_due moves counted log hold read.served read.next read.spot c end more (read.due more) read.turns))
+        let hold : Holding O C R = holding u.token.table_id first o (view_at place v) in
+        let same : hold ≡ h = (λ i. holding u.token.table_id (sym same_first i) o (view_at place (sym is_view i))) ∙ from.2 in
+        subst (λ (k : Holding O C R). (closes : Closes moves k c) × (closes.log ≡ turns_at place Order)) same
+        (end.closes_at moves counted openings first id v words slots final place o u.token.table_id c opens (ap (λ (x : Sight O C R). (view_at place x).tickets) (sym is_view) ∙ (rest.each place o from.1).0.no_ticket) read)
 
     my_view : (place : ℕ) → get_elem? (state_at place St).views id ≡ some (view_at place u.token.me.0)
-    my_view place = at_map (view_at place) St.views id v final.1.1 ∙ ap (λ (x : Sight O C R). some (view_at place x)) (sym is_view)
+    my_view place = end.view_there moves counted openings first id v words slots final place ∙ ap (λ (x : Sight O C R). some (view_at place x)) (sym is_view)
 
     begins : IsPrefixOf u.token.me.0.seen Order
     begins = subst (λ (x : Sight O C R). IsPrefixOf x.seen Order) (sym is_view) (final.1.0.1.seen id v final.1.1).0
@@ -118,8 +88,8 @@ module _ {O C R : Type 0} (moves : O → C → R → O → Type 0) (counted : O 
     strangers_end =
         goes_without (pass_of u).numbers (length openings) (λ q. (view_at q u.token.me.0).own) u.token.me.0.seen Order begins final.1.0.1.below (λ q p less. own_named moves u rest q p (let many = rest.many in let same = ap length same_os in omega arith))
         (λ q p less.
-        let o = opened_at openings q less in
-        let mine = ((gated q o.0 o.1).3.each id (view_at q u.token.me.0) (my_view q)).own p in
+        let o = there openings q less in
+        let mine = ((final.1.0.1.each q o.0 o.1).3.each id (view_at q u.token.me.0) (my_view q)).own p in
         let many = rest.many in
         let same = ap length same_os in
         let named = ap (λ (l : List ℕ). made_at l (turns_at q Order) p) (rest.named q (omega arith)).1 in
@@ -130,7 +100,7 @@ module _ {O C R : Type 0} (moves : O → C → R → O → Type 0) (counted : O 
     all_end whole =
         all_made (pass_of u).numbers (length openings) Order final.1.0.1.below
         (λ q j less near.
-        let o = opened_at openings q less in
+        let o = there openings q less in
         let mine = all_mine moves counted openings first Order St id u.token.me.0 final.1.0.1 (final.1.1 ∙ ap some (sym is_view)) whole q o.0 o.1 j near in
         subst (λ (l : List ℕ). 1 ≤ made_at l (turns_at q Order) j) (rest.named q (few q less)).1 mine)
 
@@ -152,8 +122,8 @@ module _ {O C R : Type 0} (moves : O → C → R → O → Type 0) (counted : O 
         longer = begins;
         strangers = strangers_end;
         apart =
-            let o = opened_at openings 0 (omega arith) in
-            numbers_once moves o.0 first (turns_at 0 Order) (get_or (state_at 0 St).words 32 0) id (state_at 0 St).homes (state_at 0 St).views (view_at 0 u.token.me.0) (gated 0 o.0 o.1).3 (my_view 0);
+            let o = there openings 0 (omega arith) in
+            numbers_once moves o.0 first (turns_at 0 Order) (get_or (state_at 0 St).words 32 0) id (state_at 0 St).homes (state_at 0 St).views (view_at 0 u.token.me.0) (final.1.0.1.each 0 o.0 o.1).3 (my_view 0);
         home = λ whole. (ends_there (pass_of u).numbers u.token.me.0.seen Order begins strangers_end (all_end whole), all_end whole);
         below = subst (λ (n : ℕ). AreBelow n Order) (sym as_many) final.1.0.1.below;
         each = λ k h c at there. closes_at k h c at (read k c there);

@@ -27,9 +27,10 @@ use Rattle.sysv_gate.proofs.Ordering.{turns_append, turns_here, turns_longer, be
 use Rattle.sysv_bank.specs.declared.seat.BankSeat.TheInside.{Inside}
 use Rattle.sysv_bank.specs.declared.bank.Bank.TheInside.{Inside as BankInside}
 use Rattle.sysv_bank.specs.Banks.{ChangesAt, gates_of, EachKnowsItsOwn}
-use Rattle.sysv_bank.specs.Passes.{Pass, holding, holdings, GoesOn, AddsToOrder, SeenInOrder, IsOfPass, KnowsItsTurns}
-use Rattle.sysv_bank.specs.Resting.{RestsAt, IsNamedAs, pass_of, Rests, gateways, IsOpen}
-use Rattle.sysv_bank.proofs.Places.{at_below}
+use Rattle.sysv_gate.specs.Held.{holding, RestsAt}
+use Rattle.sysv_bank.specs.Passes.{Pass, holdings, GoesOn, AddsToOrder, SeenInOrder, IsOfPass, KnowsItsTurns}
+use Rattle.sysv_bank.specs.Resting.{IsNamedAs, pass_of, Rests, gateways, IsOpen}
+use Rattle.sysv_lists.proofs.Places.{at_below, there}
 use Rattle.sysv_bank.proofs.Owning.{made_at-longer, before_last, goes_without}
 use Rattle.sysv_bank.proofs.Calling.{Stays, Adds}
 
@@ -37,11 +38,6 @@ pub read_at : {A : Type 0} (xs : List A) (i : ℕ) (d a : A) → get_elem? xs i 
 read_at [] i d a at = absurd (some-ne-none a (sym at))
 read_at (x ∷ xs) zero d a at = some-injective x a at
 read_at (x ∷ xs) (suc i) d a at = read_at xs i d a at
-
-pub opened_at : {A : Type 0} (xs : List A) (i : ℕ) → i < length xs → (a : A) × (get_elem? xs i ≡ some a)
-opened_at [] i less = absurd (omega arith)
-opened_at (x ∷ xs) zero less = (x, refl)
-opened_at (x ∷ xs) (suc i) less = opened_at xs i (omega arith)
 
 module _ {O C R : Type 0} (table : TableId) (first : ℕ) where
   pub holding_at : (os : List O) (vs : List (View O C R)) (place : ℕ) (o : O) → get_elem? os place ≡ some o → place < length vs → get_elem? (holdings table first os vs) place ≡ some (holding table first o (get_or vs place spent))
@@ -105,7 +101,7 @@ module _ {O C R : Type 0} (moves : O → C → R → O → Type 0) (counted : O 
 
   module _ (place : ℕ) (door : Doorway O) (inside : place < length gates) (at : door ≡ get_or b.doors.items place door) where
     opens_at : (o : O) × (get_elem? Openings place ≡ some o)
-    opens_at = opened_at Openings place (let same = many_gates in omega arith)
+    opens_at = there Openings place (let same = many_gates in omega arith)
 
     is_door : door ≡ record { place = place; opening = opens_at.0 }
     is_door = at ∙ read_at b.doors.items place door (record { place = place; opening = opens_at.0 }) (opened.doors.1 place opens_at.0 (let same = many_gates in omega arith) opens_at.1)
@@ -294,7 +290,7 @@ module _ {O C R : Type 0} (moves : O → C → R → O → Type 0) (s : Inside O
       let long : length (pass_of s).seats ≡ length s.key.value.openings.value.items = sym (length-map (pass_of s).seats _) ∙ ap length gates ∙ length-map s.key.value.openings.value.items _ in
       let less = at_below (pass_of s).seats place h at in
       let many = rest.many in
-      let o = opened_at s.key.value.openings.value.items place (omega arith) in
+      let o = there s.key.value.openings.value.items place (omega arith) in
       (o.0, o.1, some-injective _ h (sym (holding_at s.token.table_id s.key.value.first s.key.value.openings.value.items s.token.me.0.views place o.0 o.1 (omega arith)) ∙ at))
 
   pub each_known : EachKnowsItsOwn moves (pass_of s).seats

@@ -1,8 +1,5 @@
--- Answers by their case, and what lies at a place of a list.
-use Rattle.std.proofs.Common.{◌≡◌, ℕ, zero, suc, ◌<◌, List, [], ◌∷◌, length, sym, arith}
+-- Answers by their case.
 use Rattle.std.specs.Prelude.{Result, Ok, Err, IfOk, IfErr, OnOk, OnErr}
-use mathlib.Core.Option.{some, some-ne-none}
-use lib.ListN.{get_elem?}
 
 pub if_ok : {T E : Type 0} (r : Result T E) (P Q : T → Type 0) → IfOk r P → ((x : T) → P x → Q x) → IfOk r Q
 if_ok (Ok x) P Q is goes = goes x is
@@ -24,9 +21,3 @@ both_ok (Err e) P Q S is on goes = tt
 pub on_err : {T E : Type 0} (r : Result T E) (P : E → Type 0) (S : Type 0) → IfErr r P → ((e : E) → P e → S) → OnErr r S
 on_err (Ok x) P S is goes = tt
 on_err (Err e) P S is goes = goes e is
-
-module _ {A : Type 0} where
-  pub at_below : (xs : List A) (i : ℕ) (a : A) → get_elem? xs i ≡ some a → i < length xs
-  at_below [] i a at = absurd (some-ne-none a (sym at))
-  at_below (x ∷ xs) zero a at = omega arith
-  at_below (x ∷ xs) (suc i) a at = let r = at_below xs i a at in omega arith

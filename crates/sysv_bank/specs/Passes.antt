@@ -9,6 +9,7 @@ use Rattle.sysv_gate.specs.declared.view.View.{View}
 use Rattle.sysv_gate.specs.declared.view.Turn.{Turn}
 use Rattle.sysv_gate.specs.declared.view.Placed.{Placed}
 use Rattle.sysv_gate.specs.Gates.{Holding}
+use Rattle.sysv_gate.specs.Held.{holding}
 use Rattle.sysv_gate.specs.History.{HasItsOwn}
 use Rattle.sysv_gate.specs.Shares.{half}
 use Rattle.sysv_gate.specs.Orders.{turns_at, NoneMadeUnder, GoesOnWithout}
@@ -23,20 +24,7 @@ pub record Pass (O C R : Type 0) : Type 0 where
   pub shares : List ℕ
 
 module _ {O C R : Type 0} where
-  -- what is seen of one place
-  abbrev pub holding : TableId → ℕ → O → View O C R → Holding O C R
-  holding table first opening v = record {
-    gate = record { table = table; opening = opening; first = first };
-    number = v.number;
-    numbers = v.numbers;
-    seen = v.seen;
-    own = v.own;
-    worn = v.worn;
-    read = v.read;
-    alone = v.alone;
-  }
-
-  -- place by place
+  -- what is seen of the views, place by place
   abbrev pub holdings : TableId → ℕ → List O → List (View O C R) → List (Holding O C R)
   holdings table first [] views = []
   holdings table first (o ∷ os) [] = []

@@ -1,17 +1,14 @@
 -- How a bank and its seats are kept between two calls.
-use Rattle.std.specs.Prelude.{◌≡◌, ℕ, ◌*◌, ◌^◌, ◌<◌, ◌≤◌, false, List, [], length, map, vec_capacity, Some}
+use Rattle.std.specs.Prelude.{◌≡◌, ℕ, ◌*◌, ◌^◌, ◌<◌, ◌≤◌, List, [], length, map, vec_capacity}
 use mathlib.Core.Option.{some}
 use lib.ListN.{get_elem?}
 use Rattle.atomic_table.specs.Seated.{TableId}
-use Rattle.sysv_lists.specs.Numbers.{times}
-use Rattle.sysv_lists.specs.Prefix.{IsPrefixOf}
 use Rattle.atomic_table.specs.declared.shared.Seat.{Seat}
 use Rattle.sysv_gate.specs.declared.view.View.{View}
 use Rattle.sysv_gate.specs.declared.view.Sight.{Sight}
 use Rattle.sysv_gate.specs.Rule.{Spot}
-use Rattle.sysv_gate.specs.History.{IsLegal, HasItsOwn}
 use Rattle.sysv_gate.specs.Gates.{Gateway}
-use Rattle.sysv_gate.specs.Orders.{turns_at}
+use Rattle.sysv_gate.specs.Held.{RestsThere}
 use Rattle.sysv_gate.specs.Halls.{view_at, OwnsInOrder}
 use Rattle.sysv_gate.specs.Laying.{AreDoorsUpTo}
 use Rattle.sysv_bank.specs.declared.seat.BankSeat.TheInside.{Inside}
@@ -19,18 +16,6 @@ use Rattle.sysv_bank.specs.declared.bank.Bank.TheInside.{Inside as BankInside}
 use Rattle.sysv_bank.specs.Passes.{Pass, holdings}
 
 module _ {O C R : Type 0} where
-  -- A view at rest: it has no ticket and no turn, its number is one of its numbers, it knows the object that was at the place,
-  -- and has seen a legal history, in which its own turns are those under its numbers
-  pub record RestsAt (moves : O → C → R → O → Type 0) (o : O) (start : ℕ) (v : View O C R) : Type 0 where
-    pub no_ticket : v.tickets ≡ []
-    pub no_turn : v.in_turn ≡ false
-    pub nothing_else : v.also ≡ []
-    pub opening : v.opening ≡ Some o
-    pub first : v.first ≡ start
-    pub named : 1 ≤ times v.number v.numbers
-    pub legal : IsLegal moves o v.seen
-    pub own : HasItsOwn v.numbers v.own v.seen
-
   abbrev pub pass_of : Inside O C R → Pass O C R
   pass_of s = record {
     seats = holdings s.token.table_id s.key.value.first s.key.value.openings.value.items s.token.me.0.views;
@@ -51,7 +36,7 @@ module _ {O C R : Type 0} where
     pub nothing_else : s.token.me.0.also ≡ []
     pub many : length s.token.me.0.views ≡ length s.key.value.openings.value.items
     pub each : (place : ℕ) (o : O) → get_elem? s.key.value.openings.value.items place ≡ some o
-        → RestsAt moves o s.key.value.first (view_at place s.token.me.0) × IsPrefixOf (view_at place s.token.me.0).seen (turns_at place s.token.me.0.seen)
+        → RestsThere moves place o s.key.value.first s.token.me.0
     pub named : (place : ℕ) → place < length s.token.me.0.views → IsNamedAs (view_at 0 s.token.me.0) (view_at place s.token.me.0)
     pub owns : OwnsInOrder s.token.me.0
 

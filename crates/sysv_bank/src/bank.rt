@@ -53,8 +53,10 @@ impl<O: Object> Bank<O> {
     ) -> Result<(Bank<O>, BankSeat<O>), OpenRefused<Vec<O, Global>>>
         requires some { 1 ≤ length objects.items }
         requires counts { All (λ o. AreUpTo (2 ^ 61) (O.counted o)) objects.items }
-        ensures ok { IfOk result (λ o. AreOpened objects.items first o.0 × (o.1.seats ≡ map opened o.0) × (first ≤ 2 ^ 62)) }
-        ensures fits { IfOk result (λ o. (gates_of o.1.seats ≡ o.0) × (length o.0 ≡ length objects.items)) }
+        ensures ok { IfOk result (λ o. AreOpened objects.items first o.0
+            × (o.1.seats ≡ map opened o.0) × (first ≤ 2 ^ 62)) }
+        ensures fits { IfOk result (λ o. (gates_of o.1.seats ≡ o.0)
+            × (length o.0 ≡ length objects.items)) }
         ensures order { IfOk result (λ o. o.1.order ≡ []) }
         ensures numbers { IfOk result (λ o. (o.1.number ≡ 0) × (o.1.numbers ≡ 0 ∷ [])) }
         ensures share { IfOk result (λ o. o.1.shares ≡ 0 ∷ []) }
@@ -98,7 +100,8 @@ impl<O: Object> Bank<O> {
     pub fn split(&self, _alloc: Global, seat: &mut BankSeat<O>) -> Result<BankSeat<O>, NoMemory>
         requires { gates_of seat.old.seats ≡ self.now }
         ensures gates { gates_of seat.new.seats ≡ self.now }
-        ensures ok { IfOk result (λ s. (gates_of s.seats ≡ self.now) × (seat.new.seats ≡ map parted seat.old.seats) × Each2 IsSplit seat.old.seats s.seats) }
+        ensures ok { IfOk result (λ s. (gates_of s.seats ≡ self.now)
+            × (seat.new.seats ≡ map parted seat.old.seats) × Each2 IsSplit seat.old.seats s.seats) }
         ensures order { IfOk result (λ s. SplitsOff seat.old seat.new s) }
         ensures err { OnErr result (seat.new ≡ seat.old) }
     {
@@ -115,7 +118,8 @@ impl<O: Object> Bank<O> {
         requires seat { gates_of seat.old.seats ≡ self.now }
         requires other { gates_of other.seats ≡ self.now }
         ensures gates { gates_of seat.new.seats ≡ self.now }
-        ensures joined { Each3 (Joins (Moves O.meaning O.counted)) seat.old.seats other.seats seat.new.seats }
+        ensures joined { Each3 (Joins (Moves O.meaning O.counted)) seat.old.seats other.seats
+            seat.new.seats }
         ensures order { JoinsOrders seat.old other seat.new }
     {
         join_pass(&self.hall, &mut seat.token, other.into_token());

@@ -29,8 +29,12 @@ impl<O: Object> Bank<O> {
         ensures gates { gates_of seat.new.seats ≡ self.now }
         ensures order { OnOk result (AddsToOrder place seat.old seat.new) }
         ensures longer { OnErr result (GoesOn seat.old seat.new) }
-        ensures ok { IfOk result (λ r. ChangesAt place seat.old.seats seat.new.seats (λ before after. Answers (Moves O.meaning O.counted) O.counted before call r after × (before.worn ≡ false))) }
-        ensures worn { IfErr result (λ w. (w.call ≡ call) × ChangesAt place seat.old.seats seat.new.seats (λ before after. after ≡ marked before)) }
+        ensures ok { IfOk result (λ r. ChangesAt place seat.old.seats seat.new.seats
+            (λ before after. Answers (Moves O.meaning O.counted) O.counted before call r after
+            × (before.worn ≡ false))) }
+        ensures worn { IfErr result (λ w. (w.call ≡ call)
+            × ChangesAt place seat.old.seats seat.new.seats
+            (λ before after. after ≡ marked before)) }
     {
         self.doors[place].call(rt, &self.hall, &mut seat.token, call)
     }
@@ -48,8 +52,11 @@ impl<O: Object> Bank<O> {
         ensures gates { gates_of seat.new.seats ≡ self.now }
         ensures order { OnOk result (AddsToOrder place seat.old seat.new) }
         ensures longer { OnErr result (GoesOn seat.old seat.new) }
-        ensures ok { IfOk result (λ r. ChangesAt place seat.old.seats seat.new.seats (λ before after. Answers (Moves O.meaning O.counted) O.counted before call r after × (before.worn ≡ false))) }
-        ensures err { IfErr result (λ e. ChangesAt place seat.old.seats seat.new.seats (λ before after. Refuses (Moves O.meaning O.counted) before call e after)) }
+        ensures ok { IfOk result (λ r. ChangesAt place seat.old.seats seat.new.seats
+            (λ before after. Answers (Moves O.meaning O.counted) O.counted before call r after
+            × (before.worn ≡ false))) }
+        ensures err { IfErr result (λ e. ChangesAt place seat.old.seats seat.new.seats
+            (λ before after. Refuses (Moves O.meaning O.counted) before call e after)) }
     {
         self.doors[place].try_call(&self.hall, &mut seat.token, call)
     }
@@ -74,7 +81,9 @@ impl<O: Object> Bank<O> {
         requires place { place < length self.now }
         ensures gates { gates_of seat.new.seats ≡ self.now }
         ensures longer { GoesOn seat.old seat.new }
-        ensures read { ChangesAt place seat.old.seats seat.new.seats (λ before after. (after ≡ read_to Arrived result before) × Learns O.counted Arrived before result) }
+        ensures read { ChangesAt place seat.old.seats seat.new.seats
+            (λ before after. (after ≡ read_to Arrived result before)
+            × Learns O.counted Arrived before result) }
     {
         self.doors[place].count(&self.hall, &mut seat.token, Count::Arrived)
     }
@@ -85,7 +94,9 @@ impl<O: Object> Bank<O> {
         requires place { place < length self.now }
         ensures gates { gates_of seat.new.seats ≡ self.now }
         ensures longer { GoesOn seat.old seat.new }
-        ensures read { ChangesAt place seat.old.seats seat.new.seats (λ before after. (after ≡ read_to Freed result before) × Learns O.counted Freed before result) }
+        ensures read { ChangesAt place seat.old.seats seat.new.seats
+            (λ before after. (after ≡ read_to Freed result before)
+            × Learns O.counted Freed before result) }
     {
         self.doors[place].count(&self.hall, &mut seat.token, Count::Freed)
     }
@@ -102,7 +113,8 @@ impl<O: Object> Bank<O> {
         requires place { place < length self.now }
         ensures gates { gates_of seat.new.seats ≡ self.now }
         ensures longer { GoesOn seat.old seat.new }
-        ensures waited { ChangesAt place seat.old.seats seat.new.seats (λ before after. Waited O.counted Arrived goal before result after) }
+        ensures waited { ChangesAt place seat.old.seats seat.new.seats
+            (λ before after. Waited O.counted Arrived goal before result after) }
     {
         self.doors[place].await_count(rt, &self.hall, &mut seat.token, Count::Arrived, goal)
     }
@@ -119,7 +131,8 @@ impl<O: Object> Bank<O> {
         requires place { place < length self.now }
         ensures gates { gates_of seat.new.seats ≡ self.now }
         ensures longer { GoesOn seat.old seat.new }
-        ensures waited { ChangesAt place seat.old.seats seat.new.seats (λ before after. Waited O.counted Freed goal before result after) }
+        ensures waited { ChangesAt place seat.old.seats seat.new.seats
+            (λ before after. Waited O.counted Freed goal before result after) }
     {
         self.doors[place].await_count(rt, &self.hall, &mut seat.token, Count::Freed, goal)
     }
@@ -136,7 +149,8 @@ impl<O: Object> Bank<O> {
         requires place { place < length self.now }
         ensures gates { gates_of seat.new.seats ≡ self.now }
         ensures longer { GoesOn seat.old seat.new }
-        ensures waited { ChangesAt place seat.old.seats seat.new.seats (λ before after. WaitedWithin O.counted Arrived goal before result after) }
+        ensures waited { ChangesAt place seat.old.seats seat.new.seats
+            (λ before after. WaitedWithin O.counted Arrived goal before result after) }
     {
         self.doors[place].await_within(rt, &self.hall, &mut seat.token, Count::Arrived, goal)
     }
@@ -153,7 +167,8 @@ impl<O: Object> Bank<O> {
         requires place { place < length self.now }
         ensures gates { gates_of seat.new.seats ≡ self.now }
         ensures longer { GoesOn seat.old seat.new }
-        ensures waited { ChangesAt place seat.old.seats seat.new.seats (λ before after. WaitedWithin O.counted Freed goal before result after) }
+        ensures waited { ChangesAt place seat.old.seats seat.new.seats
+            (λ before after. WaitedWithin O.counted Freed goal before result after) }
     {
         self.doors[place].await_within(rt, &self.hall, &mut seat.token, Count::Freed, goal)
     }

@@ -1,26 +1,34 @@
 -- What is known of a table that was closed.
-use Rattle.std.proofs.Common.{◌≡◌, ◌≢◌, ℕ, zero, suc, ◌+◌, ◌-◌, ◌<◌, ◌≤◌, true, List, [], ◌∷◌, length, get_or, refl, sym, ap, ◌∙◌, subst, arith, lt_of_not-le}
+use Rattle.std.proofs.Common.{◌≡◌, ◌≢◌, ℕ, zero, suc, ◌+◌, ◌-◌, ◌*◌, ◌<◌, ◌≤◌, true, List, [], ◌∷◌, length, get_or, refl, sym, ap, ◌∙◌, subst, arith, lt_of_not-le}
 use Rattle.std.specs.Prelude.{Option, Some, None, IfSome, IfNone}
 use mathlib.Core.Logic.{dite}
-use native.Mathlib.Decide.{dec_le}
-use mathlib.Core.Option.{some, some-injective, some-ne-none}
+use native.Mathlib.Decide.{dec_le, ℕ_discrete}
+use mathlib.Core.Option.{none, some, some-injective, some-ne-none}
 use lib.ListN.{get_elem?}
 use Rattle.atomic_table.specs.Table.{State, Final, Seen}
-use Rattle.atomic_table.specs.declared.shared.Seat.{Seat}
+use Rattle.atomic_table.specs.Seated.{TableId}
+use Rattle.atomic_table.proofs.Lists.{at_map}
 use Rattle.sysv_gate.specs.declared.closing.Closing.{Closing}
 use Rattle.sysv_gate.specs.declared.view.View.{View}
 use Rattle.sysv_gate.specs.declared.view.Turn.{Turn}
+use Rattle.sysv_gate.specs.declared.view.Sight.{Sight}
+use Rattle.sysv_gate.specs.declared.view.Placed.{Placed}
 use Rattle.sysv_lists.specs.Numbers.{times}
 use Rattle.sysv_lists.specs.Prefix.{IsPrefixOf}
 use Rattle.sysv_gate.specs.History.{IsLegal, after_all, HasItsOwn}
-use Rattle.sysv_gate.specs.Rule.{Homes, Spot, put, IsKept, GatedBy, Gated}
+use Rattle.sysv_gate.specs.Rule.{Homes, Spot, put, IsKept, GatedBy}
 use Rattle.sysv_gate.specs.Gates.{Holding}
-use Rattle.sysv_gate.specs.Held.{Rests}
+use Rattle.sysv_gate.specs.Held.{holding}
 use Rattle.sysv_gate.specs.Closings.{held_object, ATurnIsDue, Closes}
-use Rattle.sysv_lists.proofs.Places.{at_below, one_there}
+use Rattle.sysv_gate.specs.Ending.{IsReadAt}
+use Rattle.sysv_gate.specs.Orders.{turns_at}
+use Rattle.sysv_gate.specs.Halls.{block, view_at, state_at, InOrder}
+use Rattle.sysv_lists.proofs.Places.{at_below, one_there, there}
 use Rattle.sysv_lists.proofs.Sums.{some_part}
 use Rattle.sysv_lists.proofs.Counting.{once_between-first}
 use Rattle.sysv_gate.proofs.Keeping.{no_ticket_no_turn, own_turns}
+use Rattle.sysv_gate.proofs.Blocks.{block_read}
+use Rattle.sysv_gate.proofs.Lifting.{read_there}
 
 read_at : (xs : List ℕ) (i a : ℕ) → get_elem? xs i ≡ some a → get_or xs i 0 ≡ a
 read_at [] i a at = absurd (some-ne-none a (sym at))
@@ -28,12 +36,8 @@ read_at (x ∷ xs) zero a at = some-injective x a at
 read_at (x ∷ xs) (suc i) a at = read_at xs i a at
 
 module _ {O C R : Type 0} (moves : O → C → R → O → Type 0) (counted : O → ℕ × ℕ) where
-  -- what is known under one spelling of the key is known under another
-  pub spelled : (o o' : O) (f f' id : ℕ) (v : View O C R) (ws : List ℕ) (xs : List (Spot O C R)) → o ≡ o' → f ≡ f' → Final (Seen (Gated moves counted o f) id v) ws xs → Final (Seen (Gated moves counted o' f') id v) ws xs
-  spelled o o' f f' id v ws xs same_object same_first final = subst (λ (n : ℕ). Final (Seen (Gated moves counted o' n) id v) ws xs) same_first (subst (λ (p : O). Final (Seen (Gated moves counted p f) id v) ws xs) same_object final)
-
   -- the view is what the seat has, which holds no ticket
-  pub record Resembles (h : Holding O C R) (v : View O C R) : Type 0 where
+  record Resembles (h : Holding O C R) (v : View O C R) : Type 0 where
     pub numbers : v.numbers ≡ h.numbers
     pub seen : v.seen ≡ h.seen
     pub own : v.own ≡ h.own
@@ -41,7 +45,7 @@ module _ {O C R : Type 0} (moves : O → C → R → O → Type 0) (counted : O 
     pub no_ticket : v.tickets ≡ []
 
   -- what the last state, with this history, tells a seat that rests
-  pub record Ended (log : List (Turn O C R)) (h : Holding O C R) (served next : ℕ) (spot : Spot O C R) : Type 0 where
+  record Ended (log : List (Turn O C R)) (h : Holding O C R) (served next : ℕ) (spot : Spot O C R) : Type 0 where
     pub legal : IsLegal moves h.gate.opening log
     pub longer : IsPrefixOf h.seen log
     pub own : HasItsOwn h.numbers h.own log
@@ -69,7 +73,7 @@ module _ {O C R : Type 0} (moves : O → C → R → O → Type 0) (counted : O 
       let has = holder.3 in
       absurd (omega arith))
 
-  pub ended_by : (h : Holding O C R) (id : ℕ) (v : View O C R) (s : State (Spot O C R) (View O C R)) (log : List (Turn O C R)) (served next : ℕ) (spot : Spot O C R)
+  ended_by : (h : Holding O C R) (id : ℕ) (v : View O C R) (s : State (Spot O C R) (View O C R)) (log : List (Turn O C R)) (served next : ℕ) (spot : Spot O C R)
       → GatedBy moves counted h.gate.opening h.gate.first log s → get_elem? s.views id ≡ some v → Resembles h v → get_or s.words 16 0 ≡ served → get_or s.words 32 0 ≡ next → ((x : Spot O C R) → get_elem? s.homes 0 ≡ some (some x) → spot ≡ x) → Ended log h served next spot
   ended_by h id v s log served next spot held at same same_served same_next back =
       let kept = held.3 in
@@ -99,18 +103,7 @@ module _ {O C R : Type 0} (moves : O → C → R → O → Type 0) (counted : O 
             (sym one.1 ∙ same.seen, omega arith);
       }
 
-  pub ended : (h : Holding O C R) (token : Seat (Spot O C R) (View O C R)) (ws : List ℕ) (xs : List (Spot O C R)) (served next : ℕ) (spot : Spot O C R) → Rests h token
-      → Final (Seen (Gated moves counted h.gate.opening h.gate.first) token.id token.me.0) ws xs → get_elem? ws 16 ≡ some served → get_elem? ws 32 ≡ some next → get_elem? xs 0 ≡ some spot → (log : List (Turn O C R)) × Ended log h served next spot
-  ended h token ws xs served next spot rests final at_serving at_next at_spot =
-      let s = final.0 in
-      let held = final.1.0 in (
-        held.0,
-        ended_by h token.id token.me.0 s held.0 served next spot held.1 final.1.1 (record { numbers = rests.numbers; seen = rests.seen; own = rests.own; alone = rests.alone; no_ticket = rests.no_ticket })
-            (ap (λ (l : List ℕ). get_or l 16 0) final.2 ∙ read_at ws 16 served at_serving) (ap (λ (l : List ℕ). get_or l 32 0) final.2 ∙ read_at ws 32 next at_next)
-            (λ x there. some-injective spot x (sym at_spot ∙ final.4 0 x there)),
-      )
-
-  pub closes_whole : (log : List (Turn O C R)) (h : Holding O C R) (served next : ℕ) (spot : Spot O C R) (c : Closing O) → Ended log h served next spot → served ≡ next → c.object ≡ held_object spot → c.rest ≡ None → c.turns ≡ served - h.gate.first → (closes : Closes moves h c) × (closes.log ≡ log)
+  closes_whole : (log : List (Turn O C R)) (h : Holding O C R) (served next : ℕ) (spot : Spot O C R) (c : Closing O) → Ended log h served next spot → served ≡ next → c.object ≡ held_object spot → c.rest ≡ None → c.turns ≡ served - h.gate.first → (closes : Closes moves h c) × (closes.log ≡ log)
   closes_whole log h served next spot c end all object rest turns =
       let count = end.count in
       let is : c.object ≡ Some (after_all h.gate.opening log) = object ∙ end.whole all in (
@@ -129,7 +122,7 @@ module _ {O C R : Type 0} (moves : O → C → R → O → Type 0) (counted : O 
         refl,
       )
 
-  pub closes_due : (log : List (Turn O C R)) (h : Holding O C R) (served next : ℕ) (spot : Spot O C R) (c : Closing O) → Ended log h served next spot → served ≢ next → c.object ≡ None → c.turns ≡ served - h.gate.first → (closes : Closes moves h c) × (closes.log ≡ log)
+  closes_due : (log : List (Turn O C R)) (h : Holding O C R) (served next : ℕ) (spot : Spot O C R) (c : Closing O) → Ended log h served next spot → served ≢ next → c.object ≡ None → c.turns ≡ served - h.gate.first → (closes : Closes moves h c) × (closes.log ≡ log)
   closes_due log h served next spot c end more object turns =
       let count = end.count in (
         record {
@@ -144,3 +137,45 @@ module _ {O C R : Type 0} (moves : O → C → R → O → Type 0) (counted : O 
         },
         refl,
       )
+
+module _ {O C R : Type 0} (moves : O → C → R → O → Type 0) (counted : O → ℕ × ℕ) (openings : List O) (first : ℕ) (id : ℕ) (v : Sight O C R) (words : List ℕ) (slots : List (Spot O C R)) (final : Final (Seen (InOrder moves counted openings first) id v) words slots) where
+  abbrev St : State (Spot O C R) (Sight O C R)
+  St = final.0
+
+  abbrev pub Order : List (Placed O C R)
+  Order = final.1.0.0
+
+  -- at each place the rule of a gate holds
+  pub gated : (place : ℕ) (o : O) → get_elem? openings place ≡ some o → GatedBy moves counted o first (turns_at place Order) (state_at place St)
+  gated = final.1.0.1.each
+
+  -- the pass's view there
+  pub view_there : (place : ℕ) → get_elem? (state_at place St).views id ≡ some (view_at place v)
+  view_there place = at_map (view_at place) St.views id v final.1.1
+
+  word_there : (place i n : ℕ) → i < 80 → get_elem? words (80 * place + i) ≡ some n → get_or (block place St.words) i 0 ≡ n
+  word_there place i n low at = block_read place i 0 St.words low ∙ ap (λ (l : List ℕ). get_or l (80 * place + i) 0) final.2 ∙ read_at words (80 * place + i) n at
+
+  -- no fewer tickets were served than the first one says
+  pub served_from : (place served : ℕ) → place < length openings → get_elem? words (80 * place + 16) ≡ some served → first ≤ served
+  served_from place served less at =
+      let o = there openings place less in
+      let count = (gated place o.0 o.1).2 in
+      let is = word_there place 16 served (omega arith) at in
+      omega arith
+
+  -- what one place gives back to a pass that has no ticket there
+  pub closes_at : (place : ℕ) (o : O) (table : TableId) (c : Closing O) → get_elem? openings place ≡ some o → (view_at place v).tickets ≡ [] → IsReadAt first words slots place c
+      → (closes : Closes moves (holding table first o (view_at place v)) c) × (closes.log ≡ turns_at place Order)
+  closes_at place o table c opens empty read =
+      let few = at_below openings place o opens in
+      let many : length St.homes ≡ length openings = final.1.0.1.homes in
+      let log : List (Turn O C R) = turns_at place Order in
+      let h : Holding O C R = holding table first o (view_at place v) in
+      let end = ended_by moves counted h id (view_at place v) (state_at place St) log read.served read.next read.spot (gated place o opens) (view_there place)
+      (record { numbers = refl; seen = refl; own = refl; alone = refl; no_ticket = empty })
+      (word_there place 16 read.served (omega arith) read.at_served) (word_there place 32 read.next (omega arith) read.at_next)
+      (λ x there. some-injective read.spot x (sym read.at_spot ∙ final.4 place x (read_there St.homes place none (some x) (omega arith) (some-injective _ _ there)))) in
+      dite (ℕ_discrete read.served read.next)
+      (λ all. let w = read.whole all in closes_whole moves counted log h read.served read.next read.spot c end all w.0 w.1 read.turns)
+      (λ more. closes_due moves counted log h read.served read.next read.spot c end more (read.due more) read.turns)

@@ -7,9 +7,6 @@ use Rattle.sysv_lists.specs.Numbers.{times}
 pub holds_some : (n : ℕ) → nat_lt 0 n ≡ true → 1 ≤ n
 holds_some n h = grind (arith, nat_tests)
 
-pub holds_none : (n : ℕ) → nat_lt 0 n ≡ false → n ≡ 0
-holds_none n h = grind (arith, nat_tests)
-
 -- a mark stays, or is made when 2^62 is found
 pub marked_by : (b : Bool) (n d : ℕ) → (b ≡ true → 2 ^ 62 ≤ d) → n ≤ d → (b || nat_le (2 ^ 62) n) ≡ true → 2 ^ 62 ≤ d
 marked_by true n d was le now = was refl
@@ -31,8 +28,3 @@ another x n e apart = grind (arith, nat_tests)
 pub low_mark : (b : Bool) (n : ℕ) → n < 2 ^ 62 → (b || nat_le (2 ^ 62) n) ≡ b
 low_mark true n low = refl
 low_mark false n low = grind (arith, nat_tests)
-
--- a number from 2^62 on does
-pub high_mark : (b : Bool) (n : ℕ) → 2 ^ 62 ≤ n → (b || nat_le (2 ^ 62) n) ≡ true
-high_mark true n high = refl
-high_mark false n high = grind (arith, nat_tests)

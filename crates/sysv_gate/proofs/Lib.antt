@@ -7,7 +7,6 @@ pub mod Sharing
 pub mod Stepping
 pub mod Opening
 pub mod Turning
-pub mod Resting
 pub mod Seating
 pub mod Blocks
 pub mod Ordering
@@ -16,6 +15,9 @@ pub mod Passing
 pub mod Entering
 pub mod Serving
 pub mod Called
+pub mod Calling
+pub mod Coming
+pub mod OneDoor
 pub mod Laid
 pub mod AtTheEnd
 pub mod Agreeing

@@ -1,8 +1,8 @@
 -- The rule holds when a gate is opened.
-use Rattle.std.proofs.Common.{◌≡◌, ℕ, ◌+◌, ◌^◌, ◌≤◌, List, [], ◌∷◌, ◌++◌, length, get_or, refl, sym, ap, subst, ⊎_elim, arith, ◌∙◌, map}
+use Rattle.std.proofs.Common.{◌≡◌, ℕ, ◌+◌, ◌^◌, ◌≤◌, List, [], ◌∷◌, ◌++◌, length, get_or, refl, sym, ap, subst, ⊎_elim, arith, length-append, ◌∙◌, map}
 use Rattle.std.specs.Prelude.{Some, None, sum_by}
 use mathlib.Core.Bool.{true≢false}
-use mathlib.Core.Option.{some, some-ne-none}
+use mathlib.Core.Option.{some, some-injective, some-ne-none}
 use lib.ListN.{get_elem?}
 use Rattle.std.proofs.lemmas.Bool.Decides.{nat_tests}
 use Rattle.atomic_table.specs.Table.{opening}
@@ -19,6 +19,11 @@ use Rattle.sysv_lists.proofs.Counting.{once_between-same, times-one, times-one-l
 -- a list of one, which was empty before
 pub pushed : {A : Type 0} (xs ys : List A) (x y : A) → ys ≡ xs ++ x ∷ [] → xs ≡ [] → x ≡ y → ys ≡ y ∷ []
 pushed xs ys x y more empty same = more ∙ ap (λ l. l ++ x ∷ []) empty ∙ ap (λ z. z ∷ []) same
+
+-- what is taken from a list of one
+pub popped : {A : Type 0} (xs front : List A) (x a : A) → xs ≡ front ++ x ∷ [] → length xs ≡ 1 → get_elem? xs 0 ≡ some a → x ≡ a
+popped xs [] x a more one at = some-injective x a (ap (λ l. get_elem? l 0) (sym more) ∙ at)
+popped xs (y ∷ front) x a more one at = let long = ap length more ∙ length-append (y ∷ front) (x ∷ []) in absurd (omega arith)
 
 module _ {O C R : Type 0} (moves : O → C → R → O → Type 0) (counted : O → ℕ × ℕ) where
   fits_start : (o : O) (first : ℕ) → Fits {C = C} {R = R} o first [] first (start o first)

@@ -3,21 +3,18 @@ use Rattle.std.proofs.Common.{◌≡◌, ◌≢◌, ℕ, ◌+◌, ◌^◌, ◌�
 use mathlib.Core.Bool.{true≢false}
 use mathlib.Core.Logic.{dite}
 use native.Mathlib.Decide.{ℕ_discrete}
-use mathlib.Core.Option.{none, some}
+use mathlib.Core.Option.{some}
 use lib.ListN.{get_elem?}
 use Rattle.std.proofs.lemmas.List.Sums.{sum_by_push}
-use Rattle.atomic_table.specs.Table.{State, step, Splits, Joins}
+use Rattle.atomic_table.specs.Table.{State, Splits, Joins}
 use Rattle.atomic_table.proofs.Lists.{at_set, at_longer, at_snoc, set_else}
 use Rattle.sysv_gate.specs.declared.view.View.{View}
 use Rattle.sysv_gate.specs.declared.view.Turn.{Turn}
 use Rattle.sysv_lists.specs.Numbers.{times}
-use Rattle.sysv_lists.specs.Prefix.{IsPrefixOf}
-use Rattle.sysv_gate.specs.History.{IsLegal, after_all, made_at, HasItsOwn}
-use Rattle.sysv_gate.specs.Counts.{word_of, of_count, larger}
+use Rattle.sysv_gate.specs.History.{IsLegal, after_all, made_at}
+use Rattle.sysv_gate.specs.Counts.{word_of, of_count}
 use Rattle.sysv_gate.specs.Rule.{Homes, Spot, bearers, Fits, IsKept, AreAnnounced, GatedBy}
-use Rattle.sysv_gate.specs.Gates.{Gateway, Holding}
-use Rattle.sysv_gate.specs.Gates.{Joins as Joined}
-use Rattle.sysv_gate.specs.Steps.{Mine, parted, newcomer, named, both_of, spent, merged, Names, Gathers, Merges}
+use Rattle.sysv_gate.specs.Steps.{Mine, parted, newcomer, named, both_of, spent, merged, Gathers}
 use Rattle.sysv_lists.proofs.Places.{at_snoc_place, set_at, at_below, each_set, each_before}
 use Rattle.sysv_lists.proofs.Sums.{sum_by-set_at}
 use Rattle.sysv_lists.proofs.Counting.{times-one, times-append, times-one-le}
@@ -26,8 +23,7 @@ use Rattle.sysv_lists.proofs.Prefixes.{prefix_self}
 use Rattle.sysv_gate.proofs.Histories.{made_at-nobody, made_at-front, made_at-append}
 use Rattle.sysv_gate.proofs.Keeping.{own_turns, stays, still_alone, not_alone}
 use Rattle.sysv_gate.proofs.Announcing.{none_yet, larger_up_to, counts_on, counts_more}
-use Rattle.sysv_gate.proofs.Touching.{leaves, AllowsTo}
-use Rattle.sysv_gate.proofs.Stepping.{on_serving, told_on}
+use Rattle.sysv_gate.proofs.Stepping.{told_on}
 
 module _ {O C R : Type 0} (moves : O → C → R → O → Type 0) (counted : O → ℕ × ℕ) (opening : O) (first : ℕ) where
   abbrev V : Type 0
@@ -95,20 +91,6 @@ module _ {O C R : Type 0} (moves : O → C → R → O → Type 0) (counted : O 
         alone = still_alone moves opening first log views id w kept.alone (kept.alone id v at);
       }
 
-  pub names : (log : Log) (slots id : ℕ) (me : M) (o : O) → me.0.opening ≡ Some o → me.0.numbers ≡ [] → me.0.in_turn ≡ false → AllowsTo (Holds log) (Holds log) slots id me 16 (λ n. n) (Names (step slots 16 0 0 none) me)
-  names log slots id me o knows empty idle s held _ at _ =
-      let w : V = named id me.0 in
-      let kept = held.3 in
-      let fits = kept.each id me.0 at in (
-        w,
-        leaves,
-        tt,
-        on_serving moves counted opening first s log (get_or s.words 16 0) s.homes (set s.views id w) held.0 held.1 held.2
-            (naming_keeps log (get_or s.words 32 0) id s.homes s.views me.0 o held.3 at knows empty idle) (told_on moves counted opening first s log id me.0 w held.4 at refl (λ _. idle) refl),
-        (id, refl, made_at-front (id ∷ []) me.0.seen fits.seen.0 (λ p. subst (λ (l : Log). made_at (id ∷ []) l p ≡ 0) fits.seen.1 (kept.known id (kept.nameless id me.0 at o knows empty) p))),
-      )
-
-  -- the same where no word changes
   pub names_here : (log : Log) (id : ℕ) (v : V) (o : O) (s : St) → Holds log s → get_elem? s.views id ≡ some v → v.opening ≡ Some o → v.numbers ≡ [] → v.in_turn ≡ false
       → Holds log record { words = s.words; homes = s.homes; views = set s.views id (named id v) } × ((p : ℕ) → made_at (id ∷ []) v.seen p ≡ 0)
   names_here log id v o s held at knows empty idle =
@@ -261,25 +243,6 @@ module _ {O C R : Type 0} (moves : O → C → R → O → Type 0) (counted : O 
       (counts_on count known known value value id s.views v b before at (omega arith) (omega arith) (λ _. quiet) (larger_up_to count v.read w.read value read read')) still (omega arith) (omega arith) (λ _. none) (omega arith) in
       (held.0, held.1, held.2, joining_keeps log (get_or s.words 32 0) id other s.homes s.views v w held.3 at apart still named idle empty idle', told)
 
-  pub merges : (log : Log) (slots id : ℕ) (me : M) → me.0.in_turn ≡ false → AllowsTo (Holds log) (Holds log) slots id me 16 (λ n. n) (Merges moves (step slots 16 0 0 none) me)
-  merges log slots id me idle s held _ at _ =
-      let kept = held.3 in
-      let fits = kept.each id me.0 at in
-      let drawn : ℕ = get_or s.words 32 0 in
-      let w : V = merged log me.0 in (
-        w,
-        leaves,
-        tt,
-        on_serving moves counted opening first s log (get_or s.words 16 0) s.homes (set s.views id w) held.0 held.1 held.2
-            (stays moves opening first log drawn drawn id s.homes s.homes s.views me.0 w kept at (omega arith) kept.limit refl refl (λ x. refl) (λ _. (idle, refl))
-            (record { start = fits.start; seen = prefix_self log; also = (log, refl); turn = λ turn. absurd (true≢false (sym turn ∙ idle)); own = fits.own; worn = fits.worn }) (λ mark. ((kept.alone id me.0 at mark).0, refl)))
-            (told_on moves counted opening first s log id me.0 w held.4 at refl (λ _. idle) refl),
-        λ o is.
-            let same : opening ≡ o = sym (fits.start o is).0 in
-            record { log = log; one = fits.seen; two = fits.also; is = refl; legal = subst (λ (p : O). IsLegal moves p log) same kept.legal; own = own_turns moves opening first log drawn id s.homes s.views me.0 kept at },
-      )
-
-  -- the same where no word changes
   pub merges_here : (log : Log) (id : ℕ) (v : V) (s : St) → Holds log s → get_elem? s.views id ≡ some v → v.in_turn ≡ false
       → Holds log record { words = s.words; homes = s.homes; views = set s.views id (merged log v) } × ((c : List (ℕ × Spot O C R)) (o : O) → v.opening ≡ Some o → Gathers moves o (v, c) (merged log v, c))
   merges_here log id v s held at idle =
@@ -301,58 +264,7 @@ module _ {O C R : Type 0} (moves : O → C → R → O → Type 0) (counted : O 
       )
 
 module _ {O C R : Type 0} where
-  -- what a seat has after it took in another and looked
-  pub record Gathered (moves : O → C → R → O → Type 0) (o : O) (v w : View O C R) (slots : List (ℕ × Spot O C R)) (m : Mine O C R) : Type 0 where
-    pub log : List (Turn O C R)
-    pub one : IsPrefixOf v.seen log
-    pub two : IsPrefixOf w.seen log
-    pub is : m ≡ (merged log (both_of v w), slots)
-    pub legal : IsLegal moves o log
-    pub own : HasItsOwn (v.numbers ++ w.numbers) (v.own ++ w.own) log
-
-  pub gathered : (moves : O → C → R → O → Type 0) (o : O) (v w : View O C R) (slots : List (ℕ × Spot O C R)) (m m' : Mine O C R) → m ≡ (both_of v w, slots) → Gathers moves o m m' → Gathered moves o v w slots m'
-  gathered moves o v w slots m m' both told =
-      let log : List (Turn O C R) = told.log in record {
-        log = log;
-        one = subst (λ (x : Mine O C R). IsPrefixOf x.0.seen log) both told.one;
-        two = subst (λ (x : Mine O C R). IsPrefixOf x.0.also log) both told.two;
-        is = told.is ∙ ap (λ (x : Mine O C R). (merged log x.0, x.1)) both;
-        legal = told.legal;
-        own = subst (λ (x : Mine O C R). HasItsOwn x.0.numbers x.0.own log) both told.own;
-      }
-
   pub still_named : (v w : View O C R) (m : Mine O C R) (slots : List (ℕ × Spot O C R)) (log : List (Turn O C R)) → m ≡ (merged log (both_of v w), slots) → 1 ≤ times v.number v.numbers → 1 ≤ times m.0.number m.0.numbers
   still_named v w m slots log is named =
       let more : 1 ≤ times v.number (v.numbers ++ w.numbers) = omega (arith, times-append v.number v.numbers w.numbers) in
       subst (λ (x : Mine O C R). 1 ≤ times x.0.number x.0.numbers) (sym is) more
-
-  pub record Shows (h : Holding O C R) (v : View O C R) : Type 0 where
-    pub number : v.number ≡ h.number
-    pub numbers : v.numbers ≡ h.numbers
-    pub seen : v.seen ≡ h.seen
-    pub own : v.own ≡ h.own
-    pub worn : v.worn ≡ h.worn
-    pub read : v.read ≡ h.read
-
-  pub joins_holding : (moves : O → C → R → O → Type 0) (one two : Holding O C R) (gate : Gateway O) (v w : View O C R) (slots : List (ℕ × Spot O C R)) (m : Mine O C R) → gate ≡ one.gate → Shows one v
-      → w.numbers ≡ two.numbers → w.seen ≡ two.seen → w.own ≡ two.own → w.worn ≡ two.worn → w.read ≡ two.read → Gathered moves one.gate.opening v w slots m
-      → Joined moves one two (record { gate = gate; number = m.0.number; numbers = m.0.numbers; seen = m.0.seen; own = m.0.own; worn = m.0.worn; read = m.0.read; alone = m.0.alone })
-  joins_holding moves one two gate v w slots m same shows numbers seen own worn read told =
-      let log : List (Turn O C R) = told.log in
-      let is = told.is in record {
-        seen = log;
-        begins_one = subst (λ (l : List (Turn O C R)). IsPrefixOf l log) shows.seen told.one;
-        begins_two = subst (λ (l : List (Turn O C R)). IsPrefixOf l log) seen told.two;
-        joined = λ i. record {
-          gate = same i;
-          number = (ap (λ (x : Mine O C R). x.0.number) is ∙ shows.number) i;
-          numbers = (ap (λ (x : Mine O C R). x.0.numbers) is ∙ (λ j. shows.numbers j ++ numbers j)) i;
-          seen = ap (λ (x : Mine O C R). x.0.seen) is i;
-          own = (ap (λ (x : Mine O C R). x.0.own) is ∙ (λ j. shows.own j ++ own j)) i;
-          worn = (ap (λ (x : Mine O C R). x.0.worn) is ∙ (λ j. shows.worn j || worn j)) i;
-          read = (ap (λ (x : Mine O C R). x.0.read) is ∙ (λ j. larger (shows.read j) (read j))) i;
-          alone = ap (λ (x : Mine O C R). x.0.alone) is i;
-        };
-        legal = told.legal;
-        own = subst (λ (x : Mine O C R). HasItsOwn x.0.numbers x.0.own log) (sym is) told.own;
-      }

@@ -1,11 +1,10 @@
 -- The turn of a pass at a place, from the slot to the order.
 use Rattle.std.proofs.Common.{◌≡◌, ℕ, ◌+◌, ◌%◌, ◌^◌, ◌≤◌, true, List, [], ◌∷◌, ◌++◌, map, sym, ap, ◌∙◌, subst, refl}
-use Rattle.std.specs.Prelude.{Option, Some}
+use Rattle.std.specs.Prelude.{Some}
 use mathlib.Core.Option.{none}
 use Rattle.atomic_table.specs.Table.{step, rest}
 use Rattle.sysv_gate.specs.declared.view.View.{View}
 use Rattle.sysv_gate.specs.declared.view.Turn.{Turn}
-use Rattle.sysv_gate.specs.declared.place.Place.{Place}
 use Rattle.sysv_gate.specs.declared.place.Done.{Done}
 use Rattle.sysv_lists.specs.Numbers.{times}
 use Rattle.sysv_lists.specs.Prefix.{IsPrefixOf}
@@ -36,18 +35,15 @@ module _ {O C R : Type 0} where
           all ∙ ap (λ (y : ℕ × Spot O C R). (place, y.1) ∷ []) same
       from (x ∷ y ∷ ys) all out = absurd (cc)
 
-  -- what was in the slot
-  pub object_there : (slot : ℕ) (xs ys : List (ℕ × Spot O C R)) (s : Spot O C R) (o : O) (last : Option (Done C R)) (p : Place O C R) → xs ≡ (slot, s) ∷ ys → xs ≡ (slot, put o last) ∷ [] → s ≡ Some p → p.object ≡ o
-  object_there slot xs ys s o last p had out is =
-      let pair : (slot, s) ≡ (slot, put o last) = cc in
-      let spot : s ≡ put o last = ap (λ (x : ℕ × Spot O C R). x.1) pair in
-      let place : p ≡ record { object = o; last = last } = cc in
-      ap (λ (q : Place O C R). q.object) place
+  -- what was lent is what was in the slot
+  pub lent_there : (slot : ℕ) (xs ys : List (ℕ × Spot O C R)) (lent s : Spot O C R) → xs ≡ (slot, lent) ∷ ys → xs ≡ (slot, s) ∷ [] → lent ≡ s
+  lent_there slot xs ys lent s had out =
+      let pair : (slot, lent) ≡ (slot, s) = cc in
+      ap (λ (x : ℕ × Spot O C R). x.1) pair
 
-  -- the slot was read and filled again
-  pub refilled_there : (slot : ℕ) (m mid m' : Passing O C R) (s t x : Spot O C R) → m.1 ≡ (slot, s) ∷ [] → mid ≡ (m.0, (slot, t) ∷ rest m.1) → m' ≡ (mid.0, (slot, x) ∷ rest mid.1) → m' ≡ (m.0, (slot, x) ∷ [])
-  refilled_there slot m mid m' s t x out read filled =
-      filled ∙ ap (λ (n : Passing O C R). (n.0, (slot, x) ∷ rest n.1)) read ∙ ap (λ (xs : List (ℕ × Spot O C R)). (m.0, (slot, x) ∷ rest xs)) out
+  -- something else was written into the slot
+  pub written_there : (slot : ℕ) (m : Passing O C R) (s x : Spot O C R) → m.1 ≡ (slot, s) ∷ [] → ◌≡◌ {A = Passing O C R} (m.0, (slot, x) ∷ rest m.1) (m.0, (slot, x) ∷ [])
+  written_there slot m s x out = ap (λ (xs : List (ℕ × Spot O C R)). (m.0, (slot, x) ∷ rest xs)) out
 
   -- nothing but what is in the slot has changed
   pub refilled_only : (place : ℕ) (m m' : Passing O C R) (x : Spot O C R) → m' ≡ (m.0, (place, x) ∷ []) → IsPrefixOf (view_at place m.0).seen (turns_at place m.0.seen) → Only place m m'

@@ -72,38 +72,6 @@ pub front_none : (xs ys : List ℕ) → xs ++ ys ≡ [] → xs ≡ []
 front_none [] ys none = refl
 front_none (x ∷ xs) ys none = absurd (cc)
 
-within_both : (depth : ℕ) (xs ys : List ℕ) → AreWithin depth xs → AreWithin depth ys → AreWithin depth (xs ++ ys)
-within_both depth [] ys one two = two
-within_both depth (x ∷ xs) ys one two = (one.0, within_both depth xs ys one.1 two)
-
-pub parts_both : (depth : ℕ) (xs ys : List ℕ) → parts depth (xs ++ ys) ≡ parts depth xs + parts depth ys
-parts_both depth xs ys = sum_by-append (λ (d : ℕ). 2 ^ (depth - d)) xs ys
-
--- two shares that are the whole together still are after one was halved
-pub whole_halves : (xs ys : List ℕ) → IsWhole (xs ++ ys) → IsWhole (half xs ++ (half xs ++ ys))
-whole_halves xs ys whole depth within =
-    let one = within_front depth (half xs) (half xs ++ ys) within in
-    let rest = within_back depth (half xs) (half xs ++ ys) within in
-    let two = within_back depth (half xs) ys rest in
-    let all = whole depth (within_both depth xs ys (within_half depth xs one) two) in
-    let a = parts_both depth (half xs) (half xs ++ ys) in
-    let b = parts_both depth (half xs) ys in
-    let c = parts_both depth xs ys in
-    let d = parts_half depth xs one in
-    omega arith
-
--- and in whatever order they are
-pub whole_swaps : (xs ys zs : List ℕ) → IsWhole (xs ++ (ys ++ zs)) → IsWhole (ys ++ (xs ++ zs))
-whole_swaps xs ys zs whole depth within =
-    let one = within_front depth ys (xs ++ zs) within in
-    let rest = within_back depth ys (xs ++ zs) within in
-    let all = whole depth (within_both depth xs (ys ++ zs) (within_front depth xs zs rest) (within_both depth ys zs one (within_back depth xs zs rest))) in
-    let a = parts_both depth xs (ys ++ zs) in
-    let b = parts_both depth ys zs in
-    let c = parts_both depth ys (xs ++ zs) in
-    let d = parts_both depth xs zs in
-    omega arith
-
 -- who was given the whole has it
 pub whole_first : IsWhole (0 ∷ [])
 whole_first depth within =

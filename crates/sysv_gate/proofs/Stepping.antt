@@ -453,12 +453,3 @@ module _ {O C R : Type 0} (moves : O → C → R → O → Type 0) (counted : O 
             subst (λ (x : Count). let m' : M = (read_to x n v, me.1) in (m ≡ m') × (of_count x v.read ≤ n) × (of_count x (counted (after_all o v.seen)) ≤ n)) (same_count count c is)
             (refl, read, subst (λ (p : O). of_count count (counted (after_all p v.seen)) ≤ n) (sym (fits.start o opens).0) (omega arith)),
       )
-
-  -- the same where the word is known by an equation
-  pub announces_at : (log : Log) (slots id : ℕ) (me : M) (count : Count) (word : ℕ) (o : O) → word ≡ word_of count → me.0.opening ≡ Some o → me.0.in_turn ≡ true → of_count count me.0.announced ≡ 0 → of_count count (counted (after_all o me.0.seen)) < 2 ^ 63
-      → AllowsTo (Holds log) (Holds log) slots id me word (λ n. (n + 1) % 2 ^ 64) (Announces (step slots word 1 0 none) me)
-  announces_at log slots id me count word o is knows turn quiet low = subst (λ (i : ℕ). AllowsTo (Holds log) (Holds log) slots id me i (λ n. (n + 1) % 2 ^ 64) (Announces (step slots i 1 0 none) me)) (sym is) (announces log slots id me count o knows turn quiet low)
-
-  pub reads_at : (log : Log) (slots id : ℕ) (me : M) (count : Count) (word : ℕ) → word ≡ word_of count → ((o : O) (c : C) (r : R) (o' : O) → moves o c r o' → of_count count (counted o) ≤ of_count count (counted o')) → me.0.in_turn ≡ false
-      → AllowsTo (Holds log) (Holds log) slots id me word (λ n. n) (Reads counted (step slots word 0 0 none) me)
-  reads_at log slots id me count word is grow idle = subst (λ (i : ℕ). AllowsTo (Holds log) (Holds log) slots id me i (λ n. n) (Reads counted (step slots i 0 0 none) me)) (sym is) (reads log slots id me count grow idle)

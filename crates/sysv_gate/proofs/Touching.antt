@@ -22,10 +22,3 @@ module _ {S V : Type 0} where
   abbrev pub AllowsTo : (State S V → Type 0) → (State S V → Type 0) → ℕ → ℕ → Me S V → ℕ → (ℕ → ℕ) → (ℕ → Me S V → Type 0) → Type 0
   AllowsTo before after slots id me i f then = (s : State S V) → before s → length s.homes ≡ slots → get_elem? s.views id ≡ some me.0 → get_or s.words i 0 < 18446744073709551616
       → (w : V) × (a : Touch S) × Valid s.homes me.1 (act_at 0 a) × after (stepped s i (f (get_or s.words i 0)) id me.1 w (act_at 0 a)) × then (get_or s.words i 0) (w, carried_after me.1 (act_at 0 a))
-
-  -- a step that is allowed whatever the history is, and takes each history to another
-  pub whatever : {L : Type 0} (holds : L → State S V → Type 0) (next : L → L) (slots id : ℕ) (me : Me S V) (i : ℕ) (f : ℕ → ℕ) (then : ℕ → Me S V → Type 0) → ((log : L) → AllowsTo (holds log) (holds (next log)) slots id me i f then)
-      → Allows (λ s. (log : L) × holds log s) slots id me i f then
-  whatever holds next slots id me i f then each s held one at low =
-      let went = each held.0 s held.1 one at low in
-      (went.0, act_at 0 went.1, went.2, (next held.0, went.3), went.4)

@@ -22,7 +22,7 @@ use Rattle.sysv_gate.specs.Steps.{Mine, weighed, looked, entered, turn_of, annou
 use Rattle.sysv_gate.specs.Turns.{Looked, TurnCame, SawMore, HasMade, rise, Applied, HasRead, ReadMore, HasWaited, HasWaitedWithin, HasReadBelow}
 use Rattle.atomic_table.specs.Table.{step, rest}
 use Rattle.sysv_lists.proofs.Counting.{times-one}
-use Rattle.sysv_gate.proofs.Counting.{low_mark, high_mark}
+use Rattle.sysv_gate.proofs.Counting.{low_mark}
 use Rattle.sysv_lists.proofs.Prefixes.{prefix_self, prefix_trans}
 use Rattle.sysv_gate.proofs.Histories.{legal-snoc, rises}
 use Rattle.sysv_gate.proofs.Announcing.{put_in, put_twice, put_same}
@@ -113,21 +113,11 @@ module _ {O C R : Type 0} where
   pub unweighed : (m m' : Mine O C R) (n : ℕ) → m' ≡ (weighed n m.0, m.1) → n < 2 ^ 62 → m' ≡ m
   unweighed m m' n is low = is ∙ (λ i. (record m.0 { worn = low_mark m.0.worn n low i }, m.1))
 
-  -- a ticket from 2^62 on marks it
-  pub weighed_out : (m m' : Mine O C R) (n : ℕ) → m.1 ≡ [] → m' ≡ (weighed n m.0, m.1) → 2 ^ 62 ≤ n → m' ≡ (record m.0 { worn = true }, [])
-  weighed_out m m' n bare is high = is ∙ (λ i. (record m.0 { worn = high_mark m.0.worn n high i }, bare i))
-
-  -- what was in the slot
-  pub object_out : (xs ys : List (ℕ × Spot O C R)) (s : Spot O C R) (o : O) (last : Option (Done C R)) (p : Place O C R) → xs ≡ (0, s) ∷ ys → xs ≡ (0, put o last) ∷ [] → s ≡ Some p → p.object ≡ o
-  object_out xs ys s o last p had out is =
-      let pair : (0, s) ≡ (0, put o last) = cc in
-      let spot : s ≡ put o last = ap (λ (x : ℕ × Spot O C R). x.1) pair in
+  -- the object that is in the slot
+  pub same_object : (p : Place O C R) (o : O) (last : Option (Done C R)) (s : Spot O C R) → s ≡ Some p → s ≡ put o last → p.object ≡ o
+  same_object p o last s is was =
       let place : p ≡ record { object = o; last = last } = cc in
       ap (λ (q : Place O C R). q.object) place
-
-  -- the slot was read and filled again
-  pub refilled : (m mid m' : Mine O C R) (s t x : Spot O C R) → m.1 ≡ (0, s) ∷ [] → mid ≡ (m.0, (0, t) ∷ rest m.1) → m' ≡ (mid.0, (0, x) ∷ rest mid.1) → m' ≡ (m.0, (0, x) ∷ [])
-  refilled m mid m' s t x out read filled = filled ∙ ap (λ (n : Mine O C R). (n.0, (0, x) ∷ rest n.1)) read ∙ ap (λ (xs : List (ℕ × Spot O C R)). (m.0, (0, x) ∷ rest xs)) out
 
   pub made_turn : (moves : O → C → R → O → Type 0) (o : O) (v : View O C R) (m m' : Mine O C R) (after : O) (done : Done C R) (call : C) (reply : R) → m ≡ (v, (0, put after (Some done)) ∷ []) → done.call.value ≡ call
       → done.reply.value ≡ reply → m' ≡ (after_turn m.0 m.1, rest m.1) → HasItsOwn m'.0.numbers m'.0.own m'.0.seen → IsLegal moves o v.seen → moves (after_all o v.seen) call reply after → HasMade moves o v call reply m'

@@ -1,6 +1,6 @@
--- The rule of a table with several places. Place p has the words from 80 p on, as the one place of a gate has them from 0
--- on, and slot p. A pass has a view of each place, and has seen a beginning of the one order of all turns. At each place
--- the rule of a gate holds, of the turns of the order that were made there.
+-- The rule of a table with one place, as that of a gate, or several. Place p has the words from 80 p on and slot p. A pass
+-- has a view of each place, and has seen a beginning of the one order of all turns. At each place the rule of a gate
+-- holds, of the turns of the order that were made there.
 use Rattle.std.specs.Prelude.{◌≡◌, ◌⊎◌, ℕ, ◌*◌, ◌^◌, ◌<◌, List, [], ◌∷◌, map, take, drop, length, slice_index_or, sum_by}
 use mathlib.Core.Option.{none, some}
 use lib.ListN.{get_elem?}

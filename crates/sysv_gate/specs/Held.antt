@@ -1,49 +1,57 @@
--- How a seat is kept between two calls: no slot is out with it, it has no ticket and no turn, its number is one of its
--- numbers, it knows the gate's key, and it has seen a legal history, in which its own turns are those under its numbers.
-use Rattle.std.specs.Prelude.{◌≡◌, ◌≤◌, false, [], Some}
-use Rattle.sysv_gate.specs.declared.seat.Seat.TheInside.{Inside}
+-- How a seat is kept between two calls.
+use Rattle.std.specs.Prelude.{◌≡◌, ℕ, ◌≤◌, false, [], length, Some}
+use Rattle.atomic_table.specs.Seated.{TableId}
 use Rattle.atomic_table.specs.declared.shared.Seat.{Seat}
+use Rattle.sysv_gate.specs.declared.seat.Seat.TheInside.{Inside}
 use Rattle.sysv_gate.specs.declared.view.View.{View}
+use Rattle.sysv_gate.specs.declared.view.Sight.{Sight}
 use Rattle.sysv_gate.specs.Rule.{Spot}
 use Rattle.sysv_gate.specs.History.{IsLegal, HasItsOwn}
 use Rattle.sysv_gate.specs.Gates.{Holding}
+use Rattle.sysv_gate.specs.Orders.{turns_at}
+use Rattle.sysv_gate.specs.Halls.{view_at}
 use Rattle.sysv_lists.specs.Numbers.{times}
+use Rattle.sysv_lists.specs.Prefix.{IsPrefixOf}
 
 module _ {O C R : Type 0} where
-  abbrev pub held : Inside O C R → Holding O C R
-  held s = record {
-    gate = record { table = s.token.table_id; opening = s.key.value.opening.value; first = s.key.value.first };
-    number = s.token.me.0.number;
-    numbers = s.token.me.0.numbers;
-    seen = s.token.me.0.seen;
-    own = s.token.me.0.own;
-    worn = s.token.me.0.worn;
-    read = s.token.me.0.read;
-    alone = s.token.me.0.alone;
+  -- what is seen of a view
+  abbrev pub holding : TableId → ℕ → O → View O C R → Holding O C R
+  holding table first opening v = record {
+    gate = record { table = table; opening = opening; first = first };
+    number = v.number;
+    numbers = v.numbers;
+    seen = v.seen;
+    own = v.own;
+    worn = v.worn;
+    read = v.read;
+    alone = v.alone;
   }
 
+  -- A view at rest: it has no ticket and no turn, its number is one of its numbers, it knows the object that was at the
+  -- place, and has seen a legal history, in which its own turns are those under its numbers
+  pub record RestsAt (moves : O → C → R → O → Type 0) (o : O) (start : ℕ) (v : View O C R) : Type 0 where
+    pub no_ticket : v.tickets ≡ []
+    pub no_turn : v.in_turn ≡ false
+    pub nothing_else : v.also ≡ []
+    pub opening : v.opening ≡ Some o
+    pub first : v.first ≡ start
+    pub named : 1 ≤ times v.number v.numbers
+    pub legal : IsLegal moves o v.seen
+    pub own : HasItsOwn v.numbers v.own v.seen
+
+  -- the view of the place is at rest, and what was seen there is in the order that was seen
+  abbrev pub RestsThere : (O → C → R → O → Type 0) → ℕ → O → ℕ → Sight O C R → Type 0
+  RestsThere moves place o start sight = RestsAt moves o start (view_at place sight) × IsPrefixOf (view_at place sight).seen (turns_at place sight.seen)
+
+  abbrev pub held : Inside O C R → Holding O C R
+  held s = holding s.token.table_id s.key.value.first s.key.value.opening.value (view_at 0 s.token.me.0)
+
+  -- no slot is out with the seat, and the view of its one place is at rest
   pub record IsAtRest (moves : O → C → R → O → Type 0) (s : Inside O C R) : Type 0 where
     pub no_slot : s.token.me.1 ≡ []
-    pub no_ticket : s.token.me.0.tickets ≡ []
-    pub no_turn : s.token.me.0.in_turn ≡ false
-    pub nothing_else : s.token.me.0.also ≡ []
-    pub opening : s.token.me.0.opening ≡ Some s.key.value.opening.value
-    pub first : s.token.me.0.first ≡ s.key.value.first
-    pub named : 1 ≤ times s.token.me.0.number s.token.me.0.numbers
-    pub legal : IsLegal moves s.key.value.opening.value s.token.me.0.seen
-    pub own : HasItsOwn s.token.me.0.numbers s.token.me.0.own s.token.me.0.seen
+    pub one : length s.token.me.0.views ≡ 1
+    pub rests : RestsThere moves 0 s.key.value.opening.value s.key.value.first s.token.me.0
 
-  -- the token of a seat between two calls
-  pub record Rests (h : Holding O C R) (token : Seat (Spot O C R) (View O C R)) : Type 0 where
-    pub table : token.table_id ≡ h.gate.table
-    pub opening : token.me.0.opening ≡ Some h.gate.opening
-    pub first : token.me.0.first ≡ h.gate.first
-    pub numbers : token.me.0.numbers ≡ h.numbers
-    pub seen : token.me.0.seen ≡ h.seen
-    pub own : token.me.0.own ≡ h.own
-    pub worn : token.me.0.worn ≡ h.worn
-    pub read : token.me.0.read ≡ h.read
-    pub alone : token.me.0.alone ≡ h.alone
-    pub no_slot : token.me.1 ≡ []
-    pub no_ticket : token.me.0.tickets ≡ []
-    pub no_turn : token.me.0.in_turn ≡ false
+  -- the token is that of a seat of which this is seen
+  abbrev pub IsTokenOf : (O → C → R → O → Type 0) → Holding O C R → Seat (Spot O C R) (Sight O C R) → Type 0
+  IsTokenOf moves h token = (s : Inside O C R) × (held s ≡ h) × IsAtRest moves s × (s.token ≡ token)

@@ -1,4 +1,4 @@
--- What the rule of a gate means for all seats together.
+-- What the rule of a gate means for all seats together. It holds at each place of a table.
 use Rattle.std.specs.Prelude.{◌≡◌, ◌⊎◌, ℕ, ◌+◌, ◌≤◌, List, length, slice_index, true, false}
 use mathlib.Core.Option.{some}
 use lib.ListN.{get_elem?}

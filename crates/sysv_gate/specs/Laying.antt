@@ -1,5 +1,5 @@
 -- How a table with several places is laid.
-use Rattle.std.specs.Prelude.{◌≡◌, ℕ, ◌*◌, ◌<◌, List, [], length, map, slice_index, None}
+use Rattle.std.specs.Prelude.{◌≡◌, ℕ, ◌*◌, ◌<◌, List, [], ◌∷◌, length, map, slice_index, None}
 use mathlib.Core.Option.{some}
 use lib.ListN.{get_elem?}
 use Rattle.sysv_gate.specs.Rule.{Spot, put}
@@ -29,6 +29,14 @@ AreDoorsUpTo {O} objects count doors =
 abbrev pub all_put : {O C R : Type 0} → List O → List (Spot O C R)
 all_put objects = map (λ o. put o None) objects
 
+-- the table has one place, where this object was, and the door is that of the place
+pub record IsOneDoor {O : Type 0} (o : O) (start : ℕ) (id : TableId) (key : HallKey O) (door : Doorway O) : Type 0 where
+  pub openings : key.openings.value.items ≡ o ∷ []
+  pub first : key.first ≡ start
+  pub words : id.words ≡ 80
+  pub slots : id.slots ≡ 1
+  pub is : door ≡ record { place = 0; opening = o }
+
 module _ {O C R : Type 0} where
   -- The table is new, as its first pass is
   pub record IsNew (id : TableId) (known about : HallKey O) (token : Seat (Spot O C R) (Sight O C R)) : Type 0 where
@@ -37,3 +45,7 @@ module _ {O C R : Type 0} where
     pub slots : id.slots ≡ length about.openings.value.items
     pub table : token.table_id ≡ id
     pub me : token.me ≡ (outset about.openings.value.items about.first, [])
+
+  -- the table has one place and is new, as its first pass is
+  abbrev pub IsLaidOut : O → ℕ → TableId → HallKey O → Doorway O → Seat (Spot O C R) (Sight O C R) → Type 0
+  IsLaidOut o first id key door token = IsOneDoor o first id key door × (token.table_id ≡ id) × (token.me ≡ (outset (o ∷ []) first, []))

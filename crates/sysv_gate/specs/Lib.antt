@@ -10,6 +10,7 @@ pub mod Doors
 pub mod Laying
 pub mod Gates
 pub mod Held
+pub mod Opened
 pub mod Turns
 pub mod Refusals
 pub mod Waits

@@ -1,6 +1,7 @@
--- The rule of a gate's table. Word 16 says which ticket is served, word 32 which ticket is drawn next, words 48 and 64
--- announce the object's two counts, and the one slot has the object. The words lie 128 bytes apart, so that no two share
--- a cache line. The log is the history of all turns.
+-- The rule of a gate: of one place of a table, which a gate has alone and a bank has several of. Word 16 of the place says
+-- which ticket is served, word 32 which ticket is drawn next, words 48 and 64 announce the object's two counts, and its
+-- slot has the object. The words lie 128 bytes apart, so that no two share a cache line. The log is the history of all
+-- turns there.
 use Rattle.std.specs.Prelude.{◌≡◌, ℕ, ◌+◌, ◌^◌, ◌≤◌, true, false, List, [], ◌∷◌, length, slice_index, sum_by, Option, Some}
 use mathlib.Core.Option.{some}
 use mathlib.Core.Option as maybe

@@ -8,7 +8,7 @@ use Rattle.sysv_gate.specs.declared.count.Count.{Count}
 use Rattle.sysv_lists.specs.Numbers.{times}
 use Rattle.sysv_gate.specs.Counts.{word_of, of_count, with_count, larger}
 use Rattle.sysv_lists.specs.Prefix.{IsPrefixOf}
-use Rattle.sysv_gate.specs.History.{after_all, IsLegal, made_at, HasItsOwn}
+use Rattle.sysv_gate.specs.History.{after_all, IsLegal, HasItsOwn}
 use Rattle.sysv_gate.specs.Rule.{Spot, put}
 
 module _ {O C R : Type 0} where
@@ -88,10 +88,6 @@ module _ {O C R : Type 0} where
   abbrev pub Draws : At O C R → Mine O C R → ℕ → Mine O C R → Type 0
   Draws st m n m' = (n ≡ st.first → (m' ≡ (drew n m.0, m.1)) × (m.0.worn ≡ false)) × (¬ (n ≡ st.first) → m' ≡ m)
 
-  -- no turn that the seat has seen was made under the number that it gets
-  abbrev pub Names : At O C R → Mine O C R → ℕ → Mine O C R → Type 0
-  Names st m n m' = (number : ℕ) × (m' ≡ (named number m.0, m.1)) × ((p : ℕ) → made_at (number ∷ []) m.0.seen p ≡ 0)
-
   -- What a seat knows that has the turn, and with it the object after all that it has seen. It has read no more of the
   -- counts than they are then, and has announced nothing yet
   pub record HasTurn (moves : O → C → R → O → Type 0) (counted : O → ℕ × ℕ) (opening : O) (m : Mine O C R) : Type 0 where
@@ -134,9 +130,6 @@ module _ {O C R : Type 0} where
     pub is : m' ≡ (merged log m.0, m.1)
     pub legal : IsLegal moves opening log
     pub own : HasItsOwn m.0.numbers m.0.own log
-
-  abbrev pub Merges : (O → C → R → O → Type 0) → At O C R → Mine O C R → ℕ → Mine O C R → Type 0
-  Merges moves st m n m' = (opening : O) → m.0.opening ≡ Some opening → Gathers moves opening m m'
 
   -- the turn that the slot in hand tells of
   abbrev pub told : View O C R → O → Option (Done C R) → View O C R

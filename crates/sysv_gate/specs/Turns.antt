@@ -1,6 +1,5 @@
 -- What the parts of a call ask of a seat, and what they leave.
 use Rattle.std.specs.Prelude.{◌≡◌, ℕ, ◌+◌, ◌<◌, ◌≤◌, ◌^◌, cond, true, false, List, [], ◌∷◌, length, Option, Some, None}
-use Rattle.atomic_table.specs.declared.shared.Seat.{Seat}
 use Rattle.sysv_gate.specs.declared.view.View.{View}
 use Rattle.sysv_gate.specs.declared.view.Turn as view
 use Rattle.sysv_gate.specs.declared.turns.Entry.{Entry}
@@ -17,19 +16,9 @@ use Rattle.sysv_lists.specs.Numbers.{times}
 use Rattle.sysv_lists.specs.Prefix.{IsPrefixOf}
 use Rattle.sysv_gate.specs.History.{IsLegal, after_all, HasItsOwn}
 use Rattle.sysv_gate.specs.Counts.{of_count}
-use Rattle.sysv_gate.specs.Rule.{Spot}
-use Rattle.sysv_gate.specs.Gates.{Gateway}
 use Rattle.sysv_gate.specs.Steps.{Mine, drew, read_to, ended, HasTurn}
 
 module _ {O C R : Type 0} where
-  -- the token is one of this gate
-  abbrev pub IsOf : Gateway O → Seat (Spot O C R) (View O C R) → Type 0
-  IsOf gate token = (token.table_id ≡ gate.table) × (token.me.0.opening ≡ Some gate.opening) × (token.me.0.first ≡ gate.first)
-
-  -- it is the same token after a step
-  abbrev pub IsSameToken : Seat (Spot O C R) (View O C R) → Seat (Spot O C R) (View O C R) → Type 0
-  IsSameToken before after = (after.table_id ≡ before.table_id) × (after.id ≡ before.id)
-
   -- no slot is out with the seat, and it has these tickets and no turn
   abbrev pub Waits : List ℕ → Mine O C R → Type 0
   Waits tickets m = (m.1 ≡ []) × (m.0.tickets ≡ tickets) × (m.0.in_turn ≡ false)

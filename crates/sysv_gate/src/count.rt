@@ -2,7 +2,7 @@
 ghost use Rattle.std.specs.Prelude.{◌≡◌};
 ghost use Rattle.sysv_gate.specs.Counts.{word_of};
 
-use crate::board::{ARRIVED, FREED};
+use crate::words::{ARRIVED, FREED};
 
 /// One of the two counts of an object.
 #[derive(Clone, Copy)]

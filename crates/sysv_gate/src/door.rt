@@ -10,11 +10,10 @@ ghost use Rattle.sysv_gate.specs.Halls.{me_at};
 ghost use Rattle.sysv_gate.specs.Doors.{IsDoorOf, IsAt, IsSame};
 
 use crate::bell::{Bell, TurnBells};
-use crate::board::{SERVING, TICKET};
 use crate::count::Count;
-use crate::hall::{Hall, HallToken};
+use crate::hall::{Announcing, Drawing, Entering, Hall, HallToken, Looking, Reading, Weighing};
 use crate::object::Object;
-use crate::rule::{Announcing, Drawing, Entering, Looking, Reading, Weighing};
+use crate::words::{SERVING, TICKET};
 use std::marker::Model;
 use std::snapshot::Snapshot;
 
@@ -43,7 +42,8 @@ impl<O: Object> Model for Door<O> {
 
     ghost view = { λ d. record { place = d.place; opening = d.opening.value } };
 
-    ghost invariant = { λ d. (d.base ≡ 80 * d.place) × (d.base ≤ 2 ^ 60) × AreUpTo (2 ^ 61) (O.counted d.opening.value) };
+    ghost invariant = { λ d. (d.base ≡ 80 * d.place) × (d.base ≤ 2 ^ 60)
+        × AreUpTo (2 ^ 61) (O.counted d.opening.value) };
 }
 
 impl<O: Object> Door<O> {
@@ -74,22 +74,26 @@ impl<O: Object> Door<O> {
 
     // Looks which ticket is drawn next.
     pub(crate) fn weigh(&self, hall: &Hall<O>, token: &mut HallToken<O>) -> u64
-        requires door { IsDoorOf hall.now.shared.table_id hall.now.shared.key.openings.value.items self.now }
+        requires door { IsDoorOf hall.now.shared.table_id hall.now.shared.key.openings.value.items
+            self.now }
         requires at { IsAt hall.now.shared.table_id self.now token.old }
         ensures same { IsSame self.now.place token.old token.new }
-        ensures weighed { Weighs (step 1 32 0 0 none) (me_at self.now.place token.old.me) result (me_at self.now.place token.new.me) }
+        ensures weighed { Weighs (step 1 32 0 0 none) (me_at self.now.place token.old.me) result
+            (me_at self.now.place token.new.me) }
     {
         hall.shared.load::<Weighing>(token, self.word(TICKET))
     }
 
     // Draws the ticket, where it is the next one, and answers which was.
     pub(crate) fn draw_next(&self, hall: &Hall<O>, token: &mut HallToken<O>, ticket: u64) -> u64
-        requires door { IsDoorOf hall.now.shared.table_id hall.now.shared.key.openings.value.items self.now }
+        requires door { IsDoorOf hall.now.shared.table_id hall.now.shared.key.openings.value.items
+            self.now }
         requires at { IsAt hall.now.shared.table_id self.now token.old }
         requires idle { Waits [] (me_at self.now.place token.old.me) }
         requires low { ticket < 2 ^ 62 }
         ensures same { IsSame self.now.place token.old token.new }
-        ensures drawn { Draws (step 1 32 ticket (ticket + 1) none) (me_at self.now.place token.old.me) result (me_at self.now.place token.new.me) }
+        ensures drawn { Draws (step 1 32 ticket (ticket + 1) none)
+            (me_at self.now.place token.old.me) result (me_at self.now.place token.new.me) }
     {
         hall.shared
             .compare_exchange::<Drawing>(token, self.word(TICKET), ticket, ticket + 1)
@@ -97,13 +101,17 @@ impl<O: Object> Door<O> {
 
     // Draws the ticket, where it is the next one and is served, and so begins the turn. It answers which was the next one.
     pub(crate) fn enter_next(&self, hall: &Hall<O>, token: &mut HallToken<O>, ticket: u64) -> u64
-        requires door { IsDoorOf hall.now.shared.table_id hall.now.shared.key.openings.value.items self.now }
+        requires door { IsDoorOf hall.now.shared.table_id hall.now.shared.key.openings.value.items
+            self.now }
         requires at { IsAt hall.now.shared.table_id self.now token.old }
         requires idle { Waits [] (me_at self.now.place token.old.me) }
         requires low { ticket < 2 ^ 62 }
-        requires served { ticket ≡ (me_at self.now.place token.old.me).0.first + length (me_at self.now.place token.old.me).0.seen }
+        requires served { ticket ≡ (me_at self.now.place token.old.me).0.first
+            + length (me_at self.now.place token.old.me).0.seen }
         ensures same { IsSame self.now.place token.old token.new }
-        ensures entered { Enters (Moves O.meaning O.counted) O.counted (step 1 32 ticket (ticket + 1) none) (me_at self.now.place token.old.me) result (me_at self.now.place token.new.me) }
+        ensures entered { Enters (Moves O.meaning O.counted) O.counted
+            (step 1 32 ticket (ticket + 1) none) (me_at self.now.place token.old.me) result
+            (me_at self.now.place token.new.me) }
     {
         hall.shared
             .compare_exchange::<Entering<O>>(token, self.word(TICKET), ticket, ticket + 1)
@@ -111,22 +119,27 @@ impl<O: Object> Door<O> {
 
     // Looks which ticket is served. Where it is the pass's, the turn begins.
     pub(crate) fn look(&self, hall: &Hall<O>, token: &mut HallToken<O>) -> u64
-        requires door { IsDoorOf hall.now.shared.table_id hall.now.shared.key.openings.value.items self.now }
+        requires door { IsDoorOf hall.now.shared.table_id hall.now.shared.key.openings.value.items
+            self.now }
         requires at { IsAt hall.now.shared.table_id self.now token.old }
-        requires idle { Waits (me_at self.now.place token.old.me).0.tickets (me_at self.now.place token.old.me) }
+        requires idle { Waits (me_at self.now.place token.old.me).0.tickets
+            (me_at self.now.place token.old.me) }
         ensures same { IsSame self.now.place token.old token.new }
-        ensures looked { Looked (Moves O.meaning O.counted) O.counted self.now.opening (me_at self.now.place token.old.me) result (me_at self.now.place token.new.me) }
+        ensures looked { Looked (Moves O.meaning O.counted) O.counted self.now.opening
+            (me_at self.now.place token.old.me) result (me_at self.now.place token.new.me) }
     {
         hall.shared.load::<Looking<O>>(token, self.word(SERVING))
     }
 
     /// Reads the count as it is announced now.
     pub fn count(&self, hall: &Hall<O>, token: &mut HallToken<O>, count: Count) -> u64
-        requires door { IsDoorOf hall.now.shared.table_id hall.now.shared.key.openings.value.items self.now }
+        requires door { IsDoorOf hall.now.shared.table_id hall.now.shared.key.openings.value.items
+            self.now }
         requires at { IsAt hall.now.shared.table_id self.now token.old }
         requires idle { Waits [] (me_at self.now.place token.old.me) }
         ensures same { IsSame self.now.place token.old token.new }
-        ensures read { HasRead O.counted self.now.opening count (me_at self.now.place token.old.me) result (me_at self.now.place token.new.me) }
+        ensures read { HasRead O.counted self.now.opening count (me_at self.now.place token.old.me)
+            result (me_at self.now.place token.new.me) }
     {
         hall.shared
             .load::<Reading<O>>(token, self.word(count.word()))
@@ -140,13 +153,19 @@ impl<O: Object> Door<O> {
         count: Count,
         rose: bool,
     )
-        requires door { IsDoorOf hall.now.shared.table_id hall.now.shared.key.openings.value.items self.now }
+        requires door { IsDoorOf hall.now.shared.table_id hall.now.shared.key.openings.value.items
+            self.now }
         requires at { IsAt hall.now.shared.table_id self.now token.old }
         requires turn { (me_at self.now.place token.old.me).0.in_turn ≡ true }
         requires quiet { of_count count (me_at self.now.place token.old.me).0.announced ≡ 0 }
-        requires low { of_count count (O.counted (after_all self.now.opening (me_at self.now.place token.old.me).0.seen)) < 2 ^ 63 }
+        requires low { of_count count (O.counted
+            (after_all self.now.opening (me_at self.now.place token.old.me).0.seen)) < 2 ^ 63 }
         ensures same { IsSame self.now.place token.old token.new }
-        ensures announced { me_at self.now.place token.new.me ≡ (announced_by count (cond rose 1 0) (me_at self.now.place token.old.me).0, (me_at self.now.place token.old.me).1) }
+        ensures announced { me_at self.now.place token.new.me
+            ≡ (
+              announced_by count (cond rose 1 0) (me_at self.now.place token.old.me).0,
+              (me_at self.now.place token.old.me).1,
+            ) }
     {
         if rose {
             hall.shared

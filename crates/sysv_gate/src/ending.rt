@@ -4,13 +4,25 @@ ghost use mathlib.Core.Option.{some};
 ghost use lib.ListN.{get_elem?};
 ghost use Rattle.std.specs.Mem.Slots.{IsFull, slots_len, slots_items, slots_filled};
 ghost use Rattle.sysv_gate.specs.Ending.{IsReadAt};
+ghost use Rattle.sysv_gate.specs.Closings.{held_object};
 
-use crate::board::{SERVING, TICKET, object_in};
 use crate::closing::Closing;
 use crate::hall::Spot;
 use crate::object::Object;
+use crate::place::Place;
+use crate::words::{SERVING, TICKET};
 use atomic_table::Closed;
 use std::alloc::Global;
+
+// The object that the slot has, if it has one.
+fn object_in<O, C, R>(spot: Option<Place<O, C, R>>) -> Option<O>
+    ensures { result ≡ held_object spot }
+{
+    match spot {
+        Some(Place { object, last: _ }) => Some(object),
+        None => None,
+    }
+}
 
 /// What a closed table gives back of the place.
 pub fn close_place<O: Object>(
@@ -18,12 +30,18 @@ pub fn close_place<O: Object>(
     place: usize,
     first: u64,
 ) -> Closing<O>
-    requires words { (80 * place + 80 ≤ slots_len closed.old.words) × (80 * place + 80 < 2 ^ 64) × IsFull closed.old.words }
-    requires slot { (place < slots_len closed.old.slots) × IsTrue (slice_index_or (slots_filled closed.old.slots) place false) }
-    requires served { (served : ℕ) → get_elem? (slots_items closed.old.words) (80 * place + 16) ≡ some served → first ≤ served }
-    ensures read { IsReadAt first (slots_items closed.old.words) (slots_items closed.old.slots) place result }
+    requires words { (80 * place + 80 ≤ slots_len closed.old.words) × (80 * place + 80 < 2 ^ 64)
+        × IsFull closed.old.words }
+    requires slot { (place < slots_len closed.old.slots)
+        × IsTrue (slice_index_or (slots_filled closed.old.slots) place false) }
+    requires served { (served : ℕ) → get_elem? (slots_items closed.old.words) (80 * place + 16)
+        ≡ some served → first ≤ served }
+    ensures read { IsReadAt first (slots_items closed.old.words) (slots_items closed.old.slots)
+        place result }
     ensures words { closed.new.words ≡ closed.old.words }
-    ensures slots { (slots_items closed.new.slots ≡ slots_items closed.old.slots) × (slots_filled closed.new.slots ≡ slice_set (slots_filled closed.old.slots) place false) × (slots_len closed.new.slots ≡ slots_len closed.old.slots) }
+    ensures slots { (slots_items closed.new.slots ≡ slots_items closed.old.slots)
+        × (slots_filled closed.new.slots ≡ slice_set (slots_filled closed.old.slots) place false)
+        × (slots_len closed.new.slots ≡ slots_len closed.old.slots) }
 {
     let base = 80 * place;
     let served = closed.word(base + SERVING);

@@ -1,19 +1,21 @@
 //! Gates.
-ghost use Rattle.std.specs.Prelude.{◌≡◌, ℕ, ◌^◌, ◌≤◌, false, IfOk, IfErr, OnOk};
+ghost use Rattle.std.specs.Prelude.{◌≡◌, ◌^◌, ◌≤◌, false, IfOk, IfErr, OnOk};
 ghost use Rattle.sysv_gate.specs.History.{Moves, IsAccepted, AreUpTo};
 ghost use Rattle.sysv_gate.specs.Gates.{opened, marked, parted, Answers, IsSplit, Joins};
 ghost use Rattle.sysv_gate.specs.Refusals.{HandsBack, Refuses};
 ghost use Rattle.sysv_gate.specs.Closings.{Closes};
 ghost use Rattle.sysv_gate.specs.declared.refusals.OpenRefused.TheVariants.{NoMemory};
 
-use crate::bell::{Bell, TurnBells};
-use crate::board::{Board, LIMIT, OBJECT, SERVING, TICKET, lay, object_in};
 use crate::closing::Closing;
+use crate::door::Door;
+use crate::ending::close_place;
+use crate::hall::Hall;
+use crate::laying::lay_one;
 use crate::object::Object;
+use crate::passes::{join_pass, split_pass};
 use crate::refusals::{OpenRefused, TryRefused, Worn};
-use crate::rule::{Gathering, Key, Merging, Naming, Sharing};
-use crate::seat::Seat;
-use crate::turns::Entry;
+use crate::seat::{Key, Seat};
+use crate::words::LIMIT;
 use std::alloc::Global;
 use std::marker::Model;
 use std::snapshot::Snapshot;
@@ -22,33 +24,29 @@ use std::sync::Wait;
 /// An object that threads call one turn at a time. They share the gate by reference, and each takes turns with a seat of
 /// its own.
 pub struct Gate<O: Object> {
-    pub(crate) table: Board<O>,
+    /// The table, which has one place.
+    pub(crate) hall: Hall<O>,
     key: Key<O>,
-    pub(crate) turns: TurnBells,
-    /// The bell of those who wait for the first count, however long it takes.
-    pub(crate) arrived: Bell,
-    /// The bell of those whose waits for the first count are bounded. A rise wakes one of them.
-    pub(crate) next_arrived: Bell,
-    pub(crate) freed: Bell,
+    pub(crate) door: Door<O>,
 }
 
 impl<O: Object> Model for Gate<O> {
-    ghost use Rattle.std.specs.Prelude.{◌≡◌, ℕ, ◌^◌};
     ghost use Rattle.sysv_gate.specs.Gates.{Gateway};
-    ghost use Rattle.sysv_gate.specs.History.{AreUpTo};
+    ghost use Rattle.sysv_gate.specs.Opened.{gateway, IsOpen};
 
     ghost Value = { Gateway O };
 
-    ghost view = { λ g. record { table = g.table.shared.table_id; opening = g.key.opening.value; first = g.key.first } };
+    ghost view = { gateway };
 
-    ghost invariant = { λ g. (g.table.shared.key ≡ g.key) × (g.table.shared.table_id.words ≡ 80) × (g.table.shared.table_id.slots ≡ 1) × AreUpTo (2 ^ 61) (O.counted g.key.opening.value) };
+    ghost invariant = { IsOpen };
 }
 
 impl<O: Object> Gate<O> {
     /// A gate whose tickets begin at 0, and its first seat. Where there is no memory the object comes back.
     pub fn open(alloc: Global, object: O) -> Result<(Gate<O>, Seat<O>), OpenRefused<O>>
         requires { AreUpTo (2 ^ 61) (O.counted object) }
-        ensures ok { IfOk result (λ o. (o.0.opening ≡ object) × (o.0.first ≡ 0) × (o.1 ≡ opened o.0)) }
+        ensures ok { IfOk result (λ o. (o.0.opening ≡ object) × (o.0.first ≡ 0)
+            × (o.1 ≡ opened o.0)) }
         ensures err { IfErr result (λ e. e ≡ NoMemory object) }
     {
         Gate::starting_at(alloc, object, 0)
@@ -62,7 +60,8 @@ impl<O: Object> Gate<O> {
         first: u64,
     ) -> Result<(Gate<O>, Seat<O>), OpenRefused<O>>
         requires { AreUpTo (2 ^ 61) (O.counted object) }
-        ensures ok { IfOk result (λ o. (o.0.opening ≡ object) × (o.0.first ≡ first) × (o.1 ≡ opened o.0) × (first ≤ 2 ^ 62)) }
+        ensures ok { IfOk result (λ o. (o.0.opening ≡ object) × (o.0.first ≡ first)
+            × (o.1 ≡ opened o.0) × (first ≤ 2 ^ 62)) }
         ensures err { IfErr result (λ e. HandsBack first object e) }
     {
         if first > LIMIT {
@@ -72,21 +71,13 @@ impl<O: Object> Gate<O> {
             opening: Snapshot::of(&object),
             first,
         };
-        match lay(alloc, object, first, &key) {
-            Ok((table, token)) => {
+        match lay_one(alloc, object, first) {
+            Ok((hall, token, door)) => {
                 let seat = Seat {
                     token,
                     key: Snapshot::of(&key),
                 };
-                let gate = Gate {
-                    table,
-                    key,
-                    turns: TurnBells::new(),
-                    arrived: Bell::new(),
-                    next_arrived: Bell::new(),
-                    freed: Bell::new(),
-                };
-                Ok((gate, seat))
+                Ok((Gate { hall, key, door }, seat))
             }
             Err(object) => Err(OpenRefused::NoMemory(object)),
         }
@@ -104,18 +95,12 @@ impl<O: Object> Gate<O> {
         requires gate { seat.old.gate ≡ self.now }
         requires fits { IsAccepted (Moves O.meaning O.counted) O.accepts self.now.opening call }
         ensures gate { seat.new.gate ≡ self.now }
-        ensures ok { IfOk result (λ r. Answers (Moves O.meaning O.counted) O.counted seat.old call r seat.new) }
+        ensures ok { IfOk result (λ r. Answers (Moves O.meaning O.counted) O.counted seat.old call r
+            seat.new) }
         ensures not_worn { OnOk result (seat.old.worn ≡ false) }
         ensures worn { IfErr result (λ w. (w.call ≡ call) × (seat.new ≡ marked seat.old)) }
     {
-        let Some(ticket) = self.draw(rt, &mut seat.token) else {
-            return Err(Worn { call });
-        };
-        self.tell_worn(ticket);
-        self.reach(rt, &mut seat.token, ticket);
-        let (reply, rose) = self.serve(&mut seat.token, call);
-        self.wake_after(ticket, rose);
-        Ok(reply)
+        self.door.call(rt, &self.hall, &mut seat.token, call)
     }
 
     /// Makes the call where no other seat has the turn or waits for it, and answers the object's reply. It never waits.
@@ -129,28 +114,25 @@ impl<O: Object> Gate<O> {
         requires gate { seat.old.gate ≡ self.now }
         requires fits { IsAccepted (Moves O.meaning O.counted) O.accepts self.now.opening call }
         ensures gate { seat.new.gate ≡ self.now }
-        ensures ok { IfOk result (λ r. Answers (Moves O.meaning O.counted) O.counted seat.old call r seat.new) }
+        ensures ok { IfOk result (λ r. Answers (Moves O.meaning O.counted) O.counted seat.old call r
+            seat.new) }
         ensures not_worn { OnOk result (seat.old.worn ≡ false) }
-        ensures err { IfErr result (λ e. Refuses (Moves O.meaning O.counted) seat.old call e seat.new) }
+        ensures err { IfErr result (λ e. Refuses (Moves O.meaning O.counted) seat.old call e
+            seat.new) }
     {
-        match self.enter(&mut seat.token) {
-            Entry::Turn => Ok(self.serve(&mut seat.token, call).0),
-            Entry::Busy => Err(TryRefused::Busy(call)),
-            Entry::Worn => Err(TryRefused::Worn(call)),
-        }
+        self.door.try_call(&self.hall, &mut seat.token, call)
     }
 
     /// Ends the sleep of each thread that waits for its turn or for a count. Those whose ticket is not served, or whose
     /// goal is not reached, sleep again.
-    pub fn wake(&self, _rt: &impl Wait) {
-        self.turns.ring_all();
-        self.ring();
+    pub fn wake(&self, rt: &impl Wait) {
+        self.door.wake(rt);
     }
 
     /// Wakes the next thread that sleeps in a bounded wait for the first count, if there is one. A rise of that count
     /// wakes only one of these: a thread that was woken and leaves to others what came calls this.
     pub fn pass_on(&self) {
-        self.next_arrived.ring_for_one();
+        self.door.pass_on();
     }
 
     /// Gives a new seat, which has seen what this one has seen, and has made no turn: none that it has seen was made
@@ -161,8 +143,7 @@ impl<O: Object> Gate<O> {
         ensures same { seat.new ≡ parted seat.old }
         ensures new { IsSplit seat.old result }
     {
-        let mut token = self.table.shared.split_seat::<Sharing>(&mut seat.token);
-        self.table.shared.load::<Naming>(&mut token, SERVING);
+        let token = split_pass(&self.hall, &mut seat.token);
         Seat {
             token,
             key: Snapshot::of(&self.key),
@@ -176,13 +157,7 @@ impl<O: Object> Gate<O> {
         ensures gate { seat.new.gate ≡ self.now }
         ensures joined { Joins (Moves O.meaning O.counted) seat.old other seat.new }
     {
-        let token = other.into_token();
-        self.table
-            .shared
-            .join_seat::<Gathering>(&mut seat.token, token);
-        self.table
-            .shared
-            .load::<Merging<O>>(&mut seat.token, SERVING);
+        join_pass(&self.hall, &mut seat.token, other.into_token());
     }
 
     /// Gives the object back, and the number of its turns.
@@ -190,31 +165,10 @@ impl<O: Object> Gate<O> {
         requires { seat.gate ≡ self }
         ensures { Closes (Moves O.meaning O.counted) seat result }
     {
-        let Gate {
-            table,
-            key,
-            turns: _,
-            arrived: _,
-            next_arrived: _,
-            freed: _,
-        } = self;
-        let mut closed = table.close_with(seat.into_token());
-        let served = closed.word(SERVING);
-        let next = closed.word(TICKET);
-        let left = object_in(closed.take(OBJECT));
+        let Gate { hall, key, door: _ } = self;
+        let mut closed = hall.close_with(seat.into_token());
+        let closing = close_place(&mut closed, 0, key.first);
         closed.free();
-        let turns = served - key.first;
-        if served != next {
-            return Closing {
-                object: None,
-                rest: left,
-                turns,
-            };
-        }
-        Closing {
-            object: left,
-            rest: None,
-            turns,
-        }
+        closing
     }
 }

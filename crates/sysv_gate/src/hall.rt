@@ -1,10 +1,6 @@
 //! One table for several places, its rule, and the kinds of step that it allows.
 use crate::object::Object;
 use crate::place::Place;
-use crate::rule::{
-    Announcing, Drawing, Ending, Entering, Gathering, Looking, Merging, Naming, Reading, Sharing,
-    Weighing,
-};
 use crate::view::Sight;
 use atomic_table::{Join, Play, Split, Table, TableRule};
 use std::alloc::Global;
@@ -49,10 +45,14 @@ impl<O: Object> TableRule<
     ghost use Rattle.sysv_gate.specs.History.{Moves};
     ghost use Rattle.sysv_gate.specs.Halls.{InOrder, outset};
 
-    ghost holds = { λ key. InOrder (Moves O.meaning O.counted) O.counted key.openings.value.items key.first };
+    ghost holds = { λ key. InOrder (Moves O.meaning O.counted) O.counted key.openings.value.items
+        key.first };
 
     ghost first = { λ key. outset key.openings.value.items key.first };
 }
+
+/// A load of the ticket that is drawn next.
+pub(crate) struct Weighing;
 
 impl<O, C, R> Play<Option<Place<O, C, R>>, Sight<O, C, R>> for Weighing {
     ghost use Rattle.sysv_gate.specs.Steps.{Weighs};
@@ -61,11 +61,19 @@ impl<O, C, R> Play<Option<Place<O, C, R>>, Sight<O, C, R>> for Weighing {
     ghost then = { AddsNone Weighs };
 }
 
+/// The compare-exchange that draws a ticket.
+pub(crate) struct Drawing;
+
 impl<O, C, R> Play<Option<Place<O, C, R>>, Sight<O, C, R>> for Drawing {
     ghost use Rattle.sysv_gate.specs.Steps.{Draws};
     ghost use Rattle.sysv_gate.specs.Plays.{AddsNone};
 
     ghost then = { AddsNone Draws };
+}
+
+/// A load of the ticket that is served, which begins the seat's turn where it holds that ticket.
+pub(crate) struct Looking<O> {
+    object: PhantomData<O>,
 }
 
 impl<O: Object> Play<Option<Place<O, O::Call, O::Reply>>, Sight<O, O::Call, O::Reply>>
@@ -77,6 +85,11 @@ impl<O: Object> Play<Option<Place<O, O::Call, O::Reply>>, Sight<O, O::Call, O::R
     ghost then = { AddsNone (Turns (Moves O.meaning O.counted) O.counted) };
 }
 
+/// The compare-exchange that draws the very ticket that is served, and begins its turn.
+pub(crate) struct Entering<O> {
+    object: PhantomData<O>,
+}
+
 impl<O: Object> Play<Option<Place<O, O::Call, O::Reply>>, Sight<O, O::Call, O::Reply>>
     for Entering<O> {
     ghost use Rattle.sysv_gate.specs.History.{Moves};
@@ -86,11 +99,19 @@ impl<O: Object> Play<Option<Place<O, O::Call, O::Reply>>, Sight<O, O::Call, O::R
     ghost then = { AddsNone (Enters (Moves O.meaning O.counted) O.counted) };
 }
 
+/// An addition to the word of a count, in a turn in which the count has risen.
+pub(crate) struct Announcing;
+
 impl<O, C, R> Play<Option<Place<O, C, R>>, Sight<O, C, R>> for Announcing {
     ghost use Rattle.sysv_gate.specs.Steps.{Announces};
     ghost use Rattle.sysv_gate.specs.Plays.{AddsNone};
 
     ghost then = { AddsNone Announces };
+}
+
+/// A load of the word of a count.
+pub(crate) struct Reading<O> {
+    object: PhantomData<O>,
 }
 
 impl<O: Object> Play<Option<Place<O, O::Call, O::Reply>>, Sight<O, O::Call, O::Reply>>
@@ -101,6 +122,9 @@ impl<O: Object> Play<Option<Place<O, O::Call, O::Reply>>, Sight<O, O::Call, O::R
     ghost then = { AddsNone (Reads O.counted) };
 }
 
+/// The addition that ends a turn. It enters the turn into the history, and gives the object home.
+pub(crate) struct Ending;
+
 impl<O, C, R> Play<Option<Place<O, C, R>>, Sight<O, C, R>> for Ending {
     ghost use Rattle.sysv_gate.specs.Steps.{Ends};
     ghost use Rattle.sysv_gate.specs.Plays.{AtAPlace, turns_told};
@@ -108,10 +132,18 @@ impl<O, C, R> Play<Option<Place<O, C, R>>, Sight<O, C, R>> for Ending {
     ghost then = { AtAPlace turns_told Ends };
 }
 
+/// A load that gives a new seat its number.
+pub(crate) struct Naming;
+
 impl<O, C, R> Play<Option<Place<O, C, R>>, Sight<O, C, R>> for Naming {
     ghost use Rattle.sysv_gate.specs.Plays.{Names};
 
     ghost then = { Names };
+}
+
+/// A load after a join, which shows a history that both seats had seen a beginning of.
+pub(crate) struct Merging<O> {
+    object: PhantomData<O>,
 }
 
 impl<O: Object> Play<Option<Place<O, O::Call, O::Reply>>, Sight<O, O::Call, O::Reply>>
@@ -122,6 +154,9 @@ impl<O: Object> Play<Option<Place<O, O::Call, O::Reply>>, Sight<O, O::Call, O::R
     ghost then = { λ st m n m'. Merges (Moves O.meaning O.counted) m m' };
 }
 
+/// A new seat comes from another.
+pub(crate) struct Sharing;
+
 impl<O, C, R> Split<Sight<O, C, R>> for Sharing {
     ghost use Rattle.sysv_gate.specs.Plays.{halved, newcomer};
 
@@ -129,6 +164,9 @@ impl<O, C, R> Split<Sight<O, C, R>> for Sharing {
 
     ghost right = { newcomer };
 }
+
+/// One seat takes in another.
+pub(crate) struct Gathering;
 
 impl<O, C, R> Join<Sight<O, C, R>> for Gathering {
     ghost use Rattle.sysv_gate.specs.Plays.{both_of, spent};

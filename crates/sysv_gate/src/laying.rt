@@ -1,17 +1,18 @@
 //! Laying a table with several places.
-ghost use Rattle.std.specs.Prelude.{◌≡◌, ◌*◌, ◌^◌, ◌≤◌, List, [], length, vec_capacity, None, IfSome, IfNone};
+ghost use Rattle.std.specs.Prelude.{◌≡◌, ◌*◌, ◌^◌, ◌≤◌, List, [], length, vec_capacity, None, IfSome, IfNone, IfOk, IfErr};
 ghost use Rattle.std.specs.List.{All};
 ghost use Rattle.sysv_gate.specs.History.{AreUpTo};
 ghost use Rattle.sysv_gate.specs.Rule.{put};
-ghost use Rattle.sysv_gate.specs.Laying.{AreLaidUpTo, AreDoorsUpTo, all_put, IsNew};
+ghost use Rattle.sysv_gate.specs.Laying.{AreLaidUpTo, AreDoorsUpTo, all_put, IsNew, IsLaidOut};
 
-use crate::board::words_at;
 use crate::door::Door;
 use crate::hall::{Hall, HallKey, HallToken, Spot};
 use crate::object::Object;
-use crate::place::Place;
+use crate::place::{Beside, Place};
+use crate::words::words_at;
 use atomic_table::{Refused, Table};
 use std::alloc::Global;
+use std::snapshot::Snapshot;
 
 // The words of the places. `None` comes where there is no memory.
 fn words_for<O: Object>(
@@ -19,7 +20,8 @@ fn words_for<O: Object>(
     objects: &Vec<O, Global>,
     first: u64,
 ) -> Option<Vec<u64, Global>>
-    ensures { IfSome result (λ words. AreLaidUpTo O.counted first objects.now.items (length objects.now.items) words.items) }
+    ensures { IfSome result (λ words. AreLaidUpTo O.counted first objects.now.items
+        (length objects.now.items) words.items) }
 {
     let mut words = Vec::new(alloc);
     for place in 0..objects.len() {
@@ -35,7 +37,8 @@ fn words_for<O: Object>(
 fn doors_for<O: Object>(alloc: Global, objects: &Vec<O, Global>) -> Option<Vec<Door<O>, Global>>
     requires few { 80 * length objects.now.items ≤ 2 ^ 60 }
     requires counts { All (λ o. AreUpTo (2 ^ 61) (O.counted o)) objects.now.items }
-    ensures { IfSome result (λ doors. AreDoorsUpTo objects.now.items (length objects.now.items) doors.items) }
+    ensures { IfSome result (λ doors. AreDoorsUpTo objects.now.items (length objects.now.items)
+        doors.items) }
 {
     let Ok(mut doors) = Vec::with_capacity(alloc, objects.len()) else {
         return None;
@@ -55,7 +58,10 @@ fn fill<O: Object>(objects: &mut Vec<O, Global>, spots: &mut Vec<Spot<O>, Global
 {
     objects.reverse();
     while let Some(object) = objects.pop() {
-        spots.push_reserved(Some(Place { object, last: None }));
+        spots.push_reserved(Some(Place {
+            object,
+            last: Beside::none(),
+        }));
     }
 }
 
@@ -72,7 +78,8 @@ fn object_out<O: Object>(spot: Spot<O>) -> O
 
 // Takes each object out of its slot again.
 fn empty<O: Object>(mut spots: Vec<Spot<O>, Global>, objects: &mut Vec<O, Global>)
-    requires spots { (all : List O) × (spots.items ≡ all_put all) × (length all ≤ vec_capacity objects.old) }
+    requires spots { (all : List O) × (spots.items ≡ all_put all)
+        × (length all ≤ vec_capacity objects.old) }
     requires none { objects.old.items ≡ [] }
     ensures back { spots.items ≡ all_put objects.new.items }
 {
@@ -93,7 +100,8 @@ pub fn lay_hall<O: Object>(
     requires key { (key.now.openings.value.items ≡ objects.old.items) × (key.now.first ≤ 2 ^ 62) }
     requires counts { All (λ o. AreUpTo (2 ^ 61) (O.counted o)) objects.old.items }
     ensures some { IfSome result (λ t. IsNew t.0.shared.table_id t.0.shared.key key.now t.1) }
-    ensures doors { IfSome result (λ t. AreDoorsUpTo objects.old.items (length objects.old.items) t.2.items × (80 * length objects.old.items ≤ 2 ^ 60)) }
+    ensures doors { IfSome result (λ t. AreDoorsUpTo objects.old.items (length objects.old.items)
+        t.2.items × (80 * length objects.old.items ≤ 2 ^ 60)) }
     ensures laid { IfSome result (λ t. objects.new.items ≡ []) }
     ensures none { IfNone result (objects.new.items ≡ objects.old.items) }
 {
@@ -109,6 +117,45 @@ pub fn lay_hall<O: Object>(
     }
 }
 
+// Lays the table of a gate, which has one place, and gives its first pass and the door. Without memory the object comes
+// back.
+pub(crate) fn lay_one<O: Object>(
+    alloc: Global,
+    object: O,
+    first: u64,
+) -> Result<(Hall<O>, HallToken<O>, Door<O>), O>
+    requires low { first ≤ 2 ^ 62 }
+    requires counts { AreUpTo (2 ^ 61) (O.counted object) }
+    ensures ok { IfOk result (λ t. IsLaidOut object first t.0.shared.table_id t.0.shared.key t.2
+        t.1) }
+    ensures err { IfErr result (λ o. o ≡ object) }
+{
+    let Ok(mut objects) = Vec::with_capacity(alloc, 1) else {
+        return Err(object);
+    };
+    objects.push_reserved(object);
+    let key = HallKey {
+        openings: Snapshot::of(&objects),
+        first,
+    };
+    match lay_hall(alloc, &mut objects, &key) {
+        Some((hall, token, mut doors)) => {
+            objects.destroy_empty();
+            let Some(door) = doors.pop() else {
+                unreachable!()
+            };
+            Ok((hall, token, door))
+        }
+        None => {
+            let Some(object) = objects.pop() else {
+                unreachable!()
+            };
+            objects.destroy_empty();
+            Err(object)
+        }
+    }
+}
+
 // Lays the table of the objects over these words.
 fn raise<O: Object>(
     alloc: Global,
@@ -117,7 +164,8 @@ fn raise<O: Object>(
     key: &HallKey<O>,
 ) -> Option<(Hall<O>, HallToken<O>)>
     requires key { (key.now.openings.value.items ≡ objects.old.items) × (key.now.first ≤ 2 ^ 62) }
-    requires laid { AreLaidUpTo O.counted key.now.first objects.old.items (length objects.old.items) words.now.items }
+    requires laid { AreLaidUpTo O.counted key.now.first objects.old.items (length objects.old.items)
+        words.now.items }
     ensures some { IfSome result (λ t. IsNew t.0.shared.table_id t.0.shared.key key.now t.1) }
     ensures laid { IfSome result (λ t. objects.new.items ≡ []) }
     ensures none { IfNone result (objects.new.items ≡ objects.old.items) }

@@ -14,15 +14,13 @@
 
 mod awaited;
 mod bell;
-mod board;
+mod calls;
 mod closing;
 mod count;
 mod door;
-mod door_calls;
-mod door_turns;
-mod door_waits;
 mod ending;
 mod gate;
+mod gate_waits;
 mod hall;
 mod laws;
 mod laying;
@@ -30,11 +28,11 @@ mod object;
 mod passes;
 mod place;
 mod refusals;
-mod rule;
 mod seat;
 mod turns;
 mod view;
 mod waits;
+mod words;
 
 pub use awaited::Awaited;
 pub use closing::Closing;

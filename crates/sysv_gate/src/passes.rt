@@ -4,17 +4,18 @@ ghost use Rattle.sysv_gate.specs.History.{Moves};
 ghost use Rattle.sysv_gate.specs.Plays.{halved, both_of, Merges};
 ghost use Rattle.sysv_gate.specs.Doors.{IsNewcomer, KnowsAll};
 
-use crate::board::SERVING;
-use crate::hall::{Hall, HallToken};
+use crate::hall::{Gathering, Hall, HallToken, Merging, Naming, Sharing};
 use crate::object::Object;
-use crate::rule::{Gathering, Merging, Naming, Sharing};
+use crate::words::SERVING;
 
 /// Gives a new pass, which has seen what this one has seen, and has made no turn: none that it has seen was made under its
 /// number. It may go to another thread.
 pub fn split_pass<O: Object>(hall: &Hall<O>, token: &mut HallToken<O>) -> HallToken<O>
-    requires table { (token.old.table_id ≡ hall.now.shared.table_id) × (80 ≤ hall.now.shared.table_id.words) }
+    requires table { (token.old.table_id ≡ hall.now.shared.table_id)
+        × (80 ≤ hall.now.shared.table_id.words) }
     requires rest { KnowsAll hall.now.shared.key.openings.value.items token.old.me.0 }
-    ensures same { (token.new.table_id ≡ token.old.table_id) × (token.new.me ≡ (halved token.old.me.0, token.old.me.1)) }
+    ensures same { (token.new.table_id ≡ token.old.table_id)
+        × (token.new.me ≡ (halved token.old.me.0, token.old.me.1)) }
     ensures new { (result.table_id ≡ token.old.table_id) × IsNewcomer token.old.me.0 result.me }
 {
     let mut other = hall.shared.split_seat::<Sharing>(token);
@@ -24,12 +25,14 @@ pub fn split_pass<O: Object>(hall: &Hall<O>, token: &mut HallToken<O>) -> HallTo
 
 /// Takes in another pass: what it has seen, and its turns.
 pub fn join_pass<O: Object>(hall: &Hall<O>, token: &mut HallToken<O>, other: HallToken<O>)
-    requires table { (token.old.table_id ≡ hall.now.shared.table_id) × (80 ≤ hall.now.shared.table_id.words) }
+    requires table { (token.old.table_id ≡ hall.now.shared.table_id)
+        × (80 ≤ hall.now.shared.table_id.words) }
     requires other { (other.table_id ≡ hall.now.shared.table_id) × (other.me.1 ≡ []) }
     requires rest { KnowsAll hall.now.shared.key.openings.value.items token.old.me.0 }
     requires other_rest { KnowsAll hall.now.shared.key.openings.value.items other.me.0 }
     ensures same { token.new.table_id ≡ token.old.table_id }
-    ensures joined { Merges (Moves O.meaning O.counted) (both_of token.old.me.0 other.me.0, token.old.me.1) token.new.me }
+    ensures joined { Merges (Moves O.meaning O.counted)
+        (both_of token.old.me.0 other.me.0, token.old.me.1) token.new.me }
 {
     hall.shared.join_seat::<Gathering>(token, other);
     hall.shared.load::<Merging<O>>(token, SERVING);

@@ -1,4 +1,7 @@
 //! What the slot of a gate has.
+ghost use Rattle.std.specs.Prelude.{◌≡◌, None, Some};
+
+use std::marker::Model;
 use std::snapshot::Snapshot;
 
 /// A call that was served, with its reply. It has no bytes.
@@ -13,8 +16,49 @@ impl<C, R> Drop for Done<C, R> {
     }
 }
 
+/// The call that was served last, if there was one, and room beside it: the objects of a table lie in a row, and no two of
+/// them are to be on one line of a processor's cache.
+pub struct Beside<C, R> {
+    done: Option<Done<C, R>>,
+    _room: [u64; 16],
+}
+
+impl<C, R> Model for Beside<C, R> {
+    ghost use Rattle.std.specs.Prelude.{Option};
+    ghost use Rattle.sysv_gate.specs.declared.place.Done.{Done};
+
+    ghost Value = { Option (Done C R) };
+
+    ghost view = { λ beside. beside.done };
+}
+
+impl<C, R> Drop for Beside<C, R> {
+    fn drop(self) {
+        let Beside { done: _, _room: _ } = self;
+    }
+}
+
+impl<C, R> Beside<C, R> {
+    // No call was served yet.
+    pub(crate) fn none() -> Beside<C, R>
+        ensures { result ≡ None }
+    {
+        Beside {
+            done: None,
+            _room: [0; 16],
+        }
+    }
+
+    // This call was served.
+    pub(crate) fn tell(&mut self, done: Done<C, R>)
+        ensures { self.new ≡ Some done }
+    {
+        self.done = Some(done);
+    }
+}
+
 /// The object, beside the call that was served last. So the step that ends a turn can tell which turn it was.
 pub struct Place<O, C, R> {
     pub object: O,
-    pub last: Option<Done<C, R>>,
+    pub last: Beside<C, R>,
 }

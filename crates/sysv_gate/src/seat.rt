@@ -1,16 +1,31 @@
 //! The seats of gates.
-ghost use Rattle.sysv_gate.specs.Held.{Rests};
+ghost use Rattle.sysv_gate.specs.History.{Moves};
+ghost use Rattle.sysv_gate.specs.Held.{IsTokenOf};
 
-use crate::board::Token;
+use crate::hall::HallToken;
 use crate::object::Object;
-use crate::rule::Key;
 use std::marker::Model;
 use std::snapshot::Snapshot;
+
+/// What is fixed when a gate is opened: the object, for proofs, and the first ticket.
+pub(crate) struct Key<O> {
+    pub(crate) opening: Snapshot<O>,
+    pub(crate) first: u64,
+}
+
+impl<O> Drop for Key<O> {
+    fn drop(self) {
+        let Key {
+            opening: _,
+            first: _,
+        } = self;
+    }
+}
 
 /// The right to take turns at one gate, and what its holder knows of the history there. It is used only with the gate
 /// that gave it. A seat may go to another thread.
 pub struct Seat<O: Object> {
-    pub(crate) token: Token<O>,
+    pub(crate) token: HallToken<O>,
     pub(crate) key: Snapshot<Key<O>>,
 }
 
@@ -34,8 +49,8 @@ impl<O: Object> Drop for Seat<O> {
 }
 
 impl<O: Object> Seat<O> {
-    pub(crate) fn into_token(self) -> Token<O>
-        ensures { Rests self result }
+    pub(crate) fn into_token(self) -> HallToken<O>
+        ensures { IsTokenOf (Moves O.meaning O.counted) self result }
     {
         let Seat { token, key: _ } = self;
         token

@@ -1,18 +1,22 @@
-//! The parts of a call, each of which makes some steps on the table.
-ghost use Rattle.std.specs.Prelude.{◌≡◌, ◌≢◌, ℕ, ◌^◌, ◌<◌, ◌≤◌, cond, true, [], ◌∷◌, length, IfSome, IfNone};
-ghost use Rattle.sysv_gate.specs.History.{Moves, IsAccepted, AreBelow, after_all};
-ghost use Rattle.sysv_gate.specs.Counts.{of_count};
-ghost use Rattle.sysv_gate.specs.Steps.{announced_by, HasTurn};
-ghost use Rattle.sysv_gate.specs.Turns.{IsOf, IsSameToken, Waits, Looked, HasDrawn, HasWorn, SawMore, TurnCame, HasMade, Entered, Applied};
+//! The parts of a call at a place, each of which makes some steps on the table.
+ghost use Rattle.std.specs.Prelude.{◌≡◌, ◌≢◌, ℕ, ◌^◌, ◌<◌, ◌≤◌, true, [], ◌∷◌, length, Option, Some, IfSome, IfNone};
+ghost use Rattle.sysv_gate.specs.declared.place.Done.{Done as Served};
+ghost use Rattle.sysv_gate.specs.declared.place.Place.{Place as Filled};
+ghost use Rattle.sysv_gate.specs.Rule.{put};
+ghost use Rattle.sysv_gate.specs.History.{Moves, IsAccepted, AreBelow};
+ghost use Rattle.sysv_gate.specs.Steps.{HasTurn};
+ghost use Rattle.sysv_gate.specs.Turns.{Waits, HasDrawn, HasWorn, SawMore, TurnCame, HasMade, Entered, Applied};
+ghost use Rattle.sysv_gate.specs.Halls.{me_at};
+ghost use Rattle.sysv_gate.specs.Doors.{IsDoorOf, IsAt, IsSame, EndsOrder};
 ghost use Rattle.sysv_lists.specs.Numbers.{times};
 
 use crate::bell::Sleep;
-use crate::board::{LIMIT, OBJECT, SERVING, TICKET, Token};
 use crate::count::Count;
-use crate::gate::Gate;
+use crate::door::Door;
+use crate::hall::{Ending, Hall, HallToken, Spot};
 use crate::object::Object;
 use crate::place::{Done, Place};
-use crate::rule::{Announcing, Drawing, Ending, Entering, Looking, Weighing};
+use crate::words::{LIMIT, SERVING};
 use std::hint;
 use std::snapshot::Snapshot;
 use std::sync::Wait;
@@ -34,52 +38,68 @@ pub(crate) struct Rose {
     pub(crate) freed: bool,
 }
 
-// Makes the call. The object comes back beside the call that it served.
+// Makes the call, and leaves beside the object the call that it served.
 pub(crate) fn apply<O: Object>(
-    mut object: O,
+    place: &mut Place<O, O::Call, O::Reply>,
     call: O::Call,
-) -> (Place<O, O::Call, O::Reply>, O::Reply, Rose)
-    requires counts { AreBelow (2 ^ 63) (O.counted object) }
-    requires accepted { O.accepts object call }
-    ensures { Applied (Moves O.meaning O.counted) O.counted object call result.0 result.1 result.2 }
+) -> (O::Reply, Rose)
+    requires counts { AreBelow (2 ^ 63) (O.counted place.old.object) }
+    requires accepted { O.accepts place.old.object call }
+    ensures { Applied (Moves O.meaning O.counted) O.counted place.old.object call place.new
+        result.0 result.1 }
 {
-    let before = object.counts();
+    let before = place.object.counts();
     let asked = Snapshot::of(&call);
-    let reply = object.apply(call);
-    let after = object.counts();
-    let last = Done {
+    let reply = place.object.apply(call);
+    let after = place.object.counts();
+    place.last.tell(Done {
         call: asked,
         reply: Snapshot::of(&reply),
-    };
+    });
     let rose = Rose {
         arrived: after.0 > before.0,
         freed: after.1 > before.1,
     };
-    let place = Place {
-        object,
-        last: Some(last),
-    };
-    (place, reply, rose)
+    (reply, rose)
 }
 
-impl<O: Object> Gate<O> {
+// Makes the call at the object that is in the slot.
+pub(crate) fn apply_in<O: Object>(spot: &mut Spot<O>, call: O::Call) -> (O::Reply, Rose)
+    requires full { (object : O) × (last : Option (Served O.Call O.Reply))
+        × (spot.old ≡ put object last) × AreBelow (2 ^ 63) (O.counted object)
+        × O.accepts object call }
+    ensures { (object : O) (last : Option (Served O.Call O.Reply)) → spot.old ≡ put object last →
+        (place : Filled O O.Call O.Reply) × (spot.new ≡ Some place)
+        × Applied (Moves O.meaning O.counted) O.counted object call place result.0 result.1 }
+{
+    let Some(place) = spot else { unreachable!() };
+    apply(place, call)
+}
+
+impl<O: Object> Door<O> {
     // Draws a ticket. `None` comes where the tickets have reached 2^62.
-    pub(crate) fn draw(&self, rt: &impl Wait, token: &mut Token<O>) -> Option<u64>
-        requires table { IsOf self.now token.old }
-        requires idle { Waits [] token.old.me }
-        ensures same { IsSameToken token.old token.new }
-        ensures drawn { IfSome result (λ t. HasDrawn token.old.me t token.new.me) }
-        ensures worn { IfNone result (HasWorn token.old.me token.new.me) }
+    pub(crate) fn draw(
+        &self,
+        rt: &impl Wait,
+        hall: &Hall<O>,
+        token: &mut HallToken<O>,
+    ) -> Option<u64>
+        requires door { IsDoorOf hall.now.shared.table_id hall.now.shared.key.openings.value.items
+            self.now }
+        requires at { IsAt hall.now.shared.table_id self.now token.old }
+        requires idle { Waits [] (me_at self.now.place token.old.me) }
+        ensures same { IsSame self.now.place token.old token.new }
+        ensures drawn { IfSome result (λ t. HasDrawn (me_at self.now.place token.old.me) t
+            (me_at self.now.place token.new.me)) }
+        ensures worn { IfNone result (HasWorn (me_at self.now.place token.old.me)
+            (me_at self.now.place token.new.me)) }
     {
         for _ in rt.forever() {
-            let next = self.table.shared.load::<Weighing>(token, TICKET);
+            let next = self.weigh(hall, token);
             if next >= LIMIT {
                 return None;
             }
-            let found = self
-                .table
-                .shared
-                .compare_exchange::<Drawing>(token, TICKET, next, next + 1);
+            let found = self.draw_next(hall, token, next);
             if found == next {
                 return Some(next);
             }
@@ -87,25 +107,25 @@ impl<O: Object> Gate<O> {
         unreachable!()
     }
 
-    // Draws the ticket that is served, where no other seat holds it, and so begins the turn.
-    pub(crate) fn enter(&self, token: &mut Token<O>) -> Entry
-        requires table { IsOf self.now token.old }
-        requires idle { Waits [] token.old.me }
-        ensures same { IsSameToken token.old token.new }
-        ensures entered { Entered (Moves O.meaning O.counted) O.counted self.now.opening token.old.me result token.new.me }
+    // Draws the ticket that is served, where no other pass holds it, and so begins the turn.
+    pub(crate) fn enter(&self, hall: &Hall<O>, token: &mut HallToken<O>) -> Entry
+        requires door { IsDoorOf hall.now.shared.table_id hall.now.shared.key.openings.value.items
+            self.now }
+        requires at { IsAt hall.now.shared.table_id self.now token.old }
+        requires idle { Waits [] (me_at self.now.place token.old.me) }
+        ensures same { IsSame self.now.place token.old token.new }
+        ensures entered { Entered (Moves O.meaning O.counted) O.counted self.now.opening
+            (me_at self.now.place token.old.me) result (me_at self.now.place token.new.me) }
     {
-        let next = self.table.shared.load::<Weighing>(token, TICKET);
+        let next = self.weigh(hall, token);
         if next >= LIMIT {
             return Entry::Worn;
         }
-        let served = self.look(token);
+        let served = self.look(hall, token);
         if served != next {
             return Entry::Busy;
         }
-        let found = self
-            .table
-            .shared
-            .compare_exchange::<Entering<O>>(token, TICKET, served, served + 1);
+        let found = self.enter_next(hall, token, served);
         if found != served {
             return Entry::Busy;
         }
@@ -113,14 +133,26 @@ impl<O: Object> Gate<O> {
     }
 
     // Waits until the ticket is served.
-    pub(crate) fn reach(&self, rt: &impl Wait, token: &mut Token<O>, ticket: u64)
-        requires table { IsOf self.now token.old }
-        requires waits { Waits (ticket ∷ []) token.old.me }
-        ensures same { IsSameToken token.old token.new }
-        ensures turn { TurnCame (Moves O.meaning O.counted) O.counted self.now.opening token.old.me.0 ticket token.new.me }
+    pub(crate) fn reach(
+        &self,
+        rt: &impl Wait,
+        hall: &Hall<O>,
+        token: &mut HallToken<O>,
+        ticket: u64,
+    )
+        requires door { IsDoorOf hall.now.shared.table_id hall.now.shared.key.openings.value.items
+            self.now }
+        requires at { IsAt hall.now.shared.table_id self.now token.old }
+        requires waits { Waits (ticket ∷ []) (me_at self.now.place token.old.me) }
+        ensures same { IsSame self.now.place token.old token.new }
+        ensures turn { TurnCame (Moves O.meaning O.counted) O.counted self.now.opening
+            (me_at self.now.place token.old.me).0 ticket (me_at self.now.place token.new.me) }
     {
         for _ in rt.forever() {
-            if self.spin(token, ticket) == ticket || self.doze_until(rt, token, ticket) == ticket {
+            if self.spin(hall, token, ticket) == ticket {
+                return;
+            }
+            if self.doze_until(rt, hall, token, ticket) == ticket {
                 return;
             }
         }
@@ -128,16 +160,27 @@ impl<O: Object> Gate<O> {
     }
 
     // Sleeps until the ticket may be served, where it is not served yet, and answers the one that was.
-    fn doze_until(&self, rt: &impl Wait, token: &mut Token<O>, ticket: u64) -> u64
-        requires table { IsOf self.now token.old }
-        requires waits { Waits (ticket ∷ []) token.old.me }
-        ensures same { IsSameToken token.old token.new }
-        ensures turn { result ≡ ticket → TurnCame (Moves O.meaning O.counted) O.counted self.now.opening token.old.me.0 ticket token.new.me }
-        ensures waits { result ≢ ticket → SawMore token.old.me.0 token.new.me }
+    fn doze_until(
+        &self,
+        rt: &impl Wait,
+        hall: &Hall<O>,
+        token: &mut HallToken<O>,
+        ticket: u64,
+    ) -> u64
+        requires door { IsDoorOf hall.now.shared.table_id hall.now.shared.key.openings.value.items
+            self.now }
+        requires at { IsAt hall.now.shared.table_id self.now token.old }
+        requires waits { Waits (ticket ∷ []) (me_at self.now.place token.old.me) }
+        ensures same { IsSame self.now.place token.old token.new }
+        ensures turn { result ≡ ticket → TurnCame (Moves O.meaning O.counted) O.counted
+            self.now.opening (me_at self.now.place token.old.me).0 ticket
+            (me_at self.now.place token.new.me) }
+        ensures waits { result ≢ ticket
+            → SawMore (me_at self.now.place token.old.me).0 (me_at self.now.place token.new.me) }
     {
         let bell = self.turns.of(ticket);
         let rung = bell.enter();
-        let served = self.look(token);
+        let served = self.look(hall, token);
         if served != ticket {
             bell.sleep(rt, rung, Sleep::UntilRung);
         }
@@ -146,72 +189,60 @@ impl<O: Object> Gate<O> {
     }
 
     // Looks some times whether the ticket is served, and answers the one that is.
-    fn spin(&self, token: &mut Token<O>, ticket: u64) -> u64
-        requires table { IsOf self.now token.old }
-        requires waits { Waits (ticket ∷ []) token.old.me }
-        ensures same { IsSameToken token.old token.new }
-        ensures turn { result ≡ ticket → TurnCame (Moves O.meaning O.counted) O.counted self.now.opening token.old.me.0 ticket token.new.me }
-        ensures waits { result ≢ ticket → SawMore token.old.me.0 token.new.me }
+    fn spin(&self, hall: &Hall<O>, token: &mut HallToken<O>, ticket: u64) -> u64
+        requires door { IsDoorOf hall.now.shared.table_id hall.now.shared.key.openings.value.items
+            self.now }
+        requires at { IsAt hall.now.shared.table_id self.now token.old }
+        requires waits { Waits (ticket ∷ []) (me_at self.now.place token.old.me) }
+        ensures same { IsSame self.now.place token.old token.new }
+        ensures turn { result ≡ ticket → TurnCame (Moves O.meaning O.counted) O.counted
+            self.now.opening (me_at self.now.place token.old.me).0 ticket
+            (me_at self.now.place token.new.me) }
+        ensures waits { result ≢ ticket
+            → SawMore (me_at self.now.place token.old.me).0 (me_at self.now.place token.new.me) }
     {
-        let mut served = self.look(token);
+        let mut served = self.look(hall, token);
         for _ in 1..LOOKS {
             if served == ticket {
                 break;
             }
             hint::spin_loop();
-            served = self.look(token);
+            served = self.look(hall, token);
         }
         served
     }
 
-    // Looks which ticket is served. Where it is the seat's, the turn begins.
-    fn look(&self, token: &mut Token<O>) -> u64
-        requires table { IsOf self.now token.old }
-        requires idle { Waits token.old.me.0.tickets token.old.me }
-        ensures same { IsSameToken token.old token.new }
-        ensures looked { Looked (Moves O.meaning O.counted) O.counted self.now.opening token.old.me result token.new.me }
-    {
-        self.table.shared.load::<Looking<O>>(token, SERVING)
-    }
-
-    // Announces a count in the seat's turn, where it has risen.
-    fn announce(&self, token: &mut Token<O>, count: Count, rose: bool)
-        requires table { IsOf self.now token.old }
-        requires turn { token.old.me.0.in_turn ≡ true }
-        requires quiet { of_count count token.old.me.0.announced ≡ 0 }
-        requires low { of_count count (O.counted (after_all self.now.opening token.old.me.0.seen)) < 2 ^ 63 }
-        ensures same { IsSameToken token.old token.new }
-        ensures announced { token.new.me ≡ (announced_by count (cond rose 1 0) token.old.me.0, token.old.me.1) }
-    {
-        if rose {
-            self.table
-                .shared
-                .fetch_add::<Announcing>(token, count.word(), 1);
-        }
-    }
-
     // Makes the turn: takes the object out of the slot, calls it, announces its counts, gives it home, and enters the
     // turn into the history.
-    pub(crate) fn serve(&self, token: &mut Token<O>, call: O::Call) -> (O::Reply, Rose)
-        requires table { IsOf self.now token.old }
-        requires turn { HasTurn (Moves O.meaning O.counted) O.counted self.now.opening token.old.me }
-        requires ticket { (t : ℕ) × (token.old.me.0.tickets ≡ t ∷ []) × (token.old.me.0.in_turn ≡ true) }
-        requires named { 1 ≤ times token.old.me.0.number token.old.me.0.numbers }
-        requires room { length token.old.me.0.seen < 2 ^ 62 }
+    pub(crate) fn serve(
+        &self,
+        hall: &Hall<O>,
+        token: &mut HallToken<O>,
+        call: O::Call,
+    ) -> (O::Reply, Rose)
+        requires door { IsDoorOf hall.now.shared.table_id hall.now.shared.key.openings.value.items
+            self.now }
+        requires at { IsAt hall.now.shared.table_id self.now token.old }
+        requires turn { HasTurn (Moves O.meaning O.counted) O.counted self.now.opening
+            (me_at self.now.place token.old.me) }
+        requires ticket { (t : ℕ) × ((me_at self.now.place token.old.me).0.tickets ≡ t ∷ [])
+            × ((me_at self.now.place token.old.me).0.in_turn ≡ true) }
+        requires named { 1 ≤ times (me_at self.now.place token.old.me).0.number
+            (me_at self.now.place token.old.me).0.numbers }
+        requires room { length (me_at self.now.place token.old.me).0.seen < 2 ^ 62 }
         requires fits { IsAccepted (Moves O.meaning O.counted) O.accepts self.now.opening call }
-        ensures same { IsSameToken token.old token.new }
-        ensures made { HasMade (Moves O.meaning O.counted) self.now.opening token.old.me.0 call result.0 token.new.me }
+        ensures same { IsSame self.now.place token.old token.new }
+        ensures order { EndsOrder self.now.place token.old.me token.new.me }
+        ensures made { HasMade (Moves O.meaning O.counted) self.now.opening
+            (me_at self.now.place token.old.me).0 call result.0
+            (me_at self.now.place token.new.me) }
     {
-        let shared = &self.table.shared;
-        let Some(Place { object, last: _ }) = shared.exchange(token, OBJECT, None) else {
-            unreachable!()
-        };
-        let (place, reply, rose) = apply(object, call);
-        let left = shared.exchange(token, OBJECT, Some(place));
-        let None = left else { unreachable!() };
-        self.announce(token, Count::Arrived, rose.arrived);
-        self.announce(token, Count::Freed, rose.freed);
-        shared.fetch_add::<Ending>(token, SERVING, 1);
+        let spot = token.slot_mut(&hall.shared, self.place);
+        let (reply, rose) = apply_in(spot, call);
+        self.announce(hall, token, Count::Arrived, rose.arrived);
+        self.announce(hall, token, Count::Freed, rose.freed);
+        hall.shared
+            .fetch_add::<Ending>(token, self.word(SERVING), 1);
         (reply, rose)
     }
 

@@ -1,5 +1,4 @@
-use Rattle.std.proofs.Common.{rules, arith, ap, sym, subst, ◌∙◌, ◌∷◌, ◌^◌, ◌+◌, ◌%◌, cond, [], length}
-use Rattle.std.specs.Prelude.{Some}
+use Rattle.std.proofs.Common.{rules, arith, ap, refl, sym, subst, ◌∙◌, ◌∷◌, ◌^◌, ◌+◌, ◌%◌, cond, [], length}
 use Rattle.atomic_table.specs.Table.{rest}
 use Rattle.sysv_gate.specs.Rule.{put}
 use Rattle.sysv_gate.specs.History.{after_all, Moves, AreUpTo, AreBelow}
@@ -10,14 +9,12 @@ use Rattle.sysv_gate.specs.Plays.{turns_told}
 use Rattle.sysv_gate.specs.declared.count.Count.TheVariants.{Arrived, Freed}
 use Rattle.sysv_gate.proofs.Lifting.{lifted}
 use Rattle.sysv_gate.proofs.Entering.{only_trans, stepped_only}
-use Rattle.sysv_gate.proofs.Serving.{out_there, object_there, refilled_there, refilled_only, ends_told, ends_order}
+use Rattle.sysv_gate.proofs.Serving.{out_there, lent_there, written_there, refilled_only, ends_told, ends_order}
 use Rattle.sysv_gate.proofs.Turning.{made_turn, counts_low, handed, told_move, announced_all}
 use Rattle.sysv_gate.proofs.door.Door.serve.Goals as goal
 
-pub exchange-requires : goal.exchange-requires
-exchange-requires g c =
-    let counted = g.O.Object.counted in
-    let moves = Moves g.O.Object.meaning counted in
+pub slot_mut-spot-requires : goal.slot_mut-spot-requires
+slot_mut-spot-requires g c =
     let p = c.args.self.now.place in
     let m = c.args.token.now.me in
     let v = view_at p m.0 in
@@ -28,10 +25,9 @@ exchange-requires g c =
     let there = out_there p m s c.requires.at.3 out.1 ∙ ap (λ k. (k, s) ∷ []) (sym same) in
     (search rules, (s, there ∙ ap (λ xs. (c.self.inside.place, s) ∷ rest xs) (sym there)))
 
-pub apply-place-requires-clause-counts : goal.apply-place-requires-clause-counts
-apply-place-requires-clause-counts g c =
+pub apply_in-reply-requires : goal.apply_in-reply-requires
+apply_in-reply-requires g c =
     let counted = g.O.Object.counted in
-    let moves = Moves g.O.Object.meaning counted in
     let p = c.args.self.now.place in
     let m = c.args.token.now.me in
     let v = view_at p m.0 in
@@ -42,41 +38,19 @@ apply-place-requires-clause-counts g c =
     let there = out_there p m s c.requires.at.3 out.1 ∙ ap (λ k. (k, s) ∷ []) (sym same) in
     let low = subst (λ q. AreUpTo (2 ^ 61) (counted q)) (ap (λ d. d.opening) c.self.view_is) c.self.invariant.2 in
     let below = counts_low g.O.Object.meaning counted o v.seen c.requires.turn.legal low c.requires.room in
-    let was = object_there _ _ _ _ _ _ _ c.exchange.ensures.2 there c.in-Some.is in
-    subst (λ q. AreBelow (2 ^ 63) (counted q)) (sym was) below
-
-pub apply-place-requires-clause-accepted : goal.apply-place-requires-clause-accepted
-apply-place-requires-clause-accepted g c =
-    let p = c.args.self.now.place in
-    let m = c.args.token.now.me in
-    let v = view_at p m.0 in
-    let o = c.args.self.now.opening in
-    let out = c.requires.turn.out in
-    let s = put (after_all o v.seen) out.0 in
-    let same = ap (λ d. d.place) c.self.view_is in
-    let there = out_there p m s c.requires.at.3 out.1 ∙ ap (λ k. (k, s) ∷ []) (sym same) in
-    let was = object_there _ _ _ _ _ _ _ c.exchange.ensures.2 there c.in-Some.is in
-    subst (λ q. g.O.Object.accepts q c.args.call) (sym was) (c.requires.fits v.seen c.requires.turn.legal)
-
-pub announce-requires-clause-quiet : goal.announce-requires-clause-quiet
-announce-requires-clause-quiet g c =
-    let counted = g.O.Object.counted in
-    let moves = Moves g.O.Object.meaning counted in
-    let p = c.args.self.now.place in
-    let m = c.args.token.now.me in
-    let v = view_at p m.0 in
-    let o = c.args.self.now.opening in
-    let out = c.requires.turn.out in
-    let s = put (after_all o v.seen) out.0 in
-    let same = ap (λ d. d.place) c.self.view_is in
-    let there = out_there p m s c.requires.at.3 out.1 ∙ ap (λ k. (k, s) ∷ []) (sym same) in
-    let filled = refilled_there _ m _ _ _ _ _ there c.exchange.ensures.3 c.exchange-left.ensures.3 ∙ ap (λ k. (m.0, (k, Some c.apply-place.result.0) ∷ [])) same in
-    ap (λ n. of_count Arrived (view_at p n.0).announced) filled ∙ c.requires.turn.quiet Arrived
+    record {
+      full = (
+        after_all o v.seen,
+        out.0,
+        lent_there _ _ _ _ s c.slot_mut-spot.ensures.value there,
+        below,
+        c.requires.fits v.seen c.requires.turn.legal,
+      );
+    }
 
 pub announce-requires-clause-low : goal.announce-requires-clause-low
 announce-requires-clause-low g c =
     let counted = g.O.Object.counted in
-    let moves = Moves g.O.Object.meaning counted in
     let p = c.args.self.now.place in
     let m = c.args.token.now.me in
     let v = view_at p m.0 in
@@ -87,14 +61,13 @@ announce-requires-clause-low g c =
     let there = out_there p m s c.requires.at.3 out.1 ∙ ap (λ k. (k, s) ∷ []) (sym same) in
     let low = subst (λ q. AreUpTo (2 ^ 61) (counted q)) (ap (λ d. d.opening) c.self.view_is) c.self.invariant.2 in
     let below = counts_low g.O.Object.meaning counted o v.seen c.requires.turn.legal low c.requires.room in
-    let filled = refilled_there _ m _ _ _ _ _ there c.exchange.ensures.3 c.exchange-left.ensures.3 ∙ ap (λ k. (m.0, (k, Some c.apply-place.result.0) ∷ [])) same in
+    let left = c.apply_in-reply.new.spot in
+    let filled = written_there c.self.inside.place m s left there ∙ ap (λ k. (m.0, (k, left) ∷ [])) same in
     let now = subst (λ n. AreBelow (2 ^ 63) (counted (after_all o (view_at p n.0).seen))) (sym filled) below in
     now.0
 
 pub announce-requires-2-clause-quiet : goal.announce-requires-2-clause-quiet
 announce-requires-2-clause-quiet g c =
-    let counted = g.O.Object.counted in
-    let moves = Moves g.O.Object.meaning counted in
     let p = c.args.self.now.place in
     let m = c.args.token.now.me in
     let v = view_at p m.0 in
@@ -103,13 +76,13 @@ announce-requires-2-clause-quiet g c =
     let s = put (after_all o v.seen) out.0 in
     let same = ap (λ d. d.place) c.self.view_is in
     let there = out_there p m s c.requires.at.3 out.1 ∙ ap (λ k. (k, s) ∷ []) (sym same) in
-    let filled = refilled_there _ m _ _ _ _ _ there c.exchange.ensures.3 c.exchange-left.ensures.3 ∙ ap (λ k. (m.0, (k, Some c.apply-place.result.0) ∷ [])) same in
+    let left = c.apply_in-reply.new.spot in
+    let filled = written_there c.self.inside.place m s left there ∙ ap (λ k. (m.0, (k, left) ∷ [])) same in
     ap (λ n. of_count Freed n.0.announced) c.announce.ensures.announced ∙ ap (λ n. of_count Freed (view_at p n.0).announced) filled ∙ c.requires.turn.quiet Freed
 
 pub announce-requires-2-clause-low : goal.announce-requires-2-clause-low
 announce-requires-2-clause-low g c =
     let counted = g.O.Object.counted in
-    let moves = Moves g.O.Object.meaning counted in
     let p = c.args.self.now.place in
     let m = c.args.token.now.me in
     let v = view_at p m.0 in
@@ -120,7 +93,8 @@ announce-requires-2-clause-low g c =
     let there = out_there p m s c.requires.at.3 out.1 ∙ ap (λ k. (k, s) ∷ []) (sym same) in
     let low = subst (λ q. AreUpTo (2 ^ 61) (counted q)) (ap (λ d. d.opening) c.self.view_is) c.self.invariant.2 in
     let below = counts_low g.O.Object.meaning counted o v.seen c.requires.turn.legal low c.requires.room in
-    let filled = refilled_there _ m _ _ _ _ _ there c.exchange.ensures.3 c.exchange-left.ensures.3 ∙ ap (λ k. (m.0, (k, Some c.apply-place.result.0) ∷ [])) same in
+    let left = c.apply_in-reply.new.spot in
+    let filled = written_there c.self.inside.place m s left there ∙ ap (λ k. (m.0, (k, left) ∷ [])) same in
     let now = subst (λ n. AreBelow (2 ^ 63) (counted (after_all o n.0.seen))) (sym c.announce.ensures.announced) (subst (λ n. AreBelow (2 ^ 63) (counted (after_all o (view_at p n.0).seen))) (sym filled) below) in
     now.1
 
@@ -136,26 +110,25 @@ fetch_add-requires g c =
     let s = put (after_all o v.seen) out.0 in
     let same = ap (λ d. d.place) c.self.view_is in
     let there = out_there p m s c.requires.at.3 out.1 ∙ ap (λ k. (k, s) ∷ []) (sym same) in
-    let filled = refilled_there _ m _ _ _ _ _ there c.exchange.ensures.3 c.exchange-left.ensures.3 ∙ ap (λ k. (m.0, (k, Some c.apply-place.result.0) ∷ [])) same in
-    let was = object_there _ _ _ _ _ _ _ c.exchange.ensures.2 there c.in-Some.is in
-    let served = c.apply-place.ensures in
-    let rose = c.apply-place.result.2 in
+    let left = c.apply_in-reply.new.spot in
+    let filled = written_there c.self.inside.place m s left there ∙ ap (λ k. (m.0, (k, left) ∷ [])) same in
+    let lent = lent_there _ _ _ _ s c.slot_mut-spot.ensures.value there in
+    let served = c.apply_in-reply.ensures (after_all o v.seen) out.0 lent in
+    let rose = c.apply_in-reply.result.1 in
     let one = c.announce.ensures.announced ∙ ap (λ n. (announced_by Arrived (cond rose.arrived 1 0) (me_at p n).0, (me_at p n).1)) filled in
     let two = c.announce-2.ensures.announced ∙ ap (λ n. (announced_by Freed (cond rose.freed 1 0) n.0, n.1)) one in
     let v' = announced_by Freed (cond rose.freed 1 0) (announced_by Arrived (cond rose.arrived 1 0) v) in
-    let has = two ∙ ap (λ x. (v', (0, x) ∷ [])) (handed moves counted _ _ _ _ _ served) in
-    let move = told_move moves counted _ _ _ _ _ _ served was in
+    let has = two ∙ ap (λ x. (v', (0, x) ∷ [])) (served.1 ∙ handed moves counted _ _ _ _ _ served.2) in
+    let move = told_move moves counted _ _ _ _ _ _ served.2 refl in
     let at = c.announce-2.ensures.same.2 in (
       search rules,
       omega (arith, c.word.ensures, c.requires.door.1),
       lifted _ counted _ _ p _ turns_told Ends _ _ _ 16 _ 1 0 (λ n. (n + 1) % 2 ^ 64) c.word.ensures c.requires.door.0 (omega arith) (omega (arith, c.requires.at.1, at.many, c.announce.ensures.same.2.many, ap (λ n. length n.0.views) filled)) at.carries
-          (λ log. ends_told _ counted _ _ log _ _ _ v' o _ _ served.last has c.requires.at.2 c.requires.ticket.1 c.requires.ticket.2 c.requires.named move (announced_all moves counted o v _ _ _ _ _ served was)),
+          (λ log. ends_told _ counted _ _ log _ _ _ v' o _ _ served.2.last has c.requires.at.2 c.requires.ticket.1 c.requires.ticket.2 c.requires.named move (announced_all moves counted o v _ _ _ _ _ served.2 refl)),
     )
 
 pub returns-clause-same : goal.returns-clause-same
 returns-clause-same g c =
-    let counted = g.O.Object.counted in
-    let moves = Moves g.O.Object.meaning counted in
     let p = c.args.self.now.place in
     let m = c.args.token.now.me in
     let v = view_at p m.0 in
@@ -164,7 +137,8 @@ returns-clause-same g c =
     let s = put (after_all o v.seen) out.0 in
     let same = ap (λ d. d.place) c.self.view_is in
     let there = out_there p m s c.requires.at.3 out.1 ∙ ap (λ k. (k, s) ∷ []) (sym same) in
-    let filled = refilled_there _ m _ _ _ _ _ there c.exchange.ensures.3 c.exchange-left.ensures.3 ∙ ap (λ k. (m.0, (k, Some c.apply-place.result.0) ∷ [])) same in
+    let left = c.apply_in-reply.new.spot in
+    let filled = written_there c.self.inside.place m s left there ∙ ap (λ k. (m.0, (k, left) ∷ [])) same in
     let went = c.fetch_add.ensures.2 p 16 c.word.ensures (omega arith) in (
       search rules,
       search rules,
@@ -183,14 +157,15 @@ returns-clause-order g c =
     let s = put (after_all o v.seen) out.0 in
     let same = ap (λ d. d.place) c.self.view_is in
     let there = out_there p m s c.requires.at.3 out.1 ∙ ap (λ k. (k, s) ∷ []) (sym same) in
-    let filled = refilled_there _ m _ _ _ _ _ there c.exchange.ensures.3 c.exchange-left.ensures.3 ∙ ap (λ k. (m.0, (k, Some c.apply-place.result.0) ∷ [])) same in
-    let was = object_there _ _ _ _ _ _ _ c.exchange.ensures.2 there c.in-Some.is in
-    let served = c.apply-place.ensures in
-    let rose = c.apply-place.result.2 in
+    let left = c.apply_in-reply.new.spot in
+    let filled = written_there c.self.inside.place m s left there ∙ ap (λ k. (m.0, (k, left) ∷ [])) same in
+    let lent = lent_there _ _ _ _ s c.slot_mut-spot.ensures.value there in
+    let served = c.apply_in-reply.ensures (after_all o v.seen) out.0 lent in
+    let rose = c.apply_in-reply.result.1 in
     let one = c.announce.ensures.announced ∙ ap (λ n. (announced_by Arrived (cond rose.arrived 1 0) (me_at p n).0, (me_at p n).1)) filled in
     let two = c.announce-2.ensures.announced ∙ ap (λ n. (announced_by Freed (cond rose.freed 1 0) n.0, n.1)) one in
     let v' = announced_by Freed (cond rose.freed 1 0) (announced_by Arrived (cond rose.arrived 1 0) v) in
-    let has = two ∙ ap (λ x. (v', (0, x) ∷ [])) (handed moves counted _ _ _ _ _ served) in
+    let has = two ∙ ap (λ x. (v', (0, x) ∷ [])) (served.1 ∙ handed moves counted _ _ _ _ _ served.2) in
     let went = c.fetch_add.ensures.2 p 16 c.word.ensures (omega arith) in
     let only = only_trans p _ _ _ (refilled_only p m _ _ filled c.requires.at.4) (only_trans p _ _ _ c.announce.ensures.same.2 c.announce-2.ensures.same.2) in
     ends_order p m _ _ _ v' _ _ _ _ only went (ap turns_told has) (ap (λ n. n.0) has) c.requires.ticket.2 (went.there.0 ∙ ap (λ n. (after_turn n.0 n.1, rest n.1)) has)
@@ -207,15 +182,15 @@ returns-clause-made g c =
     let s = put (after_all o v.seen) out.0 in
     let same = ap (λ d. d.place) c.self.view_is in
     let there = out_there p m s c.requires.at.3 out.1 ∙ ap (λ k. (k, s) ∷ []) (sym same) in
-    let filled = refilled_there _ m _ _ _ _ _ there c.exchange.ensures.3 c.exchange-left.ensures.3 ∙ ap (λ k. (m.0, (k, Some c.apply-place.result.0) ∷ [])) same in
-    let was = object_there _ _ _ _ _ _ _ c.exchange.ensures.2 there c.in-Some.is in
-    let served = c.apply-place.ensures in
-    let rose = c.apply-place.result.2 in
+    let left = c.apply_in-reply.new.spot in
+    let filled = written_there c.self.inside.place m s left there ∙ ap (λ k. (m.0, (k, left) ∷ [])) same in
+    let lent = lent_there _ _ _ _ s c.slot_mut-spot.ensures.value there in
+    let served = c.apply_in-reply.ensures (after_all o v.seen) out.0 lent in
+    let rose = c.apply_in-reply.result.1 in
     let one = c.announce.ensures.announced ∙ ap (λ n. (announced_by Arrived (cond rose.arrived 1 0) (me_at p n).0, (me_at p n).1)) filled in
     let two = c.announce-2.ensures.announced ∙ ap (λ n. (announced_by Freed (cond rose.freed 1 0) n.0, n.1)) one in
     let v' = announced_by Freed (cond rose.freed 1 0) (announced_by Arrived (cond rose.arrived 1 0) v) in
-    let has = two ∙ ap (λ x. (v', (0, x) ∷ [])) (handed moves counted _ _ _ _ _ served) in
+    let has = two ∙ ap (λ x. (v', (0, x) ∷ [])) (served.1 ∙ handed moves counted _ _ _ _ _ served.2) in
     let went = c.fetch_add.ensures.2 p 16 c.word.ensures (omega arith) in
-    let move = subst (λ q. moves q c.args.call c.apply-place.result.1 c.apply-place.result.0.object) was served.move in
-    let made = made_turn moves o v' _ _ _ served.last _ _ has served.asked served.answered went.there.0 went.there.1 c.requires.turn.legal move in
+    let made = made_turn moves o v' _ _ _ served.2.last _ _ has served.2.asked served.2.answered went.there.0 went.there.1 c.requires.turn.legal served.2.move in
     record { object = made.object; is = made.is; legal = made.legal; own = made.own }

@@ -1,11 +1,24 @@
-use Rattle.std.proofs.Common.{rules}
-use Rattle.sysv_gate.proofs.Touching.{act_at}
-use Rattle.sysv_gate.proofs.Stepping.{reads_at}
-use Rattle.sysv_gate.proofs.Turning.{never_falls, has_read}
+use Rattle.sysv_gate.specs.History.{Moves}
+use Rattle.sysv_gate.proofs.OneDoor.{door_of, is_at, idles, gate_after, has_read}
 use Rattle.sysv_gate.proofs.gate.Gate.count.Goals as goal
 
-pub load-requires : goal.load-requires
-load-requires g c = (search rules, search rules, λ s held one at low. let went = reads_at _ g.O.Object.counted _ _ held.0 _ _ _ c.args.count _ c.word.ensures (never_falls g.O.Object.meaning g.O.Object.counted c.args.count) c.requires.idle.2 s held.1 one at low in (went.0, act_at 0 went.1, went.2, (held.0, went.3), went.4))
+pub count-requires-clause-door : goal.count-requires-clause-door
+count-requires-clause-door g c = door_of _ c.self.inside _ _ _ c.self.invariant c.seat.invariant c.self.view_is c.seat.view_is c.requires
 
-pub returns-clause-read : goal.returns-clause-read
-returns-clause-read g c = has_read g.O.Object.counted c.args.self.now.opening c.args.count _ _ _ _ c.word.ensures c.requires.table.1 c.requires.idle.0 c.load.ensures.2
+pub count-requires-clause-at : goal.count-requires-clause-at
+count-requires-clause-at g c = is_at _ c.self.inside _ _ _ c.self.invariant c.seat.invariant c.self.view_is c.seat.view_is c.requires
+
+pub count-requires-clause-idle : goal.count-requires-clause-idle
+count-requires-clause-idle g c = let i = idles _ c.self.inside _ _ _ c.self.invariant c.seat.invariant c.self.view_is c.seat.view_is c.requires in (i.no_slot, i.no_ticket, i.no_turn)
+
+pub invariant_of-seat : goal.invariant_of-seat
+invariant_of-seat g c = (has_read (Moves g.O.Object.meaning g.O.Object.counted) c.self.inside _ _ _ c.self.invariant c.seat.invariant c.self.view_is c.seat.view_is c.requires g.O.Object.counted c.count.new.token c.count.ensures.same _ _ c.count.ensures.read).0
+
+pub returns-clause-gate : goal.returns-clause-gate
+returns-clause-gate g c = gate_after _ c.self.inside _ _ _ c.self.invariant c.seat.invariant c.self.view_is c.seat.view_is c.requires g.O.Object.counted c.count.new.token c.count.ensures.same
+
+pub returns-clause-seat : goal.returns-clause-seat
+returns-clause-seat g c = (has_read (Moves g.O.Object.meaning g.O.Object.counted) c.self.inside _ _ _ c.self.invariant c.seat.invariant c.self.view_is c.seat.view_is c.requires g.O.Object.counted c.count.new.token c.count.ensures.same _ _ c.count.ensures.read).1
+
+pub returns-clause-learned : goal.returns-clause-learned
+returns-clause-learned g c = (has_read (Moves g.O.Object.meaning g.O.Object.counted) c.self.inside _ _ _ c.self.invariant c.seat.invariant c.self.view_is c.seat.view_is c.requires g.O.Object.counted c.count.new.token c.count.ensures.same _ _ c.count.ensures.read).2

@@ -22,14 +22,18 @@ impl<O: Object> Door<O> {
         token: &mut HallToken<O>,
         call: O::Call,
     ) -> Result<O::Reply, Worn<O::Call>>
-        requires door { IsDoorOf hall.now.shared.table_id hall.now.shared.key.openings.value.items self.now }
+        requires door { IsDoorOf hall.now.shared.table_id hall.now.shared.key.openings.value.items
+            self.now }
         requires at { IsAt hall.now.shared.table_id self.now token.old }
         requires idle { Idles (me_at self.now.place token.old.me) }
         requires fits { IsAccepted (Moves O.meaning O.counted) O.accepts self.now.opening call }
         ensures same { IsSame self.now.place token.old token.new }
         ensures order { OnOk result (EndsOrder self.now.place token.old.me token.new.me) }
-        ensures ok { IfOk result (λ r. HasCalled (Moves O.meaning O.counted) O.counted self.now.opening (me_at self.now.place token.old.me) call r (me_at self.now.place token.new.me)) }
-        ensures worn { IfErr result (λ w. (w.call ≡ call) × HasWorn (me_at self.now.place token.old.me) (me_at self.now.place token.new.me)) }
+        ensures ok { IfOk result (λ r. HasCalled (Moves O.meaning O.counted) O.counted
+            self.now.opening (me_at self.now.place token.old.me) call r
+            (me_at self.now.place token.new.me)) }
+        ensures worn { IfErr result (λ w. (w.call ≡ call)
+            × HasWorn (me_at self.now.place token.old.me) (me_at self.now.place token.new.me)) }
     {
         let Some(ticket) = self.draw(rt, hall, token) else {
             return Err(Worn { call });
@@ -48,14 +52,18 @@ impl<O: Object> Door<O> {
         token: &mut HallToken<O>,
         call: O::Call,
     ) -> Result<O::Reply, TryRefused<O::Call>>
-        requires door { IsDoorOf hall.now.shared.table_id hall.now.shared.key.openings.value.items self.now }
+        requires door { IsDoorOf hall.now.shared.table_id hall.now.shared.key.openings.value.items
+            self.now }
         requires at { IsAt hall.now.shared.table_id self.now token.old }
         requires idle { Idles (me_at self.now.place token.old.me) }
         requires fits { IsAccepted (Moves O.meaning O.counted) O.accepts self.now.opening call }
         ensures same { IsSame self.now.place token.old token.new }
         ensures order { OnOk result (EndsOrder self.now.place token.old.me token.new.me) }
-        ensures ok { IfOk result (λ r. HasCalled (Moves O.meaning O.counted) O.counted self.now.opening (me_at self.now.place token.old.me) call r (me_at self.now.place token.new.me)) }
-        ensures err { IfErr result (λ e. HasTried (Moves O.meaning O.counted) self.now.opening (me_at self.now.place token.old.me) call e (me_at self.now.place token.new.me)) }
+        ensures ok { IfOk result (λ r. HasCalled (Moves O.meaning O.counted) O.counted
+            self.now.opening (me_at self.now.place token.old.me) call r
+            (me_at self.now.place token.new.me)) }
+        ensures err { IfErr result (λ e. HasTried (Moves O.meaning O.counted) self.now.opening
+            (me_at self.now.place token.old.me) call e (me_at self.now.place token.new.me)) }
     {
         match self.enter(hall, token) {
             Entry::Turn => Ok(self.serve(hall, token, call).0),
