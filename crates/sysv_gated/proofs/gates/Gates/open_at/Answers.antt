@@ -22,7 +22,7 @@ pub returns-in-Ok-open-clause-open : goal.returns-in-Ok-open-clause-open
 returns-in-Ok-open-clause-open c = (
   opened_open c.args.generation c.args.blocks c.args.first c.in-Some.objects.items c.in-Ok-open.bank c.in-Some.ensures c.in-Ok-open.ensures.ok.0,
   (λ i. seats_at (c.in-Ok-open.ensures.ok.1 i)
-      (opens (gates_of c.in-Ok-open.seat.seats) c.in-Ok-open.seat c.in-Ok-open.ensures.order c.in-Ok-open.ensures.share i)) ∙ first_seats c.in-Ok-open.bank,
+      (opens (gates_of c.in-Ok-open.seat.seats) c.in-Ok-open.seat (c.in-Ok-open.ensures.order, c.in-Ok-open.ensures.numbers.0, c.in-Ok-open.ensures.numbers.1) c.in-Ok-open.ensures.share i)) ∙ first_seats c.in-Ok-open.bank,
 )
 
 pub returns-in-Ok-open-clause-seats : goal.returns-in-Ok-open-clause-seats
