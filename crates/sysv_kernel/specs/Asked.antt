@@ -1,104 +1,55 @@
--- What a kernel over a service does with a request (this profile's): it is one call of the service, by these credentials, from
--- the one pass to the other, and the outcome tells how the call ended (POSIX.1-2017, msgget, msgsnd, msgrcv and msgctl).
-use Rattle.std.specs.Prelude.{◌≡◌, ◌⊎◌, ℕ, ℤ, ⊤, List, [], Option, Result}
+-- What a kernel over a service does to its pass with a request (this profile's).
+use Rattle.std.specs.Prelude.{◌≡◌, ℕ, ℤ, List, Option}
 use Rattle.sysv_keys.specs.declared.identifier.TheConstants.{SLOTS}
-use Rattle.sysv_model.specs.declared.attributes.Row.{Row as Line}
-use Rattle.sysv_model.specs.declared.attributes.Stat.{Stat as Attributes}
 use Rattle.sysv_model.specs.declared.attributes.SetTo.{SetTo}
 use Rattle.sysv_model.specs.declared.cred.Cred.{Cred}
-use Rattle.sysv_model.specs.declared.errno.Errno.{Errno}
-use Rattle.sysv_model.specs.declared.errno.Errno.TheVariants.{EAGAIN, ENOMSG}
 use Rattle.sysv_model.specs.declared.flags.Flags.{Flags}
-use Rattle.sysv_queue.specs.Delivery.{Given}
 use Rattle.sysv_gated.specs.Reading.{Reads}
 use Rattle.sysv_session.specs.declared.kernel.Outcome.{Outcome}
 use Rattle.sysv_session.specs.declared.served.Served.{Served}
 use Rattle.sysv_session.specs.Calls.{Meaning}
 use Rattle.sysv_session.specs.Session.{Serves}
-use Rattle.sysv_service.specs.Left.{IsLeft}
-use Rattle.sysv_service.specs.Ran.{Pass, Comes, no_moment}
-use Rattle.sysv_service.specs.Told.{TellsId, TellsZero, TellsStat, TellsGot, TellsRow}
+use Rattle.sysv_service.specs.Ran.{Pass, Comes}
+use Rattle.sysv_service.specs.Told.{TellsRow}
 use Rattle.sysv_steps.specs.Begin.{begin}
-use Rattle.sysv_steps.specs.Call.{Msgget, Msgsnd, Msgrcv, MsgctlStat, MsgctlSet, MsgctlRmid}
 use Rattle.sysv_steps.specs.Resume.{Released}
-use Rattle.sysv_steps.specs.State.{Ending, Over}
-use Rattle.sysv_wire.specs.declared.frame.Op.TheVariants as op
 use Rattle.sysv_wire.specs.declared.frame.Version.{Version}
-use Rattle.sysv_wire.specs.declared.reply.Outcome.TheVariants as told
 use Rattle.sysv_wire.specs.declared.request.Ask.{Ask}
-use Rattle.sysv_wire.specs.declared.request.Ask.TheVariants.{Hello, Get, Snd, Rcv, Stat, Set, Rm, Row}
-use Rattle.sysv_kernel.specs.Replies.{reply, id_reply, done_reply, given_reply, stat_reply, row_reply}
+use Rattle.sysv_kernel.specs.Requests as requests
+use Rattle.sysv_kernel.specs.Requests.{Going}
 
--- msgget
+-- the call led from the one pass to the other
+abbrev pub ComesFrom : Going Pass
+ComesFrom may cred asked released before state after = Comes may (begin cred asked released) before state after
+
+-- the pass read the released count
+abbrev pub ReadsReleased : ℕ → Pass → Pass → Type 0
+ReadsReleased released before after = Reads Released released before.seats after.seats × (after.held ≡ before.held)
+
 abbrev pub Gets : (ℕ → Type 0) → Version → Cred → ℤ → Flags → Pass → Outcome → Pass → Type 0
-Gets may version cred key flags before outcome after = (answer : Result ℤ Errno) × (ending : Ending)
-    × Comes may (begin cred (Msgget key flags) 0) before (Over ending) after × TellsId ending answer × (outcome ≡ id_reply version answer)
-
--- msgsnd of the text, whose start reads the released count. It came to its end, or its caller left it while it waited, and
--- then the reply is that of IPC_NOWAIT
-abbrev pub SendIsOver : (ℕ → Type 0) → Version → Cred → ℤ → ℤ → Flags → List ℕ → ℕ → Pass → Outcome → Pass → Type 0
-SendIsOver may version cred id mtype flags text released mid outcome after = (answer : Result ⊤ Errno) × (ending : Ending)
-    × Comes may (begin cred (Msgsnd id mtype flags text) released) mid (Over ending) after × TellsZero ending answer
-    × (outcome ≡ done_reply version op.Snd told.Snd answer)
-
-abbrev pub SendIsLeft : (ℕ → Type 0) → Type 0 → Version → Cred → ℤ → ℤ → Flags → List ℕ → ℕ → Pass → Outcome → Pass → Type 0
-SendIsLeft may may_leave version cred id mtype flags text released mid outcome after =
-    IsLeft may_leave may (begin cred (Msgsnd id mtype flags text) released) mid after
-    × (outcome ≡ reply version op.Snd (told.Refused EAGAIN))
+Gets = requests.Gets ComesFrom ReadsReleased TellsRow
 
 abbrev pub Sends : (ℕ → Type 0) → Type 0 → Version → Cred → ℤ → ℤ → Flags → List ℕ → Pass → Outcome → Pass → Type 0
-Sends may may_leave version cred id mtype flags text before outcome after = (released : ℕ) × (mid : Pass)
-    × Reads Released released before.seats mid.seats × (mid.held ≡ before.held)
-    × (SendIsOver may version cred id mtype flags text released mid outcome after
-    ⊎ SendIsLeft may may_leave version cred id mtype flags text released mid outcome after)
-
--- msgrcv, which gives this text. It came to its end, or its caller left it while it waited: then nothing is given, and the
--- reply is that of IPC_NOWAIT
-abbrev pub ReceiveIsOver : (ℕ → Type 0) → Version → Cred → ℤ → ℕ → ℤ → Flags → Pass → Outcome → List ℕ → Pass → Type 0
-ReceiveIsOver may version cred id size mtype flags before outcome given after = (answer : Result Given Errno) × (ending : Ending)
-    × Comes may (begin cred (Msgrcv id size mtype flags) 0) before (Over ending) after × TellsGot ending answer given
-    × (outcome ≡ given_reply version answer)
-
-abbrev pub ReceiveIsLeft : (ℕ → Type 0) → Type 0 → Version → Cred → ℤ → ℕ → ℤ → Flags → Pass → Outcome → List ℕ → Pass → Type 0
-ReceiveIsLeft may may_leave version cred id size mtype flags before outcome given after =
-    IsLeft may_leave may (begin cred (Msgrcv id size mtype flags) 0) before after
-    × (given ≡ []) × (outcome ≡ reply version op.Rcv (told.Refused ENOMSG))
+Sends = requests.Sends ComesFrom ReadsReleased TellsRow
 
 abbrev pub Receives : (ℕ → Type 0) → Type 0 → Version → Cred → ℤ → ℕ → ℤ → Flags → Pass → Outcome → List ℕ → Pass → Type 0
-Receives may may_leave version cred id size mtype flags before outcome given after =
-    ReceiveIsOver may version cred id size mtype flags before outcome given after
-    ⊎ ReceiveIsLeft may may_leave version cred id size mtype flags before outcome given after
+Receives = requests.Receives ComesFrom ReadsReleased TellsRow
 
--- the three commands of msgctl
 abbrev pub Stats : Version → Cred → ℤ → Pass → Outcome → Pass → Type 0
-Stats version cred id before outcome after = (answer : Result Attributes Errno) × (ending : Ending)
-    × Comes no_moment (begin cred (MsgctlStat id) 0) before (Over ending) after × TellsStat ending answer × (outcome ≡ stat_reply version answer)
+Stats = requests.Stats ComesFrom ReadsReleased TellsRow
 
 abbrev pub Sets : (ℕ → Type 0) → Version → Cred → ℤ → SetTo → Pass → Outcome → Pass → Type 0
-Sets may version cred id to before outcome after = (answer : Result ⊤ Errno) × (ending : Ending)
-    × Comes may (begin cred (MsgctlSet id to) 0) before (Over ending) after × TellsZero ending answer × (outcome ≡ done_reply version op.Set told.Set answer)
+Sets = requests.Sets ComesFrom ReadsReleased TellsRow
 
 abbrev pub Removes : Version → Cred → ℤ → Pass → Outcome → Pass → Type 0
-Removes version cred id before outcome after = (answer : Result ⊤ Errno) × (ending : Ending)
-    × Comes no_moment (begin cred (MsgctlRmid id) 0) before (Over ending) after × TellsZero ending answer
-    × (outcome ≡ done_reply version op.Rm told.Rm answer)
+Removes = requests.Removes ComesFrom ReadsReleased TellsRow
 
--- the row of a slot
 abbrev pub Shows : Version → ℕ → Pass → Outcome → Pass → Type 0
-Shows version slot before outcome after =
-    (answer : Result (Option Line) Errno) × TellsRow slot before answer after × (outcome ≡ row_reply version answer)
+Shows = requests.Shows ComesFrom ReadsReleased TellsRow
 
--- Request by request, in a version: the text is that of a send, and what is given is the text of a message. The moments are
--- those that the clock may answer. A send and a receive that wait may be left if the caller may leave.
+-- request by request, for the pass
 abbrev pub Asks : (ℕ → Type 0) → Type 0 → Version → Cred → Ask → List ℕ → Pass → Outcome → List ℕ → Pass → Type 0
-Asks may may_leave version cred (Hello other) text before outcome given after = ⊥
-Asks may may_leave version cred (Get key flags) text before outcome given after = Gets may version cred key flags before outcome after × (given ≡ [])
-Asks may may_leave version cred (Snd id mtype flags) text before outcome given after = Sends may may_leave version cred id mtype flags text before outcome after × (given ≡ [])
-Asks may may_leave version cred (Rcv id size mtype flags) text before outcome given after = Receives may may_leave version cred id size mtype flags before outcome given after
-Asks may may_leave version cred (Stat id) text before outcome given after = Stats version cred id before outcome after × (given ≡ [])
-Asks may may_leave version cred (Set id to) text before outcome given after = Sets may version cred id to before outcome after × (given ≡ [])
-Asks may may_leave version cred (Rm id) text before outcome given after = Removes version cred id before outcome after × (given ≡ [])
-Asks may may_leave version cred (Row slot) text before outcome given after = Shows version slot before outcome after × (given ≡ [])
+Asks = requests.Asks ComesFrom ReadsReleased TellsRow
 
 -- what the calls of a session mean for the pass
 abbrev pub asks_with : (ℕ → Type 0) → Type 0 → Meaning Pass

@@ -1,2 +1,4 @@
 pub mod Replies
+pub mod Requests
 pub mod Asked
+pub mod Made

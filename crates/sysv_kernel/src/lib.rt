@@ -3,5 +3,7 @@
 #![tactic(auto)]
 
 mod kernel;
+mod laws;
 
 pub use kernel::ServiceKernel;
+pub use laws::each_session_makes_calls;

@@ -13,3 +13,5 @@ pub mod Doing
 pub mod Living
 pub mod NoneKept
 pub mod Emptying
+pub mod Marking
+pub mod Hiring

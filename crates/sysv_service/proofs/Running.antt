@@ -1,6 +1,6 @@
 -- How what a call did goes on by one step, or by the end of a wait.
 use Rattle.std.specs.Prelude.{⊤}
-use Rattle.std.proofs.Common.{◌≡◌, ℕ, ◌+◌, ◌⊎◌, inl, inr, true, false, List, [], ◌∷◌, ◌++◌, Option, Some, None, IfNone, Result, Ok, Err, IfOk, IfErr, OnErr, refl, sym, subst, ◌∙◌}
+use Rattle.std.proofs.Common.{◌≡◌, ℕ, ◌+◌, inl, inr, true, false, List, [], ◌∷◌, ◌++◌, Option, Some, None, IfNone, Result, Ok, Err, IfOk, IfErr, OnErr, refl, sym, subst, ◌∙◌}
 use Rattle.sysv_model.specs.Pool.{Release}
 use Rattle.sysv_model.specs.Turn.{Deed, AtPool, OfPool, asked_by}
 use Rattle.sysv_pool.specs.Chain.{Chained}

@@ -1,6 +1,6 @@
 -- What a closed service gives back (this profile's). A gate is held where a turn at it was not given back: then its object is
 -- not there.
-use Rattle.std.specs.Prelude.{◌≡◌, ℕ, ◌+◌, ◌<◌, ◌≤◌, ◌^◌, ◌&&◌, nat_lt, nat_le, List, [], ◌∷◌, length, Option, Some, None, if◌then◌else◌}
+use Rattle.std.specs.Prelude.{◌≡◌, ℕ, ◌+◌, ◌^◌, ◌&&◌, nat_lt, nat_le, List, [], ◌∷◌, length, Option, Some, None, if◌then◌else◌}
 use Rattle.sysv_gate.specs.declared.closing.Closing.{Closing}
 use Rattle.sysv_gated.specs.declared.opening.GatesClosed.{GatesClosed}
 use Rattle.sysv_gated.specs.Seats.{Seats}

@@ -18,3 +18,6 @@ pub mod Delivered
 pub mod Retried
 pub mod Life
 pub mod PoolWhole
+pub mod Marks
+pub mod Working
+pub mod Hiring

@@ -1,5 +1,5 @@
 -- What a stop does: at each slot in order it reads the row, and removes the queue that is shown (this profile's).
-use Rattle.std.specs.Prelude.{◌≡◌, ℕ, zero, suc, ◌+◌, ◌||◌, Bool, true, false, Option, Some, None, Result, Ok, Err}
+use Rattle.std.specs.Prelude.{◌≡◌, ℕ, suc, ◌+◌, ◌||◌, Bool, true, false, Some, None, Result, Ok, Err}
 use Rattle.sysv_model.specs.declared.attributes.Row.{Row}
 use Rattle.sysv_model.specs.declared.cred.Cred.{Cred}
 use Rattle.sysv_model.specs.declared.errno.Errno.{Errno}

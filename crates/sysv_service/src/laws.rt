@@ -1,6 +1,7 @@
 //! Laws over the definitions alone.
 
 ghost use Rattle.sysv_gated.specs.SeenHistories.{ObeysIfOpen};
+ghost use Rattle.sysv_service.specs.Hiring.{EveryHiringObeys, EveryStopRemoves};
 ghost use Rattle.sysv_service.specs.Life.{EachRunIsAtAnyMoment, EveryServiceObeys};
 ghost use Rattle.sysv_service.specs.OwnTurns.{EachPlaysItsOwn, KnowTheirOwn};
 ghost use Rattle.sysv_service.specs.PoolWhole.{EveryPoolIsWhole};
@@ -55,6 +56,17 @@ pub fn every_service_obeys<C: Clock>(clock: &C)
     ensures obeys { EveryServiceObeys }
     ensures stamped { EachRunIsAtAnyMoment (C.may clock.now) }
     ensures unstamped { EachRunIsAtAnyMoment no_moment }
+{
+    every_service_that_came_home_is_a_run();
+}
+
+/// The calls of the workers of a service, to each of which a pass was given, and those that the first pass made once all were
+/// taken back, are all that made the order of turns that is found at the close. That order is a run of a world with them, and it
+/// obeys the headline of threads. This is so if the last pass is unmarked: then no call found a gate worn out. A stop makes
+/// removals, and no other call.
+pub fn every_hiring_obeys()
+    ensures obeys { EveryHiringObeys }
+    ensures stops { EveryStopRemoves }
 {
     every_service_that_came_home_is_a_run();
 }

@@ -28,7 +28,7 @@ pub use clock::Clock;
 pub use closing::Closed;
 pub use laws::{
     each_pass_obeys, each_plays_its_own, each_retry_is_at_its_goal, each_run_answers_right,
-    every_pool_is_whole, every_service_obeys,
+    every_hiring_obeys, every_pool_is_whole, every_service_obeys,
 };
 pub use pass::Pass;
 pub use service::Service;

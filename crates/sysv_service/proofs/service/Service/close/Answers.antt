@@ -1,4 +1,4 @@
-use Rattle.std.proofs.Common.{◌≡◌, ◌+◌, ◌≤◌, Option, refl, sym, ap, subst, ◌∙◌, rules, arith}
+use Rattle.std.proofs.Common.{Option, ap, subst, ◌∙◌, arith}
 use Rattle.sysv_pool.specs.State.{State}
 use Rattle.sysv_gated.specs.Sharing.{AllClose}
 use Rattle.sysv_service.specs.Closing.{free_in, with_chain, with_slots}

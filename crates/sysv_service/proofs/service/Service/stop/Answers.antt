@@ -1,7 +1,5 @@
-use Rattle.std.proofs.Common.{◌≡◌, ◌+◌, ◌||◌, Bool, true, false, ℕ, Result, Ok, Err, refl, sym, ap, subst, ◌∙◌, arith}
-use Rattle.sysv_model.specs.declared.errno.Errno.{Errno}
-use Rattle.sysv_service.specs.Ran.{Pass}
-use Rattle.sysv_service.specs.Stopped.{begins, Stops, StopsAt, count_of, is_refused}
+use Rattle.std.proofs.Common.{Bool, Ok, ap, ◌∙◌, arith}
+use Rattle.sysv_service.specs.Stopped.{begins}
 use Rattle.sysv_service.proofs.SlotBySlot.{next_slot}
 use Rattle.sysv_service.proofs.service.Service.stop.Goals.{in-Ok-true, in-Ok-false, in-Err}
 use Rattle.sysv_service.proofs.service.Service.stop.Goals as goal

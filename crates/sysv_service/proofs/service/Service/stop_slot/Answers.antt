@@ -1,4 +1,4 @@
-use Rattle.std.proofs.Common.{◌≡◌, ◌≢◌, Some, None, Ok, Err, Option, true, refl, sym, ap, subst, ◌∙◌, rules, FitsSigned, w32}
+use Rattle.std.proofs.Common.{◌≡◌, ◌≢◌, None, Ok, Err, Option, sym, ap, subst, ◌∙◌, rules, FitsSigned, w32}
 use Rattle.std.proofs.lemmas.Int.{to_z-of_z}
 use Rattle.sysv_model.specs.declared.attributes.Row.{Row}
 use Rattle.sysv_model.specs.declared.errno.Errno.TheVariants.{EOVERFLOW}

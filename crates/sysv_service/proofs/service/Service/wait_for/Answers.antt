@@ -1,4 +1,4 @@
-use Rattle.std.proofs.Common.{◌≡◌, ℕ, ◌≤◌, ◌^◌, ◌-◌, ◌<◌, inl, inr, refl, ap, sym, subst, arith}
+use Rattle.std.proofs.Common.{◌≤◌, ◌^◌, ◌-◌, ◌<◌, inl, inr, refl, ap, sym, subst, arith}
 use Rattle.std.proofs.Math.Nat.{min-le_left}
 use Rattle.sysv_steps.specs.Resume.{awaited, goal_of}
 use Rattle.sysv_steps.specs.Seen.{wait_of, state_of}
