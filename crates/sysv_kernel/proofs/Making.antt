@@ -1,5 +1,5 @@
 -- A session that a pass serves makes calls of the service.
-use Rattle.std.proofs.Common.{◌≡◌, ◌∙◌, ℕ, List, [], ◌∷◌, ◌++◌, Option, Result, ap, sym, subst, refl, inl, inr}
+use Rattle.std.proofs.Common.{◌∙◌, ℕ, List, [], ◌∷◌, ◌++◌, ap, sym, subst, refl, inl, inr}
 use Rattle.std.proofs.lemmas.List.{append-nil, append_assoc}
 use Rattle.sysv_model.specs.declared.cred.Cred.{Cred}
 use Rattle.sysv_model.specs.Turn.{Deed}
@@ -9,17 +9,16 @@ use Rattle.sysv_steps.specs.Resume.{Released}
 use Rattle.sysv_steps.specs.State.{State, Waits, Over}
 use Rattle.sysv_free.specs.Order.{Called}
 use Rattle.sysv_session.specs.declared.kernel.Outcome.{Outcome}
-use Rattle.sysv_session.specs.declared.served.Served.{Served}
 use Rattle.sysv_session.specs.Calls.{Call, Leads}
 use Rattle.sysv_wire.specs.declared.frame.Version.{Version}
 use Rattle.sysv_wire.specs.declared.request.Ask.{Ask}
 use Rattle.sysv_wire.specs.declared.request.Ask.TheVariants.{Hello, Get, Snd, Rcv, Stat, Set, Rm, Row}
-use Rattle.sysv_service.specs.Life.{any_moment, EachRunIsAtAnyMoment, call_of}
-use Rattle.sysv_service.specs.Ran.{Pass, Ran, Comes, no_moment}
+use Rattle.sysv_service.specs.Life.{EachRunIsAtAnyMoment, call_of}
+use Rattle.sysv_service.specs.Ran.{Pass, Ran, no_moment}
 use Rattle.sysv_service.specs.Working as working
 use Rattle.sysv_service.specs.Working.{Works}
-use Rattle.sysv_kernel.specs.Asked.{Asks, asks_with, ReadsReleased}
-use Rattle.sysv_kernel.specs.Made.{Trail, trail, MakesCall, ReadsBeside, ShowsBeside, makes_with, EachSessionMakesCalls}
+use Rattle.sysv_kernel.specs.Asked.{Asks, asks_with}
+use Rattle.sysv_kernel.specs.Made.{trail, MakesCall, ReadsBeside, ShowsBeside, makes_with, EachSessionMakesCalls}
 use Rattle.sysv_kernel.specs.Requests as requests
 
 -- one call more

@@ -42,6 +42,8 @@ module _ {S : Type 0} (T : Type 0) (most accepted : S → ℕ) where
         let fits : most s ≤ 2 ^ 64 - 1 = omega arith in
         let all = bounded served.all.given s s' served.all.gave none fits (λ z. some (sym same ∙ z)) in
         let each = served.all.each in omega arith;
+    removed = served.removed;
+    lived = served.lived;
   }
   serves_on blocks workers m s s' (Err why) none same small served = tt
 
@@ -51,5 +53,6 @@ module _ {S : Type 0} (T : Type 0) (most accepted : S → ℕ) where
   ends_on blocks workers m s s' (Ok ended) none same small all = record {
     served = serves_on blocks workers m s s' (Ok ended.sums) none same small all.served;
     stopped = all.stopped;
+    told = all.told;
   }
   ends_on blocks workers m s s' (Err why) none same small all = tt

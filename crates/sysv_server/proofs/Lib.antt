@@ -1,4 +1,5 @@
 pub mod Accepted
 pub mod Adding
 pub mod Crossing
+pub mod Living
 pub mod Shifts

@@ -1,10 +1,12 @@
 -- What a worker of a server does with its connections (this profile's).
-use Rattle.std.specs.Prelude.{◌≡◌, ℕ, ⊤, List, Option, None, Some, map, flat_map}
+use Rattle.std.specs.Prelude.{◌≡◌, ℕ, ⊤, List, [], Option, None, Some, map, flat_map}
 use Rattle.std.specs.List.{FoldsTo}
 use Rattle.sysv_queue.specs.Tally.{Tallied}
 use Rattle.sysv_session.specs.declared.served.Served.{Served}
 use Rattle.sysv_service.specs.Ran.{Pass}
+use Rattle.sysv_free.specs.Order.{Called}
 use Rattle.sysv_kernel.specs.Asked.{ServesPass}
+use Rattle.sysv_kernel.specs.Made.{Trail, trail, ServesTrail}
 use Rattle.sysv_server.specs.declared.sums.Sums.{Sums}
 use Rattle.sysv_server.specs.Added.{added, all_added, one_session}
 
@@ -40,6 +42,25 @@ pub record Shift : Type 0 where
   pub after : Pass
   pub worked : FoldsTo Talks before told after
 
+-- the passes with which the workers began, and those with which they ended
+abbrev pub begun_by : List Shift → List Pass
+begun_by shifts = map (λ (shift : Shift). shift.before) shifts
+
+abbrev pub left_by : List Shift → List Pass
+left_by shifts = map (λ (shift : Shift). shift.after) shifts
+
 -- what the sessions of all workers told
 abbrev pub told_in : List Shift → List (Option Served)
 told_in shifts = flat_map (λ (shift : Shift). shift.told) shifts
+
+-- ---- the calls of the service
+
+-- a session told this, and these calls were made in it
+abbrev pub TalksIn : Trail → Option Served → Trail → Type 0
+TalksIn before None after = after ≡ before
+TalksIn before (Some served) after =
+    (left rest taken more : Option (List ℕ)) × ServesTrail zero_moment ⊤ served before after left rest taken more
+
+-- all sessions of the worker together made these calls
+abbrev pub AreMadeBy : Shift → List Called → Type 0
+AreMadeBy shift calls = FoldsTo TalksIn (trail shift.before []) shift.told (trail shift.after calls)

@@ -1,4 +1,5 @@
 pub mod Added
 pub mod Handled
 pub mod Accepts
+pub mod OneRun
 pub mod Serving

@@ -1,13 +1,12 @@
 -- What a server does (this profile's): its workers share one service, each with a pass of its own, and there is a session for
 -- each connection.
-use Rattle.std.specs.Prelude.{◌≡◌, ◌≢◌, ◌≤◌, ℕ, Bool, List, Option, Result, length, ⊤}
+use Rattle.std.specs.Prelude.{◌≡◌, ◌≢◌, ◌≤◌, ℕ, List, Option, Result, length, ⊤}
 use Rattle.std.specs.List.{AllByRecursion}
 use Rattle.sysv_gated.specs.Opened.{AreOpen}
 use Rattle.sysv_gated.specs.Seats.{Gates, AreOf}
-use Rattle.sysv_keys.specs.declared.identifier.TheConstants.{SLOTS as slot_count}
 use Rattle.sysv_model.specs.declared.errno.Errno.{Errno}
+use Rattle.sysv_service.specs.Hiring.{Hires}
 use Rattle.sysv_service.specs.Ran.{Pass}
-use Rattle.sysv_service.specs.Stopped.{Stops, TellsStop}
 use Rattle.sysv_workers.specs.declared.refusals.WorkersFault.{WorkersFault}
 use Rattle.sysv_workers.specs.declared.refusals.WorkersFault.TheVariants as workers
 use Rattle.sysv_workers.specs.Sources.{GivesAll}
@@ -16,7 +15,8 @@ use Rattle.sysv_server.specs.declared.fault.ServeFault.TheVariants.{NoMemory, Th
 use Rattle.sysv_server.specs.declared.sums.Sums.{Sums}
 use Rattle.sysv_server.specs.declared.terms.Ended.{Ended}
 use Rattle.sysv_server.specs.Added.{nothing}
-use Rattle.sysv_server.specs.Handled.{Shift, sums_of, told_in}
+use Rattle.sysv_server.specs.Handled.{Shift, begun_by, left_by, sums_of, told_in}
+use Rattle.sysv_server.specs.OneRun.{Stopped, Lived}
 
 -- a pass of these gates, which holds no chain, and of whose sessions none was yet
 abbrev pub IsNew : Gates → Pass → Sums → Type 0
@@ -37,11 +37,19 @@ module _ {S T : Type 0} where
     pub gave : GivesAll gives source given source'
     pub each : length (told_in shifts) ≡ length given
 
-  -- all that at gates that were opened for it, with so many blocks
+  -- the same, and between these passes: the workers began with passes that were split off from the one, and those that they left
+  -- were joined into it
+  pub record WorkedFrom (gives : S → Option T → S → Type 0) (gates : Gates) (workers : ℕ) (old : Pass) (source : S) (sums : Sums) (new : Pass) (source' : S) : Type 0 where
+    pub all : WorkedAll gives gates workers source sums source'
+    pub hires : Hires old (begun_by all.shifts) (left_by all.shifts) new
+
+  -- all that at gates that were opened for it, with so many blocks, and were stopped and closed after it
   pub record ServesAll (gives : S → Option T → S → Type 0) (blocks workers : ℕ) (source : S) (sums : Sums) (source' : S) : Type 0 where
     pub gates : Gates
     pub opened : AreOpen 0 blocks 0 gates
     pub all : WorkedAll gives gates workers source sums source'
+    pub removed : Result ℕ Errno
+    pub lived : Lived blocks gates all.shifts removed
 
 -- a server on a listener: not more sessions than there may be, where that is not 0
 pub record ServesOn (blocks workers most : ℕ) (sums : Sums) : Type 0 where
@@ -50,26 +58,20 @@ pub record ServesOn (blocks workers most : ℕ) (sums : Sums) : Type 0 where
   pub shifts : List Shift
   pub worked : Worked gates workers shifts sums
   pub bounded : most ≢ 0 → length (told_in shifts) ≤ most
-
--- a stop of these gates told this: at each slot the queue that was left was removed
-pub record Stopped (gates : Gates) (told : Result ℕ Errno) : Type 0 where
-  pub before : Pass
-  pub after : Pass
-  pub pass : AreOf gates before.seats
-  pub removed : ℕ
-  pub worn : Bool
-  pub stops : Stops before slot_count removed worn after
-  pub tells : TellsStop removed worn told
+  pub removed : Result ℕ Errno
+  pub lived : Lived blocks gates shifts removed
 
 -- the connections of a source were served, and then the queues that were left were removed
 pub record EndsAll {S T : Type 0} (gives : S → Option T → S → Type 0) (blocks workers : ℕ) (source : S) (ended : Ended) (source' : S) : Type 0 where
   pub served : ServesAll gives blocks workers source ended.sums source'
   pub stopped : Stopped served.gates ended.removed
+  pub told : ended.removed ≡ served.removed
 
 -- those of a listener
 pub record EndsOn (blocks workers most : ℕ) (ended : Ended) : Type 0 where
   pub served : ServesOn blocks workers most ended.sums
   pub stopped : Stopped served.gates ended.removed
+  pub told : ended.removed ≡ served.removed
 
 -- where no session could be run, nothing was accepted
 abbrev pub LeavesConnections : {S : Type 0} → S → ServeFault → S → Type 0

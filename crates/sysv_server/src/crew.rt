@@ -1,7 +1,8 @@
 //! The workers of a server: a pass is split for each, and taken back at the end.
-ghost use Rattle.std.specs.Prelude.{◌≡◌, ◌≤◌, map, vec_len, vec_capacity, OnOk, []};
-ghost use Rattle.std.specs.List.{All};
+ghost use Rattle.std.specs.Prelude.{◌≡◌, ◌≤◌, map, reverse, vec_len, vec_capacity, OnOk, []};
+ghost use Rattle.std.specs.List.{All, FoldsTo};
 ghost use Rattle.sysv_gated.specs.Seats.{AreOf};
+ghost use Rattle.sysv_service.specs.Hiring.{Gives, TakesIn};
 ghost use Rattle.sysv_server.specs.Added.{all_added};
 ghost use Rattle.sysv_server.specs.Serving.{IsNew};
 
@@ -27,6 +28,8 @@ pub(crate) fn hire<'a, R: Wait>(
     ensures workers { All (λ w. (w.kernel.service.now ≡ service.now)
         × IsNew service.now w.kernel.pass w.sums) workers.new.items }
     ensures count { OnOk result (vec_len workers.new ≡ count) }
+    ensures gives { OnOk result
+        (FoldsTo Gives pass.old (map (λ w. w.kernel.pass) workers.new.items) pass.new) }
 {
     for _ in 0..count {
         let theirs = service.split_pass(alloc, pass)?;
@@ -45,6 +48,8 @@ pub(crate) fn dismiss<R: Wait>(
     requires workers { All (λ w. w.kernel.service.now ≡ service.now) workers.items }
     ensures pass { AreOf service.now pass.new.seats }
     ensures sums { result ≡ all_added (map (λ w. w.sums) workers.entry.items) }
+    ensures takes { FoldsTo TakesIn pass.old
+        (reverse (map (λ w. w.kernel.pass) workers.entry.items)) pass.new }
 {
     let mut workers = workers;
     let mut sums = Sums::open();

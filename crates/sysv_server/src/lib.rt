@@ -5,6 +5,7 @@ mod accepting;
 mod crew;
 mod fault;
 mod framing;
+mod laws;
 mod patient;
 mod peer;
 mod serving;
@@ -13,6 +14,7 @@ mod sums;
 mod terms;
 
 pub use fault::ServeFault;
+pub use laws::each_life_is_one_run;
 pub use serving::{serve_connections, serve_crowd_on, serve_listener, serve_on, serve_until_fault};
 pub use sums::Sums;
 pub use terms::{Ended, Patience, Terms};

@@ -4,11 +4,12 @@ ghost use Rattle.sysv_model.specs.declared.limits.TheConstants.{MIN_BLOCKS, MAX_
 ghost use Rattle.sysv_workers.specs.declared.workers.TheConstants.{MAX_CROWD, MAX_WORKERS};
 ghost use Rattle.sysv_gated.specs.Seats.{AreOf};
 ghost use Rattle.sysv_server.specs.Added.{IsBalanced};
-ghost use Rattle.sysv_server.specs.Serving.{EndsAll, EndsOn, FaultOf, LeavesConnections, ServesAll, ServesOn, WorkedAll};
+ghost use Rattle.sysv_server.specs.Serving.{EndsAll, EndsOn, FaultOf, LeavesConnections, ServesAll, ServesOn, WorkedFrom};
 
 use crate::accepting::{Accepting, Listening};
 use crate::crew::{dismiss, hire};
 use crate::fault::ServeFault;
+use crate::laws::each_life_is_one_run;
 use crate::session::{Sessions, Worker};
 use crate::sums::Sums;
 use crate::terms::{Ended, Patience, Terms};
@@ -195,6 +196,7 @@ fn serve_all<S: Source<UnixStream>, R: Threads + Wait + Sync>(
     let outcome = serve_with(rt, alloc, &service, &mut pass, source, count, patience);
     let removed = service.stop(rt, &mut pass);
     let _closed = service.close(pass);
+    each_life_is_one_run();
     match outcome {
         Ok(sums) => Ok(Ended { sums, removed }),
         Err(why) => Err(why),
@@ -215,7 +217,7 @@ fn serve_with<S: Source<UnixStream>, R: Threads + Wait + Sync>(
     requires count { (1 ≤ count) × (count ≤ MAX_CROWD) }
     ensures pass { AreOf service.now pass.new.seats }
     ensures ok { IfOk result (λ sums.
-        WorkedAll S.gives service.now count source.old sums source.new) }
+        WorkedFrom S.gives service.now count pass.old source.old sums pass.new source.new) }
     ensures err { IfErr result (λ why. LeavesConnections source.old why source.new) }
 {
     let Ok(mut workers) = Vec::with_capacity(alloc, count) else {

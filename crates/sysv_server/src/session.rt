@@ -29,7 +29,7 @@ impl Clock for Zero {
     }
 }
 
-const ZERO: Zero = Zero;
+pub(crate) const ZERO: Zero = Zero;
 
 /// A worker: a kernel with a pass of its own, whose caller is the peer of the session that it runs; what its sessions add up
 /// to; and the texts that they share one after another, once there are some.

@@ -1,15 +1,18 @@
-use Rattle.std.proofs.Common.{◌≡◌, map, vec_len}
-use Rattle.std.specs.List.{All}
+use Rattle.std.proofs.Common.{◌≡◌, map, reverse, vec_len}
+use Rattle.std.specs.List.{All, FoldsTo}
 use Rattle.sysv_gated.specs.Seats.{AreOf}
+use Rattle.sysv_service.specs.Hiring.{TakesIn}
+use Rattle.sysv_service.specs.Ran.{Pass}
 use Rattle.sysv_server.proofs.Adding.{Adding}
 use Rattle.sysv_server.proofs.crew.dismiss.Given as goal
 
--- the sums of those that were dismissed, and of those that are left, are the sums of all
+-- the sums of those that were dismissed, and of those that are left, are the sums of all, and so with their passes
 abbrev pub invariant-loop-worker : goal.invariant-loop-worker
 invariant-loop-worker g l = record {
   pass : AreOf l.service l.pass.seats;
   workers : All (λ w. w.kernel.service.now ≡ l.service) l.workers.items;
   sums : Adding (map (λ w. w.sums) l.fn.workers.items) l.sums (map (λ w. w.sums) l.workers.items);
+  takes : (home : Pass) → FoldsTo TakesIn l.pass (reverse (map (λ w. w.kernel.pass) l.workers.items)) home → FoldsTo TakesIn l.fn.pass (reverse (map (λ w. w.kernel.pass) l.fn.workers.items)) home;
 }
 
 abbrev pub decreases-loop-worker : goal.decreases-loop-worker

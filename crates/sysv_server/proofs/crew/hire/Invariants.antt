@@ -1,6 +1,7 @@
-use Rattle.std.proofs.Common.{◌≡◌, ◌≤◌, vec_len, vec_capacity}
-use Rattle.std.specs.List.{All}
+use Rattle.std.proofs.Common.{◌≡◌, ◌≤◌, map, vec_len, vec_capacity}
+use Rattle.std.specs.List.{All, FoldsTo}
 use Rattle.sysv_gated.specs.Seats.{AreOf}
+use Rattle.sysv_service.specs.Hiring.{Gives}
 use Rattle.sysv_server.specs.Serving.{IsNew}
 use Rattle.sysv_server.proofs.crew.hire.Given as goal
 
@@ -11,4 +12,5 @@ invariant-loop g l = record {
   workers : All (λ w. (w.kernel.service.now ≡ l.service) × IsNew l.service w.kernel.pass w.sums) l.workers.items;
   count : vec_len l.workers ≡ l.counter;
   room : l.count ≤ vec_capacity l.workers;
+  gives : FoldsTo Gives l.fn.pass (map (λ w. w.kernel.pass) l.workers.items) l.pass;
 }

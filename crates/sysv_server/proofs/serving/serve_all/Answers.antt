@@ -1,25 +1,47 @@
--- The gates that were opened are those that were served and stopped. What was taken was written or lost.
-use Rattle.sysv_server.specs.Handled.{told_in}
+-- The gates that were opened are those that were served, stopped and closed. What was taken was written or lost.
+use Rattle.std.proofs.Common.{subst, refl}
+use Rattle.sysv_service.specs.Hiring.{Hires}
+use Rattle.sysv_service.specs.Ran.{Pass}
+use Rattle.sysv_server.specs.Handled.{begun_by, left_by, told_in}
+use Rattle.sysv_server.specs.OneRun.{Stopped}
 use Rattle.sysv_server.proofs.Adding.{balanced}
 use Rattle.sysv_server.proofs.serving.serve_all.Goals as goal
 
 pub returns-in-Ok-outcome-clause-ok : goal.returns-in-Ok-outcome-clause-ok
 returns-in-Ok-outcome-clause-ok g c =
     let stop = c.stop-removed.ensures.stopped in
+    let opened = c.in-Ok.ensures.open in
+    let worked = c.in-Ok-outcome.ensures.ok in
+    let shifts = worked.all.shifts in
+    let hires = subst (λ (p : Pass). Hires p (begun_by shifts) (left_by shifts) c.serve_with-outcome.new.pass) opened.1 worked.hires in
+    let stopped : Stopped c.in-Ok.service c.stop-removed.result = record {
+      before = c.serve_with-outcome.new.pass;
+      after = c.stop-removed.new.pass;
+      pass = c.serve_with-outcome.ensures.pass;
+      removed = stop.0;
+      worn = stop.1;
+      stops = stop.2;
+      tells = stop.3;
+    } in
     record {
-      served = record { gates = c.in-Ok.service; opened = c.in-Ok.ensures.open.0; all = c.in-Ok-outcome.ensures.ok };
-      stopped = record {
-        before = c.serve_with-outcome.new.pass;
-        after = c.stop-removed.new.pass;
-        pass = c.serve_with-outcome.ensures.pass;
-        removed = stop.0;
-        worn = stop.1;
-        stops = stop.2;
-        tells = stop.3;
+      served = record {
+        gates = c.in-Ok.service;
+        opened = opened.0;
+        all = worked.all;
+        removed = c.stop-removed.result;
+        lived = record {
+          stopped = stopped;
+          hires = hires;
+          closed = c.close-closed.result;
+          counted = c.close-closed.ensures;
+          run = c.each_life_is_one_run.ensures c.args.blocks c.in-Ok.service shifts c.stop-removed.result stopped c.close-closed.result c.close-closed.ensures opened.0 c.stop-removed.ensures.pass hires;
+        };
       };
+      stopped = stopped;
+      told = refl;
     }
 
 pub returns-in-Ok-outcome-clause-balance : goal.returns-in-Ok-outcome-clause-balance
 returns-in-Ok-outcome-clause-balance g c =
     let worked = c.in-Ok-outcome.ensures.ok in
-    balanced (told_in worked.shifts) c.in-Ok-outcome.sums worked.worked.sums
+    balanced (told_in worked.all.shifts) c.in-Ok-outcome.sums worked.all.worked.sums

@@ -22,5 +22,5 @@ returns-in-Ok-run_crowd-clause-ok g c =
     let counted : length c.hire.new.workers.items ≡ c.args.count = omega arith in
     all_shifted (λ (w : Worker g.row.R.Denot). w.kernel.pass) (λ (w : Worker g.row.R.Denot). w.sums) g.S.Source.gives c.args.service.now c.args.count
     c.hire.new.workers.items c.in-Ok-run_crowd.workers.items c.args.source.now c.run_crowd.new.source c.dismiss-in-Ok-run_crowd.result
-    c.in-Ok-run_crowd.ensures.ok (λ (k : ℕ) (d : Worker g.row.R.Denot) (low : k < length c.hire.new.workers.items). (c.hire.ensures.workers k d low).1)
-    counted c.dismiss-in-Ok-run_crowd.ensures.sums
+    c.args.pass.now c.hire.new.pass c.dismiss-in-Ok-run_crowd.new.pass c.in-Ok-run_crowd.ensures.ok (λ (k : ℕ) (d : Worker g.row.R.Denot) (low : k < length c.hire.new.workers.items). (c.hire.ensures.workers k d low).1)
+    counted c.dismiss-in-Ok-run_crowd.ensures.sums c.in-Ok-hire.ensures.gives c.dismiss-in-Ok-run_crowd.ensures.takes

@@ -1,0 +1,80 @@
+-- The life of a server's service is that of one with workers, and their sessions make its calls.
+use Rattle.std.proofs.Common.{◌∙◌, List, [], ◌∷◌, ◌++◌, Option, Some, None, ap, sym, subst}
+use Rattle.std.specs.Prelude.{⊤}
+use Rattle.std.specs.List.{FoldsTo}
+use Rattle.std.proofs.lemmas.List.{append-nil, append_assoc}
+use Rattle.sysv_bank.specs.Banks.{Each2, Each3}
+use Rattle.sysv_free.specs.Order.{Called}
+use Rattle.sysv_session.specs.declared.served.Served.{Served}
+use Rattle.sysv_service.specs.Hiring.{EveryHiringObeys, EveryStopRemoves}
+use Rattle.sysv_service.specs.Ran.{Pass}
+use Rattle.sysv_service.specs.Working as working
+use Rattle.sysv_service.specs.Working.{Works}
+use Rattle.sysv_kernel.specs.Made.{trail, EachSessionMakesCalls}
+use Rattle.sysv_server.specs.Handled.{zero_moment, Shift, Talks, TalksIn, begun_by, left_by, AreMadeBy}
+use Rattle.sysv_server.specs.OneRun.{EachLifeIsOneRun}
+
+module _ (law : EachSessionMakesCalls zero_moment ⊤) where
+  -- the calls that were made in more sessions
+  record InSessions (start old : Pass) (told : List (Option Served)) (new : Pass) (made : List Called) : Type 0 where
+    calls : List Called
+    works : Works start (made ++ calls) new
+    talks : FoldsTo TalksIn (trail old made) told (trail new (made ++ calls))
+
+  in_sessions : (start old : Pass) (told : List (Option Served)) (new : Pass) (made : List Called) → Works start made old → FoldsTo Talks old told new → InSessions start old told new made
+  in_sessions start old [] new made works is = record {
+    calls = [];
+    works = subst (Works start (made ++ [])) is (subst (λ calls. Works start calls old) (sym (append-nil made)) works);
+    talks = ap (trail old) (sym (append-nil made)) ∙ ap (λ (p : Pass). trail p (made ++ [])) is;
+  }
+  in_sessions start old (None ∷ told) new made works folds =
+      let here : Works start made folds.0 = subst (Works start made) (sym folds.1) works in
+      let more = in_sessions start folds.0 told new made here folds.2 in
+      record {
+        calls = more.calls;
+        works = more.works;
+        talks = (trail folds.0 made, ap (λ (p : Pass). trail p made) folds.1, more.talks);
+      }
+  in_sessions start old (Some served ∷ told) new made works folds =
+      let talks = folds.1 in
+      let one = law start old folds.0 made served talks.0 talks.1 talks.2 talks.3 works talks.4 in
+      let more = in_sessions start folds.0 told new (made ++ one.0) one.1 folds.2 in
+      record {
+        calls = one.0 ++ more.calls;
+        works = subst (λ calls. Works start calls new) (append_assoc made one.0 more.calls) more.works;
+        talks = (
+          trail folds.0 (made ++ one.0),
+          (talks.0, talks.1, talks.2, talks.3, one.2),
+          subst (λ calls. FoldsTo TalksIn (trail folds.0 (made ++ one.0)) told (trail new calls)) (append_assoc made one.0 more.calls) more.talks,
+        );
+      }
+
+  -- the calls of all workers
+  record InShifts (shifts : List Shift) : Type 0 where
+    each : List (List Called)
+    works : Each3 Works (begun_by shifts) each (left_by shifts)
+    made : Each2 AreMadeBy shifts each
+
+  in_shifts : (shifts : List Shift) → InShifts shifts
+  in_shifts [] = record { each = []; works = tt; made = tt }
+  in_shifts (shift ∷ shifts) =
+      let one = in_sessions shift.before shift.before shift.told shift.after [] working.begins shift.worked in
+      let rest = in_shifts shifts in
+      record {
+        each = one.calls ∷ rest.each;
+        works = (one.works, rest.works);
+        made = (one.talks, rest.made);
+      }
+
+  pub each_life : EveryHiringObeys → EveryStopRemoves → EachLifeIsOneRun
+  each_life obeys stops blocks gates shifts removed stopped closed counted opened fits hires unmarked =
+      let done = in_shifts shifts in
+      let stop = stops _ stopped.removed stopped.worn stopped.before stopped.after stopped.stops in
+      record {
+        each = done.each;
+        made = done.made;
+        removals = stop.0;
+        are_removals = stop.2;
+        counted = stop.3;
+        served = obeys 0 blocks 0 gates (begun_by shifts) (left_by shifts) stopped.before stopped.after done.each stop.0 closed opened hires done.works stop.1 unmarked fits counted;
+      }

@@ -1,0 +1,54 @@
+-- The one run that the sessions of a server make of its service (this profile's).
+use Rattle.std.specs.Prelude.{◌≡◌, ℕ, Bool, List, ◌++◌, Result}
+use Rattle.std.specs.List.{AllByRecursion, sum_by}
+use Rattle.sysv_bank.specs.Banks.{Each2}
+use Rattle.sysv_crew.specs.Turns.{Numbered}
+use Rattle.sysv_free.specs.Order.{Called}
+use Rattle.sysv_free.specs.Crew.{IsServed}
+use Rattle.sysv_gated.specs.Opened.{AreOpen}
+use Rattle.sysv_gated.specs.Seats.{Gates, AreOf}
+use Rattle.sysv_keys.specs.declared.identifier.TheConstants.{SLOTS as slot_count}
+use Rattle.sysv_model.specs.declared.errno.Errno.{Errno}
+use Rattle.sysv_service.specs.declared.closing.Closed.{Closed}
+use Rattle.sysv_service.specs.Closing.{IsCounted}
+use Rattle.sysv_service.specs.Hiring.{first_pass, Hires, all_of, IsRemoval, removed_at}
+use Rattle.sysv_service.specs.Marks.{IsUnmarked}
+use Rattle.sysv_service.specs.Ran.{Pass}
+use Rattle.sysv_service.specs.Stopped.{Stops, TellsStop}
+use Rattle.sysv_server.specs.Handled.{Shift, begun_by, left_by, AreMadeBy}
+
+-- The calls of the sessions, each answered as it ended, and the removals of the stop, which removed so many queues, are all that
+-- made the order of turns. The order is a run of a world with them, which obeys the headline of threads
+pub record IsOneRun (blocks : ℕ) (shifts : List Shift) (removed : ℕ) (order : List Numbered) : Type 0 where
+  pub each : List (List Called)
+  pub made : Each2 AreMadeBy shifts each
+  pub removals : List Called
+  pub are_removals : AllByRecursion IsRemoval removals
+  pub counted : sum_by (λ (call : Called). removed_at call.state) removals ≡ removed
+  pub served : IsServed 0 blocks order (all_of each ++ removals)
+
+-- a stop of these gates told this: at each slot the queue that was left was removed
+pub record Stopped (gates : Gates) (told : Result ℕ Errno) : Type 0 where
+  pub before : Pass
+  pub after : Pass
+  pub pass : AreOf gates before.seats
+  pub removed : ℕ
+  pub worn : Bool
+  pub stops : Stops before slot_count removed worn after
+  pub tells : TellsStop removed worn told
+
+-- What a server did of these gates, from their opening to their close: its first pass gave each worker a pass and took all
+-- back, made the stop, and closed the gates. All of it is one run if that pass is unmarked then: no gate was found worn out
+pub record Lived (blocks : ℕ) (gates : Gates) (shifts : List Shift) (removed : Result ℕ Errno) : Type 0 where
+  pub stopped : Stopped gates removed
+  pub hires : Hires (first_pass gates) (begun_by shifts) (left_by shifts) stopped.before
+  pub closed : Closed
+  pub counted : IsCounted stopped.after.seats stopped.after.held closed
+  pub run : IsUnmarked stopped.after.seats → IsOneRun blocks shifts stopped.removed counted.all.order
+
+-- ---- the law
+
+abbrev pub EachLifeIsOneRun : Type 0
+EachLifeIsOneRun = (blocks : ℕ) (gates : Gates) (shifts : List Shift) (removed : Result ℕ Errno) (stopped : Stopped gates removed) (closed : Closed) →
+    (counted : IsCounted stopped.after.seats stopped.after.held closed) → AreOpen 0 blocks 0 gates → AreOf gates stopped.after.seats →
+    Hires (first_pass gates) (begun_by shifts) (left_by shifts) stopped.before → IsUnmarked stopped.after.seats → IsOneRun blocks shifts stopped.removed counted.all.order
