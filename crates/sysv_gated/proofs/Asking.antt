@@ -3,11 +3,8 @@ use Rattle.std.proofs.Common.{◌≡◌, ℕ, ◌+◌, ◌++◌, false, List, ma
 use Rattle.std.proofs.lemmas.List.{map-append}
 use Rattle.sysv_model.specs.Turn.{OfSlot, OfRegistry, OfPool, AtSlot, AtRegistry, AtPool}
 use Rattle.sysv_crew.specs.Members.{MakesTurn}
-use Rattle.sysv_queue.specs.Slot.{Slot}
-use Rattle.sysv_keys.specs.StandsFor.{Registry}
-use Rattle.sysv_pool.specs.State.{State}
 use Rattle.sysv_gate.specs.History.{Moves, after_all}
-use Rattle.sysv_gate.specs.Gates.{Gateway, Holding, Answers, marked}
+use Rattle.sysv_gate.specs.Gates.{Gateway, Answers, marked}
 use Rattle.sysv_bank.specs.Banks.{gates_of, ChangesAt}
 use Rattle.sysv_bank.specs.Passes.{GoesOn, AddsToOrder}
 use Rattle.sysv_gated.specs.declared.kinds.Gated.{Gated}
@@ -24,7 +21,7 @@ use Rattle.sysv_gated.specs.declared.pool.PoolReply.{PoolReply}
 use Rattle.sysv_gated.specs.SlotTurns.{slot_counts, slot_call, slot_reply, SlotMoves}
 use Rattle.sysv_gated.specs.RegistryTurns.{registry_counts, registry_call, registry_reply, RegistryMoves}
 use Rattle.sysv_gated.specs.PoolTurns.{pool_counts, pool_call, pool_reply, PoolMoves}
-use Rattle.sysv_gated.specs.Gated.{IsSlot, IsRegistry, IsPool, IsSlotCall, IsRegistryCall, IsPoolCall, IsSlotReply, IsRegistryReply, IsPoolReply, slot_in, slot_call_in, registry_call_in, pool_call_in, as_slot, as_registry, as_pool, GatedMoves, gated_counts}
+use Rattle.sysv_gated.specs.Gated.{IsSlot, IsRegistry, IsPool, IsSlotCall, IsRegistryCall, IsPoolCall, IsSlotReply, IsRegistryReply, IsPoolReply, slot_in, slot_call_in, pool_call_in, as_slot, as_registry, as_pool, GatedMoves, gated_counts}
 use Rattle.sysv_gated.specs.Kinds.{turn_as, seat_as}
 use Rattle.sysv_gated.specs.Seats.{SlotSeat, FindsWorn}
 use Rattle.sysv_gated.specs.Order.{GatedPass, member_of}

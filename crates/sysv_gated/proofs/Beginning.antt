@@ -1,13 +1,12 @@
 -- A bank that is opened with fresh objects.
-use Rattle.std.proofs.Common.{◌≡◌, ℕ, zero, suc, ◌+◌, ◌<◌, ◌≤◌, ◌^◌, List, [], ◌∷◌, ◌++◌, map, length, refl, sym, ap, subst, ◌∙◌, arith}
+use Rattle.std.proofs.Common.{◌≡◌, ℕ, zero, suc, ◌+◌, ◌≤◌, ◌^◌, List, [], ◌∷◌, ◌++◌, map, length, refl, sym, ap, subst, ◌∙◌, arith}
 use Rattle.std.specs.List.{All}
 use Rattle.std.proofs.lemmas.List.{length-map, length-append}
 use Rattle.sysv_crew.specs.Members.{first_with}
 use Rattle.sysv_keys.specs.declared.identifier.TheConstants.{SLOTS}
-use Rattle.sysv_keys.specs.StandsFor.{Registry, StandsFor as RegistryStandsFor}
-use Rattle.sysv_pool.specs.State.{State, state_of}
+use Rattle.sysv_keys.specs.StandsFor.{StandsFor as RegistryStandsFor}
 use Rattle.sysv_pool.specs.StandsFor.{StandsFor as PoolStandsFor}
-use Rattle.sysv_queue.specs.Slot.{Slot, slot_of}
+use Rattle.sysv_queue.specs.Slot.{Slot}
 use Rattle.sysv_queue.specs.StandsFor.{StandsFor as SlotStandsFor}
 use Rattle.sysv_gate.specs.History.{AreUpTo}
 use Rattle.sysv_gate.specs.Gates.{Gateway, opened}
@@ -15,15 +14,13 @@ use Rattle.sysv_bank.specs.Banks.{AreOpened}
 use Rattle.sysv_gated.specs.declared.kinds.Gated.{Gated}
 use Rattle.sysv_gated.specs.declared.kinds.Gated.TheVariants as gated
 use Rattle.sysv_gated.specs.SlotTurns.{slot_counts}
-use Rattle.sysv_gated.specs.RegistryTurns.{registry_counts}
 use Rattle.sysv_gated.specs.PoolTurns.{pool_counts}
 use Rattle.sysv_gated.specs.Gated.{IsSlot, IsRegistry, IsPool, slot_in, registry_in, pool_in, as_slot, as_registry, as_pool, gated_counts}
 use Rattle.sysv_gated.specs.Kinds.{gate_as, seat_as}
 use Rattle.sysv_gated.specs.Seats.{SlotSeat, Seats}
-use Rattle.sysv_gated.specs.Opened.{AreOpen, AreVacant, all_opened}
+use Rattle.sysv_gated.specs.Opened.{AreOpen, all_opened}
 use Rattle.sysv_gated.specs.Fresh.{AreVacantSlots, AreFreshUpTo, AreFresh}
 use Rattle.sysv_gated.specs.Banked.{AreSlots, AreByKind, gates_seen, seats_at}
-use Rattle.sysv_gated.proofs.Placing.{Mark, head_of, tail_of}
 
 all_none : {A : Type 0} (P : A → Type 0) → All P []
 all_none P k d less = absurd (omega arith)

@@ -1,22 +1,18 @@
 -- What splits, joins and the end of a bank tell of the registry, of the pool and of the slots.
-use Rattle.std.proofs.Common.{◌≡◌, ℕ, suc, List, [], ◌∷◌, ◌++◌, map, length, IfSome, refl, sym, ap, subst, ◌∙◌, arith}
+use Rattle.std.proofs.Common.{◌≡◌, suc, List, [], ◌∷◌, ◌++◌, map, length, IfSome, refl, sym, ap, subst, ◌∙◌, arith}
 use Rattle.std.proofs.lemmas.List.{length-append}
-use mathlib.Core.Option.{some}
-use lib.ListN.{get_elem?}
 use Rattle.atomic_table.proofs.Lists.{at_map}
 use Rattle.sysv_crew.specs.Turns.{Numbered}
 use Rattle.sysv_crew.specs.Members.{Member, Splits, Joins as MembersJoin, Closes as MemberCloses}
 use Rattle.sysv_queue.specs.Slot.{Slot}
 use Rattle.sysv_gate.specs.declared.closing.Closing.{Closing}
 use Rattle.sysv_gate.specs.History.{Moves}
-use Rattle.sysv_gate.specs.Gates.{Gateway, Holding, parted, IsSplit, Joins, KnowsItsOwn}
+use Rattle.sysv_gate.specs.Gates.{Gateway, parted, IsSplit, Joins, KnowsItsOwn}
 use Rattle.sysv_gate.specs.Closings.{Closes}
 use Rattle.sysv_bank.specs.Banks.{gates_of, Each2, Each3, EachKnowsItsOwn}
 use Rattle.sysv_bank.specs.Passes.{SplitsOff, JoinsOrders}
 use Rattle.sysv_gated.specs.declared.kinds.Gated.{Gated}
 use Rattle.sysv_gated.specs.declared.opening.GatesClosed.{GatesClosed}
-use Rattle.sysv_gated.specs.declared.slot.SlotCall.{SlotCall}
-use Rattle.sysv_gated.specs.declared.slot.SlotReply.{SlotReply}
 use Rattle.sysv_gated.specs.SlotTurns.{slot_counts, SlotMoves}
 use Rattle.sysv_gated.specs.RegistryTurns.{registry_counts, RegistryMoves}
 use Rattle.sysv_gated.specs.PoolTurns.{pool_counts, PoolMoves}

@@ -1,5 +1,5 @@
 -- What each seat has seen obeys the law of its object.
-use Rattle.std.proofs.Common.{◌≡◌, ℕ, zero, suc, List, [], ◌∷◌, map, sym, ap, refl, subst, arith}
+use Rattle.std.proofs.Common.{◌≡◌, ℕ, zero, suc, List, [], ◌∷◌, map, sym, ap, subst, arith}
 use Rattle.std.specs.List.{All}
 use mathlib.Core.Option.{some, some-injective, some-ne-none}
 use lib.ListN.{get_elem?}
@@ -8,9 +8,8 @@ use Rattle.sysv_pool.specs.StandsFor.{StandsFor as PoolStandsFor}
 use Rattle.sysv_queue.specs.Slot.{Slot}
 use Rattle.sysv_queue.specs.StandsFor.{StandsFor as SlotStandsFor}
 use Rattle.sysv_gate.specs.Gates.{Gateway}
-use Rattle.sysv_gated.specs.Opened.{AreOpen}
-use Rattle.sysv_gated.specs.Seats.{SlotSeat, Gates, Seats, AreOf}
-use Rattle.sysv_gated.specs.SeenHistories.{SeenHistoriesObey, EachKnowsItsOwn, EachObeys, ObeysIfOpen}
+use Rattle.sysv_gated.specs.Seats.{SlotSeat, Seats}
+use Rattle.sysv_gated.specs.SeenHistories.{SeenHistoriesObey, EachKnowsItsOwn, ObeysIfOpen}
 
 -- a fact of all that a list is taken to holds of what each element is taken to
 all_there : {A B : Type 0} (P : B → Type 0) (f : A → B) (xs : List A) (i : ℕ) (x : A) → All P (map f xs) → get_elem? xs i ≡ some x → P (f x)

@@ -1,5 +1,5 @@
 -- What a bank says of its passes, in turns of the world.
-use Rattle.std.proofs.Common.{◌≡◌, ◌≢◌, ℕ, zero, suc, ◌≤◌, ◌<◌, ◌==◌, false, cond, List, [], ◌∷◌, ◌++◌, map, length, refl, sym, ap, subst, ◌∙◌, arith, append_assoc}
+use Rattle.std.proofs.Common.{◌≡◌, ◌≢◌, ℕ, zero, suc, ◌≤◌, ◌==◌, false, cond, List, [], ◌∷◌, ◌++◌, length, refl, sym, ap, subst, ◌∙◌, arith, append_assoc}
 use Rattle.std.proofs.lemmas.Bool.Decides.{nat_tests}
 use Rattle.std.proofs.lemmas.List.{append-nil, length-map}
 use Rattle.std.proofs.lemmas.List.Elements.{All-cons, All-nil, All-head, All-tail, filter-append}
@@ -12,7 +12,6 @@ use Rattle.sysv_lists.proofs.Places.{at_below, there}
 use Rattle.sysv_crew.specs.Turns.{Numbered}
 use Rattle.sysv_crew.specs.Members.{under, AreWhole, AreOfOthers, AreOwn, first_with, SeesMore, MakesTurn, Splits, Joins, Closes}
 use Rattle.sysv_crew.proofs.Sharing.{AtMost, whole_in_any}
-use Rattle.sysv_gate.specs.declared.view.Placed.{Placed}
 use Rattle.sysv_gate.specs.declared.closing.Closing.{Closing}
 use Rattle.sysv_gate.specs.History.{Moves, IsLegal}
 use Rattle.sysv_gate.specs.Gates.{Gateway, Holding}

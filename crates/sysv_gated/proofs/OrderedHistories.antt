@@ -1,5 +1,5 @@
 -- The histories of the objects in an order's turns, as the world has them, and that their replies are legal.
-use Rattle.std.proofs.Common.{◌≡◌, ◌≢◌, ℕ, zero, suc, ◌<◌, ◌≤◌, ◌==◌, Bool, true, false, cond, List, [], ◌∷◌, ◌++◌, map, length, refl, sym, ap, subst, ◌∙◌, arith, lt_of_not-le}
+use Rattle.std.proofs.Common.{◌≡◌, ◌≢◌, ℕ, zero, suc, ◌==◌, true, false, cond, List, [], ◌∷◌, ◌++◌, map, length, refl, sym, ap, subst, ◌∙◌, arith, lt_of_not-le}
 use Rattle.std.proofs.lemmas.Bool.Decides.{nat_tests}
 use Rattle.std.proofs.lemmas.List.{append-nil}
 use Rattle.std.proofs.lemmas.List.Elements.{All-head, All-tail}
@@ -9,11 +9,8 @@ use native.Mathlib.Decide.{ℕ_discrete, dec_le}
 use mathlib.Core.Option.{some, some-injective, some-ne-none}
 use lib.ListN.{get_elem?}
 use Rattle.sysv_lists.proofs.Places.{there}
-use Rattle.sysv_model.specs.History.{Seat, Entry}
-use Rattle.sysv_model.specs.Registry.{RegistryEntry}
-use Rattle.sysv_model.specs.Pool.{PoolEntry}
 use Rattle.sysv_model.specs.Turn.{Turn as WorldTurn, slot_entry as world_slot_entry, registry_entry as world_registry_entry, pool_entry as world_pool_entry, slot_history, registry_history, pool_history}
-use Rattle.sysv_crew.specs.Turns.{Numbered, turn_of, turns_of}
+use Rattle.sysv_crew.specs.Turns.{turn_of, turns_of}
 use Rattle.sysv_queue.specs.Slot.{Slot}
 use Rattle.sysv_queue.specs.StandsFor.{StandsFor as SlotStandsFor}
 use Rattle.sysv_queue.specs.LegalReply.{IsLegalHistory}
@@ -24,10 +21,9 @@ use Rattle.sysv_pool.specs.LegalReply.{IsLegalHistory as IsLegalPoolHistory}
 use Rattle.sysv_objects.specs.LegalDeed.{AreLegal}
 use Rattle.sysv_gate.specs.declared.view.Turn.{Turn}
 use Rattle.sysv_gate.specs.declared.closing.Closing.{Closing}
-use Rattle.sysv_gate.specs.declared.view.Placed.{Placed}
 use Rattle.sysv_gate.specs.History.{Moves, IsLegal, after_all}
 use Rattle.sysv_gate.specs.Gates.{Gateway}
-use Rattle.sysv_gate.specs.Orders.{turns_at, AreBelow}
+use Rattle.sysv_gate.specs.Orders.{turns_at}
 use Rattle.sysv_gate.proofs.Ordering.{turns_append, turns_here, turns_else, turns_none}
 use Rattle.sysv_gate.proofs.Histories.{after_all-snoc}
 use Rattle.sysv_bank.specs.Banks.{gates_of}

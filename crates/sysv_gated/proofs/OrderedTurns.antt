@@ -1,13 +1,13 @@
 -- The turn that a pass adds to the order is the one that the object at the place has answered.
-use Rattle.std.proofs.Common.{◌≡◌, ℕ, zero, suc, ◌+◌, List, [], ◌∷◌, ◌++◌, set, refl, sym, ap, subst, ◌∙◌, arith}
+use Rattle.std.proofs.Common.{◌≡◌, ℕ, zero, suc, ◌+◌, List, [], ◌∷◌, ◌++◌, sym, ap, subst, ◌∙◌, arith}
 use Rattle.std.proofs.lemmas.List.{same_from_push}
 use mathlib.Core.Option.{some, some-injective, some-ne-none}
 use lib.ListN.{get_elem?}
 use Rattle.sysv_lists.proofs.Places.{set_at}
 use Rattle.sysv_model.specs.Turn.{AtSlot, AtRegistry, AtPool}
 use Rattle.sysv_crew.specs.Members.{MakesTurn}
-use Rattle.sysv_gate.specs.History.{Moves, after_all}
-use Rattle.sysv_gate.specs.Gates.{Gateway, Holding}
+use Rattle.sysv_gate.specs.History.{after_all}
+use Rattle.sysv_gate.specs.Gates.{Holding}
 use Rattle.sysv_gate.specs.Orders.{turns_at}
 use Rattle.sysv_gate.proofs.Ordering.{turns_append, turns_here}
 use Rattle.sysv_bank.specs.Banks.{gates_of}

@@ -1,6 +1,6 @@
 -- One kind among the objects of a bank: what is seen of a gate, of a seat and of what is given back, where an object, a call
 -- and a reply are seen as those of the kind (this profile's).
-use Rattle.std.specs.Prelude.{◌≡◌, List, map, option_map, None}
+use Rattle.std.specs.Prelude.{◌≡◌, map, option_map, None}
 use Rattle.sysv_gate.specs.declared.view.Turn.{Turn}
 use Rattle.sysv_gate.specs.declared.closing.Closing.{Closing}
 use Rattle.sysv_gate.specs.Gates.{Gateway, Holding}

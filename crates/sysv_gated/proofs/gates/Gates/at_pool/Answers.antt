@@ -1,4 +1,4 @@
-use Rattle.std.proofs.Common.{IfOk, IfErr, OnErr, ◌≡◌, refl, sym, subst}
+use Rattle.std.proofs.Common.{IfOk, IfErr, ◌≡◌, refl, sym, subst}
 use Rattle.sysv_model.specs.Turn.{OfPool}
 use Rattle.sysv_gated.specs.PoolTurns.{pool_call}
 use Rattle.sysv_gated.specs.Seats.{FindsWorn}

@@ -1,4 +1,4 @@
-use Rattle.std.proofs.Common.{IfOk, IfErr, OnErr, ◌≡◌, refl, sym, subst}
+use Rattle.std.proofs.Common.{IfOk, OnErr, refl, sym, subst}
 use Rattle.sysv_model.specs.Turn.{OfRegistry}
 use Rattle.sysv_gated.specs.RegistryTurns.{registry_call}
 use Rattle.sysv_gated.specs.Seats.{FindsWorn}

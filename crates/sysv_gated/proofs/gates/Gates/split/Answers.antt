@@ -1,5 +1,4 @@
 use Rattle.std.proofs.Common.{◌≡◌, ap, refl, sym, subst, IfOk, OnErr, ◌∙◌}
-use Rattle.sysv_bank.specs.Passes.{Pass}
 use Rattle.sysv_gated.specs.Seats.{AreOf}
 use Rattle.sysv_gated.specs.Sharing.{AreSplit}
 use Rattle.sysv_gated.specs.Banked.{seats_seen}
