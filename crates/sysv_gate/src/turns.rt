@@ -22,7 +22,7 @@ use std::snapshot::Snapshot;
 use std::sync::Wait;
 
 /// How many times a waiter looks whether its ticket is served before it sleeps.
-pub(crate) const LOOKS: u64 = 1024;
+pub(crate) const LOOKS: u64 = 16_384;
 
 // What came of a try to enter.
 pub(crate) enum Entry {
