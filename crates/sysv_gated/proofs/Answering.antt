@@ -7,15 +7,18 @@ use Rattle.sysv_gate.specs.declared.view.Turn.{Turn}
 use Rattle.sysv_gate.specs.History.{Moves, IsLegal, after_all}
 use Rattle.sysv_gate.specs.Gates.{Holding, Answers, made, saw}
 use Rattle.sysv_bank.specs.Banks.{ChangesAt}
-use Rattle.sysv_gated.specs.declared.slot.SlotCall.{SlotCall}
-use Rattle.sysv_gated.specs.declared.slot.SlotReply.{SlotReply}
-use Rattle.sysv_gated.specs.declared.registry.RegistryCall.{RegistryCall}
-use Rattle.sysv_gated.specs.declared.registry.RegistryReply.{RegistryReply}
-use Rattle.sysv_gated.specs.declared.pool.PoolCall.{PoolCall}
-use Rattle.sysv_gated.specs.declared.pool.PoolReply.{PoolReply}
-use Rattle.sysv_gated.specs.SlotTurns.{slot_counts, slot_call, slot_reply, SlotMoves}
-use Rattle.sysv_gated.specs.RegistryTurns.{registry_counts, registry_call, registry_reply, RegistryMoves}
-use Rattle.sysv_gated.specs.PoolTurns.{pool_counts, pool_call, pool_reply, PoolMoves}
+use Rattle.sysv_turns.specs.declared.slot.SlotCall.{SlotCall}
+use Rattle.sysv_turns.specs.declared.slot.SlotReply.{SlotReply}
+use Rattle.sysv_turns.specs.declared.registry.RegistryCall.{RegistryCall}
+use Rattle.sysv_turns.specs.declared.registry.RegistryReply.{RegistryReply}
+use Rattle.sysv_turns.specs.declared.pool.PoolCall.{PoolCall}
+use Rattle.sysv_turns.specs.declared.pool.PoolReply.{PoolReply}
+use Rattle.sysv_turns.specs.SlotTurns.{slot_call, slot_reply, SlotMoves}
+use Rattle.sysv_gated.specs.Counts.{slot_counts}
+use Rattle.sysv_turns.specs.RegistryTurns.{registry_call, registry_reply, RegistryMoves}
+use Rattle.sysv_gated.specs.Counts.{registry_counts}
+use Rattle.sysv_turns.specs.PoolTurns.{pool_call, pool_reply, PoolMoves}
+use Rattle.sysv_gated.specs.Counts.{pool_counts}
 use Rattle.sysv_gated.specs.Seats.{Seats}
 use Rattle.sysv_gated.specs.Answered.{SlotAnswers, RegistryAnswers, PoolAnswers}
 

@@ -13,8 +13,8 @@ use Rattle.sysv_gate.specs.Gates.{Gateway, opened}
 use Rattle.sysv_bank.specs.Banks.{AreOpened}
 use Rattle.sysv_gated.specs.declared.kinds.Gated.{Gated}
 use Rattle.sysv_gated.specs.declared.kinds.Gated.TheVariants as gated
-use Rattle.sysv_gated.specs.SlotTurns.{slot_counts}
-use Rattle.sysv_gated.specs.PoolTurns.{pool_counts}
+use Rattle.sysv_gated.specs.Counts.{slot_counts}
+use Rattle.sysv_gated.specs.Counts.{pool_counts}
 use Rattle.sysv_gated.specs.Gated.{IsSlot, IsRegistry, IsPool, slot_in, registry_in, pool_in, as_slot, as_registry, as_pool, gated_counts}
 use Rattle.sysv_gated.specs.Kinds.{gate_as, seat_as}
 use Rattle.sysv_gated.specs.Seats.{SlotSeat, Seats}

@@ -13,9 +13,12 @@ use Rattle.sysv_bank.specs.Banks.{gates_of, Each2, Each3, EachKnowsItsOwn}
 use Rattle.sysv_bank.specs.Passes.{SplitsOff, JoinsOrders}
 use Rattle.sysv_gated.specs.declared.kinds.Gated.{Gated}
 use Rattle.sysv_gated.specs.declared.opening.GatesClosed.{GatesClosed}
-use Rattle.sysv_gated.specs.SlotTurns.{slot_counts, SlotMoves}
-use Rattle.sysv_gated.specs.RegistryTurns.{registry_counts, RegistryMoves}
-use Rattle.sysv_gated.specs.PoolTurns.{pool_counts, PoolMoves}
+use Rattle.sysv_turns.specs.SlotTurns.{SlotMoves}
+use Rattle.sysv_gated.specs.Counts.{slot_counts}
+use Rattle.sysv_turns.specs.RegistryTurns.{RegistryMoves}
+use Rattle.sysv_gated.specs.Counts.{registry_counts}
+use Rattle.sysv_turns.specs.PoolTurns.{PoolMoves}
+use Rattle.sysv_gated.specs.Counts.{pool_counts}
 use Rattle.sysv_gated.specs.Gated.{IsSlot, IsRegistry, IsPool, as_slot, as_registry, as_pool, GatedMoves, gated_counts}
 use Rattle.sysv_gated.specs.Kinds.{seat_as, IsClosingAs}
 use Rattle.sysv_gated.specs.Seats.{SlotSeat}

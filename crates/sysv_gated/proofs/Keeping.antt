@@ -7,12 +7,15 @@ use Rattle.sysv_gated.specs.declared.kinds.GatedCall.{GatedCall}
 use Rattle.sysv_gated.specs.declared.kinds.GatedCall.TheVariants as asked
 use Rattle.sysv_gated.specs.declared.kinds.GatedReply.{GatedReply}
 use Rattle.sysv_gated.specs.declared.kinds.GatedReply.TheVariants as told
-use Rattle.sysv_gated.specs.declared.slot.SlotCall.{SlotCall}
-use Rattle.sysv_gated.specs.declared.registry.RegistryCall.{RegistryCall}
-use Rattle.sysv_gated.specs.declared.pool.PoolCall.{PoolCall}
-use Rattle.sysv_gated.specs.SlotTurns.{slot_counts, SlotMoves}
-use Rattle.sysv_gated.specs.RegistryTurns.{registry_counts, RegistryMoves}
-use Rattle.sysv_gated.specs.PoolTurns.{pool_counts, PoolMoves}
+use Rattle.sysv_turns.specs.declared.slot.SlotCall.{SlotCall}
+use Rattle.sysv_turns.specs.declared.registry.RegistryCall.{RegistryCall}
+use Rattle.sysv_turns.specs.declared.pool.PoolCall.{PoolCall}
+use Rattle.sysv_turns.specs.SlotTurns.{SlotMoves}
+use Rattle.sysv_gated.specs.Counts.{slot_counts}
+use Rattle.sysv_turns.specs.RegistryTurns.{RegistryMoves}
+use Rattle.sysv_gated.specs.Counts.{registry_counts}
+use Rattle.sysv_turns.specs.PoolTurns.{PoolMoves}
+use Rattle.sysv_gated.specs.Counts.{pool_counts}
 use Rattle.sysv_gated.specs.Gated.{IsSlot, IsRegistry, IsPool, IsSlotReply, IsRegistryReply, IsPoolReply, slot_in, slot_call_in, slot_reply_in, registry_in, registry_call_in, registry_reply_in, pool_in, pool_call_in, pool_reply_in, as_slot, as_registry, as_pool, GatedMoves, gated_counts}
 use Rattle.sysv_gated.proofs.Seeing.{Keeps}
 

@@ -31,9 +31,12 @@ use Rattle.sysv_bank.specs.Closing.{ClosesInOrder}
 use Rattle.sysv_gated.specs.declared.kinds.Gated.{Gated}
 use Rattle.sysv_gated.specs.declared.kinds.GatedCall.{GatedCall}
 use Rattle.sysv_gated.specs.declared.kinds.GatedReply.{GatedReply}
-use Rattle.sysv_gated.specs.SlotTurns.{slot_counts, SlotMoves}
-use Rattle.sysv_gated.specs.RegistryTurns.{registry_counts, RegistryMoves}
-use Rattle.sysv_gated.specs.PoolTurns.{pool_counts, PoolMoves}
+use Rattle.sysv_turns.specs.SlotTurns.{SlotMoves}
+use Rattle.sysv_gated.specs.Counts.{slot_counts}
+use Rattle.sysv_turns.specs.RegistryTurns.{RegistryMoves}
+use Rattle.sysv_gated.specs.Counts.{registry_counts}
+use Rattle.sysv_turns.specs.PoolTurns.{PoolMoves}
+use Rattle.sysv_gated.specs.Counts.{pool_counts}
 use Rattle.sysv_gated.specs.Kinds.{Kind, turn_as, gate_as}
 use Rattle.sysv_gated.specs.Gated.{IsSlot, IsRegistry, IsPool, slot_in, registry_in, pool_in, as_slot, as_registry, as_pool, GatedMoves, gated_counts}
 use Rattle.sysv_gated.specs.Seats.{entries, slot_entry, registry_entry, pool_entry}

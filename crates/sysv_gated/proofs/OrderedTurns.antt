@@ -17,15 +17,15 @@ use Rattle.sysv_gated.specs.declared.kinds.GatedCall.{GatedCall}
 use Rattle.sysv_gated.specs.declared.kinds.GatedCall.TheVariants as asked
 use Rattle.sysv_gated.specs.declared.kinds.GatedReply.{GatedReply}
 use Rattle.sysv_gated.specs.declared.kinds.GatedReply.TheVariants as told
-use Rattle.sysv_gated.specs.declared.slot.SlotCall.{SlotCall}
-use Rattle.sysv_gated.specs.declared.slot.SlotReply.{SlotReply}
-use Rattle.sysv_gated.specs.declared.registry.RegistryCall.{RegistryCall}
-use Rattle.sysv_gated.specs.declared.registry.RegistryReply.{RegistryReply}
-use Rattle.sysv_gated.specs.declared.pool.PoolCall.{PoolCall}
-use Rattle.sysv_gated.specs.declared.pool.PoolReply.{PoolReply}
-use Rattle.sysv_gated.specs.SlotTurns.{slot_call, slot_reply}
-use Rattle.sysv_gated.specs.RegistryTurns.{registry_call, registry_reply}
-use Rattle.sysv_gated.specs.PoolTurns.{pool_call, pool_reply}
+use Rattle.sysv_turns.specs.declared.slot.SlotCall.{SlotCall}
+use Rattle.sysv_turns.specs.declared.slot.SlotReply.{SlotReply}
+use Rattle.sysv_turns.specs.declared.registry.RegistryCall.{RegistryCall}
+use Rattle.sysv_turns.specs.declared.registry.RegistryReply.{RegistryReply}
+use Rattle.sysv_turns.specs.declared.pool.PoolCall.{PoolCall}
+use Rattle.sysv_turns.specs.declared.pool.PoolReply.{PoolReply}
+use Rattle.sysv_turns.specs.SlotTurns.{slot_call, slot_reply}
+use Rattle.sysv_turns.specs.RegistryTurns.{registry_call, registry_reply}
+use Rattle.sysv_turns.specs.PoolTurns.{pool_call, pool_reply}
 use Rattle.sysv_gated.specs.Gated.{slot_in}
 use Rattle.sysv_gated.specs.Order.{GatedTurn, GatedPlaced, GatedPass, opening_at, deed_at, member_of}
 use Rattle.sysv_gated.specs.Ordered.{deed_added, AnswersAt, deed_answered}

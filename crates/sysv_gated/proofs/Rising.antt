@@ -10,9 +10,9 @@ use Rattle.sysv_keys.specs.StandsFor.{Registry, MakesTurn as RegistryMakesTurn}
 use Rattle.sysv_pool.specs.State.{State}
 use Rattle.sysv_pool.specs.StandsFor.{MakesTurn as PoolMakesTurn}
 use Rattle.sysv_gate.specs.History.{RiseByOneAtMost}
-use Rattle.sysv_gated.specs.SlotTurns.{SlotStands, slot_counts}
-use Rattle.sysv_gated.specs.RegistryTurns.{RegistryStands, registry_counts}
-use Rattle.sysv_gated.specs.PoolTurns.{PoolStands, pool_counts}
+use Rattle.sysv_gated.specs.Counts.{SlotStands, slot_counts}
+use Rattle.sysv_gated.specs.Counts.{RegistryStands, registry_counts}
+use Rattle.sysv_gated.specs.Counts.{PoolStands, pool_counts}
 
 at_most_one : (b : Bool) → cond b 1 0 ≤ 1
 at_most_one true = omega arith

@@ -18,15 +18,18 @@ use Rattle.sysv_bank.specs.Banks.{gates_of, ChangesAt, EachKnowsItsOwn}
 use Rattle.sysv_gated.specs.declared.kinds.Gated.{Gated}
 use Rattle.sysv_gated.specs.declared.kinds.GatedCall.{GatedCall}
 use Rattle.sysv_gated.specs.declared.kinds.GatedReply.{GatedReply}
-use Rattle.sysv_gated.specs.declared.slot.SlotCall.{SlotCall}
-use Rattle.sysv_gated.specs.declared.slot.SlotReply.{SlotReply}
-use Rattle.sysv_gated.specs.declared.registry.RegistryCall.{RegistryCall}
-use Rattle.sysv_gated.specs.declared.registry.RegistryReply.{RegistryReply}
-use Rattle.sysv_gated.specs.declared.pool.PoolCall.{PoolCall}
-use Rattle.sysv_gated.specs.declared.pool.PoolReply.{PoolReply}
-use Rattle.sysv_gated.specs.SlotTurns.{slot_counts, SlotMoves}
-use Rattle.sysv_gated.specs.RegistryTurns.{registry_counts, RegistryMoves}
-use Rattle.sysv_gated.specs.PoolTurns.{pool_counts, PoolMoves}
+use Rattle.sysv_turns.specs.declared.slot.SlotCall.{SlotCall}
+use Rattle.sysv_turns.specs.declared.slot.SlotReply.{SlotReply}
+use Rattle.sysv_turns.specs.declared.registry.RegistryCall.{RegistryCall}
+use Rattle.sysv_turns.specs.declared.registry.RegistryReply.{RegistryReply}
+use Rattle.sysv_turns.specs.declared.pool.PoolCall.{PoolCall}
+use Rattle.sysv_turns.specs.declared.pool.PoolReply.{PoolReply}
+use Rattle.sysv_turns.specs.SlotTurns.{SlotMoves}
+use Rattle.sysv_gated.specs.Counts.{slot_counts}
+use Rattle.sysv_turns.specs.RegistryTurns.{RegistryMoves}
+use Rattle.sysv_gated.specs.Counts.{registry_counts}
+use Rattle.sysv_turns.specs.PoolTurns.{PoolMoves}
+use Rattle.sysv_gated.specs.Counts.{pool_counts}
 use Rattle.sysv_gated.specs.Gated.{IsSlot, IsRegistry, IsPool, as_slot, as_registry, as_pool, GatedMoves, gated_counts}
 use Rattle.sysv_gated.specs.Kinds.{Kind, seat_as}
 use Rattle.sysv_gated.specs.Reading.{Finds, FindsAndGivesUp, Reads, Awaits, AwaitsWithin}

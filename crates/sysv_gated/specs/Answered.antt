@@ -2,15 +2,15 @@
 use Rattle.std.specs.Prelude.{ℕ}
 use Rattle.sysv_model.specs.Turn.{AtSlot, AtRegistry, AtPool}
 use Rattle.sysv_queue.specs.Slot.{Slot}
-use Rattle.sysv_gated.specs.declared.slot.SlotCall.{SlotCall}
-use Rattle.sysv_gated.specs.declared.slot.SlotReply.{SlotReply}
-use Rattle.sysv_gated.specs.declared.registry.RegistryCall.{RegistryCall}
-use Rattle.sysv_gated.specs.declared.registry.RegistryReply.{RegistryReply}
-use Rattle.sysv_gated.specs.declared.pool.PoolCall.{PoolCall}
-use Rattle.sysv_gated.specs.declared.pool.PoolReply.{PoolReply}
-use Rattle.sysv_gated.specs.SlotTurns.{slot_call, slot_reply, FitsSlotCall}
-use Rattle.sysv_gated.specs.RegistryTurns.{registry_call, registry_reply, FitsRegistryCall}
-use Rattle.sysv_gated.specs.PoolTurns.{pool_call, pool_reply, FitsPoolCall}
+use Rattle.sysv_turns.specs.declared.slot.SlotCall.{SlotCall}
+use Rattle.sysv_turns.specs.declared.slot.SlotReply.{SlotReply}
+use Rattle.sysv_turns.specs.declared.registry.RegistryCall.{RegistryCall}
+use Rattle.sysv_turns.specs.declared.registry.RegistryReply.{RegistryReply}
+use Rattle.sysv_turns.specs.declared.pool.PoolCall.{PoolCall}
+use Rattle.sysv_turns.specs.declared.pool.PoolReply.{PoolReply}
+use Rattle.sysv_turns.specs.SlotTurns.{slot_call, slot_reply, FitsSlotCall}
+use Rattle.sysv_turns.specs.RegistryTurns.{registry_call, registry_reply, FitsRegistryCall}
+use Rattle.sysv_turns.specs.PoolTurns.{pool_call, pool_reply, FitsPoolCall}
 use Rattle.sysv_gated.specs.Seats.{Seats, MakesTurnAt}
 
 pub record SlotAnswers (number : ℕ) (before : Seats) (call : SlotCall) (reply : SlotReply) (after : Seats) : Type 0 where

@@ -14,9 +14,9 @@ use Rattle.sysv_gated.specs.declared.kinds.Gated.{Gated}
 use Rattle.sysv_gated.specs.declared.kinds.Gated.TheVariants as gated
 use Rattle.sysv_gated.specs.declared.kinds.GatedCall.{GatedCall}
 use Rattle.sysv_gated.specs.declared.kinds.GatedReply.{GatedReply}
-use Rattle.sysv_gated.specs.SlotTurns.{slot_call, slot_reply}
-use Rattle.sysv_gated.specs.RegistryTurns.{registry_call, registry_reply}
-use Rattle.sysv_gated.specs.PoolTurns.{pool_call, pool_reply}
+use Rattle.sysv_turns.specs.SlotTurns.{slot_call, slot_reply}
+use Rattle.sysv_turns.specs.RegistryTurns.{registry_call, registry_reply}
+use Rattle.sysv_turns.specs.PoolTurns.{pool_call, pool_reply}
 use Rattle.sysv_gated.specs.Gated.{slot_in, slot_call_in, slot_reply_in, registry_call_in, registry_reply_in, pool_call_in, pool_reply_in}
 
 -- a turn at an object of the bank, one at a place of it, and a pass

@@ -8,9 +8,9 @@ use Rattle.sysv_gate.specs.declared.count.Count.TheVariants.{Arrived, Freed}
 use Rattle.sysv_gate.specs.declared.awaited.Awaited.{Awaited}
 use Rattle.sysv_gate.specs.declared.awaited.Awaited.TheVariants.{Reached, Worn}
 use Rattle.sysv_bank.specs.Banks.{ChangesAt}
-use Rattle.sysv_gated.specs.SlotTurns.{slot_counts}
-use Rattle.sysv_gated.specs.RegistryTurns.{registry_counts}
-use Rattle.sysv_gated.specs.PoolTurns.{pool_counts}
+use Rattle.sysv_gated.specs.Counts.{slot_counts}
+use Rattle.sysv_gated.specs.Counts.{registry_counts}
+use Rattle.sysv_gated.specs.Counts.{pool_counts}
 use Rattle.sysv_gated.specs.Seats.{Seats}
 
 -- the value is no less than what the seat knew of the count, and it knows the value from then on

@@ -15,9 +15,12 @@ use mathlib.Core.Option.{some}
 use lib.ListN.{get_elem?}
 use Rattle.sysv_gate.specs.History.{Moves, IsLegal}
 use Rattle.sysv_gate.specs.Gates.{KnowsItsOwn}
-use Rattle.sysv_gated.specs.SlotTurns.{slot_counts, SlotMoves}
-use Rattle.sysv_gated.specs.RegistryTurns.{registry_counts, RegistryMoves}
-use Rattle.sysv_gated.specs.PoolTurns.{pool_counts, PoolMoves}
+use Rattle.sysv_turns.specs.SlotTurns.{SlotMoves}
+use Rattle.sysv_gated.specs.Counts.{slot_counts}
+use Rattle.sysv_turns.specs.RegistryTurns.{RegistryMoves}
+use Rattle.sysv_gated.specs.Counts.{registry_counts}
+use Rattle.sysv_turns.specs.PoolTurns.{PoolMoves}
+use Rattle.sysv_gated.specs.Counts.{pool_counts}
 use Rattle.sysv_gated.specs.Opened.{AreOpen}
 use Rattle.sysv_gated.specs.Seats.{SlotSeat, RegistrySeat, PoolSeat, Gates, Seats, AreOf, slot_entry, registry_entry, pool_entry, slot_seen, registry_seen, pool_seen, object_of, TakesTurn}
 

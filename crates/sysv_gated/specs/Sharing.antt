@@ -14,9 +14,12 @@ use Rattle.sysv_gate.specs.Gates.{Holding, parted, IsSplit, Joins}
 use Rattle.sysv_gate.specs.Closings.{Closes}
 use Rattle.sysv_bank.specs.Banks.{Each2, Each3}
 use Rattle.sysv_gated.specs.declared.opening.GatesClosed.{GatesClosed}
-use Rattle.sysv_gated.specs.SlotTurns.{slot_counts, SlotMoves}
-use Rattle.sysv_gated.specs.RegistryTurns.{registry_counts, RegistryMoves}
-use Rattle.sysv_gated.specs.PoolTurns.{pool_counts, PoolMoves}
+use Rattle.sysv_turns.specs.SlotTurns.{SlotMoves}
+use Rattle.sysv_gated.specs.Counts.{slot_counts}
+use Rattle.sysv_turns.specs.RegistryTurns.{RegistryMoves}
+use Rattle.sysv_gated.specs.Counts.{registry_counts}
+use Rattle.sysv_turns.specs.PoolTurns.{PoolMoves}
+use Rattle.sysv_gated.specs.Counts.{pool_counts}
 use Rattle.sysv_gated.specs.Seats.{SlotSeat, Gates, Seats, AreOf, entries, slot_entry, registry_entry, pool_entry}
 use Rattle.sysv_gated.specs.Opened.{AreOpen}
 

@@ -5,7 +5,7 @@ ghost use Rattle.sysv_model.specs.declared.limits.TheConstants.{MESSAGE_BYTES as
 ghost use Rattle.sysv_model.specs.Pool.{Reserve, Release, blocks_for};
 ghost use Rattle.sysv_model.specs.Turn.{AtPool, OfPool};
 ghost use Rattle.sysv_pool.specs.Replies.{reserve_reply, release_reply};
-ghost use Rattle.sysv_gated.specs.PoolTurns.{pool_call};
+ghost use Rattle.sysv_turns.specs.PoolTurns.{pool_call};
 ghost use Rattle.sysv_gated.specs.Seats.{AreOf, MakesTurnAt, FindsWorn};
 ghost use Rattle.sysv_gated.specs.Answered.{PoolAnswers};
 

@@ -4,7 +4,7 @@ ghost use Rattle.std.specs.Prelude.{◌≡◌, Result, Ok, Err, IfOk, IfErr, OnE
 ghost use Rattle.sysv_model.specs.Registry.{Begin, Settle, Forget, Changed};
 ghost use Rattle.sysv_model.specs.Turn.{AtRegistry, OfRegistry};
 ghost use Rattle.sysv_keys.specs.Replies.{begun_reply};
-ghost use Rattle.sysv_gated.specs.RegistryTurns.{registry_call};
+ghost use Rattle.sysv_turns.specs.RegistryTurns.{registry_call};
 ghost use Rattle.sysv_gated.specs.Seats.{AreOf, MakesTurnAt, FindsWorn};
 ghost use Rattle.sysv_gated.specs.Answered.{RegistryAnswers};
 

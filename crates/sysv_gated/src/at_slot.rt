@@ -10,7 +10,7 @@ ghost use Rattle.sysv_keys.specs.Identifier.{slot_of_id};
 ghost use Rattle.sysv_keys.specs.declared.identifier.TheConstants.{SLOTS};
 ghost use Rattle.sysv_queue.specs.Blocks.{blocks_of};
 ghost use Rattle.sysv_queue.specs.Replies.{probe_reply, stat_reply, look_reply, place_reply, take_reply, set_reply, remove_reply};
-ghost use Rattle.sysv_gated.specs.SlotTurns.{ask_of, slot_call};
+ghost use Rattle.sysv_turns.specs.SlotTurns.{ask_of, slot_call};
 ghost use Rattle.sysv_gated.specs.Seats.{AreOf, MakesTurnAt, FindsWorn};
 ghost use Rattle.sysv_gated.specs.Answered.{SlotAnswers};
 

@@ -3,7 +3,8 @@
 ghost use Rattle.std.specs.Prelude.{◌≡◌, ◌≤◌, []};
 ghost use Rattle.sysv_pool.specs.StandsFor.{StandsFor};
 ghost use Rattle.sysv_model.specs.declared.limits.TheConstants.{MESSAGE_BYTES as most_bytes};
-ghost use Rattle.sysv_gated.specs.PoolTurns.{PoolMoves, pool_counts};
+ghost use Rattle.sysv_turns.specs.PoolTurns.{PoolMoves};
+ghost use Rattle.sysv_gated.specs.Counts.{pool_counts};
 
 use std::marker::Model;
 use sysv_gate::Object;
@@ -16,7 +17,7 @@ pub struct GatedPool {
 
 impl Model for GatedPool {
     ghost use Rattle.sysv_pool.specs.State.{State};
-    ghost use Rattle.sysv_gated.specs.PoolTurns.{PoolStands};
+    ghost use Rattle.sysv_gated.specs.Counts.{PoolStands};
 
     ghost Value = { State };
 
@@ -41,53 +42,6 @@ impl GatedPool {
         let GatedPool { pool } = self;
         pool
     }
-}
-
-/// The size of a text, 0 to 8,192 bytes.
-#[derive(Drop)]
-pub struct TextSize {
-    size: usize,
-}
-
-impl Model for TextSize {
-    ghost use Rattle.std.specs.Prelude.{ℕ, ◌≤◌};
-    ghost use Rattle.sysv_model.specs.declared.limits.TheConstants.{MESSAGE_BYTES};
-
-    ghost Value = { ℕ };
-
-    ghost view = { λ t. t.size };
-
-    ghost invariant = { λ t. t.size ≤ MESSAGE_BYTES };
-}
-
-impl TextSize {
-    /// A size of at most 8,192.
-    pub fn of(size: usize) -> TextSize
-        requires { size ≤ most_bytes }
-        ensures { result ≡ size }
-    {
-        TextSize { size }
-    }
-
-    /// The number of bytes.
-    pub fn bytes(self) -> usize
-        ensures size { result ≡ self }
-        ensures short { result ≤ most_bytes }
-    {
-        self.size
-    }
-}
-
-/// What the pool is asked, as the calls of `Pool` of the same names.
-pub enum PoolCall {
-    Reserve(TextSize),
-    Release(Chain),
-}
-
-/// What the pool answers, in the order of the calls. A chain of another pool comes back.
-pub enum PoolReply {
-    Reserved(Option<Chain>),
-    Released(Result<(), Chain>),
 }
 
 impl Object for GatedPool {

@@ -2,7 +2,8 @@
 
 ghost use Rattle.std.specs.Prelude.{◌≡◌, ℕ, []};
 ghost use Rattle.sysv_keys.specs.StandsFor.{StandsFor};
-ghost use Rattle.sysv_gated.specs.RegistryTurns.{RegistryMoves, registry_counts};
+ghost use Rattle.sysv_turns.specs.RegistryTurns.{RegistryMoves};
+ghost use Rattle.sysv_gated.specs.Counts.{registry_counts};
 
 use std::marker::Model;
 use sysv_gate::Object;
@@ -17,7 +18,7 @@ pub struct GatedRegistry {
 
 impl Model for GatedRegistry {
     ghost use Rattle.sysv_keys.specs.StandsFor.{Registry as Seen};
-    ghost use Rattle.sysv_gated.specs.RegistryTurns.{RegistryStands};
+    ghost use Rattle.sysv_gated.specs.Counts.{RegistryStands};
 
     ghost Value = { Seen };
 
@@ -34,21 +35,6 @@ impl GatedRegistry {
     {
         GatedRegistry { registry }
     }
-}
-
-/// What the registry is asked, as the calls of `Registry` of the same names.
-#[derive(Clone, Copy, PartialEq, Eq, Debug)]
-pub enum RegistryCall {
-    Begin { key: i32, flags: Flags },
-    Settle { id: i32 },
-    Forget { id: i32 },
-}
-
-/// What the registry answers: to a begin what it found or made, and else whether a row was changed.
-#[derive(Clone, Copy, PartialEq, Eq, Debug)]
-pub enum RegistryReply {
-    Begun(Begun),
-    Changed(bool),
 }
 
 impl Object for GatedRegistry {

@@ -3,7 +3,8 @@
 ghost use Rattle.std.specs.Prelude.{◌≡◌, ◌^◌, []};
 ghost use Rattle.sysv_queue.specs.StandsFor.{StandsFor};
 ghost use Rattle.sysv_gate.specs.History.{RiseByOneAtMost, AreBelow};
-ghost use Rattle.sysv_gated.specs.SlotTurns.{SlotMoves, slot_counts};
+ghost use Rattle.sysv_turns.specs.SlotTurns.{SlotMoves};
+ghost use Rattle.sysv_gated.specs.Counts.{slot_counts};
 
 use crate::letter::Letter;
 use std::marker::Model;
@@ -18,83 +19,13 @@ pub struct GatedSlot {
 
 impl Model for GatedSlot {
     ghost use Rattle.sysv_queue.specs.Slot.{Slot};
-    ghost use Rattle.sysv_gated.specs.SlotTurns.{SlotStands};
+    ghost use Rattle.sysv_gated.specs.Counts.{SlotStands};
 
     ghost Value = { Slot };
 
     ghost view = { λ g. g.slot };
 
     ghost invariant = { λ g. SlotStands g.slot };
-}
-
-/// What a slot is asked without a text, as the calls of `QueueSlot` of the same names.
-#[derive(Clone, Copy, PartialEq, Eq, Debug)]
-pub enum SlotAsk {
-    Install {
-        id: i32,
-        key: i32,
-        cred: Cred,
-        mode: u32,
-        now: u64,
-    },
-    Probe {
-        id: i32,
-        cred: Cred,
-        flags: Flags,
-    },
-    Look {
-        id: i32,
-        cred: Cred,
-        size: usize,
-    },
-    Take {
-        id: i32,
-        cred: Cred,
-        selector: Selector,
-        size: u32,
-        noerror: bool,
-        now: u64,
-    },
-    Stat {
-        id: i32,
-        cred: Cred,
-    },
-    Set {
-        id: i32,
-        cred: Cred,
-        to: SetTo,
-        now: u64,
-    },
-    Remove {
-        id: i32,
-        cred: Cred,
-    },
-    Row,
-}
-
-/// What a slot is asked: with a text, as `QueueSlot::place`, or without one.
-pub enum SlotCall {
-    Ask(SlotAsk),
-    Place {
-        id: i32,
-        cred: Cred,
-        mtype: i64,
-        letter: Letter,
-        now: u64,
-    },
-}
-
-/// What a slot answers, in the order of the calls.
-pub enum SlotReply {
-    Installed(bool),
-    Probed(Probe),
-    Looked(Look),
-    Placed(Result<u64, PlaceRefused>),
-    Taken(Result<Taken, TakeRefused>),
-    Told(Result<Stat, Errno>),
-    Set(Result<(), Errno>),
-    Removed(Result<Discarded, Errno>),
-    Shown(Option<Row>),
 }
 
 impl GatedSlot {
@@ -112,37 +43,6 @@ impl GatedSlot {
     {
         let GatedSlot { slot } = self;
         slot
-    }
-
-    fn answer(&mut self, ask: SlotAsk) -> SlotReply
-        requires { AreBelow (2 ^ 63) (slot_counts self.old) }
-        ensures meaning { SlotMoves self.old (SlotCall.Ask ask) result self.new }
-        ensures counts { RiseByOneAtMost (slot_counts self.old) (slot_counts self.new) }
-    {
-        let slot = &mut self.slot;
-        match ask {
-            SlotAsk::Install {
-                id,
-                key,
-                cred,
-                mode,
-                now,
-            } => SlotReply::Installed(slot.install(id, key, cred, mode, now)),
-            SlotAsk::Probe { id, cred, flags } => SlotReply::Probed(slot.probe(id, cred, flags)),
-            SlotAsk::Look { id, cred, size } => SlotReply::Looked(slot.look(id, cred, size)),
-            SlotAsk::Take {
-                id,
-                cred,
-                selector,
-                size,
-                noerror,
-                now,
-            } => SlotReply::Taken(slot.take(id, cred, selector, size, noerror, now)),
-            SlotAsk::Stat { id, cred } => SlotReply::Told(slot.stat(id, cred)),
-            SlotAsk::Set { id, cred, to, now } => SlotReply::Set(slot.set(id, cred, to, now)),
-            SlotAsk::Remove { id, cred } => SlotReply::Removed(slot.remove(id, cred)),
-            SlotAsk::Row => SlotReply::Shown(slot.row()),
-        }
     }
 }
 

@@ -26,8 +26,10 @@ use Rattle.sysv_gate.specs.History.{Moves, after_all}
 use Rattle.sysv_gate.specs.Gates.{Gateway}
 use Rattle.sysv_gate.specs.Closings.{Closes}
 use Rattle.sysv_bank.specs.Banks.{gates_of}
-use Rattle.sysv_gated.specs.SlotTurns.{slot_counts, SlotMoves}
-use Rattle.sysv_gated.specs.PoolTurns.{pool_counts, PoolMoves}
+use Rattle.sysv_turns.specs.SlotTurns.{SlotMoves}
+use Rattle.sysv_gated.specs.Counts.{slot_counts}
+use Rattle.sysv_turns.specs.PoolTurns.{PoolMoves}
+use Rattle.sysv_gated.specs.Counts.{pool_counts}
 use Rattle.sysv_gated.specs.SeenHistories.{SeenHistories}
 use Rattle.sysv_gated.specs.Seats.{SlotSeat, PoolSeat, entries, slot_entry, pool_entry}
 use Rattle.sysv_gated.proofs.Closing.{as_long}

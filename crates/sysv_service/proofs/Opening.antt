@@ -3,8 +3,8 @@ use Rattle.std.proofs.Common.{◌≡◌, List, [], ◌∷◌, map, refl, ap}
 use Rattle.sysv_queue.specs.Slot.{Slot}
 use Rattle.sysv_gate.specs.Gates.{Gateway, opened}
 use Rattle.sysv_bank.specs.Banks.{gates_of}
-use Rattle.sysv_gated.specs.declared.slot.SlotCall.{SlotCall}
-use Rattle.sysv_gated.specs.declared.slot.SlotReply.{SlotReply}
+use Rattle.sysv_turns.specs.declared.slot.SlotCall.{SlotCall}
+use Rattle.sysv_turns.specs.declared.slot.SlotReply.{SlotReply}
 use Rattle.sysv_gated.specs.Seats.{Gates, AreOf}
 use Rattle.sysv_gated.specs.Opened.{all_opened}
 

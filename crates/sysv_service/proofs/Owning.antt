@@ -24,9 +24,12 @@ use Rattle.sysv_gate.specs.declared.count.Count.{Count as OfObject}
 use Rattle.sysv_gate.specs.declared.count.Count.TheVariants.{Arrived, Freed}
 use Rattle.sysv_gate.specs.declared.view.Turn.{Turn}
 use Rattle.sysv_bank.specs.Banks.{ChangesAt}
-use Rattle.sysv_gated.specs.SlotTurns.{slot_counts, SlotMoves}
-use Rattle.sysv_gated.specs.RegistryTurns.{registry_counts, RegistryMoves}
-use Rattle.sysv_gated.specs.PoolTurns.{pool_counts, PoolMoves}
+use Rattle.sysv_turns.specs.SlotTurns.{SlotMoves}
+use Rattle.sysv_gated.specs.Counts.{slot_counts}
+use Rattle.sysv_turns.specs.RegistryTurns.{RegistryMoves}
+use Rattle.sysv_gated.specs.Counts.{registry_counts}
+use Rattle.sysv_turns.specs.PoolTurns.{PoolMoves}
+use Rattle.sysv_gated.specs.Counts.{pool_counts}
 use Rattle.sysv_gated.specs.Seats.{SlotSeat, RegistrySeat, PoolSeat, Seats, slot_entry, registry_entry, pool_entry, MakesTurnAt, FindsWorn}
 use Rattle.sysv_gated.specs.Reading.{Reads, GivesUp}
 use Rattle.sysv_service.specs.Ran.{Pass, Forgets, TurnsBack, FindsNoTurn, Ran, FindsTurns, begins, steps, turns_back, reads, resumes, gives_up}

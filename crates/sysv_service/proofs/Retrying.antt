@@ -13,8 +13,8 @@ use Rattle.sysv_gate.specs.Counts.{of_count, with_count}
 use Rattle.sysv_gate.specs.History.{after_all}
 use Rattle.sysv_gate.specs.Gates.{Holding, read_to}
 use Rattle.sysv_bank.specs.Banks.{ChangesAt}
-use Rattle.sysv_gated.specs.SlotTurns.{slot_counts}
-use Rattle.sysv_gated.specs.RegistryTurns.{registry_counts}
+use Rattle.sysv_gated.specs.Counts.{slot_counts}
+use Rattle.sysv_gated.specs.Counts.{registry_counts}
 use Rattle.sysv_gated.specs.Seats.{SlotSeat, Seats, TakesTurn, MakesTurnAt}
 use Rattle.sysv_gated.specs.Reading.{Finds}
 use Rattle.sysv_service.specs.Retried.{all_but_last, count_found, EachRetryIsAtItsGoal}

@@ -1,6 +1,6 @@
 use Rattle.std.proofs.Common.{IfOk, IfErr, ◌≡◌, refl, sym, subst}
 use Rattle.sysv_model.specs.Turn.{OfPool}
-use Rattle.sysv_gated.specs.PoolTurns.{pool_call}
+use Rattle.sysv_turns.specs.PoolTurns.{pool_call}
 use Rattle.sysv_gated.specs.Seats.{FindsWorn}
 use Rattle.sysv_gated.specs.Answered.{PoolAnswers}
 use Rattle.sysv_gated.specs.Banked.{seats_seen}

@@ -1,6 +1,6 @@
 use Rattle.std.proofs.Common.{IfOk, OnErr, refl, sym, subst}
 use Rattle.sysv_model.specs.Turn.{OfRegistry}
-use Rattle.sysv_gated.specs.RegistryTurns.{registry_call}
+use Rattle.sysv_turns.specs.RegistryTurns.{registry_call}
 use Rattle.sysv_gated.specs.Seats.{FindsWorn}
 use Rattle.sysv_gated.specs.Answered.{RegistryAnswers}
 use Rattle.sysv_gated.specs.Banked.{seats_seen}

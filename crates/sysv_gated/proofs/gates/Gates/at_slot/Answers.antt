@@ -1,6 +1,6 @@
 use Rattle.std.proofs.Common.{IfOk, IfErr, ◌≡◌, refl, sym, subst}
 use Rattle.sysv_model.specs.Turn.{OfSlot}
-use Rattle.sysv_gated.specs.SlotTurns.{slot_call}
+use Rattle.sysv_turns.specs.SlotTurns.{slot_call}
 use Rattle.sysv_gated.specs.Seats.{FindsWorn}
 use Rattle.sysv_gated.specs.Answered.{SlotAnswers}
 use Rattle.sysv_gated.specs.Banked.{seats_seen}

@@ -3,7 +3,7 @@ use Rattle.sysv_model.specs.Registry.{RegistryCall, RegistryReply}
 use Rattle.sysv_keys.specs.StandsFor.{MakesTurn}
 use Rattle.sysv_gate.specs.History.{RiseByOneAtMost}
 use Rattle.sysv_gated.specs.declared.registry.GatedRegistry.TheInside.{Inside}
-use Rattle.sysv_gated.specs.RegistryTurns.{registry_counts}
+use Rattle.sysv_gated.specs.Counts.{registry_counts}
 use Rattle.sysv_gated.proofs.Rising.{registry_turn_to, registry_stands, registry_rises}
 use Rattle.sysv_gated.proofs.registry.GatedRegistryObject.apply.Goals.{in-Begin, in-Settle, in-Forget}
 use Rattle.sysv_gated.proofs.registry.GatedRegistryObject.apply.Goals as goal

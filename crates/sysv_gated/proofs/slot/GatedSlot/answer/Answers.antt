@@ -3,7 +3,7 @@ use Rattle.sysv_model.specs.History.{Call, Reply}
 use Rattle.sysv_queue.specs.StandsFor.{MakesTurn}
 use Rattle.sysv_gate.specs.History.{RiseByOneAtMost}
 use Rattle.sysv_gated.specs.declared.slot.GatedSlot.TheInside.{Inside}
-use Rattle.sysv_gated.specs.SlotTurns.{slot_counts}
+use Rattle.sysv_gated.specs.Counts.{slot_counts}
 use Rattle.sysv_gated.proofs.Rising.{slot_turn_to, slot_stands, slot_rises}
 use Rattle.sysv_gated.proofs.slot.GatedSlot.answer.Goals.{in-Install, in-Probe, in-Look, in-Take, in-Stat, in-Set, in-Remove, in-Row}
 use Rattle.sysv_gated.proofs.slot.GatedSlot.answer.Goals as goal

@@ -1,6 +1,6 @@
 use Rattle.std.proofs.Common.{subst}
 use Rattle.sysv_gate.specs.History.{RiseByOneAtMost}
-use Rattle.sysv_gated.specs.SlotTurns.{slot_counts}
+use Rattle.sysv_gated.specs.Counts.{slot_counts}
 use Rattle.sysv_gated.proofs.Rising.{slot_stands, slot_rises}
 use Rattle.sysv_gated.proofs.slot.GatedSlotObject.apply.Goals as goal
 

@@ -1,24 +1,17 @@
--- A turn at a slot behind a gate: what the code's call and reply are in the slot's history (this profile's).
+-- A turn at a slot: what the code's call and reply are in the slot's history (this profile's).
 use Rattle.std.specs.Prelude.{◌≡◌, ℕ, Ok, Err, ⊤}
-use Rattle.sysv_model.specs.History.{History, Call, Install, Probe, Look, Place, Take, ReadStat, Set, Remove, ReadRow, Reply, Installed, Shown}
+use Rattle.sysv_model.specs.History.{Call, Install, Probe, Look, Place, Take, ReadStat, Set, Remove, ReadRow, Reply, Installed, Shown}
 use Rattle.sysv_queue.specs.Replies.{probe_reply, stat_reply, look_reply, place_reply, take_reply, set_reply, remove_reply}
 use Rattle.sysv_queue.specs.Blocks.{blocks_of}
 use Rattle.sysv_queue.specs.Slot.{Slot}
-use Rattle.sysv_queue.specs.StandsFor.{StandsFor, MakesTurn}
-use Rattle.sysv_gated.specs.declared.slot.SlotAsk.{SlotAsk}
-use Rattle.sysv_gated.specs.declared.slot.SlotAsk.TheVariants as asked
-use Rattle.sysv_gated.specs.declared.slot.SlotCall.{SlotCall}
-use Rattle.sysv_gated.specs.declared.slot.SlotCall.TheVariants as called
-use Rattle.sysv_gated.specs.declared.slot.SlotReply.{SlotReply}
-use Rattle.sysv_gated.specs.declared.slot.SlotReply.TheVariants as told
-
--- the slot stands for some history
-abbrev pub SlotStands : Slot → Type 0
-SlotStands slot = (h : History) × StandsFor h slot
-
--- the two counts of a slot
-abbrev pub slot_counts : Slot → ℕ × ℕ
-slot_counts slot = (slot.arrived, slot.freed)
+use Rattle.sysv_queue.specs.StandsFor.{MakesTurn}
+use Rattle.sysv_keys.specs.Identifier.{slot_of_id}
+use Rattle.sysv_turns.specs.declared.slot.SlotAsk.{SlotAsk}
+use Rattle.sysv_turns.specs.declared.slot.SlotAsk.TheVariants as asked
+use Rattle.sysv_turns.specs.declared.slot.SlotCall.{SlotCall}
+use Rattle.sysv_turns.specs.declared.slot.SlotCall.TheVariants as called
+use Rattle.sysv_turns.specs.declared.slot.SlotReply.{SlotReply}
+use Rattle.sysv_turns.specs.declared.slot.SlotReply.TheVariants as told
 
 abbrev pub ask_of : SlotAsk → Call
 ask_of (asked.Install id key cred mode now) = Install id key cred mode now
@@ -28,11 +21,26 @@ ask_of (asked.Take id cred selector size noerror now) = Take id cred selector si
 ask_of (asked.Stat id cred) = ReadStat id cred
 ask_of (asked.Set id cred to now) = Set id cred to now
 ask_of (asked.Remove id cred) = Remove id cred
-ask_of asked.Row = ReadRow
+ask_of (asked.Row slot) = ReadRow
 
 abbrev pub slot_call : SlotCall → Call
 slot_call (called.Ask ask) = ask_of ask
 slot_call (called.Place id cred mtype letter now) = Place id cred mtype letter.bytes now
+
+-- the slot at which it is made: that of the identifier, or the one whose row is read
+abbrev pub slot_of_ask : SlotAsk → ℕ
+slot_of_ask (asked.Install id key cred mode now) = slot_of_id id
+slot_of_ask (asked.Probe id cred flags) = slot_of_id id
+slot_of_ask (asked.Look id cred size) = slot_of_id id
+slot_of_ask (asked.Take id cred selector size noerror now) = slot_of_id id
+slot_of_ask (asked.Stat id cred) = slot_of_id id
+slot_of_ask (asked.Set id cred to now) = slot_of_id id
+slot_of_ask (asked.Remove id cred) = slot_of_id id
+slot_of_ask (asked.Row slot) = slot
+
+abbrev pub slot_asked : SlotCall → ℕ
+slot_asked (called.Ask ask) = slot_of_ask ask
+slot_asked (called.Place id cred mtype letter now) = slot_of_id id
 
 -- a removal discards what waits in the slot before it
 abbrev pub slot_reply : Slot → SlotReply → Reply
@@ -56,7 +64,7 @@ FitsAsk slot (asked.Stat id cred) (told.Told done) = ⊤
 FitsAsk slot (asked.Set id cred to now) (told.Set done) = ⊤
 FitsAsk slot (asked.Remove id cred) (told.Removed (Ok discarded)) = discarded ≡ blocks_of slot.messages
 FitsAsk slot (asked.Remove id cred) (told.Removed (Err why)) = ⊤
-FitsAsk slot asked.Row (told.Shown row) = ⊤
+FitsAsk slot (asked.Row number) (told.Shown row) = ⊤
 FitsAsk slot ask reply = ⊥
 
 abbrev pub FitsSlotCall : Slot → SlotCall → SlotReply → Type 0

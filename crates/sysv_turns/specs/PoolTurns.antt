@@ -1,21 +1,13 @@
--- A turn at the pool behind a gate: what the code's call and reply are in the pool's history (this profile's).
-use Rattle.std.specs.Prelude.{ℕ, ◌≡◌, Some, None, Ok, Err, [], ⊤}
-use Rattle.sysv_model.specs.Pool.{PoolHistory, PoolCall, Reserve, Release, PoolReply, blocks_for}
+-- A turn at the pool: what the code's call and reply are in the pool's history (this profile's).
+use Rattle.std.specs.Prelude.{◌≡◌, Some, None, Ok, Err, [], ⊤}
+use Rattle.sysv_model.specs.Pool.{PoolCall, Reserve, Release, PoolReply, blocks_for}
 use Rattle.sysv_pool.specs.Replies.{reserve_reply, release_reply}
 use Rattle.sysv_pool.specs.State.{State}
-use Rattle.sysv_pool.specs.StandsFor.{StandsFor, MakesTurn}
-use Rattle.sysv_gated.specs.declared.pool.PoolCall.{PoolCall as Asked}
-use Rattle.sysv_gated.specs.declared.pool.PoolCall.TheVariants as asked
-use Rattle.sysv_gated.specs.declared.pool.PoolReply.{PoolReply as Told}
-use Rattle.sysv_gated.specs.declared.pool.PoolReply.TheVariants as told
-
--- the pool stands for some history
-abbrev pub PoolStands : State → Type 0
-PoolStands pool = (h : PoolHistory) × StandsFor h pool
-
--- the count that rises; there is no other
-abbrev pub pool_counts : State → ℕ × ℕ
-pool_counts pool = (pool.released, 0)
+use Rattle.sysv_pool.specs.StandsFor.{MakesTurn}
+use Rattle.sysv_turns.specs.declared.pool.PoolCall.{PoolCall as Asked}
+use Rattle.sysv_turns.specs.declared.pool.PoolCall.TheVariants as asked
+use Rattle.sysv_turns.specs.declared.pool.PoolReply.{PoolReply as Told}
+use Rattle.sysv_turns.specs.declared.pool.PoolReply.TheVariants as told
 
 abbrev pub pool_call : Asked → PoolCall
 pool_call (asked.Reserve size) = Reserve size

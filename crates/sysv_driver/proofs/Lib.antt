@@ -1,0 +1,4 @@
+pub mod Staying
+pub mod Stepping
+pub mod Telling
+pub mod Giving

@@ -1,0 +1,137 @@
+-- A call of each kind stays one at each of its steps.
+use Rattle.std.specs.Prelude.{⊤}
+use Rattle.std.proofs.Common.{◌≡◌, ℕ, ℤ, pos, ◌≤◌, ◌||◌, int_lt, nat_lt, arith, inl, inr, Bool, true, false, List, [], length, Option, Some, None, IfSome, if◌then◌else◌, Result, Ok, Err, refl, sym, ap, subst}
+use Rattle.sysv_model.specs.declared.errno.Errno.{Errno}
+use Rattle.sysv_model.specs.declared.errno.Errno.TheVariants.{EEXIST, EINVAL}
+use Rattle.std.proofs.lemmas.Bool.Decides.{nat_tests}
+use Rattle.sysv_model.specs.declared.cred.Cred.{Cred}
+use Rattle.sysv_model.specs.declared.flags.Flags.{Flags}
+use Rattle.sysv_model.specs.declared.attributes.SetTo.{SetTo}
+use Rattle.sysv_model.specs.declared.limits.TheConstants.{MESSAGE_BYTES}
+use Rattle.sysv_steps.specs.Call.{Msgsnd, Msgrcv, MsgctlStat, MsgctlSet, MsgctlRmid}
+use Rattle.sysv_steps.specs.Begin.{begin}
+use Rattle.sysv_model.specs.History.{Reply, Installed, Gone, Denied, Granted, Full, Fits, Accepted, NoMatch, TooLong, Taken}
+use Rattle.sysv_model.specs.Registry.{RegistryReply, Found, Made, Busy, Unbound, Changed}
+use Rattle.sysv_model.specs.Pool.{blocks_for}
+use Rattle.sysv_model.specs.Message.{Message}
+use Rattle.sysv_queue.specs.Replies.{remove_reply}
+use Rattle.sysv_pool.specs.Chain.{Chained}
+use Rattle.sysv_pool.specs.Replies.{reserve_reply, release_reply}
+use Rattle.sysv_steps.specs.State.{Getting, Sending, Receiving, Wait, OnSettled, OnFreed, OnReleased, OnArrived, Afterwards, IsRefused, WaitsOn, Phase, AtLook, AtTake, AtReceiveGiveback, State, Goes, Waits, Over, Zero, Got, Id, Refused}
+use Rattle.sysv_steps.specs.Next.{after_begin, after_install, after_settle, after_unmake, after_probe, waits_or, goes_on, is_full, after_look, after_reserve, after_place, after_take, after_remove, after_forget, after_giveback, wants_new}
+use Rattle.sysv_steps.specs.Resume.{resume}
+use Rattle.sysv_queue.specs.declared.slot.TakeRefused.{TakeRefused}
+use Rattle.sysv_queue.specs.declared.slot.TakeRefused.TheVariants as refused
+use Rattle.sysv_queue.specs.Replies.{untaken_reply}
+use Rattle.sysv_steps.specs.declared.ending.Ending.TheVariants as ending
+use Rattle.sysv_steps.specs.declared.state.Phase.TheVariants as phase
+use Rattle.sysv_steps.specs.declared.state.State.{State as StateKept}
+use Rattle.sysv_steps.specs.declared.state.State.TheVariants as state
+use Rattle.sysv_steps.specs.Seen.{state_of}
+use Rattle.sysv_driver.specs.Kinds.{IsSized, Gets, IsShort, SendsAfterwards, Sends, Receives, Stats, Sets, Removes}
+use Rattle.sysv_driver.specs.Giving.{GivesNothing}
+
+-- where a state is told, it is this one
+lands : (P : State → Type 0) (a s : State) → Some a ≡ Some s → P a → P s
+lands P a s e p = let is : a ≡ s = cc in subst P is p
+
+pub begin_gets : (get : Getting) (reply : RegistryReply) (s : State) → after_begin get reply ≡ Some s → Gets s
+begin_gets get (Found id settled) s e = lands Gets _ s e tt
+begin_gets get (Made id) s e = lands Gets _ s e tt
+begin_gets get (Busy settled) s e = lands Gets _ s e tt
+begin_gets get (Unbound why) s e = lands Gets _ s e tt
+begin_gets get (Changed done) s e = absurd cc
+
+pub install_gets : (id : ℤ) (made : Bool) (s : State) → after_install id (Installed made) ≡ Some s → Gets s
+install_gets id true s e = lands Gets _ s e tt
+install_gets id false s e = lands Gets _ s e tt
+
+probed_gets : (id : ℤ) (new : Bool) → Gets (Over (if new then Refused EEXIST else Id id))
+probed_gets id true = tt
+probed_gets id false = tt
+
+pub probe_gets : (get : Getting) (id : ℤ) (settled : ℕ) (reply : Reply) (s : State) → after_probe get id settled reply ≡ Some s → Gets s
+probe_gets get id settled Gone s e = lands Gets _ s e tt
+probe_gets get id settled Denied s e = lands Gets _ s e tt
+probe_gets get id settled Granted s e = lands Gets _ s e (probed_gets id (wants_new get.flags))
+probe_gets get id settled reply s e = absurd cc
+
+pub settle_gets : (id : ℤ) (done : Bool) (s : State) → after_settle id (Changed done) ≡ Some s → Gets s
+settle_gets id done s e = lands Gets _ s e tt
+
+pub unmake_gets : (done : Bool) (s : State) → after_unmake (Changed done) ≡ Some s → Gets s
+unmake_gets done s e = lands Gets _ s e tt
+
+waits_sends : (nowait : Bool) (wait : Wait) (why : Errno) → SendsAfterwards (WaitsOn wait) → SendsAfterwards (waits_or nowait wait why)
+waits_sends true wait why k = tt
+waits_sends false wait why k = k
+
+pub goes_sends : (a : Afterwards) → SendsAfterwards a → Sends (goes_on a)
+goes_sends (IsRefused why) k = tt
+goes_sends (WaitsOn (OnFreed goal send)) k = k
+goes_sends (WaitsOn (OnReleased goal send)) k = k
+goes_sends (WaitsOn (OnSettled goal get)) k = absurd k
+goes_sends (WaitsOn (OnArrived goal receive)) k = absurd k
+
+full_sends : (send : Sending) (freed : ℕ) → IsShort send → SendsAfterwards (is_full send freed)
+full_sends send freed short = waits_sends send.nowait _ _ short
+
+pub look_sends : (send : Sending) (reply : Reply) (s : State) → IsShort send → after_look send reply ≡ Some s → Sends s
+look_sends send Gone s short e = lands Sends _ s e tt
+look_sends send Denied s short e = lands Sends _ s e tt
+look_sends send (Full freed) s short e = lands Sends _ s e (goes_sends (is_full send freed) (full_sends send freed short))
+look_sends send Fits s short e = lands Sends _ s e short
+look_sends send reply s short e = absurd cc
+
+pub reserve_sends : (send : Sending) (chain : Option Chained) (s : State) → IsShort send → IfSome chain (λ (c : Chained). c ≡ record { blocks = blocks_for (length send.text); bytes = [] }) →
+    after_reserve send (reserve_reply chain) ≡ Some s → Sends s
+reserve_sends send (Some chain) s short is e = lands Sends _ s e (short, ap (λ (c : Chained). c.blocks) is)
+reserve_sends send None s short is e = lands Sends _ s e (goes_sends _ (waits_sends send.nowait _ _ short))
+
+pub place_sends : (send : Sending) (blocks : ℕ) (reply : Reply) (s : State) → IsShort send → after_place send blocks reply ≡ Some s → Sends s
+place_sends send blocks Gone s short e = lands Sends _ s e tt
+place_sends send blocks Denied s short e = lands Sends _ s e tt
+place_sends send blocks (Full freed) s short e = lands Sends _ s e (full_sends send freed short)
+place_sends send blocks (Accepted number) s short e = lands Sends _ s e tt
+place_sends send blocks reply s short e = absurd cc
+
+taken_waits : (nowait : Bool) (goal : ℕ) (receive : Receiving) (why : Errno) → Receives (goes_on (waits_or nowait (OnArrived goal receive) why))
+taken_waits true goal receive why = tt
+taken_waits false goal receive why = tt
+
+pub take_receives : (receive : Receiving) (reply : Reply) (s : State) → after_take receive reply ≡ Some s → Receives s
+take_receives receive Gone s e = lands Receives _ s e tt
+take_receives receive Denied s e = lands Receives _ s e tt
+take_receives receive (NoMatch arrived) s e = lands Receives _ s e (taken_waits receive.nowait _ _ _)
+take_receives receive TooLong s e = lands Receives _ s e tt
+take_receives receive (Taken message) s e = lands Receives _ s e tt
+take_receives receive reply s e = absurd cc
+
+pub given_receives : (mtype : ℤ) (text : List ℕ) (done : Result ⊤ Chained) (s : State) → after_giveback (Over (Got mtype text)) (release_reply done) ≡ Some s → Receives s
+given_receives mtype text (Ok done) s e = lands Receives _ s e tt
+given_receives mtype text (Err chain) s e = lands Receives _ s e tt
+
+waits_give_nothing : (nowait : Bool) (wait : Wait) (why : Errno) → GivesNothing (goes_on (waits_or nowait wait why))
+waits_give_nothing true wait why = tt
+waits_give_nothing false wait why = tt
+
+pub untaken_gives_nothing : (receive : Receiving) (why : TakeRefused) (s : State) → after_take receive (untaken_reply why) ≡ Some s → GivesNothing s
+untaken_gives_nothing receive refused.Gone s e = lands GivesNothing _ s e tt
+untaken_gives_nothing receive refused.Denied s e = lands GivesNothing _ s e tt
+untaken_gives_nothing receive (refused.NoMatch arrived) s e = lands GivesNothing _ s e (waits_give_nothing receive.nowait _ _)
+untaken_gives_nothing receive refused.TooLong s e = lands GivesNothing _ s e tt
+
+pub given_sends : (a : Afterwards) (done : Result ⊤ Chained) (s : State) → SendsAfterwards a → after_giveback (goes_on a) (release_reply done) ≡ Some s → Sends s
+given_sends a (Ok done) s k e = lands Sends _ s e (goes_sends a k)
+given_sends a (Err chain) s k e = lands Sends _ s e (goes_sends a k)
+
+pub given_zero : (P : State → Type 0) (done : Result ⊤ Chained) (s : State) → P (Over Zero) → after_giveback (Over Zero) (release_reply done) ≡ Some s → P s
+given_zero P (Ok done) s k e = lands P _ s e k
+given_zero P (Err chain) s k e = lands P _ s e k
+
+pub remove_removes : {X : Type 0} (id : ℤ) (messages : List Message) (done : Result X Errno) (s : State) → after_remove id (remove_reply messages done) ≡ Some s → Removes s
+remove_removes id messages (Ok done) s e = lands Removes _ s e tt
+remove_removes id messages (Err why) s e = lands Removes _ s e tt
+
+pub forget_removes : (blocks : ℕ) (done : Bool) (s : State) → after_forget blocks (Changed done) ≡ Some s → Removes s
+forget_removes blocks done s e = lands Removes _ s e tt

@@ -1,0 +1,47 @@
+-- One step of a call, from what its turn was told.
+use Rattle.std.specs.Prelude.{⊤}
+use Rattle.std.proofs.Common.{◌≡◌, ℕ, ◌+◌, inl, inr, true, false, List, [], Some, Result, refl, sym, subst, ◌∙◌, arith}
+use Rattle.sysv_model.specs.Pool.{Release}
+use Rattle.sysv_model.specs.Registry.{Forget, Changed}
+use Rattle.sysv_model.specs.Turn.{Ask, Deed, AtRegistry, AtPool, OfPool, OfRegistry, asked_by}
+use Rattle.sysv_pool.specs.Chain.{Chained}
+use Rattle.sysv_pool.specs.Replies.{release_reply}
+use Rattle.sysv_steps.specs.State.{Phase, State}
+use Rattle.sysv_steps.specs.Asks.{asks}
+use Rattle.sysv_steps.specs.Next.{next}
+use Rattle.sysv_driver.specs.Stepping.{is_stamped, no_moment, left_by, StepsOn, TurnsBack, GivesBack, AsksToForget}
+
+module _ {P : Type 0} (takes : P → Deed → P → Type 0) (misses : P → Ask → P → Type 0) where
+  -- a step that asks for no moment is one for each clock
+  pub lifts : (may : ℕ → Type 0) (phase : Phase) (before : P) (kept : ℕ) (state : State) (after : P) (keeps : ℕ) → StepsOn takes misses no_moment phase before kept state after keeps → StepsOn takes misses may phase before kept state after keeps
+  lifts may phase before kept state after keeps (inl s) = inl (record { deed = s.deed; now = s.now; moment = λ e. absurd (s.moment e); asked = s.asked; goes = s.goes; makes = s.makes })
+  lifts may phase before kept state after keeps (inr w) = inr (record { deeds = w.deeds; now = w.now; moment = λ e. absurd (w.moment e); there = w.there; worn = w.worn; back = w.back })
+
+  module _ (may : ℕ → Type 0) (phase : Phase) (before : P) (state : State) (after : P) where
+    -- its turn was made
+    pub stepped : (deed : Deed) (now : ℕ) → (is_stamped phase ≡ true → may now) → asked_by deed ≡ asks phase now → next phase deed ≡ Some state → takes before deed after → left_by deed ≡ 0 →
+        (kept : ℕ) → StepsOn takes misses may phase before kept state after kept
+    stepped deed now moment asked goes made none kept = inl (record { deed = deed; now = now; moment = moment; asked = asked; goes = goes; makes = record { turn = made; held = omega (arith, none) } })
+
+    -- the gate of its object is worn out
+    pub met : (now : ℕ) → (is_stamped phase ≡ true → may now) → (there : P) → misses before (asks phase now) there → (kept : ℕ) → TurnsBack takes misses phase there kept [] state after kept →
+        StepsOn takes misses may phase before kept state after kept
+    met now moment there worn kept back = inr (record { deeds = []; now = now; moment = moment; there = there; worn = worn; back = back })
+
+    -- it had the registry forget an identifier
+    pub forgot : (id : _) → is_stamped phase ≡ false → asks phase 0 ≡ OfRegistry (Forget id) → ((done : _) → next phase (AtRegistry (Forget id) (Changed done)) ≡ Some state) →
+        ((kept : ℕ) → TurnsBack takes misses phase after kept [] state after kept) → AsksToForget takes misses id before after → (kept : ℕ) → StepsOn takes misses may phase before kept state after kept
+    forgot id unstamped asks_it goes back (inl done) kept =
+        stepped (AtRegistry (Forget id) (Changed done.0)) 0 (λ e. let no : true ≡ false = sym e ∙ unstamped in absurd cc) (sym asks_it) (goes done.0) done.1 refl kept
+    forgot id unstamped asks_it goes back (inr worn) kept =
+        met 0 (λ e. let no : true ≡ false = sym e ∙ unstamped in absurd cc) after (subst (λ a. misses before a after) (sym asks_it) worn) kept (back kept)
+
+    -- it gave a chain back
+    pub given : (blocks kept keeps : ℕ) → is_stamped phase ≡ false → asks phase 0 ≡ OfPool (Release blocks) →
+        ((done : Result ⊤ Chained) → next phase (AtPool (Release blocks) (release_reply done)) ≡ Some state) →
+        (keeps ≡ kept + blocks → TurnsBack takes misses phase after kept [] state after keeps) →
+        GivesBack takes misses blocks before kept after keeps → StepsOn takes misses may phase before kept state after keeps
+    given blocks kept keeps unstamped asks_it goes back (inl done) =
+        inl (record { deed = AtPool (Release blocks) (release_reply done.0); now = 0; moment = λ e. let no : true ≡ false = sym e ∙ unstamped in absurd cc; asked = sym asks_it; goes = goes done.0; makes = done.1 })
+    given blocks kept keeps unstamped asks_it goes back (inr worn) =
+        inr (record { deeds = []; now = 0; moment = λ e. let no : true ≡ false = sym e ∙ unstamped in absurd cc; there = after; worn = subst (λ a. misses before a after) (sym asks_it) worn.0; back = back worn.1 })

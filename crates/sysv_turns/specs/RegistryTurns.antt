@@ -1,0 +1,30 @@
+-- A turn at the registry: what the code's call and reply are in the registry's history (this profile's).
+use Rattle.std.specs.Prelude.{⊤}
+use Rattle.sysv_model.specs.Registry.{RegistryCall, Begin, Settle, Forget, RegistryReply, Changed}
+use Rattle.sysv_keys.specs.Replies.{begun_reply}
+use Rattle.sysv_keys.specs.StandsFor.{Registry, MakesTurn}
+use Rattle.sysv_turns.specs.declared.registry.RegistryCall.{RegistryCall as Asked}
+use Rattle.sysv_turns.specs.declared.registry.RegistryCall.TheVariants as asked
+use Rattle.sysv_turns.specs.declared.registry.RegistryReply.{RegistryReply as Told}
+use Rattle.sysv_turns.specs.declared.registry.RegistryReply.TheVariants as told
+
+abbrev pub registry_call : Asked → RegistryCall
+registry_call (asked.Begin key flags) = Begin key flags
+registry_call (asked.Settle id) = Settle id
+registry_call (asked.Forget id) = Forget id
+
+abbrev pub registry_reply : Told → RegistryReply
+registry_reply (told.Begun begun) = begun_reply begun
+registry_reply (told.Changed done) = Changed done
+
+-- the reply is of the kind that the call has
+abbrev pub FitsRegistryCall : Asked → Told → Type 0
+FitsRegistryCall (asked.Begin key flags) (told.Begun begun) = ⊤
+FitsRegistryCall (asked.Settle id) (told.Changed done) = ⊤
+FitsRegistryCall (asked.Forget id) (told.Changed done) = ⊤
+FitsRegistryCall call reply = ⊥
+
+-- the registry makes the turn
+pub record RegistryMoves (before : Registry) (call : Asked) (reply : Told) (after : Registry) : Type 0 where
+  pub turn : MakesTurn before (registry_call call) (registry_reply reply) after
+  pub fits : FitsRegistryCall call reply

@@ -1,0 +1,43 @@
+-- A turn at any of the objects, by who makes it: the objects themselves, or a seat at their gates (this profile's).
+use Rattle.std.specs.Prelude.{ℕ, ◌<◌, ⊤}
+use Rattle.sysv_model.specs.Turn.{Ask, OfSlot, OfRegistry, OfPool, Deed, AtSlot, AtRegistry, AtPool}
+use Rattle.sysv_keys.specs.declared.identifier.TheConstants.{SLOTS}
+use Rattle.sysv_queue.specs.Slot.{Slot}
+use Rattle.sysv_turns.specs.declared.slot.SlotAsk.TheVariants.{Row}
+use Rattle.sysv_turns.specs.declared.slot.SlotCall.TheVariants.{Ask as Asks, Place}
+use Rattle.sysv_turns.specs.declared.pool.PoolCall.TheVariants.{Reserve, Release}
+use Rattle.sysv_turns.specs.declared.object.ObjectCall.{ObjectCall}
+use Rattle.sysv_turns.specs.declared.object.ObjectCall.TheVariants as asked
+use Rattle.sysv_turns.specs.declared.object.ObjectReply.{ObjectReply}
+use Rattle.sysv_turns.specs.declared.object.ObjectReply.TheVariants as told
+use Rattle.sysv_turns.specs.SlotTurns.{slot_asked, slot_call, slot_reply, FitsSlotCall}
+use Rattle.sysv_turns.specs.RegistryTurns.{registry_call, registry_reply, FitsRegistryCall}
+use Rattle.sysv_turns.specs.PoolTurns.{pool_call, pool_reply, FitsPoolCall}
+
+-- what is asked, and of which object
+abbrev pub ask_of_call : ObjectCall → Ask
+ask_of_call (asked.Slot call) = OfSlot (slot_asked call) (slot_call call)
+ask_of_call (asked.Registry call) = OfRegistry (registry_call call)
+ask_of_call (asked.Pool call) = OfPool (pool_call call)
+
+-- a row is asked of a slot that is there
+abbrev pub IsOfSomeSlot : ObjectCall → Type 0
+IsOfSomeSlot (asked.Slot (Asks (Row slot))) = slot < SLOTS
+IsOfSomeSlot call = ⊤
+
+-- the blocks that are handed over with it
+abbrev pub blocks_asked : ObjectCall → ℕ
+blocks_asked (asked.Slot (Asks ask)) = 0
+blocks_asked (asked.Slot (Place id cred mtype letter now)) = letter.blocks
+blocks_asked (asked.Registry call) = 0
+blocks_asked (asked.Pool (Reserve size)) = 0
+blocks_asked (asked.Pool (Release chain)) = chain.blocks
+
+-- The turn was made, where `takes` says what it is to make one, and the reply is of the kind that the call has. Of a slot
+-- it is told with what was there before it, which a removal discards
+abbrev pub Takes : {P : Type 0} → (P → Deed → P → Type 0) → P → ObjectCall → ObjectReply → P → Type 0
+Takes takes before (asked.Slot call) (told.Slot reply) after =
+    (slot : Slot) × takes before (AtSlot (slot_asked call) (slot_call call) (slot_reply slot reply)) after × FitsSlotCall slot call reply
+Takes takes before (asked.Registry call) (told.Registry reply) after = takes before (AtRegistry (registry_call call) (registry_reply reply)) after × FitsRegistryCall call reply
+Takes takes before (asked.Pool call) (told.Pool reply) after = takes before (AtPool (pool_call call) (pool_reply reply)) after × FitsPoolCall call reply
+Takes takes before call reply after = ⊥

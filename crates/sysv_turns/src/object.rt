@@ -1,0 +1,75 @@
+//! A turn at any of the objects.
+
+ghost use Rattle.std.specs.Prelude.{◌≡◌, IfOk, IfErr, OnErr};
+ghost use Rattle.sysv_model.specs.Turn.{Ask, Deed};
+ghost use Rattle.sysv_turns.specs.Turns.{blocks_asked, ask_of_call, IsOfSomeSlot, Takes};
+
+use crate::pool::{PoolCall, PoolReply};
+use crate::registry::{RegistryCall, RegistryReply};
+use crate::slot::{SlotCall, SlotReply};
+use sysv_pool::Chain;
+
+/// What a call asks at one of its steps, and of which object.
+pub enum ObjectCall {
+    Slot(SlotCall),
+    Registry(RegistryCall),
+    Pool(PoolCall),
+}
+
+/// What it is told, by an object of the same kind.
+pub enum ObjectReply {
+    Slot(SlotReply),
+    Registry(RegistryReply),
+    Pool(PoolReply),
+}
+
+impl ObjectCall {
+    /// The chain that it hands over, or an empty one.
+    pub fn into_chain(self) -> Chain
+        ensures { result.blocks ≡ blocks_asked self }
+    {
+        match self {
+            ObjectCall::Slot(
+                SlotCall::Place {
+                    id: _,
+                    cred: _,
+                    mtype: _,
+                    letter,
+                    now: _,
+                },
+            ) => letter.into_chain(),
+            ObjectCall::Pool(PoolCall::Release(chain)) => chain,
+            ObjectCall::Slot(SlotCall::Ask(_)) => Chain::empty(),
+            ObjectCall::Registry(_) => Chain::empty(),
+            ObjectCall::Pool(PoolCall::Reserve(_)) => Chain::empty(),
+        }
+    }
+}
+
+/// What makes the turns of calls: the objects themselves, or a seat at their gates.
+pub trait Turns {
+    /// What a turn changes.
+    type At;
+
+    /// Whether it may be asked for a turn.
+    ghost ready: { Self → Self.At → Type 0 };
+
+    /// What holds after each turn.
+    ghost stays: { Self → Self.At → Type 0 };
+
+    /// Which turns it makes.
+    ghost takes: { Self.At → Deed → Self.At → Type 0 };
+
+    /// What is so where it finds no turn, since a gate is worn out.
+    ghost misses: { Self.At → Ask → Self.At → Type 0 };
+
+    /// Makes one turn. Where a gate is worn out the call comes back.
+    fn make(&self, at: &mut Self::At, call: ObjectCall) -> Result<ObjectReply, ObjectCall>
+        requires ready { ready self.now at.old }
+        requires there { IsOfSomeSlot call }
+        ensures stays { stays self.now at.new }
+        ensures again { OnErr result (ready self.now at.new) }
+        ensures ok { IfOk result (λ reply. Takes takes at.old call reply at.new) }
+        ensures missed { IfErr result (λ back. (back ≡ call)
+            × misses at.old (ask_of_call call) at.new) };
+}

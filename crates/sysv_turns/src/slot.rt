@@ -1,0 +1,165 @@
+//! Turns at a slot of a queue.
+
+ghost use Rattle.std.specs.Prelude.{◌≡◌, ◌^◌, ◌<◌};
+ghost use Rattle.sysv_turns.specs.SlotTurns.{SlotMoves, slot_of_ask, slot_asked};
+
+use crate::letter::Letter;
+use sysv_keys::slot_of_id;
+use sysv_model::{Cred, Errno, Flags, Row, Selector, SetTo, Stat};
+use sysv_queue::{Discarded, Look, PlaceRefused, Probe, QueueSlot, TakeRefused, Taken};
+
+/// What a slot is asked without a text, as the calls of `QueueSlot` of the same names.
+#[derive(Clone, Copy, PartialEq, Eq, Debug)]
+pub enum SlotAsk {
+    Install {
+        id: i32,
+        key: i32,
+        cred: Cred,
+        mode: u32,
+        now: u64,
+    },
+    Probe {
+        id: i32,
+        cred: Cred,
+        flags: Flags,
+    },
+    Look {
+        id: i32,
+        cred: Cred,
+        size: usize,
+    },
+    Take {
+        id: i32,
+        cred: Cred,
+        selector: Selector,
+        size: u32,
+        noerror: bool,
+        now: u64,
+    },
+    Stat {
+        id: i32,
+        cred: Cred,
+    },
+    Set {
+        id: i32,
+        cred: Cred,
+        to: SetTo,
+        now: u64,
+    },
+    Remove {
+        id: i32,
+        cred: Cred,
+    },
+    /// `QueueSlot::row`, at the slot of this number.
+    Row {
+        slot: usize,
+    },
+}
+
+/// What a slot is asked: with a text, as `QueueSlot::place`, or without one.
+pub enum SlotCall {
+    Ask(SlotAsk),
+    Place {
+        id: i32,
+        cred: Cred,
+        mtype: i64,
+        letter: Letter,
+        now: u64,
+    },
+}
+
+/// What a slot answers, in the order of the calls.
+pub enum SlotReply {
+    Installed(bool),
+    Probed(Probe),
+    Looked(Look),
+    Placed(Result<u64, PlaceRefused>),
+    Taken(Result<Taken, TakeRefused>),
+    Told(Result<Stat, Errno>),
+    Set(Result<(), Errno>),
+    Removed(Result<Discarded, Errno>),
+    Shown(Option<Row>),
+}
+
+impl SlotAsk {
+    /// The number of the slot at which it is made.
+    pub fn slot(&self) -> usize
+        ensures { result ≡ slot_of_ask self.now }
+    {
+        let id = match *self {
+            SlotAsk::Install { id, .. } => id,
+            SlotAsk::Probe { id, .. } => id,
+            SlotAsk::Look { id, .. } => id,
+            SlotAsk::Take { id, .. } => id,
+            SlotAsk::Stat { id, .. } => id,
+            SlotAsk::Set { id, .. } => id,
+            SlotAsk::Remove { id, .. } => id,
+            SlotAsk::Row { slot } => return slot,
+        };
+        slot_of_id(id)
+    }
+
+    // Makes the turn at this slot, whose counts are below 2^63.
+    fn make(self, slot: &mut QueueSlot) -> SlotReply
+        requires arrived { slot.old.arrived < 2 ^ 63 }
+        requires freed { slot.old.freed < 2 ^ 63 }
+        ensures { SlotMoves slot.old (SlotCall.Ask self) result slot.new }
+    {
+        match self {
+            SlotAsk::Install {
+                id,
+                key,
+                cred,
+                mode,
+                now,
+            } => SlotReply::Installed(slot.install(id, key, cred, mode, now)),
+            SlotAsk::Probe { id, cred, flags } => SlotReply::Probed(slot.probe(id, cred, flags)),
+            SlotAsk::Look { id, cred, size } => SlotReply::Looked(slot.look(id, cred, size)),
+            SlotAsk::Take {
+                id,
+                cred,
+                selector,
+                size,
+                noerror,
+                now,
+            } => SlotReply::Taken(slot.take(id, cred, selector, size, noerror, now)),
+            SlotAsk::Stat { id, cred } => SlotReply::Told(slot.stat(id, cred)),
+            SlotAsk::Set { id, cred, to, now } => SlotReply::Set(slot.set(id, cred, to, now)),
+            SlotAsk::Remove { id, cred } => SlotReply::Removed(slot.remove(id, cred)),
+            SlotAsk::Row { .. } => SlotReply::Shown(slot.row()),
+        }
+    }
+}
+
+impl SlotCall {
+    /// The number of the slot at which it is made: that of its identifier, or the one whose row it reads.
+    pub fn slot(&self) -> usize
+        ensures { result ≡ slot_asked self.now }
+    {
+        match self {
+            SlotCall::Ask(ask) => ask.slot(),
+            SlotCall::Place { id, .. } => slot_of_id(*id),
+        }
+    }
+
+    /// Makes the turn at this slot, whose counts are below 2^63.
+    pub fn make(self, slot: &mut QueueSlot) -> SlotReply
+        requires arrived { slot.old.arrived < 2 ^ 63 }
+        requires freed { slot.old.freed < 2 ^ 63 }
+        ensures { SlotMoves slot.old self result slot.new }
+    {
+        match self {
+            SlotCall::Ask(ask) => ask.make(slot),
+            SlotCall::Place {
+                id,
+                cred,
+                mtype,
+                letter,
+                now,
+            } => {
+                let size = letter.size();
+                SlotReply::Placed(slot.place(id, cred, mtype, letter.into_chain(), size, now))
+            }
+        }
+    }
+}
