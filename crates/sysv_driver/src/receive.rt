@@ -24,10 +24,9 @@ pub fn receive_step<T: Turns, C: Clock>(
 ) -> State
     requires ready { T.ready turns.now at.old }
     requires receives { Receives (Goes (phase_of phase out.old)) }
-    requires sized { IsSized (State.Goes phase) out.old }
     ensures stays { T.stays turns.now at.new }
     ensures receives { Receives (state_of result out.new) }
-    ensures sized { IsSized result out.new }
+    ensures sized { IsSized (State.Goes phase) out.old → IsSized result out.new }
     ensures steps { StepsGiving T.takes T.misses (C.may clock.now) phase out.old
         at.old kept.old.blocks result out.new at.new kept.new.blocks }
 {

@@ -17,12 +17,12 @@ returns-in-Err-clause-steps g c = λ kept.
     let asks = simp to_z-of_z at asked in
     elim asks [
       | inl done ↦ inr (record {
-          deeds = AtRegistry (Forget c.args.id) (Changed done.0) ∷ [];
-          now = c.now.result;
-          moment = λ e. c.now.ensures;
-          there = c.make.new.at;
-          worn = worn;
-          back = (ends, inl (done.0, refl, record { turn = done.1; held = omega arith }));
-        })
+        deeds = AtRegistry (Forget c.args.id) (Changed done.0) ∷ [];
+        now = c.now.result;
+        moment = λ e. c.now.ensures;
+        there = c.make.new.at;
+        worn = worn;
+        back = (ends, inl (done.0, refl, record { turn = done.1; held = omega arith }));
+      })
       | inr missed ↦ inr (record { deeds = []; now = c.now.result; moment = λ e. c.now.ensures; there = c.make.new.at; worn = worn; back = (ends, inr (refl, missed, refl)) })
     ]

@@ -29,6 +29,6 @@ returns-in-ReceiveGiveback-clause-steps g c =
     (λ deeds has. subst (λ s. HasWhatItGives s deeds) (sym c.given_back.ensures.kept) has) goes)
 
 pub returns-in-ReceiveGiveback-clause-sized : goal.returns-in-ReceiveGiveback-clause-sized
-returns-in-ReceiveGiveback-clause-sized g c =
-    let sized : IsSized (state.Goes (phase.ReceiveGiveback c.in-ReceiveGiveback.chain c.in-ReceiveGiveback.delivery)) c.args.out.now = subst (λ p. IsSized (state.Goes p) c.args.out.now) c.in-ReceiveGiveback.is c.requires.sized in
+returns-in-ReceiveGiveback-clause-sized g c = λ was.
+    let sized : IsSized (state.Goes (phase.ReceiveGiveback c.in-ReceiveGiveback.chain c.in-ReceiveGiveback.delivery)) c.args.out.now = subst (λ p. IsSized (state.Goes p) c.args.out.now) c.in-ReceiveGiveback.is was in
     subst (λ s. IsSized s c.args.out.now) (sym c.given_back.ensures.kept) sized
