@@ -1,10 +1,11 @@
 -- A turn at a slot: what the code's call and reply are in the slot's history (this profile's).
-use Rattle.std.specs.Prelude.{◌≡◌, ℕ, Ok, Err, ⊤}
+use Rattle.std.specs.Prelude.{◌≡◌, ◌<◌, ℕ, Ok, Err, ⊤}
 use Rattle.sysv_model.specs.History.{Call, Install, Probe, Look, Place, Take, ReadStat, Set, Remove, ReadRow, Reply, Installed, Shown}
 use Rattle.sysv_queue.specs.Replies.{probe_reply, stat_reply, look_reply, place_reply, take_reply, set_reply, remove_reply}
 use Rattle.sysv_queue.specs.Blocks.{blocks_of}
 use Rattle.sysv_queue.specs.Slot.{Slot}
 use Rattle.sysv_queue.specs.StandsFor.{MakesTurn}
+use Rattle.sysv_keys.specs.declared.identifier.TheConstants.{SLOTS}
 use Rattle.sysv_keys.specs.Identifier.{slot_of_id}
 use Rattle.sysv_turns.specs.declared.slot.SlotAsk.{SlotAsk}
 use Rattle.sysv_turns.specs.declared.slot.SlotAsk.TheVariants as asked
@@ -41,6 +42,15 @@ slot_of_ask (asked.Row slot) = slot
 abbrev pub slot_asked : SlotCall → ℕ
 slot_asked (called.Ask ask) = slot_of_ask ask
 slot_asked (called.Place id cred mtype letter now) = slot_of_id id
+
+-- the slot is there, where its row is read
+abbrev pub IsThereFor : SlotAsk → Type 0
+IsThereFor (asked.Row slot) = slot < SLOTS
+IsThereFor ask = ⊤
+
+abbrev pub IsThere : SlotCall → Type 0
+IsThere (called.Ask ask) = IsThereFor ask
+IsThere (called.Place id cred mtype letter now) = ⊤
 
 -- a removal discards what waits in the slot before it
 abbrev pub slot_reply : Slot → SlotReply → Reply

@@ -1,16 +1,14 @@
 -- A turn at any of the objects, by who makes it: the objects themselves, or a seat at their gates (this profile's).
-use Rattle.std.specs.Prelude.{ℕ, ◌<◌, ⊤}
+use Rattle.std.specs.Prelude.{ℕ, ⊤}
 use Rattle.sysv_model.specs.Turn.{Ask, OfSlot, OfRegistry, OfPool, Deed, AtSlot, AtRegistry, AtPool}
-use Rattle.sysv_keys.specs.declared.identifier.TheConstants.{SLOTS}
 use Rattle.sysv_queue.specs.Slot.{Slot}
-use Rattle.sysv_turns.specs.declared.slot.SlotAsk.TheVariants.{Row}
 use Rattle.sysv_turns.specs.declared.slot.SlotCall.TheVariants.{Ask as Asks, Place}
 use Rattle.sysv_turns.specs.declared.pool.PoolCall.TheVariants.{Reserve, Release}
 use Rattle.sysv_turns.specs.declared.object.ObjectCall.{ObjectCall}
 use Rattle.sysv_turns.specs.declared.object.ObjectCall.TheVariants as asked
 use Rattle.sysv_turns.specs.declared.object.ObjectReply.{ObjectReply}
 use Rattle.sysv_turns.specs.declared.object.ObjectReply.TheVariants as told
-use Rattle.sysv_turns.specs.SlotTurns.{slot_asked, slot_call, slot_reply, FitsSlotCall}
+use Rattle.sysv_turns.specs.SlotTurns.{IsThere, slot_asked, slot_call, slot_reply, FitsSlotCall}
 use Rattle.sysv_turns.specs.RegistryTurns.{registry_call, registry_reply, FitsRegistryCall}
 use Rattle.sysv_turns.specs.PoolTurns.{pool_call, pool_reply, FitsPoolCall}
 
@@ -22,8 +20,9 @@ ask_of_call (asked.Pool call) = OfPool (pool_call call)
 
 -- a row is asked of a slot that is there
 abbrev pub IsOfSomeSlot : ObjectCall → Type 0
-IsOfSomeSlot (asked.Slot (Asks (Row slot))) = slot < SLOTS
-IsOfSomeSlot call = ⊤
+IsOfSomeSlot (asked.Slot call) = IsThere call
+IsOfSomeSlot (asked.Registry call) = ⊤
+IsOfSomeSlot (asked.Pool call) = ⊤
 
 -- the blocks that are handed over with it
 abbrev pub blocks_asked : ObjectCall → ℕ

@@ -1,7 +1,8 @@
 //! Turns at a slot of a queue.
 
 ghost use Rattle.std.specs.Prelude.{◌≡◌, ◌^◌, ◌<◌};
-ghost use Rattle.sysv_turns.specs.SlotTurns.{SlotMoves, slot_of_ask, slot_asked};
+ghost use Rattle.sysv_turns.specs.SlotTurns.{SlotMoves, IsThere, IsThereFor, slot_of_ask, slot_asked};
+ghost use Rattle.sysv_keys.specs.declared.identifier.TheConstants.{SLOTS};
 
 use crate::letter::Letter;
 use sysv_keys::slot_of_id;
@@ -84,7 +85,8 @@ pub enum SlotReply {
 impl SlotAsk {
     /// The number of the slot at which it is made.
     pub fn slot(&self) -> usize
-        ensures { result ≡ slot_of_ask self.now }
+        ensures number { result ≡ slot_of_ask self.now }
+        ensures within { IsThereFor self.now → result < SLOTS }
     {
         let id = match *self {
             SlotAsk::Install { id, .. } => id,
@@ -134,7 +136,8 @@ impl SlotAsk {
 impl SlotCall {
     /// The number of the slot at which it is made: that of its identifier, or the one whose row it reads.
     pub fn slot(&self) -> usize
-        ensures { result ≡ slot_asked self.now }
+        ensures number { result ≡ slot_asked self.now }
+        ensures within { IsThere self.now → result < SLOTS }
     {
         match self {
             SlotCall::Ask(ask) => ask.slot(),
