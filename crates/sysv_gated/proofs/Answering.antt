@@ -13,14 +13,14 @@ use Rattle.sysv_turns.specs.declared.registry.RegistryCall.{RegistryCall}
 use Rattle.sysv_turns.specs.declared.registry.RegistryReply.{RegistryReply}
 use Rattle.sysv_turns.specs.declared.pool.PoolCall.{PoolCall}
 use Rattle.sysv_turns.specs.declared.pool.PoolReply.{PoolReply}
-use Rattle.sysv_turns.specs.SlotTurns.{slot_call, slot_reply, SlotMoves}
-use Rattle.sysv_gated.specs.Counts.{slot_counts}
+use Rattle.sysv_turns.specs.SlotTurns.{slot_asked, slot_call, slot_reply, SlotMoves}
 use Rattle.sysv_turns.specs.RegistryTurns.{registry_call, registry_reply, RegistryMoves}
-use Rattle.sysv_gated.specs.Counts.{registry_counts}
 use Rattle.sysv_turns.specs.PoolTurns.{pool_call, pool_reply, PoolMoves}
-use Rattle.sysv_gated.specs.Counts.{pool_counts}
-use Rattle.sysv_gated.specs.Seats.{Seats}
-use Rattle.sysv_gated.specs.Answered.{SlotAnswers, RegistryAnswers, PoolAnswers}
+use Rattle.sysv_gated.specs.Counts.{slot_counts, registry_counts, pool_counts}
+use Rattle.sysv_turns.specs.declared.object.ObjectCall.TheVariants as asked
+use Rattle.sysv_turns.specs.declared.object.ObjectReply.TheVariants as told
+use Rattle.sysv_turns.specs.Turns.{Takes}
+use Rattle.sysv_gated.specs.Seats.{Seats, MakesTurnAt}
 
 -- the last turn of a legal history is what the object's meaning allows after the turns before it
 pub last_legal : {O C R : Type 0} (moves : O → C → R → O → Type 0) (opening : O) (ts : List (Turn O C R)) (t : Turn O C R) → IsLegal moves opening (ts ++ t ∷ []) → moves (after_all opening ts) t.call t.reply t.after
@@ -53,19 +53,19 @@ pub if_ok_too : {T E : Type 0} (r : Result T E) (P Q : T → Type 0) (W : Type 0
 if_ok_too (Ok x) P Q W is also goes = goes x is also
 if_ok_too (Err e) P Q W is also goes = tt
 
--- with the object just before the turn, as it is seen otherwise
-pub slot_answers : (number : ℕ) (before : Seats) (call : SlotCall) (reply : SlotReply) (after : Seats) (slot : Slot) →
-    ChangesAt number before.slots after.slots
+-- ---- with the object just before the turn, as it is seen otherwise
+
+pub slot_answers : (before : Seats) (call : SlotCall) (reply : SlotReply) (after : Seats) (slot : Slot) →
+    ChangesAt (slot_asked call) before.slots after.slots
     (λ b a. (answered : Answers (Moves SlotMoves slot_counts) slot_counts b call reply a × (b.worn ≡ false)) × (object_before SlotMoves slot_counts b call reply a answered.0 ≡ slot)) →
-    after.registry ≡ before.registry → after.pool ≡ before.pool → MakesTurn before.member (AtSlot number (slot_call call) (slot_reply slot reply)) after.member →
-    SlotAnswers number before call reply after
-slot_answers number before call reply after slot c registry pool made =
+    after.registry ≡ before.registry → after.pool ≡ before.pool → MakesTurn before.member (AtSlot (slot_asked call) (slot_call call) (slot_reply slot reply)) after.member →
+    Takes MakesTurnAt before (asked.Slot call) (told.Slot reply) after
+slot_answers before call reply after slot c registry pool made =
     let b = c.was in
     let answered = c.change.0 in
-    let meant = turn_meant SlotMoves slot_counts b call reply c.is answered.0 in
-    record {
-      slot = object_before SlotMoves slot_counts b call reply c.is answered.0;
-      turn = (
+    let meant = turn_meant SlotMoves slot_counts b call reply c.is answered.0 in (
+      object_before SlotMoves slot_counts b call reply c.is answered.0,
+      (
         record {
           was = c.was;
           is = c.is;
@@ -75,23 +75,23 @@ slot_answers number before call reply after slot c registry pool made =
         },
         registry,
         pool,
-        subst (λ s. MakesTurn before.member (AtSlot number (slot_call call) (slot_reply s reply)) after.member) (sym c.change.1) made,
-      );
-      fits = meant.fits;
-    }
+        subst (λ s. MakesTurn before.member (AtSlot (slot_asked call) (slot_call call) (slot_reply s reply)) after.member) (sym c.change.1) made,
+      ),
+      meant.fits,
+    )
 
 pub registry_answers : (before : Seats) (call : RegistryCall) (reply : RegistryReply) (after : Seats) →
     Answers (Moves RegistryMoves registry_counts) registry_counts before.registry call reply after.registry → before.registry.worn ≡ false → after.slots ≡ before.slots → after.pool ≡ before.pool →
-    MakesTurn before.member (AtRegistry (registry_call call) (registry_reply reply)) after.member → RegistryAnswers before call reply after
-registry_answers before call reply after a fresh slots pool made = record {
-  turn = (record { call = call; reply = reply; answers = a; fresh = fresh; entered = refl }, slots, pool, made);
-  fits = (turn_meant RegistryMoves registry_counts before.registry call reply after.registry a).fits;
-}
+    MakesTurn before.member (AtRegistry (registry_call call) (registry_reply reply)) after.member → Takes MakesTurnAt before (asked.Registry call) (told.Registry reply) after
+registry_answers before call reply after a fresh slots pool made = (
+  (record { call = call; reply = reply; answers = a; fresh = fresh; entered = refl }, slots, pool, made),
+  (turn_meant RegistryMoves registry_counts before.registry call reply after.registry a).fits,
+)
 
 pub pool_answers : (before : Seats) (call : PoolCall) (reply : PoolReply) (after : Seats) →
     Answers (Moves PoolMoves pool_counts) pool_counts before.pool call reply after.pool → before.pool.worn ≡ false → after.slots ≡ before.slots → after.registry ≡ before.registry →
-    MakesTurn before.member (AtPool (pool_call call) (pool_reply reply)) after.member → PoolAnswers before call reply after
-pool_answers before call reply after a fresh slots registry made = record {
-  turn = (record { call = call; reply = reply; answers = a; fresh = fresh; entered = refl }, slots, registry, made);
-  fits = (turn_meant PoolMoves pool_counts before.pool call reply after.pool a).fits;
-}
+    MakesTurn before.member (AtPool (pool_call call) (pool_reply reply)) after.member → Takes MakesTurnAt before (asked.Pool call) (told.Pool reply) after
+pool_answers before call reply after a fresh slots registry made = (
+  (record { call = call; reply = reply; answers = a; fresh = fresh; entered = refl }, slots, registry, made),
+  (turn_meant PoolMoves pool_counts before.pool call reply after.pool a).fits,
+)

@@ -8,55 +8,47 @@ use Rattle.sysv_gate.specs.Gates.{Gateway, Answers, marked}
 use Rattle.sysv_bank.specs.Banks.{gates_of, ChangesAt}
 use Rattle.sysv_bank.specs.Passes.{GoesOn, AddsToOrder}
 use Rattle.sysv_gated.specs.declared.kinds.Gated.{Gated}
-use Rattle.sysv_gated.specs.declared.kinds.GatedCall.{GatedCall}
-use Rattle.sysv_gated.specs.declared.kinds.GatedCall.TheVariants as asked
-use Rattle.sysv_gated.specs.declared.kinds.GatedReply.{GatedReply}
-use Rattle.sysv_gated.specs.declared.kinds.GatedReply.TheVariants as told
+use Rattle.sysv_turns.specs.declared.object.ObjectCall.{ObjectCall}
+use Rattle.sysv_turns.specs.declared.object.ObjectCall.TheVariants as asked
+use Rattle.sysv_turns.specs.declared.object.ObjectReply.{ObjectReply}
+use Rattle.sysv_turns.specs.declared.object.ObjectReply.TheVariants as told
 use Rattle.sysv_turns.specs.declared.slot.SlotCall.{SlotCall}
 use Rattle.sysv_turns.specs.declared.slot.SlotReply.{SlotReply}
 use Rattle.sysv_turns.specs.declared.registry.RegistryCall.{RegistryCall}
 use Rattle.sysv_turns.specs.declared.registry.RegistryReply.{RegistryReply}
 use Rattle.sysv_turns.specs.declared.pool.PoolCall.{PoolCall}
 use Rattle.sysv_turns.specs.declared.pool.PoolReply.{PoolReply}
-use Rattle.sysv_turns.specs.SlotTurns.{slot_call, slot_reply, SlotMoves}
+use Rattle.sysv_turns.specs.SlotTurns.{slot_asked, slot_call, slot_reply, SlotMoves}
 use Rattle.sysv_gated.specs.Counts.{slot_counts}
 use Rattle.sysv_turns.specs.RegistryTurns.{registry_call, registry_reply, RegistryMoves}
 use Rattle.sysv_gated.specs.Counts.{registry_counts}
 use Rattle.sysv_turns.specs.PoolTurns.{pool_call, pool_reply, PoolMoves}
 use Rattle.sysv_gated.specs.Counts.{pool_counts}
-use Rattle.sysv_gated.specs.Gated.{IsSlot, IsRegistry, IsPool, IsSlotCall, IsRegistryCall, IsPoolCall, IsSlotReply, IsRegistryReply, IsPoolReply, slot_in, slot_call_in, pool_call_in, as_slot, as_registry, as_pool, GatedMoves, gated_counts}
+use Rattle.sysv_gated.specs.Gated.{IsSlot, IsRegistry, IsPool, slot_in, as_slot, as_registry, as_pool, GatedMoves, gated_counts, place_of}
 use Rattle.sysv_gated.specs.Kinds.{turn_as, seat_as}
-use Rattle.sysv_gated.specs.Seats.{SlotSeat, FindsWorn}
+use Rattle.sysv_gated.specs.Seats.{SlotSeat, MakesTurnAt, FindsWorn}
 use Rattle.sysv_gated.specs.Order.{GatedPass, member_of}
-use Rattle.sysv_gated.specs.Answered.{SlotAnswers, RegistryAnswers, PoolAnswers}
+use Rattle.sysv_turns.specs.Turns.{ask_of_call, Takes}
 use Rattle.sysv_gated.specs.Banked.{AreByKind, seats_seen}
 use Rattle.sysv_gated.proofs.Seeing.{answers_as, others_as, after_as}
-use Rattle.sysv_gated.proofs.Keeping.{keeps_slot, keeps_registry, keeps_pool, slot_replies, registry_replies, pool_replies}
+use Rattle.sysv_gated.proofs.Keeping.{keeps_slot, keeps_registry, keeps_pool}
 use Rattle.sysv_gated.proofs.Placing.{Mark, changes_slot, changes_registry, changes_pool, sees_more}
 use Rattle.sysv_gated.proofs.OrderedTurns.{object_was, slot_made, registry_made, pool_made}
 use Rattle.sysv_gated.proofs.Answering.{object_before, turn_meant, slot_answers, registry_answers, pool_answers}
 
 -- what the bank answers
-abbrev pub Called : GatedCall → GatedReply → Mark → Mark → Type 0
+abbrev pub Called : ObjectCall → ObjectReply → Mark → Mark → Type 0
 Called call reply b a = Answers (Moves GatedMoves gated_counts) gated_counts b call reply a × (b.worn ≡ false)
 
-meant : (call : GatedCall) (reply : GatedReply) (b a : Mark) (c : Called call reply b a) → GatedMoves (object_before GatedMoves gated_counts b call reply a c.0) call reply c.0.object
+meant : (call : ObjectCall) (reply : ObjectReply) (b a : Mark) (c : Called call reply b a) → GatedMoves (object_before GatedMoves gated_counts b call reply a c.0) call reply c.0.object
 meant call reply b a c = turn_meant GatedMoves gated_counts b call reply a c.0
 
 -- ---- a slot
 
-pub slot_reply_there : (place : ℕ) (before after : List Mark) (call : SlotCall) (r : GatedReply) → ChangesAt place before after (Called (asked.Slot call) r) → IsSlotReply r
-slot_reply_there place before after call r c = slot_replies _ call r _ (meant (asked.Slot call) r c.was c.is c.change)
-
-pub slot_call_there : (call : SlotCall) (c : GatedCall) → c ≡ asked.Slot call → IsSlotCall c
-slot_call_there call c is = subst IsSlotCall (sym is) tt
-
-pub slot_call_back : (call back : SlotCall) (c : GatedCall) → c ≡ asked.Slot call → c ≡ asked.Slot back → back ≡ call
-slot_call_back call back c one two = ap slot_call_in (sym two ∙ one)
-
-pub slot_called : (slot : ℕ) (bank : List (Gateway Gated)) (before after : GatedPass) (call : SlotCall) (r : GatedReply) (reply : SlotReply) → AreByKind (gates_of before.seats) → gates_of before.seats ≡ bank → gates_of after.seats ≡ bank → AddsToOrder (slot + 2) before after → r ≡ told.Slot reply → ChangesAt (slot + 2) before.seats after.seats (Called (asked.Slot call) r) → SlotAnswers slot (seats_seen before) call reply (seats_seen after)
-slot_called slot bank before after call r reply kinds one two adds is c =
-    let mine = subst (λ x. ChangesAt (slot + 2) before.seats after.seats (Called (asked.Slot call) x)) is c in
+pub slot_called : (bank : List (Gateway Gated)) (before after : GatedPass) (call : SlotCall) (reply : SlotReply) → AreByKind (gates_of before.seats) → gates_of before.seats ≡ bank → gates_of after.seats ≡ bank → AddsToOrder (slot_asked call + 2) before after →
+    ChangesAt (slot_asked call + 2) before.seats after.seats (Called (asked.Slot call) (told.Slot reply)) → Takes MakesTurnAt (seats_seen before) (asked.Slot call) (told.Slot reply) (seats_seen after)
+slot_called bank before after call reply kinds one two adds mine =
+    let slot = slot_asked call in
     let o : Gated = object_was (slot + 2) before (asked.Slot call) (told.Slot reply) after mine in
     let m = (seats_seen before).member in
     let m' = (seats_seen after).member in
@@ -72,25 +64,21 @@ slot_called slot bank before after call r reply kinds one two adds is c =
     ))
     (record { was = mine.was; is = mine.is; at = mine.at; others = mine.others; change = (mine.change, refl) }) in
     let made = slot_made slot before after call reply adds mine in
-    slot_answers slot (seats_seen before) call reply (seats_seen after) (slot_in o) went.0 went.1 went.2
+    slot_answers (seats_seen before) call reply (seats_seen after) (slot_in o) went.0 went.1 went.2
     (subst (λ gs. MakesTurn (member_of (gates_of before.seats) before) (AtSlot slot (slot_call call) (slot_reply (slot_in o) reply)) (member_of gs after)) (one ∙ sym two) made)
 
-pub slot_worn : (slot : ℕ) (bank : List (Gateway Gated)) (before after : GatedPass) (call : SlotCall) → AreByKind (gates_of before.seats) → gates_of before.seats ≡ bank → gates_of after.seats ≡ bank → GoesOn before after → ChangesAt (slot + 2) before.seats after.seats (λ b a. a ≡ marked b) → FindsWorn (seats_seen before) (OfSlot slot (slot_call call)) (seats_seen after)
-slot_worn slot bank before after call kinds one two goes c =
+pub slot_worn : (bank : List (Gateway Gated)) (before after : GatedPass) (call : SlotCall) → AreByKind (gates_of before.seats) → gates_of before.seats ≡ bank → gates_of after.seats ≡ bank → GoesOn before after →
+    ChangesAt (slot_asked call + 2) before.seats after.seats (λ b a. a ≡ marked b) → FindsWorn (seats_seen before) (OfSlot (slot_asked call) (slot_call call)) (seats_seen after)
+slot_worn bank before after call kinds one two goes c =
+    let slot = slot_asked call in
     let went = changes_slot (seats_seen before).member (seats_seen after).member slot before.seats after.seats (λ b a. a ≡ marked b) (λ b a. a ≡ marked b) kinds (λ b a at kind how. ap (seat_as as_slot) how) c in
     (went.0, went.1, went.2, sees_more bank before after one two goes)
 
 -- ---- the registry
 
-pub registry_reply_there : (place : ℕ) (before after : List Mark) (call : RegistryCall) (r : GatedReply) → ChangesAt place before after (Called (asked.Registry call) r) → IsRegistryReply r
-registry_reply_there place before after call r c = registry_replies _ call r _ (meant (asked.Registry call) r c.was c.is c.change)
-
-pub registry_call_there : (call : RegistryCall) (c : GatedCall) → c ≡ asked.Registry call → IsRegistryCall c
-registry_call_there call c is = subst IsRegistryCall (sym is) tt
-
-pub registry_called : (bank : List (Gateway Gated)) (before after : GatedPass) (call : RegistryCall) (r : GatedReply) (reply : RegistryReply) → AreByKind (gates_of before.seats) → gates_of before.seats ≡ bank → gates_of after.seats ≡ bank → AddsToOrder 0 before after → r ≡ told.Registry reply → ChangesAt 0 before.seats after.seats (Called (asked.Registry call) r) → RegistryAnswers (seats_seen before) call reply (seats_seen after)
-registry_called bank before after call r reply kinds one two adds is c =
-    let mine = subst (λ x. ChangesAt 0 before.seats after.seats (Called (asked.Registry call) x)) is c in
+pub registry_called : (bank : List (Gateway Gated)) (before after : GatedPass) (call : RegistryCall) (reply : RegistryReply) → AreByKind (gates_of before.seats) → gates_of before.seats ≡ bank → gates_of after.seats ≡ bank → AddsToOrder 0 before after →
+    ChangesAt 0 before.seats after.seats (Called (asked.Registry call) (told.Registry reply)) → Takes MakesTurnAt (seats_seen before) (asked.Registry call) (told.Registry reply) (seats_seen after)
+registry_called bank before after call reply kinds one two adds mine =
     let went = changes_registry (seats_seen before).member (seats_seen after).member before.seats after.seats (Called (asked.Registry call) (told.Registry reply)) (λ b a. Answers (Moves RegistryMoves registry_counts) registry_counts b call reply a × (b.worn ≡ false)) kinds
     (λ b a at kind how. (answers_as as_registry IsRegistry (Moves GatedMoves gated_counts) gated_counts (Moves RegistryMoves registry_counts) registry_counts keeps_registry b (asked.Registry call) (told.Registry reply) a kind how.0, how.1)) mine in
     registry_answers (seats_seen before) call reply (seats_seen after) went.0.0 went.0.1 went.1 went.2
@@ -103,18 +91,9 @@ registry_worn bank before after call kinds one two goes c =
 
 -- ---- the pool
 
-pub pool_reply_there : (place : ℕ) (before after : List Mark) (call : PoolCall) (r : GatedReply) → ChangesAt place before after (Called (asked.Pool call) r) → IsPoolReply r
-pool_reply_there place before after call r c = pool_replies _ call r _ (meant (asked.Pool call) r c.was c.is c.change)
-
-pub pool_call_there : (call : PoolCall) (c : GatedCall) → c ≡ asked.Pool call → IsPoolCall c
-pool_call_there call c is = subst IsPoolCall (sym is) tt
-
-pub pool_call_back : (call back : PoolCall) (c : GatedCall) → c ≡ asked.Pool call → c ≡ asked.Pool back → back ≡ call
-pool_call_back call back c one two = ap pool_call_in (sym two ∙ one)
-
-pub pool_called : (bank : List (Gateway Gated)) (before after : GatedPass) (call : PoolCall) (r : GatedReply) (reply : PoolReply) → AreByKind (gates_of before.seats) → gates_of before.seats ≡ bank → gates_of after.seats ≡ bank → AddsToOrder 1 before after → r ≡ told.Pool reply → ChangesAt 1 before.seats after.seats (Called (asked.Pool call) r) → PoolAnswers (seats_seen before) call reply (seats_seen after)
-pool_called bank before after call r reply kinds one two adds is c =
-    let mine = subst (λ x. ChangesAt 1 before.seats after.seats (Called (asked.Pool call) x)) is c in
+pub pool_called : (bank : List (Gateway Gated)) (before after : GatedPass) (call : PoolCall) (reply : PoolReply) → AreByKind (gates_of before.seats) → gates_of before.seats ≡ bank → gates_of after.seats ≡ bank → AddsToOrder 1 before after →
+    ChangesAt 1 before.seats after.seats (Called (asked.Pool call) (told.Pool reply)) → Takes MakesTurnAt (seats_seen before) (asked.Pool call) (told.Pool reply) (seats_seen after)
+pool_called bank before after call reply kinds one two adds mine =
     let went = changes_pool (seats_seen before).member (seats_seen after).member before.seats after.seats (Called (asked.Pool call) (told.Pool reply)) (λ b a. Answers (Moves PoolMoves pool_counts) pool_counts b call reply a × (b.worn ≡ false)) kinds
     (λ b a at kind how. (answers_as as_pool IsPool (Moves GatedMoves gated_counts) gated_counts (Moves PoolMoves pool_counts) pool_counts keeps_pool b (asked.Pool call) (told.Pool reply) a kind how.0, how.1)) mine in
     pool_answers (seats_seen before) call reply (seats_seen after) went.0.0 went.0.1 went.1 went.2
@@ -124,3 +103,24 @@ pub pool_worn : (bank : List (Gateway Gated)) (before after : GatedPass) (call :
 pool_worn bank before after call kinds one two goes c =
     let went = changes_pool (seats_seen before).member (seats_seen after).member before.seats after.seats (λ b a. a ≡ marked b) (λ b a. a ≡ marked b) kinds (λ b a at kind how. ap (seat_as as_pool) how) c in
     (went.0, went.1, went.2, sees_more bank before after one two goes)
+
+-- ---- any object
+
+-- what was told is of the kind of what was asked
+pub called : (bank : List (Gateway Gated)) (before after : GatedPass) (call : ObjectCall) (reply : ObjectReply) → AreByKind (gates_of before.seats) → gates_of before.seats ≡ bank → gates_of after.seats ≡ bank →
+    AddsToOrder (place_of call) before after → ChangesAt (place_of call) before.seats after.seats (Called call reply) → Takes MakesTurnAt (seats_seen before) call reply (seats_seen after)
+called bank before after (asked.Slot call) (told.Slot reply) kinds one two adds c = slot_called bank before after call reply kinds one two adds c
+called bank before after (asked.Registry call) (told.Registry reply) kinds one two adds c = registry_called bank before after call reply kinds one two adds c
+called bank before after (asked.Pool call) (told.Pool reply) kinds one two adds c = pool_called bank before after call reply kinds one two adds c
+called bank before after (asked.Slot call) (told.Registry reply) kinds one two adds c = absurd (meant _ _ c.was c.is c.change)
+called bank before after (asked.Slot call) (told.Pool reply) kinds one two adds c = absurd (meant _ _ c.was c.is c.change)
+called bank before after (asked.Registry call) (told.Slot reply) kinds one two adds c = absurd (meant _ _ c.was c.is c.change)
+called bank before after (asked.Registry call) (told.Pool reply) kinds one two adds c = absurd (meant _ _ c.was c.is c.change)
+called bank before after (asked.Pool call) (told.Slot reply) kinds one two adds c = absurd (meant _ _ c.was c.is c.change)
+called bank before after (asked.Pool call) (told.Registry reply) kinds one two adds c = absurd (meant _ _ c.was c.is c.change)
+
+pub found_worn : (bank : List (Gateway Gated)) (before after : GatedPass) (call : ObjectCall) → AreByKind (gates_of before.seats) → gates_of before.seats ≡ bank → gates_of after.seats ≡ bank → GoesOn before after →
+    ChangesAt (place_of call) before.seats after.seats (λ b a. a ≡ marked b) → FindsWorn (seats_seen before) (ask_of_call call) (seats_seen after)
+found_worn bank before after (asked.Slot call) = slot_worn bank before after call
+found_worn bank before after (asked.Registry call) = registry_worn bank before after call
+found_worn bank before after (asked.Pool call) = pool_worn bank before after call

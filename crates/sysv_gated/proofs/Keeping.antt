@@ -3,10 +3,10 @@ use Rattle.std.proofs.Common.{◌≡◌, ℕ, refl, subst}
 use Rattle.sysv_gate.specs.History.{Moves, RiseByOneAtMost}
 use Rattle.sysv_gated.specs.declared.kinds.Gated.{Gated}
 use Rattle.sysv_gated.specs.declared.kinds.Gated.TheVariants as gated
-use Rattle.sysv_gated.specs.declared.kinds.GatedCall.{GatedCall}
-use Rattle.sysv_gated.specs.declared.kinds.GatedCall.TheVariants as asked
-use Rattle.sysv_gated.specs.declared.kinds.GatedReply.{GatedReply}
-use Rattle.sysv_gated.specs.declared.kinds.GatedReply.TheVariants as told
+use Rattle.sysv_turns.specs.declared.object.ObjectCall.{ObjectCall}
+use Rattle.sysv_turns.specs.declared.object.ObjectCall.TheVariants as asked
+use Rattle.sysv_turns.specs.declared.object.ObjectReply.{ObjectReply}
+use Rattle.sysv_turns.specs.declared.object.ObjectReply.TheVariants as told
 use Rattle.sysv_turns.specs.declared.slot.SlotCall.{SlotCall}
 use Rattle.sysv_turns.specs.declared.registry.RegistryCall.{RegistryCall}
 use Rattle.sysv_turns.specs.declared.pool.PoolCall.{PoolCall}
@@ -16,7 +16,7 @@ use Rattle.sysv_turns.specs.RegistryTurns.{RegistryMoves}
 use Rattle.sysv_gated.specs.Counts.{registry_counts}
 use Rattle.sysv_turns.specs.PoolTurns.{PoolMoves}
 use Rattle.sysv_gated.specs.Counts.{pool_counts}
-use Rattle.sysv_gated.specs.Gated.{IsSlot, IsRegistry, IsPool, IsSlotReply, IsRegistryReply, IsPoolReply, slot_in, slot_call_in, slot_reply_in, registry_in, registry_call_in, registry_reply_in, pool_in, pool_call_in, pool_reply_in, as_slot, as_registry, as_pool, GatedMoves, gated_counts}
+use Rattle.sysv_gated.specs.Gated.{IsSlot, IsRegistry, IsPool, slot_in, slot_call_in, slot_reply_in, registry_in, registry_call_in, registry_reply_in, pool_in, pool_call_in, pool_reply_in, as_slot, as_registry, as_pool, GatedMoves, gated_counts}
 use Rattle.sysv_gated.proofs.Seeing.{Keeps}
 
 -- an object is of one kind
@@ -36,7 +36,7 @@ registry_no_pool (gated.Registry x) r p = p
 registry_no_pool (gated.Pool x) r p = r
 
 -- a turn at an object of a kind is one of the kind
-slot_goes : (o : Gated) (c : GatedCall) (r : GatedReply) (o' : Gated) → IsSlot o → GatedMoves o c r o' → SlotMoves (slot_in o) (slot_call_in c) (slot_reply_in r) (slot_in o') × IsSlot o'
+slot_goes : (o : Gated) (c : ObjectCall) (r : ObjectReply) (o' : Gated) → IsSlot o → GatedMoves o c r o' → SlotMoves (slot_in o) (slot_call_in c) (slot_reply_in r) (slot_in o') × IsSlot o'
 slot_goes o (asked.Slot c) (told.Slot r) o' is m = (m.2, m.1)
 slot_goes o (asked.Slot c) (told.Registry r) o' is m = absurd m
 slot_goes o (asked.Slot c) (told.Pool r) o' is m = absurd m
@@ -47,7 +47,7 @@ slot_goes o (asked.Pool c) (told.Slot r) o' is m = absurd m
 slot_goes o (asked.Pool c) (told.Registry r) o' is m = absurd m
 slot_goes o (asked.Pool c) (told.Pool r) o' is m = absurd (slot_no_pool o is m.0)
 
-registry_goes : (o : Gated) (c : GatedCall) (r : GatedReply) (o' : Gated) → IsRegistry o → GatedMoves o c r o' → RegistryMoves (registry_in o) (registry_call_in c) (registry_reply_in r) (registry_in o') × IsRegistry o'
+registry_goes : (o : Gated) (c : ObjectCall) (r : ObjectReply) (o' : Gated) → IsRegistry o → GatedMoves o c r o' → RegistryMoves (registry_in o) (registry_call_in c) (registry_reply_in r) (registry_in o') × IsRegistry o'
 registry_goes o (asked.Slot c) (told.Slot r) o' is m = absurd (slot_no_registry o m.0 is)
 registry_goes o (asked.Slot c) (told.Registry r) o' is m = absurd m
 registry_goes o (asked.Slot c) (told.Pool r) o' is m = absurd m
@@ -58,7 +58,7 @@ registry_goes o (asked.Pool c) (told.Slot r) o' is m = absurd m
 registry_goes o (asked.Pool c) (told.Registry r) o' is m = absurd m
 registry_goes o (asked.Pool c) (told.Pool r) o' is m = absurd (registry_no_pool o is m.0)
 
-pool_goes : (o : Gated) (c : GatedCall) (r : GatedReply) (o' : Gated) → IsPool o → GatedMoves o c r o' → PoolMoves (pool_in o) (pool_call_in c) (pool_reply_in r) (pool_in o') × IsPool o'
+pool_goes : (o : Gated) (c : ObjectCall) (r : ObjectReply) (o' : Gated) → IsPool o → GatedMoves o c r o' → PoolMoves (pool_in o) (pool_call_in c) (pool_reply_in r) (pool_in o') × IsPool o'
 pool_goes o (asked.Slot c) (told.Slot r) o' is m = absurd (slot_no_pool o m.0 is)
 pool_goes o (asked.Slot c) (told.Registry r) o' is m = absurd m
 pool_goes o (asked.Slot c) (told.Pool r) o' is m = absurd m
@@ -105,19 +105,3 @@ keeps_pool = record {
   goes = λ o c r o' is m. let went = pool_goes o c r o' is m.0 in ((went.0, rises_as (pool_counted o is) (pool_counted o' went.1) m.1), went.1);
   counts = pool_counted;
 }
-
--- a slot answers as a slot does, and so for the others
-pub slot_replies : (o : Gated) (c : SlotCall) (r : GatedReply) (o' : Gated) → GatedMoves o (asked.Slot c) r o' → IsSlotReply r
-slot_replies o c (told.Slot r) o' m = tt
-slot_replies o c (told.Registry r) o' m = m
-slot_replies o c (told.Pool r) o' m = m
-
-pub registry_replies : (o : Gated) (c : RegistryCall) (r : GatedReply) (o' : Gated) → GatedMoves o (asked.Registry c) r o' → IsRegistryReply r
-registry_replies o c (told.Slot r) o' m = m
-registry_replies o c (told.Registry r) o' m = tt
-registry_replies o c (told.Pool r) o' m = m
-
-pub pool_replies : (o : Gated) (c : PoolCall) (r : GatedReply) (o' : Gated) → GatedMoves o (asked.Pool c) r o' → IsPoolReply r
-pool_replies o c (told.Slot r) o' m = m
-pool_replies o c (told.Registry r) o' m = m
-pool_replies o c (told.Pool r) o' m = tt

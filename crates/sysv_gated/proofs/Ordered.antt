@@ -21,8 +21,8 @@ use Rattle.sysv_bank.specs.Banks.{gates_of}
 use Rattle.sysv_bank.specs.Passes.{GoesOn, AddsToOrder, SplitsOff, JoinsOrders}
 use Rattle.sysv_bank.specs.Closing.{ClosesInOrder}
 use Rattle.sysv_gated.specs.declared.kinds.Gated.{Gated}
-use Rattle.sysv_gated.specs.declared.kinds.GatedCall.{GatedCall}
-use Rattle.sysv_gated.specs.declared.kinds.GatedReply.{GatedReply}
+use Rattle.sysv_turns.specs.declared.object.ObjectCall.{ObjectCall}
+use Rattle.sysv_turns.specs.declared.object.ObjectReply.{ObjectReply}
 use Rattle.sysv_gated.specs.Gated.{GatedMoves, gated_counts}
 use Rattle.sysv_gated.specs.Order.{GatedPlaced, GatedPass, object_at, deed_at, deeds_after, deeds_of, member_of}
 use Rattle.sysv_gated.specs.Ordered.{deed_added, IsLegalOrder}
@@ -149,15 +149,15 @@ module _ (gates : List (Gateway Gated)) where
 
 -- ---- the end
 
-seat_there : (seats : List (Holding Gated GatedCall GatedReply)) (place : ℕ) (gate : Gateway Gated) → get_elem? (gates_of seats) place ≡ some gate
-    → (h : Holding Gated GatedCall GatedReply) × (get_elem? seats place ≡ some h) × (h.gate ≡ gate)
+seat_there : (seats : List (Holding Gated ObjectCall ObjectReply)) (place : ℕ) (gate : Gateway Gated) → get_elem? (gates_of seats) place ≡ some gate
+    → (h : Holding Gated ObjectCall ObjectReply) × (get_elem? seats place ≡ some h) × (h.gate ≡ gate)
 seat_there [] place gate at = absurd (some-ne-none gate (sym at))
 seat_there (h ∷ hs) zero gate at = (h, refl, some-injective h.gate gate at)
 seat_there (h ∷ hs) (suc place) gate at = seat_there hs place gate at
 
 pub ends : (last : GatedPass) (closings : List (Closing Gated)) → length closings ≡ length last.seats → (c : ClosesInOrder (Moves GatedMoves gated_counts) last closings) → IsLegalOrder (gates_of last.seats) c.order
 ends last closings many c = record {
-  below = subst (λ n. AreBelow n c.order) (sym (length-map last.seats (λ (h : Holding Gated GatedCall GatedReply). h.gate))) c.below;
+  below = subst (λ n. AreBelow n c.order) (sym (length-map last.seats (λ (h : Holding Gated ObjectCall ObjectReply). h.gate))) c.below;
   each = λ place gate at.
       let seat = seat_there last.seats place gate at in
       let less = at_below last.seats place seat.0 seat.1 in

@@ -29,8 +29,8 @@ use Rattle.sysv_gate.proofs.Histories.{after_all-snoc}
 use Rattle.sysv_bank.specs.Banks.{gates_of}
 use Rattle.sysv_bank.specs.Closing.{ClosesInOrder}
 use Rattle.sysv_gated.specs.declared.kinds.Gated.{Gated}
-use Rattle.sysv_gated.specs.declared.kinds.GatedCall.{GatedCall}
-use Rattle.sysv_gated.specs.declared.kinds.GatedReply.{GatedReply}
+use Rattle.sysv_turns.specs.declared.object.ObjectCall.{ObjectCall}
+use Rattle.sysv_turns.specs.declared.object.ObjectReply.{ObjectReply}
 use Rattle.sysv_turns.specs.SlotTurns.{SlotMoves}
 use Rattle.sysv_gated.specs.Counts.{slot_counts}
 use Rattle.sysv_turns.specs.RegistryTurns.{RegistryMoves}
@@ -91,7 +91,7 @@ module _ (gates : List (Gateway Gated)) where
 
   -- ---- the history of the object at a place
 
-  module _ {O C R E : Type 0} (place : ℕ) (kind : Kind Gated GatedCall GatedReply O C R) (entry : O → Turn O C R → E) (in_world : WorldTurn → List E) where
+  module _ {O C R E : Type 0} (place : ℕ) (kind : Kind Gated ObjectCall ObjectReply O C R) (entry : O → Turn O C R → E) (in_world : WorldTurn → List E) where
     -- what the turn adds to the history
     abbrev Adds : Type 0
     Adds = (at : ℕ) (before : Gated) (t : GatedTurn) →

@@ -13,10 +13,10 @@ use Rattle.sysv_gate.proofs.Ordering.{turns_append, turns_here}
 use Rattle.sysv_bank.specs.Banks.{gates_of}
 use Rattle.sysv_bank.specs.Passes.{AddsToOrder}
 use Rattle.sysv_gated.specs.declared.kinds.Gated.{Gated}
-use Rattle.sysv_gated.specs.declared.kinds.GatedCall.{GatedCall}
-use Rattle.sysv_gated.specs.declared.kinds.GatedCall.TheVariants as asked
-use Rattle.sysv_gated.specs.declared.kinds.GatedReply.{GatedReply}
-use Rattle.sysv_gated.specs.declared.kinds.GatedReply.TheVariants as told
+use Rattle.sysv_turns.specs.declared.object.ObjectCall.{ObjectCall}
+use Rattle.sysv_turns.specs.declared.object.ObjectCall.TheVariants as asked
+use Rattle.sysv_turns.specs.declared.object.ObjectReply.{ObjectReply}
+use Rattle.sysv_turns.specs.declared.object.ObjectReply.TheVariants as told
 use Rattle.sysv_turns.specs.declared.slot.SlotCall.{SlotCall}
 use Rattle.sysv_turns.specs.declared.slot.SlotReply.{SlotReply}
 use Rattle.sysv_turns.specs.declared.registry.RegistryCall.{RegistryCall}
@@ -31,12 +31,12 @@ use Rattle.sysv_gated.specs.Order.{GatedTurn, GatedPlaced, GatedPass, opening_at
 use Rattle.sysv_gated.specs.Ordered.{deed_added, AnswersAt, deed_answered}
 use Rattle.sysv_gated.proofs.Ordered.{makes}
 
-opening_of : (seats : List (Holding Gated GatedCall GatedReply)) (place : ℕ) (h : Holding Gated GatedCall GatedReply) → get_elem? seats place ≡ some h → opening_at (gates_of seats) place ≡ h.gate.opening
+opening_of : (seats : List (Holding Gated ObjectCall ObjectReply)) (place : ℕ) (h : Holding Gated ObjectCall ObjectReply) → get_elem? seats place ≡ some h → opening_at (gates_of seats) place ≡ h.gate.opening
 opening_of [] place h at = absurd (some-ne-none h (sym at))
-opening_of (s ∷ ss) zero h at = ap (λ (x : Holding Gated GatedCall GatedReply). x.gate.opening) (some-injective s h at)
+opening_of (s ∷ ss) zero h at = ap (λ (x : Holding Gated ObjectCall ObjectReply). x.gate.opening) (some-injective s h at)
 opening_of (s ∷ ss) (suc place) h at = opening_of ss place h at
 
-pub answered : (place : ℕ) (before after : GatedPass) (call : GatedCall) (reply : GatedReply) (adds : AddsToOrder place before after) (c : AnswersAt place before call reply after) → deed_added (gates_of before.seats) place before after adds ≡ deed_answered place before call reply after c
+pub answered : (place : ℕ) (before after : GatedPass) (call : ObjectCall) (reply : ObjectReply) (adds : AddsToOrder place before after) (c : AnswersAt place before call reply after) → deed_added (gates_of before.seats) place before after adds ≡ deed_answered place before call reply after c
 answered place before after call reply adds c =
     let a = c.change.0 in
     let added : GatedPlaced = record { place = place; turn = adds.turn } in
@@ -46,7 +46,7 @@ answered place before after call reply adds c =
     ap (turns_at place) adds.order
     ∙ (turns_append place (before.order ++ adds.others) (added ∷ [])
     ∙ ap (λ ts. turns_at place (before.order ++ adds.others) ++ ts) (turns_here place (adds.turn ∷ []))) in
-    let seen : c.is.seen ≡ (c.was.seen ++ a.others) ++ turn ∷ [] = ap (λ (h : Holding Gated GatedCall GatedReply). h.seen) a.made in
+    let seen : c.is.seen ≡ (c.was.seen ++ a.others) ++ turn ∷ [] = ap (λ (h : Holding Gated ObjectCall ObjectReply). h.seen) a.made in
     let both = same_from_push (turns_at place (before.order ++ adds.others)) (c.was.seen ++ a.others) adds.turn turn (sym in_order ∙ (sym (adds.seen c.is is_there) ∙ seen)) in
     let opening = opening_of before.seats place c.was c.at in
     λ i. deed_at place (after_all (opening i) (both.0 i)) (both.1 i)
@@ -56,7 +56,7 @@ two_more n = omega arith
 
 -- ---- a turn at each object, as the calls say it
 
-abbrev pub object_was : (place : ℕ) (before : GatedPass) (call : GatedCall) (reply : GatedReply) (after : GatedPass) → AnswersAt place before call reply after → Gated
+abbrev pub object_was : (place : ℕ) (before : GatedPass) (call : ObjectCall) (reply : ObjectReply) (after : GatedPass) → AnswersAt place before call reply after → Gated
 object_was place before call reply after c = after_all c.was.gate.opening (c.was.seen ++ c.change.0.others)
 
 pub slot_made : (slot : ℕ) (before after : GatedPass) (call : SlotCall) (reply : SlotReply) → AddsToOrder (slot + 2) before after → (c : AnswersAt (slot + 2) before (asked.Slot call) (told.Slot reply) after) →

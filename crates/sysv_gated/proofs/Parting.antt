@@ -15,8 +15,8 @@ use Rattle.sysv_gate.specs.Orders.{turns_at}
 use Rattle.sysv_bank.specs.Banks.{gates_of, Each2}
 use Rattle.sysv_bank.specs.Closing.{ClosesInOrder}
 use Rattle.sysv_gated.specs.declared.kinds.Gated.{Gated}
-use Rattle.sysv_gated.specs.declared.kinds.GatedCall.{GatedCall}
-use Rattle.sysv_gated.specs.declared.kinds.GatedReply.{GatedReply}
+use Rattle.sysv_turns.specs.declared.object.ObjectCall.{ObjectCall}
+use Rattle.sysv_turns.specs.declared.object.ObjectReply.{ObjectReply}
 use Rattle.sysv_gated.specs.declared.opening.GatesClosed.{GatesClosed}
 use Rattle.sysv_turns.specs.SlotTurns.{SlotMoves}
 use Rattle.sysv_gated.specs.Counts.{slot_counts}
@@ -39,7 +39,7 @@ use Rattle.sysv_crew.specs.Members.{Member}
 
 -- ---- one gate
 
-module _ {O C R E : Type 0} (kind : Kind Gated GatedCall GatedReply O C R) (Is : Gated → Type 0) (moves : O → C → R → O → Type 0) (counted : O → ℕ × ℕ)
+module _ {O C R E : Type 0} (kind : Kind Gated ObjectCall ObjectReply O C R) (Is : Gated → Type 0) (moves : O → C → R → O → Type 0) (counted : O → ℕ × ℕ)
     (keeps : Keeps kind Is (Moves GatedMoves gated_counts) gated_counts (Moves moves counted) counted) (entry : O → Turn O C R → E) where
   after_part : (h : Mark) (c : Closing Gated) (c' : Closing O) (place : ℕ) (order : List GatedPlaced) (turns : List E) → Is h.gate.opening → IsClosingAs kind c c' →
       (closes : Closes (Moves GatedMoves gated_counts) h c) → closes.log ≡ turns_at place order → turns ≡ entries entry (kind.object h.gate.opening) (map (turn_as kind) (turns_at place order)) →

@@ -11,9 +11,9 @@ use Rattle.sysv_bank.specs.Banks.{gates_of, ChangesAt, AcceptsAt}
 use Rattle.sysv_bank.specs.Passes.{GoesOn}
 use Rattle.sysv_gated.specs.declared.kinds.Gated.{Gated}
 use Rattle.sysv_gated.specs.declared.kinds.Gated.TheVariants as gated
-use Rattle.sysv_gated.specs.declared.kinds.GatedCall.{GatedCall}
-use Rattle.sysv_gated.specs.declared.kinds.GatedCall.TheVariants as asked
-use Rattle.sysv_gated.specs.declared.kinds.GatedReply.{GatedReply}
+use Rattle.sysv_turns.specs.declared.object.ObjectCall.{ObjectCall}
+use Rattle.sysv_turns.specs.declared.object.ObjectCall.TheVariants as asked
+use Rattle.sysv_turns.specs.declared.object.ObjectReply.{ObjectReply}
 use Rattle.sysv_turns.specs.declared.slot.SlotCall.{SlotCall}
 use Rattle.sysv_turns.specs.declared.slot.SlotReply.{SlotReply}
 use Rattle.sysv_turns.specs.declared.registry.RegistryCall.{RegistryCall}
@@ -23,14 +23,14 @@ use Rattle.sysv_turns.specs.declared.pool.PoolReply.{PoolReply}
 use Rattle.sysv_queue.specs.Slot.{Slot}
 use Rattle.sysv_keys.specs.StandsFor.{Registry}
 use Rattle.sysv_pool.specs.State.{State}
-use Rattle.sysv_turns.specs.SlotTurns.{SlotMoves}
+use Rattle.sysv_turns.specs.SlotTurns.{slot_asked, SlotMoves}
 use Rattle.sysv_gated.specs.Counts.{slot_counts}
 use Rattle.sysv_turns.specs.RegistryTurns.{RegistryMoves}
 use Rattle.sysv_gated.specs.Counts.{registry_counts}
 use Rattle.sysv_turns.specs.PoolTurns.{PoolMoves}
 use Rattle.sysv_gated.specs.Counts.{pool_counts}
 use Rattle.sysv_gated.specs.Kinds.{gate_as, seat_as}
-use Rattle.sysv_gated.specs.Gated.{IsSlot, IsRegistry, IsPool, slot_in, registry_in, pool_in, as_slot, as_registry, as_pool, Accepts, GatedMoves, gated_counts}
+use Rattle.sysv_gated.specs.Gated.{IsSlot, IsRegistry, IsPool, slot_in, registry_in, pool_in, as_slot, as_registry, as_pool, Accepts, GatedMoves, gated_counts, place_of}
 use Rattle.sysv_gated.specs.Seats.{Gates, Seats, AreOf}
 use Rattle.sysv_gated.specs.Banked.{AreSlots, AreByKind, gates_seen, seats_at, seats_seen}
 use Rattle.sysv_gated.specs.Order.{GatedPass, member_of}
@@ -39,7 +39,7 @@ use Rattle.sysv_gated.proofs.Ordered.{sees}
 use Rattle.sysv_gated.proofs.Keeping.{keeps_slot, keeps_registry, keeps_pool}
 
 abbrev pub Mark : Type 0
-Mark = Holding Gated GatedCall GatedReply
+Mark = Holding Gated ObjectCall ObjectReply
 
 -- ---- what is seen tells which gates there are
 
@@ -158,14 +158,20 @@ pool_there [] g kinds at = absurd kinds
 pool_there (r ∷ []) g kinds at = absurd kinds
 pool_there (r ∷ p ∷ ss) g kinds at = subst (λ (x : Gateway Gated). IsPool x.opening) (some-injective p g at) kinds.1
 
-pub accepts_slot : (gs : List (Gateway Gated)) (slot : ℕ) (call : SlotCall) → AreByKind gs → AcceptsAt (Moves GatedMoves gated_counts) Accepts (slot + 2) gs (asked.Slot call)
+accepts_slot : (gs : List (Gateway Gated)) (slot : ℕ) (call : SlotCall) → AreByKind gs → AcceptsAt (Moves GatedMoves gated_counts) Accepts (slot + 2) gs (asked.Slot call)
 accepts_slot gs slot call kinds gate at log legal = is_after as_slot IsSlot (Moves GatedMoves gated_counts) gated_counts (Moves SlotMoves slot_counts) slot_counts keeps_slot gate.opening log (slot_there gs slot gate kinds at) legal
 
-pub accepts_registry : (gs : List (Gateway Gated)) (call : RegistryCall) → AreByKind gs → AcceptsAt (Moves GatedMoves gated_counts) Accepts 0 gs (asked.Registry call)
+accepts_registry : (gs : List (Gateway Gated)) (call : RegistryCall) → AreByKind gs → AcceptsAt (Moves GatedMoves gated_counts) Accepts 0 gs (asked.Registry call)
 accepts_registry gs call kinds gate at log legal = is_after as_registry IsRegistry (Moves GatedMoves gated_counts) gated_counts (Moves RegistryMoves registry_counts) registry_counts keeps_registry gate.opening log (registry_there gs gate kinds at) legal
 
-pub accepts_pool : (gs : List (Gateway Gated)) (call : PoolCall) → AreByKind gs → AcceptsAt (Moves GatedMoves gated_counts) Accepts 1 gs (asked.Pool call)
+accepts_pool : (gs : List (Gateway Gated)) (call : PoolCall) → AreByKind gs → AcceptsAt (Moves GatedMoves gated_counts) Accepts 1 gs (asked.Pool call)
 accepts_pool gs call kinds gate at log legal = is_after as_pool IsPool (Moves GatedMoves gated_counts) gated_counts (Moves PoolMoves pool_counts) pool_counts keeps_pool gate.opening log (pool_there gs gate kinds at) legal
+
+-- each object is asked what its kind is asked
+pub accepts_call : (gs : List (Gateway Gated)) (call : ObjectCall) → AreByKind gs → AcceptsAt (Moves GatedMoves gated_counts) Accepts (place_of call) gs call
+accepts_call gs (asked.Slot call) = accepts_slot gs (slot_asked call) call
+accepts_call gs (asked.Registry call) = accepts_registry gs call
+accepts_call gs (asked.Pool call) = accepts_pool gs call
 
 -- ---- what changes at a place
 

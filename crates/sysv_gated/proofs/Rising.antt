@@ -20,9 +20,6 @@ at_most_one false = omega arith
 
 -- ---- a slot
 
-pub slot_turn_to : {was now new : Slot} {call : Call} {reply : Reply} → SlotMakesTurn was call reply new → now ≡ new → (c : Call) × (r : Reply) × SlotMakesTurn was c r now
-slot_turn_to {was} {now} {new} {call} {reply} turn is = (call, reply, subst (λ s. SlotMakesTurn was call reply s) (sym is) turn)
-
 module _ (before after : Slot) (call : Call) (reply : Reply) (stands : SlotStands before) (turn : SlotMakesTurn before call reply after) where
   abbrev pub slot_stands : SlotStands after
   slot_stands = (then_turn stands.0 (Actor 0 0) call reply, turn.stands stands.0 (Actor 0 0) stands.1)
@@ -51,9 +48,6 @@ module _ (before after : Slot) (call : Call) (reply : Reply) (stands : SlotStand
 
 -- ---- the registry
 
-pub registry_turn_to : {was now new : Registry} {call : RegistryCall} {reply : RegistryReply} → RegistryMakesTurn was call reply new → now ≡ new → (c : RegistryCall) × (r : RegistryReply) × RegistryMakesTurn was c r now
-registry_turn_to {was} {now} {new} {call} {reply} turn is = (call, reply, subst (λ s. RegistryMakesTurn was call reply s) (sym is) turn)
-
 module _ (before after : Registry) (call : RegistryCall) (reply : RegistryReply) (stands : RegistryStands before) (turn : RegistryMakesTurn before call reply after) where
   abbrev pub registry_stands : RegistryStands after
   registry_stands = (stands.0, stands.1 ++ record { who = Actor 0 0; call = call; reply = reply } ∷ [], turn.stands stands.0 stands.1 (Actor 0 0) stands.2)
@@ -71,9 +65,6 @@ module _ (before after : Registry) (call : RegistryCall) (reply : RegistryReply)
   registry_rises = (settles.0, settles.1, omega arith, omega arith)
 
 -- ---- the pool
-
-pub pool_turn_to : {was now new : State} {call : PoolCall} {reply : PoolReply} → PoolMakesTurn was call reply new → now ≡ new → (c : PoolCall) × (r : PoolReply) × PoolMakesTurn was c r now
-pool_turn_to {was} {now} {new} {call} {reply} turn is = (call, reply, subst (λ s. PoolMakesTurn was call reply s) (sym is) turn)
 
 module _ (before after : State) (call : PoolCall) (reply : PoolReply) (stands : PoolStands before) (turn : PoolMakesTurn before call reply after) where
   abbrev pub pool_stands : PoolStands after

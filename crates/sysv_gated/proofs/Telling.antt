@@ -16,8 +16,8 @@ use Rattle.sysv_gate.specs.Gates.{Holding, Learns, read_to, marked}
 use Rattle.sysv_gate.specs.Waits.{Waited, WaitedWithin}
 use Rattle.sysv_bank.specs.Banks.{gates_of, ChangesAt, EachKnowsItsOwn}
 use Rattle.sysv_gated.specs.declared.kinds.Gated.{Gated}
-use Rattle.sysv_gated.specs.declared.kinds.GatedCall.{GatedCall}
-use Rattle.sysv_gated.specs.declared.kinds.GatedReply.{GatedReply}
+use Rattle.sysv_turns.specs.declared.object.ObjectCall.{ObjectCall}
+use Rattle.sysv_turns.specs.declared.object.ObjectReply.{ObjectReply}
 use Rattle.sysv_turns.specs.declared.slot.SlotCall.{SlotCall}
 use Rattle.sysv_turns.specs.declared.slot.SlotReply.{SlotReply}
 use Rattle.sysv_turns.specs.declared.registry.RegistryCall.{RegistryCall}
@@ -41,7 +41,7 @@ use Rattle.sysv_gated.proofs.Placing.{Mark, changes_slot, changes_registry, chan
 
 -- ---- at any place, whose change is seen as T
 
-module _ {O' C' R' : Type 0} (kind : Kind Gated GatedCall GatedReply O' C' R') (Is : Gated → Type 0) (counted' : O' → ℕ × ℕ) (place : ℕ) (before after : List Mark) (T : (Holding O' C' R' → Holding O' C' R' → Type 0) → Type 0)
+module _ {O' C' R' : Type 0} (kind : Kind Gated ObjectCall ObjectReply O' C' R') (Is : Gated → Type 0) (counted' : O' → ℕ × ℕ) (place : ℕ) (before after : List Mark) (T : (Holding O' C' R' → Holding O' C' R' → Type 0) → Type 0)
     (seen : (how : Mark → Mark → Type 0) (how' : Holding O' C' R' → Holding O' C' R' → Type 0) → ((b a : Mark) → get_elem? before place ≡ some b → Is b.gate.opening → how b a → how' (seat_as kind b) (seat_as kind a)) → ChangesAt place before after how → T how')
     (learn : (count : Count) (b : Mark) (n : ℕ) → get_elem? before place ≡ some b → Is b.gate.opening → Learns gated_counts count b n → Learns counted' count (seat_as kind b) n) where
   abbrev Finding : Count → ℕ → Mark → Mark → Type 0

@@ -5,8 +5,8 @@ use Rattle.sysv_crew.specs.Members.{Member}
 use Rattle.sysv_bank.specs.Banks.{gates_of}
 use Rattle.sysv_gate.specs.Gates.{Gateway, Holding, opened}
 use Rattle.sysv_gated.specs.declared.kinds.Gated.{Gated}
-use Rattle.sysv_gated.specs.declared.kinds.GatedCall.{GatedCall}
-use Rattle.sysv_gated.specs.declared.kinds.GatedReply.{GatedReply}
+use Rattle.sysv_turns.specs.declared.object.ObjectCall.{ObjectCall}
+use Rattle.sysv_turns.specs.declared.object.ObjectReply.{ObjectReply}
 use Rattle.sysv_gated.specs.Order.{GatedPass, member_of}
 use Rattle.sysv_gated.specs.Kinds.{gate_as, seat_as}
 use Rattle.sysv_gated.specs.Gated.{IsSlot, IsRegistry, IsPool, as_slot, as_registry, as_pool}
@@ -33,22 +33,22 @@ no_gates = record {
   pool = record { table = no_table; opening = record { size = 0; free = 0; released = 0 }; first = 0 };
 }
 
-abbrev pub slot_seats : List (Holding Gated GatedCall GatedReply) → List SlotSeat
+abbrev pub slot_seats : List (Holding Gated ObjectCall ObjectReply) → List SlotSeat
 slot_seats [] = []
 slot_seats (r ∷ []) = []
 slot_seats (r ∷ p ∷ ss) = map (seat_as as_slot) ss
 
-abbrev pub registry_seat : List (Holding Gated GatedCall GatedReply) → RegistrySeat
+abbrev pub registry_seat : List (Holding Gated ObjectCall ObjectReply) → RegistrySeat
 registry_seat [] = opened no_gates.registry
 registry_seat (r ∷ []) = opened no_gates.registry
 registry_seat (r ∷ p ∷ ss) = seat_as as_registry r
 
-abbrev pub pool_seat : List (Holding Gated GatedCall GatedReply) → PoolSeat
+abbrev pub pool_seat : List (Holding Gated ObjectCall ObjectReply) → PoolSeat
 pool_seat [] = opened no_gates.pool
 pool_seat (r ∷ []) = opened no_gates.pool
 pool_seat (r ∷ p ∷ ss) = seat_as as_pool p
 
-abbrev pub seats_at : List (Holding Gated GatedCall GatedReply) → Member → Seats
+abbrev pub seats_at : List (Holding Gated ObjectCall ObjectReply) → Member → Seats
 seats_at seats member = record { slots = slot_seats seats; registry = registry_seat seats; pool = pool_seat seats; member = member }
 
 abbrev pub gates_seen : List (Gateway Gated) → Gates

@@ -1,6 +1,6 @@
 -- The slots, the registry and the pool as objects of one bank: what their turns are, and how each kind is seen by itself
 -- (this profile's).
-use Rattle.std.specs.Prelude.{ℕ, pos, true, None, [], ⊤}
+use Rattle.std.specs.Prelude.{ℕ, ◌+◌, pos, true, None, [], ⊤}
 use Rattle.sysv_queue.specs.Slot.{Slot}
 use Rattle.sysv_keys.specs.StandsFor.{Registry}
 use Rattle.sysv_pool.specs.State.{State}
@@ -19,11 +19,11 @@ use Rattle.sysv_turns.specs.declared.pool.PoolReply.{PoolReply}
 use Rattle.sysv_turns.specs.declared.pool.PoolReply.TheVariants.{Reserved}
 use Rattle.sysv_gated.specs.declared.kinds.Gated.{Gated}
 use Rattle.sysv_gated.specs.declared.kinds.Gated.TheVariants as gated
-use Rattle.sysv_gated.specs.declared.kinds.GatedCall.{GatedCall}
-use Rattle.sysv_gated.specs.declared.kinds.GatedCall.TheVariants as asked
-use Rattle.sysv_gated.specs.declared.kinds.GatedReply.{GatedReply}
-use Rattle.sysv_gated.specs.declared.kinds.GatedReply.TheVariants as told
-use Rattle.sysv_turns.specs.SlotTurns.{SlotMoves}
+use Rattle.sysv_turns.specs.declared.object.ObjectCall.{ObjectCall}
+use Rattle.sysv_turns.specs.declared.object.ObjectCall.TheVariants as asked
+use Rattle.sysv_turns.specs.declared.object.ObjectReply.{ObjectReply}
+use Rattle.sysv_turns.specs.declared.object.ObjectReply.TheVariants as told
+use Rattle.sysv_turns.specs.SlotTurns.{slot_asked, SlotMoves}
 use Rattle.sysv_gated.specs.Counts.{slot_counts}
 use Rattle.sysv_turns.specs.RegistryTurns.{RegistryMoves}
 use Rattle.sysv_gated.specs.Counts.{registry_counts}
@@ -48,36 +48,6 @@ IsPool (gated.Slot slot) = ⊥
 IsPool (gated.Registry registry) = ⊥
 IsPool (gated.Pool pool) = ⊤
 
-abbrev pub IsSlotCall : GatedCall → Type 0
-IsSlotCall (asked.Slot call) = ⊤
-IsSlotCall (asked.Registry call) = ⊥
-IsSlotCall (asked.Pool call) = ⊥
-
-abbrev pub IsRegistryCall : GatedCall → Type 0
-IsRegistryCall (asked.Slot call) = ⊥
-IsRegistryCall (asked.Registry call) = ⊤
-IsRegistryCall (asked.Pool call) = ⊥
-
-abbrev pub IsPoolCall : GatedCall → Type 0
-IsPoolCall (asked.Slot call) = ⊥
-IsPoolCall (asked.Registry call) = ⊥
-IsPoolCall (asked.Pool call) = ⊤
-
-abbrev pub IsSlotReply : GatedReply → Type 0
-IsSlotReply (told.Slot reply) = ⊤
-IsSlotReply (told.Registry reply) = ⊥
-IsSlotReply (told.Pool reply) = ⊥
-
-abbrev pub IsRegistryReply : GatedReply → Type 0
-IsRegistryReply (told.Slot reply) = ⊥
-IsRegistryReply (told.Registry reply) = ⊤
-IsRegistryReply (told.Pool reply) = ⊥
-
-abbrev pub IsPoolReply : GatedReply → Type 0
-IsPoolReply (told.Slot reply) = ⊥
-IsPoolReply (told.Registry reply) = ⊥
-IsPoolReply (told.Pool reply) = ⊤
-
 -- ---- one kind by itself. What is of another kind is seen as something of this one, of which nothing is said
 
 abbrev pub slot_in : Gated → Slot
@@ -85,12 +55,12 @@ slot_in (gated.Slot slot) = slot
 slot_in (gated.Registry registry) = record { live = None; messages = []; arrived = 0; freed = 0 }
 slot_in (gated.Pool pool) = record { live = None; messages = []; arrived = 0; freed = 0 }
 
-abbrev pub slot_call_in : GatedCall → SlotCall
+abbrev pub slot_call_in : ObjectCall → SlotCall
 slot_call_in (asked.Slot call) = call
-slot_call_in (asked.Registry call) = Ask Row
-slot_call_in (asked.Pool call) = Ask Row
+slot_call_in (asked.Registry call) = Ask (Row 0)
+slot_call_in (asked.Pool call) = Ask (Row 0)
 
-abbrev pub slot_reply_in : GatedReply → SlotReply
+abbrev pub slot_reply_in : ObjectReply → SlotReply
 slot_reply_in (told.Slot reply) = reply
 slot_reply_in (told.Registry reply) = Shown None
 slot_reply_in (told.Pool reply) = Shown None
@@ -100,12 +70,12 @@ registry_in (gated.Slot slot) = record { places = []; settled = 0 }
 registry_in (gated.Registry registry) = registry
 registry_in (gated.Pool pool) = record { places = []; settled = 0 }
 
-abbrev pub registry_call_in : GatedCall → RegistryCall
+abbrev pub registry_call_in : ObjectCall → RegistryCall
 registry_call_in (asked.Slot call) = Settle (pos 0)
 registry_call_in (asked.Registry call) = call
 registry_call_in (asked.Pool call) = Settle (pos 0)
 
-abbrev pub registry_reply_in : GatedReply → RegistryReply
+abbrev pub registry_reply_in : ObjectReply → RegistryReply
 registry_reply_in (told.Slot reply) = Changed true
 registry_reply_in (told.Registry reply) = reply
 registry_reply_in (told.Pool reply) = Changed true
@@ -115,44 +85,50 @@ pool_in (gated.Slot slot) = record { size = 0; free = 0; released = 0 }
 pool_in (gated.Registry registry) = record { size = 0; free = 0; released = 0 }
 pool_in (gated.Pool pool) = pool
 
-abbrev pub pool_call_in : GatedCall → PoolCall
+abbrev pub pool_call_in : ObjectCall → PoolCall
 pool_call_in (asked.Slot call) = Reserve 0
 pool_call_in (asked.Registry call) = Reserve 0
 pool_call_in (asked.Pool call) = call
 
-abbrev pub pool_reply_in : GatedReply → PoolReply
+abbrev pub pool_reply_in : ObjectReply → PoolReply
 pool_reply_in (told.Slot reply) = Reserved None
 pool_reply_in (told.Registry reply) = Reserved None
 pool_reply_in (told.Pool reply) = reply
 
-abbrev pub as_slot : Kind Gated GatedCall GatedReply Slot SlotCall SlotReply
+abbrev pub as_slot : Kind Gated ObjectCall ObjectReply Slot SlotCall SlotReply
 as_slot = record { object = slot_in; call = slot_call_in; reply = slot_reply_in }
 
-abbrev pub as_registry : Kind Gated GatedCall GatedReply Registry RegistryCall RegistryReply
+abbrev pub as_registry : Kind Gated ObjectCall ObjectReply Registry RegistryCall RegistryReply
 as_registry = record { object = registry_in; call = registry_call_in; reply = registry_reply_in }
 
-abbrev pub as_pool : Kind Gated GatedCall GatedReply State PoolCall PoolReply
+abbrev pub as_pool : Kind Gated ObjectCall ObjectReply State PoolCall PoolReply
 as_pool = record { object = pool_in; call = pool_call_in; reply = pool_reply_in }
 
 -- ---- turns
 
 -- an object is asked what its kind is asked
-abbrev pub Accepts : Gated → GatedCall → Type 0
+abbrev pub Accepts : Gated → ObjectCall → Type 0
 Accepts object (asked.Slot call) = IsSlot object
 Accepts object (asked.Registry call) = IsRegistry object
 Accepts object (asked.Pool call) = IsPool object
 
 -- the call and the reply are of one kind, and an object of this kind makes the turn and stays of the kind
-abbrev pub makes : GatedCall → GatedReply → Gated → Gated → Type 0
+abbrev pub makes : ObjectCall → ObjectReply → Gated → Gated → Type 0
 makes (asked.Slot call) (told.Slot reply) before after = IsSlot before × IsSlot after × SlotMoves (slot_in before) call reply (slot_in after)
 makes (asked.Registry call) (told.Registry reply) before after = IsRegistry before × IsRegistry after × RegistryMoves (registry_in before) call reply (registry_in after)
 makes (asked.Pool call) (told.Pool reply) before after = IsPool before × IsPool after × PoolMoves (pool_in before) call reply (pool_in after)
 makes call reply before after = ⊥
 
-abbrev pub GatedMoves : Gated → GatedCall → GatedReply → Gated → Type 0
+abbrev pub GatedMoves : Gated → ObjectCall → ObjectReply → Gated → Type 0
 GatedMoves before call reply after = makes call reply before after
 
 abbrev pub gated_counts : Gated → ℕ × ℕ
 gated_counts (gated.Slot slot) = slot_counts slot
 gated_counts (gated.Registry registry) = registry_counts registry
 gated_counts (gated.Pool pool) = pool_counts pool
+
+-- the place in the bank of the object that is asked
+abbrev pub place_of : ObjectCall → ℕ
+place_of (asked.Slot call) = slot_asked call + 2
+place_of (asked.Registry call) = 0
+place_of (asked.Pool call) = 1

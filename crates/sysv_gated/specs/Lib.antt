@@ -5,15 +5,12 @@ pub use Rattle.sysv_model.specs.History
 pub use Rattle.sysv_model.specs.Registry
 pub use Rattle.sysv_model.specs.Pool
 pub use Rattle.sysv_model.specs.Turn
-pub mod SlotTurns
-pub mod RegistryTurns
-pub mod PoolTurns
+pub mod Counts
 pub mod Kinds
 pub mod Gated
 pub mod Order
 pub mod Seats
 pub mod Banked
-pub mod Answered
 pub mod Reading
 pub mod Opened
 pub mod Fresh

@@ -12,8 +12,8 @@ use Rattle.sysv_gate.specs.Orders.{turns_at}
 use Rattle.sysv_bank.specs.Passes.{Pass}
 use Rattle.sysv_gated.specs.declared.kinds.Gated.{Gated}
 use Rattle.sysv_gated.specs.declared.kinds.Gated.TheVariants as gated
-use Rattle.sysv_gated.specs.declared.kinds.GatedCall.{GatedCall}
-use Rattle.sysv_gated.specs.declared.kinds.GatedReply.{GatedReply}
+use Rattle.sysv_turns.specs.declared.object.ObjectCall.{ObjectCall}
+use Rattle.sysv_turns.specs.declared.object.ObjectReply.{ObjectReply}
 use Rattle.sysv_turns.specs.SlotTurns.{slot_call, slot_reply}
 use Rattle.sysv_turns.specs.RegistryTurns.{registry_call, registry_reply}
 use Rattle.sysv_turns.specs.PoolTurns.{pool_call, pool_reply}
@@ -21,13 +21,13 @@ use Rattle.sysv_gated.specs.Gated.{slot_in, slot_call_in, slot_reply_in, registr
 
 -- a turn at an object of the bank, one at a place of it, and a pass
 abbrev pub GatedTurn : Type 0
-GatedTurn = Turn Gated GatedCall GatedReply
+GatedTurn = Turn Gated ObjectCall ObjectReply
 
 abbrev pub GatedPlaced : Type 0
-GatedPlaced = Placed Gated GatedCall GatedReply
+GatedPlaced = Placed Gated ObjectCall ObjectReply
 
 abbrev pub GatedPass : Type 0
-GatedPass = Pass Gated GatedCall GatedReply
+GatedPass = Pass Gated ObjectCall ObjectReply
 
 -- ---- the order
 

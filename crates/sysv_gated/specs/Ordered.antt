@@ -14,8 +14,8 @@ use Rattle.sysv_bank.specs.Banks.{gates_of, ChangesAt}
 use Rattle.sysv_bank.specs.Passes.{GoesOn, AddsToOrder, SplitsOff, JoinsOrders}
 use Rattle.sysv_bank.specs.Closing.{ClosesInOrder}
 use Rattle.sysv_gated.specs.declared.kinds.Gated.{Gated}
-use Rattle.sysv_gated.specs.declared.kinds.GatedCall.{GatedCall}
-use Rattle.sysv_gated.specs.declared.kinds.GatedReply.{GatedReply}
+use Rattle.sysv_turns.specs.declared.object.ObjectCall.{ObjectCall}
+use Rattle.sysv_turns.specs.declared.object.ObjectReply.{ObjectReply}
 use Rattle.sysv_gated.specs.Gated.{GatedMoves, gated_counts}
 use Rattle.sysv_gated.specs.Opened.{AreOpen}
 use Rattle.sysv_gated.specs.Banked.{AreByKind, gates_seen}
@@ -26,12 +26,12 @@ abbrev pub deed_added : (gates : List (Gateway Gated)) (place : ℕ) (before aft
 deed_added gates place before after adds = deed_at place (object_at gates place (before.order ++ adds.others)) adds.turn
 
 -- the object at the place has answered so, in a turn of the pass's own
-abbrev pub AnswersAt : ℕ → GatedPass → GatedCall → GatedReply → GatedPass → Type 0
+abbrev pub AnswersAt : ℕ → GatedPass → ObjectCall → ObjectReply → GatedPass → Type 0
 AnswersAt place before call reply after =
     ChangesAt place before.seats after.seats (λ b a. Answers (Moves GatedMoves gated_counts) gated_counts b call reply a × (b.worn ≡ false))
 
 -- and that turn in the world
-abbrev pub deed_answered : (place : ℕ) (before : GatedPass) (call : GatedCall) (reply : GatedReply) (after : GatedPass) → AnswersAt place before call reply after → Deed
+abbrev pub deed_answered : (place : ℕ) (before : GatedPass) (call : ObjectCall) (reply : ObjectReply) (after : GatedPass) → AnswersAt place before call reply after → Deed
 deed_answered place before call reply after c =
     let a = c.change.0 in
     deed_at place (after_all c.was.gate.opening (c.was.seen ++ a.others)) (record { by = c.was.number; call = call; reply = reply; after = a.object })
@@ -49,7 +49,7 @@ pub record OrdersAreOfCrews : Type 0 where
   pub makes : (gates : List (Gateway Gated)) (place : ℕ) (before after : GatedPass) (adds : AddsToOrder place before after) →
       MakesTurn (member_of gates before) (deed_added gates place before after adds) (member_of gates after)
   -- the turn that was added is the one that was answered
-  pub answered : (place : ℕ) (before after : GatedPass) (call : GatedCall) (reply : GatedReply) (adds : AddsToOrder place before after) (c : AnswersAt place before call reply after) →
+  pub answered : (place : ℕ) (before after : GatedPass) (call : ObjectCall) (reply : ObjectReply) (adds : AddsToOrder place before after) (c : AnswersAt place before call reply after) →
       deed_added (gates_of before.seats) place before after adds ≡ deed_answered place before call reply after c
   pub splits : (gates : List (Gateway Gated)) (before kept new : GatedPass) → SplitsOff before kept new →
       Splits (member_of gates before) (member_of gates kept) (member_of gates new)

@@ -16,10 +16,6 @@ pub(crate) const POOL: usize = 1;
 /// The place of slot 0. The others follow it.
 pub(crate) const FIRST_SLOT: usize = 2;
 
-/// The gate is worn out: its tickets have reached 2^62, and no turn was made.
-#[derive(Clone, Copy, PartialEq, Eq, Debug)]
-pub struct Worn;
-
 /// The slots of the queues, each under its number, the registry and the pool, each behind a gate of its own. All turns at
 /// all of them have one order. Threads share them by reference, and each takes turns with seats of its own. A call on an
 /// identifier goes to the slot that its number tells, whether a queue lives under it or not. Each call waits for its turn.

@@ -2,14 +2,11 @@
 //! has seen a history of each, and each turn of its own extends it.
 #![tactic(auto)]
 
-mod at_pool;
-mod at_registry;
-mod at_slot;
 mod counts;
 mod gates;
 mod kinds;
 mod laws;
-mod letter;
+mod making;
 mod opening;
 mod pool;
 mod registry;
@@ -17,13 +14,13 @@ mod seats;
 mod sharing;
 mod slot;
 
-pub use gates::{Gates, Worn};
+pub use gates::Gates;
 pub use laws::{
     each_seat_obeys, orders_are_of_crews, own_turns_are_last, seen_histories, seen_histories_obey,
 };
-pub use letter::Letter;
+pub use making::AtGates;
 pub use opening::{GatesClosed, OpenRefused};
-pub use pool::{GatedPool, PoolCall, PoolReply, TextSize};
-pub use registry::{GatedRegistry, RegistryCall, RegistryReply};
+pub use pool::GatedPool;
+pub use registry::GatedRegistry;
 pub use seats::Seats;
-pub use slot::{GatedSlot, SlotAsk, SlotCall, SlotReply};
+pub use slot::GatedSlot;

@@ -1,14 +1,14 @@
 //! The pool of blocks, as an object that a gate serves.
 
-ghost use Rattle.std.specs.Prelude.{◌≡◌, ◌≤◌, []};
+ghost use Rattle.std.specs.Prelude.{◌≡◌, []};
 ghost use Rattle.sysv_pool.specs.StandsFor.{StandsFor};
-ghost use Rattle.sysv_model.specs.declared.limits.TheConstants.{MESSAGE_BYTES as most_bytes};
 ghost use Rattle.sysv_turns.specs.PoolTurns.{PoolMoves};
 ghost use Rattle.sysv_gated.specs.Counts.{pool_counts};
 
 use std::marker::Model;
 use sysv_gate::Object;
-use sysv_pool::{Chain, Pool};
+use sysv_pool::Pool;
+use sysv_turns::{PoolCall, PoolReply};
 
 /// The pool behind a gate. It can't be dropped: it ends by `into_pool`.
 pub struct GatedPool {
@@ -54,11 +54,7 @@ impl Object for GatedPool {
     ghost counted = { pool_counts };
 
     fn apply(&mut self, call: PoolCall) -> PoolReply {
-        let pool = &mut self.pool;
-        match call {
-            PoolCall::Reserve(size) => PoolReply::Reserved(pool.reserve(size.bytes())),
-            PoolCall::Release(chain) => PoolReply::Released(pool.release(chain)),
-        }
+        call.make(&mut self.pool)
     }
 
     fn counts(&self) -> (u64, u64) {

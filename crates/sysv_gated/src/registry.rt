@@ -7,8 +7,8 @@ ghost use Rattle.sysv_gated.specs.Counts.{registry_counts};
 
 use std::marker::Model;
 use sysv_gate::Object;
-use sysv_keys::{Begun, Registry};
-use sysv_model::Flags;
+use sysv_keys::Registry;
+use sysv_turns::{RegistryCall, RegistryReply};
 
 /// The registry behind a gate.
 #[derive(Drop)]
@@ -47,14 +47,7 @@ impl Object for GatedRegistry {
     ghost counted = { registry_counts };
 
     fn apply(&mut self, call: RegistryCall) -> RegistryReply {
-        let registry = &mut self.registry;
-        match call {
-            RegistryCall::Begin { key, flags } => {
-                RegistryReply::Begun(registry.begin(key, flags))
-            }
-            RegistryCall::Settle { id } => RegistryReply::Changed(registry.settle(id)),
-            RegistryCall::Forget { id } => RegistryReply::Changed(registry.forget(id)),
-        }
+        call.make(&mut self.registry)
     }
 
     fn counts(&self) -> (u64, u64) {

@@ -1,16 +1,14 @@
 //! A slot of a queue, as an object that a gate serves.
 
-ghost use Rattle.std.specs.Prelude.{◌≡◌, ◌^◌, []};
+ghost use Rattle.std.specs.Prelude.{◌≡◌, []};
 ghost use Rattle.sysv_queue.specs.StandsFor.{StandsFor};
-ghost use Rattle.sysv_gate.specs.History.{RiseByOneAtMost, AreBelow};
 ghost use Rattle.sysv_turns.specs.SlotTurns.{SlotMoves};
 ghost use Rattle.sysv_gated.specs.Counts.{slot_counts};
 
-use crate::letter::Letter;
 use std::marker::Model;
 use sysv_gate::Object;
-use sysv_model::{Cred, Errno, Flags, Row, Selector, SetTo, Stat};
-use sysv_queue::{Discarded, Look, PlaceRefused, Probe, QueueSlot, TakeRefused, Taken};
+use sysv_queue::QueueSlot;
+use sysv_turns::{SlotCall, SlotReply};
 
 /// A slot behind a gate. It can't be dropped: it ends by `into_slot`.
 pub struct GatedSlot {
@@ -56,22 +54,7 @@ impl Object for GatedSlot {
     ghost counted = { slot_counts };
 
     fn apply(&mut self, call: SlotCall) -> SlotReply {
-        match call {
-            SlotCall::Ask(ask) => self.answer(ask),
-            SlotCall::Place {
-                id,
-                cred,
-                mtype,
-                letter,
-                now,
-            } => {
-                let size = letter.size();
-                SlotReply::Placed(
-                    self.slot
-                        .place(id, cred, mtype, letter.into_chain(), size, now),
-                )
-            }
-        }
+        call.make(&mut self.slot)
     }
 
     fn counts(&self) -> (u64, u64) {

@@ -14,7 +14,8 @@ use Rattle.sysv_wire.specs.declared.frame.Version.{Version}
 use Rattle.sysv_wire.specs.declared.request.Ask.{Ask}
 use Rattle.sysv_wire.specs.declared.request.Ask.TheVariants.{Hello, Get, Snd, Rcv, Stat, Set, Rm, Row}
 use Rattle.sysv_service.specs.Life.{EachRunIsAtAnyMoment, call_of}
-use Rattle.sysv_service.specs.Ran.{Pass, Ran, no_moment}
+use Rattle.sysv_driver.specs.Stepping.{no_moment}
+use Rattle.sysv_service.specs.Ran.{Pass, Ran}
 use Rattle.sysv_service.specs.Working as working
 use Rattle.sysv_service.specs.Working.{Works}
 use Rattle.sysv_kernel.specs.Asked.{Asks, asks_with}

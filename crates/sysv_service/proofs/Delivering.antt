@@ -14,8 +14,10 @@ use Rattle.sysv_steps.specs.declared.ending.Ending.{Ending as EndingKept}
 use Rattle.sysv_steps.specs.Asks.{asks}
 use Rattle.sysv_steps.specs.Next.{next}
 use Rattle.sysv_gated.specs.Seats.{MakesTurnAt}
-use Rattle.sysv_service.specs.Ran.{Pass, is_stamped, left_by, steps, turns_back, Comes, StepsOn}
-use Rattle.sysv_service.specs.Delivered.{TakesGiven, HaveTaken, HasWhatItGives, HasGiven, StepsGiving, ComesGiving}
+use Rattle.sysv_driver.specs.Stepping.{is_stamped, left_by}
+use Rattle.sysv_service.specs.Ran.{Pass, steps, turns_back, Comes, StepsOn}
+use Rattle.sysv_driver.specs.Giving.{TakesGiven, HaveTaken, HasWhatItGives}
+use Rattle.sysv_service.specs.Delivered.{HasGiven, StepsGiving, ComesGiving}
 use Rattle.sysv_service.proofs.Staying.{GivesNothing}
 
 has_more : (given : Given) (deeds more : List Deed) → HaveTaken given deeds → HaveTaken given (deeds ++ more)

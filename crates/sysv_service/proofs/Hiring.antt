@@ -15,7 +15,8 @@ use Rattle.sysv_service.specs.Hiring.{first_pass, Gives, TakesIn, all_of, EveryH
 use Rattle.sysv_service.specs.Life as life
 use Rattle.sysv_service.specs.Life.{any_moment, EachRunIsAtAnyMoment, call_of, Lives, EveryServiceObeys}
 use Rattle.sysv_service.specs.Marks.{IsUnmarked}
-use Rattle.sysv_service.specs.Ran.{Pass, no_moment}
+use Rattle.sysv_driver.specs.Stepping.{no_moment}
+use Rattle.sysv_service.specs.Ran.{Pass}
 use Rattle.sysv_service.specs.Stopped as stop
 use Rattle.sysv_service.specs.Stopped.{Stops, StopsAt, removed_by, superuser}
 use Rattle.sysv_service.specs.Working as working

@@ -16,7 +16,8 @@ use Rattle.sysv_free.specs.Order.{Called, is_in_call_of, deeds_by, deeds_in}
 use Rattle.sysv_free.specs.OrderIsRun.{Renamed, renamed_turn}
 use Rattle.sysv_free.specs.Crew.{IsServed}
 use Rattle.sysv_gated.specs.Seats.{Gates}
-use Rattle.sysv_service.specs.Ran.{Pass, left_by, Ran, FindsTurns, begins, steps, turns_back, reads, resumes, gives_up}
+use Rattle.sysv_driver.specs.Stepping.{left_by}
+use Rattle.sysv_service.specs.Ran.{Pass, Ran, FindsTurns, begins, steps, turns_back, reads, resumes, gives_up}
 use Rattle.sysv_service.specs.Told.{TellsRow}
 use Rattle.sysv_service.specs.Life as life
 use Rattle.sysv_service.specs.Life.{any_moment, call_of, Lives}

@@ -10,7 +10,8 @@ use Rattle.sysv_steps.specs.Asks.{asks}
 use Rattle.sysv_steps.specs.Next.{next}
 use Rattle.sysv_gated.specs.Seats.{Seats, MakesTurnAt, FindsWorn}
 use Rattle.sysv_gated.specs.Reading.{Reads}
-use Rattle.sysv_service.specs.Ran.{Pass, is_stamped, left_by, TurnsBack, begins, steps, turns_back, reads, resumes, gives_up, Comes, StepsOn, no_moment}
+use Rattle.sysv_driver.specs.Stepping.{is_stamped, left_by, no_moment}
+use Rattle.sysv_service.specs.Ran.{Pass, TurnsBack, begins, steps, turns_back, reads, resumes, gives_up, Comes, StepsOn}
 use Rattle.sysv_steps.specs.Resume.{Count, awaited}
 use Rattle.sysv_service.specs.Waited.{EndsWait, GivesBack}
 

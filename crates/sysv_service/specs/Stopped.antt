@@ -7,7 +7,8 @@ use Rattle.sysv_model.specs.declared.errno.Errno.TheVariants.{EOVERFLOW}
 use Rattle.sysv_steps.specs.Call.{MsgctlRmid}
 use Rattle.sysv_steps.specs.Begin.{begin}
 use Rattle.sysv_steps.specs.State.{Ending, Zero, Refused, Over}
-use Rattle.sysv_service.specs.Ran.{Pass, Comes, no_moment}
+use Rattle.sysv_driver.specs.Stepping.{no_moment}
+use Rattle.sysv_service.specs.Ran.{Pass, Comes}
 use Rattle.sysv_service.specs.Told.{TellsRow}
 
 -- who may remove every queue

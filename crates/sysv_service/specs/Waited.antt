@@ -1,15 +1,10 @@
--- How a wait of a call ends, and how a chain is given back (this profile's).
-use Rattle.std.specs.Prelude.{◌≡◌, ℕ, ◌^◌, ◌-◌, ◌<◌, ◌≤◌, ◌⊎◌, ◌+◌, min, Result, ⊤}
+-- How a wait of a call ends (this profile's).
+use Rattle.std.specs.Prelude.{◌≡◌, ℕ, ◌^◌, ◌-◌, ◌<◌, ◌≤◌, ◌⊎◌, min}
 use Rattle.sysv_steps.specs.State.{Wait, State, Goes, Waits, Over, Refused}
 use Rattle.sysv_model.specs.declared.errno.Errno.TheVariants.{EOVERFLOW}
 use Rattle.sysv_steps.specs.Resume.{awaited, goal_of, resume}
 use Rattle.sysv_gated.specs.Reading.{Reads, GivesUp}
-use Rattle.sysv_gated.specs.Seats.{FindsWorn}
-use Rattle.sysv_model.specs.Pool.{Release}
-use Rattle.sysv_model.specs.Turn.{AtPool, OfPool}
-use Rattle.sysv_pool.specs.Chain.{Chained}
-use Rattle.sysv_pool.specs.Replies.{release_reply}
-use Rattle.sysv_service.specs.Ran.{Pass, Makes}
+use Rattle.sysv_service.specs.Ran.{Pass}
 
 -- the goal, as a number of 64 bits
 abbrev pub goal_seen : ℕ → ℕ
@@ -21,9 +16,3 @@ EndsWait wait before state after =
     ((value : ℕ) × Reads (awaited wait) value before.seats after.seats × (after.held ≡ before.held)
     × (((goal_of wait ≤ value) × (state ≡ Goes (resume wait value))) ⊎ (state ≡ Waits wait)))
     ⊎ ((value : ℕ) × (value < goal_of wait) × GivesUp (awaited wait) value before.seats after.seats × (after.held ≡ before.held) × (state ≡ Over (Refused EOVERFLOW)))
-
--- the chain went back to the pool, or the pool refused it or its gate is worn out, and the pass keeps it
-abbrev pub GivesBack : ℕ → Pass → Pass → Type 0
-GivesBack blocks before after =
-    ((done : Result ⊤ Chained) × Makes before (AtPool (Release blocks) (release_reply done)) after)
-    ⊎ (FindsWorn before.seats (OfPool (Release blocks)) after.seats × (after.held ≡ before.held + blocks))

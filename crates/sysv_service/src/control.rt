@@ -6,8 +6,9 @@ ghost use Rattle.sysv_steps.specs.Begin.{begin as begins};
 ghost use Rattle.sysv_steps.specs.State.{Goes, Over, Ending as Ends};
 ghost use Rattle.sysv_steps.specs.Seen.{phase_of, state_of, ending_of};
 ghost use Rattle.sysv_gated.specs.Seats.{AreOf};
-ghost use Rattle.sysv_service.specs.Ran.{StepsOn, no_moment, Comes};
-ghost use Rattle.sysv_service.specs.Kinds.{Stats, Sets, Removes};
+ghost use Rattle.sysv_driver.specs.Stepping.{no_moment};
+ghost use Rattle.sysv_service.specs.Ran.{StepsOn, Comes};
+ghost use Rattle.sysv_driver.specs.Kinds.{Stats, Sets, Removes};
 ghost use Rattle.sysv_service.specs.Told.{TellsZero, TellsStat, TellsRow};
 
 use crate::clock::Clock;

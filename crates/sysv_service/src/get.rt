@@ -6,8 +6,9 @@ ghost use Rattle.sysv_steps.specs.Begin.{begin as begins};
 ghost use Rattle.sysv_steps.specs.State.{AtBegin, AtInstall, AtSettle, AtProbe, AtUnmake, Goes, Over, Ending as Ends};
 ghost use Rattle.sysv_steps.specs.Seen.{phase_of, state_of, ending_of, getting};
 ghost use Rattle.sysv_gated.specs.Seats.{AreOf};
-ghost use Rattle.sysv_service.specs.Ran.{StepsOn, no_moment, Comes};
-ghost use Rattle.sysv_service.specs.Kinds.{Gets};
+ghost use Rattle.sysv_driver.specs.Stepping.{no_moment};
+ghost use Rattle.sysv_service.specs.Ran.{StepsOn, Comes};
+ghost use Rattle.sysv_driver.specs.Kinds.{Gets};
 ghost use Rattle.sysv_service.specs.Told.{TellsId};
 
 use crate::clock::Clock;

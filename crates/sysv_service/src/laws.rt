@@ -6,7 +6,7 @@ ghost use Rattle.sysv_service.specs.Life.{EachRunIsAtAnyMoment, EveryServiceObey
 ghost use Rattle.sysv_service.specs.OwnTurns.{EachPlaysItsOwn, KnowTheirOwn};
 ghost use Rattle.sysv_service.specs.PoolWhole.{EveryPoolIsWhole};
 ghost use Rattle.sysv_service.specs.RightAnswers.{EachRunAnswersRight};
-ghost use Rattle.sysv_service.specs.Ran.{no_moment};
+ghost use Rattle.sysv_driver.specs.Stepping.{no_moment};
 ghost use Rattle.sysv_service.specs.Retried.{EachRetryIsAtItsGoal};
 
 use crate::clock::Clock;

@@ -9,9 +9,10 @@ ghost use Rattle.sysv_steps.specs.Seen.{phase_of, state_of, sending};
 ghost use Rattle.sysv_steps.specs.Resume.{Released};
 ghost use Rattle.sysv_gated.specs.Seats.{AreOf};
 ghost use Rattle.sysv_gated.specs.Reading.{Reads};
-ghost use Rattle.sysv_service.specs.Ran.{Pass as Seen, StepsOn, no_moment, Comes};
+ghost use Rattle.sysv_driver.specs.Stepping.{no_moment};
+ghost use Rattle.sysv_service.specs.Ran.{Pass as Seen, StepsOn, Comes};
 ghost use Rattle.sysv_service.specs.Left.{IsLeft};
-ghost use Rattle.sysv_service.specs.Kinds.{Sends, IsShort};
+ghost use Rattle.sysv_driver.specs.Kinds.{Sends, IsShort};
 ghost use Rattle.sysv_service.specs.Told.{TellsZero};
 
 use crate::caller::{Caller, Stays};

@@ -6,7 +6,7 @@ ghost use Rattle.sysv_steps.specs.Seen.{wait_of, state_of, ending_of};
 ghost use Rattle.sysv_gated.specs.Seats.{AreOf};
 ghost use Rattle.sysv_gated.specs.Reading.{AwaitsWithin};
 ghost use Rattle.sysv_steps.specs.State.{Over, Waits};
-ghost use Rattle.sysv_service.specs.Kinds.{EndsInZero};
+ghost use Rattle.sysv_driver.specs.Kinds.{EndsInZero};
 ghost use Rattle.sysv_service.specs.Told.{TellsZero};
 ghost use Rattle.sysv_service.specs.Waited.{EndsWait, GivesBack, goal_seen};
 

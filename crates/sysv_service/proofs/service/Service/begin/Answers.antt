@@ -5,7 +5,8 @@ use Rattle.sysv_model.specs.Registry.{Begin}
 use Rattle.sysv_keys.specs.Replies.{begun_reply}
 use Rattle.sysv_steps.specs.State.{AtBegin}
 use Rattle.sysv_steps.specs.Seen.{state_of, getting}
-use Rattle.sysv_service.specs.Ran.{Pass, StepsOn, no_moment}
+use Rattle.sysv_driver.specs.Stepping.{no_moment}
+use Rattle.sysv_service.specs.Ran.{Pass, StepsOn}
 use Rattle.sysv_service.proofs.Running.{ok_of, err_of, stepped, met}
 use Rattle.sysv_service.proofs.service.Service.begin.Goals.{in-Ok, in-Err}
 use Rattle.sysv_service.proofs.service.Service.begin.Goals as goal

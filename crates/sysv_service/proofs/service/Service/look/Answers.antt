@@ -6,8 +6,9 @@ use Rattle.sysv_model.specs.History.{Look}
 use Rattle.sysv_queue.specs.Replies.{look_reply}
 use Rattle.sysv_steps.specs.State.{AtLook}
 use Rattle.sysv_steps.specs.Seen.{state_of, sending}
-use Rattle.sysv_service.specs.Ran.{Pass, StepsOn, no_moment}
-use Rattle.sysv_service.specs.Kinds.{Sends}
+use Rattle.sysv_driver.specs.Stepping.{no_moment}
+use Rattle.sysv_service.specs.Ran.{Pass, StepsOn}
+use Rattle.sysv_driver.specs.Kinds.{Sends}
 use Rattle.sysv_service.proofs.Running.{ok_of, err_of, stepped, met}
 use Rattle.sysv_service.proofs.Staying.{look_sends}
 use Rattle.sysv_service.proofs.service.Service.look.Goals.{in-Ok, in-Err}

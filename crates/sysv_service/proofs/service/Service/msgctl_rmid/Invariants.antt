@@ -3,8 +3,9 @@ use Rattle.sysv_steps.specs.Call.{MsgctlRmid}
 use Rattle.sysv_steps.specs.Begin.{begin as begins}
 use Rattle.sysv_steps.specs.Seen.{state_of}
 use Rattle.sysv_gated.specs.Seats.{AreOf}
-use Rattle.sysv_service.specs.Ran.{Comes, no_moment}
-use Rattle.sysv_service.specs.Kinds.{Removes}
+use Rattle.sysv_driver.specs.Stepping.{no_moment}
+use Rattle.sysv_service.specs.Ran.{Comes}
+use Rattle.sysv_driver.specs.Kinds.{Removes}
 use Rattle.sysv_service.proofs.service.Service.msgctl_rmid.Given as goal
 
 -- where the call has come to

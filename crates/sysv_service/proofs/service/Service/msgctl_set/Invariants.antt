@@ -4,7 +4,7 @@ use Rattle.sysv_steps.specs.Begin.{begin as begins}
 use Rattle.sysv_steps.specs.Seen.{state_of}
 use Rattle.sysv_gated.specs.Seats.{AreOf}
 use Rattle.sysv_service.specs.Ran.{Comes}
-use Rattle.sysv_service.specs.Kinds.{Sets}
+use Rattle.sysv_driver.specs.Kinds.{Sets}
 use Rattle.sysv_service.proofs.service.Service.msgctl_set.Given as goal
 
 -- where the call has come to

@@ -9,7 +9,7 @@ use Rattle.sysv_model.specs.declared.errno.Errno.TheVariants.{EOVERFLOW}
 use Rattle.sysv_steps.specs.State.{IsRefused, AtPlace}
 use Rattle.sysv_steps.specs.Next.{after_place, gives_back}
 use Rattle.sysv_steps.specs.Seen.{state_of, sending}
-use Rattle.sysv_service.specs.Kinds.{Sends}
+use Rattle.sysv_driver.specs.Kinds.{Sends}
 use Rattle.sysv_service.specs.Ran.{Pass, StepsOn}
 use Rattle.sysv_service.proofs.Running.{ok_of, iferr_of, stepped, met}
 use Rattle.sysv_service.proofs.Staying.{place_sends}

@@ -6,7 +6,8 @@ use Rattle.sysv_model.specs.History.{Probe}
 use Rattle.sysv_queue.specs.Replies.{probe_reply}
 use Rattle.sysv_steps.specs.State.{AtProbe}
 use Rattle.sysv_steps.specs.Seen.{state_of, getting}
-use Rattle.sysv_service.specs.Ran.{Pass, StepsOn, no_moment}
+use Rattle.sysv_driver.specs.Stepping.{no_moment}
+use Rattle.sysv_service.specs.Ran.{Pass, StepsOn}
 use Rattle.sysv_service.proofs.Running.{ok_of, err_of, stepped, met}
 use Rattle.sysv_service.proofs.service.Service.probe.Goals.{in-Ok, in-Err}
 use Rattle.sysv_service.proofs.service.Service.probe.Goals as goal

@@ -3,8 +3,9 @@ use Rattle.sysv_steps.specs.State.{AtReceiveGiveback}
 use Rattle.sysv_steps.specs.Seen.{state_of}
 use Rattle.sysv_steps.specs.declared.state.Phase.TheVariants as phase
 use Rattle.sysv_steps.specs.declared.state.State.TheVariants as state
-use Rattle.sysv_service.specs.Kinds.{IsSized}
-use Rattle.sysv_service.specs.Delivered.{HasWhatItGives, StepsGiving}
+use Rattle.sysv_driver.specs.Kinds.{IsSized}
+use Rattle.sysv_driver.specs.Giving.{HasWhatItGives}
+use Rattle.sysv_service.specs.Delivered.{StepsGiving}
 use Rattle.sysv_service.proofs.Delivering.{gives_still}
 use Rattle.sysv_service.proofs.Running.{given}
 use Rattle.sysv_service.proofs.Staying.{given_receives}

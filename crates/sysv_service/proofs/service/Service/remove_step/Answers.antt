@@ -7,8 +7,9 @@ use Rattle.sysv_model.specs.Registry.{Forget, Changed}
 use Rattle.sysv_queue.specs.Replies.{remove_reply}
 use Rattle.sysv_steps.specs.State.{Goes, AtRemove, AtForget, AtRemoveGiveback}
 use Rattle.sysv_steps.specs.Seen.{phase_of, state_of}
-use Rattle.sysv_service.specs.Ran.{Pass, StepsOn, no_moment}
-use Rattle.sysv_service.specs.Kinds.{Removes}
+use Rattle.sysv_driver.specs.Stepping.{no_moment}
+use Rattle.sysv_service.specs.Ran.{Pass, StepsOn}
+use Rattle.sysv_driver.specs.Kinds.{Removes}
 use Rattle.sysv_service.proofs.Running.{ok_of, err_of, stepped, met, given, by_result}
 use Rattle.sysv_service.proofs.Staying.{given_zero, remove_removes, forget_removes}
 use Rattle.sysv_service.proofs.service.Service.remove_step.Goals.{in-Ok, in-Err}

@@ -4,7 +4,8 @@ use Rattle.sysv_model.specs.Pool.{Reserve}
 use Rattle.sysv_pool.specs.Replies.{reserve_reply}
 use Rattle.sysv_steps.specs.State.{AtReserve}
 use Rattle.sysv_steps.specs.Seen.{state_of, sending}
-use Rattle.sysv_service.specs.Ran.{Pass, StepsOn, no_moment}
+use Rattle.sysv_driver.specs.Stepping.{no_moment}
+use Rattle.sysv_service.specs.Ran.{Pass, StepsOn}
 use Rattle.sysv_service.proofs.Running.{ok_of, err_of, stepped, met}
 use Rattle.sysv_service.proofs.service.Service.reserve.Goals.{in-Ok, in-Err}
 use Rattle.sysv_service.proofs.service.Service.reserve.Goals as goal

@@ -1,7 +1,7 @@
 use Rattle.sysv_steps.specs.Seen.{state_of}
 use Rattle.sysv_gated.specs.Seats.{AreOf}
 use Rattle.sysv_service.specs.Ran.{Comes}
-use Rattle.sysv_service.specs.Kinds.{Sends}
+use Rattle.sysv_driver.specs.Kinds.{Sends}
 use Rattle.sysv_service.proofs.service.Service.send.Given as goal
 
 -- where the call has come to

@@ -2,7 +2,7 @@ use Rattle.std.proofs.Common.{Ok, refl, sym, subst}
 use Rattle.sysv_steps.specs.State.{AtSendGiveback, Goes}
 use Rattle.sysv_steps.specs.Seen.{phase_of, state_of, afterwards_of}
 use Rattle.sysv_service.specs.Ran.{StepsOn}
-use Rattle.sysv_service.specs.Kinds.{Sends}
+use Rattle.sysv_driver.specs.Kinds.{Sends}
 use Rattle.sysv_service.proofs.Running.{given}
 use Rattle.sysv_service.proofs.Staying.{given_sends}
 use Rattle.sysv_service.proofs.service.Service.send_step.Goals as goal

@@ -8,7 +8,7 @@ use Rattle.sysv_queue.specs.Replies.{set_reply}
 use Rattle.sysv_steps.specs.State.{AtSet, AtSetGiveback}
 use Rattle.sysv_steps.specs.Seen.{phase_of, state_of}
 use Rattle.sysv_service.specs.Ran.{Pass, StepsOn}
-use Rattle.sysv_service.specs.Kinds.{Sets}
+use Rattle.sysv_driver.specs.Kinds.{Sets}
 use Rattle.sysv_service.proofs.Running.{ok_of, err_of, stepped, met, given}
 use Rattle.sysv_service.proofs.Staying.{given_zero}
 use Rattle.sysv_service.proofs.service.Service.set_step.Goals.{in-Ok, in-Err}

@@ -4,8 +4,9 @@ use Rattle.sysv_model.specs.Turn.{AtRegistry}
 use Rattle.sysv_model.specs.Registry.{Settle, Changed}
 use Rattle.sysv_steps.specs.State.{AtSettle}
 use Rattle.sysv_steps.specs.Seen.{state_of}
-use Rattle.sysv_service.specs.Ran.{Pass, StepsOn, no_moment}
-use Rattle.sysv_service.specs.Kinds.{Gets}
+use Rattle.sysv_driver.specs.Stepping.{no_moment}
+use Rattle.sysv_service.specs.Ran.{Pass, StepsOn}
+use Rattle.sysv_driver.specs.Kinds.{Gets}
 use Rattle.sysv_service.proofs.Running.{ok_of, err_of, stepped, met}
 use Rattle.sysv_service.proofs.Staying.{settle_gets}
 use Rattle.sysv_service.proofs.service.Service.settle.Goals.{in-Ok, in-Err}

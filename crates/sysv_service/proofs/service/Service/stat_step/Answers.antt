@@ -6,7 +6,8 @@ use Rattle.sysv_model.specs.History.{ReadStat}
 use Rattle.sysv_queue.specs.Replies.{stat_reply}
 use Rattle.sysv_steps.specs.State.{AtStat}
 use Rattle.sysv_steps.specs.Seen.{phase_of, state_of}
-use Rattle.sysv_service.specs.Ran.{Pass, StepsOn, no_moment}
+use Rattle.sysv_driver.specs.Stepping.{no_moment}
+use Rattle.sysv_service.specs.Ran.{Pass, StepsOn}
 use Rattle.sysv_service.proofs.Running.{ok_of, err_of, stepped, met}
 use Rattle.sysv_service.proofs.service.Service.stat_step.Goals.{in-Ok, in-Err}
 use Rattle.sysv_service.proofs.service.Service.stat_step.Goals as goal

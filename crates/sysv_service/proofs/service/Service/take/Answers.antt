@@ -7,10 +7,11 @@ use Rattle.sysv_pool.specs.Chain.{Chained}
 use Rattle.sysv_queue.specs.Replies.{untaken_reply}
 use Rattle.sysv_steps.specs.State.{AtTake}
 use Rattle.sysv_steps.specs.Seen.{state_of, receiving}
-use Rattle.sysv_service.specs.Kinds.{IsSized}
+use Rattle.sysv_driver.specs.Kinds.{IsSized}
 use Rattle.sysv_steps.specs.declared.state.Phase.TheVariants as phase
 use Rattle.sysv_service.specs.Ran.{Pass}
-use Rattle.sysv_service.specs.Delivered.{HasWhatItGives, StepsGiving}
+use Rattle.sysv_driver.specs.Giving.{HasWhatItGives}
+use Rattle.sysv_service.specs.Delivered.{StepsGiving}
 use Rattle.sysv_service.proofs.Running.{ok_of, err_of, stepped, met}
 use Rattle.sysv_service.proofs.Staying.{GivesNothing, nothing_is_sized, untaken_gives_nothing}
 use Rattle.sysv_service.proofs.Delivering.{took, gives_nothing}

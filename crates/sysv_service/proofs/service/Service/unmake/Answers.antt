@@ -5,7 +5,8 @@ use Rattle.sysv_model.specs.Registry.{Forget, Changed}
 use Rattle.sysv_model.specs.declared.errno.Errno.TheVariants.{ENOSPC}
 use Rattle.sysv_steps.specs.State.{AtUnmake, Over, Refused}
 use Rattle.sysv_steps.specs.Seen.{state_of}
-use Rattle.sysv_service.specs.Ran.{Pass, StepsOn, no_moment}
+use Rattle.sysv_driver.specs.Stepping.{no_moment}
+use Rattle.sysv_service.specs.Ran.{Pass, StepsOn}
 use Rattle.sysv_service.proofs.Running.{ok_of, err_of, stepped, met, by_result}
 use Rattle.sysv_service.proofs.Staying.{unmake_gets}
 use Rattle.sysv_service.proofs.service.Service.unmake.Goals as goal
