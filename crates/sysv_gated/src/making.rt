@@ -50,6 +50,7 @@ fn place_of(call: &ObjectCall) -> usize
 }
 
 /// The gates, for a caller that may wait: they make turns with the caller's seats.
+#[derive(Clone, Copy)]
 pub struct AtGates<'a, R: Wait> {
     rt: &'a R,
     gates: &'a Gates,

@@ -13,12 +13,7 @@ use Rattle.sysv_gated.specs.Reading.{Reads}
 use Rattle.sysv_driver.specs.Stepping.{is_stamped, left_by, no_moment}
 use Rattle.sysv_service.specs.Ran.{Pass, TurnsBack, begins, steps, turns_back, reads, resumes, gives_up, Comes, StepsOn}
 use Rattle.sysv_steps.specs.Resume.{Count, awaited}
-use Rattle.sysv_service.specs.Waited.{EndsWait, GivesBack}
-
--- a step that asks for no moment is one for each clock
-pub lifts : (may : ℕ → Type 0) (phase : Phase) (before : Pass) (state : State) (after : Pass) → StepsOn no_moment phase before state after → StepsOn may phase before state after
-lifts may phase before state after (inl s) = inl (record { deed = s.deed; now = s.now; moment = λ e. absurd (s.moment e); asked = s.asked; goes = s.goes; makes = s.makes })
-lifts may phase before state after (inr w) = inr (record { deeds = w.deeds; now = w.now; moment = λ e. absurd (w.moment e); there = w.there; worn = w.worn; back = w.back })
+use Rattle.sysv_service.specs.Waited.{EndsWait}
 
 module _ (may : ℕ → Type 0) (from : State) (old : Pass) where
   pub comes_first : Comes may from old from old
@@ -45,29 +40,6 @@ err_of r P e is on = subst (λ s. OnErr s P) is on
 
 pub iferr_of : {T E : Type 0} (r : Result T E) (P : E → Type 0) (e : E) → r ≡ Err e → IfErr r P → P e
 iferr_of r P e is on = subst (λ s. IfErr s P) is on
-
-pub stepped : (may : ℕ → Type 0) (phase : Phase) (before : Pass) (state : State) (after : Pass) (deed : Deed) (now : ℕ) → (is_stamped phase ≡ true → may now) → asked_by deed ≡ asks phase now →
-    next phase deed ≡ Some state → MakesTurnAt before.seats deed after.seats → after.held ≡ before.held + left_by deed → StepsOn may phase before state after
-stepped may phase before state after deed now moment asked goes turn held = inl (record { deed = deed; now = now; moment = moment; asked = asked; goes = goes; makes = record { turn = turn; held = held } })
-
--- the gate of a step is worn out
-pub turned_back : (may : ℕ → Type 0) (phase : Phase) (before : Pass) (state : State) (after : Pass) (deeds : List Deed) (now : ℕ) → (is_stamped phase ≡ true → may now) → (there : Seats) → FindsWorn before.seats (asks phase now) there →
-    TurnsBack phase (record before { seats = there }) deeds state after → StepsOn may phase before state after
-turned_back may phase before state after deeds now moment there worn back = inr (record { deeds = deeds; now = now; moment = moment; there = there; worn = worn; back = back })
-
-pub met : (may : ℕ → Type 0) (phase : Phase) (before : Pass) (state : State) (after : Pass) (now : ℕ) → (is_stamped phase ≡ true → may now) → FindsWorn before.seats (asks phase now) after.seats →
-    TurnsBack phase (record before { seats = after.seats }) [] state after → StepsOn may phase before state after
-met may phase before state after now moment worn = turned_back may phase before state after [] now moment after.seats worn
-
--- a chain that is given back
-pub given : (may : ℕ → Type 0) (phase : Phase) (before : Pass) (state : State) (after : Pass) (blocks : ℕ) → is_stamped phase ≡ false → asks phase 0 ≡ OfPool (Release blocks) →
-    ((done : Result ⊤ Chained) → next phase (AtPool (Release blocks) (release_reply done)) ≡ Some state) →
-    (after.held ≡ before.held + blocks → TurnsBack phase (record before { seats = after.seats }) [] state after) →
-    GivesBack blocks before after → StepsOn may phase before state after
-given may phase before state after blocks unstamped asks_it goes back (inl done) =
-    inl (record { deed = AtPool (Release blocks) (release_reply done.0); now = 0; moment = λ e. let no : true ≡ false = sym e ∙ unstamped in absurd cc; asked = sym asks_it; goes = goes done.0; makes = done.1 })
-given may phase before state after blocks unstamped asks_it goes back (inr worn) =
-    met may phase before state after 0 (λ e. let no : true ≡ false = sym e ∙ unstamped in absurd cc) (subst (λ a. FindsWorn before.seats a after.seats) (sym asks_it) worn.0) (back worn.1)
 
 -- ---- by a result
 

@@ -2,10 +2,12 @@ pub use Rattle.sysv_model.specs.History
 pub use Rattle.sysv_model.specs.Turn
 pub use Rattle.sysv_steps.specs.State
 pub use Rattle.sysv_steps.specs.Next
+pub use Rattle.sysv_driver.specs.Kinds
+pub use Rattle.sysv_driver.specs.Stepping
+pub use Rattle.sysv_driver.specs.Giving
 pub use Rattle.sysv_free.specs.Order
 pub use Rattle.sysv_free.specs.Crew
 pub mod Ran
-pub mod Kinds
 pub mod Waited
 pub mod Left
 pub mod Told

@@ -11,19 +11,16 @@ ghost use Rattle.sysv_service.specs.Ran.{StepsOn, Comes};
 ghost use Rattle.sysv_driver.specs.Kinds.{Stats, Sets, Removes};
 ghost use Rattle.sysv_service.specs.Told.{TellsZero, TellsStat, TellsRow};
 
-use crate::clock::Clock;
 use crate::pass::Pass;
 use crate::service::Service;
-use crate::waiting::{overflow, zero_of};
+use crate::waiting::zero_of;
 use std::sync::Wait as MayWait;
-use sysv_gated::Worn;
+use sysv_driver::{Clock, remove_step, set_step, stat_step};
+use sysv_gated::AtGates;
 use sysv_keys::SLOTS;
 use sysv_model::{Cred, Errno, Row, SetTo, Stat};
-use sysv_pool::Chain;
-use sysv_steps::{
-    Ending, Phase, State, begin_remove, begin_set, begin_stat, forgotten, given_back, removed,
-    set_done, stat_told,
-};
+use sysv_steps::{Ending, Phase, State, begin_remove, begin_set, begin_stat};
+use sysv_turns::{ObjectCall, ObjectReply, SlotAsk, SlotCall, SlotReply};
 
 impl Service {
     /// Tells the attributes of the queue of this identifier, and what waits on it (POSIX.1-2017, `msgctl`, IPC_STAT).
@@ -51,6 +48,7 @@ impl Service {
         unreachable!()
     }
 
+    /// One step of an IPC_STAT.
     fn stat_step(&self, rt: &impl MayWait, pass: &mut Pass, phase: Phase) -> State
         requires pass { AreOf self.now pass.old.seats }
         requires stats { Stats (Goes (phase_of phase [])) }
@@ -59,13 +57,8 @@ impl Service {
         ensures steps { StepsOn no_moment (phase_of phase []) pass.old
             (state_of result []) pass.new }
     {
-        let Phase::Stat { cred, id } = phase else {
-            unreachable!()
-        };
-        match self.gates.stat(rt, &mut pass.seats, id, cred) {
-            Ok(told) => stat_told(told),
-            Err(Worn) => overflow(),
-        }
+        let gates = AtGates::of(rt, &self.gates);
+        stat_step(&gates, &mut pass.seats, phase)
     }
 
     /// Sets the owner, the mode and the limit of the queue of this identifier (POSIX.1-2017, `msgctl`, IPC_SET).
@@ -95,6 +88,7 @@ impl Service {
         unreachable!()
     }
 
+    /// One step of an IPC_SET.
     fn set_step<C: Clock>(
         &self,
         rt: &impl MayWait,
@@ -109,20 +103,8 @@ impl Service {
         ensures steps { StepsOn (C.may clock.now) (phase_of phase []) pass.old
             (state_of result []) pass.new }
     {
-        match phase {
-            Phase::Set { cred, id, to } => {
-                let now = clock.now();
-                match self.gates.set(rt, &mut pass.seats, id, cred, to, now) {
-                    Ok(done) => set_done(done),
-                    Err(Worn) => overflow(),
-                }
-            }
-            Phase::SetGiveback => {
-                self.give_back(rt, pass, Chain::empty());
-                given_back()
-            }
-            _other => unreachable!(),
-        }
+        let gates = AtGates::of(rt, &self.gates);
+        set_step(&gates, &mut pass.seats, &mut pass.held, clock, phase)
     }
 
     /// Removes the queue of this identifier, and discards what waits on it (POSIX.1-2017, `msgctl`, IPC_RMID).
@@ -150,7 +132,7 @@ impl Service {
         unreachable!()
     }
 
-    /// Where the gate of the registry is worn out the answer stays.
+    /// One step of an IPC_RMID.
     fn remove_step(&self, rt: &impl MayWait, pass: &mut Pass, phase: Phase) -> State
         requires pass { AreOf self.now pass.old.seats }
         requires removes { Removes (Goes (phase_of phase [])) }
@@ -159,23 +141,8 @@ impl Service {
         ensures steps { StepsOn no_moment (phase_of phase []) pass.old
             (state_of result []) pass.new }
     {
-        match phase {
-            Phase::Remove { cred, id } => {
-                match self.gates.remove(rt, &mut pass.seats, id, cred) {
-                    Ok(done) => removed(id, done),
-                    Err(Worn) => overflow(),
-                }
-            }
-            Phase::Forget { id, chain } => {
-                let _ = self.gates.forget(rt, &mut pass.seats, id);
-                forgotten(chain)
-            }
-            Phase::RemoveGiveback { chain } => {
-                self.give_back(rt, pass, chain);
-                given_back()
-            }
-            _other => unreachable!(),
-        }
+        let gates = AtGates::of(rt, &self.gates);
+        remove_step(&gates, &mut pass.seats, &mut pass.held, phase)
     }
 
     /// The row of the live queue in this slot, if one is live (this profile's, for `ipcs`). No permission is asked. `EINVAL`
@@ -194,9 +161,15 @@ impl Service {
         if slot >= SLOTS {
             return Err(Errno::EINVAL);
         }
-        match self.gates.row(rt, &mut pass.seats, slot) {
-            Ok(row) => Ok(row),
-            Err(Worn) => Err(Errno::EOVERFLOW),
+        let ask = SlotAsk::Row { slot };
+        let call = ObjectCall::Slot(SlotCall::Ask(ask));
+        match self.gates.make(rt, &mut pass.seats, call) {
+            Ok(ObjectReply::Slot(SlotReply::Shown(row))) => Ok(row),
+            Err(back) => {
+                back.into_chain().end();
+                Err(Errno::EOVERFLOW)
+            }
+            _other => unreachable!(),
         }
     }
 }

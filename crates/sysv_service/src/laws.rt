@@ -9,8 +9,8 @@ ghost use Rattle.sysv_service.specs.RightAnswers.{EachRunAnswersRight};
 ghost use Rattle.sysv_driver.specs.Stepping.{no_moment};
 ghost use Rattle.sysv_service.specs.Retried.{EachRetryIsAtItsGoal};
 
-use crate::clock::Clock;
 use crate::pass::Pass;
+use sysv_driver::Clock;
 use sysv_free::every_service_that_came_home_is_a_run;
 use sysv_gated::{each_seat_obeys, seen_histories};
 use sysv_steps::{each_answer_is_right, each_plays_apart};

@@ -11,7 +11,6 @@
 #![tactic(auto)]
 
 mod caller;
-mod clock;
 mod closing;
 mod control;
 mod get;
@@ -24,7 +23,6 @@ mod stopping;
 mod waiting;
 
 pub use caller::{Caller, Stays};
-pub use clock::Clock;
 pub use closing::Closed;
 pub use laws::{
     each_pass_obeys, each_plays_its_own, each_retry_is_at_its_goal, each_run_answers_right,
@@ -34,6 +32,7 @@ pub use pass::Pass;
 pub use service::Service;
 
 // What the signatures name beside these.
+pub use sysv_driver::Clock;
 pub use sysv_gated::OpenRefused;
 pub use sysv_model::{Body, Cred, Errno, Flags, NoMemory, Row, SetTo, Stat};
 pub use sysv_queue::{Delivery, Tally};

@@ -4,10 +4,9 @@ ghost use Rattle.std.specs.Prelude.{◌≡◌, ◌≤◌, ℕ, List, [], length,
 ghost use Rattle.sysv_model.specs.declared.limits.TheConstants.{MESSAGE_BYTES as most_bytes};
 ghost use Rattle.sysv_steps.specs.Call.{Msgrcv};
 ghost use Rattle.sysv_steps.specs.Begin.{begin as begins};
-ghost use Rattle.sysv_steps.specs.State.{AtReceiveGiveback, Goes, Over, Ending as Ends};
+ghost use Rattle.sysv_steps.specs.State.{Goes, Over, Ending as Ends};
 ghost use Rattle.sysv_steps.specs.Seen.{phase_of, state_of, ending_of};
 ghost use Rattle.sysv_gated.specs.Seats.{AreOf};
-ghost use Rattle.sysv_driver.specs.Stepping.{no_moment};
 ghost use Rattle.sysv_service.specs.Ran.{Comes};
 ghost use Rattle.sysv_driver.specs.Kinds.{Receives, IsSized};
 ghost use Rattle.sysv_service.specs.Told.{TellsGot};
@@ -15,12 +14,11 @@ ghost use Rattle.sysv_service.specs.Left.{IsLeft};
 ghost use Rattle.sysv_service.specs.Delivered.{HasGiven, StepsGiving};
 
 use crate::caller::{Caller, Stays};
-use crate::clock::Clock;
 use crate::pass::Pass;
 use crate::service::Service;
-use crate::waiting::overflow;
 use std::sync::Wait as MayWait;
-use sysv_gated::Worn;
+use sysv_driver::{Clock, receive_step};
+use sysv_gated::AtGates;
 use sysv_model::{Body, Cred, Errno, Flags};
 use sysv_queue::Delivery;
 use sysv_steps::{Ending, Phase, Receiving, State};
@@ -105,7 +103,8 @@ impl Service {
         unreachable!()
     }
 
-    /// One step of a receive that fills this body.
+    /// One step of a receive that fills this body. An arrival wakes one receive that waits, so one that has waited and takes
+    /// nothing wakes the next. One that has not waited was not woken, and owes no wake.
     fn receive_step<C: Clock>(
         &self,
         rt: &impl MayWait,
@@ -123,63 +122,18 @@ impl Service {
         ensures steps { StepsGiving (C.may clock.now) phase out.old pass.old result out.new
             pass.new }
     {
-        match phase {
-            Phase::Take(receive) => self.take(rt, pass, clock, out, receive),
-            Phase::ReceiveGiveback { chain, delivery } => {
-                self.give_back(rt, pass, chain);
-                Receiving::given_back(delivery)
-            }
-            _other => unreachable!(),
+        let woken = match &phase {
+            Phase::Take(receive) if receive.live_seen => Some(receive.id),
+            _other => None,
+        };
+        let gates = AtGates::of(rt, &self.gates);
+        let state = receive_step(&gates, &mut pass.seats, &mut pass.held, clock, out, phase);
+        match (woken, &state) {
+            (None, _) => {}
+            (Some(_), State::Goes(_giveback)) => {}
+            (Some(id), _) => self.gates.pass_arrived_on(id),
         }
-    }
-
-    /// The text that is given is copied out once the message is taken.
-    fn take<C: Clock>(
-        &self,
-        rt: &impl MayWait,
-        pass: &mut Pass,
-        clock: &C,
-        out: &mut Body,
-        receive: Receiving,
-    ) -> State
-        requires { AreOf self.now pass.old.seats }
-        ensures pass { AreOf self.now pass.new.seats }
-        ensures receives { Receives (state_of result out.new) }
-        ensures sized { IsSized result out.new }
-        ensures steps { StepsGiving (C.may clock.now)
-            (Phase.Take receive) out.old pass.old result out.new pass.new }
-    {
-        let Receiving {
-            cred,
-            id,
-            selector,
-            size,
-            noerror,
-            ..
-        } = receive;
-        let now = clock.now();
-        match self.gates.take(rt, &mut pass.seats, id, cred, selector, size, noerror, now) {
-            Ok(Ok(taken)) => {
-                let (delivery, chain) = taken.finish(size, out);
-                receive.given(delivery, chain)
-            }
-            Ok(Err(why)) => {
-                self.pass_wake_on(&receive);
-                receive.untaken(why)
-            }
-            Err(Worn) => {
-                self.pass_wake_on(&receive);
-                overflow()
-            }
-        }
-    }
-
-    /// An arrival wakes one receive that waits, so one that has waited and takes nothing wakes the next. One that has not
-    /// waited was not woken, and owes no wake.
-    fn pass_wake_on(&self, receive: &Receiving) {
-        if receive.live_seen {
-            self.gates.pass_arrived_on(receive.id);
-        }
+        state
     }
 }
 

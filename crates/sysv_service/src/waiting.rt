@@ -1,4 +1,4 @@
-//! What all calls share: waits, chains that go back, and gates that are worn out.
+//! Waits.
 
 ghost use Rattle.std.specs.Prelude.{◌≡◌, ◌+◌, ℕ, List, [], IfNone, IfSome};
 ghost use Rattle.sysv_steps.specs.Resume.{awaited, goal_of};
@@ -8,7 +8,7 @@ ghost use Rattle.sysv_gated.specs.Reading.{AwaitsWithin};
 ghost use Rattle.sysv_steps.specs.State.{Over, Waits};
 ghost use Rattle.sysv_driver.specs.Kinds.{EndsInZero};
 ghost use Rattle.sysv_service.specs.Told.{TellsZero};
-ghost use Rattle.sysv_service.specs.Waited.{EndsWait, GivesBack, goal_seen};
+ghost use Rattle.sysv_service.specs.Waited.{EndsWait, goal_seen};
 
 use crate::caller::{Caller, Stays};
 use crate::pass::Pass;
@@ -39,20 +39,6 @@ impl Pass {
 }
 
 impl Service {
-    /// Gives the chain back to the pool. The pass keeps one that the pool refuses as that of another, or whose gate is worn
-    /// out.
-    pub(crate) fn give_back(&self, rt: &impl MayWait, pass: &mut Pass, chain: Chain)
-        requires { AreOf self.now pass.old.seats }
-        ensures pass { AreOf self.now pass.new.seats }
-        ensures released { GivesBack chain.blocks pass.old pass.new }
-    {
-        match self.gates.release(rt, &mut pass.seats, chain) {
-            Ok(Ok(())) => {}
-            Ok(Err(foreign)) => pass.hold(foreign),
-            Err(chain) => pass.hold(chain),
-        }
-    }
-
     /// Waits until the call may go on.
     pub(crate) fn wait_on(&self, rt: &impl MayWait, pass: &mut Pass, wait: Wait) -> State
         requires { AreOf self.now pass.old.seats }
