@@ -4,16 +4,21 @@ ghost use Rattle.std.specs.Prelude.{◌≡◌, ◌≤◌, [], length};
 ghost use Rattle.sysv_model.specs.declared.limits.TheConstants.{MESSAGE_BYTES as most_bytes};
 ghost use Rattle.sysv_gated.specs.Seats.{AreOf};
 
+use crate::asking::{
+    Worn, begin, forget, install, look, place, probe, release, remove, reserve, row, set, settle,
+    stat, take,
+};
 use crate::parts::{assert_is, body_of, empty_body};
 use std::alloc::Global;
 use std::process::Abort;
 use std::sync::Wait;
 use sysv_gate::{Awaited, Closing};
-use sysv_gated::{GatedPool, GatedSlot, Gates, GatesClosed, Letter, OpenRefused, Seats, Worn};
+use sysv_gated::{GatedPool, GatedSlot, Gates, GatesClosed, OpenRefused, Seats};
 use sysv_keys::Begun;
 use sysv_model::{Errno, IPC_PRIVATE, MESSAGE_BYTES, NoMemory, Selector, SetTo};
 use sysv_pool::Chain;
 use sysv_queue::{Look, Probe, Tally};
+use sysv_turns::Letter;
 use tests_kit::{USER, creating};
 
 const LIMIT: u64 = 1 << 62;
@@ -55,7 +60,7 @@ fn letter_of<R: Wait + Abort>(
 {
     let body = body_of(rt, alloc, text);
     assert!(rt; body.len() <= MESSAGE_BYTES);
-    match gates.reserve(rt, seats, body.len()) {
+    match reserve(rt, gates, seats, body.len()) {
         Ok(Some(chain)) => {
             let letter = Letter::of(chain, &body);
             assert_eq!(rt; letter.size(), text.len());
@@ -71,14 +76,14 @@ fn placed<R: Wait + Abort>(rt: &R, gates: &Gates, seats: &mut Seats, letter: Let
     requires { AreOf gates.now seats.old }
     ensures { AreOf gates.now seats.new }
 {
-    match gates.place(rt, seats, 1, USER, 9, letter, 60) {
+    match place(rt, gates, seats, 1, USER, 9, letter, 60) {
         Ok(Ok(number)) => number,
         Ok(Err(refused)) => {
             refused.chain.end();
             panic!(rt; "no room")
         }
-        Err(letter) => {
-            letter.into_chain().end();
+        Err(chain) => {
+            chain.end();
             panic!(rt; "worn")
         }
     }
@@ -89,7 +94,7 @@ fn give_back<R: Wait + Abort>(rt: &R, gates: &Gates, seats: &mut Seats, chain: C
     requires { AreOf gates.now seats.old }
     ensures { AreOf gates.now seats.new }
 {
-    match gates.release(rt, seats, chain) {
+    match release(rt, gates, seats, chain) {
         Ok(Ok(())) => {}
         Ok(Err(foreign)) => {
             foreign.end();
@@ -154,20 +159,20 @@ fn ended(rt: &impl Abort, closed: GatesClosed) -> (u64, u64, u64) {
 #[test]
 fn a_key_is_made_settled_and_forgotten(rt: HostRuntime) {
     let (gates, mut seats) = gates_at(&rt, rt.alloc(), 0);
-    let private = gates.begin(&rt, &mut seats, IPC_PRIVATE, creating());
+    let private = begin(&rt, &gates, &mut seats, IPC_PRIVATE, creating());
     assert_is(&rt, private, Ok(Begun::Made { id: 0 }));
-    let made = gates.begin(&rt, &mut seats, 7, creating());
+    let made = begin(&rt, &gates, &mut seats, 7, creating());
     assert_is(&rt, made, Ok(Begun::Made { id: 1 }));
-    assert_is(&rt, gates.settle(&rt, &mut seats, 1), Ok(true));
+    assert_is(&rt, settle(&rt, &gates, &mut seats, 1), Ok(true));
     assert_is(
         &rt,
         gates.await_settled(&rt, &mut seats, 1),
         Awaited::Reached(1),
     );
-    let found = gates.begin(&rt, &mut seats, 7, creating());
+    let found = begin(&rt, &gates, &mut seats, 7, creating());
     assert_is(&rt, found, Ok(Begun::Found { id: 1, settled: 1 }));
-    assert_is(&rt, gates.forget(&rt, &mut seats, 1), Ok(true));
-    assert_is(&rt, gates.forget(&rt, &mut seats, 1), Ok(false));
+    assert_is(&rt, forget(&rt, &gates, &mut seats, 1), Ok(true));
+    assert_is(&rt, forget(&rt, &gates, &mut seats, 1), Ok(false));
     assert_is(
         &rt,
         gates.await_settled(&rt, &mut seats, 2),
@@ -180,13 +185,13 @@ fn a_key_is_made_settled_and_forgotten(rt: HostRuntime) {
 #[test]
 fn bounded_waits_come_back(rt: HostRuntime) {
     let (gates, mut seats) = gates_at(&rt, rt.alloc(), 0);
-    let made = gates.begin(&rt, &mut seats, 7, creating());
+    let made = begin(&rt, &gates, &mut seats, 7, creating());
     assert_is(&rt, made, Ok(Begun::Made { id: 0 }));
     assert_is(&rt, gates.settled_within(&rt, &mut seats, 1), None);
-    assert_is(&rt, gates.settle(&rt, &mut seats, 0), Ok(true));
+    assert_is(&rt, settle(&rt, &gates, &mut seats, 0), Ok(true));
     let settled = gates.settled_within(&rt, &mut seats, 1);
     assert_is(&rt, settled, Some(Awaited::Reached(1)));
-    let made = gates.install(&rt, &mut seats, 1, 7, USER, 0o600, 50);
+    let made = install(&rt, &gates, &mut seats, 1, 7, USER, 0o600, 50);
     assert_is(&rt, made, Ok(true));
     assert_is(&rt, gates.arrived_within(&rt, &mut seats, 1, 1), None);
     let letter = letter_of(&rt, rt.alloc(), &gates, &mut seats, b"hello");
@@ -195,7 +200,7 @@ fn bounded_waits_come_back(rt: HostRuntime) {
     assert_is(&rt, arrived, Some(Awaited::Reached(1)));
     assert_is(&rt, gates.freed_within(&rt, &mut seats, 1, 1), None);
     assert_is(&rt, gates.released_within(&rt, &mut seats, 1), None);
-    match gates.remove(&rt, &mut seats, 1, USER) {
+    match remove(&rt, &gates, &mut seats, 1, USER) {
         Ok(Ok(discarded)) => give_back(&rt, &gates, &mut seats, discarded.into_chain()),
         Ok(Err(_)) => panic!(rt; "no removal"),
         Err(_) => panic!(rt; "worn"),
@@ -210,15 +215,29 @@ fn bounded_waits_come_back(rt: HostRuntime) {
 #[test]
 fn a_message_goes_through_its_slot(rt: HostRuntime) {
     let (gates, mut seats) = gates_at(&rt, rt.alloc(), 5);
-    let made = gates.install(&rt, &mut seats, 1, 7, USER, 0o600, 50);
+    let made = install(&rt, &gates, &mut seats, 1, 7, USER, 0o600, 50);
     assert_is(&rt, made, Ok(true));
     let letter = letter_of(&rt, rt.alloc(), &gates, &mut seats, b"hello");
-    assert_is(&rt, gates.look(&rt, &mut seats, 1, USER, 5), Ok(Look::Fits));
+    assert_is(
+        &rt,
+        look(&rt, &gates, &mut seats, 1, USER, 5),
+        Ok(Look::Fits),
+    );
     assert_is(&rt, placed(&rt, &gates, &mut seats, letter), 0);
     let arrived = gates.await_arrived(&rt, &mut seats, 1, 1);
     assert_is(&rt, arrived, Awaited::Reached(1));
     let mut out = empty_body(&rt, rt.alloc());
-    match gates.take(&rt, &mut seats, 1, USER, Selector::Any, 9, false, 70) {
+    match take(
+        &rt,
+        &gates,
+        &mut seats,
+        1,
+        USER,
+        Selector::Any,
+        9,
+        false,
+        70,
+    ) {
         Ok(Ok(taken)) => {
             let (delivery, chain) = taken.finish(9, &mut out);
             assert_is(&rt, (delivery.mtype(), delivery.sender()), (9, 101));
@@ -244,27 +263,31 @@ fn a_message_goes_through_its_slot(rt: HostRuntime) {
 #[test]
 fn a_queue_is_told_changed_and_removed(rt: HostRuntime) {
     let (gates, mut seats) = gates_at(&rt, rt.alloc(), 0);
-    let made = gates.install(&rt, &mut seats, 1, 7, USER, 0o600, 50);
+    let made = install(&rt, &gates, &mut seats, 1, 7, USER, 0o600, 50);
     assert_is(&rt, made, Ok(true));
     let letter = letter_of(&rt, rt.alloc(), &gates, &mut seats, b"hello");
     assert_is(&rt, placed(&rt, &gates, &mut seats, letter), 0);
-    let stat = gates.stat(&rt, &mut seats, 1, USER);
+    let told = stat(&rt, &gates, &mut seats, 1, USER);
     assert_is(
         &rt,
-        stat.map(|stat| stat.map(|stat| stat.cbytes)),
+        told.map(|stat| stat.map(|stat| stat.cbytes)),
         Ok(Ok(5)),
     );
-    assert_is(&rt, gates.set(&rt, &mut seats, 1, USER, TO, 80), Ok(Ok(())));
-    let row = gates.row(&rt, &mut seats, 1);
     assert_is(
         &rt,
-        row.map(|row| row.map(|row| (row.key, row.qnum))),
+        set(&rt, &gates, &mut seats, 1, USER, TO, 80),
+        Ok(Ok(())),
+    );
+    let shown = row(&rt, &gates, &mut seats, 1);
+    assert_is(
+        &rt,
+        shown.map(|row| row.map(|row| (row.key, row.qnum))),
         Ok(Some((7, 1))),
     );
-    assert_is(&rt, gates.row(&rt, &mut seats, 0), Ok(None));
-    let granted = gates.probe(&rt, &mut seats, 1, USER, creating());
+    assert_is(&rt, row(&rt, &gates, &mut seats, 0), Ok(None));
+    let granted = probe(&rt, &gates, &mut seats, 1, USER, creating());
     assert_is(&rt, granted, Ok(Probe::Granted));
-    match gates.remove(&rt, &mut seats, 1, USER) {
+    match remove(&rt, &gates, &mut seats, 1, USER) {
         Ok(Ok(discarded)) => {
             let chain = discarded.into_chain();
             assert_is(&rt, chain.blocks(), 1);
@@ -273,9 +296,9 @@ fn a_queue_is_told_changed_and_removed(rt: HostRuntime) {
         Ok(Err(_)) => panic!(rt; "no removal"),
         Err(_) => panic!(rt; "worn"),
     }
-    let gone = gates.probe(&rt, &mut seats, 1, USER, creating());
+    let gone = probe(&rt, &gates, &mut seats, 1, USER, creating());
     assert_is(&rt, gone, Ok(Probe::Gone));
-    let gone = gates.stat(&rt, &mut seats, 1, USER);
+    let gone = stat(&rt, &gates, &mut seats, 1, USER);
     assert_is(&rt, gone, Ok(Err(Errno::EINVAL)));
     assert_is(&rt, ended(&rt, gates.close(seats)), (10, 0, 2));
 }
@@ -285,15 +308,15 @@ fn seats_are_split_and_joined(rt: HostRuntime) {
     let (gates, mut seats) = gates_at(&rt, rt.alloc(), 100);
     match gates.split(rt.alloc(), &mut seats) {
         Ok(mut other) => {
-            let made = gates.install(&rt, &mut other, 0, 7, USER, 0o600, 50);
+            let made = install(&rt, &gates, &mut other, 0, 7, USER, 0o600, 50);
             assert_is(&rt, made, Ok(true));
-            let again = gates.install(&rt, &mut seats, 0, 7, USER, 0o600, 50);
+            let again = install(&rt, &gates, &mut seats, 0, 7, USER, 0o600, 50);
             assert_is(&rt, again, Ok(false));
-            let made = gates.begin(&rt, &mut other, 7, creating());
+            let made = begin(&rt, &gates, &mut other, 7, creating());
             assert_is(&rt, made, Ok(Begun::Made { id: 0 }));
-            let busy = gates.begin(&rt, &mut seats, 7, creating());
+            let busy = begin(&rt, &gates, &mut seats, 7, creating());
             assert_is(&rt, busy, Ok(Begun::Busy { settled: 0 }));
-            match gates.reserve(&rt, &mut other, 65) {
+            match reserve(&rt, &gates, &mut other, 65) {
                 Ok(Some(chain)) => assert_is(&rt, chain.end(), 2),
                 Ok(None) => panic!(rt; "no blocks"),
                 Err(_) => panic!(rt; "worn"),
@@ -325,25 +348,39 @@ fn what_is_out_of_range_is_refused(rt: HostRuntime) {
 #[test]
 fn worn_gates_of_slots_serve_nothing(rt: HostRuntime) {
     let (gates, mut seats) = gates_at(&rt, rt.alloc(), LIMIT);
-    let made = gates.install(&rt, &mut seats, 1, 7, USER, 0o600, 50);
+    let made = install(&rt, &gates, &mut seats, 1, 7, USER, 0o600, 50);
     assert_is(&rt, made, Err(Worn));
-    let granted = gates.probe(&rt, &mut seats, 1, USER, creating());
+    let granted = probe(&rt, &gates, &mut seats, 1, USER, creating());
     assert_is(&rt, granted, Err(Worn));
-    assert_is(&rt, gates.look(&rt, &mut seats, 1, USER, 5), Err(Worn));
-    assert_is(&rt, gates.stat(&rt, &mut seats, 1, USER), Err(Worn));
-    assert_is(&rt, gates.set(&rt, &mut seats, 1, USER, TO, 80), Err(Worn));
-    assert_is(&rt, gates.row(&rt, &mut seats, 1), Err(Worn));
-    match gates.take(&rt, &mut seats, 1, USER, Selector::Any, 9, false, 70) {
+    assert_is(&rt, look(&rt, &gates, &mut seats, 1, USER, 5), Err(Worn));
+    assert_is(&rt, stat(&rt, &gates, &mut seats, 1, USER), Err(Worn));
+    assert_is(
+        &rt,
+        set(&rt, &gates, &mut seats, 1, USER, TO, 80),
+        Err(Worn),
+    );
+    assert_is(&rt, row(&rt, &gates, &mut seats, 1), Err(Worn));
+    match take(
+        &rt,
+        &gates,
+        &mut seats,
+        1,
+        USER,
+        Selector::Any,
+        9,
+        false,
+        70,
+    ) {
         Err(Worn) => {}
         Ok(_) => panic!(rt; "a turn"),
     }
-    match gates.remove(&rt, &mut seats, 1, USER) {
+    match remove(&rt, &gates, &mut seats, 1, USER) {
         Err(Worn) => {}
         Ok(_) => panic!(rt; "a turn"),
     }
     let letter = Letter::of(Chain::empty(), &empty_body(&rt, rt.alloc()));
-    match gates.place(&rt, &mut seats, 1, USER, 9, letter, 60) {
-        Err(letter) => assert_is(&rt, letter.into_chain().end(), 0),
+    match place(&rt, &gates, &mut seats, 1, USER, 9, letter, 60) {
+        Err(chain) => assert_is(&rt, chain.end(), 0),
         Ok(_) => panic!(rt; "a turn"),
     }
     assert_is(
@@ -358,16 +395,16 @@ fn worn_gates_of_slots_serve_nothing(rt: HostRuntime) {
 #[test]
 fn worn_gates_of_registry_and_pool_serve_nothing(rt: HostRuntime) {
     let (gates, mut seats) = gates_at(&rt, rt.alloc(), LIMIT);
-    let made = gates.begin(&rt, &mut seats, IPC_PRIVATE, creating());
+    let made = begin(&rt, &gates, &mut seats, IPC_PRIVATE, creating());
     assert_is(&rt, made, Err(Worn));
-    assert_is(&rt, gates.settle(&rt, &mut seats, 0), Err(Worn));
-    assert_is(&rt, gates.forget(&rt, &mut seats, 0), Err(Worn));
+    assert_is(&rt, settle(&rt, &gates, &mut seats, 0), Err(Worn));
+    assert_is(&rt, forget(&rt, &gates, &mut seats, 0), Err(Worn));
     assert_is(&rt, gates.await_settled(&rt, &mut seats, 1), Awaited::Worn);
-    match gates.reserve(&rt, &mut seats, 65) {
+    match reserve(&rt, &gates, &mut seats, 65) {
         Err(Worn) => {}
         Ok(_) => panic!(rt; "a turn"),
     }
-    match gates.release(&rt, &mut seats, Chain::empty()) {
+    match release(&rt, &gates, &mut seats, Chain::empty()) {
         Err(chain) => assert_is(&rt, chain.end(), 0),
         Ok(_) => panic!(rt; "a turn"),
     }
