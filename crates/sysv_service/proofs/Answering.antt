@@ -3,7 +3,7 @@ use Rattle.std.proofs.Common.{ℕ}
 use Rattle.sysv_steps.specs.Answers.{EachAnswerIsRight}
 use Rattle.sysv_steps.specs.State.{Over}
 use Rattle.sysv_service.specs.RightAnswers.{EachRunAnswersRight}
-use Rattle.sysv_service.proofs.Owning.{plays}
+use Rattle.sysv_service.proofs.Playing.{plays}
 
 pub each_answers_right : EachAnswerIsRight → (may : ℕ → Type 0) → EachRunAnswersRight may
 each_answers_right right may cred asked released old deeds ending new ran found =

@@ -4,14 +4,12 @@ pub mod Staying
 pub mod Delivering
 pub mod Opening
 pub mod SlotBySlot
-pub mod OwnPlaces
-pub mod Owning
-pub mod Wearing
-pub mod Answering
 pub mod Retrying
 pub mod Doing
 pub mod Living
 pub mod NoneKept
 pub mod Emptying
 pub mod Marking
+pub mod Playing
+pub mod Answering
 pub mod Hiring

@@ -18,7 +18,7 @@ use Rattle.sysv_service.specs.Told.{TellsRow}
 use Rattle.sysv_service.specs.Life as life
 use Rattle.sysv_service.specs.Life.{any_moment, EachRunIsAtAnyMoment, call_of, Lives, EveryServiceObeys}
 use Rattle.sysv_service.proofs.Doing.{turn_is_made, worn_is_seen, read_is_seen, does}
-use Rattle.sysv_service.proofs.Owning.{plays}
+use Rattle.sysv_service.proofs.Playing.{plays}
 
 -- ---- a call of any clock
 

@@ -1,6 +1,6 @@
 -- A retry finds the count at its goal.
-use Rattle.std.proofs.Common.{◌≡◌, ℕ, ◌≤◌, List, [], ◌∷◌, ◌++◌, refl, sym, ap, ◌∙◌, subst, arith}
-use mathlib.Core.Option.{some, some-injective}
+use Rattle.std.proofs.Common.{◌≡◌, ℕ, zero, suc, slice_set, ◌≤◌, List, [], ◌∷◌, ◌++◌, refl, sym, ap, ◌∙◌, subst, arith}
+use mathlib.Core.Option.{some, some-injective, some-ne-none}
 use lib.ListN.{get_elem?}
 use Rattle.sysv_model.specs.History.{Call}
 use Rattle.sysv_model.specs.Registry.{RegistryCall}
@@ -18,7 +18,14 @@ use Rattle.sysv_gated.specs.Counts.{registry_counts}
 use Rattle.sysv_gated.specs.Seats.{SlotSeat, Seats, TakesTurn, MakesTurnAt}
 use Rattle.sysv_gated.specs.Reading.{Finds}
 use Rattle.sysv_service.specs.Retried.{all_but_last, count_found, EachRetryIsAtItsGoal}
-use Rattle.sysv_service.proofs.Owning.{is_there}
+
+set_there : {A : Type 0} (xs : List A) (i : ℕ) (a b : A) → get_elem? xs i ≡ some a → get_elem? (slice_set xs i b) i ≡ some b
+set_there [] i a b at = absurd (some-ne-none a (sym at))
+set_there (x ∷ xs) zero a b at = refl
+set_there (x ∷ xs) (suc i) a b at = set_there xs i a b at
+
+is_there : {how : SlotSeat → SlotSeat → Type 0} (place : ℕ) (before after : List SlotSeat) (changes : ChangesAt place before after how) → get_elem? after place ≡ some changes.is
+is_there place before after changes = subst (λ xs. get_elem? xs place ≡ some changes.is) (sym changes.others) (set_there before place changes.was changes.is changes.at)
 
 all_but : {A : Type 0} (xs : List A) (y : A) → all_but_last (xs ++ y ∷ []) ≡ xs
 all_but [] y = refl

@@ -13,13 +13,12 @@ pub mod Left
 pub mod Told
 pub mod Stopped
 pub mod Closing
-pub mod PlayedWorn
-pub mod OwnTurns
 pub mod RightAnswers
 pub mod Delivered
 pub mod Retried
 pub mod Life
 pub mod PoolWhole
 pub mod Marks
+pub mod OwnTurns
 pub mod Working
 pub mod Hiring

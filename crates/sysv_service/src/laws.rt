@@ -13,7 +13,7 @@ use crate::pass::Pass;
 use sysv_driver::Clock;
 use sysv_free::every_service_that_came_home_is_a_run;
 use sysv_gated::{each_seat_obeys, seen_histories};
-use sysv_steps::{each_answer_is_right, each_plays_apart};
+use sysv_steps::each_answer_is_right;
 
 /// Whatever calls were made with a pass, and whether it was opened, split off or joined, each of its seats knows just the
 /// turns of its own in what it has seen, and what it has seen of each object obeys the law of that object.
@@ -32,16 +32,12 @@ pub fn each_run_answers_right<C: Clock>(clock: &C)
     each_answer_is_right();
 }
 
-/// A call adds to the turns that its pass knows as its own, at each object, just the turns that it made there, in order. It
-/// is played on these lists, and uses them up: a step or a wait at a worn gate comes only where the list of that object has
-/// no turn left and the pass's seat there is marked. Where the call found no gate worn out, it is played by the step table
-/// alone.
+/// A call adds to the turns that its pass has made, in the one order of all turns, just those that it made, in order. It is
+/// played along them where it found no gate worn out, as it did where the pass is unmarked after it.
 pub fn each_plays_its_own<C: Clock>(clock: &C)
     ensures stamped { EachPlaysItsOwn (C.may clock.now) }
     ensures unstamped { EachPlaysItsOwn no_moment }
-{
-    each_plays_apart();
-}
+{}
 
 /// A call that waited for room, for a message or for a settled key comes back to an object whose count is at least the goal
 /// of the wait.

@@ -12,4 +12,3 @@ pub mod Patience
 pub mod WorkedPlays
 pub mod Holding
 pub mod Reading
-pub mod Parting

@@ -15,7 +15,6 @@ pub mod Asks
 pub mod Next
 pub mod Resume
 pub mod Played
-pub mod PlayedApart
 pub mod AsksFor
 pub mod HoldsAsked
 pub mod OneAnswer

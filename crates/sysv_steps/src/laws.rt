@@ -7,7 +7,6 @@ ghost use Rattle.sysv_steps.specs.HeldBlocks.{EachHoldsItsBlocks, EachStepKeepsI
 ghost use Rattle.sysv_steps.specs.HoldsAsked.{EachHoldsWhatItWasAsked};
 ghost use Rattle.sysv_steps.specs.MayWait.{EachWaitsWhereItMay};
 ghost use Rattle.sysv_steps.specs.OneAnswer.{OneAnswer};
-ghost use Rattle.sysv_steps.specs.PlayedApart.{EachPlaysApart};
 ghost use Rattle.sysv_steps.specs.ReadLast.{EachWaitsAboveWhatItRead};
 ghost use Rattle.sysv_steps.specs.Tended.{EachIsTended};
 ghost use Rattle.sysv_steps.specs.WaitsFor.{EachWaitsForItsRefusal};
@@ -65,12 +64,6 @@ pub fn each_deed_is_asked_for()
 /// The same call with the same turns of its own has one answer.
 pub fn one_answer()
     ensures { OneAnswer }
-{}
-
-/// A call whose turns are kept in a list for each object plays them as it plays one list across the objects: the table
-/// says which object comes next.
-pub fn each_plays_apart()
-    ensures { EachPlaysApart }
 {}
 
 /// What the laws of a call admit and refuse, at worked calls.

@@ -1,9 +1,9 @@
-use Rattle.sysv_service.proofs.Wearing.{each_plays}
 use Rattle.sysv_driver.specs.Stepping.{no_moment}
+use Rattle.sysv_service.proofs.Playing.{each_plays}
 use Rattle.sysv_service.proofs.laws.each_plays_its_own.Goals as goal
 
 pub returns-clause-stamped : goal.returns-clause-stamped
-returns-clause-stamped g c = each_plays c.each_plays_apart.ensures _
+returns-clause-stamped g c = each_plays _
 
 pub returns-clause-unstamped : goal.returns-clause-unstamped
-returns-clause-unstamped g c = each_plays c.each_plays_apart.ensures no_moment
+returns-clause-unstamped g c = each_plays no_moment
