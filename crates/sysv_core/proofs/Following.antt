@@ -1,9 +1,6 @@
 -- A step of a call leads to a state of a call of the same kind.
-use Rattle.std.proofs.Common.{◌≡◌, ◌↔◌, ◌<◌, ◌≤◌, inl, inr, IsTrue, rules, arith, ℕ, ℤ, ◌+◌, Bool, true, false, cond, ◌||◌, nat_lt, length, List, Option, Some, None, is_some, refl, sym, ap, subst, ◌∙◌}
+use Rattle.std.proofs.Common.{◌≡◌, ◌↔◌, ◌<◌, ◌≤◌, inl, inr, IsTrue, rules, arith, ℕ, ℤ, ◌+◌, Bool, true, false, cond, length, List, Some, refl, sym, subst}
 use Rattle.sysv_model.specs.declared.cred.Cred.{Cred}
-use Rattle.std.proofs.lemmas.Bool.Decides.{nat_tests}
-use Rattle.sysv_model.specs.declared.flags.Flags.{Flags}
-use Rattle.sysv_model.specs.declared.limits.TheConstants.{MESSAGE_BYTES}
 use Rattle.sysv_model.specs.declared.errno.Errno.{Errno}
 use Rattle.sysv_model.specs.declared.errno.Errno.TheVariants.{EINVAL}
 use Rattle.sysv_model.specs.History.{Reply, Installed, Gone, Denied, Granted, Full, Fits, Accepted, NoMatch, TooLong, Taken, Told as TellsStat, Done, Discarded, Refused as IsRefusedFor}
@@ -20,16 +17,7 @@ use Rattle.sysv_steps.specs.Next.{waits_or, goes_on, after_begin, after_install,
 use Rattle.sysv_steps.specs.Resume.{resume}
 use Rattle.sysv_steps.specs.Asks.{asks}
 use Rattle.sysv_steps.specs.HeldBlocks.{HasItsBlocks}
-use Rattle.sysv_pool.specs.Chain.{Chained}
-use Rattle.sysv_steps.specs.declared.send.Sending.{Sending as SendKept}
-use Rattle.sysv_steps.specs.declared.state.Phase.{Phase as PhaseKept}
-use Rattle.sysv_steps.specs.declared.state.Phase.TheVariants as kept
-use Rattle.sysv_steps.specs.Seen.{phase_of, sending}
-use Rattle.sysv_core.specs.declared.doing.Led.{Led}
-use Rattle.sysv_core.specs.declared.doing.Led.TheVariants as led
-use Rattle.sysv_core.specs.Led.{LeadsTo}
-use Rattle.sysv_core.specs.Kinds.{Kind, Sends, Receives, Bare, kind_of, phase_kind, wait_kind, gives_back, IsOf, brings}
-use Rattle.sysv_core.specs.Held.{text_in, IsHeldBy, IsHeldOrOver}
+use Rattle.sysv_core.specs.Kinds.{Kind, Sends, Receives, Bare, kind_of, phase_kind, wait_kind, IsOf}
 use Rattle.sysv_lists.proofs.Orders.{at_most}
 
 -- the step is an install
@@ -243,13 +231,6 @@ resumed_later kind (OnFreed goal send) value k = (k, refl, tt)
 resumed_later kind (OnArrived goal receive) value k = (k, refl, tt)
 resumed_later kind (OnReleased goal send) value k = (k, refl, tt)
 
--- a call whose wait is over has what it had
-pub resumed_held : (wait : Wait) (value : ℕ) (phase : Phase) (body : Option (List ℕ)) → resume wait value ≡ phase → IsHeldBy (Waits wait) body → IsHeldBy (Goes phase) body
-resumed_held (OnSettled goal get) value phase body e h = subst (λ p. IsHeldBy (Goes p) body) e (record { has = h.has; short = h.short; blocks = λ send n f. absurd cc })
-resumed_held (OnFreed goal send) value phase body e h = subst (λ p. IsHeldBy (Goes p) body) e (record { has = h.has; short = h.short; blocks = λ send n f. absurd cc })
-resumed_held (OnArrived goal receive) value phase body e h = subst (λ p. IsHeldBy (Goes p) body) e (record { has = h.has; short = h.short; blocks = λ send n f. absurd cc })
-resumed_held (OnReleased goal send) value phase body e h = subst (λ p. IsHeldBy (Goes p) body) e (record { has = h.has; short = h.short; blocks = λ send n f. absurd cc })
-
 first_later : (cred : Cred) (asked : SystemCall) (released : ℕ) → IsLater (kind_of asked) (Goes (first cred asked released))
 first_later cred (Msgget key flags) released = (refl, refl, tt)
 first_later cred (Msgsnd id mtype flags text) released = (refl, refl, tt)
@@ -264,99 +245,6 @@ begun_by cred asked released false = first_later cred asked released
 
 pub begun_later : (cred : Cred) (asked : SystemCall) (released : ℕ) → IsLater (kind_of asked) (begin cred asked released)
 begun_later cred asked released = begun_by cred asked released (is_refused asked)
-
--- ---- the body that a call holds
-
--- a body of such a call, whose text is short where it is sent
-pub record IsBrought (kind : Kind) (body : Option (List ℕ)) : Type 0 where
-  pub has : is_some body ≡ brings (Some kind)
-  pub short : kind ≡ Sends → length (text_in body) ≤ MESSAGE_BYTES
-
-kind_is : (o : Option Kind) (k kind : Kind) → o ≡ Some kind → o ≡ Some k → kind ≡ k
-kind_is o k kind e f = let both : Some kind ≡ Some k = sym e ∙ f in cc
-
-pub held_of : (kind : Kind) (s : State) (body : Option (List ℕ)) → IsBrought kind body → IsOf kind s → HasItsBlocks s → IsHeldOrOver s body
-held_of kind (Goes phase) body h k b = record { has = h.has ∙ ap brings (sym k); short = λ e. h.short (kind_is (phase_kind phase) Sends kind k e); blocks = λ send n e. subst HasItsBlocks e b }
-held_of kind (Waits wait) body h k b = record { has = h.has ∙ ap brings (sym k); short = λ e. h.short (kind_is (wait_kind wait) Sends kind k e); blocks = λ send n e. subst HasItsBlocks e b }
-held_of kind (Over ending) body h k b = tt
-
-pub bare : IsBrought Bare None
-bare = record { has = refl; short = λ e. absurd cc }
-
-pub received : (text : List ℕ) → IsBrought Receives (Some text)
-received text = record { has = refl; short = λ e. absurd cc }
-
-pub sent : (text : List ℕ) → length text ≤ MESSAGE_BYTES → IsBrought Sends (Some text)
-sent text low = record { has = refl; short = λ e. low }
-
--- a call that was just started
-pub held_begun : (cred : Cred) (asked : SystemCall) (released : ℕ) (s : State) (body : Option (List ℕ)) → IsBrought (kind_of asked) body → begin cred asked released ≡ s → IsHeldOrOver s body
-held_begun cred asked released s body h e =
-    let l = begun_later cred asked released in
-    held_of (kind_of asked) s body h (subst (IsOf (kind_of asked)) e (later_of (kind_of asked) (begin cred asked released) l)) (subst HasItsBlocks e (blocks_later (kind_of asked) (begin cred asked released) l))
-
-or_false : (a b c : Bool) → (a || b || c) ≡ false → b ≡ false
-or_false true b c e = absurd cc
-or_false false true c e = absurd cc
-or_false false false c e = refl
-
-not_long : (a b : ℕ) → nat_lt a b ≡ false → b ≤ a
-not_long a b e = elim (at_most b a) [
-  | inl low ↦ low
-  | inr high ↦ let yes : nat_lt a b ≡ true = grind (arith, nat_tests, high) in absurd cc
-]
-
-sent_by : (cred : Cred) (id mtype : ℤ) (flags : Flags) (text : List ℕ) (released : ℕ) (s : State) (b : Bool) → is_refused (Msgsnd id mtype flags text) ≡ b → begin cred (Msgsnd id mtype flags text) released ≡ s → IsHeldOrOver s (Some text)
-sent_by cred id mtype flags text released s true r e =
-    subst (λ x. IsHeldOrOver x (Some text)) (ap (λ b. cond b (Over (Refused EINVAL)) (Goes (first cred (Msgsnd id mtype flags text) released))) (sym r) ∙ e) tt
-sent_by cred id mtype flags text released s false r e =
-    held_begun cred (Msgsnd id mtype flags text) released s (Some text) (sent text (not_long MESSAGE_BYTES (length text) (or_false _ _ _ r))) e
-
-pub held_sent : (cred : Cred) (id mtype : ℤ) (flags : Flags) (text : List ℕ) (released : ℕ) (s : State) → begin cred (Msgsnd id mtype flags text) released ≡ s → IsHeldOrOver s (Some text)
-held_sent cred id mtype flags text released s e = sent_by cred id mtype flags text released s (is_refused (Msgsnd id mtype flags text)) refl e
-
--- a call that made a step
-pub held_next : (kind : Kind) (phase : Phase) (deed : Deed) (s : State) (body : Option (List ℕ)) → IsBrought kind body → GivesBlocks phase deed → phase_kind phase ≡ Some kind → next phase deed ≡ Some s → IsHeldOrOver s body
-held_next kind phase deed s body h g k e = held_of kind s body h (of_next kind phase deed s g k e) (blocks_next kind phase deed s g k e)
-
-abbrev IsWaiting : State → Type 0
-IsWaiting (Waits wait) = Unit {0}
-IsWaiting (Goes phase) = ⊥
-IsWaiting (Over ending) = ⊥
-
--- a send that gave its chain back
-pub held_given_back : (blocks : ℕ) (afterwards : Afterwards) (reply : PoolReply) (s : State) (body : Option (List ℕ)) → IsHeldBy (Goes (AtSendGiveback blocks afterwards)) body →
-    after_giveback (goes_on afterwards) reply ≡ Some s → IsHeldOrOver s body
-held_given_back blocks (IsRefused why) Released s body h e = let is : Over (Refused why) ≡ s = some_is e in subst (λ x. IsHeldOrOver x body) is tt
-held_given_back blocks (IsRefused why) Foreign s body h e = let is : Over (Refused why) ≡ s = some_is e in subst (λ x. IsHeldOrOver x body) is tt
-held_given_back blocks (WaitsOn wait) Released s body h e =
-    let is : Waits wait ≡ s = some_is e in subst (λ x. IsHeldOrOver x body) is (record { has = h.has; short = h.short; blocks = λ send n f. absurd cc })
-held_given_back blocks (WaitsOn wait) Foreign s body h e =
-    let is : Waits wait ≡ s = some_is e in subst (λ x. IsHeldOrOver x body) is (record { has = h.has; short = h.short; blocks = λ send n f. absurd cc })
-held_given_back blocks afterwards (Reserved n) s body h e = absurd cc
-held_given_back blocks afterwards TooFew s body h e = absurd cc
-
--- it gives its body back to nobody
-led_so : (b : Bool) (s : State) (l : Led) → IsWaiting s → LeadsTo false s l → LeadsTo b s l
-led_so b (Waits wait) (led.To doing) w h = h
-led_so b (Waits wait) (led.Over ended) w h = h
-led_so b (Waits wait) (led.Stays doing) w h = h
-led_so b (Goes phase) l w h = absurd w
-led_so b (Over ending) l w h = absurd w
-
-pub led_back : (blocks : ℕ) (afterwards : Afterwards) (reply : PoolReply) (s : State) (l : Led) → after_giveback (goes_on afterwards) reply ≡ Some s →
-    LeadsTo false s l → LeadsTo (gives_back (phase_kind (AtSendGiveback blocks afterwards))) s l
-led_back blocks (IsRefused why) reply s l e h = h
-led_back blocks (WaitsOn wait) Released s l e h = led_so (gives_back (wait_kind wait)) s l (subst IsWaiting (some_is e) tt) h
-led_back blocks (WaitsOn wait) Foreign s l e h = led_so (gives_back (wait_kind wait)) s l (subst IsWaiting (some_is e) tt) h
-led_back blocks (WaitsOn wait) (Reserved n) s l e h = absurd cc
-led_back blocks (WaitsOn wait) TooFew s l e h = absurd cc
-
--- a send before its place holds the blocks that its text takes
-pub place_blocks : (p : PhaseKept) (body : Option (List ℕ)) (send : SendKept) (chain : Chained) (text : List ℕ) → p ≡ kept.Place send chain → body ≡ Some text →
-    IsHeldBy (Goes (phase_of p (text_in body))) body → chain.blocks ≡ blocks_for (length text)
-place_blocks p body send chain text is has h =
-    h.blocks (sending send text) chain.blocks (ap (λ x. Goes (phase_of x (text_in body))) is ∙ ap (λ b. Goes (phase_of (kept.Place send chain) (text_in b))) has)
 
 -- a wait whose test says that it is not over
 pub not_over : (b : Bool) → b ≡ false → (goal count value : ℕ) → IsTrue b ↔ goal ≤ count → count ≡ value → value < goal

@@ -1,5 +1,6 @@
 pub mod Lists
 pub mod Following
+pub mod Holding
 pub mod Histories
 pub mod Conserving
 pub mod Sounding

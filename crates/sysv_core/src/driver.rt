@@ -1,17 +1,16 @@
 //! The steps of a call: what it asks of the objects, and where their replies lead it.
 
-ghost use Rattle.std.specs.Prelude.{◌≡◌, ◌≤◌, ℕ, ◌^◌, List, [], length, Option, Some, Result, is_some, true, ⊤};
+ghost use Rattle.std.specs.Prelude.{◌≡◌, ◌≤◌, ℕ, ◌^◌, List, [], length, Option, None, Some, is_some, true};
 ghost use Rattle.sysv_model.specs.declared.limits.TheConstants.{MESSAGE_BYTES as most_bytes};
-ghost use Rattle.sysv_model.specs.Pool.{blocks_for, Release};
-ghost use Rattle.sysv_model.specs.Turn.{Turn, AtPool};
-ghost use Rattle.sysv_pool.specs.Chain.{Chained};
-ghost use Rattle.sysv_pool.specs.Replies.{release_reply};
+ghost use Rattle.sysv_model.specs.Turn.{Turn};
 ghost use Rattle.sysv_objects.specs.Objects.{CountsUpTo};
 ghost use Rattle.sysv_objects.specs.StandsFor.{StandsFor, MakesTurn};
 ghost use Rattle.sysv_steps.specs.Begin.{begin as begins};
-ghost use Rattle.sysv_steps.specs.State.{AtBegin, AtInstall, AtSettle, AtProbe, AtUnmake, AtLook, AtReserve, AtPlace, AtSendGiveback, AtTake, AtReceiveGiveback, AtStat, AtSet, AtSetGiveback, AtRemove, AtForget, AtRemoveGiveback, Goes, Waits};
+ghost use Rattle.sysv_steps.specs.State.{Goes, Waits};
 ghost use Rattle.sysv_steps.specs.Resume.{awaited};
-ghost use Rattle.sysv_steps.specs.Seen.{phase_of, wait_of, afterwards_of, state_of, ending_of, getting, sending, receiving};
+ghost use Rattle.sysv_steps.specs.Seen.{phase_of, wait_of, state_of, ending_of};
+ghost use Rattle.sysv_driver.specs.Kinds.{Sends, Receives};
+ghost use Rattle.sysv_driver.specs.Stepping.{StepsOn};
 ghost use Rattle.sysv_core.specs.World.{value_of};
 ghost use Rattle.sysv_core.specs.Answered.{TellsEnding, outcome_of, text_given, body_with};
 ghost use Rattle.sysv_core.specs.Asked.{asked_of};
@@ -24,14 +23,13 @@ ghost use Rattle.sysv_core.specs.Led.{LeadsTo, TurnLeads, LookLeads, StepLeads};
 
 use crate::doing::{Doing, Ended, Led};
 use crate::event::{Call, Outcome, Standing};
-use bitflags::Flags as _;
-use sysv_model::{Body, Cred, SetTo};
-use sysv_objects::Objects;
+use sysv_driver::{Clock, get_step, receive_step, remove_step, send_step, set_step, stat_step};
+use sysv_model::{Body, Cred};
+use sysv_objects::{Directly, Objects};
 use sysv_pool::Chain;
-use sysv_queue::{Delivery, PlaceRefused};
+use sysv_queue::Delivery;
 use sysv_steps::{
-    Afterwards, Ending, Getting, Phase, Receiving, Sending, State, Wait, begin_remove, begin_set,
-    begin_stat, forgotten, given_back, removed, set_done, stat_told,
+    Ending, Getting, Phase, Receiving, Sending, State, Wait, begin_remove, begin_set, begin_stat,
 };
 
 /// The start of a call, where the released count is `released`.
@@ -92,203 +90,97 @@ pub fn counted(led: &Led) -> u64
     }
 }
 
-/// One turn of a call that has this body.
+/// One turn of a call that has this body. A chain that the pool refuses as that of another is freed, since it is
+/// given back once.
 fn turn(objects: &mut Objects, phase: Phase, body: Option<Body>, now: u64) -> Led
     requires counts { CountsUpTo (2 ^ 62) objects.old }
     requires held { IsHeldBy (Goes (phase_of phase (text_in body))) body }
     ensures { TurnLeads objects.old (phase_of phase (text_in body)) now result objects.new }
 {
+    let moment = Moment { at: now };
+    let Some(body) = body else {
+        return bare_turn(objects, &moment, phase);
+    };
     match phase {
-        Phase::Begin(get) => begin_key(objects, get),
-        Phase::Install { get, id } => install(objects, get, id, now),
-        Phase::Settle { id } => settle(objects, id),
-        Phase::Probe { get, id, settled } => probe(objects, get, id, settled),
-        Phase::Unmake { id } => unmake(objects, id),
-        Phase::Look(send) => look(objects, send, body.unwrap()),
-        Phase::Reserve(send) => reserve(objects, send, body.unwrap()),
-        Phase::Place { send, chain } => place(objects, send, chain, body.unwrap(), now),
-        Phase::SendGiveback { chain, afterwards } => { give_back(objects, chain, afterwards, body) }
-        Phase::Take(receive) => take(objects, receive, body.unwrap(), now),
-        Phase::ReceiveGiveback { chain, delivery } => {
-            end_receive(objects, chain, delivery, body.unwrap())
+        Phase::Take(_) | Phase::ReceiveGiveback { .. } => {
+            receive_turn(objects, &moment, body, phase)
         }
-        Phase::Stat { cred, id } => stat(objects, cred, id),
-        Phase::Set { cred, id, to } => set(objects, cred, id, to, now),
-        Phase::SetGiveback => end_set(objects),
-        Phase::Remove { cred, id } => remove(objects, cred, id),
-        Phase::Forget { id, chain } => forget(objects, id, chain),
-        Phase::RemoveGiveback { chain } => end_remove(objects, chain),
+        _ => send_turn(objects, &moment, body, phase),
     }
 }
 
-fn begin_key(objects: &mut Objects, get: Getting) -> Led
-    ensures { TurnLeads objects.old (AtBegin (getting get)) 0 result objects.new }
-{
-    let begun = objects.begin(get.key, get.flags);
-    lead(get.begun(begun), None, false)
+/// The moment of a step, at which the clock stands still.
+#[derive(Clone, Copy)]
+struct Moment {
+    at: u64,
 }
 
-fn install(objects: &mut Objects, get: Getting, id: i32, now: u64) -> Led
-    ensures { TurnLeads objects.old (AtInstall (getting get) id) now result objects.new }
-{
-    let made = objects.install(id, get.key, get.cred, get.flags.bits(), now);
-    lead(Getting::installed(id, made), None, false)
+impl Clock for Moment {
+    ghost use Rattle.std.specs.Prelude.{◌≡◌};
+
+    ghost may = { λ moment now. now ≡ moment.at };
+
+    fn now(&self) -> u64 {
+        self.at
+    }
 }
 
-fn settle(objects: &mut Objects, id: i32) -> Led
-    ensures { TurnLeads objects.old (AtSettle id) 0 result objects.new }
-{
-    objects.settle(id);
-    lead(Getting::settled(id), None, false)
-}
-
-fn probe(objects: &Objects, get: Getting, id: i32, settled: u64) -> Led
-    ensures { TurnLeads objects.now (AtProbe (getting get) id settled) 0 result objects.now }
-{
-    let found = objects.probe(id, get.cred, get.flags);
-    lead(get.probed(id, settled, found), None, false)
-}
-
-fn unmake(objects: &mut Objects, id: i32) -> Led
-    ensures { TurnLeads objects.old (AtUnmake id) 0 result objects.new }
-{
-    objects.forget(id);
-    lead(Getting::unmade(), None, false)
-}
-
-fn look(objects: &Objects, send: Sending, body: Body) -> Led
-    requires { length body ≤ most_bytes }
-    ensures { TurnLeads objects.now (AtLook (sending send body)) 0 result objects.now }
-{
-    let found = objects.look(send.id, send.cred, body.len());
-    lead(send.looked(found), Some(body), false)
-}
-
-fn reserve(objects: &mut Objects, send: Sending, body: Body) -> Led
-    requires { length body ≤ most_bytes }
-    ensures { TurnLeads objects.old (AtReserve (sending send body)) 0 result objects.new }
-{
-    let chain = objects.reserve(body.len());
-    lead(send.reserved(chain), Some(body), false)
-}
-
-/// The text is copied into the chain just before its place.
-fn place(objects: &mut Objects, send: Sending, mut chain: Chain, body: Body, now: u64) -> Led
+/// One turn of a call without a body.
+fn bare_turn(objects: &mut Objects, moment: &Moment, phase: Phase) -> Led
     requires counts { CountsUpTo (2 ^ 62) objects.old }
-    requires blocks { chain.blocks ≡ blocks_for (length body) }
+    requires held { IsHeldBy (Goes (phase_of phase [])) None }
+    ensures { TurnLeads objects.old (phase_of phase []) moment.now.at result objects.new }
+{
+    let mut kept = Chain::empty();
+    let state = bare_step(objects, &mut kept, moment, phase);
+    kept.end();
+    lead(state, None, false)
+}
+
+/// The step of the call's kind.
+fn bare_step(objects: &mut Objects, kept: &mut Chain, moment: &Moment, phase: Phase) -> State
+    requires counts { CountsUpTo (2 ^ 62) objects.old }
+    requires held { IsHeldBy (Goes (phase_of phase [])) None }
+    ensures held { IsHeldOrOver (state_of result []) None }
+    ensures steps { StepsOn MakesTurn (λ _ _ _. ⊥) (λ now. now ≡ moment.now.at)
+        (phase_of phase []) objects.old kept.old.blocks (state_of result [])
+        objects.new kept.new.blocks }
+{
+    match phase {
+        Phase::Stat { .. } => stat_step(&Directly, objects, phase),
+        Phase::Set { .. } | Phase::SetGiveback => {
+            set_step(&Directly, objects, kept, moment, phase)
+        }
+        Phase::Remove { .. } | Phase::Forget { .. } | Phase::RemoveGiveback { .. } => {
+            remove_step(&Directly, objects, kept, phase)
+        }
+        _ => get_step(&Directly, objects, moment, phase),
+    }
+}
+
+/// One turn of a send that has this text.
+fn send_turn(objects: &mut Objects, moment: &Moment, body: Body, phase: Phase) -> Led
+    requires counts { CountsUpTo (2 ^ 62) objects.old }
     requires short { length body ≤ most_bytes }
-    ensures { TurnLeads objects.old
-        (AtPlace (sending send body) chain.blocks) now result objects.new }
+    requires sends { Sends (Goes (phase_of phase body)) }
+    ensures { TurnLeads objects.old (phase_of phase body) moment.now.at result objects.new }
 {
-    chain.fill(&body);
-    match objects.place(send.id, send.cred, send.mtype, chain, body.len(), now) {
-        Ok(_) => Led::Over(Ended {
-            result: Outcome::Zero,
-            body: None,
-            spare: Some(body),
-            delivery: None,
-        }),
-        Err(PlaceRefused { why, chain }) => lead(send.unplaced(why, chain), Some(body), false),
-    }
+    let mut kept = Chain::empty();
+    let state = send_step(&Directly, objects, &mut kept, moment, &body, phase);
+    kept.end();
+    lead(state, Some(body), false)
 }
 
-fn give_back(objects: &mut Objects, chain: Chain, afterwards: Afterwards, body: Option<Body>) -> Led
+/// One turn of a receive that fills this body.
+fn receive_turn(objects: &mut Objects, moment: &Moment, mut body: Body, phase: Phase) -> Led
     requires counts { CountsUpTo (2 ^ 62) objects.old }
-    requires held { IsHeldBy (Goes
-        (AtSendGiveback chain.blocks (afterwards_of afterwards (text_in body)))) body }
-    ensures { TurnLeads objects.old
-        (AtSendGiveback chain.blocks (afterwards_of afterwards (text_in body))) 0 result
-        objects.new }
+    requires receives { Receives (Goes (phase_of phase body)) }
+    ensures { TurnLeads objects.old (phase_of phase body) moment.now.at result objects.new }
 {
-    release(objects, chain);
-    lead(afterwards.given_back(), body, false)
-}
-
-/// The text that is given is copied out once the message is taken.
-fn take(objects: &mut Objects, receive: Receiving, mut body: Body, now: u64) -> Led
-    requires { CountsUpTo (2 ^ 62) objects.old }
-    ensures { TurnLeads objects.old (AtTake (receiving receive)) now result objects.new }
-{
-    let Receiving {
-        cred,
-        id,
-        selector,
-        size,
-        noerror,
-        ..
-    } = receive;
-    match objects.take(id, cred, selector, size, noerror, now) {
-        Ok(taken) => {
-            let (delivery, chain) = taken.finish(size, &mut body);
-            lead(receive.given(delivery, chain), Some(body), true)
-        }
-        Err(why) => lead(receive.untaken(why), Some(body), true),
-    }
-}
-
-fn end_receive(objects: &mut Objects, chain: Chain, delivery: Delivery, body: Body) -> Led
-    requires { CountsUpTo (2 ^ 62) objects.old }
-    ensures { TurnLeads objects.old
-        (AtReceiveGiveback chain.blocks delivery.mtype body) 0 result objects.new }
-{
-    release(objects, chain);
-    lead(Receiving::given_back(delivery), Some(body), true)
-}
-
-fn stat(objects: &Objects, cred: Cred, id: i32) -> Led
-    ensures { TurnLeads objects.now (AtStat cred id) 0 result objects.now }
-{
-    lead(stat_told(objects.stat(id, cred)), None, false)
-}
-
-fn set(objects: &mut Objects, cred: Cred, id: i32, to: SetTo, now: u64) -> Led
-    requires { CountsUpTo (2 ^ 62) objects.old }
-    ensures { TurnLeads objects.old (AtSet cred id to) now result objects.new }
-{
-    let done = objects.set(id, cred, to, now);
-    lead(set_done(done), None, false)
-}
-
-fn end_set(objects: &mut Objects) -> Led
-    requires { CountsUpTo (2 ^ 62) objects.old }
-    ensures { TurnLeads objects.old AtSetGiveback 0 result objects.new }
-{
-    release(objects, Chain::empty());
-    lead(given_back(), None, false)
-}
-
-fn remove(objects: &mut Objects, cred: Cred, id: i32) -> Led
-    requires { CountsUpTo (2 ^ 62) objects.old }
-    ensures { TurnLeads objects.old (AtRemove cred id) 0 result objects.new }
-{
-    let done = objects.remove(id, cred);
-    lead(removed(id, done), None, false)
-}
-
-fn forget(objects: &mut Objects, id: i32, chain: Chain) -> Led
-    ensures { TurnLeads objects.old (AtForget id chain.blocks) 0 result objects.new }
-{
-    objects.forget(id);
-    lead(forgotten(chain), None, false)
-}
-
-fn end_remove(objects: &mut Objects, chain: Chain) -> Led
-    requires { CountsUpTo (2 ^ 62) objects.old }
-    ensures { TurnLeads objects.old (AtRemoveGiveback chain.blocks) 0 result objects.new }
-{
-    release(objects, chain);
-    lead(given_back(), None, false)
-}
-
-/// Releases a chain. One that the pool refuses as that of another is freed, since it is given back once.
-fn release(objects: &mut Objects, chain: Chain)
-    requires { CountsUpTo (2 ^ 62) objects.old }
-    ensures { (done : Result ⊤ Chained)
-        × MakesTurn objects.old (AtPool (Release chain.blocks) (release_reply done)) objects.new }
-{
-    if let Err(foreign) = objects.release(chain) {
-        foreign.end();
-    }
+    let mut kept = Chain::empty();
+    let state = receive_step(&Directly, objects, &mut kept, moment, &mut body, phase);
+    kept.end();
+    lead(state, Some(body), true)
 }
 
 /// A step of a call that waits: it goes on where its count is above, and else it stays.

@@ -1,11 +1,24 @@
 //! The preset queue.
 
+ghost use Rattle.std.specs.Prelude.{◌^◌};
+ghost use Rattle.sysv_model.specs.History.{Install, Installed};
+ghost use Rattle.sysv_model.specs.Registry.{Begin, Settle, Changed};
+ghost use Rattle.sysv_model.specs.Turn.{AtSlot, AtRegistry};
+ghost use Rattle.sysv_model.specs.declared.limits.TheConstants.{IPC_PRIVATE as private};
+ghost use Rattle.sysv_keys.specs.Identifier.{slot_of_id};
+ghost use Rattle.sysv_keys.specs.Replies.{begun_reply};
+ghost use Rattle.sysv_objects.specs.Objects.{CountsUpTo};
+ghost use Rattle.sysv_objects.specs.StandsFor.{MakesTurn};
+ghost use Rattle.sysv_core.specs.World.{preset_cred};
 ghost use Rattle.sysv_core.specs.Preset.{MakesPreset};
 
 use bitflags::Flags as _;
 use sysv_keys::{Begun, one_legal_reply, unused_slots};
 use sysv_model::{Cred, Flags, IPC_PRIVATE};
 use sysv_objects::Objects;
+use sysv_turns::{
+    ObjectCall, ObjectReply, RegistryCall, RegistryReply, SlotAsk, SlotCall, SlotReply,
+};
 
 /// The credentials with which the preset queue is made.
 const PRESET: Cred = Cred {
@@ -14,17 +27,60 @@ const PRESET: Cred = Cred {
     pid: 0,
 };
 
-/// Makes it, where slot 0 is unused: three turns, as a get of a private key would make them.
+/// Makes it, where slot 0 is unused: three turns, as a get of a private key would make them. No count may be above 2^62.
 pub fn preset_queue(objects: &mut Objects) -> bool
+    requires { CountsUpTo (2 ^ 62) objects.old }
     ensures { MakesPreset objects.old result objects.new }
 {
     unused_slots();
     one_legal_reply();
     let flags = Flags::from_bits_retain(0o600);
-    let Begun::Made { id } = objects.begin(IPC_PRIVATE, flags) else {
+    let Begun::Made { id } = begin(objects, flags) else {
         return false;
     };
-    let installed = objects.install(id, IPC_PRIVATE, PRESET, flags.bits(), 0);
-    let settled = objects.settle(id);
+    let installed = install(objects, id, flags.bits());
+    let settled = settle(objects, id);
     installed && settled
+}
+
+fn begin(objects: &mut Objects, flags: Flags) -> Begun
+    requires { CountsUpTo (2 ^ 62) objects.old }
+    ensures turn { MakesTurn objects.old (AtRegistry (Begin private flags) (begun_reply result))
+        objects.new }
+    ensures counts { CountsUpTo (2 ^ 62) objects.new }
+{
+    let key = IPC_PRIVATE;
+    match objects.make(ObjectCall::Registry(RegistryCall::Begin { key, flags })) {
+        ObjectReply::Registry(RegistryReply::Begun(begun)) => begun,
+        _other => unreachable!(),
+    }
+}
+
+fn install(objects: &mut Objects, id: i32, mode: u32) -> bool
+    requires { CountsUpTo (2 ^ 62) objects.old }
+    ensures turn { MakesTurn objects.old (AtSlot (slot_of_id id)
+        (Install id private preset_cred mode 0) (Installed result)) objects.new }
+    ensures counts { CountsUpTo (2 ^ 62) objects.new }
+{
+    let ask = SlotAsk::Install {
+        id,
+        key: IPC_PRIVATE,
+        cred: PRESET,
+        mode,
+        now: 0,
+    };
+    match objects.make(ObjectCall::Slot(SlotCall::Ask(ask))) {
+        ObjectReply::Slot(SlotReply::Installed(made)) => made,
+        _other => unreachable!(),
+    }
+}
+
+fn settle(objects: &mut Objects, id: i32) -> bool
+    requires { CountsUpTo (2 ^ 62) objects.old }
+    ensures { MakesTurn objects.old (AtRegistry (Settle id) (Changed result)) objects.new }
+{
+    match objects.make(ObjectCall::Registry(RegistryCall::Settle { id })) {
+        ObjectReply::Registry(RegistryReply::Changed(done)) => done,
+        _other => unreachable!(),
+    }
 }

@@ -1,20 +1,26 @@
 -- A turn at a slot, at the registry or at the pool is one of the objects.
-use Rattle.std.proofs.Common.{◌≡◌, ℕ, ◌+◌, ◌≤◌, List, [], ◌∷◌, ◌++◌, Some, inl, inr, refl, sym, ap, subst, ◌∙◌, arith, slice_get, slice_set, length-set}
+use Rattle.std.proofs.Common.{◌≡◌, ℕ, ◌+◌, ◌≤◌, cond, None, Ok, Err, List, [], ◌∷◌, ◌++◌, Some, inl, inr, refl, sym, ap, subst, ◌∙◌, arith, slice_get, slice_set, length-set}
 use Rattle.sysv_model.specs.History.{Who, Actor, Call, Reply, Entry}
 use Rattle.sysv_model.specs.Registry.{RegistryCall, RegistryReply}
-use Rattle.sysv_model.specs.Pool.{PoolCall, PoolReply}
+use Rattle.sysv_model.specs.Pool.{PoolEntry, frees as is_release, released}
 use Rattle.sysv_model.specs.Turn.{Deed, AtSlot, AtRegistry, AtPool, Turn, slot_history, registry_history, pool_history}
 use Rattle.sysv_queue.specs.Slot.{Slot}
 use Rattle.sysv_queue.specs.LegalReply.{Legal}
 use Rattle.sysv_queue.specs.StandsFor.{StandsFor as SlotStandsFor, MakesTurn as SlotMakesTurn}
 use Rattle.sysv_pool.specs.State.{State as Pool}
-use Rattle.sysv_pool.specs.StandsFor.{StandsFor as PoolStandsFor, MakesTurn as PoolMakesTurn}
+use Rattle.sysv_pool.specs.StandsFor.{StandsFor as PoolStandsFor}
 use Rattle.sysv_pool.specs.LegalReply.{Legal as LegalAtPool}
 use Rattle.sysv_keys.specs.StandsFor.{Registry, StandsFor as RegistryStandsFor, MakesTurn as RegistryMakesTurn}
+use Rattle.std.proofs.lemmas.List.Sums.{sum_by-append}
+use Rattle.sysv_turns.specs.declared.pool.PoolCall.{PoolCall as Asked}
+use Rattle.sysv_turns.specs.declared.pool.PoolCall.TheVariants as asked
+use Rattle.sysv_turns.specs.declared.pool.PoolReply.{PoolReply as Told}
+use Rattle.sysv_turns.specs.declared.pool.PoolReply.TheVariants as told
+use Rattle.sysv_turns.specs.PoolTurns.{pool_call, pool_reply, FitsPoolCall, PoolMoves}
 use Rattle.sysv_objects.specs.LegalDeed.{IsLegalDeed}
 use Rattle.sysv_objects.specs.Objects.{Objects, raises, pool_raises}
 use Rattle.sysv_objects.specs.StandsFor.{StandsFor, Stand, MakesTurn}
-use Rattle.sysv_objects.proofs.Lists.{set_same, get_set}
+use Rattle.sysv_objects.proofs.Lists.{get_set}
 use Rattle.sysv_objects.proofs.Histories.{turn_of, at_its_slot, at_another, registry_more, not_at_registry, not_at_slot, slot_not_at_pool, registry_not_at_pool, pool_not_at_slot, pool_not_at_registry, pool_more, arrives, frees}
 
 -- the objects with another slot at that number, with another registry, and with another pool
@@ -81,13 +87,6 @@ module _ (old : Objects) (number : ℕ) (was new : Slot) (call : Call) (reply : 
     );
   }
 
--- a turn that leaves its slot as it is
-pub at_slot_still : (old : Objects) (number : ℕ) (was : Slot) (call : Call) (reply : Reply) → slice_get old.slots number ≡ Some was → SlotMakesTurn was call reply was → Stand old →
-    MakesTurn old (AtSlot number call reply) old
-at_slot_still old number was call reply there turn st =
-    subst (λ slots. MakesTurn old (AtSlot number call reply) (record { slots = slots; registry = old.registry; pool = old.pool })) (set_same old.slots number was there)
-    (at_slot old number was was call reply there turn st)
-
 -- ---- at the registry
 
 pub at_registry : (old : Objects) (new : Registry) (call : RegistryCall) (reply : RegistryReply) → RegistryMakesTurn old.registry call reply new →
@@ -109,16 +108,38 @@ at_registry old new call reply turn = record {
 
 -- ---- at the pool
 
-pub at_pool : (old : Objects) (new : Pool) (call : PoolCall) (reply : PoolReply) → PoolMakesTurn old.pool call reply new → new.size ≡ old.pool.size → new.released ≤ old.pool.released + pool_raises call →
-    MakesTurn old (AtPool call reply) (with_pool old new)
-at_pool old new call reply turn size rise = record {
-  legal = λ generation turns st. subst (λ p. LegalAtPool p call reply) (sym st.pool.seen) turn.legal;
-  stands = λ generation turns who st. record {
-    many = st.many;
-    slots = λ at slot here. subst (λ h. SlotStandsFor h slot) (sym (pool_not_at_slot at turns who call reply)) (st.slots at slot here);
-    registry = subst (λ h. RegistryStandsFor generation h old.registry) (sym (pool_not_at_registry turns who call reply)) st.registry;
-    pool = subst (λ h. PoolStandsFor h new) (sym (pool_more turns (turn_of who (AtPool call reply)))) (turn.stands (pool_history turns) who st.pool);
-  };
-  size = size;
-  counts = λ bound up. (λ at slot here. let still = up.0 at slot here in (omega (arith, still.0), omega (arith, still.1)), omega (arith, up.1, rise));
-}
+-- the released count rises by a release alone
+releases : (call : Asked) (reply : Told) → FitsPoolCall call reply → cond (is_release (pool_reply reply)) 1 0 ≤ pool_raises (pool_call call)
+releases (asked.Reserve size) (told.Reserved None) fits = omega arith
+releases (asked.Reserve size) (told.Reserved (Some chain)) fits = omega arith
+releases (asked.Reserve size) (told.Released done) fits = absurd fits
+releases (asked.Release chain) (told.Released (Ok done)) fits = omega arith
+releases (asked.Release chain) (told.Released (Err back)) fits = omega arith
+releases (asked.Release chain) (told.Reserved some) fits = absurd fits
+
+released_rises : (old : Objects) (new : Pool) (call : Asked) (reply : Told) → PoolMoves old.pool call reply new → Stand old → new.released ≤ old.pool.released + pool_raises (pool_call call)
+released_rises old new call reply moves st =
+    let h = pool_history st.1 in
+    let e : PoolEntry = record { who = Actor 0 0; call = pool_call call; reply = pool_reply reply } in
+    let after = moves.turn.stands h (Actor 0 0) st.2.pool in
+    let was : released h ≡ old.pool.released = ap (λ (p : Pool). p.released) st.2.pool.seen in
+    let is : released (h ++ e ∷ []) ≡ new.released = ap (λ (p : Pool). p.released) after.seen in
+    let more = sum_by-append (λ (t : PoolEntry). cond (is_release t.reply) 1 0) h (e ∷ []) in
+    omega (arith, was, is, more, releases call reply moves.fits)
+
+pub at_pool : (old : Objects) (new : Pool) (call : Asked) (reply : Told) → PoolMoves old.pool call reply new → Stand old → MakesTurn old (AtPool (pool_call call) (pool_reply reply)) (with_pool old new)
+at_pool old new asks told moves stand =
+    let call = pool_call asks in
+    let reply = pool_reply told in
+    let rise = released_rises old new asks told moves stand in
+    record {
+      legal = λ generation turns st. subst (λ p. LegalAtPool p call reply) (sym st.pool.seen) moves.turn.legal;
+      stands = λ generation turns who st. record {
+        many = st.many;
+        slots = λ at slot here. subst (λ h. SlotStandsFor h slot) (sym (pool_not_at_slot at turns who call reply)) (st.slots at slot here);
+        registry = subst (λ h. RegistryStandsFor generation h old.registry) (sym (pool_not_at_registry turns who call reply)) st.registry;
+        pool = subst (λ h. PoolStandsFor h new) (sym (pool_more turns (turn_of who (AtPool call reply)))) (moves.turn.stands (pool_history turns) who st.pool);
+      };
+      size = moves.size;
+      counts = λ bound up. (λ at slot here. let still = up.0 at slot here in (omega (arith, still.0), omega (arith, still.1)), omega (arith, up.1, rise));
+    }

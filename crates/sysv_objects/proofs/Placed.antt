@@ -1,23 +1,24 @@
--- A turn that the code makes at the slot of an identifier.
-use Rattle.std.proofs.Common.{◌≡◌, ℕ, ℤ, [], ◌+◌, ◌<◌, ◌≤◌, List, Some, refl, sym, ap, subst, ◌∙◌, arith, length, get_or, slice_get, slice_set, w32, of_z, to_z, FitsSigned}
+-- A turn that the code makes at one of the objects.
+use Rattle.std.proofs.Common.{◌≡◌, ℕ, ℤ, [], ◌<◌, ◌≤◌, List, Some, refl, sym, ap, subst, ◌∙◌, arith, length, get_or, slice_get, slice_set, w32, of_z, to_z, FitsSigned}
 use Rattle.std.specs.List.{All}
 use Rattle.std.proofs.lemmas.Int.{to_z-of_z}
 use Rattle.std.proofs.lemmas.Option.{slice_get_read, slice_get_within, get_or_from_slice_get}
 use Rattle.sysv_model.specs.History.{Call, Reply, arrived, freed}
 use Rattle.sysv_model.specs.Registry.{RegistryCall, RegistryReply}
-use Rattle.sysv_model.specs.Pool.{PoolCall, PoolReply}
 use Rattle.sysv_model.specs.Turn.{AtSlot, AtRegistry, AtPool, Turn, slot_history}
 use Rattle.sysv_keys.specs.declared.identifier.TheConstants.{SLOTS}
 use Rattle.sysv_keys.specs.Identifier.{slot_of_id}
 use Rattle.sysv_keys.specs.StandsFor.{Registry, StandsFor as RegistryStandsFor, MakesTurn as RegistryMakesTurn}
 use Rattle.sysv_pool.specs.State.{State as Pool}
-use Rattle.sysv_pool.specs.StandsFor.{StandsFor as PoolStandsFor, MakesTurn as PoolMakesTurn}
+use Rattle.sysv_pool.specs.StandsFor.{StandsFor as PoolStandsFor}
 use Rattle.sysv_queue.specs.Slot.{Slot}
 use Rattle.sysv_queue.specs.StandsFor.{StandsFor as SlotStandsFor, MakesTurn as SlotMakesTurn}
-use Rattle.sysv_objects.specs.Objects.{Objects, CountsUpTo, pool_raises}
+use Rattle.sysv_turns.specs.declared.pool.PoolCall.{PoolCall as AskedOfPool}
+use Rattle.sysv_turns.specs.declared.pool.PoolReply.{PoolReply as ToldByPool}
+use Rattle.sysv_turns.specs.PoolTurns.{pool_call, pool_reply, PoolMoves}
+use Rattle.sysv_objects.specs.Objects.{Objects, CountsUpTo}
 use Rattle.sysv_objects.specs.StandsFor.{StandsFor, Stand, AreVacant, MakesTurn}
-use Rattle.sysv_objects.proofs.Lists.{set_same}
-use Rattle.sysv_objects.proofs.Lifting.{stand_on, at_slot, at_slot_still, at_registry, at_pool}
+use Rattle.sysv_objects.proofs.Lifting.{stand_on, at_slot, at_registry, at_pool}
 
 abbrev pub objects_of : List Slot → Registry → Pool → Objects
 objects_of slots registry pool = record { slots = slots; registry = registry; pool = pool }
@@ -27,34 +28,25 @@ pub its_slot : (place : ℕ) (id : ℤ) → FitsSigned w32 id → place ≡ slot
 its_slot place id fits is = is ∙ ap slot_of_id (to_z-of_z w32 id fits)
 
 module _ (items : List Slot) (registry : Registry) (pool : Pool) (seen : Objects) (view : objects_of items registry pool ≡ seen) (st : Stand (objects_of items registry pool))
-    (place : ℕ) (id : ℤ) (its : place ≡ slot_of_id id) (within : place < SLOTS) (was : Slot) (read : was ≡ get_or items place was) where
+    (place number : ℕ) (its : place ≡ number) (within : place < SLOTS) (was : Slot) (read : was ≡ get_or items place was) where
   there : slice_get items place ≡ Some was
   there = let many = st.2.many in slice_get_read items (length items) place was refl (omega (arith, many)) read
 
-  pub turned : (new : Slot) (call : Call) (reply : Reply) → SlotMakesTurn was call reply new → MakesTurn seen (AtSlot (slot_of_id id) call reply) (objects_of (slice_set items place new) registry pool)
+  pub turned : (new : Slot) (call : Call) (reply : Reply) → SlotMakesTurn was call reply new → MakesTurn seen (AtSlot number call reply) (objects_of (slice_set items place new) registry pool)
   turned new call reply turn =
       subst (λ n. MakesTurn seen (AtSlot n call reply) (objects_of (slice_set items place new) registry pool)) its
       (subst (λ old. MakesTurn old (AtSlot place call reply) (objects_of (slice_set items place new) registry pool)) view
       (at_slot (objects_of items registry pool) place was new call reply there turn st))
-
-  pub turned_still : (call : Call) (reply : Reply) → SlotMakesTurn was call reply was → MakesTurn seen (AtSlot (slot_of_id id) call reply) seen
-  turned_still call reply turn =
-      subst (λ n. MakesTurn seen (AtSlot n call reply) seen) its
-      (subst (λ old. MakesTurn old (AtSlot place call reply) old) view
-      (at_slot_still (objects_of items registry pool) place was call reply there turn st))
 
   pub stand_still : (new : Slot) (call : Call) (reply : Reply) → SlotMakesTurn was call reply new → Stand (objects_of (slice_set items place new) registry pool)
   stand_still new call reply turn =
       stand_on (objects_of items registry pool) (objects_of (slice_set items place new) registry pool) (AtSlot place call reply) st
       (at_slot (objects_of items registry pool) place was new call reply there turn st)
 
-  pub unchanged : (new : Slot) → new ≡ was → objects_of (slice_set items place new) registry pool ≡ seen
-  unchanged new same = ap (λ s. objects_of (slice_set items place s) registry pool) same ∙ (ap (λ ss. objects_of ss registry pool) (set_same items place was there) ∙ view)
-
   pub low : (bound : ℕ) → CountsUpTo bound seen → (was.arrived ≤ bound) × (was.freed ≤ bound)
   low bound up = up.0 place was (ap (λ (o : Objects). slice_get o.slots place) (sym view) ∙ there)
 
-  pub counted : (generation : ℕ) (turns : List Turn) → StandsFor generation turns seen → (was.arrived ≡ arrived (slot_history (slot_of_id id) turns)) × (was.freed ≡ freed (slot_history (slot_of_id id) turns))
+  pub counted : (generation : ℕ) (turns : List Turn) → StandsFor generation turns seen → (was.arrived ≡ arrived (slot_history number turns)) × (was.freed ≡ freed (slot_history number turns))
   counted generation turns s =
       let one = s.slots place was (ap (λ (o : Objects). slice_get o.slots place) (sym view) ∙ there) in
       let h = λ (n : ℕ). slot_history n turns in (
@@ -67,15 +59,13 @@ pub turned_at_registry : (items : List Slot) (registry : Registry) (pool : Pool)
 turned_at_registry items registry pool seen view new call reply turn =
     subst (λ old. MakesTurn old (AtRegistry call reply) (objects_of items new pool)) view (at_registry (objects_of items registry pool) new call reply turn)
 
-module _ (items : List Slot) (registry : Registry) (pool : Pool) (new : Pool) (call : PoolCall) (reply : PoolReply)
-    (turn : PoolMakesTurn pool call reply new) (size : new.size ≡ pool.size) (rise : new.released ≤ pool.released + pool_raises call) where
-  pub turned_at_pool : (seen : Objects) → objects_of items registry pool ≡ seen → MakesTurn seen (AtPool call reply) (objects_of items registry new)
+module _ (items : List Slot) (registry : Registry) (pool : Pool) (new : Pool) (call : AskedOfPool) (reply : ToldByPool) (moves : PoolMoves pool call reply new) (st : Stand (objects_of items registry pool)) where
+  pub turned_at_pool : (seen : Objects) → objects_of items registry pool ≡ seen → MakesTurn seen (AtPool (pool_call call) (pool_reply reply)) (objects_of items registry new)
   turned_at_pool seen view =
-      subst (λ old. MakesTurn old (AtPool call reply) (objects_of items registry new)) view (at_pool (objects_of items registry pool) new call reply turn size rise)
+      subst (λ old. MakesTurn old (AtPool (pool_call call) (pool_reply reply)) (objects_of items registry new)) view (at_pool (objects_of items registry pool) new call reply moves st)
 
-  pub stand_at_pool : Stand (objects_of items registry pool) → Stand (objects_of items registry new)
-  stand_at_pool st =
-      stand_on (objects_of items registry pool) (objects_of items registry new) (AtPool call reply) st (at_pool (objects_of items registry pool) new call reply turn size rise)
+  pub stand_at_pool : Stand (objects_of items registry new)
+  stand_at_pool = stand_on (objects_of items registry pool) (objects_of items registry new) (AtPool (pool_call call) (pool_reply reply)) st (at_pool (objects_of items registry pool) new call reply moves st)
 
 -- ---- the opening
 

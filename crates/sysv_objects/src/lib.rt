@@ -3,8 +3,10 @@
 //! and for which lists of turns the objects stand.
 #![tactic(auto)]
 
+mod directly;
 mod laws;
 mod objects;
 
+pub use directly::Directly;
 pub use laws::{legal_turns, one_legal_deed};
 pub use objects::{Objects, ObjectsRefused};

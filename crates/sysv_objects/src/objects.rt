@@ -1,30 +1,28 @@
 //! The slots of the queues, the registry and the pool.
 
-ghost use Rattle.std.specs.Prelude.{◌≡◌, ℕ, ◌+◌, ◌^◌, ◌<◌, ◌≤◌, ◌⊎◌, ◌↔◌, List, [], length, false, IsTrue, IfOk, IfErr, IfSome, OnErr, Err};
-ghost use Rattle.sysv_model.specs.Message.{Message};
-ghost use Rattle.sysv_model.specs.History.{Install, Place, Take, ReadStat, Set, Remove, Installed, arrived, freed};
-ghost use Rattle.sysv_model.specs.History.{Probe as ProbeCall};
-ghost use Rattle.sysv_model.specs.History.{Look as LookCall};
-ghost use Rattle.sysv_model.specs.Registry.{Begin, Settle, Forget, Changed, settled};
-ghost use Rattle.sysv_model.specs.Pool.{blocks_for, Reserve, Release, released};
-ghost use Rattle.sysv_model.specs.Turn.{AtSlot, AtRegistry, AtPool, Turn, slot_history, registry_history, pool_history};
-ghost use Rattle.sysv_pool.specs.Replies.{reserve_reply, release_reply};
-ghost use Rattle.sysv_queue.specs.Blocks.{blocks_of};
-ghost use Rattle.sysv_queue.specs.Replies.{probe_reply, stat_reply, look_reply, place_reply, take_reply, set_reply, remove_reply};
+ghost use Rattle.std.specs.Prelude.{◌≡◌, ℕ, ◌+◌, ◌^◌, ◌<◌, ◌≤◌, ◌⊎◌, ◌↔◌, List, [], IsTrue, IfOk, IfSome, Err};
+ghost use Rattle.sysv_model.specs.History.{arrived, freed};
+ghost use Rattle.sysv_model.specs.Registry.{settled};
+ghost use Rattle.sysv_model.specs.Pool.{released};
+ghost use Rattle.sysv_model.specs.Turn.{Turn, slot_history, registry_history, pool_history};
 ghost use Rattle.sysv_keys.specs.declared.identifier.TheConstants.{SLOTS, GENERATION_LAST};
 ghost use Rattle.sysv_keys.specs.Identifier.{slot_of_id};
 ghost use Rattle.sysv_keys.specs.Rows.{IsUnused};
-ghost use Rattle.sysv_keys.specs.Replies.{begun_reply, ChangesOnlyIfMade};
-ghost use Rattle.sysv_model.specs.declared.limits.TheConstants.{MESSAGE_BYTES as most_bytes, MIN_BLOCKS as least_blocks, MAX_BLOCKS as most_blocks};
+ghost use Rattle.sysv_model.specs.declared.limits.TheConstants.{MIN_BLOCKS as least_blocks, MAX_BLOCKS as most_blocks};
+ghost use Rattle.sysv_turns.specs.SlotTurns.{IsThere};
+ghost use Rattle.sysv_turns.specs.Turns.{IsOfSomeSlot, Takes};
 ghost use Rattle.sysv_objects.specs.Objects.{CountsUpTo, blocks_in};
 ghost use Rattle.sysv_objects.specs.StandsFor.{StandsFor, MakesTurn, AreVacant};
 
 use std::alloc::Global;
 use std::marker::Model;
-use sysv_keys::{Begun, GENERATION_LAST, Registry, SLOTS, slot_of_id};
-use sysv_model::{Cred, Errno, Flags, MAX_BLOCKS, MIN_BLOCKS, Selector, SetTo, Stat};
+use sysv_keys::{GENERATION_LAST, Registry, SLOTS, slot_of_id};
+use sysv_model::{MAX_BLOCKS, MIN_BLOCKS};
 use sysv_pool::{Chain, Pool};
-use sysv_queue::{Discarded, Look, PlaceRefused, Probe, QueueSlot, TakeRefused, Taken};
+use sysv_queue::QueueSlot;
+use sysv_turns::{
+    ObjectCall, ObjectReply, PoolCall, PoolReply, RegistryCall, RegistryReply, SlotCall, SlotReply,
+};
 
 /// Why objects are not opened.
 #[derive(Clone, Copy, PartialEq, Eq, Debug)]
@@ -94,156 +92,42 @@ impl Objects {
         })
     }
 
-    /// `QueueSlot::install` at the slot of the identifier.
-    pub fn install(&mut self, id: i32, key: i32, cred: Cred, mode: u32, now: u64) -> bool
-        ensures turn { MakesTurn self.old
-            (AtSlot (slot_of_id id) (Install id key cred mode now) (Installed result)) self.new }
-        ensures refused { result ≡ false → self.new ≡ self.old }
-    {
-        let place = slot_of_id(id);
-        self.slots[place].install(id, key, cred, mode, now)
-    }
-
-    /// `QueueSlot::probe` at the slot of the identifier.
-    pub fn probe(&self, id: i32, cred: Cred, flags: Flags) -> Probe
-        ensures turn { MakesTurn self.now
-            (AtSlot (slot_of_id id) (ProbeCall id cred flags) (probe_reply result)) self.now }
-    {
-        let place = slot_of_id(id);
-        self.slots[place].probe(id, cred, flags)
-    }
-
-    /// `QueueSlot::look` at the slot of the identifier.
-    pub fn look(&self, id: i32, cred: Cred, size: usize) -> Look
-        ensures turn { MakesTurn self.now
-            (AtSlot (slot_of_id id) (LookCall id cred size) (look_reply result)) self.now }
-    {
-        let place = slot_of_id(id);
-        self.slots[place].look(id, cred, size)
-    }
-
-    /// `QueueSlot::place` at the slot of the identifier. No count may be above 2^62.
-    pub fn place(
-        &mut self,
-        id: i32,
-        cred: Cred,
-        mtype: i64,
-        chain: Chain,
-        size: usize,
-        now: u64,
-    ) -> Result<u64, PlaceRefused>
+    /// Makes one turn: at the slot of its number, at the registry or at the pool. No count may be above 2^62.
+    pub fn make(&mut self, call: ObjectCall) -> ObjectReply
         requires counts { CountsUpTo (2 ^ 62) self.old }
-        requires text { length chain.bytes ≡ size }
-        requires blocks { chain.blocks ≡ blocks_for size }
-        requires short { size ≤ most_bytes }
-        ensures turn { MakesTurn self.old
-            (AtSlot (slot_of_id id) (Place id cred mtype chain.bytes now) (place_reply result))
+        requires there { IsOfSomeSlot call }
+        ensures turn { Takes MakesTurn self.old call result self.new }
+    {
+        match call {
+            ObjectCall::Slot(call) => ObjectReply::Slot(self.at_slot(call)),
+            ObjectCall::Registry(call) => ObjectReply::Registry(self.at_registry(call)),
+            ObjectCall::Pool(call) => ObjectReply::Pool(self.at_pool(call)),
+        }
+    }
+
+    fn at_slot(&mut self, call: SlotCall) -> SlotReply
+        requires counts { CountsUpTo (2 ^ 62) self.old }
+        requires there { IsThere call }
+        ensures { Takes MakesTurn self.old (ObjectCall.Slot call) (ObjectReply.Slot result)
             self.new }
-        ensures refused { IfErr result (λ e. (e.chain ≡ chain) × (self.new ≡ self.old)) }
     {
-        let place = slot_of_id(id);
-        self.slots[place].place(id, cred, mtype, chain, size, now)
+        let place = call.slot();
+        call.make(&mut self.slots[place])
     }
 
-    /// `QueueSlot::take` at the slot of the identifier. No count may be above 2^62.
-    pub fn take(
-        &mut self,
-        id: i32,
-        cred: Cred,
-        sel: Selector,
-        size: u32,
-        noerror: bool,
-        now: u64,
-    ) -> Result<Taken, TakeRefused>
+    fn at_registry(&mut self, call: RegistryCall) -> RegistryReply
+        ensures { Takes MakesTurn self.old (ObjectCall.Registry call)
+            (ObjectReply.Registry result) self.new }
+    {
+        call.make(&mut self.registry)
+    }
+
+    fn at_pool(&mut self, call: PoolCall) -> PoolReply
         requires { CountsUpTo (2 ^ 62) self.old }
-        ensures turn { MakesTurn self.old
-            (AtSlot (slot_of_id id) (Take id cred sel size noerror now) (take_reply result))
+        ensures { Takes MakesTurn self.old (ObjectCall.Pool call) (ObjectReply.Pool result)
             self.new }
-        ensures refused { OnErr result (self.new ≡ self.old) }
     {
-        let place = slot_of_id(id);
-        self.slots[place].take(id, cred, sel, size, noerror, now)
-    }
-
-    /// `QueueSlot::stat` at the slot of the identifier.
-    pub fn stat(&self, id: i32, cred: Cred) -> Result<Stat, Errno>
-        ensures turn { MakesTurn self.now
-            (AtSlot (slot_of_id id) (ReadStat id cred) (stat_reply result)) self.now }
-    {
-        let place = slot_of_id(id);
-        self.slots[place].stat(id, cred)
-    }
-
-    /// `QueueSlot::set` at the slot of the identifier. No count may be above 2^62.
-    pub fn set(&mut self, id: i32, cred: Cred, to: SetTo, now: u64) -> Result<(), Errno>
-        requires { CountsUpTo (2 ^ 62) self.old }
-        ensures turn { MakesTurn self.old
-            (AtSlot (slot_of_id id) (Set id cred to now) (set_reply result)) self.new }
-        ensures refused { OnErr result (self.new ≡ self.old) }
-    {
-        let place = slot_of_id(id);
-        self.slots[place].set(id, cred, to, now)
-    }
-
-    /// `QueueSlot::remove` at the slot of the identifier. No count may be above 2^62.
-    pub fn remove(&mut self, id: i32, cred: Cred) -> Result<Discarded, Errno>
-        requires { CountsUpTo (2 ^ 62) self.old }
-        // The blocks are those of the messages that are told as discarded.
-        ensures turn { (messages : List Message)
-            × IfOk result (λ discarded. discarded ≡ blocks_of messages)
-            × MakesTurn self.old (AtSlot (slot_of_id id) (Remove id cred)
-            (remove_reply messages result)) self.new }
-        ensures refused { OnErr result (self.new ≡ self.old) }
-    {
-        let place = slot_of_id(id);
-        self.slots[place].remove(id, cred)
-    }
-
-    /// `Registry::begin`.
-    pub fn begin(&mut self, key: i32, flags: Flags) -> Begun
-        ensures turn { MakesTurn self.old
-            (AtRegistry (Begin key flags) (begun_reply result)) self.new }
-        ensures unless_made { ChangesOnlyIfMade result self.old.registry self.new.registry }
-        ensures slots { self.new.slots ≡ self.old.slots }
-        ensures pool { self.new.pool ≡ self.old.pool }
-    {
-        self.registry.begin(key, flags)
-    }
-
-    /// `Registry::settle`.
-    pub fn settle(&mut self, id: i32) -> bool
-        ensures turn { MakesTurn self.old (AtRegistry (Settle id) (Changed result)) self.new }
-        ensures refused { result ≡ false → self.new ≡ self.old }
-    {
-        self.registry.settle(id)
-    }
-
-    /// `Registry::forget`.
-    pub fn forget(&mut self, id: i32) -> bool
-        ensures turn { MakesTurn self.old (AtRegistry (Forget id) (Changed result)) self.new }
-        ensures refused { result ≡ false → self.new ≡ self.old }
-    {
-        self.registry.forget(id)
-    }
-
-    /// `Pool::reserve`.
-    pub fn reserve(&mut self, size: usize) -> Option<Chain>
-        requires { size ≤ most_bytes }
-        ensures turn { MakesTurn self.old (AtPool (Reserve size) (reserve_reply result)) self.new }
-        ensures chain { IfSome result (λ chain.
-            chain ≡ record { blocks = blocks_for size; bytes = [] }) }
-    {
-        self.pool.reserve(size)
-    }
-
-    /// `Pool::release`. No count may be above 2^62.
-    pub fn release(&mut self, chain: Chain) -> Result<(), Chain>
-        requires { CountsUpTo (2 ^ 62) self.old }
-        ensures turn { MakesTurn self.old
-            (AtPool (Release chain.blocks) (release_reply result)) self.new }
-        ensures refused { IfErr result (λ back. back ≡ chain) }
-    {
-        self.pool.release(chain)
+        call.make(&mut self.pool)
     }
 
     /// `Registry::is_unused`.

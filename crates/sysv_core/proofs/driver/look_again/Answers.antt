@@ -4,7 +4,8 @@ use Rattle.sysv_steps.specs.Resume.{goal_of, awaited, resume}
 use Rattle.sysv_steps.specs.Seen.{wait_of, phase_of}
 use Rattle.sysv_core.specs.Held.{text_in}
 use Rattle.sysv_core.specs.World.{value_of}
-use Rattle.sysv_core.proofs.Following.{resumed_held, not_over}
+use Rattle.sysv_core.proofs.Following.{not_over}
+use Rattle.sysv_core.proofs.Holding.{resumed_held}
 use Rattle.sysv_core.proofs.driver.look_again.Goals as goal
 
 pub invariant_of-result : goal.invariant_of-result

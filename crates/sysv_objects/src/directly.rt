@@ -1,0 +1,28 @@
+//! What makes turns at the objects themselves.
+
+use crate::objects::Objects;
+use sysv_turns::{ObjectCall, ObjectReply, Turns};
+
+/// Makes turns at the objects themselves, which always have one.
+#[derive(Clone, Copy, PartialEq, Eq, Debug)]
+pub struct Directly;
+
+impl Turns for Directly {
+    ghost use Rattle.std.specs.Prelude.{◌^◌};
+    ghost use Rattle.sysv_objects.specs.Objects.{CountsUpTo};
+    ghost use Rattle.sysv_objects.specs.StandsFor.{MakesTurn};
+
+    type At = Objects;
+
+    ghost ready = { λ _ objects. CountsUpTo (2 ^ 62) objects };
+
+    ghost stays = { λ _ _. Unit {0} };
+
+    ghost takes = { MakesTurn };
+
+    ghost misses = { λ _ _ _. ⊥ };
+
+    fn make(&self, at: &mut Objects, call: ObjectCall) -> Result<ObjectReply, ObjectCall> {
+        Ok(at.make(call))
+    }
+}
