@@ -33,3 +33,25 @@ same() {
         fail "$1" "wanted $(printf %q "$2"), got $(printf %q "$3")"
     fi
 }
+
+# refuse_each NAME FUNCTION WORDS ..: calls FUNCTION FIRST STEP WORDS .. for each FIRST from 1 to STEP at once, where STEP
+# is the number of processors. Each call prints what went wrong, and below it how many growths it refused. Sets count to
+# the sum of these, and returns whether it is above 0 and nothing went wrong; if not, NAME has failed.
+refuse_each() {
+    local step first said pids=
+    step=$(nproc)
+    count=0
+    for first in $(seq "$step"); do
+        "$2" "$first" "$step" "${@:3}" >"$work/said.$first" &
+        pids="$pids $!"
+    done
+    # shellcheck disable=SC2086
+    wait $pids
+    for first in $(seq "$step"); do
+        count=$((count + $(tail -n 1 "$work/said.$first")))
+    done
+    said=$(for first in $(seq "$step"); do sed '$d' "$work/said.$first"; done | head -n 1)
+    [ -n "$said" ] || [ "$count" -gt 0 ] || said="it met no growth"
+    [ -z "$said" ] || fail "$1" "$said"
+    [ -z "$said" ]
+}

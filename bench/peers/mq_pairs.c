@@ -7,19 +7,12 @@
 #include <stdio.h>
 #include <stdlib.h>
 #include <string.h>
-#include <sys/wait.h>
-#include <time.h>
 #include <unistd.h>
+
+#include "pairs.h"
 
 static char text[8192];
 static char out[8192];
-
-static long long now(void)
-{
-    struct timespec at;
-    clock_gettime(CLOCK_MONOTONIC, &at);
-    return at.tv_sec * 1000000000LL + at.tv_nsec;
-}
 
 static int own_pairs(size_t size, long count)
 {
@@ -34,24 +27,6 @@ static int own_pairs(size_t size, long count)
     for (long i = 0; i < count && !failed; i++)
         failed = mq_send(queue, text, size, 1) < 0 || mq_receive(queue, out, sizeof out, NULL) < 0;
     mq_close(queue);
-    return failed;
-}
-
-static int pairs(size_t size, long count, long processes)
-{
-    int failed = 0;
-    int status;
-    long long start = now();
-    for (long i = 1; i < processes; i++) {
-        pid_t child = fork();
-        if (child == 0)
-            _exit(own_pairs(size, count));
-        failed = failed || child < 0;
-    }
-    failed = own_pairs(size, count) || failed;
-    while (wait(&status) > 0)
-        failed = failed || status != 0;
-    printf("%lld\n", now() - start);
     return failed;
 }
 

@@ -1,16 +1,16 @@
 /* The kernel's own msgsnd and msgrcv, as the service is measured beside them.
  *   msg_pairs pairs SIZE COUNT [N]  COUNT pairs of SIZE bytes by each of N processes on a queue of its own, 1 by default
  *   msg_pairs rounds COUNT          COUNT rounds of two processes over two queues, of 64 bytes
- * It prints the nanoseconds of all of them. It ends with status 1 where a call is refused.
+ * It prints the nanoseconds of all of them. It ends with status 1 if a call fails.
  */
 #include <stdio.h>
 #include <stdlib.h>
 #include <string.h>
 #include <sys/ipc.h>
 #include <sys/msg.h>
-#include <sys/wait.h>
-#include <time.h>
 #include <unistd.h>
+
+#include "pairs.h"
 
 struct message {
     long mtype;
@@ -20,13 +20,6 @@ struct message {
 static struct message text = {1, {0}};
 static struct message out;
 
-static long long now(void)
-{
-    struct timespec at;
-    clock_gettime(CLOCK_MONOTONIC, &at);
-    return at.tv_sec * 1000000000LL + at.tv_nsec;
-}
-
 static int own_pairs(size_t size, long count)
 {
     int id = msgget(IPC_PRIVATE, IPC_CREAT | 0600);
@@ -34,24 +27,6 @@ static int own_pairs(size_t size, long count)
     for (long i = 0; i < count && !refused; i++)
         refused = msgsnd(id, &text, size, 0) < 0 || msgrcv(id, &out, sizeof out.mtext, 0, 0) < 0;
     msgctl(id, IPC_RMID, NULL);
-    return refused;
-}
-
-static int pairs(size_t size, long count, long processes)
-{
-    int refused = 0;
-    int status;
-    long long start = now();
-    for (long i = 1; i < processes; i++) {
-        pid_t child = fork();
-        if (child == 0)
-            _exit(own_pairs(size, count));
-        refused = refused || child < 0;
-    }
-    refused = own_pairs(size, count) || refused;
-    while (wait(&status) > 0)
-        refused = refused || status != 0;
-    printf("%lld\n", now() - start);
     return refused;
 }
 

@@ -220,16 +220,23 @@ static void *wait_for_message(void *result)
     return NULL;
 }
 
+/* Starts a thread that waits on a new queue, and cancels it once it waits. */
+static pthread_t cancelled(void *(*wait)(void *), ssize_t *result)
+{
+    pthread_t thread;
+    shared_queue = new_queue();
+    pthread_create(&thread, NULL, wait, result);
+    usleep(300000);
+    pthread_cancel(thread);
+    return thread;
+}
+
 /* A thread that waits is cancelled. Removing the queue ends the wait that goes on in the server. */
 static void cancels(void)
 {
-    pthread_t thread;
     ssize_t result = 77;
     void *how;
-    shared_queue = new_queue();
-    pthread_create(&thread, NULL, wait_for_message, &result);
-    usleep(300000);
-    pthread_cancel(thread);
+    pthread_t thread = cancelled(wait_for_message, &result);
     expect(pthread_join(thread, &how) == 0 && how == PTHREAD_CANCELED && result == 77,
         "the thread isn't cancelled");
     expect(count_descriptors(is_socket) == 1, "its connection is left");
@@ -247,13 +254,9 @@ static void *wait_uncancelled(void *result)
 /* A thread that doesn't want to be cancelled waits on. */
 static void cancels_disabled(void)
 {
-    pthread_t thread;
     ssize_t result = 77;
     void *how;
-    shared_queue = new_queue();
-    pthread_create(&thread, NULL, wait_uncancelled, &result);
-    usleep(300000);
-    pthread_cancel(thread);
+    pthread_t thread = cancelled(wait_uncancelled, &result);
     usleep(100000);
     expect(send_text(shared_queue, 1) == 0, "msgsnd");
     expect(

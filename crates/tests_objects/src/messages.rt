@@ -127,6 +127,16 @@ fn receive(
     Ok(received)
 }
 
+/// What a receive gives of a message that `send` put in.
+fn sent(number: u64, mtype: i64, len: usize) -> Received {
+    Received {
+        number,
+        sender: 101,
+        mtype,
+        len,
+    }
+}
+
 /// A receive of at most `most` bytes ends so.
 fn assert_receives(
     rt: &impl Abort,
@@ -143,68 +153,44 @@ fn assert_waiting(rt: &impl Abort, desk: &Desk, waiting: (usize, u32)) {
     assert_eq!(rt; (desk.messages.len(), desk.messages.bytes()), waiting);
 }
 
+/// A store with messages 3 to 6, of types 5, 2, 5 and 9.
+fn open_with_four(rt: &impl Abort, alloc: Global) -> Desk {
+    let mut desk = open_desk(rt, alloc);
+    send(rt, &mut desk, 3, 5, b"first");
+    send(rt, &mut desk, 4, 2, &[7; 130]);
+    send(rt, &mut desk, 5, 5, b"");
+    send(rt, &mut desk, 6, 9, b"last");
+    assert_waiting(rt, &desk, (4, 139));
+    assert_eq!(rt; desk.pool.free(), 507);
+    desk
+}
+
+/// Receives that are refused leave all four messages.
+fn assert_refusals(rt: &impl Abort, desk: &mut Desk) {
+    let none = Err(NotTaken::NoneQualifies);
+    let too_long = Err(NotTaken::TooLong);
+    assert_receives(rt, desk, Selector::Exactly(4), 8192, none);
+    assert_receives(rt, desk, Selector::UpTo(8), 129, too_long);
+    assert_waiting(rt, desk, (4, 139));
+    assert_receives(rt, desk, Selector::Except(5), 129, too_long);
+    assert_waiting(rt, desk, (4, 139));
+}
+
 #[test]
 fn messages_come_and_go(rt: HostRuntime) {
-    let mut desk = open_desk(&rt, rt.alloc());
-    send(&rt, &mut desk, 3, 5, b"first");
-    send(&rt, &mut desk, 4, 2, &[7; 130]);
-    send(&rt, &mut desk, 5, 5, b"");
-    send(&rt, &mut desk, 6, 9, b"last");
-    assert_waiting(&rt, &desk, (4, 139));
-    assert_eq!(rt; desk.pool.free(), 507);
-    assert_receives(
-        &rt,
-        &mut desk,
-        Selector::Exactly(4),
-        8192,
-        Err(NotTaken::NoneQualifies),
-    );
-    assert_receives(
-        &rt,
-        &mut desk,
-        Selector::UpTo(8),
-        129,
-        Err(NotTaken::TooLong),
-    );
-    assert_waiting(&rt, &desk, (4, 139));
-    let second = Received {
-        number: 4,
-        sender: 101,
-        mtype: 2,
-        len: 130,
-    };
-    assert_receives(
-        &rt,
-        &mut desk,
-        Selector::Except(5),
-        129,
-        Err(NotTaken::TooLong),
-    );
-    assert_waiting(&rt, &desk, (4, 139));
+    let mut desk = open_with_four(&rt, rt.alloc());
+    assert_refusals(&rt, &mut desk);
+    let second = sent(4, 2, 130);
     assert_receives(&rt, &mut desk, Selector::UpTo(8), 130, Ok(second));
     assert_holds(&rt, &desk.out, &[7; 130]);
-    let first = Received {
-        number: 3,
-        mtype: 5,
-        len: 5,
-        ..second
-    };
+    let first = sent(3, 5, 5);
     assert_receives(&rt, &mut desk, Selector::Exactly(5), 8192, Ok(first));
     assert_holds(&rt, &desk.out, b"first");
-    let empty = Received {
-        number: 5,
-        len: 0,
-        ..first
-    };
+    let empty = sent(5, 5, 0);
     assert_receives(&rt, &mut desk, Selector::Any, 0, Ok(empty));
     assert_holds(&rt, &desk.out, b"");
     assert_waiting(&rt, &desk, (1, 4));
-    let last = Received {
-        number: 6,
-        mtype: 9,
-        len: 4,
-        ..second
-    };
+    let last = sent(6, 9, 4);
     let none = Err(NotTaken::NoneQualifies);
     assert_receives(&rt, &mut desk, Selector::Except(9), 8192, none);
     assert_receives(&rt, &mut desk, Selector::Except(5), 8192, Ok(last));
@@ -236,17 +222,8 @@ fn open_full(rt: &impl Abort, alloc: Global) -> Desk {
 fn a_full_store_is_walked_to_its_end(rt: HostRuntime) {
     let mut desk = open_full(&rt, rt.alloc());
     assert_waiting(&rt, &desk, (256, 0));
-    let last = Received {
-        number: 255,
-        sender: 101,
-        mtype: 2,
-        len: 0,
-    };
-    let first = Received {
-        number: 0,
-        mtype: 1,
-        ..last
-    };
+    let last = sent(255, 2, 0);
+    let first = sent(0, 1, 0);
     let none = Err(NotTaken::NoneQualifies);
     assert_receives(&rt, &mut desk, Selector::Except(2), 0, Ok(first));
     assert_receives(&rt, &mut desk, Selector::Except(1), 0, Ok(last));

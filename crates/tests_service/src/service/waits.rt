@@ -73,6 +73,25 @@ fn check<R: Threads + Abort + Wait + Clock + Sync>(rt: &R, alloc: Global, case: 
     panic!(rt; "the removal came first each time")
 }
 
+/// The wait ends so at each of these calls.
+fn check_each<R: Threads + Abort + Wait + Clock + Sync>(
+    rt: &R,
+    alloc: Global,
+    before: [Ask; 3],
+    waits: Ask,
+    ends: [(Ask, Told); 3],
+) {
+    for (ends, told) in ends {
+        let case = Case {
+            before,
+            waits,
+            ends,
+            told,
+        };
+        check(rt, alloc, &case);
+    }
+}
+
 #[test]
 fn a_send_waits_for_room(rt: HostRuntime) {
     let before = [
@@ -81,44 +100,24 @@ fn a_send_waits_for_room(rt: HostRuntime) {
         Ask::Send(0, 1),
     ];
     let waits = Ask::Send(0, 1);
-    for (ends, told) in [
+    let ends = [
         (Ask::Receive(0), Ok(0)),
         (Ask::Set(0, ROOT, to(0o600, 2)), Ok(0)),
         (Ask::Remove(0), Err(Errno::EIDRM)),
-    ] {
-        check(
-            &rt,
-            rt.alloc(),
-            &Case {
-                before,
-                waits,
-                ends,
-                told,
-            },
-        );
-    }
+    ];
+    check_each(&rt, rt.alloc(), before, waits, ends);
 }
 
 #[test]
 fn a_receive_waits_for_a_message(rt: HostRuntime) {
     let before = [Ask::Get(1), Ask::Get(2), Ask::Get(3)];
     let waits = Ask::Receive(0);
-    for (ends, told) in [
+    let ends = [
         (Ask::Send(0, 5), Ok(5)),
         (Ask::Set(0, USER, to(0o200, 1)), Err(Errno::EACCES)),
         (Ask::Remove(0), Err(Errno::EIDRM)),
-    ] {
-        check(
-            &rt,
-            rt.alloc(),
-            &Case {
-                before,
-                waits,
-                ends,
-                told,
-            },
-        );
-    }
+    ];
+    check_each(&rt, rt.alloc(), before, waits, ends);
 }
 
 /// The send wakes the receive, which then takes nothing: the message is still queued at the end. Where the send came before
@@ -146,22 +145,12 @@ fn a_woken_receive_is_left(rt: HostRuntime) {
 fn a_send_waits_for_blocks(rt: HostRuntime) {
     let before = [Ask::Get(1), Ask::Get(2), Ask::Send(0, 8192)];
     let waits = Ask::Send(1, 1);
-    for (ends, told) in [
+    let ends = [
         (Ask::Receive(0), Ok(0)),
         (Ask::Remove(0), Ok(0)),
         (Ask::Remove(1), Err(Errno::EIDRM)),
-    ] {
-        check(
-            &rt,
-            rt.alloc(),
-            &Case {
-                before,
-                waits,
-                ends,
-                told,
-            },
-        );
-    }
+    ];
+    check_each(&rt, rt.alloc(), before, waits, ends);
 }
 
 /// The first get makes the queue, and its clock holds it before the install, until the second has come to its wait and the

@@ -1,4 +1,4 @@
-use Rattle.std.proofs.Common.{refl, subst}
+use Rattle.std.proofs.Common.{rules, subst}
 use Rattle.sysv_gated.specs.Sharing.{AreJoined}
 use Rattle.sysv_gated.specs.Banked.{seats_seen}
 use Rattle.sysv_gated.proofs.Placing.{of_bank, are_of}
@@ -12,7 +12,7 @@ pub join-requires-clause-other : goal.join-requires-clause-other
 join-requires-clause-other c = of_bank c.self.inside.bank c.other.inside.seat _ _ c.self.invariant.0 c.other.invariant c.self.view_is c.other.view_is c.requires.other
 
 pub returns-clause-seats : goal.returns-clause-seats
-returns-clause-seats c = are_of c.self.inside.bank c.join.new.seat _ _ c.self.view_is refl c.join.ensures.gates
+returns-clause-seats c = search (rules, are_of)
 
 pub returns-clause-joined : goal.returns-clause-joined
 returns-clause-joined c =
