@@ -1,6 +1,0 @@
-use Rattle.std.proofs.Common.{refl}
-use Rattle.tests_objects.proofs.Counts.{stay}
-use Rattle.tests_objects.proofs.objects.reserve.Goals as goal
-
-pub returns : goal.returns
-returns c = stay _ _ _ _ c.reserve.ensures.turn c.requires.low refl
