@@ -22,6 +22,7 @@ impl Turns for Directly {
 
     ghost misses = { λ _ _ _. ⊥ };
 
+    #[inline(always)]
     fn make(&self, at: &mut Objects, call: ObjectCall) -> Result<ObjectReply, ObjectCall> {
         Ok(at.make(call))
     }

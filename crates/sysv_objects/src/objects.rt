@@ -93,6 +93,7 @@ impl Objects {
     }
 
     /// Makes one turn: at the slot of its number, at the registry or at the pool. No count may be above 2^62.
+    #[inline(always)]
     pub fn make(&mut self, call: ObjectCall) -> ObjectReply
         requires counts { CountsUpTo (2 ^ 62) self.old }
         requires there { IsOfSomeSlot call }
@@ -105,6 +106,7 @@ impl Objects {
         }
     }
 
+    #[inline(always)]
     fn at_slot(&mut self, call: SlotCall) -> SlotReply
         requires counts { CountsUpTo (2 ^ 62) self.old }
         requires there { IsThere call }

@@ -102,6 +102,7 @@ impl SlotAsk {
     }
 
     // Makes the turn at this slot, whose counts are below 2^63.
+    #[inline(always)]
     fn make(self, slot: &mut QueueSlot) -> SlotReply
         requires arrived { slot.old.arrived < 2 ^ 63 }
         requires freed { slot.old.freed < 2 ^ 63 }
@@ -146,6 +147,7 @@ impl SlotCall {
     }
 
     /// Makes the turn at this slot, whose counts are below 2^63.
+    #[inline(always)]
     pub fn make(self, slot: &mut QueueSlot) -> SlotReply
         requires arrived { slot.old.arrived < 2 ^ 63 }
         requires freed { slot.old.freed < 2 ^ 63 }
