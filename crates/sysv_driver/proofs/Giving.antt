@@ -1,6 +1,6 @@
 -- A receive gives what it took, at one step.
-use Rattle.std.proofs.Common.{◌≡◌, ℕ, inl, inr, true, List, [], ◌∷◌, ◌++◌, Some}
-use Rattle.sysv_model.specs.Turn.{Ask, Deed, asked_by}
+use Rattle.std.proofs.Common.{ℕ, inl, inr, List, [], ◌∷◌, ◌++◌}
+use Rattle.sysv_model.specs.Turn.{Ask, Deed}
 use Rattle.sysv_queue.specs.Delivery.{Given}
 use Rattle.sysv_steps.specs.declared.state.Phase.{Phase as PhaseKept}
 use Rattle.sysv_steps.specs.declared.state.State.{State as StateKept}

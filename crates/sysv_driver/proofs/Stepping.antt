@@ -1,6 +1,6 @@
 -- One step of a call, from what its turn was told.
 use Rattle.std.specs.Prelude.{⊤}
-use Rattle.std.proofs.Common.{◌≡◌, ℕ, ◌+◌, inl, inr, true, false, List, [], Some, Result, refl, sym, subst, ◌∙◌, arith}
+use Rattle.std.proofs.Common.{◌≡◌, ℕ, ◌+◌, inl, inr, true, false, [], Some, Result, refl, sym, subst, ◌∙◌, arith}
 use Rattle.sysv_model.specs.Pool.{Release}
 use Rattle.sysv_model.specs.Registry.{Forget, Changed}
 use Rattle.sysv_model.specs.Turn.{Ask, Deed, AtRegistry, AtPool, OfPool, OfRegistry, asked_by}

@@ -1,4 +1,4 @@
-use Rattle.std.proofs.Common.{w32, to_z, of_z, [], refl, Ok, Err, IfOk, Result, rules, ◌≡◌}
+use Rattle.std.proofs.Common.{w32, to_z, of_z, [], refl, Ok, Err, IfOk, Result, ◌≡◌}
 use Rattle.std.proofs.lemmas.Int.{to_z-of_z}
 use Rattle.sysv_keys.specs.Identifier.{slot_of_id}
 use Rattle.sysv_model.specs.declared.errno.Errno.{Errno}

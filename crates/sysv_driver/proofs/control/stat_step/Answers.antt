@@ -1,4 +1,4 @@
-use Rattle.std.proofs.Common.{rules, w32, FitsSigned, [], inr, refl, sym, ap, subst, arith}
+use Rattle.std.proofs.Common.{rules, w32, FitsSigned, [], refl, sym, ap, subst, arith}
 use Rattle.std.proofs.lemmas.Int.{to_z-of_z}
 use Rattle.sysv_steps.specs.State.{AtStat}
 use Rattle.sysv_steps.specs.Seen.{phase_of, state_of}

@@ -1,4 +1,4 @@
-use Rattle.std.proofs.Common.{w32, to_z, of_z, [], Some, refl, rules, ◌≡◌}
+use Rattle.std.proofs.Common.{w32, to_z, of_z, [], Some, refl, ◌≡◌}
 use Rattle.std.proofs.lemmas.Int.{to_z-of_z}
 use Rattle.sysv_model.specs.Registry.{Settle, Changed}
 use Rattle.sysv_model.specs.Turn.{AtRegistry}

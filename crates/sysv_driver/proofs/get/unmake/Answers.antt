@@ -1,4 +1,4 @@
-use Rattle.std.proofs.Common.{[], Some, true, false, Bool, refl, rules, arith, ◌≡◌, ap, sym, ◌∙◌}
+use Rattle.std.proofs.Common.{[], true, refl, arith, ◌≡◌}
 use Rattle.std.proofs.lemmas.Int.{to_z-of_z}
 use Rattle.sysv_steps.specs.Seen.{state_of}
 use Rattle.sysv_steps.specs.State.{AtUnmake}

@@ -1,4 +1,4 @@
-use Rattle.std.proofs.Common.{to_z, of_z, refl, rules, ◌≡◌, ap, subst, ◌∙◌, Ok, w32, w64, FitsSigned}
+use Rattle.std.proofs.Common.{to_z, of_z, refl, rules, ap, subst, ◌∙◌, Ok, w32, w64, FitsSigned}
 use Rattle.std.proofs.lemmas.Int.{to_z-of_z}
 use Rattle.sysv_keys.specs.Identifier.{slot_of_id}
 use Rattle.sysv_model.specs.History.{Place, Accepted}
