@@ -1,5 +1,5 @@
 -- What a call at a place of the bank tells of the object that was called.
-use Rattle.std.proofs.Common.{◌≡◌, ℕ, ◌+◌, ◌++◌, false, List, map, refl, sym, ap, subst, ◌∙◌}
+use Rattle.std.proofs.Common.{◌≡◌, ◌+◌, ◌++◌, false, List, map, refl, sym, ap, subst, ◌∙◌}
 use Rattle.std.proofs.lemmas.List.{map-append}
 use Rattle.sysv_model.specs.Turn.{OfSlot, OfRegistry, OfPool, AtSlot, AtRegistry, AtPool}
 use Rattle.sysv_crew.specs.Members.{MakesTurn}

@@ -7,9 +7,6 @@ use Rattle.sysv_turns.specs.declared.object.ObjectCall.{ObjectCall}
 use Rattle.sysv_turns.specs.declared.object.ObjectCall.TheVariants as asked
 use Rattle.sysv_turns.specs.declared.object.ObjectReply.{ObjectReply}
 use Rattle.sysv_turns.specs.declared.object.ObjectReply.TheVariants as told
-use Rattle.sysv_turns.specs.declared.slot.SlotCall.{SlotCall}
-use Rattle.sysv_turns.specs.declared.registry.RegistryCall.{RegistryCall}
-use Rattle.sysv_turns.specs.declared.pool.PoolCall.{PoolCall}
 use Rattle.sysv_turns.specs.SlotTurns.{SlotMoves}
 use Rattle.sysv_gated.specs.Counts.{slot_counts}
 use Rattle.sysv_turns.specs.RegistryTurns.{RegistryMoves}

@@ -1,17 +1,8 @@
 -- How what a call did goes on by one step, or by the end of a wait.
-use Rattle.std.specs.Prelude.{⊤}
-use Rattle.std.proofs.Common.{◌≡◌, ℕ, ◌+◌, inl, inr, true, false, List, [], ◌∷◌, ◌++◌, Option, Some, None, IfNone, Result, Ok, Err, IfOk, IfErr, OnErr, refl, sym, subst, ◌∙◌}
-use Rattle.sysv_model.specs.Pool.{Release}
-use Rattle.sysv_model.specs.Turn.{Deed, AtPool, OfPool, asked_by}
-use Rattle.sysv_pool.specs.Chain.{Chained}
-use Rattle.sysv_pool.specs.Replies.{release_reply}
+use Rattle.std.proofs.Common.{◌≡◌, ℕ, inl, inr, [], ◌∷◌, ◌++◌, Option, Some, None, IfNone, Result, Ok, Err, IfOk, IfErr, OnErr, refl, sym, subst}
 use Rattle.sysv_steps.specs.State.{Phase, Wait, State, Goes, Waits}
-use Rattle.sysv_steps.specs.Asks.{asks}
-use Rattle.sysv_steps.specs.Next.{next}
-use Rattle.sysv_gated.specs.Seats.{Seats, MakesTurnAt, FindsWorn}
 use Rattle.sysv_gated.specs.Reading.{Reads}
-use Rattle.sysv_driver.specs.Stepping.{is_stamped, left_by, no_moment}
-use Rattle.sysv_service.specs.Ran.{Pass, TurnsBack, begins, steps, turns_back, reads, resumes, gives_up, Comes, StepsOn}
+use Rattle.sysv_service.specs.Ran.{Pass, begins, steps, turns_back, reads, resumes, gives_up, Comes, StepsOn}
 use Rattle.sysv_steps.specs.Resume.{Count, awaited}
 use Rattle.sysv_service.specs.Waited.{EndsWait}
 

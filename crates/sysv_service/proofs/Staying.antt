@@ -1,8 +1,7 @@
 -- A call of each kind stays one.
-use Rattle.std.specs.Prelude.{⊤}
-use Rattle.std.proofs.Common.{◌≡◌, ℕ, ℤ, pos, ◌≤◌, ◌||◌, int_lt, nat_lt, arith, inl, inr, Bool, true, false, List, [], length, Option, Some, None, IfSome, if◌then◌else◌, Result, Ok, Err, refl, sym, ap, subst}
+use Rattle.std.proofs.Common.{◌≡◌, ℕ, ℤ, pos, ◌≤◌, ◌||◌, int_lt, nat_lt, arith, inl, inr, Bool, true, false, List, length, if◌then◌else◌, refl, sym, subst}
 use Rattle.sysv_model.specs.declared.errno.Errno.{Errno}
-use Rattle.sysv_model.specs.declared.errno.Errno.TheVariants.{EEXIST, EINVAL}
+use Rattle.sysv_model.specs.declared.errno.Errno.TheVariants.{EINVAL}
 use Rattle.std.proofs.lemmas.Bool.Decides.{nat_tests}
 use Rattle.sysv_model.specs.declared.cred.Cred.{Cred}
 use Rattle.sysv_model.specs.declared.flags.Flags.{Flags}
@@ -10,25 +9,9 @@ use Rattle.sysv_model.specs.declared.attributes.SetTo.{SetTo}
 use Rattle.sysv_model.specs.declared.limits.TheConstants.{MESSAGE_BYTES}
 use Rattle.sysv_steps.specs.Call.{Msgsnd, Msgrcv, MsgctlStat, MsgctlSet, MsgctlRmid}
 use Rattle.sysv_steps.specs.Begin.{begin}
-use Rattle.sysv_model.specs.History.{Reply, Installed, Gone, Denied, Granted, Full, Fits, Accepted, NoMatch, TooLong, Taken}
-use Rattle.sysv_model.specs.Registry.{RegistryReply, Found, Made, Busy, Unbound, Changed}
-use Rattle.sysv_model.specs.Pool.{blocks_for}
-use Rattle.sysv_model.specs.Message.{Message}
-use Rattle.sysv_queue.specs.Replies.{remove_reply}
-use Rattle.sysv_pool.specs.Chain.{Chained}
-use Rattle.sysv_pool.specs.Replies.{reserve_reply, release_reply}
-use Rattle.sysv_steps.specs.State.{Getting, Sending, Receiving, Wait, OnSettled, OnFreed, OnReleased, OnArrived, Afterwards, IsRefused, WaitsOn, Phase, AtLook, AtTake, AtReceiveGiveback, State, Goes, Waits, Over, Zero, Got, Id, Refused}
-use Rattle.sysv_steps.specs.Next.{after_begin, after_install, after_settle, after_unmake, after_probe, waits_or, goes_on, is_full, after_look, after_reserve, after_place, after_take, after_remove, after_forget, after_giveback, wants_new}
+use Rattle.sysv_steps.specs.State.{Sending, Receiving, Wait, OnSettled, OnFreed, OnReleased, OnArrived, Phase, AtLook, AtTake, State, Goes, Waits, Over, Refused}
 use Rattle.sysv_steps.specs.Resume.{resume}
-use Rattle.sysv_queue.specs.declared.slot.TakeRefused.{TakeRefused}
-use Rattle.sysv_queue.specs.declared.slot.TakeRefused.TheVariants as refused
-use Rattle.sysv_queue.specs.Replies.{untaken_reply}
-use Rattle.sysv_steps.specs.declared.ending.Ending.TheVariants as ending
-use Rattle.sysv_steps.specs.declared.state.Phase.TheVariants as phase
-use Rattle.sysv_steps.specs.declared.state.State.{State as StateKept}
-use Rattle.sysv_steps.specs.declared.state.State.TheVariants as state
-use Rattle.sysv_steps.specs.Seen.{state_of}
-use Rattle.sysv_driver.specs.Kinds.{IsSized, Gets, IsShort, SendsAfterwards, Sends, Receives, Stats, Sets, Removes}
+use Rattle.sysv_driver.specs.Kinds.{Gets, IsShort, Sends, Receives, Stats, Sets, Removes}
 use Rattle.sysv_service.specs.Ran.{Pass}
 use Rattle.sysv_service.specs.Waited.{EndsWait}
 use Rattle.sysv_driver.specs.Giving.{GivesNothing}
