@@ -1,16 +1,22 @@
 //! Queues in two slots, with the registry and the pool beside them.
 
 ghost use Rattle.std.specs.Prelude.{◌+◌, ◌<◌};
+ghost use Rattle.sysv_turns.specs.Turns.{IsOfSomeSlot, Takes};
 ghost use Rattle.sysv_objects.specs.Objects.{CountsUpTo};
+ghost use Rattle.sysv_objects.specs.StandsFor.{MakesTurn};
 
 use crate::parts::{assert_is, open_body};
 use std::alloc::Global;
 use std::process::Abort;
 use sysv_keys::Begun;
-use sysv_model::{Errno, Selector, SetTo};
+use sysv_model::{Errno, Row, Selector, SetTo, Stat};
 use sysv_objects::{Objects, ObjectsRefused};
 use sysv_pool::Chain;
 use sysv_queue::{Look, Probe, TakeRefused, Tally};
+use sysv_turns::{
+    Letter, ObjectCall, ObjectReply, PoolCall, PoolReply, RegistryCall, RegistryReply, SlotAsk,
+    SlotCall, SlotReply, TextSize,
+};
 use tests_kit::{USER, creating};
 
 const TO: SetTo = SetTo {
@@ -36,36 +42,190 @@ fn objects_at(rt: &impl Abort, alloc: Global, generation: u32) -> Objects
     }
 }
 
-// Each of the next functions is told how often a count was raised before it.
+// Each of the next functions is told how far a count was raised before it at most.
 
-/// Installs a queue of this identifier and key.
-fn install(objects: &mut Objects, id: i32, key: i32, raised: u64) -> bool
-    requires { CountsUpTo raised objects.old }
-    ensures { CountsUpTo raised objects.new }
+/// Makes one turn.
+fn turn(objects: &mut Objects, call: ObjectCall, raised: u64) -> ObjectReply
+    requires low { CountsUpTo raised objects.old }
+    requires few { raised < 100 }
+    requires there { IsOfSomeSlot call }
+    ensures turn { Takes MakesTurn objects.old call result objects.new }
+    ensures counts { CountsUpTo (raised + 1) objects.new }
 {
-    objects.install(id, key, USER, 0o600, 50)
+    objects.make(call)
 }
 
-/// Makes the queue of a key, which gets this identifier.
-fn make(rt: &impl Abort, objects: &mut Objects, key: i32, id: i32, raised: u64)
-    requires { CountsUpTo raised objects.old }
-    ensures { CountsUpTo raised objects.new }
-{
-    assert_is(rt, objects.begin(key, creating()), Begun::Made { id });
-    assert_is(rt, install(objects, id, key, raised), true);
-    assert_is(rt, objects.settle(id), true);
-}
-
-/// Places an empty message of type 5, which is the first of its queue.
-fn place(rt: &impl Abort, objects: &mut Objects, id: i32, raised: u64)
+fn begin(objects: &mut Objects, key: i32, raised: u64) -> Begun
     requires low { CountsUpTo raised objects.old }
     requires few { raised < 100 }
     ensures { CountsUpTo (raised + 1) objects.new }
 {
-    match objects.place(id, USER, 5, Chain::empty(), 0, 60) {
-        Ok(number) => assert_is(rt, number, 0),
-        Err(_) => panic!(rt; "no room"),
+    let flags = creating();
+    let call = ObjectCall::Registry(RegistryCall::Begin { key, flags });
+    match turn(objects, call, raised) {
+        ObjectReply::Registry(RegistryReply::Begun(begun)) => begun,
+        _other => unreachable!(),
     }
+}
+
+fn settle(objects: &mut Objects, id: i32, raised: u64) -> bool
+    requires low { CountsUpTo raised objects.old }
+    requires few { raised < 100 }
+    ensures { CountsUpTo (raised + 1) objects.new }
+{
+    match turn(
+        objects,
+        ObjectCall::Registry(RegistryCall::Settle { id }),
+        raised,
+    ) {
+        ObjectReply::Registry(RegistryReply::Changed(done)) => done,
+        _other => unreachable!(),
+    }
+}
+
+fn forget(objects: &mut Objects, id: i32, raised: u64) -> bool
+    requires low { CountsUpTo raised objects.old }
+    requires few { raised < 100 }
+    ensures { CountsUpTo (raised + 1) objects.new }
+{
+    match turn(
+        objects,
+        ObjectCall::Registry(RegistryCall::Forget { id }),
+        raised,
+    ) {
+        ObjectReply::Registry(RegistryReply::Changed(done)) => done,
+        _other => unreachable!(),
+    }
+}
+
+fn install(objects: &mut Objects, id: i32, key: i32, raised: u64) -> bool
+    requires low { CountsUpTo raised objects.old }
+    requires few { raised < 100 }
+    ensures { CountsUpTo (raised + 1) objects.new }
+{
+    let ask = SlotAsk::Install {
+        id,
+        key,
+        cred: USER,
+        mode: 0o600,
+        now: 50,
+    };
+    match turn(objects, ObjectCall::Slot(SlotCall::Ask(ask)), raised) {
+        ObjectReply::Slot(SlotReply::Installed(made)) => made,
+        _other => unreachable!(),
+    }
+}
+
+/// Makes the queue of a key, which gets this identifier.
+fn make(rt: &impl Abort, objects: &mut Objects, key: i32, id: i32, raised: u64)
+    requires low { CountsUpTo raised objects.old }
+    requires few { raised < 90 }
+    ensures { CountsUpTo (raised + 3) objects.new }
+{
+    assert_is(rt, begin(objects, key, raised), Begun::Made { id });
+    assert_is(rt, install(objects, id, key, raised + 1), true);
+    assert_is(rt, settle(objects, id, raised + 2), true);
+}
+
+fn probe(objects: &mut Objects, id: i32, raised: u64) -> Probe
+    requires low { CountsUpTo raised objects.old }
+    requires few { raised < 100 }
+    ensures { CountsUpTo (raised + 1) objects.new }
+{
+    let ask = SlotAsk::Probe {
+        id,
+        cred: USER,
+        flags: creating(),
+    };
+    match turn(objects, ObjectCall::Slot(SlotCall::Ask(ask)), raised) {
+        ObjectReply::Slot(SlotReply::Probed(found)) => found,
+        _other => unreachable!(),
+    }
+}
+
+fn look(objects: &mut Objects, id: i32, raised: u64) -> Look
+    requires low { CountsUpTo raised objects.old }
+    requires few { raised < 100 }
+    ensures { CountsUpTo (raised + 1) objects.new }
+{
+    let ask = SlotAsk::Look {
+        id,
+        cred: USER,
+        size: 2,
+    };
+    match turn(objects, ObjectCall::Slot(SlotCall::Ask(ask)), raised) {
+        ObjectReply::Slot(SlotReply::Looked(found)) => found,
+        _other => unreachable!(),
+    }
+}
+
+fn stat(objects: &mut Objects, id: i32, raised: u64) -> Result<Stat, Errno>
+    requires low { CountsUpTo raised objects.old }
+    requires few { raised < 100 }
+    ensures { CountsUpTo (raised + 1) objects.new }
+{
+    let ask = SlotAsk::Stat { id, cred: USER };
+    match turn(objects, ObjectCall::Slot(SlotCall::Ask(ask)), raised) {
+        ObjectReply::Slot(SlotReply::Told(told)) => told,
+        _other => unreachable!(),
+    }
+}
+
+/// The row of the slot.
+fn row(objects: &mut Objects, slot: usize, raised: u64) -> Option<Row>
+    requires low { CountsUpTo raised objects.old }
+    requires few { raised < 100 }
+    requires there { slot < 256 }
+    ensures { CountsUpTo (raised + 1) objects.new }
+{
+    let ask = SlotAsk::Row { slot };
+    match turn(objects, ObjectCall::Slot(SlotCall::Ask(ask)), raised) {
+        ObjectReply::Slot(SlotReply::Shown(row)) => row,
+        _other => unreachable!(),
+    }
+}
+
+/// A letter without a text.
+fn empty_letter(rt: &impl Abort, alloc: Global) -> Letter {
+    let body = open_body(rt, alloc);
+    assert!(rt; body.len() == 0);
+    Letter::of(Chain::empty(), &body)
+}
+
+/// Places an empty message of type 5, which is the first of its queue.
+fn place(rt: &impl Abort, alloc: Global, objects: &mut Objects, id: i32, raised: u64)
+    requires low { CountsUpTo raised objects.old }
+    requires few { raised < 100 }
+    ensures { CountsUpTo (raised + 1) objects.new }
+{
+    let call = SlotCall::Place {
+        id,
+        cred: USER,
+        mtype: 5,
+        letter: empty_letter(rt, alloc),
+        now: 60,
+    };
+    match turn(objects, ObjectCall::Slot(call), raised) {
+        ObjectReply::Slot(SlotReply::Placed(done)) => match done {
+            Ok(number) => assert_is(rt, number, 0),
+            Err(_) => panic!(rt; "no room"),
+        },
+        _other => unreachable!(),
+    }
+}
+
+/// What a take of at most 9 bytes by anyone's message asks.
+fn taking(id: i32) -> ObjectCall
+    ensures { IsOfSomeSlot result }
+{
+    ObjectCall::Slot(SlotCall::Ask(SlotAsk::Take {
+        id,
+        cred: USER,
+        selector: Selector::Any,
+        size: 9,
+        noerror: false,
+        now: 70,
+    }))
 }
 
 /// Takes an empty message of type 5 from its queue.
@@ -76,15 +236,15 @@ fn take(rt: &impl Abort, alloc: Global, objects: &mut Objects, id: i32, raised: 
 {
     let mut out = open_body(rt, alloc);
     assert!(rt; out.push_piece(b"old"));
-    match objects.take(id, USER, Selector::Any, 9, false, 70) {
-        Ok(taken) => {
+    match turn(objects, taking(id), raised) {
+        ObjectReply::Slot(SlotReply::Taken(Ok(taken))) => {
             let (delivery, chain) = taken.finish(9, &mut out);
             assert_is(rt, delivery.mtype(), 5);
             delivery.written(&mut Tally::open());
             assert_is(rt, out.len(), 0);
             chain
         }
-        Err(_) => panic!(rt; "no message"),
+        _other => panic!(rt; "no message"),
     }
 }
 
@@ -94,19 +254,31 @@ fn assert_empty(rt: &impl Abort, objects: &mut Objects, id: i32, raised: u64)
     requires few { raised < 100 }
     ensures { CountsUpTo (raised + 1) objects.new }
 {
-    match objects.take(id, USER, Selector::Any, 9, false, 70) {
-        Ok(_) => panic!(rt; "a message"),
-        Err(why) => assert_is(rt, why, TakeRefused::NoMatch { arrived: 0 }),
+    match turn(objects, taking(id), raised) {
+        ObjectReply::Slot(SlotReply::Taken(done)) => match done {
+            Ok(_) => panic!(rt; "a message"),
+            Err(why) => assert_is(rt, why, TakeRefused::NoMatch { arrived: 0 }),
+        },
+        _other => panic!(rt; "another reply"),
     }
 }
 
 /// Sets a queue.
-fn set(rt: &impl Abort, objects: &mut Objects, id: i32, raised: u64)
+fn set(objects: &mut Objects, id: i32, raised: u64) -> Result<(), Errno>
     requires low { CountsUpTo raised objects.old }
     requires few { raised < 100 }
     ensures { CountsUpTo (raised + 1) objects.new }
 {
-    assert_is(rt, objects.set(id, USER, TO, 80), Ok(()));
+    let ask = SlotAsk::Set {
+        id,
+        cred: USER,
+        to: TO,
+        now: 80,
+    };
+    match turn(objects, ObjectCall::Slot(SlotCall::Ask(ask)), raised) {
+        ObjectReply::Slot(SlotReply::Set(done)) => done,
+        _other => unreachable!(),
+    }
 }
 
 /// Removes a queue. What it discards, or why it is not removed.
@@ -115,27 +287,26 @@ fn remove(objects: &mut Objects, id: i32, raised: u64) -> Result<Chain, Errno>
     requires few { raised < 100 }
     ensures { CountsUpTo (raised + 1) objects.new }
 {
-    match objects.remove(id, USER) {
-        Ok(discarded) => Ok(discarded.into_chain()),
-        Err(why) => Err(why),
+    let ask = SlotAsk::Remove { id, cred: USER };
+    match turn(objects, ObjectCall::Slot(SlotCall::Ask(ask)), raised) {
+        ObjectReply::Slot(SlotReply::Removed(Ok(discarded))) => Ok(discarded.into_chain()),
+        ObjectReply::Slot(SlotReply::Removed(Err(why))) => Err(why),
+        _other => unreachable!(),
     }
-}
-
-/// Forgets an identifier.
-fn forget(objects: &mut Objects, id: i32, raised: u64) -> bool
-    requires { CountsUpTo raised objects.old }
-    ensures { CountsUpTo raised objects.new }
-{
-    objects.forget(id)
 }
 
 /// Reserves the blocks of a text of this size.
 fn reserve(objects: &mut Objects, size: usize, raised: u64) -> Option<Chain>
     requires low { CountsUpTo raised objects.old }
+    requires few { raised < 100 }
     requires short { size < 8193 }
-    ensures { CountsUpTo raised objects.new }
+    ensures { CountsUpTo (raised + 1) objects.new }
 {
-    objects.reserve(size)
+    let size = TextSize::of(size);
+    match turn(objects, ObjectCall::Pool(PoolCall::Reserve(size)), raised) {
+        ObjectReply::Pool(PoolReply::Reserved(chain)) => chain,
+        _other => unreachable!(),
+    }
 }
 
 /// Releases a chain of the pool.
@@ -144,9 +315,14 @@ fn give_back(rt: &impl Abort, objects: &mut Objects, chain: Chain, raised: u64)
     requires few { raised < 100 }
     ensures { CountsUpTo (raised + 1) objects.new }
 {
-    if let Err(foreign) = objects.release(chain) {
-        foreign.end();
-        panic!(rt; "a foreign chain");
+    match turn(objects, ObjectCall::Pool(PoolCall::Release(chain)), raised) {
+        ObjectReply::Pool(PoolReply::Released(done)) => {
+            if let Err(foreign) = done {
+                foreign.end();
+                panic!(rt; "a foreign chain");
+            }
+        }
+        _other => unreachable!(),
     }
 }
 
@@ -168,54 +344,56 @@ fn two_queues_lie_in_two_slots(rt: HostRuntime) {
     let mut objects = objects_at(&rt, rt.alloc(), 0);
     assert!(rt; objects.is_unused(0));
     make(&rt, &mut objects, 7, 0, 0);
-    make(&rt, &mut objects, 8, 1, 0);
+    make(&rt, &mut objects, 8, 1, 3);
     assert!(rt; !objects.is_unused(0));
     assert_is(&rt, objects.settled(), 2);
-    assert_is(&rt, objects.probe(1, USER, creating()), Probe::Granted);
-    assert_is(&rt, objects.probe(257, USER, creating()), Probe::Gone);
-    assert!(rt; !install(&mut objects, 256, 9, 0));
-    assert_is(&rt, objects.stat(0, USER).map(|stat| stat.key), Ok(7));
-    assert_is(&rt, objects.stat(1, USER).map(|stat| stat.key), Ok(8));
-    assert_is(&rt, objects.stat(2, USER), Err(Errno::EINVAL));
-    end(&rt, objects, Chain::empty(), 0);
+    assert_is(&rt, probe(&mut objects, 1, 6), Probe::Granted);
+    assert_is(&rt, probe(&mut objects, 257, 7), Probe::Gone);
+    assert!(rt; !install(&mut objects, 256, 9, 8));
+    assert_is(&rt, stat(&mut objects, 0, 9).map(|stat| stat.key), Ok(7));
+    assert_is(&rt, stat(&mut objects, 1, 10).map(|stat| stat.key), Ok(8));
+    assert_is(&rt, stat(&mut objects, 2, 11), Err(Errno::EINVAL));
+    assert_is(&rt, row(&mut objects, 1, 12).map(|row| row.id), Some(1));
+    assert_is(&rt, row(&mut objects, 2, 13), None);
+    end(&rt, objects, Chain::empty(), 14);
 }
 
 #[test]
 fn a_message_goes_through_its_slot(rt: HostRuntime) {
     let mut objects = objects_at(&rt, rt.alloc(), 0);
     make(&rt, &mut objects, 7, 0, 0);
-    make(&rt, &mut objects, 8, 1, 0);
-    assert_is(&rt, objects.look(1, USER, 2), Look::Fits);
-    assert_is(&rt, objects.look(2, USER, 2), Look::Gone);
-    place(&rt, &mut objects, 1, 0);
+    make(&rt, &mut objects, 8, 1, 3);
+    assert_is(&rt, look(&mut objects, 1, 6), Look::Fits);
+    assert_is(&rt, look(&mut objects, 2, 7), Look::Gone);
+    place(&rt, rt.alloc(), &mut objects, 1, 8);
     assert_is(&rt, counts(&objects, 1), (1, 0));
     assert_is(&rt, counts(&objects, 0), (0, 0));
-    assert_empty(&rt, &mut objects, 0, 1);
-    let chain = take(&rt, rt.alloc(), &mut objects, 1, 2);
+    assert_empty(&rt, &mut objects, 0, 9);
+    let chain = take(&rt, rt.alloc(), &mut objects, 1, 10);
     assert_is(&rt, objects.released(), 0);
-    give_back(&rt, &mut objects, chain, 3);
+    give_back(&rt, &mut objects, chain, 11);
     assert_is(&rt, objects.released(), 1);
     assert_is(&rt, counts(&objects, 1), (1, 1));
-    end(&rt, objects, Chain::empty(), 4);
+    end(&rt, objects, Chain::empty(), 12);
 }
 
 #[test]
 fn a_queue_is_changed_removed_and_forgotten(rt: HostRuntime) {
     let mut objects = objects_at(&rt, rt.alloc(), 8_388_607);
     make(&rt, &mut objects, 7, 2_147_483_392, 0);
-    set(&rt, &mut objects, 2_147_483_392, 0);
+    assert_is(&rt, set(&mut objects, 2_147_483_392, 3), Ok(()));
     assert_is(&rt, counts(&objects, 2_147_483_392), (1, 1));
-    match remove(&mut objects, 2_147_483_393, 1) {
+    match remove(&mut objects, 2_147_483_393, 4) {
         Ok(_) => panic!(rt; "a removal"),
         Err(why) => assert_is(&rt, why, Errno::EINVAL),
     }
-    let Ok(chain) = remove(&mut objects, 2_147_483_392, 2) else {
+    let Ok(chain) = remove(&mut objects, 2_147_483_392, 5) else {
         panic!(rt; "no removal");
     };
-    assert!(rt; forget(&mut objects, 2_147_483_392, 3));
-    assert!(rt; !forget(&mut objects, 2_147_483_392, 3));
+    assert!(rt; forget(&mut objects, 2_147_483_392, 6));
+    assert!(rt; !forget(&mut objects, 2_147_483_392, 7));
     assert_is(&rt, objects.settled(), 2);
-    end(&rt, objects, chain, 3);
+    end(&rt, objects, chain, 8);
 }
 
 #[test]
@@ -225,17 +403,45 @@ fn blocks_are_reserved_and_released(rt: HostRuntime) {
         panic!(rt; "too few blocks");
     };
     assert_is(&rt, chain.blocks(), 128);
-    if let Some(more) = reserve(&mut objects, 1, 0) {
+    if let Some(more) = reserve(&mut objects, 1, 1) {
         more.end();
         panic!(rt; "a block too many");
     }
-    give_back(&rt, &mut objects, chain, 0);
+    give_back(&rt, &mut objects, chain, 2);
     assert_is(&rt, objects.released(), 1);
-    let Some(chain) = reserve(&mut objects, 65, 1) else {
+    let Some(chain) = reserve(&mut objects, 65, 3) else {
         panic!(rt; "too few blocks");
     };
     assert_is(&rt, chain.blocks(), 2);
-    end(&rt, objects, chain, 1);
+    let chain = ObjectCall::Pool(PoolCall::Release(chain)).into_chain();
+    assert_is(&rt, chain.blocks(), 2);
+    end(&rt, objects, chain, 4);
+}
+
+#[test]
+fn calls_tell_their_slot_and_hand_back_their_chain(rt: HostRuntime) {
+    let ask = SlotAsk::Stat {
+        id: 257,
+        cred: USER,
+    };
+    assert_is(&rt, ask.slot(), 1);
+    assert_is(&rt, SlotAsk::Row { slot: 5 }.slot(), 5);
+    let call = SlotCall::Ask(ask);
+    assert_is(&rt, call.slot(), 1);
+    assert_is(&rt, ObjectCall::Slot(call).into_chain().end(), 0);
+    let letter = empty_letter(&rt, rt.alloc());
+    assert_is(&rt, letter.size(), 0);
+    let call = SlotCall::Place {
+        id: 300,
+        cred: USER,
+        mtype: 5,
+        letter,
+        now: 60,
+    };
+    assert_is(&rt, call.slot(), 44);
+    assert_is(&rt, ObjectCall::Slot(call).into_chain().end(), 0);
+    assert_is(&rt, empty_letter(&rt, rt.alloc()).into_chain().end(), 0);
+    assert_is(&rt, TextSize::of(65).bytes(), 65);
 }
 
 #[test]
