@@ -4,6 +4,8 @@
 #[cfg(test)]
 mod clients;
 #[cfg(test)]
+mod driver;
+#[cfg(test)]
 mod examples;
 #[cfg(test)]
 mod growths;

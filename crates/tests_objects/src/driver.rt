@@ -1,0 +1,207 @@
+//! The steps of calls where every gate is worn out.
+
+ghost use Rattle.std.specs.Prelude.{◌≡◌};
+
+use crate::parts::{assert_is, open_body, open_pool};
+use std::process::Abort;
+use sysv_driver::{Clock, get_step, receive_step, remove_step, send_step, set_step, stat_step};
+use sysv_model::{Errno, Flags, Selector, SetTo};
+use sysv_pool::Chain;
+use sysv_steps::{Afterwards, Ending, Getting, Phase, Receiving, Sending, State};
+use sysv_turns::{ObjectCall, ObjectReply, Turns};
+use tests_kit::USER;
+
+const GET: Getting = Getting {
+    cred: USER,
+    key: 7,
+    flags: Flags::IPC_CREAT,
+};
+
+const SEND: Sending = Sending {
+    cred: USER,
+    id: 1,
+    mtype: 5,
+    nowait: true,
+    released: 0,
+    live_seen: false,
+};
+
+const RECEIVE: Receiving = Receiving {
+    cred: USER,
+    id: 1,
+    selector: Selector::Any,
+    size: 9,
+    noerror: false,
+    nowait: true,
+    live_seen: false,
+};
+
+const TO: SetTo = SetTo {
+    uid: 1000,
+    gid: 1000,
+    mode: 0o600,
+    qbytes: 9,
+};
+
+/// Gates that are worn out. They count the calls that come back.
+struct WornGates;
+
+impl Turns for WornGates {
+    type At = u32;
+
+    ghost ready = { λ _ _. Unit {0} };
+
+    ghost stays = { λ _ _. Unit {0} };
+
+    ghost takes = { λ _ _ _. ⊥ };
+
+    ghost misses = { λ _ _ _. Unit {0} };
+
+    fn make(&self, at: &mut u32, call: ObjectCall) -> Result<ObjectReply, ObjectCall> {
+        *at = at.wrapping_add(1);
+        Err(call)
+    }
+}
+
+/// A clock that stands still.
+struct Still;
+
+impl Clock for Still {
+    ghost may = { λ _ now. now ≡ 50 };
+
+    fn now(&self) -> u64 {
+        50
+    }
+}
+
+/// The call is over, refused with this error, or with none where it succeeded.
+fn assert_over(rt: &impl Abort, state: State, why: Option<Errno>) {
+    match state {
+        State::Over(Ending::Refused(errno)) => assert_is(rt, Some(errno), why),
+        State::Over(Ending::Zero) => assert_is(rt, None, why),
+        _other => panic!(rt; "the call goes on"),
+    }
+}
+
+#[test]
+fn gets_at_worn_gates(rt: HostRuntime) {
+    let mut back = 0;
+    let worn = Some(Errno::EOVERFLOW);
+    let id = 1;
+    let begun = get_step(&WornGates, &mut back, &Still, Phase::Begin(GET));
+    assert_over(&rt, begun, worn);
+    let settled = get_step(&WornGates, &mut back, &Still, Phase::Settle { id });
+    assert_over(&rt, settled, worn);
+    let probe = Phase::Probe {
+        get: GET,
+        id,
+        settled: 3,
+    };
+    assert_over(&rt, get_step(&WornGates, &mut back, &Still, probe), worn);
+    assert_is(&rt, back, 3);
+    // The identifier of a queue that was not installed is forgotten, and the answer of one that is unmade stays.
+    let install = Phase::Install { get: GET, id };
+    assert_over(&rt, get_step(&WornGates, &mut back, &Still, install), worn);
+    assert_is(&rt, back, 5);
+    let unmade = get_step(&WornGates, &mut back, &Still, Phase::Unmake { id });
+    assert_over(&rt, unmade, Some(Errno::ENOSPC));
+    assert_is(&rt, back, 6);
+}
+
+#[test]
+fn sends_at_worn_gates(rt: HostRuntime) {
+    let mut back = 0;
+    let mut kept = Chain::empty();
+    let worn = Some(Errno::EOVERFLOW);
+    let text = open_body(&rt, rt.alloc());
+    assert!(&rt; text.len() == 0);
+    let mut pool = open_pool(&rt, rt.alloc(), 128);
+    let look = Phase::Look(SEND);
+    let looked = send_step(&WornGates, &mut back, &mut kept, &Still, &text, look);
+    assert_over(&rt, looked, worn);
+    let reserve = Phase::Reserve(SEND);
+    let reserved = send_step(&WornGates, &mut back, &mut kept, &Still, &text, reserve);
+    assert_over(&rt, reserved, worn);
+    // A send at its place gives its chain back first, and a chain that can't go back is kept.
+    let place = Phase::Place {
+        send: SEND,
+        chain: Chain::empty(),
+    };
+    match send_step(&WornGates, &mut back, &mut kept, &Still, &text, place) {
+        State::Goes(
+            Phase::SendGiveback {
+                chain,
+                afterwards: Afterwards::Refused(why),
+            },
+        ) => {
+            assert_is(&rt, why, Errno::EOVERFLOW);
+            assert_is(&rt, chain.end(), 0);
+        }
+        _other => panic!(rt; "no chain goes back"),
+    }
+    let Some(chain) = pool.reserve(65) else {
+        panic!(rt; "no blocks")
+    };
+    let giveback = Phase::SendGiveback {
+        chain,
+        afterwards: Afterwards::Refused(Errno::EAGAIN),
+    };
+    let given = send_step(&WornGates, &mut back, &mut kept, &Still, &text, giveback);
+    assert_over(&rt, given, Some(Errno::EAGAIN));
+    assert_is(&rt, (back, kept.end()), (4, 2));
+    pool.end();
+}
+
+#[test]
+fn receives_at_worn_gates(rt: HostRuntime) {
+    let mut back = 0;
+    let mut kept = Chain::empty();
+    let mut out = open_body(&rt, rt.alloc());
+    let take = Phase::Take(RECEIVE);
+    let taken = receive_step(&WornGates, &mut back, &mut kept, &Still, &mut out, take);
+    assert_over(&rt, taken, Some(Errno::EOVERFLOW));
+    assert_is(&rt, (back, kept.end()), (1, 0));
+}
+
+#[test]
+fn commands_at_worn_gates(rt: HostRuntime) {
+    let mut back = 0;
+    let mut kept = Chain::empty();
+    let worn = Some(Errno::EOVERFLOW);
+    let (cred, id) = (USER, 1);
+    let stat = Phase::Stat { cred, id };
+    assert_over(&rt, stat_step(&WornGates, &mut back, stat), worn);
+    let set = Phase::Set { cred, id, to: TO };
+    let done = set_step(&WornGates, &mut back, &mut kept, &Still, set);
+    assert_over(&rt, done, worn);
+    let given = set_step(&WornGates, &mut back, &mut kept, &Still, Phase::SetGiveback);
+    assert_over(&rt, given, None);
+    let remove = Phase::Remove { cred, id };
+    let removed = remove_step(&WornGates, &mut back, &mut kept, remove);
+    assert_over(&rt, removed, worn);
+    // The answer of a removal stays, whatever gate is worn out after it.
+    let mut pool = open_pool(&rt, rt.alloc(), 128);
+    let Some(chain) = pool.reserve(65) else {
+        panic!(rt; "no blocks")
+    };
+    let forget = Phase::Forget { id, chain };
+    match remove_step(&WornGates, &mut back, &mut kept, forget) {
+        State::Goes(giveback) => {
+            let over = after_giveback(&rt, &mut back, &mut kept, giveback);
+            assert_over(&rt, over, None);
+        }
+        _other => panic!(rt; "no chain goes back"),
+    }
+    assert_is(&rt, (back, kept.end()), (6, 2));
+    pool.end();
+}
+
+/// The step after the chain of a removal was due to go back.
+fn after_giveback(rt: &impl Abort, back: &mut u32, kept: &mut Chain, phase: Phase) -> State {
+    match phase {
+        Phase::RemoveGiveback { chain } => {
+            remove_step(&WornGates, back, kept, Phase::RemoveGiveback { chain })
+        }
+        _other => panic!(rt; "another step"),
+    }
+}
