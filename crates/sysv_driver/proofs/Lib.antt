@@ -1,4 +1,3 @@
 pub mod Staying
 pub mod Stepping
-pub mod Telling
 pub mod Giving

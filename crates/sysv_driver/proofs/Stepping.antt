@@ -12,11 +12,6 @@ use Rattle.sysv_steps.specs.Next.{next}
 use Rattle.sysv_driver.specs.Stepping.{is_stamped, no_moment, left_by, StepsOn, TurnsBack, GivesBack, AsksToForget}
 
 module _ {P : Type 0} (takes : P → Deed → P → Type 0) (misses : P → Ask → P → Type 0) where
-  -- a step that asks for no moment is one for each clock
-  pub lifts : (may : ℕ → Type 0) (phase : Phase) (before : P) (kept : ℕ) (state : State) (after : P) (keeps : ℕ) → StepsOn takes misses no_moment phase before kept state after keeps → StepsOn takes misses may phase before kept state after keeps
-  lifts may phase before kept state after keeps (inl s) = inl (record { deed = s.deed; now = s.now; moment = λ e. absurd (s.moment e); asked = s.asked; goes = s.goes; makes = s.makes })
-  lifts may phase before kept state after keeps (inr w) = inr (record { deeds = w.deeds; now = w.now; moment = λ e. absurd (w.moment e); there = w.there; worn = w.worn; back = w.back })
-
   module _ (may : ℕ → Type 0) (phase : Phase) (before : P) (state : State) (after : P) where
     -- its turn was made
     pub stepped : (deed : Deed) (now : ℕ) → (is_stamped phase ≡ true → may now) → asked_by deed ≡ asks phase now → next phase deed ≡ Some state → takes before deed after → left_by deed ≡ 0 →

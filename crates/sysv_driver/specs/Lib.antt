@@ -4,3 +4,4 @@ pub use Rattle.sysv_turns.specs.Turns
 pub mod Kinds
 pub mod Stepping
 pub mod Giving
+pub mod Telling

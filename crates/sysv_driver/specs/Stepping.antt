@@ -1,6 +1,7 @@
 -- One step of a call, for whatever makes its turns: the turn that it asks for, or what it does where a gate is worn out (the
 -- steps are this profile's). Beside what makes the turns stand the blocks of the chains that could not be given back.
 use Rattle.std.specs.Prelude.{◌≡◌, ℕ, ℤ, ◌+◌, ◌⊎◌, ⊤, Bool, true, false, List, [], ◌∷◌, Some, Result}
+use Rattle.std.proofs.Common.{inl, inr}
 use Rattle.sysv_model.specs.declared.errno.Errno.TheVariants.{EOVERFLOW, ENOSPC}
 use Rattle.sysv_model.specs.Pool.{Release, Foreign}
 use Rattle.sysv_model.specs.Registry.{Forget, Changed}
@@ -103,3 +104,10 @@ module _ {P : Type 0} (takes : P → Deed → P → Type 0) (misses : P → Ask 
   GivesBack blocks before kept after keeps =
       ((done : Result ⊤ Chained) × Makes before kept (AtPool (Release blocks) (release_reply done)) after keeps)
       ⊎ (misses before (OfPool (Release blocks)) after × (keeps ≡ kept + blocks))
+
+  -- ---- a step at another clock
+
+  -- a step that asks for no moment is one for each clock
+  pub lifts : (may : ℕ → Type 0) (phase : Phase) (before : P) (kept : ℕ) (state : State) (after : P) (keeps : ℕ) → StepsOn no_moment phase before kept state after keeps → StepsOn may phase before kept state after keeps
+  lifts may phase before kept state after keeps (inl s) = inl (record { deed = s.deed; now = s.now; moment = λ e. absurd (s.moment e); asked = s.asked; goes = s.goes; makes = s.makes })
+  lifts may phase before kept state after keeps (inr w) = inr (record { deeds = w.deeds; now = w.now; moment = λ e. absurd (w.moment e); there = w.there; worn = w.worn; back = w.back })

@@ -114,7 +114,7 @@ fn sends_at_worn_gates(rt: HostRuntime) {
     let mut kept = Chain::empty();
     let worn = Some(Errno::EOVERFLOW);
     let text = open_body(&rt, rt.alloc());
-    assert!(&rt; text.len() == 0);
+    assert!(rt; text.len() == 0);
     let mut pool = open_pool(&rt, rt.alloc(), 128);
     let look = Phase::Look(SEND);
     let looked = send_step(&WornGates, &mut back, &mut kept, &Still, &text, look);
@@ -128,15 +128,7 @@ fn sends_at_worn_gates(rt: HostRuntime) {
         chain: Chain::empty(),
     };
     match send_step(&WornGates, &mut back, &mut kept, &Still, &text, place) {
-        State::Goes(
-            Phase::SendGiveback {
-                chain,
-                afterwards: Afterwards::Refused(why),
-            },
-        ) => {
-            assert_is(&rt, why, Errno::EOVERFLOW);
-            assert_is(&rt, chain.end(), 0);
-        }
+        State::Goes(giveback) => assert_gives_nothing_back(&rt, giveback),
         _other => panic!(rt; "no chain goes back"),
     }
     let Some(chain) = pool.reserve(65) else {
@@ -150,6 +142,17 @@ fn sends_at_worn_gates(rt: HostRuntime) {
     assert_over(&rt, given, Some(Errno::EAGAIN));
     assert_is(&rt, (back, kept.end()), (4, 2));
     pool.end();
+}
+
+/// A send gives back a chain of no blocks, and then is refused with EOVERFLOW.
+fn assert_gives_nothing_back(rt: &impl Abort, phase: Phase) {
+    match phase {
+        Phase::SendGiveback { chain, afterwards } => {
+            assert!(rt; afterwards == Afterwards::Refused(Errno::EOVERFLOW));
+            assert_is(rt, chain.end(), 0);
+        }
+        _other => panic!(rt; "another step"),
+    }
 }
 
 #[test]

@@ -2,7 +2,7 @@ use Rattle.std.proofs.Common.{◌^◌}
 use Rattle.sysv_model.specs.declared.limits.TheConstants.{IPC_PRIVATE}
 use Rattle.sysv_objects.specs.StandsFor.{MakesTurn}
 use Rattle.sysv_turns.specs.declared.registry.RegistryCall.TheVariants as asked
-use Rattle.sysv_driver.proofs.Telling.{registry_told}
+use Rattle.sysv_driver.specs.Telling.{registry_told}
 use Rattle.sysv_core.proofs.Presetting.{no_zero}
 use Rattle.sysv_core.proofs.preset.begin.Goals as goal
 

@@ -3,7 +3,7 @@ use Rattle.sysv_model.specs.declared.limits.TheConstants.{IPC_PRIVATE}
 use Rattle.sysv_objects.specs.StandsFor.{MakesTurn}
 use Rattle.sysv_turns.specs.declared.slot.SlotAsk.TheVariants as asked
 use Rattle.sysv_turns.specs.declared.slot.SlotCall.TheVariants as called
-use Rattle.sysv_driver.proofs.Telling.{slot_told}
+use Rattle.sysv_driver.specs.Telling.{slot_told}
 use Rattle.sysv_core.specs.World.{preset_cred}
 use Rattle.sysv_core.proofs.Presetting.{no_zero}
 use Rattle.sysv_core.proofs.preset.install.Goals as goal

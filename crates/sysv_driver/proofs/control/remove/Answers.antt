@@ -16,7 +16,7 @@ use Rattle.sysv_turns.specs.declared.slot.SlotReply.TheVariants as told
 use Rattle.sysv_driver.specs.Stepping.{no_moment}
 use Rattle.sysv_driver.proofs.Staying.{remove_removes}
 use Rattle.sysv_driver.proofs.Stepping.{stepped}
-use Rattle.sysv_driver.proofs.Telling.{slot_told}
+use Rattle.sysv_driver.specs.Telling.{slot_told}
 use Rattle.sysv_driver.proofs.control.remove.Goals as goal
 
 -- what was discarded was waiting in the slot

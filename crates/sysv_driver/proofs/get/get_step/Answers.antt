@@ -3,7 +3,7 @@ use Rattle.std.proofs.lemmas.Int.{to_z-of_z}
 use Rattle.sysv_steps.specs.Seen.{phase_of, state_of, getting}
 use Rattle.sysv_steps.specs.State.{AtBegin, AtSettle, AtProbe, AtUnmake}
 use Rattle.sysv_driver.specs.Stepping.{StepsOn}
-use Rattle.sysv_driver.proofs.Stepping.{lifts}
+use Rattle.sysv_driver.specs.Stepping.{lifts}
 use Rattle.sysv_driver.proofs.get.get_step.Goals as goal
 
 pub returns-in-Begin-clause-steps : goal.returns-in-Begin-clause-steps

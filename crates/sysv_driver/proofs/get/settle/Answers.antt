@@ -9,7 +9,7 @@ use Rattle.sysv_turns.specs.declared.registry.RegistryCall.TheVariants as asked
 use Rattle.sysv_driver.specs.Stepping.{no_moment}
 use Rattle.sysv_driver.proofs.Staying.{settle_gets}
 use Rattle.sysv_driver.proofs.Stepping.{stepped}
-use Rattle.sysv_driver.proofs.Telling.{registry_told}
+use Rattle.sysv_driver.specs.Telling.{registry_told}
 use Rattle.sysv_driver.proofs.get.settle.Goals as goal
 
 pub returns-in-Ok-Registry-Changed-clause-gets : goal.returns-in-Ok-Registry-Changed-clause-gets

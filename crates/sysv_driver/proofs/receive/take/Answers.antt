@@ -14,7 +14,7 @@ use Rattle.sysv_turns.specs.declared.slot.SlotReply.TheVariants as reply
 use Rattle.sysv_driver.specs.Giving.{HasWhatItGives, nothing_is_sized}
 use Rattle.sysv_driver.proofs.Staying.{untaken_gives_nothing}
 use Rattle.sysv_driver.proofs.Stepping.{stepped}
-use Rattle.sysv_driver.proofs.Telling.{slot_told}
+use Rattle.sysv_driver.specs.Telling.{slot_told}
 use Rattle.sysv_driver.proofs.Giving.{took, gives_nothing}
 use Rattle.sysv_driver.proofs.receive.take.Goals as goal
 

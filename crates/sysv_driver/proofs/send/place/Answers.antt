@@ -10,7 +10,7 @@ use Rattle.sysv_turns.specs.declared.slot.SlotCall.TheVariants as called
 use Rattle.sysv_turns.specs.declared.slot.SlotReply.TheVariants as reply
 use Rattle.sysv_driver.proofs.Staying.{place_sends}
 use Rattle.sysv_driver.proofs.Stepping.{stepped}
-use Rattle.sysv_driver.proofs.Telling.{slot_told}
+use Rattle.sysv_driver.specs.Telling.{slot_told}
 use Rattle.sysv_driver.proofs.send.place.Goals as goal
 
 pub returns-in-Ok-Slot-Placed-Ok-clause-sends : goal.returns-in-Ok-Slot-Placed-Ok-clause-sends
