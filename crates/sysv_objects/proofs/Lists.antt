@@ -11,3 +11,11 @@ get_set (z ∷ xs) (suc i) (suc j) x y e = elim (get_set xs i j x y e) [
   | inl h ↦ inl (ap suc h.0, h.1)
   | inr h ↦ inr ((λ s. h.0 (omega arith)), h.1)
 ]
+
+-- and what stands beside it
+pub get_beside : {X : Type 0} (xs : List X) (i j : ℕ) (x : X) → j ≢ i → slice_get (slice_set xs i x) j ≡ slice_get xs j
+get_beside [] i j x other = refl
+get_beside (z ∷ xs) zero zero x other = absurd (other refl)
+get_beside (z ∷ xs) zero (suc j) x other = refl
+get_beside (z ∷ xs) (suc i) zero x other = refl
+get_beside (z ∷ xs) (suc i) (suc j) x other = get_beside xs i j x (λ same. other (ap suc same))

@@ -1,7 +1,8 @@
 -- A turn that the code makes at one of the objects.
-use Rattle.std.proofs.Common.{◌≡◌, ℕ, ℤ, [], ◌<◌, ◌≤◌, List, Some, refl, sym, ap, subst, ◌∙◌, arith, length, get_or, slice_get, slice_set, w32, of_z, to_z, FitsSigned}
+use Rattle.std.proofs.Common.{◌≡◌, ◌≢◌, ℕ, ℤ, [], ◌<◌, ◌≤◌, List, Some, refl, sym, ap, subst, ◌∙◌, arith, length, get_or, slice_get, slice_set, w32, of_z, to_z, FitsSigned}
 use Rattle.std.specs.List.{All}
 use Rattle.std.proofs.lemmas.Int.{to_z-of_z}
+use Rattle.std.proofs.lemmas.List.{set-get_or}
 use Rattle.std.proofs.lemmas.Option.{slice_get_read, slice_get_within, get_or_from_slice_get}
 use Rattle.sysv_model.specs.History.{Call, Reply, arrived, freed}
 use Rattle.sysv_model.specs.Registry.{RegistryCall, RegistryReply}
@@ -18,6 +19,7 @@ use Rattle.sysv_turns.specs.declared.pool.PoolReply.{PoolReply as ToldByPool}
 use Rattle.sysv_turns.specs.PoolTurns.{pool_call, pool_reply, PoolMoves}
 use Rattle.sysv_objects.specs.Objects.{Objects, CountsUpTo}
 use Rattle.sysv_objects.specs.StandsFor.{StandsFor, Stand, AreVacant, MakesTurn}
+use Rattle.sysv_objects.proofs.Lists.{get_beside}
 use Rattle.sysv_objects.proofs.Lifting.{stand_on, at_slot, at_registry, at_pool}
 
 abbrev pub objects_of : List Slot → Registry → Pool → Objects
@@ -42,6 +44,14 @@ module _ (items : List Slot) (registry : Registry) (pool : Pool) (seen : Objects
   stand_still new call reply turn =
       stand_on (objects_of items registry pool) (objects_of (slice_set items place new) registry pool) (AtSlot place call reply) st
       (at_slot (objects_of items registry pool) place was new call reply there turn st)
+
+  -- a slot that is left as it was leaves the objects as they were
+  pub left : (new : Slot) → new ≡ was → objects_of (slice_set items place new) registry pool ≡ seen
+  left new same =
+      ap (λ slots. objects_of slots registry pool) (ap (slice_set items place) (same ∙ read) ∙ set-get_or items place was) ∙ view
+
+  pub beside : (new : Slot) (other : ℕ) → other ≢ number → slice_get (slice_set items place new) other ≡ slice_get seen.slots other
+  beside new other apart = get_beside items place other new (λ same. apart (same ∙ its)) ∙ ap (λ (o : Objects). slice_get o.slots other) view
 
   pub low : (bound : ℕ) → CountsUpTo bound seen → (was.arrived ≤ bound) × (was.freed ≤ bound)
   low bound up = up.0 place was (ap (λ (o : Objects). slice_get o.slots place) (sym view) ∙ there)

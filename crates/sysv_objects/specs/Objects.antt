@@ -1,5 +1,5 @@
 -- What the objects are seen as: each slot, by its number, the registry and the pool (this profile's).
-use Rattle.std.specs.Prelude.{◌≡◌, ℕ, ◌≤◌, List, Some, slice_get, sum_by}
+use Rattle.std.specs.Prelude.{◌≡◌, ◌≢◌, ℕ, ◌≤◌, List, Some, slice_get, sum_by}
 use Rattle.sysv_model.specs.History.{Call, Place, Take, Set, Remove}
 use Rattle.sysv_model.specs.Pool.{PoolCall, Reserve, Release}
 use Rattle.sysv_model.specs.Turn.{Deed, AtSlot, AtRegistry, AtPool}
@@ -7,6 +7,9 @@ use Rattle.sysv_queue.specs.Slot.{Slot}
 use Rattle.sysv_queue.specs.Blocks.{blocks_of}
 use Rattle.sysv_keys.specs.StandsFor.{Registry}
 use Rattle.sysv_pool.specs.State.{State as Pool}
+use Rattle.sysv_turns.specs.declared.object.ObjectCall.{ObjectCall}
+use Rattle.sysv_turns.specs.declared.object.ObjectCall.TheVariants as asked
+use Rattle.sysv_turns.specs.SlotTurns.{slot_asked}
 
 pub record Objects : Type 0 where
   pub slots : List Slot
@@ -35,6 +38,13 @@ abbrev pub raises_by : Deed → ℕ
 raises_by (AtSlot slot call reply) = raises call
 raises_by (AtRegistry call reply) = 0
 raises_by (AtPool call reply) = pool_raises call
+
+-- the objects of which the call asks nothing are as they were
+abbrev pub OthersStay : ObjectCall → Objects → Objects → Type 0
+OthersStay (asked.Slot call) old new =
+    ((number : ℕ) → number ≢ slot_asked call → slice_get new.slots number ≡ slice_get old.slots number) × (new.registry ≡ old.registry) × (new.pool ≡ old.pool)
+OthersStay (asked.Registry call) old new = (new.slots ≡ old.slots) × (new.pool ≡ old.pool)
+OthersStay (asked.Pool call) old new = (new.slots ≡ old.slots) × (new.registry ≡ old.registry)
 
 -- the blocks of all that waits in these slots
 abbrev pub blocks_in : List Slot → ℕ

@@ -9,9 +9,11 @@ ghost use Rattle.sysv_keys.specs.declared.identifier.TheConstants.{SLOTS, GENERA
 ghost use Rattle.sysv_keys.specs.Identifier.{slot_of_id};
 ghost use Rattle.sysv_keys.specs.Rows.{IsUnused};
 ghost use Rattle.sysv_model.specs.declared.limits.TheConstants.{MIN_BLOCKS as least_blocks, MAX_BLOCKS as most_blocks};
-ghost use Rattle.sysv_turns.specs.SlotTurns.{IsThere};
-ghost use Rattle.sysv_turns.specs.Turns.{IsOfSomeSlot, Takes};
-ghost use Rattle.sysv_objects.specs.Objects.{CountsUpTo, blocks_in};
+ghost use Rattle.sysv_turns.specs.SlotTurns.{IsThere, MayRaise, LeavesSlot};
+ghost use Rattle.sysv_turns.specs.RegistryTurns.{LeavesRegistry};
+ghost use Rattle.sysv_turns.specs.PoolTurns.{MayRelease, LeavesPool};
+ghost use Rattle.sysv_turns.specs.Turns.{IsOfSomeSlot, MayCount, LeavesObject, Takes};
+ghost use Rattle.sysv_objects.specs.Objects.{CountsUpTo, OthersStay, blocks_in};
 ghost use Rattle.sysv_objects.specs.StandsFor.{StandsFor, MakesTurn, AreVacant};
 
 use std::alloc::Global;
@@ -92,12 +94,15 @@ impl Objects {
         })
     }
 
-    /// Makes one turn: at the slot of its number, at the registry or at the pool. No count may be above 2^62.
+    /// Makes one turn: at the slot of its number, at the registry or at the pool. No count may be above 2^62 where the turn may
+    /// raise one. A refused turn, and one that only reads, changes nothing.
     #[inline(always)]
     pub fn make(&mut self, call: ObjectCall) -> ObjectReply
-        requires counts { CountsUpTo (2 ^ 62) self.old }
+        requires counts { MayCount call → CountsUpTo (2 ^ 62) self.old }
         requires there { IsOfSomeSlot call }
         ensures turn { Takes MakesTurn self.old call result self.new }
+        ensures leaves { LeavesObject result → self.new ≡ self.old }
+        ensures others { OthersStay call self.old self.new }
     {
         match call {
             ObjectCall::Slot(call) => ObjectReply::Slot(self.at_slot(call)),
@@ -108,26 +113,32 @@ impl Objects {
 
     #[inline(always)]
     fn at_slot(&mut self, call: SlotCall) -> SlotReply
-        requires counts { CountsUpTo (2 ^ 62) self.old }
+        requires counts { MayRaise call → CountsUpTo (2 ^ 62) self.old }
         requires there { IsThere call }
-        ensures { Takes MakesTurn self.old (ObjectCall.Slot call) (ObjectReply.Slot result)
+        ensures turn { Takes MakesTurn self.old (ObjectCall.Slot call) (ObjectReply.Slot result)
             self.new }
+        ensures leaves { LeavesSlot result → self.new ≡ self.old }
+        ensures others { OthersStay (ObjectCall.Slot call) self.old self.new }
     {
         let place = call.slot();
         call.make(&mut self.slots[place])
     }
 
     fn at_registry(&mut self, call: RegistryCall) -> RegistryReply
-        ensures { Takes MakesTurn self.old (ObjectCall.Registry call)
+        ensures turn { Takes MakesTurn self.old (ObjectCall.Registry call)
             (ObjectReply.Registry result) self.new }
+        ensures leaves { LeavesRegistry result → self.new ≡ self.old }
+        ensures others { OthersStay (ObjectCall.Registry call) self.old self.new }
     {
         call.make(&mut self.registry)
     }
 
     fn at_pool(&mut self, call: PoolCall) -> PoolReply
-        requires { CountsUpTo (2 ^ 62) self.old }
-        ensures { Takes MakesTurn self.old (ObjectCall.Pool call) (ObjectReply.Pool result)
+        requires { MayRelease call → CountsUpTo (2 ^ 62) self.old }
+        ensures turn { Takes MakesTurn self.old (ObjectCall.Pool call) (ObjectReply.Pool result)
             self.new }
+        ensures leaves { LeavesPool result → self.new ≡ self.old }
+        ensures others { OthersStay (ObjectCall.Pool call) self.old self.new }
     {
         call.make(&mut self.pool)
     }

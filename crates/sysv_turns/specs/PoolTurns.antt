@@ -26,8 +26,21 @@ FitsPoolCall (asked.Release chain) (told.Released (Ok done)) = ⊤
 FitsPoolCall (asked.Release chain) (told.Released (Err back)) = back ≡ chain
 FitsPoolCall call reply = ⊥
 
+-- it may raise the released count
+abbrev pub MayRelease : Asked → Type 0
+MayRelease (asked.Reserve size) = ⊥
+MayRelease (asked.Release chain) = ⊤
+
+-- a refused turn is to leave the pool as it was
+abbrev pub LeavesPool : Told → Type 0
+LeavesPool (told.Reserved None) = ⊤
+LeavesPool (told.Reserved (Some chain)) = ⊥
+LeavesPool (told.Released (Ok done)) = ⊥
+LeavesPool (told.Released (Err back)) = ⊤
+
 -- the pool makes the turn, and is of the size that it was
 pub record PoolMoves (before : State) (call : Asked) (reply : Told) (after : State) : Type 0 where
   pub turn : MakesTurn before (pool_call call) (pool_reply reply) after
   pub size : after.size ≡ before.size
   pub fits : FitsPoolCall call reply
+  pub leaves : LeavesPool reply → after ≡ before

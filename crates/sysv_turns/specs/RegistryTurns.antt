@@ -1,6 +1,7 @@
 -- A turn at the registry: what the code's call and reply are in the registry's history (this profile's).
-use Rattle.std.specs.Prelude.{⊤}
+use Rattle.std.specs.Prelude.{◌≡◌, false, ⊤}
 use Rattle.sysv_model.specs.Registry.{RegistryCall, Begin, Settle, Forget, RegistryReply, Changed}
+use Rattle.sysv_keys.specs.declared.registry.Begun.TheVariants as begun
 use Rattle.sysv_keys.specs.Replies.{begun_reply}
 use Rattle.sysv_keys.specs.StandsFor.{Registry, MakesTurn}
 use Rattle.sysv_turns.specs.declared.registry.RegistryCall.{RegistryCall as Asked}
@@ -24,7 +25,14 @@ FitsRegistryCall (asked.Settle id) (told.Changed done) = ⊤
 FitsRegistryCall (asked.Forget id) (told.Changed done) = ⊤
 FitsRegistryCall call reply = ⊥
 
+-- a turn that makes no row and changes none is to leave the registry as it was
+abbrev pub LeavesRegistry : Told → Type 0
+LeavesRegistry (told.Begun (begun.Made id)) = ⊥
+LeavesRegistry (told.Begun found) = ⊤
+LeavesRegistry (told.Changed done) = done ≡ false
+
 -- the registry makes the turn
 pub record RegistryMoves (before : Registry) (call : Asked) (reply : Told) (after : Registry) : Type 0 where
   pub turn : MakesTurn before (registry_call call) (registry_reply reply) after
   pub fits : FitsRegistryCall call reply
+  pub leaves : LeavesRegistry reply → after ≡ before

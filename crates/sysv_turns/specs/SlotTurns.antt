@@ -1,5 +1,5 @@
 -- A turn at a slot: what the code's call and reply are in the slot's history (this profile's).
-use Rattle.std.specs.Prelude.{◌≡◌, ◌<◌, ℕ, Ok, Err, ⊤}
+use Rattle.std.specs.Prelude.{◌≡◌, ◌<◌, ℕ, false, Ok, Err, ⊤}
 use Rattle.sysv_model.specs.History.{Call, Install, Probe, Look, Place, Take, ReadStat, Set, Remove, ReadRow, Reply, Installed, Shown}
 use Rattle.sysv_queue.specs.Replies.{probe_reply, stat_reply, look_reply, place_reply, take_reply, set_reply, remove_reply}
 use Rattle.sysv_queue.specs.Blocks.{blocks_of}
@@ -64,6 +64,14 @@ slot_reply slot (told.Set done) = set_reply done
 slot_reply slot (told.Removed done) = remove_reply slot.messages done
 slot_reply slot (told.Shown row) = Shown row
 
+-- it may raise a count of the slot
+abbrev pub MayRaise : SlotCall → Type 0
+MayRaise (called.Ask (asked.Take id cred selector size noerror now)) = ⊤
+MayRaise (called.Ask (asked.Set id cred to now)) = ⊤
+MayRaise (called.Ask (asked.Remove id cred)) = ⊤
+MayRaise (called.Ask ask) = ⊥
+MayRaise (called.Place id cred mtype letter now) = ⊤
+
 -- the reply is of the kind that the call has; a refused place hands the chain back, and a removal the blocks of what waited
 abbrev pub FitsAsk : Slot → SlotAsk → SlotReply → Type 0
 FitsAsk slot (asked.Install id key cred mode now) (told.Installed made) = ⊤
@@ -83,7 +91,24 @@ FitsSlotCall slot (called.Place id cred mtype letter now) (told.Placed (Ok numbe
 FitsSlotCall slot (called.Place id cred mtype letter now) (told.Placed (Err refused)) = refused.chain ≡ letter
 FitsSlotCall slot (called.Place id cred mtype letter now) reply = ⊥
 
+-- a refused turn, and one that only reads, is to leave the slot as it was
+abbrev pub LeavesSlot : SlotReply → Type 0
+LeavesSlot (told.Installed made) = made ≡ false
+LeavesSlot (told.Probed found) = ⊤
+LeavesSlot (told.Looked found) = ⊤
+LeavesSlot (told.Placed (Ok number)) = ⊥
+LeavesSlot (told.Placed (Err refused)) = ⊤
+LeavesSlot (told.Taken (Ok taken)) = ⊥
+LeavesSlot (told.Taken (Err refused)) = ⊤
+LeavesSlot (told.Told done) = ⊤
+LeavesSlot (told.Set (Ok done)) = ⊥
+LeavesSlot (told.Set (Err why)) = ⊤
+LeavesSlot (told.Removed (Ok discarded)) = ⊥
+LeavesSlot (told.Removed (Err why)) = ⊤
+LeavesSlot (told.Shown row) = ⊤
+
 -- the slot makes the turn
 pub record SlotMoves (before : Slot) (call : SlotCall) (reply : SlotReply) (after : Slot) : Type 0 where
   pub turn : MakesTurn before (slot_call call) (slot_reply before reply) after
   pub fits : FitsSlotCall before call reply
+  pub leaves : LeavesSlot reply → after ≡ before

@@ -1,5 +1,5 @@
 -- A turn at any of the objects, by who makes it: the objects themselves, or a seat at their gates (this profile's).
-use Rattle.std.specs.Prelude.{ℕ, ⊤}
+use Rattle.std.specs.Prelude.{[], ⊤}
 use Rattle.sysv_model.specs.Turn.{Ask, OfSlot, OfRegistry, OfPool, Deed, AtSlot, AtRegistry, AtPool}
 use Rattle.sysv_queue.specs.Slot.{Slot}
 use Rattle.sysv_turns.specs.declared.slot.SlotCall.TheVariants.{Ask as Asks, Place}
@@ -8,9 +8,10 @@ use Rattle.sysv_turns.specs.declared.object.ObjectCall.{ObjectCall}
 use Rattle.sysv_turns.specs.declared.object.ObjectCall.TheVariants as asked
 use Rattle.sysv_turns.specs.declared.object.ObjectReply.{ObjectReply}
 use Rattle.sysv_turns.specs.declared.object.ObjectReply.TheVariants as told
-use Rattle.sysv_turns.specs.SlotTurns.{IsThere, slot_asked, slot_call, slot_reply, FitsSlotCall}
-use Rattle.sysv_turns.specs.RegistryTurns.{registry_call, registry_reply, FitsRegistryCall}
-use Rattle.sysv_turns.specs.PoolTurns.{pool_call, pool_reply, FitsPoolCall}
+use Rattle.sysv_pool.specs.Chain.{Chained}
+use Rattle.sysv_turns.specs.SlotTurns.{IsThere, MayRaise, slot_asked, slot_call, slot_reply, FitsSlotCall, LeavesSlot}
+use Rattle.sysv_turns.specs.RegistryTurns.{registry_call, registry_reply, FitsRegistryCall, LeavesRegistry}
+use Rattle.sysv_turns.specs.PoolTurns.{MayRelease, pool_call, pool_reply, FitsPoolCall, LeavesPool}
 
 -- what is asked, and of which object
 abbrev pub ask_of_call : ObjectCall → Ask
@@ -24,13 +25,25 @@ IsOfSomeSlot (asked.Slot call) = IsThere call
 IsOfSomeSlot (asked.Registry call) = ⊤
 IsOfSomeSlot (asked.Pool call) = ⊤
 
--- the blocks that are handed over with it
-abbrev pub blocks_asked : ObjectCall → ℕ
-blocks_asked (asked.Slot (Asks ask)) = 0
-blocks_asked (asked.Slot (Place id cred mtype letter now)) = letter.blocks
-blocks_asked (asked.Registry call) = 0
-blocks_asked (asked.Pool (Reserve size)) = 0
-blocks_asked (asked.Pool (Release chain)) = chain.blocks
+-- the chain that is handed over with it, or an empty one
+abbrev pub chain_asked : ObjectCall → Chained
+chain_asked (asked.Slot (Asks ask)) = record { blocks = 0; bytes = [] }
+chain_asked (asked.Slot (Place id cred mtype letter now)) = letter
+chain_asked (asked.Registry call) = record { blocks = 0; bytes = [] }
+chain_asked (asked.Pool (Reserve size)) = record { blocks = 0; bytes = [] }
+chain_asked (asked.Pool (Release chain)) = chain
+
+-- it may raise a count of its object
+abbrev pub MayCount : ObjectCall → Type 0
+MayCount (asked.Slot call) = MayRaise call
+MayCount (asked.Registry call) = ⊥
+MayCount (asked.Pool call) = MayRelease call
+
+-- a refused turn, and one that only reads, is to leave its object as it was
+abbrev pub LeavesObject : ObjectReply → Type 0
+LeavesObject (told.Slot reply) = LeavesSlot reply
+LeavesObject (told.Registry reply) = LeavesRegistry reply
+LeavesObject (told.Pool reply) = LeavesPool reply
 
 -- The turn was made, where `takes` says what it is to make one, and the reply is of the kind that the call has. Of a slot
 -- it is told with what was there before it, which a removal discards

@@ -2,7 +2,7 @@
 
 ghost use Rattle.std.specs.Prelude.{◌≡◌, IfOk, IfErr, OnErr};
 ghost use Rattle.sysv_model.specs.Turn.{Ask, Deed};
-ghost use Rattle.sysv_turns.specs.Turns.{blocks_asked, ask_of_call, IsOfSomeSlot, Takes};
+ghost use Rattle.sysv_turns.specs.Turns.{chain_asked, ask_of_call, IsOfSomeSlot, Takes};
 
 use crate::pool::{PoolCall, PoolReply};
 use crate::registry::{RegistryCall, RegistryReply};
@@ -26,7 +26,7 @@ pub enum ObjectReply {
 impl ObjectCall {
     /// The chain that it hands over, or an empty one.
     pub fn into_chain(self) -> Chain
-        ensures { result.blocks ≡ blocks_asked self }
+        ensures { result ≡ chain_asked self }
     {
         match self {
             ObjectCall::Slot(

@@ -2,7 +2,7 @@
 
 ghost use Rattle.std.specs.Prelude.{◌≡◌, ◌≤◌, ◌^◌, ◌<◌};
 ghost use Rattle.sysv_model.specs.declared.limits.TheConstants.{MESSAGE_BYTES as most_bytes};
-ghost use Rattle.sysv_turns.specs.PoolTurns.{PoolMoves};
+ghost use Rattle.sysv_turns.specs.PoolTurns.{PoolMoves, MayRelease};
 
 use std::marker::Model;
 use sysv_pool::{Chain, Pool};
@@ -55,9 +55,9 @@ pub enum PoolReply {
 }
 
 impl PoolCall {
-    /// Makes the turn at this pool, whose released count is below 2^63.
+    /// Makes the turn at this pool, whose released count is below 2^63 if the turn may raise it.
     pub fn make(self, pool: &mut Pool) -> PoolReply
-        requires { pool.old.released < 2 ^ 63 }
+        requires { MayRelease self → pool.old.released < 2 ^ 63 }
         ensures { PoolMoves pool.old self result pool.new }
     {
         match self {

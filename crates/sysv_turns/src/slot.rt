@@ -1,7 +1,7 @@
 //! Turns at a slot of a queue.
 
 ghost use Rattle.std.specs.Prelude.{◌≡◌, ◌^◌, ◌<◌};
-ghost use Rattle.sysv_turns.specs.SlotTurns.{SlotMoves, IsThere, IsThereFor, slot_of_ask, slot_asked};
+ghost use Rattle.sysv_turns.specs.SlotTurns.{SlotMoves, IsThere, IsThereFor, MayRaise, slot_of_ask, slot_asked};
 ghost use Rattle.sysv_keys.specs.declared.identifier.TheConstants.{SLOTS};
 
 use crate::letter::Letter;
@@ -101,11 +101,11 @@ impl SlotAsk {
         slot_of_id(id)
     }
 
-    // Makes the turn at this slot, whose counts are below 2^63.
+    // Makes the turn at this slot, whose counts are below 2^63 if the turn may raise one.
     #[inline(always)]
     fn make(self, slot: &mut QueueSlot) -> SlotReply
-        requires arrived { slot.old.arrived < 2 ^ 63 }
-        requires freed { slot.old.freed < 2 ^ 63 }
+        requires arrived { MayRaise (SlotCall.Ask self) → slot.old.arrived < 2 ^ 63 }
+        requires freed { MayRaise (SlotCall.Ask self) → slot.old.freed < 2 ^ 63 }
         ensures { SlotMoves slot.old (SlotCall.Ask self) result slot.new }
     {
         match self {
@@ -146,11 +146,11 @@ impl SlotCall {
         }
     }
 
-    /// Makes the turn at this slot, whose counts are below 2^63.
+    /// Makes the turn at this slot, whose counts are below 2^63 if the turn may raise one.
     #[inline(always)]
     pub fn make(self, slot: &mut QueueSlot) -> SlotReply
-        requires arrived { slot.old.arrived < 2 ^ 63 }
-        requires freed { slot.old.freed < 2 ^ 63 }
+        requires arrived { MayRaise self → slot.old.arrived < 2 ^ 63 }
+        requires freed { MayRaise self → slot.old.freed < 2 ^ 63 }
         ensures { SlotMoves slot.old self result slot.new }
     {
         match self {
