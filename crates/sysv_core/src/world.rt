@@ -315,6 +315,7 @@ impl World {
 /// The actor at that place, which is in no call, goes on with its call, or is idle and its answer is given.
 /// A body that is spare is kept in the place of the one before, and a message that the answer gives is
 /// counted as written.
+#[inline(always)]
 fn settle(
     actors: &mut Vec<Option<Doing>>,
     kept: &mut Option<Body>,

@@ -33,6 +33,7 @@ pub(crate) fn forget<T: Turns>(turns: &T, at: &mut T::At, id: i32)
 }
 
 /// Gives the chain back to the pool. One that the pool refuses as that of another, or whose gate is worn out, is kept.
+#[inline(always)]
 pub(crate) fn give_back<T: Turns>(turns: &T, at: &mut T::At, kept: &mut Chain, chain: Chain)
     requires { T.ready turns.now at.old }
     ensures stays { T.stays turns.now at.new }

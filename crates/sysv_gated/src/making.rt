@@ -15,6 +15,7 @@ use sysv_turns::{ObjectCall, ObjectReply, Turns};
 impl Gates {
     /// Makes the turn that is asked for, at its object. Where the gate is worn out, since its tickets have reached 2^62, no
     /// turn is made, and the call comes back.
+    #[inline(always)]
     pub fn make(
         &self,
         rt: &impl Wait,
@@ -76,6 +77,7 @@ impl<'a, R: Wait> Turns for AtGates<'a, R> {
 
     ghost misses = { FindsWorn };
 
+    #[inline(always)]
     fn make(&self, seats: &mut Seats, call: ObjectCall) -> Result<ObjectReply, ObjectCall> {
         self.gates.make(self.rt, seats, call)
     }

@@ -105,6 +105,7 @@ impl Service {
 
     /// One step of a receive that fills this body. An arrival wakes one receive that waits, so one that has waited and takes
     /// nothing wakes the next. One that has not waited was not woken, and owes no wake.
+    #[inline(always)]
     fn receive_step<C: Clock>(
         &self,
         rt: &impl MayWait,

@@ -117,6 +117,7 @@ impl Service {
     }
 
     /// One step of a send that has this text.
+    #[inline(always)]
     fn send_step<C: Clock>(
         &self,
         rt: &impl MayWait,
