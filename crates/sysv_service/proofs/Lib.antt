@@ -10,6 +10,7 @@ pub mod Living
 pub mod NoneKept
 pub mod Emptying
 pub mod Marking
+pub mod Wearing
 pub mod Playing
 pub mod Answering
 pub mod Hiring

@@ -78,7 +78,7 @@ module _ {O C R : Type 0} where
 
 -- ---- one thing at an object
 
-never : {P : Type 0} → true ≡ false → P
+pub never : {P : Type 0} → true ≡ false → P
 never e = absurd cc
 
 module _ (before after : Seats) (none : IsUnmarked after) where

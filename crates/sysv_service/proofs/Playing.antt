@@ -8,6 +8,7 @@ use Rattle.sysv_service.specs.OwnTurns.{EachPlaysItsOwn}
 use Rattle.sysv_service.specs.Ran.{Pass, Ran, FindsTurns, begins, steps, turns_back, reads, resumes, gives_up}
 use Rattle.sysv_service.proofs.Doing.{does}
 use Rattle.sysv_service.proofs.Marking.{finds_turns}
+use Rattle.sysv_service.proofs.Wearing.{comes}
 
 -- a call that found no gate worn out is played
 module _ (may : ℕ → Type 0) (from : State) (old : Pass) where
@@ -22,6 +23,7 @@ module _ (may : ℕ → Type 0) (from : State) (old : Pass) where
 pub each_plays : (may : ℕ → Type 0) → EachPlaysItsOwn may
 each_plays may from old deeds state new ran = record {
   own = does may from old deeds state new ran;
+  comes = comes may from old deeds state new ran;
   plays = plays may from old deeds state new ran;
   unmarked = λ none. (finds_turns may from old deeds state new ran none).0;
 }

@@ -24,7 +24,7 @@ set_there [] i a b at = absurd (some-ne-none a (sym at))
 set_there (x ∷ xs) zero a b at = refl
 set_there (x ∷ xs) (suc i) a b at = set_there xs i a b at
 
-is_there : {how : SlotSeat → SlotSeat → Type 0} (place : ℕ) (before after : List SlotSeat) (changes : ChangesAt place before after how) → get_elem? after place ≡ some changes.is
+pub is_there : {how : SlotSeat → SlotSeat → Type 0} (place : ℕ) (before after : List SlotSeat) (changes : ChangesAt place before after how) → get_elem? after place ≡ some changes.is
 is_there place before after changes = subst (λ xs. get_elem? xs place ≡ some changes.is) (sym changes.others) (set_there before place changes.was changes.is changes.at)
 
 all_but : {A : Type 0} (xs : List A) (y : A) → all_but_last (xs ++ y ∷ []) ≡ xs

@@ -19,6 +19,7 @@ pub mod Retried
 pub mod Life
 pub mod PoolWhole
 pub mod Marks
+pub mod PlayedWorn
 pub mod OwnTurns
 pub mod Working
 pub mod Hiring

@@ -32,8 +32,10 @@ pub fn each_run_answers_right<C: Clock>(clock: &C)
     each_answer_is_right();
 }
 
-/// A call adds to the turns that its pass has made, in the one order of all turns, just those that it made, in order. It is
-/// played along them where it found no gate worn out, as it did where the pass is unmarked after it.
+/// A call adds to the turns that its pass has made, in the one order of all turns, just those that it made, in order, and is
+/// played along them. A step or a wait at a worn gate comes only where the call has no turn left at that object and the
+/// pass's seat there is marked. Where the call found no gate worn out, as it did where the pass is unmarked after it, it is
+/// played by the step table alone.
 pub fn each_plays_its_own<C: Clock>(clock: &C)
     ensures stamped { EachPlaysItsOwn (C.may clock.now) }
     ensures unstamped { EachPlaysItsOwn no_moment }
