@@ -46,7 +46,7 @@ is_installed o true none taken = refl
 is_installed None false none taken = absurd (let bad = taken refl in cc)
 is_installed (Some a) false none taken = absurd cc
 
-pub no_zero : (bound : ℕ) (o : Objects) → CountsUpTo (bound + 0) o → CountsUpTo bound o
+no_zero : (bound : ℕ) (o : Objects) → CountsUpTo (bound + 0) o → CountsUpTo bound o
 no_zero bound o up = (λ number slot here. let u = up.0 number slot here in (omega (arith, u.0), omega (arith, u.1)), omega (arith, up.1))
 
 module _ (one : NoTwoRepliesAreLegal) (unused : UnusedSlots) (generation : ℕ) (turns : List Turn) (old : Objects) (st : StandsFor generation turns old) (u : IsUnused generation (registry_history turns) 0) where

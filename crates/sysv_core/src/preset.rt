@@ -1,13 +1,11 @@
 //! The preset queue.
 
-ghost use Rattle.std.specs.Prelude.{◌^◌};
 ghost use Rattle.sysv_model.specs.History.{Install, Installed};
 ghost use Rattle.sysv_model.specs.Registry.{Begin, Settle, Changed};
 ghost use Rattle.sysv_model.specs.Turn.{AtSlot, AtRegistry};
 ghost use Rattle.sysv_model.specs.declared.limits.TheConstants.{IPC_PRIVATE as private};
 ghost use Rattle.sysv_keys.specs.Identifier.{slot_of_id};
 ghost use Rattle.sysv_keys.specs.Replies.{begun_reply};
-ghost use Rattle.sysv_objects.specs.Objects.{CountsUpTo};
 ghost use Rattle.sysv_objects.specs.StandsFor.{MakesTurn};
 ghost use Rattle.sysv_core.specs.World.{preset_cred};
 ghost use Rattle.sysv_core.specs.Preset.{MakesPreset};
@@ -27,9 +25,8 @@ const PRESET: Cred = Cred {
     pid: 0,
 };
 
-/// Makes it, where slot 0 is unused: three turns, as a get of a private key would make them. No count may be above 2^62.
+/// Makes it, where slot 0 is unused: three turns, as a get of a private key would make them.
 pub fn preset_queue(objects: &mut Objects) -> bool
-    requires { CountsUpTo (2 ^ 62) objects.old }
     ensures { MakesPreset objects.old result objects.new }
 {
     unused_slots();
@@ -44,10 +41,8 @@ pub fn preset_queue(objects: &mut Objects) -> bool
 }
 
 fn begin(objects: &mut Objects, flags: Flags) -> Begun
-    requires { CountsUpTo (2 ^ 62) objects.old }
-    ensures turn { MakesTurn objects.old (AtRegistry (Begin private flags) (begun_reply result))
+    ensures { MakesTurn objects.old (AtRegistry (Begin private flags) (begun_reply result))
         objects.new }
-    ensures counts { CountsUpTo (2 ^ 62) objects.new }
 {
     let key = IPC_PRIVATE;
     match objects.make(ObjectCall::Registry(RegistryCall::Begin { key, flags })) {
@@ -57,10 +52,8 @@ fn begin(objects: &mut Objects, flags: Flags) -> Begun
 }
 
 fn install(objects: &mut Objects, id: i32, mode: u32) -> bool
-    requires { CountsUpTo (2 ^ 62) objects.old }
-    ensures turn { MakesTurn objects.old (AtSlot (slot_of_id id)
+    ensures { MakesTurn objects.old (AtSlot (slot_of_id id)
         (Install id private preset_cred mode 0) (Installed result)) objects.new }
-    ensures counts { CountsUpTo (2 ^ 62) objects.new }
 {
     let ask = SlotAsk::Install {
         id,
@@ -76,7 +69,6 @@ fn install(objects: &mut Objects, id: i32, mode: u32) -> bool
 }
 
 fn settle(objects: &mut Objects, id: i32) -> bool
-    requires { CountsUpTo (2 ^ 62) objects.old }
     ensures { MakesTurn objects.old (AtRegistry (Settle id) (Changed result)) objects.new }
 {
     match objects.make(ObjectCall::Registry(RegistryCall::Settle { id })) {
