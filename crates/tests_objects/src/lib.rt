@@ -4,8 +4,6 @@
 #[cfg(test)]
 mod clients;
 #[cfg(test)]
-mod driver;
-#[cfg(test)]
 mod examples;
 #[cfg(test)]
 mod growths;
@@ -30,6 +28,10 @@ mod queue;
 #[cfg(test)]
 mod rules;
 #[cfg(test)]
+mod steps;
+#[cfg(test)]
 mod watched;
 #[cfg(test)]
 mod wire;
+#[cfg(test)]
+mod worn_gates;

@@ -27,7 +27,7 @@ const TO: SetTo = SetTo {
 };
 
 /// Objects of 128 blocks whose identifiers begin with this generation. Memory is refused once at most.
-fn objects_at(rt: &impl Abort, alloc: Global, generation: u32) -> Objects
+pub(crate) fn objects_at(rt: &impl Abort, alloc: Global, generation: u32) -> Objects
     ensures { CountsUpTo 0 result }
 {
     match Objects::open_at(alloc, generation, 128) {
@@ -45,7 +45,7 @@ fn objects_at(rt: &impl Abort, alloc: Global, generation: u32) -> Objects
 // Each of the next functions is told how far a count was raised before it at most.
 
 /// Makes one turn.
-fn turn(objects: &mut Objects, call: ObjectCall, raised: u64) -> ObjectReply
+pub(crate) fn turn(objects: &mut Objects, call: ObjectCall, raised: u64) -> ObjectReply
     requires low { CountsUpTo raised objects.old }
     requires few { raised < 100 }
     requires there { IsOfSomeSlot call }
@@ -327,7 +327,7 @@ fn give_back(rt: &impl Abort, objects: &mut Objects, chain: Chain, raised: u64)
 }
 
 /// Ends the objects with a chain of the pool, and then all blocks are free.
-fn end(rt: &impl Abort, objects: Objects, chain: Chain, raised: u64)
+pub(crate) fn end(rt: &impl Abort, objects: Objects, chain: Chain, raised: u64)
     requires low { CountsUpTo raised objects }
     requires few { raised < 100 }
 {

@@ -1,13 +1,12 @@
 //! The steps of calls where every gate is worn out.
 
-ghost use Rattle.std.specs.Prelude.{◌≡◌};
-
 use crate::parts::{assert_is, open_body, open_pool};
+use crate::steps::{RECEIVE, SEND, Still, TO};
 use std::process::Abort;
-use sysv_driver::{Clock, get_step, receive_step, remove_step, send_step, set_step, stat_step};
-use sysv_model::{Errno, Flags, Selector, SetTo};
+use sysv_driver::{get_step, receive_step, remove_step, send_step, set_step, stat_step};
+use sysv_model::{Errno, Flags};
 use sysv_pool::Chain;
-use sysv_steps::{Afterwards, Ending, Getting, Phase, Receiving, Sending, State};
+use sysv_steps::{Afterwards, Ending, Getting, Phase, State};
 use sysv_turns::{ObjectCall, ObjectReply, Turns};
 use tests_kit::USER;
 
@@ -15,32 +14,6 @@ const GET: Getting = Getting {
     cred: USER,
     key: 7,
     flags: Flags::IPC_CREAT,
-};
-
-const SEND: Sending = Sending {
-    cred: USER,
-    id: 1,
-    mtype: 5,
-    nowait: true,
-    released: 0,
-    live_seen: false,
-};
-
-const RECEIVE: Receiving = Receiving {
-    cred: USER,
-    id: 1,
-    selector: Selector::Any,
-    size: 9,
-    noerror: false,
-    nowait: true,
-    live_seen: false,
-};
-
-const TO: SetTo = SetTo {
-    uid: 1000,
-    gid: 1000,
-    mode: 0o600,
-    qbytes: 9,
 };
 
 /// Gates that are worn out. They count the calls that come back.
@@ -60,17 +33,6 @@ impl Turns for WornGates {
     fn make(&self, at: &mut u32, call: ObjectCall) -> Result<ObjectReply, ObjectCall> {
         *at = at.wrapping_add(1);
         Err(call)
-    }
-}
-
-/// A clock that stands still.
-struct Still;
-
-impl Clock for Still {
-    ghost may = { λ _ now. now ≡ 50 };
-
-    fn now(&self) -> u64 {
-        50
     }
 }
 

@@ -1,0 +1,268 @@
+//! The steps of calls at objects.
+
+ghost use Rattle.std.specs.Prelude.{◌≡◌, []};
+ghost use Rattle.sysv_steps.specs.Seen.{state_of};
+ghost use Rattle.sysv_driver.specs.Kinds.{Gets, Receives, Removes, Sends, Sets};
+ghost use Rattle.sysv_objects.specs.Objects.{CountsUpTo};
+
+use crate::objects::{end, objects_at, turn};
+use crate::parts::{assert_holds, assert_is, open_body};
+use std::alloc::Global;
+use std::process::Abort;
+use sysv_driver::{Clock, get_step, receive_step, remove_step, send_step, set_step, stat_step};
+use sysv_model::{Body, Selector, SetTo};
+use sysv_objects::Objects;
+use sysv_pool::Chain;
+use sysv_queue::Tally;
+use sysv_steps::{Ending, Getting, Phase, Receiving, Sending, State};
+use sysv_turns::{ObjectCall, ObjectReply, Turns};
+use tests_kit::{USER, creating};
+
+pub(crate) const SEND: Sending = Sending {
+    cred: USER,
+    id: 0,
+    mtype: 5,
+    nowait: true,
+    released: 0,
+    live_seen: false,
+};
+
+pub(crate) const RECEIVE: Receiving = Receiving {
+    cred: USER,
+    id: 0,
+    selector: Selector::Any,
+    size: 9,
+    noerror: false,
+    nowait: true,
+    live_seen: false,
+};
+
+pub(crate) const TO: SetTo = SetTo {
+    uid: 1000,
+    gid: 1000,
+    mode: 0o600,
+    qbytes: 9,
+};
+
+/// Objects, and how far a count of theirs was raised at most.
+struct Counted {
+    objects: Objects,
+    raised: u64,
+}
+
+/// Makes turns at objects, and counts them.
+struct AtObjects;
+
+impl Turns for AtObjects {
+    ghost use Rattle.std.specs.Prelude.{◌<◌};
+    ghost use Rattle.sysv_objects.specs.Objects.{CountsUpTo};
+    ghost use Rattle.sysv_objects.specs.StandsFor.{MakesTurn};
+
+    type At = Counted;
+
+    ghost ready = { λ _ at. (at.raised < 100) × CountsUpTo at.raised at.objects };
+
+    ghost stays = { λ _ at. CountsUpTo at.raised at.objects };
+
+    ghost takes = { λ old deed new. MakesTurn old.objects deed new.objects };
+
+    ghost misses = { λ _ _ _. ⊥ };
+
+    fn make(&self, at: &mut Counted, call: ObjectCall) -> Result<ObjectReply, ObjectCall> {
+        let reply = turn(&mut at.objects, call, at.raised);
+        at.raised += 1;
+        Ok(reply)
+    }
+}
+
+/// A clock that stands still.
+pub(crate) struct Still;
+
+impl Clock for Still {
+    ghost use Rattle.std.specs.Prelude.{◌≡◌};
+
+    ghost may = { λ _ now. now ≡ 50 };
+
+    fn now(&self) -> u64 {
+        50
+    }
+}
+
+/// The step at which a call stands.
+fn at_step(rt: &impl Abort, state: State) -> Phase
+    ensures { state ≡ State.Goes result }
+{
+    match state {
+        State::Goes(phase) => phase,
+        _other => panic!(rt; "the call does not go on"),
+    }
+}
+
+/// The call is over, and succeeded.
+fn assert_done(rt: &impl Abort, state: State) {
+    match state {
+        State::Over(Ending::Zero) => {}
+        _other => panic!(rt; "another end"),
+    }
+}
+
+/// A get that begins: it makes the queue of a key that has none.
+fn getting() -> State
+    ensures { Gets (state_of result []) }
+{
+    State::Goes(Phase::Begin(Getting {
+        cred: USER,
+        key: 7,
+        flags: creating(),
+    }))
+}
+
+/// A get is over, with this identifier.
+fn assert_id(rt: &impl Abort, state: State, want: i32) {
+    match state {
+        State::Over(Ending::Id(id)) => assert_is(rt, id, want),
+        _other => panic!(rt; "another end"),
+    }
+}
+
+/// The next step of a get.
+fn get_on(rt: &impl Abort, at: &mut Counted, state: State) -> State
+    requires low { CountsUpTo at.old.raised at.old.objects }
+    requires gets { Gets (state_of state []) }
+    ensures low { CountsUpTo at.new.raised at.new.objects }
+    ensures gets { Gets (state_of result []) }
+{
+    assert!(rt; at.raised < 100);
+    get_step(&AtObjects, at, &Still, at_step(rt, state))
+}
+
+/// The next step of a send of this text.
+fn send_on(rt: &impl Abort, at: &mut Counted, text: &Body, state: State) -> State
+    requires low { CountsUpTo at.old.raised at.old.objects }
+    requires sends { Sends (state_of state text.now) }
+    ensures low { CountsUpTo at.new.raised at.new.objects }
+    ensures sends { Sends (state_of result text.now) }
+{
+    assert!(rt; at.raised < 100);
+    let mut kept = Chain::empty();
+    let state = send_step(&AtObjects, at, &mut kept, &Still, text, at_step(rt, state));
+    assert_is(rt, kept.end(), 0);
+    state
+}
+
+/// The next step of a receive that fills this body.
+fn receive_on(rt: &impl Abort, at: &mut Counted, out: &mut Body, state: State) -> State
+    requires low { CountsUpTo at.old.raised at.old.objects }
+    requires receives { Receives (state_of state out.old) }
+    ensures low { CountsUpTo at.new.raised at.new.objects }
+    ensures receives { Receives (state_of result out.new) }
+{
+    assert!(rt; at.raised < 100);
+    let mut kept = Chain::empty();
+    let state = receive_step(&AtObjects, at, &mut kept, &Still, out, at_step(rt, state));
+    assert_is(rt, kept.end(), 0);
+    state
+}
+
+/// The next step of an IPC_SET.
+fn set_on(rt: &impl Abort, at: &mut Counted, state: State) -> State
+    requires low { CountsUpTo at.old.raised at.old.objects }
+    requires sets { Sets (state_of state []) }
+    ensures low { CountsUpTo at.new.raised at.new.objects }
+    ensures sets { Sets (state_of result []) }
+{
+    assert!(rt; at.raised < 100);
+    let mut kept = Chain::empty();
+    let state = set_step(&AtObjects, at, &mut kept, &Still, at_step(rt, state));
+    assert_is(rt, kept.end(), 0);
+    state
+}
+
+/// The next step of an IPC_RMID.
+fn remove_on(rt: &impl Abort, at: &mut Counted, state: State) -> State
+    requires low { CountsUpTo at.old.raised at.old.objects }
+    requires removes { Removes (state_of state []) }
+    ensures low { CountsUpTo at.new.raised at.new.objects }
+    ensures removes { Removes (state_of result []) }
+{
+    assert!(rt; at.raised < 100);
+    let mut kept = Chain::empty();
+    let state = remove_step(&AtObjects, at, &mut kept, at_step(rt, state));
+    assert_is(rt, kept.end(), 0);
+    state
+}
+
+/// Objects in which the key has the queue 0.
+fn with_queue(rt: &impl Abort, alloc: Global) -> Counted
+    ensures { CountsUpTo result.raised result.objects }
+{
+    let mut at = Counted {
+        objects: objects_at(rt, alloc, 0),
+        raised: 0,
+    };
+    let begun = get_on(rt, &mut at, getting());
+    let installed = get_on(rt, &mut at, begun);
+    let settled = get_on(rt, &mut at, installed);
+    assert_id(rt, settled, 0);
+    at
+}
+
+/// All blocks are free at the end.
+fn end_all(rt: &impl Abort, at: Counted)
+    requires { CountsUpTo at.raised at.objects }
+{
+    let Counted { objects, raised } = at;
+    assert!(rt; raised < 100);
+    end(rt, objects, Chain::empty(), raised);
+}
+
+#[test]
+fn a_get_finds_the_queue_that_one_made(rt: HostRuntime) {
+    let mut at = with_queue(&rt, rt.alloc());
+    let found = get_on(&rt, &mut at, getting());
+    let granted = get_on(&rt, &mut at, found);
+    assert_id(&rt, granted, 0);
+    end_all(&rt, at);
+}
+
+#[test]
+fn a_message_is_sent_and_received(rt: HostRuntime) {
+    let mut text = open_body(&rt, rt.alloc());
+    let mut out = open_body(&rt, rt.alloc());
+    let mut at = with_queue(&rt, rt.alloc());
+    assert!(rt; text.push_piece(b"hello"));
+    assert!(rt; text.len() < 8193);
+    let looked = send_on(&rt, &mut at, &text, State::Goes(Phase::Look(SEND)));
+    let reserved = send_on(&rt, &mut at, &text, looked);
+    let placed = send_on(&rt, &mut at, &text, reserved);
+    assert_done(&rt, placed);
+    let taken = receive_on(&rt, &mut at, &mut out, State::Goes(Phase::Take(RECEIVE)));
+    let given = receive_on(&rt, &mut at, &mut out, taken);
+    let State::Over(Ending::Got { delivery }) = given else {
+        panic!(rt; "no message");
+    };
+    assert_is(&rt, delivery.mtype(), 5);
+    delivery.written(&mut Tally::open());
+    assert_holds(&rt, &out, b"hello");
+    end_all(&rt, at);
+}
+
+#[test]
+fn a_queue_is_told_set_and_removed(rt: HostRuntime) {
+    let mut at = with_queue(&rt, rt.alloc());
+    let (cred, id) = (USER, 0);
+    assert!(rt; at.raised < 100);
+    let told = stat_step(&AtObjects, &mut at, Phase::Stat { cred, id });
+    let State::Over(Ending::Told(stat)) = told else {
+        panic!(rt; "another end");
+    };
+    assert_is(&rt, (stat.key, stat.qnum), (7, 0));
+    let set = set_on(&rt, &mut at, State::Goes(Phase::Set { cred, id, to: TO }));
+    let set = set_on(&rt, &mut at, set);
+    assert_done(&rt, set);
+    let removed = remove_on(&rt, &mut at, State::Goes(Phase::Remove { cred, id }));
+    let forgotten = remove_on(&rt, &mut at, removed);
+    let released = remove_on(&rt, &mut at, forgotten);
+    assert_done(&rt, released);
+    end_all(&rt, at);
+}
