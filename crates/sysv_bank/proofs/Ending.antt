@@ -1,5 +1,5 @@
 -- What is known of a bank that was closed.
-use Rattle.std.proofs.Common.{◌≡◌, ℕ, zero, suc, ◌*◌, ◌<◌, ◌≤◌, ⊎_elim, Bool, false, set, List, [], ◌∷◌, ◌++◌, length, get_or, refl, sym, ap, ◌∙◌, subst, arith}
+use Rattle.std.proofs.Common.{◌≡◌, ℕ, zero, suc, ◌<◌, ◌≤◌, ⊎_elim, Bool, false, set, List, [], ◌∷◌, ◌++◌, length, get_or, refl, sym, ap, ◌∙◌, subst, arith}
 use mathlib.Core.Option.{some, some-ne-none}
 use lib.ListN.{get_elem?}
 use Rattle.atomic_table.specs.Table.{State, Final, Seen}
@@ -59,9 +59,6 @@ module _ {O C R : Type 0} (moves : O → C → R → O → Type 0) (counted : O 
 
   abbrev Order : List (Placed O C R)
   Order = final.1.0.0
-
-  pub lengths_end : (length words ≡ 80 * length openings) × (length slots ≡ length openings)
-  lengths_end = (ap length (sym final.2) ∙ final.1.0.1.words, sym final.3 ∙ final.1.0.1.homes)
 
   module _ (u : Inside O C R) (rest : Rests moves u) (same_first : u.key.value.first ≡ first) (same_os : u.key.value.openings.value.items ≡ openings) (is_id : u.token.id ≡ id) (is_view : u.token.me.0 ≡ v) where
     -- what one place gives back

@@ -3,7 +3,6 @@ use Rattle.std.specs.Prelude.{◌≡◌, ℕ, ◌^◌, ◌<◌, ◌≤◌, List,
 use Rattle.std.specs.List.{All}
 use mathlib.Core.Option.{some}
 use lib.ListN.{get_elem?}
-use Rattle.sysv_lists.specs.Prefix.{IsPrefixOf}
 use Rattle.sysv_gate.specs.History.{IsAccepted}
 use Rattle.sysv_gate.specs.Gates.{Gateway, Holding, KnowsItsOwn}
 use Rattle.sysv_gate.specs.declared.refusals.OpenRefused.{OpenRefused}
@@ -37,10 +36,6 @@ module _ {O C R : Type 0} where
   -- the gate of each seat
   abbrev pub gates_of : List (Holding O C R) → List (Gateway O)
   gates_of seats = map (λ h. h.gate) seats
-
-  -- each of the seats is of the gate at the same place, and there may be more gates
-  abbrev pub AreOfFirst : List (Gateway O) → List (Holding O C R) → Type 0
-  AreOfFirst gates seats = IsPrefixOf (gates_of seats) gates
 
   -- each of the seats has seen a legal history, and knows just the turns of its own in it
   abbrev pub EachKnowsItsOwn : (O → C → R → O → Type 0) → List (Holding O C R) → Type 0

@@ -6,5 +6,4 @@ pub mod Agreeing
 pub mod ManySeats
 pub mod ManyStepping
 pub mod ManySeating
-pub mod ManyTurning
 pub mod ManyAgreeing

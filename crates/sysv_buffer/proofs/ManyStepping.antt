@@ -22,13 +22,9 @@ use Rattle.sysv_buffer.proofs.Running.{reached, put_in, grabbed, emptied}
 use Rattle.sysv_lists.proofs.Places.{one_there}
 use Rattle.sysv_lists.proofs.Counting.{times-append, times-one-le, the-one, has, only, none_of}
 use Rattle.sysv_lists.proofs.Sums.{at-le-sum_by, some_part}
-use Rattle.sysv_buffer.proofs.ManySeats.{News, no_news, stays, other_put, other_taken, drawn_put, drawn_taken}
+use Rattle.sysv_buffer.proofs.ManySeats.{no_news, stays, other_put, other_taken, drawn_put, drawn_taken}
 use Rattle.sysv_lists.specs.Prefix.{IsPrefixOf}
 use Rattle.sysv_lists.proofs.Prefixes.{prefix_self, prefix_snoc, prefix_whole}
-
--- one new number
-one_new : (n : ℕ) → News n (n + 1) (λ k. times k (n ∷ []))
-one_new n k = (times-one-le k n, λ h. let e = the-one k n h in (omega arith, omega arith))
 
 true_of : (b : Bool) → 1 ≤ cond b 1 0 → b ≡ true
 true_of true h = refl

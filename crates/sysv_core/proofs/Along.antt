@@ -7,8 +7,7 @@ use Rattle.std.proofs.lemmas.Grind.{flat_map-append}
 use Rattle.std.proofs.lemmas.Bool.Decides.{nat_tests}
 use Rattle.sysv_model.specs.History.{Who, Call, Reply, Entry}
 use Rattle.sysv_model.specs.Registry.{RegistryCall, RegistryReply}
-use Rattle.sysv_model.specs.Pool.{PoolCall, PoolReply}
-use Rattle.sysv_model.specs.Turn.{Deed, AtSlot, AtRegistry, AtPool, Turn, slot_entry, registry_entry, pool_entry, slot_history, registry_history, pool_history, is_same, deeds_of}
+use Rattle.sysv_model.specs.Turn.{Deed, AtSlot, AtRegistry, Turn, slot_entry, registry_entry, slot_history, registry_history, is_same, deeds_of}
 use Rattle.sysv_core.proofs.Histories.{turn_of}
 
 -- the turn of that deed, with the deeds of the call before it and after it
@@ -78,8 +77,3 @@ slot_around slot before after who call reply =
 pub registry_around : (before after : List Turn) (who : Who) (call : RegistryCall) (reply : RegistryReply) →
     registry_history (before ++ turn_of who (AtRegistry call reply) ∷ after) ≡ registry_history before ++ record { who = who; call = call; reply = reply } ∷ registry_history after
 registry_around before after who call reply = flat_map-append (λ (x : Turn). registry_entry x.who x.deed) before (turn_of who (AtRegistry call reply) ∷ after)
-
--- and that of the pool
-pub pool_around : (before after : List Turn) (who : Who) (call : PoolCall) (reply : PoolReply) →
-    pool_history (before ++ turn_of who (AtPool call reply) ∷ after) ≡ pool_history before ++ record { who = who; call = call; reply = reply } ∷ pool_history after
-pool_around before after who call reply = flat_map-append (λ (x : Turn). pool_entry x.who x.deed) before (turn_of who (AtPool call reply) ∷ after)

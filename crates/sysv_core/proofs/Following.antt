@@ -219,12 +219,6 @@ gives_blocks generation blocks turns phase now deed e l = tt
 
 -- ---- the end of a wait, and the start
 
-pub resumed_kind : (wait : Wait) (value : ℕ) → phase_kind (resume wait value) ≡ wait_kind wait
-resumed_kind (OnSettled goal get) value = refl
-resumed_kind (OnFreed goal send) value = refl
-resumed_kind (OnArrived goal receive) value = refl
-resumed_kind (OnReleased goal send) value = refl
-
 pub resumed_later : (kind : Kind) (wait : Wait) (value : ℕ) → wait_kind wait ≡ Some kind → IsLater kind (Goes (resume wait value))
 resumed_later kind (OnSettled goal get) value k = (k, refl, tt)
 resumed_later kind (OnFreed goal send) value k = (k, refl, tt)

@@ -1,5 +1,5 @@
 -- The actors that the code keeps, as the states that are seen.
-use Rattle.std.proofs.Common.{◌≡◌, ℕ, ◌+◌, ◌<◌, ◌≤◌, Bool, true, false, cond, List, Option, None, Some, refl, sym, ap, subst, ◌∙◌, arith, length, slice_get, slice_set, length-set, option_map, is_some}
+use Rattle.std.proofs.Common.{◌≡◌, ℕ, ◌+◌, ◌<◌, ◌≤◌, Bool, true, false, cond, List, Option, None, Some, refl, sym, ap, subst, ◌∙◌, arith, length, slice_get, slice_set, option_map, is_some}
 use Rattle.std.specs.List.{slice_index_or}
 use Rattle.std.proofs.lemmas.List.{length-map}
 use Rattle.std.proofs.lemmas.Option.{slice_get-map, slice_get_read}
@@ -46,15 +46,6 @@ module _ (items : List (Option Doing)) (states : List (Option State)) (view : st
 
   pub seen_same : (x : Option Doing) (p : Option State) → state_kept x ≡ p → slice_get states place ≡ Some p → states_kept (slice_set items place x) ≡ states
   seen_same x p e there = seen_set x p e ∙ slice_set-same states place p there
-
-  -- what is put over a change at that place
-  pub seen_over : (x : Option Doing) (p : Option State) → slice_set (states_kept (slice_set items place x)) place p ≡ slice_set states place p
-  seen_over x p =
-      ap (λ ps. slice_set ps place p) (map-slice_set state_kept items place x)
-      ∙ (slice_set-twice (states_kept items) place (state_kept x) p ∙ ap (λ ps. slice_set ps place p) view)
-
-  pub still_within : (x : Option Doing) → place < length (states_kept (slice_set items place x))
-  still_within x = omega (arith, length-map (slice_set items place x) state_kept, length-set items place x, inside)
 
   -- what is put at that place, over what was taken from it or not
   pub seen_settled : (new : List (Option Doing)) (l : Led) → new ≡ slice_set items place (doing_led l) → states_kept new ≡ slice_set states place (kept_led l)

@@ -69,9 +69,6 @@ module _ (one : NoTwoRepliesAreLegal) (unused : UnusedSlots) (generation : ℕ) 
         subst (λ f. MakesTurn old (AtRegistry (Begin IPC_PRIVATE f) (Made (pos 0))) first) (these_flags flags bits)
         (subst (λ i. MakesTurn old (AtRegistry (Begin IPC_PRIVATE flags) (Made i)) first) is_zero begins)
 
-    turns_1 : List Turn
-    turns_1 = turns ++ turn_of preset_who preset_begin ∷ []
-
     stands_1 : StandsFor generation (turns ++ turn_of preset_who preset_begin ∷ []) first
     stands_1 = begins_so.stands generation turns preset_who st
 

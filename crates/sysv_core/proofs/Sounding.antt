@@ -130,9 +130,6 @@ installs_there (AtRemoveGiveback blocks) now slot id key cred mode moment e = ab
 
 -- ---- the actors
 
-one_doing : {x y : Doing} → Some x ≡ Some y → x ≡ y
-one_doing e = cc
-
 one_busy : {x y : Option Doing} → Some x ≡ Some y → x ≡ y
 one_busy e = cc
 

@@ -1,4 +1,4 @@
--- Parked rightly: who waits has a reason to (POSIX.1-2017, msgsnd and msgrcv, DESCRIPTION, where the caller is
+-- Parked rightly: each call that waits has a reason to (POSIX.1-2017, msgsnd and msgrcv, DESCRIPTION, where the caller is
 -- suspended; the counts are this profile's). A receive that waits below its goal has nothing to take: its
 -- queue is live, it may read, and no message that waits there is named by its selector. A send that waits
 -- for room below its goal has none: its queue is live, it may write, and its text does not fit. A get that
@@ -64,7 +64,8 @@ HasToGiveBack (MsgctlRmid at) (Goes (AtForget removed blocks)) id = at ≡ id
 HasToGiveBack (MsgctlRmid at) (Goes (AtRemoveGiveback blocks)) id = at ≡ id
 HasToGiveBack asked state id = ⊥
 
-pub record IsBeingChangedBy (w : World) (id : ℤ) : Type 0 where
+-- and some actor's call is such a one
+pub record HasChangeToTell (w : World) (id : ℤ) : Type 0 where
   pub place : ℕ
   pub doing : Doing
   pub there : slice_get w.actors place ≡ Some (Some doing)
@@ -72,7 +73,7 @@ pub record IsBeingChangedBy (w : World) (id : ℤ) : Type 0 where
 
 -- it is open still, or its change is still to be told
 abbrev pub IsToBeWoken : World → ℤ → Cred → Type 0
-IsToBeWoken w id cred = IsOpenTo (slot_history (slot_of_id id) w.turns) id cred ⊎ IsBeingChangedBy w id
+IsToBeWoken w id cred = IsOpenTo (slot_history (slot_of_id id) w.turns) id cred ⊎ HasChangeToTell w id
 
 -- the reason of a call with these credentials that was asked so; no other call waits so
 abbrev pub HasReason : World → Cred → SystemCall → Wait → Type 0

@@ -1,4 +1,4 @@
-//! The steps of a call: what it asks of the objects, and where their replies lead it.
+//! A start and a step of an actor's call at the objects, and what it leads to.
 
 ghost use Rattle.std.specs.Prelude.{◌≡◌, ◌≤◌, ℕ, ◌^◌, List, [], length, Option, None, Some, is_some, true};
 ghost use Rattle.sysv_model.specs.declared.limits.TheConstants.{MESSAGE_BYTES as most_bytes};

@@ -1,47 +1,24 @@
 -- A call of each kind stays one at each of its steps.
 use Rattle.std.specs.Prelude.{⊤}
-use Rattle.std.proofs.Common.{◌≡◌, ℕ, ℤ, Bool, true, false, List, [], length, Option, Some, None, IfSome, if◌then◌else◌, Result, Ok, Err, ap, subst}
+use Rattle.std.proofs.Common.{◌≡◌, ℕ, ℤ, Bool, true, false, List, Some, Result, Ok, Err, subst}
 use Rattle.sysv_model.specs.declared.errno.Errno.{Errno}
-use Rattle.sysv_model.specs.declared.errno.Errno.TheVariants.{EEXIST}
-use Rattle.sysv_model.specs.History.{Reply, Installed, Gone, Denied, Granted, Full, Fits, Accepted, NoMatch, TooLong, Taken}
-use Rattle.sysv_model.specs.Registry.{RegistryReply, Found, Made, Busy, Unbound, Changed}
-use Rattle.sysv_model.specs.Pool.{blocks_for}
+use Rattle.sysv_model.specs.History.{Reply, Gone, Denied, Full, Accepted, NoMatch, TooLong}
+use Rattle.sysv_model.specs.Registry.{Changed}
 use Rattle.sysv_model.specs.Message.{Message}
 use Rattle.sysv_queue.specs.Replies.{remove_reply}
 use Rattle.sysv_pool.specs.Chain.{Chained}
-use Rattle.sysv_pool.specs.Replies.{reserve_reply, release_reply}
-use Rattle.sysv_steps.specs.State.{Getting, Sending, Receiving, Wait, OnSettled, OnFreed, OnReleased, OnArrived, Afterwards, IsRefused, WaitsOn, State, Over, Zero, Got, Id, Refused}
-use Rattle.sysv_steps.specs.Next.{after_begin, after_install, after_settle, after_unmake, after_probe, waits_or, goes_on, is_full, after_look, after_reserve, after_place, after_take, after_remove, after_forget, after_giveback, wants_new}
+use Rattle.sysv_pool.specs.Replies.{release_reply}
+use Rattle.sysv_steps.specs.State.{Sending, Receiving, Wait, OnSettled, OnFreed, OnReleased, OnArrived, Afterwards, IsRefused, WaitsOn, State, Over, Zero}
+use Rattle.sysv_steps.specs.Next.{after_settle, after_unmake, waits_or, goes_on, is_full, after_place, after_take, after_remove, after_forget, after_giveback}
 use Rattle.sysv_queue.specs.declared.slot.TakeRefused.{TakeRefused}
 use Rattle.sysv_queue.specs.declared.slot.TakeRefused.TheVariants as refused
 use Rattle.sysv_queue.specs.Replies.{untaken_reply}
-use Rattle.sysv_driver.specs.Kinds.{Gets, IsShort, SendsAfterwards, Sends, Receives, Removes}
+use Rattle.sysv_driver.specs.Kinds.{Gets, IsShort, SendsAfterwards, Sends, Removes}
 use Rattle.sysv_driver.specs.Giving.{GivesNothing}
 
 -- where a state is told, it is this one
 lands : (P : State → Type 0) (a s : State) → Some a ≡ Some s → P a → P s
 lands P a s e p = let is : a ≡ s = cc in subst P is p
-
-pub begin_gets : (get : Getting) (reply : RegistryReply) (s : State) → after_begin get reply ≡ Some s → Gets s
-begin_gets get (Found id settled) s e = lands Gets _ s e tt
-begin_gets get (Made id) s e = lands Gets _ s e tt
-begin_gets get (Busy settled) s e = lands Gets _ s e tt
-begin_gets get (Unbound why) s e = lands Gets _ s e tt
-begin_gets get (Changed done) s e = absurd cc
-
-pub install_gets : (id : ℤ) (made : Bool) (s : State) → after_install id (Installed made) ≡ Some s → Gets s
-install_gets id true s e = lands Gets _ s e tt
-install_gets id false s e = lands Gets _ s e tt
-
-probed_gets : (id : ℤ) (new : Bool) → Gets (Over (if new then Refused EEXIST else Id id))
-probed_gets id true = tt
-probed_gets id false = tt
-
-pub probe_gets : (get : Getting) (id : ℤ) (settled : ℕ) (reply : Reply) (s : State) → after_probe get id settled reply ≡ Some s → Gets s
-probe_gets get id settled Gone s e = lands Gets _ s e tt
-probe_gets get id settled Denied s e = lands Gets _ s e tt
-probe_gets get id settled Granted s e = lands Gets _ s e (probed_gets id (wants_new get.flags))
-probe_gets get id settled reply s e = absurd cc
 
 pub settle_gets : (id : ℤ) (done : Bool) (s : State) → after_settle id (Changed done) ≡ Some s → Gets s
 settle_gets id done s e = lands Gets _ s e tt
@@ -63,40 +40,12 @@ goes_sends (WaitsOn (OnArrived goal receive)) k = absurd k
 full_sends : (send : Sending) (freed : ℕ) → IsShort send → SendsAfterwards (is_full send freed)
 full_sends send freed short = waits_sends send.nowait _ _ short
 
-pub look_sends : (send : Sending) (reply : Reply) (s : State) → IsShort send → after_look send reply ≡ Some s → Sends s
-look_sends send Gone s short e = lands Sends _ s e tt
-look_sends send Denied s short e = lands Sends _ s e tt
-look_sends send (Full freed) s short e = lands Sends _ s e (goes_sends (is_full send freed) (full_sends send freed short))
-look_sends send Fits s short e = lands Sends _ s e short
-look_sends send reply s short e = absurd cc
-
-pub reserve_sends : (send : Sending) (chain : Option Chained) (s : State) → IsShort send → IfSome chain (λ (c : Chained). c ≡ record { blocks = blocks_for (length send.text); bytes = [] }) →
-    after_reserve send (reserve_reply chain) ≡ Some s → Sends s
-reserve_sends send (Some chain) s short is e = lands Sends _ s e (short, ap (λ (c : Chained). c.blocks) is)
-reserve_sends send None s short is e = lands Sends _ s e (goes_sends _ (waits_sends send.nowait _ _ short))
-
 pub place_sends : (send : Sending) (blocks : ℕ) (reply : Reply) (s : State) → IsShort send → after_place send blocks reply ≡ Some s → Sends s
 place_sends send blocks Gone s short e = lands Sends _ s e tt
 place_sends send blocks Denied s short e = lands Sends _ s e tt
 place_sends send blocks (Full freed) s short e = lands Sends _ s e (full_sends send freed short)
 place_sends send blocks (Accepted number) s short e = lands Sends _ s e tt
 place_sends send blocks reply s short e = absurd cc
-
-taken_waits : (nowait : Bool) (goal : ℕ) (receive : Receiving) (why : Errno) → Receives (goes_on (waits_or nowait (OnArrived goal receive) why))
-taken_waits true goal receive why = tt
-taken_waits false goal receive why = tt
-
-pub take_receives : (receive : Receiving) (reply : Reply) (s : State) → after_take receive reply ≡ Some s → Receives s
-take_receives receive Gone s e = lands Receives _ s e tt
-take_receives receive Denied s e = lands Receives _ s e tt
-take_receives receive (NoMatch arrived) s e = lands Receives _ s e (taken_waits receive.nowait _ _ _)
-take_receives receive TooLong s e = lands Receives _ s e tt
-take_receives receive (Taken message) s e = lands Receives _ s e tt
-take_receives receive reply s e = absurd cc
-
-pub given_receives : (mtype : ℤ) (text : List ℕ) (done : Result ⊤ Chained) (s : State) → after_giveback (Over (Got mtype text)) (release_reply done) ≡ Some s → Receives s
-given_receives mtype text (Ok done) s e = lands Receives _ s e tt
-given_receives mtype text (Err chain) s e = lands Receives _ s e tt
 
 waits_give_nothing : (nowait : Bool) (wait : Wait) (why : Errno) → GivesNothing (goes_on (waits_or nowait wait why))
 waits_give_nothing true wait why = tt

@@ -9,12 +9,12 @@ use Rattle.sysv_pool.specs.Replies.{release_reply}
 use Rattle.sysv_steps.specs.State.{Phase, State}
 use Rattle.sysv_steps.specs.Asks.{asks}
 use Rattle.sysv_steps.specs.Next.{next}
-use Rattle.sysv_driver.specs.Stepping.{is_stamped, no_moment, left_by, StepsOn, TurnsBack, GivesBack, AsksToForget}
+use Rattle.sysv_driver.specs.Stepping.{is_stamped, no_moment, refused_blocks, StepsOn, TurnsBack, GivesBack, AsksToForget}
 
 module _ {P : Type 0} (takes : P → Deed → P → Type 0) (misses : P → Ask → P → Type 0) where
   module _ (may : ℕ → Type 0) (phase : Phase) (before : P) (state : State) (after : P) where
     -- its turn was made
-    pub stepped : (deed : Deed) (now : ℕ) → (is_stamped phase ≡ true → may now) → asked_by deed ≡ asks phase now → next phase deed ≡ Some state → takes before deed after → left_by deed ≡ 0 →
+    pub stepped : (deed : Deed) (now : ℕ) → (is_stamped phase ≡ true → may now) → asked_by deed ≡ asks phase now → next phase deed ≡ Some state → takes before deed after → refused_blocks deed ≡ 0 →
         (kept : ℕ) → StepsOn takes misses may phase before kept state after kept
     stepped deed now moment asked goes made none kept = inl (record { deed = deed; now = now; moment = moment; asked = asked; goes = goes; makes = record { turn = made; held = omega (arith, none) } })
 

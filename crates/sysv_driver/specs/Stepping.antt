@@ -25,9 +25,9 @@ abbrev pub no_moment : ℕ → Type 0
 no_moment now = ⊥
 
 -- the blocks that a turn leaves: those of a chain that the pool refused as that of another
-abbrev pub left_by : Deed → ℕ
-left_by (AtPool (Release blocks) Foreign) = blocks
-left_by deed = 0
+abbrev pub refused_blocks : Deed → ℕ
+refused_blocks (AtPool (Release blocks) Foreign) = blocks
+refused_blocks deed = 0
 
 -- ---- where a gate is worn out
 
@@ -56,7 +56,7 @@ module _ {P : Type 0} (takes : P → Deed → P → Type 0) (misses : P → Ask 
   -- the turn was made
   pub record Makes (before : P) (kept : ℕ) (deed : Deed) (after : P) (keeps : ℕ) : Type 0 where
     pub turn : takes before deed after
-    pub held : keeps ≡ kept + left_by deed
+    pub held : keeps ≡ kept + refused_blocks deed
 
   -- one step of a call: a turn at its object, whose moment, where it takes one, is one that the clock may answer
   pub record Steps (may : ℕ → Type 0) (phase : Phase) (before : P) (kept : ℕ) (state : State) (after : P) (keeps : ℕ) : Type 0 where

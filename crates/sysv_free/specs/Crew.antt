@@ -1,7 +1,6 @@
--- The passes of a service, from its opening until all have come home, and the calls that they made. What a pass does says
--- what it has seen, and nothing of time. So what passes did can be listed one after the other, however their threads ran.
--- Once all have been joined into one, the order that is found when the service is closed is a run of a world, with those
--- calls (this profile's).
+-- The passes of a service, from its opening until all have come home, and the calls that they made. Once all have been
+-- joined into one, the order that is found when the service is closed is a run of a world, with those calls (this
+-- profile's).
 use Rattle.std.specs.Prelude.{◌≡◌, ℕ, List, [], ◌∷◌, ◌++◌, All}
 use Rattle.sysv_model.specs.History.{ReadRow, Reply}
 use Rattle.sysv_model.specs.Turn.{AtSlot}

@@ -1,10 +1,11 @@
--- The headline of threads. A free run obeys every law of the headline but one: that who waits has a reason to. That
--- law compares a count with a wait at one and the same time, and a free run does not say when a call that waits reads
--- its count. All else holds. What each queue accepted is, each message once, what it delivered, discarded by removal
--- or still holds; each receive takes the very message its selector names; every answer is decided by what its call
--- asked for and by the turns of that call; no block is made or lost; each install finds its slot vacant; after a
--- removal nothing is accepted or leaves under that identifier, for good, and the sends and receives of the queue are
--- told so (what POSIX.1-2017 says of msgget, msgsnd, msgrcv and msgctl, in this profile's steps).
+-- The headline of threads. A free run obeys every law of the headline but one: that each call that waits has a reason
+-- to. That law compares a count with a wait at one and the same time, and a free run does not say when a call that waits
+-- reads its count. All else holds: every accepted message is delivered exactly once, discarded when its queue is removed,
+-- or still queued; each receive takes the message that its selector names; messages of one type leave in the order of
+-- acceptance; every result follows from the call's arguments and from that call's own turns; no block is made or lost;
+-- each install finds its slot vacant; after a removal nothing is accepted or delivered under that identifier, for good,
+-- and the sends and receives of that queue are told so (what POSIX.1-2017 says of msgget, msgsnd, msgrcv and msgctl, in
+-- this profile's steps).
 use Rattle.std.specs.Prelude.{◌≡◌, ◌≢◌, ◌⊎◌, ℕ, List, All, AllPairs, Contains}
 use Rattle.sysv_model.specs.History.{ReadRow, Reply}
 use Rattle.sysv_model.specs.Turn.{AtSlot, Turn, slot_history, registry_history, pool_history, deeds_of}

@@ -1,5 +1,5 @@
 -- What a gate answered is a turn of the object.
-use Rattle.std.proofs.Common.{◌≡◌, ℕ, List, [], ◌∷◌, ◌++◌, false, Result, Ok, Err, IfOk, OnOk, refl, sym, subst}
+use Rattle.std.proofs.Common.{◌≡◌, ℕ, List, [], ◌∷◌, ◌++◌, false, Result, Ok, Err, IfOk, refl, sym, subst}
 use Rattle.sysv_model.specs.Turn.{AtSlot, AtRegistry, AtPool}
 use Rattle.sysv_crew.specs.Members.{MakesTurn}
 use Rattle.sysv_queue.specs.Slot.{Slot}
@@ -39,19 +39,9 @@ module _ {O C R : Type 0} (meaning : O → C → R → O → Type 0) (counted : 
       subst (λ (h : Holding O C R). IsLegal (Moves meaning counted) h.gate.opening h.seen) is a.legal in
       (last_legal (Moves meaning counted) before.gate.opening (before.seen ++ a.others) (record { by = before.number; call = call; reply = reply; after = a.object }) legal).0
 
-pub ok_of : {T E : Type 0} (r : Result T E) (P : T → Type 0) (x : T) → r ≡ Ok x → IfOk r P → P x
-ok_of r P x is ok = subst (λ s. IfOk s P) is ok
-
 pub if_ok : {T E : Type 0} (r : Result T E) (P Q : T → Type 0) → IfOk r P → ((x : T) → P x → Q x) → IfOk r Q
 if_ok (Ok x) P Q is goes = goes x is
 if_ok (Err e) P Q is goes = tt
-
-pub fact_of : {T E : Type 0} (r : Result T E) (W : Type 0) (x : T) → r ≡ Ok x → OnOk r W → W
-fact_of r W x is ok = subst (λ s. OnOk s W) is ok
-
-pub if_ok_too : {T E : Type 0} (r : Result T E) (P Q : T → Type 0) (W : Type 0) → IfOk r P → OnOk r W → ((x : T) → P x → W → Q x) → IfOk r Q
-if_ok_too (Ok x) P Q W is also goes = goes x is also
-if_ok_too (Err e) P Q W is also goes = tt
 
 -- ---- with the object just before the turn, as it is seen otherwise
 

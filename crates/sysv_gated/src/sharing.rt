@@ -127,7 +127,7 @@ fn pool_closing(closing: Closing<Gated>) -> Closing<GatedPool>
     }
 }
 
-// The slot, if it is one. What else it is is freed.
+// The slot, if it is one. Anything else is freed.
 fn slot_of(object: Option<Gated>) -> Option<GatedSlot>
     ensures { IfSome object IsSlot → result ≡ option_map slot_in object }
 {

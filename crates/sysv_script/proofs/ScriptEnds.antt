@@ -44,12 +44,6 @@ at_line_fault split Read s text old n now waiting left new composed told found e
 at_line_fault split Write s text old n now waiting left new composed told found ends bad few next on = absurd ends
 at_line_fault split Bound s text old n now waiting left new composed told found ends bad few next on = absurd ends
 
--- a fault is passed on
-pub Leaves-passed : (r : Result ⊤ ScriptFault) (fault : ScriptFault) (s : Scene) (text : List ℕ) (old new : Option (List ℕ)) (composed : List ℕ) →
-    IsErrAnd r (λ y. y ≡ fault) → LeavesAtFault fault s text old new composed → Leaves r s text old new composed
-Leaves-passed (Ok x) fault s text old new composed e left = absurd e
-Leaves-passed (Err y) fault s text old new composed e left = subst (λ f. LeavesAtFault f s text old new composed) (sym e) left
-
 pub RunsNext-passed : (r : Result Bool ScriptFault) (fault : ScriptFault) (s : Scene) (text : List ℕ) (old : Option (List ℕ)) (n : ℕ) (now : Stage) (waiting : List ℕ) (left new : Option (List ℕ)) (composed : List ℕ) →
     IsErrAnd r (λ y. y ≡ fault) → LeavesAtFault fault s text old new composed → RunsNext r s text old n now waiting left new composed
 RunsNext-passed (Ok x) fault s text old n now waiting left new composed e at = absurd e

@@ -6,7 +6,7 @@ use Rattle.std.proofs.lemmas.List.{map-append}
 use Rattle.std.proofs.lemmas.List.Sums.{sum_by-append, sum_by-cons, sum_by_push}
 use Rattle.sysv_session.specs.declared.served.Served.{Served}
 use Rattle.sysv_server.specs.declared.sums.Sums.{Sums}
-use Rattle.sysv_server.specs.Added.{capped, nothing, added, all_added, one_session, IsBalanced}
+use Rattle.sysv_server.specs.Added.{capped, added, all_added, one_session, IsBalanced}
 use Rattle.sysv_server.specs.Handled.{sums_of, tally_of}
 
 sums_are : (a b : Sums) → a.sessions ≡ b.sessions → a.taken ≡ b.taken → a.written ≡ b.written → a.lost ≡ b.lost → a ≡ b
@@ -62,20 +62,8 @@ pub record Adding (all : List Sums) (s : Sums) (rest : List Sums) : Type 0 where
   pub adds : added s (all_added rest) ≡ all_added all
   pub small : IsCapped s
 
-cap_none : (n : ℕ) → capped (0 + capped n) ≡ capped n
-cap_none n = omega arith
-
-cap_small : (n : ℕ) → n ≤ 2 ^ 64 - 1 → n ≡ capped (n + 0)
-cap_small n h = omega arith
-
 cap_le : (n : ℕ) → capped n ≤ 2 ^ 64 - 1
 cap_le n = omega arith
-
-pub adding_begins : (all : List Sums) → Adding all nothing all
-adding_begins all = record {
-  adds = sums_are (added nothing (all_added all)) (all_added all) (cap_none _) (cap_none _) (cap_none _) (cap_none _);
-  small = record { sessions = omega arith; taken = omega arith; written = omega arith; lost = omega arith };
-}
 
 moved : (f : Sums → ℕ) (s x : Sums) (rest : List Sums) → capped (capped (f s + f x) + capped (sum_by f rest)) ≡ capped (f s + capped (sum_by f (rest ++ x ∷ [])))
 moved f s x rest = cap_moves (f s) (f x) (sum_by f rest) ∙ ap (λ n. capped (f s + capped n)) (sym (sum_by_push f rest x))
@@ -88,12 +76,6 @@ adding_one all rest rest' s x s' adding is more =
       adds = ap (λ t. added t (all_added rest')) more ∙ (shifted ∙ (ap (λ l. added s (all_added l)) (sym is) ∙ adding.adds));
       small = rw more (record { sessions = cap_le _; taken = cap_le _; written = cap_le _; lost = cap_le _ });
     }
-
-pub adding_ends : (all rest : List Sums) (s : Sums) → Adding all s rest → rest ≡ [] → s ≡ all_added all
-adding_ends all rest s adding none =
-    let small = adding.small in
-    let alone : s ≡ added s (all_added []) = sums_are s (added s (all_added [])) (cap_small _ small.sessions) (cap_small _ small.taken) (cap_small _ small.written) (cap_small _ small.lost) in
-    alone ∙ (ap (λ l. added s (all_added l)) (sym none) ∙ adding.adds)
 
 -- ---- sums of sessions
 

@@ -11,7 +11,7 @@ use Rattle.sysv_service.specs.Ran.{Pass}
 use Rattle.sysv_service.specs.Working as working
 use Rattle.sysv_service.specs.Working.{Works}
 use Rattle.sysv_kernel.specs.Made.{trail, EachSessionMakesCalls}
-use Rattle.sysv_server.specs.Handled.{zero_moment, Shift, Talks, TalksIn, begun_by, left_by, AreMadeBy}
+use Rattle.sysv_server.specs.Handled.{zero_moment, Shift, Talks, TalksIn, first_passes, last_passes, AreMadeBy}
 use Rattle.sysv_server.specs.OneRun.{EachLifeIsOneRun}
 
 module _ (law : EachSessionMakesCalls zero_moment ⊤) where
@@ -52,7 +52,7 @@ module _ (law : EachSessionMakesCalls zero_moment ⊤) where
   -- the calls of all workers
   record InShifts (shifts : List Shift) : Type 0 where
     each : List (List Called)
-    works : Each3 Works (begun_by shifts) each (left_by shifts)
+    works : Each3 Works (first_passes shifts) each (last_passes shifts)
     made : Each2 AreMadeBy shifts each
 
   in_shifts : (shifts : List Shift) → InShifts shifts
@@ -76,5 +76,5 @@ module _ (law : EachSessionMakesCalls zero_moment ⊤) where
         removals = stop.0;
         are_removals = stop.2;
         counted = stop.3;
-        served = obeys 0 blocks 0 gates (begun_by shifts) (left_by shifts) stopped.before stopped.after done.each stop.0 closed opened hires done.works stop.1 unmarked fits counted;
+        served = obeys 0 blocks 0 gates (first_passes shifts) (last_passes shifts) stopped.before stopped.after done.each stop.0 closed opened hires done.works stop.1 unmarked fits counted;
       }

@@ -12,7 +12,7 @@ use Rattle.sysv_workers.specs.Parts.{Part}
 use Rattle.sysv_workers.specs.Running.{RunsAll}
 use Rattle.sysv_server.specs.declared.sums.Sums.{Sums}
 use Rattle.sysv_server.specs.Added.{added, all_added, one_session}
-use Rattle.sysv_server.specs.Handled.{Handles, Shift, Talks, begun_by, left_by, sums_of, tally_of, told_in}
+use Rattle.sysv_server.specs.Handled.{Handles, Shift, Talks, first_passes, last_passes, sums_of, tally_of, told_in}
 use Rattle.sysv_server.specs.Serving.{IsNew, WorkedFrom}
 use Rattle.sysv_server.proofs.Adding.{told_first, told_last}
 
@@ -81,8 +81,8 @@ module _ {W T : Type 0} (pass : W → Pass) (sums : W → Sums) where
     passes : AllByRecursion (λ (shift : Shift). AreOf gates shift.before.seats × (shift.before.held ≡ 0)) shifts
     each : length (told_in shifts) ≡ length (flat_map (λ (p : Part W T). p.items) parts)
     adds : all_added (map (λ (p : Part W T). sums p.after) parts) ≡ sums_of (told_in shifts)
-    begun : begun_by shifts ≡ map (λ (p : Part W T). pass p.before) parts
-    left : left_by shifts ≡ map (λ (p : Part W T). pass p.after) parts
+    begun : first_passes shifts ≡ map (λ (p : Part W T). pass p.before) parts
+    left : last_passes shifts ≡ map (λ (p : Part W T). pass p.after) parts
 
   shifted : (gates : Gates) (parts : List (Part W T)) → All (λ (p : Part W T). FoldsTo Runs p.before p.items p.after) parts → All (λ (p : Part W T). IsNew gates (pass p.before) (sums p.before)) parts → Shifted gates parts
   shifted gates [] ran new = record { shifts = []; workers = refl; passes = tt; each = refl; adds = refl; begun = refl; left = refl }
@@ -107,8 +107,8 @@ module _ {W T : Type 0} (pass : W → Pass) (sums : W → Sums) where
   all_shifted gives gates count states after source source' total old kept new ran new_ones counted adds given taken =
       let begun = subst (λ l. All (λ w. IsNew gates (pass w) (sums w)) l) (sym ran.leads.began) new_ones in
       let done = shifted gates ran.parts ran.leads.ran (All_unmap (λ (p : Part W T). p.before) (λ w. IsNew gates (pass w) (sums w)) ran.parts begun) in
-      let theirs : begun_by done.shifts ≡ map pass states = done.begun ∙ (sym (map_map pass (λ (p : Part W T). p.before) ran.parts) ∙ ap (map pass) ran.leads.began) in
-      let back : left_by done.shifts ≡ map pass after = done.left ∙ (sym (map_map pass (λ (p : Part W T). p.after) ran.parts) ∙ ap (map pass) ran.leads.left) in
+      let theirs : first_passes done.shifts ≡ map pass states = done.begun ∙ (sym (map_map pass (λ (p : Part W T). p.before) ran.parts) ∙ ap (map pass) ran.leads.began) in
+      let back : last_passes done.shifts ≡ map pass after = done.left ∙ (sym (map_map pass (λ (p : Part W T). p.after) ran.parts) ∙ ap (map pass) ran.leads.left) in
       record {
         all = record {
           shifts = done.shifts;

@@ -43,11 +43,11 @@ pub record Shift : Type 0 where
   pub worked : FoldsTo Talks before told after
 
 -- the passes with which the workers began, and those with which they ended
-abbrev pub begun_by : List Shift → List Pass
-begun_by shifts = map (λ (shift : Shift). shift.before) shifts
+abbrev pub first_passes : List Shift → List Pass
+first_passes shifts = map (λ (shift : Shift). shift.before) shifts
 
-abbrev pub left_by : List Shift → List Pass
-left_by shifts = map (λ (shift : Shift). shift.after) shifts
+abbrev pub last_passes : List Shift → List Pass
+last_passes shifts = map (λ (shift : Shift). shift.after) shifts
 
 -- what the sessions of all workers told
 abbrev pub told_in : List Shift → List (Option Served)

@@ -15,7 +15,7 @@ use Rattle.sysv_service.specs.Hiring.{first_pass, Hires, all_of, IsRemoval, remo
 use Rattle.sysv_service.specs.Marks.{IsUnmarked}
 use Rattle.sysv_service.specs.Ran.{Pass}
 use Rattle.sysv_service.specs.Stopped.{Stops, TellsStop}
-use Rattle.sysv_server.specs.Handled.{Shift, begun_by, left_by, AreMadeBy}
+use Rattle.sysv_server.specs.Handled.{Shift, first_passes, last_passes, AreMadeBy}
 
 -- The calls of the sessions, each answered as it ended, and the removals of the stop, which removed so many queues, are all that
 -- made the order of turns. The order is a run of a world with them, which obeys the headline of threads
@@ -41,7 +41,7 @@ pub record Stopped (gates : Gates) (told : Result ℕ Errno) : Type 0 where
 -- back, made the stop, and closed the gates. All of it is one run if that pass is unmarked then: no gate was found worn out
 pub record Lived (blocks : ℕ) (gates : Gates) (shifts : List Shift) (removed : Result ℕ Errno) : Type 0 where
   pub stopped : Stopped gates removed
-  pub hires : Hires (first_pass gates) (begun_by shifts) (left_by shifts) stopped.before
+  pub hires : Hires (first_pass gates) (first_passes shifts) (last_passes shifts) stopped.before
   pub closed : Closed
   pub counted : IsCounted stopped.after.seats stopped.after.held closed
   pub run : IsUnmarked stopped.after.seats → IsOneRun blocks shifts stopped.removed counted.all.order
@@ -51,4 +51,4 @@ pub record Lived (blocks : ℕ) (gates : Gates) (shifts : List Shift) (removed :
 abbrev pub EachLifeIsOneRun : Type 0
 EachLifeIsOneRun = (blocks : ℕ) (gates : Gates) (shifts : List Shift) (removed : Result ℕ Errno) (stopped : Stopped gates removed) (closed : Closed) →
     (counted : IsCounted stopped.after.seats stopped.after.held closed) → AreOpen 0 blocks 0 gates → AreOf gates stopped.after.seats →
-    Hires (first_pass gates) (begun_by shifts) (left_by shifts) stopped.before → IsUnmarked stopped.after.seats → IsOneRun blocks shifts stopped.removed counted.all.order
+    Hires (first_pass gates) (first_passes shifts) (last_passes shifts) stopped.before → IsUnmarked stopped.after.seats → IsOneRun blocks shifts stopped.removed counted.all.order

@@ -15,7 +15,7 @@ use Rattle.sysv_server.specs.declared.fault.ServeFault.TheVariants.{NoMemory, Th
 use Rattle.sysv_server.specs.declared.sums.Sums.{Sums}
 use Rattle.sysv_server.specs.declared.terms.Ended.{Ended}
 use Rattle.sysv_server.specs.Added.{nothing}
-use Rattle.sysv_server.specs.Handled.{Shift, begun_by, left_by, sums_of, told_in}
+use Rattle.sysv_server.specs.Handled.{Shift, first_passes, last_passes, sums_of, told_in}
 use Rattle.sysv_server.specs.OneRun.{Stopped, Lived}
 
 -- a pass of these gates, which holds no chain, and of whose sessions none was yet
@@ -41,7 +41,7 @@ module _ {S T : Type 0} where
   -- were joined into it
   pub record WorkedFrom (gives : S → Option T → S → Type 0) (gates : Gates) (workers : ℕ) (old : Pass) (source : S) (sums : Sums) (new : Pass) (source' : S) : Type 0 where
     pub all : WorkedAll gives gates workers source sums source'
-    pub hires : Hires old (begun_by all.shifts) (left_by all.shifts) new
+    pub hires : Hires old (first_passes all.shifts) (last_passes all.shifts) new
 
   -- all that at gates that were opened for it, with so many blocks, and were stopped and closed after it
   pub record ServesAll (gives : S → Option T → S → Type 0) (blocks workers : ℕ) (source : S) (sums : Sums) (source' : S) : Type 0 where

@@ -15,6 +15,6 @@ mod terms;
 
 pub use fault::ServeFault;
 pub use laws::each_life_is_one_run;
-pub use serving::{serve_connections, serve_crowd_on, serve_listener, serve_on, serve_until_fault};
+pub use serving::{serve_listener, serve_on};
 pub use sums::Sums;
 pub use terms::{Ended, Patience, Terms};

@@ -52,47 +52,8 @@ pub fn serve_on<R: Threads + Wait + Sync>(
     ensures ok { IfOk result (λ sums. ServesOn blocks workers sessions sums) }
     ensures balance { IfOk result IsBalanced }
 {
-    let mut fault = None;
-    serve_until_fault(rt, alloc, listener, blocks, workers, sessions, &mut fault)
-}
-
-/// As `serve_on`, with 1 to 256 threads.
-pub fn serve_crowd_on<R: Threads + Wait + Sync>(
-    rt: &R,
-    alloc: Global,
-    listener: &UnixListener,
-    blocks: u32,
-    workers: u32,
-    sessions: u64,
-) -> Result<Sums, ServeFault>
-    requires blocks { (MIN_BLOCKS ≤ blocks) × (blocks ≤ MAX_BLOCKS) }
-    requires workers { (1 ≤ workers) × (workers ≤ MAX_CROWD) }
-    ensures ok { IfOk result (λ sums. ServesOn blocks workers sessions sums) }
-    ensures balance { IfOk result IsBalanced }
-{
     let mut source = lent(listener, sessions);
     serve_source(rt, alloc, &mut source, blocks, workers)
-}
-
-/// As `serve_on`, and leaves in `fault` why an accept failed, or `None` if none did.
-pub fn serve_until_fault<R: Threads + Wait + Sync>(
-    rt: &R,
-    alloc: Global,
-    listener: &UnixListener,
-    blocks: u32,
-    workers: u32,
-    sessions: u64,
-    fault: &mut Option<io::Error>,
-) -> Result<Sums, ServeFault>
-    requires blocks { (MIN_BLOCKS ≤ blocks) × (blocks ≤ MAX_BLOCKS) }
-    requires workers { (1 ≤ workers) × (workers ≤ MAX_WORKERS) }
-    ensures ok { IfOk result (λ sums. ServesOn blocks workers sessions sums) }
-    ensures balance { IfOk result IsBalanced }
-{
-    let mut source = lent(listener, sessions);
-    let outcome = serve_connections(rt, alloc, &mut source, blocks, workers);
-    *fault = source.into_fault();
-    outcome
 }
 
 /// Connections of a listener that stays open.
@@ -136,25 +97,7 @@ pub fn serve_listener<I: Read + AsRawFd + Drop, R: Threads + Wait + Sync>(
     outcome
 }
 
-/// As `serve_on`, with the connections of a source. After `NoMemory` and `Thread` the source was not
-/// asked for any.
-pub fn serve_connections<S: Source<UnixStream>, R: Threads + Wait + Sync>(
-    rt: &R,
-    alloc: Global,
-    source: &mut S,
-    blocks: u32,
-    workers: u32,
-) -> Result<Sums, ServeFault>
-    requires blocks { (MIN_BLOCKS ≤ blocks) × (blocks ≤ MAX_BLOCKS) }
-    requires workers { (1 ≤ workers) × (workers ≤ MAX_WORKERS) }
-    ensures ok { IfOk result (λ sums. ServesAll S.gives blocks workers source.old sums source.new) }
-    ensures balance { IfOk result IsBalanced }
-    ensures err { IfErr result (λ why. LeavesConnections source.old why source.new) }
-{
-    serve_source(rt, alloc, source, blocks, workers)
-}
-
-/// As `serve_connections`, with 1 to 256 threads.
+/// As `serve_all`, without limits of patience.
 fn serve_source<S: Source<UnixStream>, R: Threads + Wait + Sync>(
     rt: &R,
     alloc: Global,
@@ -174,7 +117,8 @@ fn serve_source<S: Source<UnixStream>, R: Threads + Wait + Sync>(
     }
 }
 
-/// Serves the connections of a source on a new service, and removes the queues that are left.
+/// Serves the connections of a source on a new service, and removes the queues that are left. After `NoMemory` and
+/// `Thread` the source was not asked for any.
 fn serve_all<S: Source<UnixStream>, R: Threads + Wait + Sync>(
     rt: &R,
     alloc: Global,

@@ -1,6 +1,6 @@
 -- A mark stays: what was done before a pass came to be unmarked was done by unmarked ones, and no call found a gate worn out.
 use Rattle.std.specs.List.{AllByRecursion}
-use Rattle.std.proofs.Common.{◌≡◌, ℕ, ℤ, zero, suc, ◌||◌, inl, inr, Bool, true, false, List, [], ◌∷◌, map, slice_set, Option, Result, Ok, Err, refl, sym, ap, ◌∙◌, subst}
+use Rattle.std.proofs.Common.{◌≡◌, ℕ, ℤ, zero, suc, ◌||◌, inl, inr, Bool, true, false, List, [], ◌∷◌, slice_set, Option, Result, Ok, Err, refl, sym, ap, ◌∙◌, subst}
 use mathlib.Core.Option.{some, some-injective, some-ne-none}
 use lib.ListN.{get_elem?}
 use Rattle.sysv_model.specs.declared.attributes.Row.{Row}
@@ -11,11 +11,11 @@ use Rattle.sysv_model.specs.Turn.{Ask, OfSlot, OfRegistry, OfPool, Deed, AtSlot,
 use Rattle.sysv_steps.specs.State.{Phase, AtInstall, State, Goes, Waits}
 use Rattle.sysv_steps.specs.Asks.{asks}
 use Rattle.sysv_steps.specs.Resume.{Count, ArrivedOf, FreedOf, Settled, Released, awaited}
-use Rattle.sysv_gate.specs.Gates.{Holding, parted, Joins}
+use Rattle.sysv_gate.specs.Gates.{Holding, Joins}
 use Rattle.sysv_bank.specs.Banks.{ChangesAt, Each3}
 use Rattle.sysv_gated.specs.Seats.{SlotSeat, RegistrySeat, PoolSeat, Seats, MakesTurnAt, FindsWorn}
 use Rattle.sysv_gated.specs.Reading.{Reads, GivesUp}
-use Rattle.sysv_gated.specs.Sharing.{AreSplit, AreJoined}
+use Rattle.sysv_gated.specs.Sharing.{AreJoined}
 use Rattle.sysv_service.specs.Marks.{IsUnmarked}
 use Rattle.sysv_service.specs.Ran.{Pass, Forgets, TurnsBack, Ran, FindsTurns, begins, steps, turns_back, reads, resumes, gives_up}
 use Rattle.sysv_service.specs.Told.{TellsRow}
@@ -56,10 +56,6 @@ module _ {O C R : Type 0} where
 
   fresh_there : (place : ℕ) (before after : List (Holding O C R)) (how : Holding O C R → Holding O C R → Type 0) → (c : ChangesAt place before after how) → AllByRecursion is_fresh after → is_fresh c.is
   fresh_there place before after how c all = of_the_new is_fresh before place c.was c.is c.at (subst (AllByRecursion is_fresh) c.others all)
-
-  parted_before : (seats : List (Holding O C R)) → AllByRecursion is_fresh (map parted seats) → AllByRecursion is_fresh seats
-  parted_before [] all = tt
-  parted_before (h ∷ seats) all = (all.0, parted_before seats all.1)
 
   module _ (moves : O → C → R → O → Type 0) where
     joined_before : (one two after : Holding O C R) → Joins moves one two after → is_fresh after → is_fresh one × is_fresh two
@@ -135,13 +131,6 @@ module _ (before after : Seats) (none : IsUnmarked after) where
       never (sym (ap (λ (s : SlotSeat). s.worn) r.0.change.1) ∙ fresh_there slot before.slots after.slots _ r.0 none.slots)
   not_given_up Settled value r = never (sym (ap (λ (s : RegistrySeat). s.worn) r.0.1) ∙ none.registry)
   not_given_up Released value r = never (sym (ap (λ (s : PoolSeat). s.worn) r.0.1) ∙ none.pool)
-
-  pub no_mark_by_split : (other : Seats) → AreSplit before after other → IsUnmarked before
-  no_mark_by_split other split = record {
-    slots = parted_before before.slots (subst (AllByRecursion (λ (s : SlotSeat). s.worn ≡ false)) split.slots.0 none.slots);
-    registry = sym (ap (λ (s : RegistrySeat). s.worn) split.registry.0) ∙ none.registry;
-    pool = sym (ap (λ (s : PoolSeat). s.worn) split.pool.0) ∙ none.pool;
-  }
 
   pub no_mark_by_join : (other : Seats) → AreJoined before other after → IsUnmarked before × IsUnmarked other
   no_mark_by_join other joined =

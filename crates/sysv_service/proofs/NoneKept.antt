@@ -16,7 +16,7 @@ use Rattle.sysv_free.specs.Order.{Called, is_in_call_of, deeds_by, deeds_in}
 use Rattle.sysv_free.specs.OrderIsRun.{Renamed, renamed_turn}
 use Rattle.sysv_free.specs.Crew.{IsServed}
 use Rattle.sysv_gated.specs.Seats.{Gates}
-use Rattle.sysv_driver.specs.Stepping.{left_by}
+use Rattle.sysv_driver.specs.Stepping.{refused_blocks}
 use Rattle.sysv_service.specs.Ran.{Pass, Ran, FindsTurns, begins, steps, turns_back, reads, resumes, gives_up}
 use Rattle.sysv_service.specs.Told.{TellsRow}
 use Rattle.sysv_service.specs.Life as life
@@ -25,7 +25,7 @@ use Rattle.sysv_service.specs.Life.{any_moment, call_of, Lives}
 -- ---- what turns leave with the passes
 
 abbrev left_in : List Deed → ℕ
-left_in deeds = sum_by left_by deeds
+left_in deeds = sum_by refused_blocks deeds
 
 abbrev left_by_call : Called → ℕ
 left_by_call c = left_in c.deeds
@@ -52,7 +52,7 @@ module _ (from : State) (old : Pass) where
   call_keeps : (deeds : List Deed) (state : State) (new : Pass) (ran : Ran any_moment from old deeds state new) → FindsTurns ran → new.held ≡ old.held + left_in deeds
   call_keeps _ _ _ begins found = omega (arith, none_left)
   call_keeps _ _ _ (steps {deeds} {phase} {mid} state new ran step) found =
-      omega (arith, call_keeps deeds (Goes phase) mid ran found, step.makes.held, sum_by-append left_by deeds (step.deed ∷ []), sum_by-cons left_by step.deed [], none_left)
+      omega (arith, call_keeps deeds (Goes phase) mid ran found, step.makes.held, sum_by-append refused_blocks deeds (step.deed ∷ []), sum_by-cons refused_blocks step.deed [], none_left)
   call_keeps _ _ _ (turns_back {deeds} {phase} {mid} state new ran step) found = absurd found
   call_keeps _ _ _ (reads {deeds} {state} {mid} count value new ran r same) found = same ∙ call_keeps deeds state mid ran found
   call_keeps _ _ _ (resumes {deeds} {wait} {mid} value new ran reached r same) found = same ∙ call_keeps deeds (Waits wait) mid ran found
@@ -110,12 +110,12 @@ all_back : (xs ys : List PoolEntry) → All IsTaken (xs ++ ys) → All IsTaken y
 all_back [] ys a = a
 all_back (x ∷ xs) ys a = all_back xs ys (All-tail IsTaken x (xs ++ ys) a)
 
-not_refused : (who : Who) (deed : Deed) → All IsTaken (pool_entry who deed) → left_by deed ≡ 0
+not_refused : (who : Who) (deed : Deed) → All IsTaken (pool_entry who deed) → refused_blocks deed ≡ 0
 not_refused who (AtPool (Release blocks) Foreign) a = absurd (All-head IsTaken (record { who = who; call = Release blocks; reply = Foreign }) [] a refl)
 not_refused who deed a = refl
 
 abbrev left_by_turn : Numbered → ℕ
-left_by_turn t = left_by t.deed
+left_by_turn t = refused_blocks t.deed
 
 abbrev turn_in : Renamed → Numbered
 turn_in r = r.turn
@@ -132,8 +132,8 @@ none_refused (r ∷ rs) a =
 abbrev deed_in : Numbered → Deed
 deed_in t = t.deed
 
-one_or_none : (t : Numbered) (kept : List Numbered) (b : Bool) → left_by t.deed ≡ 0 → left_in (map deed_in kept) ≡ 0 → left_in (map deed_in (cond b (t ∷ kept) kept)) ≡ 0
-one_or_none t kept true here rest = omega (arith, here, rest, sum_by-cons left_by t.deed (map deed_in kept))
+one_or_none : (t : Numbered) (kept : List Numbered) (b : Bool) → refused_blocks t.deed ≡ 0 → left_in (map deed_in kept) ≡ 0 → left_in (map deed_in (cond b (t ∷ kept) kept)) ≡ 0
+one_or_none t kept true here rest = omega (arith, here, rest, sum_by-cons refused_blocks t.deed (map deed_in kept))
 one_or_none t kept false here rest = rest
 
 none_by : (number : ℕ) (order : List Numbered) → sum_by left_by_turn order ≡ 0 → left_in (deeds_by number order) ≡ 0
@@ -148,7 +148,7 @@ own_deeds c number = if c.by == number then c.deeds else []
 none_in : (calls : List Called) → ((number : ℕ) → left_in (deeds_in number calls) ≡ 0) → left_in_all calls ≡ 0
 none_in [] each = refl
 none_in (c ∷ cs) each =
-    let parts : (number : ℕ) → left_in (deeds_in number (c ∷ cs)) ≡ left_in (own_deeds c number) + left_in (deeds_in number cs) = λ number. sum_by-append left_by (own_deeds c number) (deeds_in number cs) in
+    let parts : (number : ℕ) → left_in (deeds_in number (c ∷ cs)) ≡ left_in (own_deeds c number) + left_in (deeds_in number cs) = λ number. sum_by-append refused_blocks (own_deeds c number) (deeds_in number cs) in
     let rest = none_in cs (λ number. omega (arith, each number, parts number)) in
     let same : (c.by == c.by) ≡ true = grind (arith, nat_tests) in
     let own : left_in (own_deeds c c.by) ≡ 0 = omega (arith, each c.by, parts c.by) in

@@ -1,9 +1,8 @@
 -- How what a call did goes on by one step, or by the end of a wait.
-use Rattle.std.proofs.Common.{◌≡◌, ℕ, inl, inr, [], ◌∷◌, ◌++◌, Option, Some, None, IfNone, Result, Ok, Err, IfOk, IfErr, OnErr, refl, sym, subst}
+use Rattle.std.proofs.Common.{◌≡◌, ℕ, inl, inr, [], ◌∷◌, ◌++◌, Option, Some, None, IfNone, sym, subst}
 use Rattle.sysv_steps.specs.State.{Phase, Wait, State, Goes, Waits}
-use Rattle.sysv_gated.specs.Reading.{Reads}
 use Rattle.sysv_service.specs.Ran.{Pass, begins, steps, turns_back, reads, resumes, gives_up, Comes, StepsOn}
-use Rattle.sysv_steps.specs.Resume.{Count, awaited}
+use Rattle.sysv_steps.specs.Resume.{awaited}
 use Rattle.sysv_service.specs.Waited.{EndsWait}
 
 module _ (may : ℕ → Type 0) (from : State) (old : Pass) where
@@ -23,20 +22,7 @@ module _ (may : ℕ → Type 0) (from : State) (old : Pass) where
 
 -- ---- one step
 
-pub ok_of : {T E : Type 0} (r : Result T E) (P : T → Type 0) (x : T) → r ≡ Ok x → IfOk r P → P x
-ok_of r P x is ok = subst (λ s. IfOk s P) is ok
-
-pub err_of : {T E : Type 0} (r : Result T E) (P : Type 0) (e : E) → r ≡ Err e → OnErr r P → P
-err_of r P e is on = subst (λ s. OnErr s P) is on
-
-pub iferr_of : {T E : Type 0} (r : Result T E) (P : E → Type 0) (e : E) → r ≡ Err e → IfErr r P → P e
-iferr_of r P e is on = subst (λ s. IfErr s P) is on
-
 -- ---- by a result
-
-pub by_result : {T E : Type 0} (r : Result T E) (P : Type 0) → ((x : T) → r ≡ Ok x → P) → ((e : E) → r ≡ Err e → P) → P
-by_result (Ok x) P ok err = ok x refl
-by_result (Err e) P ok err = err e refl
 
 -- ---- where there may be no result
 
@@ -53,9 +39,6 @@ none_then (Some x) p f = tt
 module _ (may : ℕ → Type 0) (from : State) (old : Pass) where
   pub first_at : (s : State) → from ≡ s → Comes may from old s old
   first_at s is = subst (λ x. Comes may from old x old) is (comes_first may from old)
-
-  pub first_read : (count : Count) (value : ℕ) (s : State) (new : Pass) → from ≡ s → Reads count value old.seats new.seats → new.held ≡ old.held → Comes may from old s new
-  first_read count value s new is read held = subst (λ x. Comes may from old x new) is ([], reads count value new begins read held)
 
   pub moved : (s s' : State) (mid : Pass) → s ≡ s' → Comes may from old s mid → Comes may from old s' mid
   moved s s' mid is = subst (λ x. Comes may from old x mid) is

@@ -1,5 +1,4 @@
--- What a receive gives is the message that it took in a turn of its own: the type, the sender and the acceptance number are
--- those of the message (POSIX.1-2017, msgrcv; the sender and the number are this profile's).
+-- A receive of a service that is over has taken, in one of its turns, the message that it gives (POSIX.1-2017, msgrcv).
 use Rattle.std.specs.Prelude.{ℕ, List}
 use Rattle.sysv_model.specs.Turn.{Deed}
 use Rattle.sysv_queue.specs.Delivery.{Given}

@@ -1,6 +1,5 @@
 -- The life of a service, as the contracts of its functions tell it: it is opened, its passes make calls, read rows and counts,
--- are split and joined, and with the last one it is closed. What a pass does says what it has seen, and nothing of time. So
--- what passes did can be listed one after the other, however their threads ran (this profile's).
+-- are split and joined, and with the last one it is closed (this profile's).
 use Rattle.std.specs.Prelude.{◌≡◌, ◌+◌, ⊤, ℕ, List, [], ◌∷◌, ◌++◌, Option, Result}
 use Rattle.sysv_model.specs.declared.attributes.Row.{Row}
 use Rattle.sysv_model.specs.declared.cred.Cred.{Cred}

@@ -154,14 +154,6 @@ module _ {K : Type 0} where
   ends_turn Means version cred NoHello old mid new left behind rest taken more most before after few many within so_far turn = absurd turn
   ends_turn Means version cred Bound old mid new left behind rest taken more most before after few many within so_far turn = absurd turn
 
-  -- so many were taken up
-  pub at_bound : (Means : Meaning K) (version : Version) (cred : Cred) (old new : K) (left behind taken more : Option (List ℕ)) (tally : Tallied) (many : ℕ)
-      → many ≡ SESSION_REQUESTS → Talking Means version cred old new left behind taken more tally many → Goes Means version cred Bound old new left behind taken more tally many
-  at_bound Means version cred old new left behind taken more tally many full so_far =
-      stops Means version cred Bound old new new left behind behind taken more more tally tally many many so_far
-      (record { kernel = refl; ends = refl; writes = refl; tally = refl; counts = refl })
-      so_far.writes (all_told so_far.calls tally tally refl so_far.tallies) full
-
   -- the tally is far below what it may be
   pub has_room : (Means : Meaning K) (version : Version) (cred : Cred) (old new : K) (left behind taken more : Option (List ℕ)) (tally : Tallied) (many : ℕ)
       → Talking Means version cred old new left behind taken more tally many → taken_in tally < many

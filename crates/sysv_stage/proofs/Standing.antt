@@ -35,11 +35,6 @@ going_line actor None told line stands says = absurd stands
 going_line actor (Some None) told line stands says = absurd stands
 going_line actor (Some (Some d)) told line stands says = ap (λ t. t ++ 10 ∷ []) (says stands.0 ∙ sym (ap (standing_text actor) stands.1))
 
-pub idle_way : (o : Option (Option Doing)) → StandsNowhere (option_map state_in o) → None ≡ under_way o
-idle_way None stands = refl
-idle_way (Some None) stands = refl
-idle_way (Some (Some d)) stands = absurd stands
-
 pub going_way : (o : Option (Option Doing)) (told : StandingKept) (operation : Operation) → StandsThere (option_map state_in o) told →
     ((text : List ℕ) → operation_in (stands_at told text) ≡ Some operation) → Some operation ≡ under_way o
 going_way None told operation stands says = absurd stands

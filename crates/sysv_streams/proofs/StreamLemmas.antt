@@ -1,8 +1,8 @@
 -- What two reads take in, and two writes hand on, one after the other.
-use Rattle.std.proofs.Common.{◌≡◌, ℕ, List, [], ◌++◌, Option, Result, Ok, Err, refl, sym, ap, subst, ◌∙◌, append_assoc, append-nil}
+use Rattle.std.proofs.Common.{◌≡◌, ℕ, List, [], ◌++◌, Option, Result, Ok, Err, sym, ap, subst, ◌∙◌, append_assoc, append-nil}
 use Rattle.std.specs.Prelude.{OnErr}
 use Rattle.std.specs.Io.KnownBytes.{Appends}
-use Rattle.std.proofs.KnownBytes.{Appends-nil, Appends-trans, Consumes-nil, Consumes-trans}
+use Rattle.std.proofs.KnownBytes.{Appends-trans, Consumes-trans}
 use Rattle.sysv_lists.specs.Prefix.{IsPrefixOf}
 use Rattle.sysv_lists.proofs.Prefixes.{prefix_self}
 use Rattle.sysv_model.specs.Writing.{AppendsPrefix}
@@ -15,9 +15,6 @@ prefix_none none text e = (text, ap (λ l. l ++ text) (sym e))
 pub prefix_after : (front part whole : List ℕ) → IsPrefixOf part whole → IsPrefixOf (front ++ part) (front ++ whole)
 prefix_after front part whole b = (b.0, ap (λ l. front ++ l) b.1 ∙ sym (append_assoc front part b.0))
 
-pub HandsOn-none : (a : Option (List ℕ)) (waiting : List ℕ) → HandsOn a waiting a waiting
-HandsOn-none a waiting = ([], refl, Appends-nil a)
-
 pub HandsOn-all : (a b c : Option (List ℕ)) (waiting rest none : List ℕ) → HandsOn a waiting b rest → Appends b c rest → none ≡ [] → HandsOn a waiting c none
 HandsOn-all a b c waiting rest none before all e =
     (waiting, sym (ap (λ l. waiting ++ l) e ∙ append-nil waiting), subst (Appends a c) (sym before.1) (Appends-trans a b c before.0 rest before.2 all))
@@ -29,9 +26,6 @@ HandsOn-part a b c waiting rest before part =
 
 pub AppendsPrefix-all : (a b : Option (List ℕ)) (bytes : List ℕ) → Appends a b bytes → AppendsPrefix a b bytes
 AppendsPrefix-all a b bytes all = (bytes, prefix_self bytes, all)
-
-pub TakesIn-none : (a : Option (List ℕ)) (waiting : List ℕ) → TakesIn a waiting a waiting
-TakesIn-none a waiting = ([], sym (append-nil waiting), Consumes-nil a)
 
 pub TakesIn-trans : (a b c : Option (List ℕ)) (x y z : List ℕ) → TakesIn a x b y → TakesIn b y c z → TakesIn a x c z
 TakesIn-trans a b c x y z first second =

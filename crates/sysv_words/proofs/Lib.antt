@@ -1,5 +1,4 @@
 pub mod Numerals
-pub mod SignedLemmas
 pub mod FlagLists
 pub mod DecidingWords
 pub mod DecidingFlags

@@ -50,10 +50,7 @@ module _ {T : Type 0} where
       ap (λ l. l ++ End ∷ []) (append-nil (fed xs n))
       ∙ (append_assoc (map Item xs) (replicate n End) (End ∷ []) ∙ ap (λ l. map Item xs ++ l) (replicate_push n End ∙ ap (λ k. replicate k End) (sym (add-one n))))
 
-  -- a put and a look leave the seat with no less seen
-  pub puts_longer : (f : Feed T) (h h' : Holding (Feed T)) → Puts f h h' → length h.seen ≤ length h'.seen
-  puts_longer f h h' p = let long = ap length p.seen ∙ length-append (h.seen ++ p.others) (f ∷ []) in let before = length-append h.seen p.others in omega arith
-
+  -- a seat has seen no less afterwards
   pub grown_longer : (h h' : Holding (Feed T)) (more : List (Feed T)) → h'.seen ≡ h.seen ++ more → length h.seen ≤ length h'.seen
   grown_longer h h' more is = let long = ap length is ∙ length-append h.seen more in omega arith
 

@@ -2,7 +2,7 @@
 use Rattle.std.proofs.Common.{subst, refl}
 use Rattle.sysv_service.specs.Hiring.{Hires}
 use Rattle.sysv_service.specs.Ran.{Pass}
-use Rattle.sysv_server.specs.Handled.{begun_by, left_by, told_in}
+use Rattle.sysv_server.specs.Handled.{first_passes, last_passes, told_in}
 use Rattle.sysv_server.specs.OneRun.{Stopped}
 use Rattle.sysv_server.proofs.Adding.{balanced}
 use Rattle.sysv_server.proofs.serving.serve_all.Goals as goal
@@ -13,7 +13,7 @@ returns-in-Ok-outcome-clause-ok g c =
     let opened = c.in-Ok.ensures.open in
     let worked = c.in-Ok-outcome.ensures.ok in
     let shifts = worked.all.shifts in
-    let hires = subst (λ (p : Pass). Hires p (begun_by shifts) (left_by shifts) c.serve_with-outcome.new.pass) opened.1 worked.hires in
+    let hires = subst (λ (p : Pass). Hires p (first_passes shifts) (last_passes shifts) c.serve_with-outcome.new.pass) opened.1 worked.hires in
     let stopped : Stopped c.in-Ok.service c.stop-removed.result = record {
       before = c.serve_with-outcome.new.pass;
       after = c.stop-removed.new.pass;

@@ -3,7 +3,7 @@ use Rattle.std.proofs.Common.{arith}
 use Rattle.std.specs.declared.net.unix.UnixStream.{UnixStream}
 use Rattle.sysv_server.specs.declared.accepting.Accepting.{Accepting}
 use Rattle.sysv_server.proofs.Accepted.{serves_on}
-use Rattle.sysv_server.proofs.serving.serve_crowd_on.Goals as goal
+use Rattle.sysv_server.proofs.serving.serve_on.Goals as goal
 
 pub returns-clause-ok : goal.returns-clause-ok
 returns-clause-ok g c =
