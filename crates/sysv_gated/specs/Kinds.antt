@@ -30,7 +30,7 @@ module _ {O C R O' C' R' : Type 0} (kind : Kind O C R O' C' R') where
     alone = h.alone;
   }
 
-  -- what is given back is the same, but for what is known of nothing
+  -- what is given back is the same, as an object of its kind; where no object is, nothing is said of what the slot had
   pub record IsClosingAs (c : Closing O) (c' : Closing O') : Type 0 where
     pub object : c'.object ≡ option_map kind.object c.object
     pub rest : c.rest ≡ None → c'.rest ≡ None

@@ -46,8 +46,8 @@ impl Gates {
         self.bank.join(&mut seats.seat, seat);
     }
 
-    /// Gives each object back, and the number of its turns: the slots by their numbers, the registry and the pool. It takes
-    /// no memory.
+    /// Gives back each object whose gate is not held, and the number of turns at each gate: the slots by their numbers, the
+    /// registry and the pool. It takes no memory.
     pub fn close(self, seats: Seats) -> GatesClosed
         requires { AreOf self seats }
         ensures closed { AllClose seats result }

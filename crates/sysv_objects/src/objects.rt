@@ -191,8 +191,10 @@ impl Objects {
     /// back. It takes no memory. No count may be above 2^62.
     pub fn end(self, chain: Chain) -> u32
         requires { CountsUpTo (2 ^ 62) self }
-        ensures { self.pool.free + (blocks_in self.slots + chain.blocks) ≤ self.pool.size →
+        ensures own { self.pool.free + (blocks_in self.slots + chain.blocks) ≤ self.pool.size →
             result ≡ self.pool.free + (blocks_in self.slots + chain.blocks) }
+        ensures foreign { self.pool.size < self.pool.free + (blocks_in self.slots + chain.blocks) →
+            result ≡ self.pool.free }
     {
         let Objects {
             slots,

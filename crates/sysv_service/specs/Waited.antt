@@ -10,7 +10,12 @@ use Rattle.sysv_service.specs.Ran.{Pass}
 abbrev pub goal_seen : ℕ → ℕ
 goal_seen goal = min goal (2 ^ 64 - 1)
 
--- the call goes on with the value that it read, or waits on, or has found the gate of the object worn out and is over
+-- the count was read below the goal
+abbrev pub IsUnmet : Wait → Pass → Pass → Type 0
+IsUnmet wait before after = (value : ℕ) × (value < goal_of wait) × Reads (awaited wait) value before.seats after.seats
+
+-- where a look at the count leads: the call goes on with the value, or waits on, or has found the gate of the object worn out
+-- and is over
 abbrev pub EndsWait : Wait → Pass → State → Pass → Type 0
 EndsWait wait before state after =
     ((value : ℕ) × Reads (awaited wait) value before.seats after.seats × (after.held ≡ before.held)

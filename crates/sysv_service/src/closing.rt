@@ -22,8 +22,7 @@ pub struct Closed {
     /// The blocks of the pool that are free once those of the messages that waited, and those that the pass kept, were put
     /// back. It is 0 where the gate of the pool is held.
     pub free: u32,
-    /// The gates that are held: a turn at each was not given back, and nothing is told of its object. It is 0 once every call
-    /// has returned.
+    /// The gates that are held: a turn at each was not given back, and nothing is told of its object.
     pub held: u32,
 }
 

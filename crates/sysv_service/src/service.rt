@@ -30,7 +30,7 @@ impl Model for Service {
 
 impl Service {
     /// A service without queues, with a pool of this many blocks, 128 to 65,536, and its first pass. `BadSize` comes exactly
-    /// where the number of blocks is out of that range. No later call but `split_pass` takes memory.
+    /// where the number of blocks is out of that range. No later call takes memory.
     pub fn open(alloc: Global, blocks: u32) -> Result<(Service, Pass), OpenRefused>
         ensures open { IfOk result (λ o. AreOpen 0 blocks 0 o.0
             × (o.1 ≡ record { seats = all_opened o.0; held = 0 })) }

@@ -8,7 +8,7 @@ ghost use Rattle.sysv_gated.specs.Reading.{AwaitsWithin};
 ghost use Rattle.sysv_steps.specs.State.{Over, Waits};
 ghost use Rattle.sysv_driver.specs.Kinds.{EndsInZero};
 ghost use Rattle.sysv_service.specs.Told.{TellsZero};
-ghost use Rattle.sysv_service.specs.Waited.{EndsWait, goal_seen};
+ghost use Rattle.sysv_service.specs.Waited.{EndsWait, IsUnmet, goal_seen};
 
 use crate::caller::{Caller, Stays};
 use crate::pass::Pass;
@@ -65,6 +65,8 @@ impl Service {
         ensures pass { AreOf self.now pass.new.seats }
         ensures ended { IfSome result (λ state. (text : List ℕ) →
             EndsWait (wait_of wait text) pass.old (state_of state text) pass.new) }
+        ensures unmet { IfSome result (λ state. state ≡ State.Waits wait → (text : List ℕ) →
+            IsUnmet (wait_of wait text) pass.old pass.new) }
         ensures left { IfNone result (K.may_leave caller.now) }
         ensures still { IfNone result ((text : List ℕ) →
             EndsWait (wait_of wait text) pass.old (Waits (wait_of wait text)) pass.new) }

@@ -1,4 +1,4 @@
-use Rattle.std.proofs.Common.{◌≤◌, ◌^◌, ◌-◌, ◌<◌, inl, inr, refl, ap, sym, subst, arith}
+use Rattle.std.proofs.Common.{rules, ◌≤◌, ◌^◌, ◌-◌, ◌<◌, inl, inr, refl, ap, sym, subst, arith}
 use Rattle.std.proofs.Math.Nat.{min-le_left}
 use Rattle.sysv_steps.specs.Resume.{awaited, goal_of}
 use Rattle.sysv_steps.specs.Seen.{wait_of, state_of}
@@ -43,3 +43,18 @@ returns-in-Some-Worn-clause-ended g c = λ text.
     let least = min-le_left (goal_of wait) (2 ^ 64 - 1) in
     let below : told.0 < goal_of wait = omega (arith, least, told.1) in
     inr (told.0, below, told.2, c.await_within.ensures.held, ap (λ s. state_of s text) c.overflow.ensures)
+
+pub returns-else-is_over-clause-unmet : goal.returns-else-is_over-clause-unmet
+returns-else-is_over-clause-unmet g c = λ same text.
+    let wait = wait_of c.args.wait text in
+    let told = subst (λ a. Awaits (awaited wait) (goal_seen (goal_of wait)) c.args.pass.now.seats a c.await_within.new.pass.seats) c.in-Some-Reached.field-0-is (c.in-Some-Reached.ensures.waited text) in
+    let below : c.in-Some-Reached.value < goal_of wait = search rules in
+    (c.in-Some-Reached.value, below, told.1)
+
+pub returns-else-has_left-2-clause-unmet : goal.returns-else-has_left-2-clause-unmet
+returns-else-has_left-2-clause-unmet g c = λ same text.
+    let wait = wait_of c.args.wait text in
+    let told = c.in-None.ensures.waited text in
+    let least = min-le_left (goal_of wait) (2 ^ 64 - 1) in
+    let below : told.0 < goal_of wait = omega (arith, least, told.1) in
+    (told.0, below, told.2)
