@@ -12,6 +12,8 @@ use clap::Error;
 use clap::error::ErrorKind;
 use connection::run_at;
 use serving::serve_at;
+use std::fs::File;
+use std::os::fd::{AsRawFd, RawFd};
 use std::process::ExitCode;
 use std::{env, io};
 use sysv_model::Watched;
@@ -23,7 +25,11 @@ const FAULT: u8 = 1;
 /// The status if the command line is not understood.
 const NOT_UNDERSTOOD: u8 = 2;
 
+/// The last of the three standard streams.
+const STANDARD_ERROR: RawFd = 2;
+
 fn main(rt: HostRuntime) -> ExitCode {
+    let _stand_ins = [stand_in(&rt), stand_in(&rt), stand_in(&rt)];
     let words = match env::args(&rt) {
         Ok(words) => words,
         Err(why) if why.kind() == io::ErrorKind::OutOfMemory => return say(&rt, "no memory"),
@@ -50,6 +56,13 @@ fn main(rt: HostRuntime) -> ExitCode {
         Ok(Asked::Client { path, command }) => run_at(&rt, path, &command),
         Err(error) => tell(&rt, &error),
     }
+}
+
+/// Takes the place of a standard stream that is closed, so that no socket gets it: what is read there is at its end, and
+/// a write fails. `None` if there is none.
+fn stand_in(rt: &HostRuntime) -> Option<File> {
+    let file = File::open(rt, "/dev/null").ok()?;
+    (file.as_raw_fd() <= STANDARD_ERROR).then_some(file)
 }
 
 /// Prints why a command line asks for nothing, or the help or the version that it asks for.
