@@ -1,8 +1,9 @@
--- The refusals of this profile, by the names of POSIX.1-2017, errno.h, with this profile's numbers.
+-- The errors of this profile, with the names of POSIX.1-2017, errno.h, and this profile's numbers.
 use Rattle.std.specs.Prelude.{ℕ, List, codes}
 use Rattle.sysv_model.specs.declared.errno.Errno.{Errno}
 use Rattle.sysv_model.specs.declared.errno.Errno.TheVariants.{EPERM, ENOENT, E2BIG, EAGAIN, EACCES, EEXIST, EINVAL, ENOSPC, ENOMSG, EIDRM, EOVERFLOW}
 
+-- The number of an error.
 abbrev pub number_of : Errno → ℕ
 number_of EPERM = 1
 number_of ENOENT = 2
@@ -16,6 +17,7 @@ number_of ENOMSG = 42
 number_of EIDRM = 43
 number_of EOVERFLOW = 75
 
+-- The name of an error, as character codes.
 abbrev pub name_of : Errno → List ℕ
 name_of EPERM = codes "EPERM"
 name_of ENOENT = codes "ENOENT"

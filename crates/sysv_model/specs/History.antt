@@ -1,6 +1,6 @@
--- The history of a slot: an entry for each turn at it, in order. An entry says who made the turn,
--- the call with its arguments and moment, and the reply. This profile's nine calls serve msgget,
--- msgsnd, msgrcv and msgctl of POSIX.1-2017.
+-- The history of a slot: one entry per turn at the slot, in order. An entry states who made the
+-- turn, the call with its arguments and time, and the reply. The nine calls are this profile's;
+-- they carry out msgget, msgsnd, msgrcv and msgctl of POSIX.1-2017.
 use Rattle.std.specs.Prelude.{ℕ, ℤ, Bool, true, false, List, [], ◌∷◌, ◌++◌, Option, count_by}
 use Rattle.sysv_model.specs.declared.errno.Errno.{Errno}
 use Rattle.sysv_model.specs.declared.cred.Cred.{Cred}
@@ -11,13 +11,14 @@ use Rattle.sysv_model.specs.declared.attributes.Row.{Row}
 use Rattle.sysv_model.specs.declared.selector.Selector.{Selector}
 use Rattle.sysv_model.specs.Message.{Message}
 
--- Who makes a turn: an actor of a world in the call that it started at that step number, or a seat
--- with that number on threads. Actors count from 1; the preset queue is made by actor 0 at start 0.
+-- Who makes a turn. Either an actor of a world, in the call that it started at the step number
+-- `start`, or a seat with this number on threads. Actors count from 1. The preset queue is created
+-- by actor 0 at start 0.
 pub data Who : Type 0 where
   Actor : (actor start : ℕ) → Who
   Seat : (number : ℕ) → Who
 
--- the calls, with what they are given
+-- The calls with their arguments.
 pub data Call : Type 0 where
   Install : (id key : ℤ) (cred : Cred) (mode now : ℕ) → Call
   Probe : (id : ℤ) (cred : Cred) (flags : Flags) → Call
@@ -29,7 +30,7 @@ pub data Call : Type 0 where
   Remove : (id : ℤ) (cred : Cred) → Call
   ReadRow : Call
 
--- the replies of all calls; which of them a call may have is for the legal reply to say
+-- The replies of all calls. The definition of the legal reply states which of them a call may have.
 pub data Reply : Type 0 where
   Installed : (made : Bool) → Reply
   Gone : Reply
@@ -47,39 +48,39 @@ pub data Reply : Type 0 where
   Refused : (why : Errno) → Reply
   Shown : (row : Option Row) → Reply
 
--- one turn
+-- One turn at a slot.
 pub record Entry : Type 0 where
   pub who : Who
   pub call : Call
   pub reply : Reply
 
+-- The turns at one slot, in order.
 abbrev pub History : Type 0
 History = List Entry
 
--- h with one more turn
+-- The history h with one more turn at its end.
 abbrev pub then_turn : History → Who → Call → Reply → History
 then_turn h who call reply = h ++ record { who = who; call = call; reply = reply } ∷ []
 
--- a turn that a waiting receive has to hear of: a message was accepted, or the queue was changed or
--- removed
+-- The turns that end the wait of a receive: a message was accepted, or the queue was set or
+-- removed.
 abbrev pub announces_arrival : Call → Reply → Bool
 announces_arrival (Place id cred mtype bytes now) (Accepted number) = true
 announces_arrival (Set id cred to now) Done = true
 announces_arrival (Remove id cred) (Discarded messages) = true
 announces_arrival call reply = false
 
--- a turn that a waiting send has to hear of: a message was taken, or the queue was changed or
--- removed
+-- The turns that end the wait of a send: a message was taken, or the queue was set or removed.
 abbrev pub announces_room : Call → Reply → Bool
 announces_room (Take id cred selector size noerror now) (Taken message) = true
 announces_room (Set id cred to now) Done = true
 announces_room (Remove id cred) (Discarded messages) = true
 announces_room call reply = false
 
--- the arrived count and the freed count: how many such turns there were, over all the queues that
--- the slot has held
+-- The arrived count: the number of turns of the first kind, over all queues that the slot has held.
 abbrev pub arrived : History → ℕ
 arrived h = count_by (λ (e : Entry). announces_arrival e.call e.reply) h
 
+-- The freed count: the number of turns of the second kind, over all queues that the slot has held.
 abbrev pub freed : History → ℕ
 freed h = count_by (λ (e : Entry). announces_room e.call e.reply) h

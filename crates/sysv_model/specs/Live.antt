@@ -1,6 +1,6 @@
--- The live queue of a history: the identifier under which it lives and its attributes, which are
--- what the last install that made one and the later granted sets, places and takes left
--- (POSIX.1-2017, msgget, msgsnd, msgrcv and msgctl, each DESCRIPTION).
+-- The live queue of a history: its identifier and its attributes. They follow from the last install
+-- that created a queue and the sets, places and takes that were granted after it (POSIX.1-2017,
+-- msgget, msgsnd, msgrcv and msgctl, each DESCRIPTION).
 use Rattle.std.specs.Prelude.{◌≡◌, ℕ, ℤ, ◌%◌, true, Option, Some, None, option_map, fold}
 use Rattle.sysv_model.specs.declared.cred.Cred.{Cred}
 use Rattle.sysv_model.specs.declared.attributes.Attributes.{Attributes}
@@ -8,12 +8,12 @@ use Rattle.sysv_model.specs.declared.attributes.SetTo.{SetTo}
 use Rattle.sysv_model.specs.declared.limits.TheConstants.{QBYTES_AT_CREATION}
 use Rattle.sysv_model.specs.History.{Call, Install, Place, Take, Set, Remove, Reply, Installed, Accepted, Taken, Done, Discarded, Entry, History}
 
--- the permission bits of a mode, which are its low nine
+-- The permission bits of a mode: its low nine bits.
 abbrev pub low_nine : ℕ → ℕ
 low_nine mode = mode % 512
 
--- a new queue: owner and creator are the caller, no one has sent or received, ctime is now, and the
--- limit is this profile's 16,384 bytes
+-- The attributes of a new queue. Owner and creator are the caller, the processes and times of the
+-- last send and receive are 0, ctime is now, and qbytes is this profile's 16,384.
 abbrev pub created : ℤ → ℤ → Cred → ℕ → ℕ → Attributes
 created id key cred mode now = record {
   id = id;
@@ -27,13 +27,15 @@ created id key cred mode now = record {
   ctime = now;
 }
 
--- the queue after a send by this process, after a receive by this process, and after a set
+-- The attributes after a send by this process.
 abbrev pub sent_to : Cred → ℕ → Attributes → Attributes
 sent_to cred now a = record a { lspid = cred.pid; stime = now }
 
+-- The attributes after a receive by this process.
 abbrev pub received_from : Cred → ℕ → Attributes → Attributes
 received_from cred now a = record a { lrpid = cred.pid; rtime = now }
 
+-- The attributes after an IPC_SET: owner, mode, qbytes and ctime change; the creator does not.
 abbrev pub changed_to : SetTo → ℕ → Attributes → Attributes
 changed_to to now a = record a {
   perm = record { uid = to.uid; gid = to.gid; cuid = a.perm.cuid; cgid = a.perm.cgid; mode = low_nine to.mode };
@@ -41,7 +43,7 @@ changed_to to now a = record a {
   ctime = now;
 }
 
--- the live queue after one more turn
+-- The live queue after one more turn. Only the turns listed here change it.
 abbrev pub live_after : Option Attributes → Call → Reply → Option Attributes
 live_after live (Install id key cred mode now) (Installed true) = Some (created id key cred mode now)
 live_after live (Place id cred mtype bytes now) (Accepted number) = option_map (sent_to cred now) live
@@ -50,14 +52,15 @@ live_after live (Set id cred to now) Done = option_map (changed_to to now) live
 live_after live (Remove id cred) (Discarded messages) = None
 live_after live call reply = live
 
--- the live queue of a history
+-- The live queue of a history, if there is one.
 abbrev pub live : History → Option Attributes
 live h = fold (λ (old : Option Attributes) (e : Entry). live_after old e.call e.reply) None h
 
--- the identifier names the live queue
+-- A queue is live, and id is its identifier.
 abbrev pub HasId : Option Attributes → ℤ → Type 0
 HasId None id = ⊥
 HasId (Some a) id = a.id ≡ id
 
+-- After the history h, a queue is live under the identifier id.
 abbrev pub IsLive : History → ℤ → Type 0
 IsLive h id = HasId (live h) id

@@ -1,45 +1,48 @@
--- The turns at the registry, which keeps the keys and the identifiers of the queues: what msgget and the
--- removal of a queue ask there, and the replies (POSIX.1-2017, msgget and msgctl; the calls are this
--- profile's).
+-- The turns at the registry, which keeps the keys and the identifiers of the queues: the calls that
+-- msgget and the removal of a queue make there, and the replies (POSIX.1-2017, msgget and msgctl;
+-- the calls are this profile's).
 use Rattle.std.specs.Prelude.{ℕ, ℤ, Bool, false, List, count_by}
 use Rattle.sysv_model.specs.declared.errno.Errno.{Errno}
 use Rattle.sysv_model.specs.declared.flags.Flags.{Flags}
 use Rattle.sysv_model.specs.History.{Who}
 
+-- The calls at the registry.
 pub data RegistryCall : Type 0 where
-  -- the identifier of a key, or a new one
+  -- looks up the identifier of the key, or assigns a new one
   Begin : (key : ℤ) (flags : Flags) → RegistryCall
   -- the queue of a new identifier was installed
   Settle : (id : ℤ) → RegistryCall
-  -- the identifier goes for good
+  -- forgets the identifier for good
   Forget : (id : ℤ) → RegistryCall
 
--- Found and Busy carry the settled count, which counts the settles and forgets that changed a row.
+-- The replies of the registry. Found and Busy have the settled count.
 pub data RegistryReply : Type 0 where
-  -- the identifier that the key is bound to
+  -- the identifier to which the key is bound
   Found : (id : ℤ) (settled : ℕ) → RegistryReply
-  -- a new identifier, whose queue is still to be installed
+  -- a new identifier, whose queue is not installed yet
   Made : (id : ℤ) → RegistryReply
-  -- another call is making the queue of that key
+  -- another call is creating the queue of the key
   Busy : (settled : ℕ) → RegistryReply
-  -- no queue has the key and none is to be made, or none can be
+  -- no identifier: the key has none and none is to be assigned, or none can be assigned
   Unbound : (why : Errno) → RegistryReply
-  -- a settle or a forget, and whether it changed a row
+  -- the result of a settle or a forget: whether it changed a row
   Changed : (done : Bool) → RegistryReply
 
--- one turn at the registry
+-- One turn at the registry.
 pub record RegistryEntry : Type 0 where
   pub who : Who
   pub call : RegistryCall
   pub reply : RegistryReply
 
+-- The turns at the registry, in order.
 abbrev pub RegistryHistory : Type 0
 RegistryHistory = List RegistryEntry
 
--- the settled count: how many settles and forgets changed a row
+-- The turns that the settled count counts: the settles and forgets that changed a row.
 abbrev pub changes_row : RegistryReply → Bool
 changes_row (Changed done) = done
 changes_row reply = false
 
+-- The settled count: the number of settles and forgets that changed a row.
 abbrev pub settled : RegistryHistory → ℕ
 settled h = count_by (λ (e : RegistryEntry). changes_row e.reply) h

@@ -1,36 +1,37 @@
--- A stream that is watched (this project's word): a reader or a writer that is borrowed, and how often it has failed
--- since.
+-- A watched stream (this project's word): a borrowed reader or writer that counts how often it has
+-- failed since it was borrowed.
 use Rattle.std.specs.Prelude.{◌≡◌, ◌≢◌, ℕ, Bool, true, false, not, ◌&&◌, ◌==◌, ◌+◌, ◌%◌, ◌^◌, List, length, Result, Ok, Err}
 use Rattle.std.specs.Borrow.{GName}
 use Rattle.std.proofs.lemmas.Bool.{and_left, ne_eqb}
 use Rattle.sysv_model.specs.declared.watched.Watched.{Watched}
 
 module _ {S : Type 0} where
-  -- the stream
+  -- The stream.
   abbrev pub stream_of : Watched S → S
   stream_of watched = watched.stream.now
 
-  -- which stream it is: two that are watched under one name are the same
+  -- The identity of the stream: two watched streams with the same name are the same stream.
   abbrev pub stream_name : Watched S → GName
   stream_name watched = watched.stream.ghost_name
 
-  -- how many reads, writes and flushes of it have failed, modulo 2 ^ 64
+  -- The number of its reads, writes and flushes that have failed, modulo 2 ^ 64.
   abbrev pub failures_of : Watched S → ℕ
   failures_of watched = watched.failures
 
--- the count after a call that failed or did not: a failure changes it
+-- The count after a call that failed (true) or did not fail (false). A failure changes the count.
 abbrev pub failures_after : Bool → ℕ → ℕ
 failures_after true failures = (failures + 1) % 2 ^ 64
 failures_after false failures = failures
 
--- a write took no byte of some
+-- A write was given some bytes and took none of them.
 abbrev pub takes_none : ℕ → List ℕ → Bool
 takes_none count bytes = (count == 0) && not (length bytes == 0)
 
--- a write failed: it answered an error, or took no byte of some
+-- A write failed: it returned an error, or it was given some bytes and took none of them.
 abbrev pub write_failed : {E : Type 0} → Result ℕ E → List ℕ → Bool
 write_failed (Ok count) bytes = takes_none count bytes
 write_failed (Err error) bytes = true
 
+-- A write that took some bytes did not take none.
 pub takes_none-some : (count : ℕ) (bytes : List ℕ) → count ≢ 0 → takes_none count bytes ≡ false
 takes_none-some count bytes took = and_left (count == 0) (not (length bytes == 0)) (ne_eqb count 0 took)

@@ -7,12 +7,13 @@ use crate::no_memory::NoMemory;
 use std::alloc::Global;
 use std::marker::Model;
 
-/// The blocks of a body, which make up its room.
+/// The number of blocks in a body.
 const BODY_BLOCKS: usize = BODY_ROOM / BLOCK_BYTES;
 
-/// The text of one message, `mtext` (POSIX.1-2017, `msgsnd`): a list of at most 8,256 bytes (this
-/// profile's), with room for all of them from the start, so that nothing but `open` takes memory. Each
-/// 64 of them lie in a block, which is memory of its own.
+/// The body of one message, `mtext` (POSIX.1-2017, `msgsnd`): a list of at most 8,256 bytes.
+///
+/// A body has space for all 8,256 bytes (a limit of this profile) from the start, so only `open`
+/// allocates. The bytes are in blocks of 64, each block in memory of its own.
 #[derive(Drop)]
 pub struct Body {
     blocks: Vec<Box<[u8; BLOCK_BYTES]>>,
@@ -32,7 +33,11 @@ impl Model for Body {
 }
 
 impl Body {
-    /// An empty body with room for 8,256 bytes. `NoMemory` where the memory for it is refused.
+    /// Creates an empty body with space for 8,256 bytes.
+    ///
+    /// # Errors
+    ///
+    /// - `NoMemory` if allocation fails.
     pub fn open(alloc: Global) -> Result<Body, NoMemory>
         ensures { IfOk result (λ body. body ≡ []) }
     {
@@ -46,22 +51,24 @@ impl Body {
         Ok(Body { blocks, len: 0 })
     }
 
-    /// Forgets every byte, and keeps the room.
+    /// Removes all bytes and keeps the space.
     pub fn clear(&mut self)
         ensures { self.new ≡ [] }
     {
         self.len = 0;
     }
 
-    /// Forgets all but the first `len` bytes. A body of `len` bytes or fewer stays as it is.
+    /// Shortens the body to its first `len` bytes. A body of at most `len` bytes is unchanged.
     pub fn truncate(&mut self, len: usize)
         ensures { self.new ≡ take len self.old }
     {
         self.len = len.min(self.len);
     }
 
-    /// Adds a piece at the end if there is room for all of it; `false`, with nothing changed, where
-    /// the bytes would be more than 8,256.
+    /// Appends `piece` if the body has space for all of it.
+    ///
+    /// Returns true if the piece was appended. Returns false, with nothing changed, if body and
+    /// piece together have more than 8,256 bytes.
     pub fn push_piece(&mut self, piece: &[u8]) -> bool
         ensures fits { length self.old + length piece.now ≤ BODY_ROOM → result ≡ true }
         ensures refused { BODY_ROOM < length self.old + length piece.now → result ≡ false }
@@ -77,7 +84,7 @@ impl Body {
         true
     }
 
-    /// Adds as much of a piece as the block at the end has room for, and gives what is left of it.
+    /// Appends as much of `piece` as the last block has space for, and returns the rest.
     fn fill_block<'a>(&mut self, piece: &'a [u8]) -> &'a [u8]
         requires some { 0 < length piece.now }
         requires room { length self.old + length piece.now ≤ BODY_ROOM }
@@ -92,7 +99,7 @@ impl Body {
         &piece[count..]
     }
 
-    /// The number of bytes, 0 to 8,256.
+    /// Returns the number of bytes, 0 to 8,256.
     pub fn len(&self) -> usize
         ensures value { result ≡ length self.now }
         ensures room { result ≤ BODY_ROOM }
@@ -100,7 +107,11 @@ impl Body {
         self.len
     }
 
-    /// The byte at `i`, counted from 0, which has to be below `len`.
+    /// Returns the byte at index `i`, counted from 0.
+    ///
+    /// # Conditions
+    ///
+    /// - `i` is below `len()`.
     pub fn byte(&self, i: usize) -> u8
         requires { i < length self.now }
         ensures { slice_get self.now i ≡ Some result }
@@ -109,8 +120,10 @@ impl Body {
         block[i % BLOCK_BYTES]
     }
 
-    /// The bytes from `64 * k` on, at most 64 of them: the blocks 0, 1, 2 and so on, one after the
-    /// other, are the text. Beyond the end a block is empty.
+    /// Returns block `k`, counted from 0: the bytes from `64 * k` on, at most 64 of them.
+    ///
+    /// A block that begins at the end of the body or later is empty. Blocks 0, 1, 2 and so on make
+    /// up the body when they are concatenated.
     pub fn block(&self, k: u32) -> &[u8]
         ensures { result.now ≡ block_of k self.now }
     {
@@ -123,8 +136,8 @@ impl Body {
     }
 }
 
-/// Writes a piece into a block, behind its first `offset` bytes: a whole block in one assignment,
-/// whose length is known.
+/// Writes `piece` into `block` after the first `offset` bytes. A piece that fills the block is
+/// copied in one assignment, whose length the compiler knows.
 fn write(block: &mut [u8; BLOCK_BYTES], offset: usize, piece: &[u8])
     requires { offset + length piece.now ≤ BLOCK_BYTES }
     ensures whole { length block.new ≡ BLOCK_BYTES }

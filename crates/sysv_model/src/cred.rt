@@ -1,11 +1,13 @@
-/// Who makes a call: the effective user and group and the process (POSIX.1-2017, 2.7 XSI
-/// Interprocess Communication). They are believed as they are given.
+/// The credentials of a caller: effective user, effective group and process (POSIX.1-2017, 2.7 XSI
+/// Interprocess Communication).
+///
+/// They are taken from the caller as they are and are not authenticated.
 #[derive(Clone, Copy, PartialEq, Eq, Debug)]
 pub struct Cred {
-    /// The effective user.
+    /// The effective user ID.
     pub uid: u32,
-    /// The effective group.
+    /// The effective group ID.
     pub gid: u32,
-    /// The process, of which `lspid` and `lrpid` of a queue speak.
+    /// The process ID, which a send or a receive stores in the queue's `lspid` or `lrpid`.
     pub pid: u32,
 }

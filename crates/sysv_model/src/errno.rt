@@ -3,36 +3,38 @@ ghost use Rattle.sysv_model.specs.Errors.{number_of, name_of};
 
 use std::fmt;
 
-/// The refusals of this profile, by the standard's names (POSIX.1-2017, `errno.h`). The standard
-/// fixes no numbers; those here are this profile's.
+/// The errors of this profile, with the names of the standard (POSIX.1-2017, `errno.h`).
+///
+/// The standard does not assign numbers to them; the numbers here are this profile's.
 #[derive(Clone, Copy, PartialEq, Eq, Debug)]
 pub enum Errno {
-    /// The caller is neither user 0 nor the owner nor the creator, or asks for a raise.
+    /// The caller is not user 0, the queue's owner or its creator, or a caller other than user 0
+    /// requested a larger `qbytes`.
     EPERM,
-    /// No queue has the key, and none is to be made.
+    /// The key has no queue, and the call does not request a new one.
     ENOENT,
-    /// The text is longer than the size given.
+    /// The message body is longer than the size that the call gives.
     E2BIG,
-    /// There is no room, and the call is not to wait.
+    /// There is no room for the message, and the call must not wait.
     EAGAIN,
-    /// The permission that the call asks is not granted.
+    /// The queue's mode does not grant the permission that the call needs.
     EACCES,
-    /// A queue has the key, and only a new one was wanted.
+    /// The key has a queue, and the call accepts only a new one.
     EEXIST,
     /// An argument or the identifier is not valid.
     EINVAL,
     /// No slot is vacant.
     ENOSPC,
-    /// No message is named, and the call is not to wait.
+    /// No queued message is named by the receive, and the call must not wait.
     ENOMSG,
-    /// The queue was removed while the call was under way.
+    /// The queue was removed during the call.
     EIDRM,
     /// A gate of the service is worn out.
     EOVERFLOW,
 }
 
 impl Errno {
-    /// The error's number in this profile, 1 to 75.
+    /// Returns the error's number in this profile, 1 to 75.
     pub fn number(self) -> u8
         ensures { result ≡ number_of self }
     {
@@ -52,7 +54,7 @@ impl Errno {
     }
 }
 
-/// The standard's name, as `EACCES`.
+/// Writes the standard's name of the error, for example `EACCES`.
 impl fmt::Display for Errno {
     ghost output = { λ e. Some (name_of e) };
 

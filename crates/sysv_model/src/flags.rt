@@ -4,40 +4,43 @@ ghost use Rattle.std.specs.Int.RustNames.{bit_and, bit_or};
 use bitflags::{Flag, bitflag_items};
 
 /// The flags of `msgget`, `msgsnd` and `msgrcv` (POSIX.1-2017, `sys/ipc.h` and `sys/msg.h`; the
-/// numbers are this profile's). All 32 bits are kept as they came; the named ones are below, and
-/// the low nine are a mode.
+/// numbers are this profile's).
+///
+/// All 32 bits are kept. The constants below name the bits that are defined; the low nine bits are
+/// a mode.
 #[derive(Clone, Copy, PartialEq, Eq, Debug)]
 pub struct Flags(u32);
 
 bitflag_items! {
     impl Flags: u32 {
-        /// Others may execute; no call asks it.
+        /// Others may execute. No call requests this permission.
         const OTHER_EXECUTE = 0o001;
         /// Others may write.
         const OTHER_WRITE = 0o002;
         /// Others may read.
         const OTHER_READ = 0o004;
-        /// The group may execute; no call asks it.
+        /// The group may execute. No call requests this permission.
         const GROUP_EXECUTE = 0o010;
         /// The group may write.
         const GROUP_WRITE = 0o020;
         /// The group may read.
         const GROUP_READ = 0o040;
-        /// The user may execute; no call asks it.
+        /// The user may execute. No call requests this permission.
         const USER_EXECUTE = 0o100;
         /// The user may write.
         const USER_WRITE = 0o200;
         /// The user may read.
         const USER_READ = 0o400;
-        /// Make a queue where none has the key.
+        /// Creates a queue if no queue has the key.
         const IPC_CREAT = 512;
-        /// Only a new queue is wanted.
+        /// With `IPC_CREAT`, fails if a queue has the key.
         const IPC_EXCL = 1024;
-        /// The call is not to wait.
+        /// Fails instead of waiting.
         const IPC_NOWAIT = 2048;
-        /// A text that is longer than the size is cut.
+        /// Cuts a message body that is longer than the size.
         const MSG_NOERROR = 4096;
-        /// Any type but the one given, which is above 0 (this profile's, as Linux has it).
+        /// Receives a message of any type but the one given, which must be above 0 (specific to
+        /// this profile, as in Linux).
         const MSG_EXCEPT = 8192;
     }
 }

@@ -1,10 +1,10 @@
-//! Laws over the definitions alone: the limits and the flags of this profile by their numerals.
+//! Laws over the definitions alone: the numerals of this profile's limits and flags.
 
 ghost use Rattle.std.specs.Prelude.{◌≡◌, ◌^◌, pos};
 ghost use Rattle.sysv_model.specs.declared.limits.TheConstants.{BLOCK_BYTES, BODY_ROOM, IPC_PRIVATE, MAX_ACTORS, MAX_BLOCKS, MAX_QBYTES, MESSAGE_BYTES, MIN_BLOCKS, QBYTES_AT_CREATION, QUEUE_MESSAGES, WORN};
 ghost use Rattle.sysv_model.specs.declared.flags.TheConstants.Flags.{OTHER_EXECUTE, OTHER_WRITE, OTHER_READ, GROUP_EXECUTE, GROUP_WRITE, GROUP_READ, USER_EXECUTE, USER_WRITE, USER_READ, IPC_CREAT, IPC_EXCL, IPC_NOWAIT, MSG_NOERROR, MSG_EXCEPT};
 
-/// The limits of this profile.
+/// States the value of each limit of this profile.
 pub fn numerals_of_limits()
     ensures private_key { IPC_PRIVATE ≡ pos 0 }
     ensures message { MESSAGE_BYTES ≡ 8192 }
@@ -19,7 +19,7 @@ pub fn numerals_of_limits()
     ensures worn { WORN ≡ 2 ^ 62 }
 {}
 
-/// The flags that calls are given, each a bit of its own.
+/// States the value of each flag that calls use. Each is a bit of its own.
 pub fn numerals_of_flags()
     ensures create { IPC_CREAT.0 ≡ 512 }
     ensures exclusive { IPC_EXCL.0 ≡ 1024 }
@@ -28,7 +28,7 @@ pub fn numerals_of_flags()
     ensures except { MSG_EXCEPT.0 ≡ 8192 }
 {}
 
-/// The bits of a mode: read, write and execute of the user, the group and the others.
+/// States the bits of a mode: read, write and execute for the user, the group and others.
 pub fn numerals_of_mode_bits()
     ensures user_read { USER_READ.0 ≡ 0o400 }
     ensures user_write { USER_WRITE.0 ≡ 0o200 }

@@ -1,7 +1,9 @@
-//! The words of System V message queues: errors, credentials, flags, message bodies, the attributes
-//! of a queue, what IPC_SET gives and IPC_STAT shows, the limits of this profile, and streams that
-//! count their failures. `specs/` has the history of a slot and what a history has accepted,
-//! delivered, discarded and still holds.
+//! The vocabulary of System V message queues: errors, credentials, flags, message bodies, the
+//! attributes of a queue, the arguments of IPC_SET and the results of IPC_STAT, the limits of this
+//! profile, and streams that count their failures.
+//!
+//! `specs/` defines the history of a slot, and which messages a history has accepted, delivered,
+//! discarded and still holds.
 #![tactic(auto)]
 
 mod attributes;

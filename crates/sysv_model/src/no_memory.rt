@@ -1,7 +1,9 @@
 use thiserror::Error;
 
-/// Memory was refused. The call that answers it says what is unchanged; what was handed in comes back or
-/// is untouched.
+/// The error of a call whose allocation failed.
+///
+/// Each call that returns it states what is unchanged. What the caller handed in is returned or
+/// untouched.
 #[derive(Clone, Copy, PartialEq, Eq, Debug, Error)]
 #[error("no memory")]
 pub struct NoMemory;

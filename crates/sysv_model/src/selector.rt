@@ -4,26 +4,31 @@ ghost use Rattle.sysv_model.specs.Selector.{selector_for};
 use crate::flags::Flags;
 use bitflags::Flags as _;
 
-/// Which messages a receive asks for (POSIX.1-2017, `msgrcv`, DESCRIPTION).
+/// The messages that a receive requests (POSIX.1-2017, `msgrcv`, DESCRIPTION).
 #[derive(Clone, Copy, PartialEq, Eq, Debug)]
 pub enum Selector {
     /// The first message.
     Any,
-    /// The first message of this type.
+    /// The first message of exactly this type.
     Exactly(i64),
-    /// The first message of any other type.
+    /// The first message of any type but this one.
     Except(i64),
-    /// The first message of the lowest type that is at most this bound, which is 1 to 2^63 where a type
-    /// argument asks for it, and may be any.
+    /// The first message of the lowest type that is at most this bound.
+    ///
+    /// The bounds that `Selector::of` returns are 1 to 2^63. Other bounds are allowed.
     UpTo(u64),
 }
 
 impl Selector {
-    /// What a receive with the type argument `mtype` asks for (POSIX.1-2017, `msgrcv`,
-    /// DESCRIPTION): any message for 0, exactly `mtype` above 0, and below 0 a type up to its
-    /// absolute value, which is 1 to 2^63. With `MSG_EXCEPT` a type above 0 asks for every type but
-    /// that one (this profile's, as Linux has it); no other flag, and no other type, changes what is
-    /// asked for.
+    /// Returns the selector of a receive with type argument `mtype` and `flags` (POSIX.1-2017,
+    /// `msgrcv`, DESCRIPTION).
+    ///
+    /// - If `mtype` is 0, the selector is `Any`.
+    /// - If `mtype` is above 0, it is `Exactly(mtype)`. With `MSG_EXCEPT` it is `Except(mtype)`
+    ///   (specific to this profile, as in Linux).
+    /// - If `mtype` is below 0, it is `UpTo` with the absolute value of `mtype`, 1 to 2^63.
+    ///
+    /// Other flags have no effect, and `MSG_EXCEPT` has none if `mtype` is 0 or below.
     pub fn of(mtype: i64, flags: Flags) -> Selector
         ensures { result ≡ selector_for mtype flags }
     {

@@ -7,13 +7,15 @@ use std::io;
 use std::io::{Read, Write};
 use thiserror::Error;
 
-/// The bytes were not all written: the writer failed, or took none of some. It took a prefix of them.
+/// The error of `Watched::write_out`: a write failed, or took none of the bytes it was given. The
+/// writer took a prefix of the bytes.
 #[derive(Clone, Copy, PartialEq, Eq, Debug, Error)]
 #[error("the bytes cannot be written")]
 pub struct WriteFault;
 
-/// A reader or a writer that is borrowed, and how many of its reads, writes and flushes have failed since. What
-/// is read and written is the stream's own: this gives and takes the same bytes, and the same errors.
+/// A borrowed reader or writer that counts its failed reads, writes and flushes.
+///
+/// Reads and writes pass the stream's own bytes and errors on unchanged.
 #[derive(Drop)]
 pub struct Watched<'a, S> {
     stream: &'a mut S,
@@ -23,7 +25,7 @@ pub struct Watched<'a, S> {
 impl<'a, S> Watched<'a, S> {
     ghost use Rattle.sysv_model.specs.Watched.{failures_of, failures_after, stream_name, stream_of};
 
-    /// Watches a stream, of which no failure is counted yet.
+    /// Borrows `stream` with a failure count of 0.
     pub fn new(stream: &'a mut S) -> Watched<'a, S>
         ensures stream { stream_of result ≡ stream.old }
         ensures same { stream_name result ≡ stream.entry.ghost_name }
@@ -35,8 +37,10 @@ impl<'a, S> Watched<'a, S> {
         }
     }
 
-    /// How many reads, writes and flushes have failed. A write that takes no byte of some has failed too. The
-    /// count goes on at 0 after the greatest number, so that each failure changes it.
+    /// Returns the number of reads, writes and flushes that have failed, modulo 2^64.
+    ///
+    /// A write that is given some bytes and takes none of them counts as failed. Each failure
+    /// changes the count: after the largest number it continues at 0.
     pub fn failures(&self) -> u64
         ensures { result ≡ failures_of self.now }
     {
@@ -118,12 +122,12 @@ impl<S: Write> Watched<'_, S> {
     ghost use Rattle.sysv_model.specs.Watched.{failures_of, failures_after, stream_name, stream_of};
     ghost use Rattle.sysv_model.specs.Writing.{AppendsPrefix};
 
-    /// Writes all the bytes, in as many writes as the writer wants.
+    /// Writes all the bytes, in any number of writes.
     ///
     /// # Errors
     ///
-    /// `WriteFault` if a write fails, or takes no byte of some. The writer has then taken a prefix of
-    /// the bytes, perhaps all of them.
+    /// - `WriteFault` if a write fails or takes none of the bytes it is given. The writer has then
+    ///   taken a prefix of `bytes`, possibly all of them.
     pub fn write_out(&mut self, bytes: &[u8]) -> Result<(), WriteFault>
         ensures ok { OnOk result (Appends (S.contents (stream_of self.old))
             (S.contents (stream_of self.new)) bytes.now) }
