@@ -9,19 +9,19 @@ ghost use Rattle.sysv_rules.specs.Permission.{IsPermitted, MayControl};
 ghost use Rattle.sysv_rules.specs.Named.{IsNamed};
 ghost use Rattle.sysv_rules.specs.Qualifies.{NoneQualifies};
 
-/// A selector names at most one place of a list.
+/// States that a selector names at most one place of a list.
 pub fn one_named()
     ensures { (sel : Selector) (types : List ℤ) (i j : ℕ) → IsNamed sel types i →
         IsNamed sel types j → i ≡ j }
 {}
 
-/// In every list a selector names a place, or no type of the list qualifies.
+/// States that a selector names a place of a list, or no type of the list qualifies.
 pub fn named_or_none()
     ensures { (sel : Selector) (types : List ℤ) → ((place : ℕ) × IsNamed sel types place)
         ⊎ NoneQualifies sel types }
 {}
 
-/// What a caller wants of a queue is permitted or not, and so is control of it.
+/// States that a caller's permission is granted or not granted, and so is control of the queue.
 pub fn granted_or_not()
     ensures may { (cred : Cred) (perm : Perm) (want : Want) → IsPermitted cred perm want
         ⊎ ¬ IsPermitted cred perm want }

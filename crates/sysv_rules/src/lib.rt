@@ -1,6 +1,5 @@
-//! The rules of System V message queues that are asked of values alone: who may read, write and
-//! control a queue, and which of the waiting messages a receive names. `specs/` has both as
-//! definitions.
+//! The rules of System V message queues that depend on values alone: which callers may read, write
+//! and control a queue, and which of the queued messages a receive names. `specs/` defines both.
 #![tactic(auto)]
 
 mod laws;

@@ -3,20 +3,26 @@ ghost use Rattle.sysv_rules.specs.Permission.{IsPermitted, MayControl};
 
 use sysv_model::{Cred, Perm};
 
-/// What a call wants to do with a queue.
+/// The access that a call needs to a queue.
 #[derive(Clone, Copy, PartialEq, Eq, Debug)]
 pub enum Want {
-    /// To receive from it or to see its state.
+    /// To receive a message or to read the queue's attributes.
     Read,
-    /// To send to it.
+    /// To send a message.
     Write,
 }
 
-/// Whether the caller may do what it wants with a queue of these attributes (POSIX.1-2017, 2.7.1
-/// IPC General Description). User 0 always may. For the owner's and the creator's user the bit of
-/// 0600 decides, else for the owner's and the creator's group the bit of 0060, else the bit of 0006;
-/// in each the greater bit is read and the lesser is write. All other bits of the mode, of which any
-/// are allowed, are ignored.
+/// Returns whether the caller has the wanted access to a queue with these attributes (POSIX.1-2017,
+/// 2.7.1 IPC General Description).
+///
+/// User 0 always has it. For other callers, one class of the mode's bits decides alone:
+///
+/// - 0600 if the caller's user is the owner's or the creator's;
+/// - otherwise 0060 if its group is the owner's or the creator's;
+/// - otherwise 0006.
+///
+/// The higher bit of a class is read, the lower is write. The mode may have other bits; they are
+/// ignored.
 pub fn may(cred: Cred, perm: Perm, want: Want) -> bool
     ensures { IsTrue result ↔ IsPermitted cred perm want }
 {
@@ -36,8 +42,10 @@ pub fn may(cred: Cred, perm: Perm, want: Want) -> bool
     }
 }
 
-/// Whether the caller may change or remove a queue of these attributes (POSIX.1-2017, `msgctl`,
-/// DESCRIPTION, IPC_SET and IPC_RMID): user 0, the owner's and the creator's user, and no one else.
+/// Returns whether the caller may change or remove a queue with these attributes (POSIX.1-2017,
+/// `msgctl`, DESCRIPTION, IPC_SET and IPC_RMID).
+///
+/// Only user 0, the owner's user and the creator's user may. The mode does not matter.
 pub fn may_control(cred: Cred, perm: Perm) -> bool
     ensures { IsTrue result ↔ MayControl cred perm }
 {

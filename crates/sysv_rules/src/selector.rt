@@ -4,9 +4,10 @@ ghost use Rattle.sysv_rules.specs.Named.{IsNamed, IsFirst, IsLeast};
 
 use sysv_model::Selector;
 
-/// Whether a message of type `mtype`, which may be any, is one that `sel` asks for (POSIX.1-2017,
-/// `msgrcv`, DESCRIPTION). Types and bounds are compared as whole numbers, so a bound admits every
-/// type that is not above 0.
+/// Returns whether `sel` requests messages of type `mtype` (POSIX.1-2017, `msgrcv`, DESCRIPTION).
+///
+/// `mtype` may be any number. Types and bounds are compared as whole numbers, so a bound includes
+/// every type of 0 or below.
 pub fn qualifies(sel: Selector, mtype: i64) -> bool
     ensures { IsTrue result ↔ Qualifies sel mtype }
 {
@@ -18,10 +19,12 @@ pub fn qualifies(sel: Selector, mtype: i64) -> bool
     }
 }
 
-/// The place, from 0, of the message that `sel` names among waiting messages of these types, which
-/// stand in the order of acceptance (POSIX.1-2017, `msgrcv`, DESCRIPTION): the first that qualifies,
-/// and for a bound the first of the lowest type. `None` where no type qualifies. The types may be
-/// any, and the list may be empty.
+/// Returns the index of the message that `sel` names among queued messages of these types, which
+/// are in the order of acceptance (POSIX.1-2017, `msgrcv`, DESCRIPTION).
+///
+/// This is the first type that qualifies; with a bound, the first of the lowest type, if it
+/// qualifies. Returns `None` if no type qualifies. The types may be any numbers, and the list may
+/// be empty.
 pub fn select_plain(sel: Selector, types: &[i64]) -> Option<usize>
     ensures named { (place : ℕ) → (result ≡ Some place) ↔ IsNamed sel types.now place }
     ensures none { IsNone result ↔ NoneQualifies sel types.now }
@@ -32,7 +35,7 @@ pub fn select_plain(sel: Selector, types: &[i64]) -> Option<usize>
     }
 }
 
-/// The first place that qualifies.
+/// Returns the first index whose type qualifies.
 fn first(sel: Selector, types: &[i64]) -> Option<usize>
     ensures { MatchOption result (NoneQualifies sel types.now) (IsFirst sel types.now) }
 {
@@ -44,7 +47,7 @@ fn first(sel: Selector, types: &[i64]) -> Option<usize>
     None
 }
 
-/// The first place of the lowest type.
+/// Returns the first index of the lowest type.
 fn least(types: &[i64]) -> Option<usize>
     ensures { MatchOption result (types.now ≡ []) (IsLeast types.now) }
 {
