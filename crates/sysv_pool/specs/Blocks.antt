@@ -1,8 +1,9 @@
--- The contents of linked blocks, from the first one on (this profile's).
+-- The contents of linked blocks (this profile's).
 use Rattle.std.specs.Prelude.{ℕ, List, [], Option, None, Some}
 use Rattle.std.specs.declared.alloc.Global.{Global}
 use Rattle.std.specs.declared.boxed.Box.{Box}
 
+-- The contents of each block, from the first one on.
 abbrev pub contents_of : Option (Box (List (List ℕ)) Global) → List (List ℕ)
 contents_of None = []
 contents_of (Some block) = block.value

@@ -1,22 +1,24 @@
--- A pool stands for a history when each reply of the history is legal and the pool is seen as what
--- the history leaves. A call makes a turn when its reply is the legal one, and the pool then stands
--- for each history that it stood for with that turn, whoever made it (this profile's).
+-- How a pool relates to a history, and what a call does to it (this profile's).
 use Rattle.std.specs.Prelude.{◌≡◌, [], ◌∷◌, ◌++◌}
 use Rattle.sysv_model.specs.History.{Who}
 use Rattle.sysv_model.specs.Pool.{PoolCall, PoolReply, PoolHistory}
 use Rattle.sysv_pool.specs.State.{State, state_of}
 use Rattle.sysv_pool.specs.LegalReply.{IsLegalHistory, Legal}
 
+-- A pool stands for a history if each reply of the history is legal and the pool's state is what
+-- the history leaves.
 pub record StandsFor (h : PoolHistory) (pool : State) : Type 0 where
   pub legal : IsLegalHistory pool.size h
   pub seen : state_of pool.size h ≡ pool
 
--- h with one more turn
+-- The history h with one more turn at its end.
 abbrev pub then_turn : PoolHistory → Who → PoolCall → PoolReply → PoolHistory
 then_turn h who call reply = h ++ record { who = who; call = call; reply = reply } ∷ []
 
+-- The call makes a turn that takes the pool from the old state to the new one.
 pub record MakesTurn (old : State) (call : PoolCall) (reply : PoolReply) (new : State) : Type 0 where
-  -- the reply is the legal one at the pool as it was seen, so after each history that it stood for
+  -- the reply is legal at the old state, and therefore after each history that the pool stood for
   pub legal : Legal old call reply
-  -- and the pool now stands for each of them with this turn
+  -- after the call the pool stands for each of those histories with this turn added, whoever made
+  -- the turn
   pub stands : (h : PoolHistory) (who : Who) → StandsFor h old → StandsFor (then_turn h who call reply) new

@@ -9,15 +9,15 @@ use std::marker::Model;
 use std::mem;
 use sysv_model::{BLOCK_BYTES, Body, NoMemory};
 
-/// A block of 64 bytes, and those linked after it. Its drop goes down from block to block, so no
-/// more than one is ever dropped at a time: see `free_all`.
+/// A block of 64 bytes and the blocks linked after it. Blocks are freed one at a time by
+/// `free_all`, so dropping a block never drops another one.
 #[derive(Drop)]
 pub(crate) struct Block {
     bytes: [u8; BLOCK_BYTES],
     next: Link,
 }
 
-/// Linked blocks, or none.
+/// A list of linked blocks, or none.
 pub(crate) type Link = Option<Box<Block>>;
 
 impl Model for Block {
@@ -42,7 +42,11 @@ impl Model for Block {
     ghost size_decreases = { λ a h. Prim.grind (arith, length-append) };
 }
 
-/// That many new blocks of zeros. `NoMemory` where memory is refused.
+/// Creates a list of `blocks` blocks of zeros.
+///
+/// # Errors
+///
+/// - `NoMemory` if allocation fails. No block is left allocated.
 pub(crate) fn linked(alloc: Global, blocks: u32) -> Result<Link, NoMemory>
     ensures { IfOk result (λ link. length (contents_of link) ≡ blocks) }
 {
@@ -64,14 +68,15 @@ pub(crate) fn linked(alloc: Global, blocks: u32) -> Result<Link, NoMemory>
     Ok(link)
 }
 
-/// Frees linked blocks, one at a time.
+/// Frees linked blocks one at a time, without recursion.
 pub(crate) fn free_all(mut link: Link) {
     while let Some(mut block) = link {
         link = block.next.take();
     }
 }
 
-/// Keeps the first so many blocks, at most 128, and gives those after them.
+/// Keeps the first `blocks` blocks in `link` and returns the rest. It recurses once per kept block;
+/// callers keep at most 128.
 pub(crate) fn cut(link: &mut Link, blocks: u32) -> Link
     requires { blocks ≤ length (contents_of link.old) }
     ensures kept { length (contents_of link.new) ≡ blocks }
@@ -84,7 +89,7 @@ pub(crate) fn cut(link: &mut Link, blocks: u32) -> Link
     cut(&mut block.next, blocks - 1)
 }
 
-/// Moves all blocks, one by one, in front of another list.
+/// Moves all blocks of `from`, one at a time, to the front of `onto`.
 pub(crate) fn shift_all(from: Link, onto: Link) -> Link
     ensures { length (contents_of result) ≡ length (contents_of from) + length (contents_of onto) }
 {
@@ -97,7 +102,8 @@ pub(crate) fn shift_all(from: Link, onto: Link) -> Link
     front
 }
 
-/// Writes a piece at the start of the first block: a whole block in one assignment, whose length is known.
+/// Writes `piece` at the start of the first block. A piece of a whole block is copied in one
+/// assignment, whose length the compiler knows.
 fn write(block: &mut Block, piece: &[u8])
     requires { length piece.now ≤ block_bytes }
     ensures blocks { length block.new ≡ length block.old }
@@ -110,7 +116,8 @@ fn write(block: &mut Block, piece: &[u8])
     }
 }
 
-/// Puts the text, from its block `k` on, into the blocks, and goes down them: at most 129.
+/// Writes the body, from its block `k` on, into the linked blocks. It recurses once per block, at
+/// most 129 deep.
 pub(crate) fn fill_from(link: &mut Link, k: u32, body: &Body)
     requires all { k + length (contents_of link.old) ≡ blocks_for (length body.now) }
     requires room { length body.now ≤ body_room }
@@ -124,7 +131,7 @@ pub(crate) fn fill_from(link: &mut Link, k: u32, body: &Body)
     }
 }
 
-/// Adds the first `n` bytes of the blocks to the text.
+/// Appends the first `n` bytes of the blocks to `out`.
 pub(crate) fn copy_front(link: &Link, n: usize, out: &mut Body)
     requires there { n ≤ length (concat (contents_of link.now)) }
     requires room { length out.old + n ≤ body_room }

@@ -7,8 +7,10 @@ use crate::blocks::{Link, copy_front, fill_from, free_all, shift_all};
 use std::marker::Model;
 use sysv_model::Body;
 
-/// Blocks of a pool, linked one to the next, and the text that lies in them. A chain can be neither dropped
-/// nor copied: it is given back by `Pool::release`, joined to another, or ended.
+/// Linked blocks of a pool, and the message body in them.
+///
+/// A chain can be neither dropped nor copied. Release it with `Pool::release`, join it to another
+/// chain, or end it.
 pub struct Chain {
     pub(crate) link: Link,
     pub(crate) count: u32,
@@ -26,12 +28,12 @@ impl Model for Chain {
     ghost view = { λ c.
         record { blocks = length (contents_of c.link); bytes = take c.len (concat (contents_of c.link)) } };
 
-    // The count stays at the greatest u32 if there are more.
+    // The count is the largest u32 if there are more blocks.
     ghost invariant = { λ c. c.count ≡ counted (length (contents_of c.link)) };
 }
 
 impl Chain {
-    /// A chain of no blocks.
+    /// Returns a chain without blocks.
     pub fn empty() -> Chain
         ensures { result ≡ record { blocks = 0; bytes = [] } }
     {
@@ -42,15 +44,19 @@ impl Chain {
         }
     }
 
-    /// The number of its blocks; the greatest `u32` if there are more.
+    /// Returns the number of blocks, or the largest `u32` if there are more.
     pub fn blocks(&self) -> u32
         ensures { result ≡ counted self.now.blocks }
     {
         self.count
     }
 
-    /// Puts the text into the blocks. The chain is to have been reserved for a text of that length.
-    /// It takes no memory.
+    /// Writes the body into the blocks. Allocates nothing.
+    ///
+    /// # Conditions
+    ///
+    /// - The chain has exactly the number of blocks for a body of this length, as `Pool::reserve`
+    ///   returns it.
     pub fn fill(&mut self, body: &Body)
         requires { self.old.blocks ≡ blocks_for (length body.now) }
         ensures { self.new ≡ record { blocks = self.old.blocks; bytes = body.now } }
@@ -60,8 +66,9 @@ impl Chain {
         self.len = len;
     }
 
-    /// One chain of the blocks of both, in which no text lies. It takes no memory, and time for each block
-    /// of `other`.
+    /// Joins two chains into one chain with the blocks of both and no body.
+    ///
+    /// It allocates nothing. It takes time in proportion to the number of blocks of `other`.
     pub fn join(self, other: Chain) -> Chain
         ensures { result ≡ record { blocks = self.blocks + other.blocks; bytes = [] } }
     {
@@ -82,8 +89,13 @@ impl Chain {
         }
     }
 
-    /// Adds the first `n` bytes of the text to `out`. There are to be that many, and `out` is to have
-    /// room for them. The chain stays as it is, and no memory is taken.
+    /// Appends the first `n` bytes of the body to `out`. Allocates nothing, and leaves the chain
+    /// unchanged.
+    ///
+    /// # Conditions
+    ///
+    /// - `n` is at most the length of the body in the chain.
+    /// - `out` has space for `n` more bytes.
     pub fn copy_out(&self, n: usize, out: &mut Body)
         requires there { n ≤ length self.now.bytes }
         requires room { length out.old + n ≤ body_room }
@@ -92,7 +104,8 @@ impl Chain {
         copy_front(&self.link, n, out);
     }
 
-    /// Frees the blocks, and answers `blocks`. They are then in no pool any more.
+    /// Frees the blocks and returns their number, as `blocks` does. The blocks do not return to a
+    /// pool.
     pub fn end(self) -> u32
         ensures { result ≡ counted self.blocks }
     {

@@ -6,20 +6,21 @@ ghost use Rattle.sysv_pool.specs.LegalReply.{IsLegalReply, IsLegalHistory};
 ghost use Rattle.sysv_pool.specs.OneReply.{SomeReplyIsLegal, NoTwoRepliesAreLegal};
 ghost use Rattle.sysv_pool.specs.PoolLaw.{PoolLaw};
 
-/// After each history each call has one legal reply, and no two.
+/// States that after each history each call has exactly one legal reply.
 pub fn one_legal_reply()
     ensures some { SomeReplyIsLegal }
     ensures one { NoTwoRepliesAreLegal }
 {}
 
-/// No entry is a legal history, and a legal history with one more legal reply is one.
+/// States that the empty history is legal, and that a legal history is still legal with one more
+/// legal reply.
 pub fn legal_history()
     ensures empty { (size : ℕ) → IsLegalHistory size [] }
     ensures more { (size : ℕ) (h : PoolHistory) (e : PoolEntry) → IsLegalHistory size h →
         IsLegalReply size h e.call e.reply → IsLegalHistory size (h ++ e ∷ []) }
 {}
 
-/// Each history of legal replies obeys the pool law.
+/// States that each legal history obeys the pool law.
 pub fn pool_law()
     ensures { (size : ℕ) (h : PoolHistory) → IsLegalHistory size h → PoolLaw size h }
 {}

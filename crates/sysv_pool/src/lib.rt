@@ -1,5 +1,6 @@
-//! The pool of blocks in which message texts lie, and the chains of blocks that it gives. `specs/` has
-//! the legal reply to each call of the pool and the law that every history of legal replies obeys.
+//! The pool of blocks that hold message bodies, and the chains of blocks that it hands out.
+//! `specs/` defines the legal reply to each call of the pool, and the law that every legal history
+//! obeys.
 #![tactic(auto)]
 
 mod blocks;

@@ -12,10 +12,10 @@ use std::mem;
 use sysv_model::{BLOCK_BYTES, MAX_BLOCKS, MIN_BLOCKS};
 use thiserror::Error;
 
-/// Why a pool is not opened.
+/// Why a pool was not opened.
 #[derive(Clone, Copy, PartialEq, Eq, Debug, Error)]
 pub enum PoolRefused {
-    /// Memory was refused.
+    /// Allocation failed.
     #[error("no memory")]
     NoMemory,
     /// The number of blocks is not 128 to 65,536.
@@ -23,8 +23,10 @@ pub enum PoolRefused {
     BadSize,
 }
 
-/// The blocks in which the texts of messages lie (this profile's): some are free, the others in the
-/// chains that were reserved. A pool can't be dropped: it ends by `end`.
+/// The blocks that hold message bodies (specific to this profile). Each block is free or in a chain
+/// that was reserved.
+///
+/// A pool cannot be dropped; end it with `end`.
 pub struct Pool {
     link: Link,
     count: u32,
@@ -47,8 +49,12 @@ impl Model for Pool {
 }
 
 impl Pool {
-    /// A pool of 128 to 65,536 blocks, all of them free. `BadSize` for another number, `NoMemory` where
-    /// memory is refused.
+    /// Creates a pool of 128 to 65,536 blocks, all of them free.
+    ///
+    /// # Errors
+    ///
+    /// - `BadSize` if `blocks` is not in this range.
+    /// - `NoMemory` if allocation fails.
     pub fn open(alloc: Global, blocks: u32) -> Result<Pool, PoolRefused>
         ensures opened { IfOk result (λ pool. (pool.size ≡ blocks) × StandsFor [] pool) }
         ensures bad_size { (result ≡ Err PoolRefused.BadSize)
@@ -66,8 +72,14 @@ impl Pool {
         })
     }
 
-    /// A chain of as many blocks as a text of `size` bytes takes, with no text in it; `size` is at most 8,192.
-    /// `None`, with the pool as it was, where fewer blocks are free. It takes no memory.
+    /// Reserves a chain for a body of `size` bytes: `size` / 64 blocks, rounded up, with no body in
+    /// them.
+    ///
+    /// Returns `None`, with the pool unchanged, if fewer blocks are free. Allocates nothing.
+    ///
+    /// # Conditions
+    ///
+    /// - `size` is at most 8,192.
     pub fn reserve(&mut self, size: usize) -> Option<Chain>
         requires { size ≤ most_bytes }
         ensures turn { MakesTurn self.old (Reserve size) (reserve_reply result) self.new }
@@ -90,10 +102,19 @@ impl Pool {
         })
     }
 
-    /// Makes the blocks of the chain free, and adds one to the released count, which is to be below 2^63; a
-    /// chain of no blocks counts too. The chain comes back, and the pool stays as it was, where more
-    /// blocks than the pool has would be free: it is of another pool. It takes no memory, and time for
-    /// each block of the chain.
+    /// Makes the blocks of the chain free and adds 1 to the released count. A chain without blocks
+    /// is counted too.
+    ///
+    /// It allocates nothing. It takes time in proportion to the number of blocks in the chain.
+    ///
+    /// # Errors
+    ///
+    /// - The chain, with the pool unchanged, if more blocks than the pool has would then be free.
+    ///   Such a chain belongs to another pool.
+    ///
+    /// # Conditions
+    ///
+    /// - The released count is below 2^63.
     pub fn release(&mut self, chain: Chain) -> Result<(), Chain>
         requires { self.old.released < 2 ^ 63 }
         ensures turn { MakesTurn self.old (Release chain.blocks) (release_reply result) self.new }
@@ -114,21 +135,22 @@ impl Pool {
         Ok(())
     }
 
-    /// How many blocks are free.
+    /// Returns the number of free blocks.
     pub fn free(&self) -> u32
         ensures { result ≡ self.now.free }
     {
         self.count
     }
 
-    /// How many chains came back, those of no blocks too.
+    /// Returns the released count: the number of chains that were released, including chains
+    /// without blocks.
     pub fn released(&self) -> u64
         ensures { result ≡ self.now.released }
     {
         self.released
     }
 
-    /// Frees the memory of the free blocks. The chains that are out keep theirs.
+    /// Frees the memory of the free blocks. Chains that are still reserved keep their blocks.
     pub fn end(self) {
         let Pool {
             link,
