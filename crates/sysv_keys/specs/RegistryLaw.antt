@@ -1,7 +1,7 @@
--- The law that every history of legal replies obeys (this profile's words for what POSIX.1-2017, msgget
--- and 2.7.1 IPC General Description, say of keys and identifiers): no identifier is made twice, a key
--- that is not private has one queue at most, a new queue takes the least vacant slot, and an identifier
--- that was forgotten never comes back.
+-- The law that every legal history obeys (this profile's words for what POSIX.1-2017, msgget and
+-- 2.7.1 IPC General Description, say of keys and identifiers). No identifier is made twice, a key
+-- that is not private has at most one queue, a new queue takes the least vacant slot, and a
+-- forgotten identifier is never used again.
 use Rattle.std.specs.Prelude.{◌≡◌, ◌≢◌, ℕ, ℤ, ◌+◌, ◌<◌, ◌≤◌, ◌⊎◌, Bool, true, false, ◌∷◌, ◌++◌, pos, count_by}
 use Rattle.sysv_model.specs.declared.limits.TheConstants.{IPC_PRIVATE}
 use Rattle.sysv_model.specs.Registry.{RegistryCall, RegistryReply, RegistryEntry, RegistryHistory, Settle, Forget, Found, Made, Changed, settled}
@@ -11,23 +11,25 @@ use Rattle.sysv_keys.specs.Identifier.{id_of, slot_of_id}
 use Rattle.sysv_keys.specs.Rows.{is_made, settles, forgets, IsRow, IsVacant, IsLeastVacant, generation}
 use Rattle.sysv_keys.specs.LegalReply.{IsLegalHistory}
 
--- a settle that changed a row, and a forget that did
+-- A settle that changed a row.
 abbrev pub is_settle : RegistryCall → RegistryReply → Bool
 is_settle (Settle id) (Changed true) = true
 is_settle call reply = false
 
+-- A forget that changed a row.
 abbrev pub is_forget : RegistryCall → RegistryReply → Bool
 is_forget (Forget id) (Changed true) = true
 is_forget call reply = false
 
--- an identifier of the slot that it tells, in a generation up to the last; the greatest is 2,147,483,647
+-- The identifier is at least 0 and at most 2,147,483,647.
 pub record IsIdentifier (id : ℤ) : Type 0 where
   pub number : ℕ
   pub whole : id ≡ pos number
   pub most : number ≤ 2147483647
 
+-- The registry law, if all slots had the generation `opening` when the registry was opened.
 pub record RegistryLaw (opening : ℕ) (h : RegistryHistory) : Type 0 where
-  -- every reply is the legal one after the entries before it
+  -- every reply is legal after the entries before it
   pub legal : IsLegalHistory opening h
   -- an identifier that was made is at least 0 and at most 2,147,483,647
   pub whole : (id key : ℤ) → is_made id key h ≡ true → IsIdentifier id
@@ -36,16 +38,16 @@ pub record RegistryLaw (opening : ℕ) (h : RegistryHistory) : Type 0 where
       IsLeastVacant opening before (slot_of_id id) × (id ≡ id_of (slot_of_id id) (generation opening (slot_of_id id) before))
   -- no identifier is made twice
   pub once : (before middle after : RegistryHistory) (e f : RegistryEntry) (id : ℤ) → h ≡ before ++ e ∷ (middle ++ f ∷ after) → e.reply ≡ Made id → f.reply ≢ Made id
-  -- a slot holds at most one row, and a key that is not private has at most one
+  -- a slot has at most one row, and so has a key that is not private
   pub one_in_slot : (row twin : KeyRow) → IsRow h row → IsRow h twin → slot_of_id row.id ≡ slot_of_id twin.id → row ≡ twin
   pub one_of_key : (row twin : KeyRow) → IsRow h row → IsRow h twin → row.key ≢ IPC_PRIVATE → row.key ≡ twin.key → row ≡ twin
   -- a slot whose generation is past the last is never vacant again
   pub retired : (before after : RegistryHistory) (slot : ℕ) → h ≡ before ++ after → GENERATION_LAST < generation opening slot before → ¬ IsVacant opening h slot
-  -- the settled count is the number of settles and forgets that answered true
+  -- the settled count is the number of settles and forgets that returned true
   pub counted : settled h ≡ count_by (λ (e : RegistryEntry). is_settle e.call e.reply) h + count_by (λ (e : RegistryEntry). is_forget e.call e.reply) h
-  -- a settle or a forget that answered true was of an identifier made before
+  -- an identifier that was settled or forgotten with the result true was made before
   pub known : (before after : RegistryHistory) (e : RegistryEntry) (id : ℤ) → h ≡ before ++ e ∷ after →
       (settles id e.call e.reply ≡ true) ⊎ (forgets id e.call e.reply ≡ true) → (key : ℤ) × (is_made id key before ≡ true)
-  -- after an identifier was forgotten, it is not made, found, settled or forgotten again
+  -- an identifier that was forgotten is not made, found, settled or forgotten again
   pub gone : (before middle after : RegistryHistory) (e f : RegistryEntry) (id : ℤ) → h ≡ before ++ e ∷ (middle ++ f ∷ after) → forgets id e.call e.reply ≡ true →
       (f.reply ≢ Made id) × ((told : ℕ) → f.reply ≢ Found id told) × (settles id f.call f.reply ≡ false) × (forgets id f.call f.reply ≡ false)

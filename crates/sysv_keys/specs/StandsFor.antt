@@ -1,7 +1,5 @@
--- What a registry is seen as, and when it stands for a history: each reply of the history is legal,
--- and the registry is seen as what the history leaves. A call makes a turn when its reply is the legal
--- one, and the registry then stands for each history that it stood for with that turn, whoever made it
--- (this profile's).
+-- What the contracts see of a registry, how a registry relates to a history, and what a call does
+-- to it (this profile's).
 use Rattle.std.specs.Prelude.{◌≡◌, ◌↔◌, ℕ, List, ◌∷◌, [], ◌++◌, Some, length, slice_get}
 use Rattle.sysv_model.specs.History.{Who}
 use Rattle.sysv_model.specs.Registry.{RegistryCall, RegistryReply, RegistryHistory, settled}
@@ -12,29 +10,33 @@ use Rattle.sysv_keys.specs.Identifier.{slot_of_id}
 use Rattle.sysv_keys.specs.Rows.{IsRow, generation}
 use Rattle.sysv_keys.specs.LegalReply.{IsLegalReply, IsLegalHistory}
 
--- for each slot its generation and its row, and the settled count
+-- What the contracts see: the generation and the row of each slot, and the settled count.
 pub record Registry : Type 0 where
   pub places : List Place
   pub settled : ℕ
 
--- a slot has its generation, and the row that lies in it
+-- The place of a slot is what the history leaves: it has the slot's generation, and its row if
+-- there is one.
 pub record IsPlaceOf (opening : ℕ) (h : RegistryHistory) (slot : ℕ) (place : Place) : Type 0 where
   pub aged : place.generation ≡ generation opening slot h
   pub rowed : (row : KeyRow) → (place.row ≡ Some row) ↔ (IsRow h row × (slot_of_id row.id ≡ slot))
 
--- where all slots had the generation `opening` when the registry was opened
+-- A registry stands for a history if each reply of the history is legal and the registry is what
+-- the history leaves. All slots had the generation `opening` when the registry was opened.
 pub record StandsFor (opening : ℕ) (h : RegistryHistory) (r : Registry) : Type 0 where
   pub legal : IsLegalHistory opening h
   pub wide : length r.places ≡ SLOTS
   pub places : (slot : ℕ) (place : Place) → slice_get r.places slot ≡ Some place → IsPlaceOf opening h slot place
   pub counted : r.settled ≡ settled h
 
--- h with one more turn
+-- The history h with one more turn at its end.
 abbrev pub then_turn : RegistryHistory → Who → RegistryCall → RegistryReply → RegistryHistory
 then_turn h who call reply = h ++ record { who = who; call = call; reply = reply } ∷ []
 
+-- The call makes a turn that takes the registry from the old state to the new one.
 pub record MakesTurn (old : Registry) (call : RegistryCall) (reply : RegistryReply) (new : Registry) : Type 0 where
-  -- the reply is the legal one after each history that the registry stood for
+  -- the reply is legal after each history that the registry stood for
   pub legal : (opening : ℕ) (h : RegistryHistory) → StandsFor opening h old → IsLegalReply opening h call reply
-  -- and the registry now stands for each of them with this turn
+  -- after the call the registry stands for each of those histories with this turn added, whoever
+  -- made the turn
   pub stands : (opening : ℕ) (h : RegistryHistory) (who : Who) → StandsFor opening h old → StandsFor opening (then_turn h who call reply) new

@@ -8,21 +8,22 @@ ghost use Rattle.sysv_keys.specs.OneReply.{SomeReplyIsLegal, NoTwoRepliesAreLega
 ghost use Rattle.sysv_keys.specs.RegistryLaw.{RegistryLaw};
 ghost use Rattle.sysv_keys.specs.Unused.{UnusedSlots};
 
-/// The limits by their numerals. The identifiers of all slots in all generations are the numbers below
-/// 2^31: those that are not negative and that an `i32` holds.
+/// States the value of each limit. The identifiers of all slots in all generations are the numbers
+/// from 0 to 2^31 - 1, which are the `i32` values that are not negative.
 pub fn numerals_of_identifiers()
     ensures slots { SLOTS ≡ 256 }
     ensures last { GENERATION_LAST ≡ 8388607 }
     ensures all { SLOTS * (GENERATION_LAST + 1) ≡ 2 ^ 31 }
 {}
 
-/// After each history of legal replies each call has one legal reply, and no two.
+/// States that after each legal history each call has exactly one legal reply.
 pub fn one_legal_reply()
     ensures some { SomeReplyIsLegal }
     ensures one { NoTwoRepliesAreLegal }
 {}
 
-/// No entry is a legal history, and a legal history with one more legal reply is one.
+/// States that the empty history is legal, and that a legal history is still legal with one more
+/// legal reply.
 pub fn legal_history()
     ensures empty { (opening : ℕ) → IsLegalHistory opening [] }
     ensures more { (opening : ℕ) (h : RegistryHistory) (e : RegistryEntry) →
@@ -30,14 +31,15 @@ pub fn legal_history()
         IsLegalHistory opening (h ++ e ∷ []) }
 {}
 
-/// Each history of legal replies obeys the registry law.
+/// States that each legal history obeys the registry law.
 pub fn registry_law()
     ensures { (opening : ℕ) (h : RegistryHistory) → IsLegalHistory opening h →
         RegistryLaw opening h }
 {}
 
-/// No identifier of an unused slot was ever made, identifier 0 is made in slot 0 where that is unused,
-/// and an identifier that was just made can be settled.
+/// States what holds of slots that are unused and of new identifiers: no identifier of an unused
+/// slot was ever made, the next private key gets identifier 0 if slot 0 is unused, and an
+/// identifier that was just made can be settled.
 pub fn unused_slots()
     ensures { UnusedSlots }
 {}

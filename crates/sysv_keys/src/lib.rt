@@ -1,7 +1,8 @@
-//! Keys and identifiers: the registry in which each key has its identifier, and from which each new
-//! queue gets one that was never given before. `specs/` has the rows and the generations that a
-//! history leaves, the legal reply to each call, and the law that every history of legal replies
-//! obeys.
+//! Keys and identifiers: the registry, which binds each key to its identifier and assigns each new
+//! queue an identifier that was never used before.
+//!
+//! `specs/` defines the rows and the generations that a history leaves, the legal reply to each
+//! call, and the law that every legal history obeys.
 #![tactic(auto)]
 
 mod identifier;

@@ -1,4 +1,4 @@
-//! The registry: a place for each slot, and an index from keys to slots.
+//! The registry: one place for each slot, and an index from keys to slots.
 
 ghost use Rattle.std.specs.Prelude.{◌≡◌, ◌≢◌, ℕ, ℤ, ◌+◌, ◌<◌, ◌≤◌, ◌↔◌, false, [], IsTrue, IsSome, None, Some, MatchOption, IfErr, IfOk, OnOk, MatchResult, length, slice_get};
 ghost use Rattle.std.specs.Ordering.{int_eq};
@@ -19,27 +19,29 @@ use std::marker::Model;
 use sysv_model::{Errno, Flags, IPC_PRIVATE};
 use thiserror::Error;
 
-/// What `begin` finds or makes.
+/// What `Registry::begin` found or made.
 #[derive(Clone, Copy, PartialEq, Eq, Debug)]
 pub enum Begun {
-    /// The queue that the key is bound to; the settled count was so when it was found.
+    /// The identifier to which the key is bound, and the settled count at that time.
     Found { id: i32, settled: u64 },
-    /// A new identifier, whose queue is still to be installed.
+    /// A new identifier, whose queue is not installed yet.
     Made { id: i32 },
-    /// Another call is making the queue of the key; before the settled count is above this one it is
-    /// neither settled nor forgotten.
+    /// Another call is creating the queue of the key.
+    ///
+    /// Its row is neither settled nor forgotten before the settled count is above `settled`. Wait
+    /// for that, and call `begin` again.
     Busy { settled: u64 },
-    /// `ENOENT`: the key has no queue and none is to be made. `ENOSPC`: no slot is vacant.
+    /// `ENOENT` if the key has no row and none is to be made; `ENOSPC` if no slot is vacant.
     Refused(Errno),
 }
 
-/// Why a registry is not opened.
+/// Why a registry was not opened.
 #[derive(Clone, Copy, PartialEq, Eq, Debug, Error)]
 pub enum RegistryRefused {
-    /// Memory was refused.
+    /// Allocation failed.
     #[error("no memory")]
     NoMemory,
-    /// The generation is above the last one.
+    /// The generation is above the last one, `GENERATION_LAST`.
     #[error("the generation is above the last one")]
     BadStart,
 }
@@ -59,11 +61,12 @@ impl From<AllocError> for RegistryRefused {
 struct KeyRow {
     id: i32,
     key: i32,
-    /// Whether its queue was installed. Until then the row is Making, after it Live.
+    /// Whether the queue was installed. The row is Making before that and Live afterwards.
     live: bool,
 }
 
-/// A slot, with the generation of the next identifier that is made in it.
+/// The state of a slot: the generation of the next identifier to be made in it, or of the row's
+/// identifier if there is a row.
 #[derive(Clone, Copy, PartialEq, Eq, Debug)]
 struct Place {
     generation: u32,
@@ -71,6 +74,7 @@ struct Place {
 }
 
 impl Place {
+    /// Returns whether an identifier can be made in the slot.
     fn is_open(&self) -> bool
         ensures { IsTrue result ↔ IsOpen self.now }
     {
@@ -78,8 +82,9 @@ impl Place {
     }
 }
 
-/// The rows of the keys, and the generation of each slot. A contract sees for each slot its generation
-/// and its row, and the settled count.
+/// The rows of the keys, and the generation of each slot.
+///
+/// Contracts see the generation and the row of each slot, and the settled count.
 #[derive(Drop)]
 pub struct Registry {
     places: Vec<Place>,
@@ -103,8 +108,13 @@ impl Model for Registry {
 }
 
 impl Registry {
-    /// A registry without rows, whose slots all have generation 0. Room for a row of each slot is made
-    /// here, and no later call takes memory.
+    /// Creates a registry without rows. All slots have generation 0.
+    ///
+    /// Only `open` and `open_at` allocate: they reserve space for one row per slot.
+    ///
+    /// # Errors
+    ///
+    /// - `NoMemory` if allocation fails.
     pub fn open(alloc: Global) -> Result<Registry, RegistryRefused>
         ensures stands { IfOk result (StandsFor 0 []) }
         ensures refused { IfErr result (λ why. why ≡ RegistryRefused.NoMemory) }
@@ -112,9 +122,14 @@ impl Registry {
         Registry::open_at(alloc, 0)
     }
 
-    /// A registry without rows, whose slots all have this generation. `BadStart` comes exactly where it
-    /// is above the last one, `GENERATION_LAST`. Room for a row of each slot is made here, and no later
-    /// call takes memory.
+    /// Creates a registry without rows. All slots have the generation `generation`.
+    ///
+    /// Only `open` and `open_at` allocate: they reserve space for one row per slot.
+    ///
+    /// # Errors
+    ///
+    /// - `BadStart` if and only if `generation` is above `GENERATION_LAST`.
+    /// - `NoMemory` if allocation fails.
     pub fn open_at(alloc: Global, generation: u32) -> Result<Registry, RegistryRefused>
         ensures stands { IfOk result (StandsFor generation []) }
         ensures bad_start { (result ≡ Err RegistryRefused.BadStart) ↔ GENERATION_LAST < generation }
@@ -135,11 +150,18 @@ impl Registry {
         })
     }
 
-    /// Finds the identifier of a key, or makes a new one (POSIX.1-2017, `msgget`). A key other than
-    /// `IPC_PRIVATE` that has a row is found, or busy while the row is Making; one without a row is
-    /// refused with `ENOENT` unless `flags` have `IPC_CREAT`. In every other case an identifier is made
-    /// in the least vacant slot, or refused with `ENOSPC` where none is vacant. The registry stays as it
-    /// was unless one is made.
+    /// Finds the identifier of `key`, or makes a new one (POSIX.1-2017, `msgget`).
+    ///
+    /// The first case that applies is the result:
+    ///
+    /// - `Found` if `key` is not `IPC_PRIVATE` and its row is Live;
+    /// - `Busy` if `key` is not `IPC_PRIVATE` and its row is Making;
+    /// - `Refused` with `ENOENT` if `key` is not `IPC_PRIVATE`, it has no row, and `flags` do not
+    ///   have `IPC_CREAT`;
+    /// - `Refused` with `ENOSPC` if no slot is vacant;
+    /// - otherwise `Made`, with the identifier of the least vacant slot.
+    ///
+    /// The registry is unchanged unless the result is `Made`.
     pub fn begin(&mut self, key: i32, flags: Flags) -> Begun
         ensures turn { MakesTurn self.old (Begin key flags) (begun_reply result) self.new }
         ensures unless_made { ChangesOnlyIfMade result self.old self.new }
@@ -168,7 +190,7 @@ impl Registry {
         }
     }
 
-    /// The row of a key.
+    /// Returns the row of a key, if it has one.
     fn row_of(&self, key: i32) -> Option<KeyRow>
         requires { key ≢ IPC_PRIVATE }
         ensures { MatchOption result (NoRowOf self.now key) (IsRowOf self.now key) }
@@ -177,7 +199,7 @@ impl Registry {
         self.places[slot].row
     }
 
-    /// The least slot in which an identifier can be made.
+    /// Returns the least slot in which an identifier can be made, if there is one.
     fn least_vacant(&self) -> Option<usize>
         ensures { MatchOption result (NoneIsOpen self.now) (IsLeastOpen self.now) }
     {
@@ -204,9 +226,10 @@ impl Registry {
         id
     }
 
-    /// Says that the queue of a new identifier is installed: its row becomes Live, and the settled count
-    /// rises by one. The answer is false, and nothing changes, where the identifier has no row that is
-    /// Making.
+    /// Records that the queue of a new identifier was installed.
+    ///
+    /// If the identifier has a row that is Making, the row becomes Live, the settled count rises by
+    /// one and the result is true. Otherwise nothing changes and the result is false.
     pub fn settle(&mut self, id: i32) -> bool
         ensures turn { MakesTurn self.old (Settle id) (Changed result) self.new }
         ensures refused { result ≡ false → self.new ≡ self.old }
@@ -224,8 +247,10 @@ impl Registry {
         }
     }
 
-    /// Takes the row of an identifier away for good: the generation of its slot and the settled count
-    /// rise by one. The answer is false, and nothing changes, where the identifier has no row.
+    /// Removes the row of an identifier for good.
+    ///
+    /// If the identifier has a row, the generation of its slot and the settled count rise by one
+    /// and the result is true. Otherwise nothing changes and the result is false.
     pub fn forget(&mut self, id: i32) -> bool
         ensures turn { MakesTurn self.old (Forget id) (Changed result) self.new }
         ensures refused { result ≡ false → self.new ≡ self.old }
@@ -249,8 +274,14 @@ impl Registry {
         }
     }
 
-    /// Whether no identifier of this slot, which is below `SLOTS`, was ever made: no row lies in it, and
-    /// its generation is 0.
+    /// Returns whether the slot has no row and generation 0. If so, no identifier of it was ever
+    /// made.
+    ///
+    /// In a registry that was opened with a generation above 0 the result is false for every slot.
+    ///
+    /// # Conditions
+    ///
+    /// - `slot` is below `SLOTS`.
     pub fn is_unused(&self, slot: usize) -> bool
         requires { slot < SLOTS }
         ensures { (opening : ℕ) (h : RegistryHistory) → StandsFor opening h self.now → IsTrue result
@@ -260,7 +291,7 @@ impl Registry {
         place.row.is_none() && place.generation == 0
     }
 
-    /// The settled count: how many settles and forgets have answered true.
+    /// Returns the settled count: the number of calls of `settle` and `forget` that returned true.
     pub fn settled(&self) -> u64
         ensures { result ≡ self.now.settled }
     {
@@ -268,7 +299,8 @@ impl Registry {
     }
 }
 
-/// Makes the index anew. An index that is cleared keeps its room, which one that loses a key need not.
+/// Builds the index again. An index that was cleared keeps its memory; an index from which a key
+/// was removed may not.
 fn index_keys(places: &[Place], by_key: &mut IndexMap<i32, usize>)
     requires wide { length places.now ≡ SLOTS }
     requires differ { KeysDiffer places.now }
