@@ -17,7 +17,7 @@ pub struct Perm {
 /// of queued messages and bytes.
 #[derive(Clone, Copy, PartialEq, Eq, Debug)]
 pub struct Attributes {
-    /// The queue's identifier, not negative.
+    /// The queue's identifier. The identifiers that a registry makes are not negative.
     pub id: i32,
     /// The key that the queue was created for, 0 for a private queue.
     pub key: i32,

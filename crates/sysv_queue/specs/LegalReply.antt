@@ -1,7 +1,7 @@
--- The legal reply to a call at a slot that is seen so. The causes of a call's replies stand in one
--- order, and a reply is given exactly where its cause is the first that stands
--- (POSIX.1-2017, msgget, msgsnd, msgrcv, msgctl, each ERRORS; the order is this profile's). A
--- reply that is not listed is never given.
+-- The legal reply to a call at a slot with this state (POSIX.1-2017, msgget, msgsnd, msgrcv,
+-- msgctl, each ERRORS; the order of the causes is this profile's). The causes of a call's replies
+-- have one order, and a reply is legal if and only if its cause is the first that applies. A reply
+-- that is not listed is never legal.
 use Rattle.std.specs.Prelude.{◌≡◌, ℕ, ℤ, ◌≤◌, ◌⊎◌, Bool, true, false, ◌∷◌, ◌++◌, length, None, Some, MatchOption, IsSome, option_map, slice_get}
 use Rattle.sysv_model.specs.declared.cred.Cred.{Cred}
 use Rattle.sysv_model.specs.declared.errno.Errno.TheVariants.{EPERM, EACCES, EINVAL}
@@ -18,24 +18,26 @@ use Rattle.sysv_queue.specs.Granted.{MayRead, MayWrite, MayAsAsked, MayControl, 
 use Rattle.sysv_queue.specs.Named.{IsNamed}
 use Rattle.sysv_queue.specs.Shown.{stat_of, row_of}
 
--- a queue lives, and has room for that many bytes
+-- A queue is live, and a message of this size fits on it.
 abbrev pub HasRoom : Slot → ℕ → Type 0
 HasRoom s size = MatchOption s.live ⊥ (λ a. FitsOn a.qbytes s.messages size)
 
--- install: false where a queue is live, else true
+-- The replies to install: false if a queue is live, otherwise true.
 abbrev pub LegalInstall : Slot → Reply → Type 0
 LegalInstall s (Installed false) = IsSome s.live
 LegalInstall s (Installed true) = s.live ≡ None
 LegalInstall s reply = ⊥
 
--- probe: Gone, Denied where what the flags ask is not permitted, else Granted
+-- The replies to probe: Gone if the identifier is not live, Denied if the caller lacks a permission
+-- that the flags request, otherwise Granted.
 abbrev pub LegalProbe : Slot → ℤ → Cred → Flags → Reply → Type 0
 LegalProbe s id cred flags Gone = ¬ HasId s.live id
 LegalProbe s id cred flags Denied = HasId s.live id × ¬ MayAsAsked flags cred s.live
 LegalProbe s id cred flags Granted = HasId s.live id × MayAsAsked flags cred s.live
 LegalProbe s id cred flags reply = ⊥
 
--- look: Gone, Denied, Full, else Fits
+-- The replies to look: Gone if the identifier is not live, Denied without write permission, Full
+-- with the freed count if the message does not fit, otherwise Fits.
 abbrev pub LegalLook : Slot → ℤ → Cred → ℕ → Reply → Type 0
 LegalLook s id cred size Gone = ¬ HasId s.live id
 LegalLook s id cred size Denied = HasId s.live id × ¬ MayWrite cred s.live
@@ -43,7 +45,8 @@ LegalLook s id cred size (Full freed) = HasId s.live id × MayWrite cred s.live 
 LegalLook s id cred size Fits = HasId s.live id × MayWrite cred s.live × HasRoom s size
 LegalLook s id cred size reply = ⊥
 
--- place: Gone, Denied, Full, else accepted under the arrived count
+-- The replies to place: those of look, with Accepted in place of Fits. The acceptance number is the
+-- arrived count.
 abbrev pub LegalPlace : Slot → ℤ → Cred → ℕ → Reply → Type 0
 LegalPlace s id cred size Gone = ¬ HasId s.live id
 LegalPlace s id cred size Denied = HasId s.live id × ¬ MayWrite cred s.live
@@ -51,15 +54,17 @@ LegalPlace s id cred size (Full freed) = HasId s.live id × MayWrite cred s.live
 LegalPlace s id cred size (Accepted number) = HasId s.live id × MayWrite cred s.live × HasRoom s size × (number ≡ s.arrived)
 LegalPlace s id cred size reply = ⊥
 
--- the message at the place that the selector names
+-- The selector names a place, and this message is there.
 abbrev pub Names : Slot → Selector → Message → Type 0
 Names s selector m = (place : ℕ) × IsNamed selector s.messages place × (slice_get s.messages place ≡ Some m)
 
--- a text that a receive of that size can give
+-- A receive of this size may take the message: its body is not longer, or MSG_NOERROR is set.
 abbrev pub IsGivable : ℕ → Bool → Message → Type 0
 IsGivable size noerror m = (length m.bytes ≤ size) ⊎ (noerror ≡ true)
 
--- take: Gone, Denied, NoMatch, TooLong, else the message at the place that the selector names
+-- The replies to take: Gone if the identifier is not live, Denied without read permission, NoMatch
+-- with the arrived count if the selector names no place, TooLong if the named message may not be
+-- taken, otherwise the named message.
 abbrev pub LegalTake : Slot → ℤ → Cred → Selector → ℕ → Bool → Reply → Type 0
 LegalTake s id cred selector size noerror Gone = ¬ HasId s.live id
 LegalTake s id cred selector size noerror Denied = HasId s.live id × ¬ MayRead cred s.live
@@ -71,16 +76,17 @@ LegalTake s id cred selector size noerror (Taken m) =
     HasId s.live id × MayRead cred s.live × Names s selector m × IsGivable size noerror m
 LegalTake s id cred selector size noerror reply = ⊥
 
--- stat: EINVAL where the identifier is not live, EACCES, else the attributes with what waits
+-- The replies to stat: EINVAL if the identifier is not live, EACCES without read permission,
+-- otherwise the attributes and the numbers of queued bytes and messages.
 abbrev pub LegalStat : Slot → ℤ → Cred → Reply → Type 0
 LegalStat s id cred (Refused EINVAL) = ¬ HasId s.live id
 LegalStat s id cred (Refused EACCES) = HasId s.live id × ¬ MayRead cred s.live
 LegalStat s id cred (Told stat) = HasId s.live id × MayRead cred s.live × (option_map (stat_of s.messages) s.live ≡ Some stat)
 LegalStat s id cred reply = ⊥
 
--- set: EINVAL where the identifier is not live, EPERM for a caller who may not change the queue, EINVAL
--- for a limit above the greatest, EPERM for one above the present limit from another than user 0, else
--- done
+-- The replies to set: EINVAL if the identifier is not live, EPERM if the caller may not change the
+-- queue, EINVAL if the limit is above the maximum, EPERM if it is above the present limit and the
+-- caller is not user 0, otherwise Done.
 abbrev pub LegalSet : Slot → ℤ → Cred → SetTo → Reply → Type 0
 LegalSet s id cred to (Refused EINVAL) = ¬ HasId s.live id ⊎ (HasId s.live id × MayControl cred s.live × ¬ (to.qbytes ≤ MAX_QBYTES))
 LegalSet s id cred to (Refused EPERM) =
@@ -88,19 +94,20 @@ LegalSet s id cred to (Refused EPERM) =
 LegalSet s id cred to Done = HasId s.live id × MayControl cred s.live × (to.qbytes ≤ MAX_QBYTES) × MayLimit cred to s.live
 LegalSet s id cred to reply = ⊥
 
--- remove: EINVAL where the identifier is not live, EPERM for a caller who may not remove the queue, else
--- all that waits is discarded, in order
+-- The replies to remove: EINVAL if the identifier is not live, EPERM if the caller may not remove
+-- the queue, otherwise all queued messages, in order.
 abbrev pub LegalRemove : Slot → ℤ → Cred → Reply → Type 0
 LegalRemove s id cred (Refused EINVAL) = ¬ HasId s.live id
 LegalRemove s id cred (Refused EPERM) = HasId s.live id × ¬ MayControl cred s.live
 LegalRemove s id cred (Discarded messages) = HasId s.live id × MayControl cred s.live × (messages ≡ s.messages)
 LegalRemove s id cred reply = ⊥
 
--- row: none where no queue is live, else its line
+-- The replies to row: none if no queue is live, otherwise the queue's row.
 abbrev pub LegalRow : Slot → Reply → Type 0
 LegalRow s (Shown row) = row ≡ option_map (row_of s.messages) s.live
 LegalRow s reply = ⊥
 
+-- The reply to this call is legal at a slot with this state.
 abbrev pub Legal : Slot → Call → Reply → Type 0
 Legal s (Install id key cred mode now) reply = LegalInstall s reply
 Legal s (Probe id cred flags) reply = LegalProbe s id cred flags reply
@@ -112,10 +119,10 @@ Legal s (Set id cred to now) reply = LegalSet s id cred to reply
 Legal s (Remove id cred) reply = LegalRemove s id cred reply
 Legal s ReadRow reply = LegalRow s reply
 
--- the legal reply to a call after a history
+-- The reply to this call is legal after this history.
 abbrev pub IsLegalReply : History → Call → Reply → Type 0
 IsLegalReply h call reply = Legal (slot_of h) call reply
 
--- every reply of the history is legal after the entries before it
+-- Every reply of the history is legal after the entries before it.
 abbrev pub IsLegalHistory : History → Type 0
 IsLegalHistory h = (before : History) (e : Entry) (after : History) → h ≡ before ++ e ∷ after → IsLegalReply before e.call e.reply

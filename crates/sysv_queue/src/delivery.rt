@@ -4,8 +4,10 @@ ghost use Rattle.sysv_queue.specs.Tally.{taken_in};
 use crate::tally::Tally;
 use std::marker::Model;
 
-/// What a receive gave, beside the text (POSIX.1-2017, `msgrcv`). It can be neither dropped nor copied: it
-/// is spent by `written` or `lost`, so that each message taken is counted once.
+/// The result of a receive, without the bytes of the body (POSIX.1-2017, `msgrcv`).
+///
+/// A delivery can be neither dropped nor copied. Spend it with `written` or `lost`, so that each
+/// message taken is counted once.
 pub struct Delivery {
     pub(crate) mtype: i64,
     pub(crate) len: usize,
@@ -23,36 +25,39 @@ impl Model for Delivery {
 }
 
 impl Delivery {
-    /// The message's type.
+    /// Returns the message's type.
     pub fn mtype(&self) -> i64
         ensures { result ≡ self.now.mtype }
     {
         self.mtype
     }
 
-    /// The bytes that were given, 0 to 8,192.
+    /// Returns the number of bytes that the receive delivered, 0 to 8,192.
     pub fn len(&self) -> usize
         ensures { result ≡ self.now.len }
     {
         self.len
     }
 
-    /// The process that sent the message.
+    /// Returns the process that sent the message.
     pub fn sender(&self) -> u32
         ensures { result ≡ self.now.sender }
     {
         self.sender
     }
 
-    /// The message's acceptance number.
+    /// Returns the message's acceptance number.
     pub fn number(&self) -> u64
         ensures { result ≡ self.now.number }
     {
         self.number
     }
 
-    /// Counts the message as written to its receiver. The messages taken have to be fewer than the
-    /// greatest `u64`.
+    /// Counts the message as written to its receiver.
+    ///
+    /// # Conditions
+    ///
+    /// - The tally has counted fewer than 2^64 - 1 messages.
     pub fn written(self, tally: &mut Tally)
         requires { taken_in tally.old < 2 ^ 64 - 1 }
         ensures { tally.new ≡ record tally.old { written = tally.old.written + 1 } }
@@ -66,8 +71,11 @@ impl Delivery {
         tally.add_written();
     }
 
-    /// Counts the message as lost on the way to its receiver. The messages taken have to be fewer than
-    /// the greatest `u64`.
+    /// Counts the message as lost on the way to its receiver.
+    ///
+    /// # Conditions
+    ///
+    /// - The tally has counted fewer than 2^64 - 1 messages.
     pub fn lost(self, tally: &mut Tally)
         requires { taken_in tally.old < 2 ^ 64 - 1 }
         ensures { tally.new ≡ record tally.old { lost = tally.old.lost + 1 } }

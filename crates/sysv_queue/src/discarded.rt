@@ -3,8 +3,10 @@ ghost use Rattle.std.specs.Prelude.{◌≡◌, []};
 use std::marker::Model;
 use sysv_pool::Chain;
 
-/// The blocks of what a removal discarded (POSIX.1-2017, `msgctl`, IPC_RMID). It is seen as their number,
-/// and can be neither dropped nor copied: it is spent by `into_chain`.
+/// The blocks of the messages that a removal discarded (POSIX.1-2017, `msgctl`, IPC_RMID).
+///
+/// Contracts see it as the number of blocks. It can be neither dropped nor copied; spend it with
+/// `into_chain`.
 pub struct Discarded {
     pub(crate) chain: Chain,
 }
@@ -20,7 +22,7 @@ impl Model for Discarded {
 }
 
 impl Discarded {
-    /// One chain of all the blocks, in which no text lies.
+    /// Returns one chain with all the blocks and no body.
     pub fn into_chain(self) -> Chain
         ensures { result ≡ record { blocks = self; bytes = [] } }
     {

@@ -12,7 +12,7 @@ ghost use Rattle.sysv_queue.specs.WorkedRemoval.{WorkedRemoval, OtherReplies, No
 
 use sysv_rules::{granted_or_not, named_or_none, one_named};
 
-/// After each history each call has one legal reply, and no two.
+/// States that after each history each call has exactly one legal reply.
 pub fn one_legal_reply()
     ensures some { SomeReplyIsLegal }
     ensures one { NoTwoRepliesAreLegal }
@@ -22,20 +22,21 @@ pub fn one_legal_reply()
     one_named();
 }
 
-/// No entry is a legal history, and a legal history with one more legal reply is one.
+/// States that the empty history is legal, and that a legal history is still legal with one more
+/// legal reply.
 pub fn legal_history()
     ensures empty { IsLegalHistory [] }
     ensures more { (h : History) (e : Entry) → IsLegalHistory h → IsLegalReply h e.call e.reply →
         IsLegalHistory (h ++ e ∷ []) }
 {}
 
-/// Each history of legal replies obeys the queue law.
+/// States that each legal history obeys the queue law.
 pub fn queue_law()
     ensures { (h : History) → IsLegalHistory h → QueueLaw h }
 {}
 
-/// A refusal for match stays right until the arrived count has risen, and one for room until the freed
-/// count has, neither of which falls.
+/// States how long a refusal stays right: if no message is named, until the arrived count has
+/// risen; if the queue is full, until the freed count has risen. Neither count ever falls.
 pub fn stays_right()
     ensures no_match { NoMatchStays }
     ensures full { FullStays }
@@ -45,9 +46,11 @@ pub fn stays_right()
     named_or_none();
 }
 
-/// A call that names an identifier is told that it is not live exactly where it is not; only a set of a
-/// limit above 65,536 is refused by the same name. An identifier lives from its install to its removal,
-/// and where it is installed once, its removal is for good.
+/// States that a call that names an identifier is told that it is not live if and only if it is not
+/// live. Only a set of a limit above 65,536 fails with the same errno for another reason.
+///
+/// An identifier is live from its install to its removal. If it is installed once, its removal is
+/// for good.
 pub fn removed_for_good()
     ensures told { ToldNotLive }
     ensures found { FoundLive }
@@ -58,16 +61,17 @@ pub fn removed_for_good()
     one_legal_reply();
 }
 
-/// The worked history with a removal is legal and leaves what it says, and at its turns the replies that
-/// it lists are legal ones and wrong ones are not.
+/// States that the worked history with a removal is legal and leaves what it lists, that the other
+/// replies it lists are legal at its turns, and that the wrong replies it lists are not.
 pub fn worked_removal()
     ensures history { WorkedRemoval }
     ensures others { OtherReplies }
     ensures wrong { NoWrongReply }
 {}
 
-/// No turn makes blocks or loses them: those of what waited and of what was put on the queue are those of
-/// what was taken off it and of what then waits.
+/// States that no turn makes or loses blocks: the blocks of the messages queued before a turn and
+/// of the message put on the queue are those of the messages taken off the queue and of the
+/// messages queued after it.
 pub fn blocks_kept()
     ensures turn { TurnKeepsBlocks }
     ensures slot { SlotKeepsBlocks }

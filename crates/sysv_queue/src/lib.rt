@@ -1,7 +1,9 @@
-//! One queue slot: the place of a live queue with its attributes, its waiting messages in the order
-//! of acceptance, and the two counts of what has arrived and what was freed. Each message keeps the chain
-//! of blocks that holds its text, and what a receive or a removal gives is a receipt, to be spent once.
-//! `specs/` has the legal reply to each call and the law that every history of legal replies obeys.
+//! One queue slot: the place of a live queue with its attributes, its queued messages in the order
+//! of acceptance, and the arrived and freed counts.
+//!
+//! Each message keeps the chain of blocks that holds its body. The results of a receive and of a
+//! removal are receipts, which must be spent once. `specs/` defines the legal reply to each call,
+//! and the law that every legal history obeys.
 #![tactic(auto)]
 
 mod delivery;

@@ -33,31 +33,31 @@ use sysv_pool::Chain;
 use sysv_rules::{Selector, Want, may, may_control};
 use thiserror::Error;
 
-/// What `probe` finds.
+/// The result of `QueueSlot::probe`.
 #[derive(Clone, Copy, PartialEq, Eq, Debug)]
 pub enum Probe {
     /// The identifier is not live.
     Gone,
-    /// What the flags ask is not granted.
+    /// The mode does not grant the access that the flags request.
     Denied,
-    /// What the flags ask is granted.
+    /// The mode grants the access that the flags request.
     Granted,
 }
 
-/// What `look` finds.
+/// The result of `QueueSlot::look`.
 #[derive(Clone, Copy, PartialEq, Eq, Debug)]
 pub enum Look {
     /// The identifier is not live.
     Gone,
     /// Write permission is not granted.
     Denied,
-    /// The message does not fit; room may come once the freed count is above this one.
+    /// The message does not fit. There may be room once the freed count is above `freed`.
     Full { freed: u64 },
     /// The message fits.
     Fits,
 }
 
-/// Why `place` refuses a message.
+/// Why `QueueSlot::place` refused a message.
 #[derive(Clone, Copy, PartialEq, Eq, Debug, Error)]
 pub enum Unplaced {
     /// The identifier is not live.
@@ -66,20 +66,20 @@ pub enum Unplaced {
     /// Write permission is not granted.
     #[error("write permission is not granted")]
     Denied,
-    /// The message does not fit; room may come once the freed count is above this one.
+    /// The message does not fit. There may be room once the freed count is above `freed`.
     #[error("the message does not fit")]
     Full { freed: u64 },
 }
 
-/// A refused `place`, with the chain that was handed in, as it was.
+/// The error of `QueueSlot::place`. It hands the chain back unchanged.
 pub struct PlaceRefused {
     /// The cause.
     pub why: Unplaced,
-    /// The chain that was handed in.
+    /// The chain that the caller handed in.
     pub chain: Chain,
 }
 
-/// Why `take` gives no message.
+/// Why `QueueSlot::take` took no message.
 #[derive(Clone, Copy, PartialEq, Eq, Debug, Error)]
 pub enum TakeRefused {
     /// The identifier is not live.
@@ -88,27 +88,32 @@ pub enum TakeRefused {
     /// Read permission is not granted.
     #[error("read permission is not granted")]
     Denied,
-    /// No message is named; one may come once the arrived count is above this one.
+    /// The selector names no queued message. It may name one once the arrived count is above
+    /// `arrived`.
     #[error("no message is named")]
     NoMatch { arrived: u64 },
-    /// The message that is named is longer than the size, and stays.
+    /// The body of the named message is longer than the size. The message stays queued.
     #[error("the message is longer than the size")]
     TooLong,
 }
 
-/// Why a call does not come to the queue that it names.
+/// Why a call cannot use the queue that it names.
 #[derive(Clone, Copy)]
 enum Barred {
     /// The identifier is not live.
     Gone,
-    /// What the caller wants is not granted.
+    /// The access that the caller wants is not granted.
     Denied,
 }
 
-/// The place of one queue: the live queue's attributes, if one is live, at most 256 messages in the order
-/// of acceptance, and the two counts of arrived and freed, which rise over all the queues that it holds
-/// (POSIX.1-2017, `sys/msg.h`; the slot and its counts are this profile's). Each message keeps the chain
-/// that holds its text. A slot can't be dropped: it ends by `end`.
+/// The place of one queue at a time (POSIX.1-2017, `sys/msg.h`; slots and their counts are this
+/// profile's).
+///
+/// A slot has the attributes of the live queue, if one is live, and at most 256 queued messages in
+/// the order of acceptance, each with the chain that holds its body. Its arrived and freed counts
+/// rise over all the queues that it holds.
+///
+/// A slot cannot be dropped; end it with `end`.
 pub struct QueueSlot {
     live: Option<Attributes>,
     messages: Messages,
@@ -126,12 +131,17 @@ impl Model for QueueSlot {
     ghost view = { λ s.
         record { live = s.live; messages = s.messages; arrived = s.arrived; freed = s.freed } };
 
-    // The arrived count is the next message's number, which is above those of all that wait.
+    // The arrived count is the number of the next message. It is above the numbers of all queued
+    // messages.
     ghost invariant = { λ s. AreNumberedBelow s.arrived s.messages };
 }
 
 impl QueueSlot {
-    /// A vacant slot with room for 256 messages. `NoMemory` where that room is refused.
+    /// Creates a vacant slot with space for 256 messages.
+    ///
+    /// # Errors
+    ///
+    /// - `NoMemory` if allocation fails.
     pub fn open(alloc: Global) -> Result<QueueSlot, NoMemory>
         ensures { IfOk result (λ slot. StandsFor [] slot) }
     {
@@ -143,9 +153,14 @@ impl QueueSlot {
         })
     }
 
-    /// Makes a queue of `cred` under this identifier and key, with the low nine bits of `mode`, at
-    /// the moment `now` in seconds (POSIX.1-2017, `msgget`). `id` is live from then on; it is not to
-    /// be negative, which the caller sees to. `false`, with nothing changed, where a queue is live.
+    /// Creates a queue owned by `cred` under the identifier `id` and the key `key` (POSIX.1-2017,
+    /// `msgget`).
+    ///
+    /// The queue's mode is the low nine bits of `mode`, and its change time is `now`, in seconds.
+    /// Returns true if the queue was created. Returns false, with nothing changed, if a queue is
+    /// live.
+    ///
+    /// `id` should not be negative. The slot does not check this.
     pub fn install(&mut self, id: i32, key: i32, cred: Cred, mode: u32, now: u64) -> bool
         ensures turn { MakesTurn self.old (Install id key cred mode now)
             (Installed result) self.new }
@@ -174,10 +189,12 @@ impl QueueSlot {
         true
     }
 
-    /// Whether the queue of an identifier lives, and the caller may do with it what the mode in `flags`
-    /// asks: read it where a read bit is set, write to it where a write bit is; all other flags are
-    /// ignored (POSIX.1-2017, `msgget`; which bits ask what is this profile's). The first cause of
-    /// `Probe` that stands is the answer. The slot stays as it is.
+    /// Returns whether the queue `id` is live and grants the access that the mode in `flags`
+    /// requests (POSIX.1-2017, `msgget`; which bits request which access is this profile's).
+    ///
+    /// The flags request read permission if a read bit is set, and write permission if a write bit
+    /// is set. All other flags are ignored. The result is `Gone` if the identifier is not live,
+    /// otherwise `Denied` or `Granted`.
     pub fn probe(&self, id: i32, cred: Cred, flags: Flags) -> Probe
         ensures turn { MakesTurn self.now (ProbeCall id cred flags) (probe_reply result) self.now }
     {
@@ -188,9 +205,15 @@ impl QueueSlot {
         }
     }
 
-    /// The attributes of the live queue with what waits on it (POSIX.1-2017, `msgctl`, IPC_STAT).
-    /// `EINVAL` where the identifier is not live, then `EACCES` where read permission is not granted.
-    /// The slot stays as it is.
+    /// Returns the attributes of the live queue and its numbers of queued bytes and messages
+    /// (POSIX.1-2017, `msgctl`, IPC_STAT).
+    ///
+    /// # Errors
+    ///
+    /// The first cause that applies is reported.
+    ///
+    /// - `EINVAL` if the identifier is not live.
+    /// - `EACCES` if read permission is not granted.
     pub fn stat(&self, id: i32, cred: Cred) -> Result<Stat, Errno>
         ensures turn { MakesTurn self.now (ReadStat id cred) (stat_reply result) self.now }
     {
@@ -213,12 +236,25 @@ impl QueueSlot {
         })
     }
 
-    /// Gives the live queue the owner, the group, the low nine bits of the mode and the limit in `to`, and
-    /// makes `now`, in seconds, the moment of its last change (POSIX.1-2017, `msgctl`, IPC_SET). A limit
-    /// below what waits removes nothing. Both counts rise, whatever was changed. The causes of a refusal in
-    /// their order: `EINVAL` where the identifier is not live; `EPERM` for another user than 0, the owner
-    /// and the creator; `EINVAL` for a limit above 65,536; `EPERM` for one above the present limit, from
-    /// another user than 0. A refusal leaves the slot as it was. Both counts have to be below 2^63.
+    /// Sets the owner, the group, the low nine bits of the mode and the limit `qbytes` of the live
+    /// queue to those in `to`, and its change time to `now`, in seconds (POSIX.1-2017, `msgctl`,
+    /// IPC_SET).
+    ///
+    /// A limit below the queued bytes removes nothing. Both counts of the slot rise by one,
+    /// whatever was changed.
+    ///
+    /// # Errors
+    ///
+    /// The first cause that applies is reported, and the slot is unchanged.
+    ///
+    /// - `EINVAL` if the identifier is not live.
+    /// - `EPERM` if the caller is not user 0, the owner or the creator.
+    /// - `EINVAL` if the limit is above 65,536.
+    /// - `EPERM` if the limit is above the present one and the caller is not user 0.
+    ///
+    /// # Conditions
+    ///
+    /// - Both counts are below 2^63.
     pub fn set(&mut self, id: i32, cred: Cred, to: SetTo, now: u64) -> Result<(), Errno>
         requires arrived { self.old.arrived < 2 ^ 63 }
         requires freed { self.old.freed < 2 ^ 63 }
@@ -246,10 +282,21 @@ impl QueueSlot {
         Ok(())
     }
 
-    /// Removes the queue and gives the blocks of all that waits on it (POSIX.1-2017, `msgctl`,
-    /// IPC_RMID); the slot is vacant from then on. Both counts rise. `EINVAL` where the identifier is not
-    /// live, then `EPERM` for another user than 0, the owner and the creator; a refusal leaves the slot as
-    /// it was. It takes no memory. Both counts have to be below 2^63.
+    /// Removes the queue and returns the blocks of all its queued messages (POSIX.1-2017, `msgctl`,
+    /// IPC_RMID).
+    ///
+    /// The slot is then vacant, and both of its counts have risen by one. Allocates nothing.
+    ///
+    /// # Errors
+    ///
+    /// The first cause that applies is reported, and the slot is unchanged.
+    ///
+    /// - `EINVAL` if the identifier is not live.
+    /// - `EPERM` if the caller is not user 0, the owner or the creator.
+    ///
+    /// # Conditions
+    ///
+    /// - Both counts are below 2^63.
     pub fn remove(&mut self, id: i32, cred: Cred) -> Result<Discarded, Errno>
         requires arrived { self.old.arrived < 2 ^ 63 }
         requires freed { self.old.freed < 2 ^ 63 }
@@ -264,7 +311,7 @@ impl QueueSlot {
         Ok(Discarded { chain })
     }
 
-    /// Puts the changed queue, or none, in the place of the live one, which both counts announce.
+    /// Replaces the live queue, or removes it, and raises both counts by one.
     fn change_to(&mut self, live: Option<Attributes>)
         requires arrived { self.old.arrived < 2 ^ 63 }
         requires freed { self.old.freed < 2 ^ 63 }
@@ -276,8 +323,8 @@ impl QueueSlot {
         self.freed += 1;
     }
 
-    /// The line of the live queue in the list of queues, if one is live (this profile's). No permission
-    /// is asked, and the slot stays as it is.
+    /// Returns the live queue's row in the list of queues, or `None` if no queue is live (specific
+    /// to this profile). It requires no permission.
     pub fn row(&self) -> Option<Row>
         ensures turn { MakesTurn self.now ReadRow (Shown result) self.now }
     {
@@ -294,14 +341,18 @@ impl QueueSlot {
         }
     }
 
-    /// Whether a message of `size` bytes could be placed now (POSIX.1-2017, `msgsnd`). The first
-    /// cause of `Look` that stands is the answer. The slot stays as it is.
+    /// Returns whether the caller could place a message of `size` bytes now (POSIX.1-2017,
+    /// `msgsnd`).
+    ///
+    /// The result is `Gone` if the identifier is not live, otherwise `Denied` if write permission
+    /// is not granted, otherwise `Full` or `Fits`.
     pub fn look(&self, id: i32, cred: Cred, size: usize) -> Look
         ensures turn { MakesTurn self.now (LookCall id cred size) (look_reply result) self.now }
     {
         self.find(id, cred, size)
     }
 
+    /// Does what `look` does.
     fn find(&self, id: i32, cred: Cred, size: usize) -> Look
         ensures turn { MakesTurn self.now (LookCall id cred size) (look_reply result) self.now }
         ensures small { result ≡ Look.Fits → bytes_of self.now.messages + size < 2 ^ 32 }
@@ -319,7 +370,8 @@ impl QueueSlot {
         }
     }
 
-    /// The live queue, where it has this identifier and the caller may do with it what it wants.
+    /// Returns the live queue if it has this identifier and grants the access that the caller
+    /// wants.
     fn enter(&self, id: i32, cred: Cred, want: Want) -> Result<Attributes, Barred>
         ensures enters { IfOk result (λ queue. (self.now.live ≡ Some queue) × HasId self.now.live id
             × IsGranted want cred self.now.live) }
@@ -332,7 +384,7 @@ impl QueueSlot {
         }
     }
 
-    /// The live queue, where it has this identifier and the caller may change it and remove it.
+    /// Returns the live queue if it has this identifier and the caller may change and remove it.
     fn control(&self, id: i32, cred: Cred) -> Result<Attributes, Errno>
         ensures controls { IfOk result (λ queue. (self.now.live ≡ Some queue)
             × HasId self.now.live id × MayControl cred self.now.live) }
@@ -345,7 +397,7 @@ impl QueueSlot {
         }
     }
 
-    /// The live queue, where it has this identifier.
+    /// Returns the live queue if it has this identifier.
     fn queue_of(&self, id: i32) -> Option<Attributes>
         ensures { MatchOption result (¬ HasId self.now.live id) (λ queue.
             (self.now.live ≡ Some queue) × HasId self.now.live id) }
@@ -353,7 +405,7 @@ impl QueueSlot {
         self.live.filter(|queue| queue.id == id)
     }
 
-    /// Whether a message of `size` bytes fits on a queue with this limit.
+    /// Returns whether a message of `size` bytes fits on a queue with this limit.
     fn has_room(&self, qbytes: u32, size: usize) -> bool
         ensures room { IsTrue result ↔ FitsOn qbytes self.now.messages size }
         ensures small { IsTrue result → bytes_of self.now.messages + size < 2 ^ 32 }
@@ -362,7 +414,7 @@ impl QueueSlot {
         room.is_some_and(|room| size <= room as usize) && self.messages.len() < QUEUE_MESSAGES
     }
 
-    /// Puts a message that fits at the end.
+    /// Appends a message that fits.
     fn accept(&mut self, cred: Cred, mtype: i64, chain: Chain, size: usize, now: u64) -> u64
         requires few { length self.old.messages < QUEUE_MESSAGES }
         requires small { bytes_of self.old.messages + size < 2 ^ 32 }
@@ -390,7 +442,7 @@ impl QueueSlot {
         number
     }
 
-    /// Takes the message that `sel` names out of the slot, if its text has at most `most` bytes.
+    /// Takes the message that `sel` names out of the slot if its body has at most `most` bytes.
     fn release<L: Ledger>(
         &mut self,
         cred: Cred,
@@ -424,12 +476,27 @@ impl QueueSlot {
         Ok(Taken { message })
     }
 
-    /// Accepts a message of type `mtype` whose text of `size` bytes, 0 to 8,192, the chain holds in as many
-    /// blocks as it takes, at the moment `now` in seconds, and answers its acceptance number, which is the
-    /// arrived count before it (POSIX.1-2017, `msgsnd`). Any type is accepted; the caller refuses those
-    /// that a send may not have. A refusal, the first cause of `Unplaced` that stands, hands the chain
-    /// back as it was and leaves the slot as it was. It takes no memory. The arrived count has to be
-    /// below 2^63.
+    /// Accepts a message of type `mtype` at time `now`, in seconds, and returns its acceptance
+    /// number, which is the arrived count before the call (POSIX.1-2017, `msgsnd`).
+    ///
+    /// `chain` holds the body of `size` bytes, 0 to 8,192. Any type is accepted; the caller must
+    /// refuse the types that a send may not have. Allocates nothing.
+    ///
+    /// # Errors
+    ///
+    /// The first cause that applies is reported. The slot is unchanged, and the chain is handed
+    /// back unchanged.
+    ///
+    /// - `Gone` if the identifier is not live.
+    /// - `Denied` if write permission is not granted.
+    /// - `Full` if the message does not fit on the queue.
+    ///
+    /// # Conditions
+    ///
+    /// - The body in the chain has `size` bytes.
+    /// - The chain has exactly the number of blocks for a body of that size.
+    /// - `size` is at most 8,192.
+    /// - The arrived count is below 2^63.
     pub fn place(
         &mut self,
         id: i32,
@@ -464,9 +531,24 @@ impl QueueSlot {
         }
     }
 
-    /// Takes the message that `sel` names at the moment `now` in seconds (POSIX.1-2017, `msgrcv`). A text
-    /// longer than `size` bytes is taken with `noerror` alone. A refusal, the first cause of `TakeRefused`
-    /// that stands, leaves the slot as it was. It takes no memory. The freed count has to be below 2^63.
+    /// Takes the message that `sel` names off the queue, at time `now`, in seconds (POSIX.1-2017,
+    /// `msgrcv`).
+    ///
+    /// A message whose body is longer than `size` bytes is taken only if `noerror` is true. It is
+    /// cut later, by `Taken::finish`. Allocates nothing.
+    ///
+    /// # Errors
+    ///
+    /// The first cause that applies is reported, and the slot is unchanged.
+    ///
+    /// - `Gone` if the identifier is not live.
+    /// - `Denied` if read permission is not granted.
+    /// - `NoMatch` if `sel` names no queued message.
+    /// - `TooLong` if the body is longer than `size` bytes and `noerror` is false.
+    ///
+    /// # Conditions
+    ///
+    /// - The freed count is below 2^63.
     pub fn take(
         &mut self,
         id: i32,
@@ -484,7 +566,7 @@ impl QueueSlot {
         self.take_uncounted::<Brand>(id, cred, sel, size, noerror, now, Blank::new(1))
     }
 
-    /// `take`, with a counter of its own that it gives up.
+    /// Does what `take` does, with a counter of its own that it discards.
     fn take_uncounted<L: Ledger>(
         &mut self,
         id: i32,
@@ -507,10 +589,21 @@ impl QueueSlot {
         self.take_counted(id, cred, sel, size, noerror, now, &mut steps)
     }
 
-    /// `take`, with a counter of the entries of the index that are read to find the message. For any
-    /// message, an exact type and a bound they are at most two more than the number of messages that
-    /// wait has binary digits, and at least one where a message waits. None is read where the identifier
-    /// is not live or read permission is not granted.
+    /// Does what `take` does, and adds to `steps` the number of entries of the index that it read
+    /// to find the message.
+    ///
+    /// For any message, an exact type or a bound, this is at most two more than the number of
+    /// binary digits of the number of queued messages. With every selector it is at least one if a
+    /// message is queued. It is none if the identifier is not live or read permission is not
+    /// granted.
+    ///
+    /// # Errors
+    ///
+    /// The errors of `take`.
+    ///
+    /// # Conditions
+    ///
+    /// - The freed count is below 2^63.
     pub fn take_counted<L: Ledger>(
         &mut self,
         id: i32,
@@ -544,8 +637,8 @@ impl QueueSlot {
         }
     }
 
-    /// Ends the slot, and gives one chain of the blocks of all that waits, in which no text lies. It takes
-    /// no memory.
+    /// Ends the slot and returns one chain with the blocks of all queued messages and no body.
+    /// Allocates nothing.
     pub fn end(self) -> Chain
         ensures { result ≡ record { blocks = blocks_of self.messages; bytes = [] } }
     {
@@ -558,7 +651,7 @@ impl QueueSlot {
         messages.end()
     }
 
-    /// The arrived count and the freed count, each of which only rises.
+    /// Returns the arrived count and the freed count. Neither ever falls.
     pub fn counts(&self) -> (u64, u64)
         ensures arrived { result.0 ≡ self.now.arrived }
         ensures freed { result.1 ≡ self.now.freed }
@@ -567,8 +660,8 @@ impl QueueSlot {
     }
 }
 
-/// The most bytes of text that a receive of `size` bytes takes: each text that a message may have, where
-/// it may be cut.
+/// Returns the maximum length of a body that a receive of `size` bytes takes. It is 8,192, the
+/// limit of every body, if the body may be cut.
 fn most_taken(size: u32, noerror: bool) -> usize
     ensures whole { noerror ≡ false → result ≡ size }
     ensures cut { noerror ≡ true → result ≡ most_bytes }
@@ -580,7 +673,7 @@ fn most_taken(size: u32, noerror: bool) -> usize
     }
 }
 
-/// Whether the caller may do with this queue what the flags ask.
+/// Returns whether the queue grants the caller the access that the flags request.
 fn may_as_asked(cred: Cred, queue: Attributes, flags: Flags) -> bool
     ensures { IsTrue result ↔ MayAsAsked flags cred (Some queue) }
 {

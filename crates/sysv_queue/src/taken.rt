@@ -9,8 +9,10 @@ use sysv_messages::Waiting;
 use sysv_model::Body;
 use sysv_pool::Chain;
 
-/// A message that was taken from its queue, with the chain that holds its text (POSIX.1-2017, `msgrcv`).
-/// It is seen as the message, and can be neither dropped nor copied: it is spent by `finish`.
+/// A message that was taken from its queue, with the chain that holds its body (POSIX.1-2017,
+/// `msgrcv`).
+///
+/// Contracts see it as the message. It can be neither dropped nor copied; spend it with `finish`.
 pub struct Taken {
     pub(crate) message: Waiting,
 }
@@ -24,8 +26,10 @@ impl Model for Taken {
 }
 
 impl Taken {
-    /// Clears `out` and writes the text to it, at most 8,192 bytes, or the first `size` bytes of a longer
-    /// one. The whole chain comes back. It takes no memory.
+    /// Replaces the contents of `out` by the body, or by its first `size` bytes if it is longer,
+    /// and returns the delivery and the whole chain.
+    ///
+    /// At most 8,192 bytes are written. Allocates nothing.
     pub fn finish(self, size: u32, out: &mut Body) -> (Delivery, Chain)
         ensures given { Gives result.0 self size out.new }
         ensures short { length out.new ≤ most_bytes }

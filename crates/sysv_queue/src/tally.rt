@@ -3,8 +3,10 @@ ghost use Rattle.sysv_queue.specs.Tally.{taken_in};
 
 use std::marker::Model;
 
-/// How many messages were taken, and how many of them were written to their receivers or lost on the way
-/// (this profile's). It is seen as the last two, whose sum is the first.
+/// The number of messages that were taken, and how many of them were written to their receivers or
+/// lost on the way (specific to this profile).
+///
+/// Contracts see the last two numbers. Their sum is the first.
 #[derive(Clone, Copy, PartialEq, Eq, Debug)]
 pub struct Tally {
     taken: u64,
@@ -26,7 +28,7 @@ impl Model for Tally {
 }
 
 impl Tally {
-    /// A tally of no messages.
+    /// Creates a tally of no messages.
     pub fn open() -> Tally
         ensures { result ≡ record { written = 0; lost = 0 } }
     {
@@ -37,21 +39,21 @@ impl Tally {
         }
     }
 
-    /// How many messages were taken: those written and those lost.
+    /// Returns the number of messages that were taken, which are those written and those lost.
     pub fn taken(&self) -> u64
         ensures { result ≡ taken_in self.now }
     {
         self.taken
     }
 
-    /// How many of them were written.
+    /// Returns the number of messages that were written.
     pub fn written(&self) -> u64
         ensures { result ≡ self.now.written }
     {
         self.written
     }
 
-    /// How many of them were lost.
+    /// Returns the number of messages that were lost.
     pub fn lost(&self) -> u64
         ensures { result ≡ self.now.lost }
     {
