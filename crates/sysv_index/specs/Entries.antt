@@ -1,27 +1,27 @@
--- The entries of an index in two orders (this profile's): by acceptance number, and by type and those
--- of one type by number.
+-- The entries of an index in two orders (this profile's): by acceptance number, and by type and
+-- then by number.
 use Rattle.std.specs.Prelude.{◌≡◌, ◌≢◌, ℕ, ℤ, ◌<◌, ◌≤◌, ◌<ℤ◌, ◌≤ℤ◌, ◌⊎◌, List, length, map}
 use Rattle.std.specs.List.{All, AllPairs, AllWithin, Contains, insert}
 use Rattle.sysv_model.specs.declared.limits.TheConstants.{QUEUE_MESSAGES}
 use Rattle.sysv_index.specs.declared.entry.Entry.{Entry}
 
--- the types of the entries, in their order
+-- The types of the entries, in their order.
 abbrev pub types_of : List Entry → List ℤ
 types_of entries = map (λ (e : Entry). e.mtype) entries
 
--- the first entry's type is lower, or the types are one and its number is lower
+-- Entry a is before entry b: its type is lower, or the types are equal and its number is lower.
 abbrev pub IsBefore : Entry → Entry → Type 0
 IsBefore a b = (a.mtype <ℤ b.mtype) ⊎ ((a.mtype ≡ b.mtype) × (a.number < b.number))
 
--- each entry has a lower number than all that come after it
+-- Each entry has a lower number than all entries after it.
 abbrev pub NumbersRise : List Entry → Type 0
 NumbersRise entries = AllPairs (λ (a b : Entry). a.number < b.number) entries
 
--- no two entries have one number
+-- No two entries have the same number.
 abbrev pub NumbersDiffer : List Entry → Type 0
 NumbersDiffer entries = AllPairs (λ (a b : Entry). a.number ≢ b.number) entries
 
--- both lists have the same entries, each in its own order and each entry once
+-- Both lists have the same entries, each list in its own order and each entry once.
 pub record IsIndex (entries by_type : List Entry) : Type 0 where
   pub rising : NumbersRise entries
   pub sorted : AllPairs IsBefore by_type
@@ -30,7 +30,8 @@ pub record IsIndex (entries by_type : List Entry) : Type 0 where
   pub same : length by_type ≡ length entries
   pub few : length entries ≤ QUEUE_MESSAGES
 
--- the entry came in after the entries of its type and before those of higher types
+-- The new list is the old one with the entry inserted after the entries of its type or lower ones
+-- and before those of higher types.
 pub record IsInserted (old : List Entry) (e : Entry) (new : List Entry) : Type 0 where
   pub at : ℕ
   pub within : at ≤ length old

@@ -1,19 +1,19 @@
 ghost use Rattle.std.specs.Prelude.{◌↔◌, IsTrue};
 ghost use Rattle.sysv_index.specs.Entries.{IsBefore};
 
-/// A waiting message, as the index knows it.
+/// A queued message as the index knows it.
 #[derive(Clone, Copy, PartialEq, Eq, Debug)]
 pub struct Entry {
-    /// Its type, which may be any.
+    /// The message's type, which may be any number.
     pub mtype: i64,
-    /// Its acceptance number, which no other message of the queue has.
+    /// The message's acceptance number. No other message of the queue has it.
     pub number: u64,
-    /// The place where it is kept, which means nothing to the index.
+    /// Where the caller keeps the message. The index does not use it.
     pub place: usize,
 }
 
 impl Entry {
-    /// Whether its type is lower, or its type is the same and its number is lower.
+    /// Returns whether this entry's type is lower, or the types are equal and its number is lower.
     pub(crate) fn is_before(&self, other: &Entry) -> bool
         ensures { IsTrue result ↔ IsBefore self.now other.now }
     {

@@ -1,4 +1,4 @@
-//! The entries in two orders, and what a receive selects among them.
+//! The entries in two orders, and the selection of a message for a receive.
 
 ghost use Rattle.std.specs.Prelude.{◌≡◌, ℕ, ◌+◌, ◌<◌, ◌≤◌, ◌<ℤ◌, ◌≤ℤ◌, ◌↔◌, ◌==◌, not, [], ◌∷◌, ◌++◌, IsTrue, IfOk, Some, MatchOption, length, filter, remove, slice_get};
 ghost use Rattle.std.specs.List.{All, AllPairs, AllWithin};
@@ -20,12 +20,13 @@ use std::sync::ledger::Ledger;
 use sysv_model::{NoMemory, QUEUE_MESSAGES};
 use sysv_rules::{Selector, qualifies};
 
-/// The messages that wait on one queue, at most `QUEUE_MESSAGES`. A contract sees the list of their
-/// entries in the order of their acceptance numbers.
+/// The messages queued on one queue, at most `QUEUE_MESSAGES`.
+///
+/// Contracts see the list of their entries in the order of their acceptance numbers.
 #[derive(Drop)]
 pub struct Index {
     by_number: Row,
-    /// The same entries, by type and those of one type by number.
+    /// The same entries, ordered by type and then by number.
     by_type: Row,
 }
 
@@ -46,8 +47,13 @@ impl Model for Index {
 }
 
 impl Index {
-    /// An index without entries. Room for `QUEUE_MESSAGES` of them is made here, and no later call
-    /// takes memory.
+    /// Creates an index without entries.
+    ///
+    /// It reserves space for `QUEUE_MESSAGES` entries, so no later call allocates.
+    ///
+    /// # Errors
+    ///
+    /// - `NoMemory` if allocation fails.
     pub fn open(alloc: Global) -> Result<Index, NoMemory>
         ensures { IfOk result (λ index. index ≡ []) }
     {
@@ -57,7 +63,8 @@ impl Index {
         })
     }
 
-    /// How many entries it has: at most `QUEUE_MESSAGES`, and no two of one number.
+    /// Returns the number of entries, at most `QUEUE_MESSAGES`. No two entries have the same
+    /// number.
     pub fn len(&self) -> usize
         ensures value { result ≡ length self.now }
         ensures few { result ≤ QUEUE_MESSAGES }
@@ -66,14 +73,19 @@ impl Index {
         self.by_number.len()
     }
 
-    /// Whether it has none.
+    /// Returns whether the index has no entries.
     pub fn is_empty(&self) -> bool
         ensures { IsTrue result ↔ (self.now ≡ []) }
     {
         self.by_number.is_empty()
     }
 
-    /// Adds the entry of a message that was accepted after all that the index has.
+    /// Appends the entry of a message that was accepted after all messages of the index.
+    ///
+    /// # Conditions
+    ///
+    /// - The index has fewer than `QUEUE_MESSAGES` entries.
+    /// - The number of `entry` is above the number of each entry of the index.
     pub fn push(&mut self, entry: Entry)
         requires room { length self.old < QUEUE_MESSAGES }
         requires last { All (λ (other : Entry). other.number < entry.number) self.old }
@@ -83,7 +95,7 @@ impl Index {
         self.by_type.insert(entry);
     }
 
-    /// Takes the entry with this acceptance number out. Nothing changes where there is none.
+    /// Removes the entry with this acceptance number. Nothing changes if there is no such entry.
     pub fn remove(&mut self, number: u64)
         ensures others { self.new ≡ filter (λ (entry : Entry).
             not (entry.number == number)) self.old }
@@ -96,7 +108,7 @@ impl Index {
         }
     }
 
-    /// Takes all entries out.
+    /// Removes all entries.
     pub fn clear(&mut self)
         ensures { self.new ≡ [] }
     {
@@ -104,10 +116,13 @@ impl Index {
         self.by_type.clear();
     }
 
-    /// The message that `sel` names (POSIX.1-2017, `msgrcv`, DESCRIPTION): of those that qualify the
-    /// first, and for a bound the first of the lowest type. `None` where none qualifies. For any
-    /// message, and for a bound, at most one entry is read; for an exact type the entries by type are
-    /// halved; for every type but one the entries by number are read up to the first that differs.
+    /// Returns the entry that `sel` names (POSIX.1-2017, `msgrcv`, DESCRIPTION): the first that
+    /// qualifies, and for a bound the first of the lowest type. Returns `None` if none qualifies.
+    ///
+    /// `steps` is raised by the number of entries that were read, which is at least one if there
+    /// are entries. For any message, an exact type or a bound, it is at most two more than the
+    /// number of binary digits of the number of entries. For every type but one, the entries are
+    /// read in the order of their numbers up to the first with another type.
     pub fn select<L: Ledger>(&self, sel: Selector, steps: &mut Steps<L>) -> Option<Entry>
         ensures selected { MatchOption result (NoneQualifies sel (types_of self.now))
             (IsSelected sel self.now) }
@@ -124,7 +139,7 @@ impl Index {
     }
 }
 
-/// The entry of the lowest number.
+/// Returns the entry with the lowest number.
 fn earliest<L: Ledger>(by_number: &Row, steps: &mut Steps<L>) -> Option<Entry>
     ensures first { result ≡ slice_get by_number.now.entries.items 0 }
     ensures few { steps.new ≤ steps.old + 1 }
@@ -137,7 +152,7 @@ fn earliest<L: Ledger>(by_number: &Row, steps: &mut Steps<L>) -> Option<Entry>
     Some(by_number.probe(0, steps))
 }
 
-/// The first entry of the lowest type, if that qualifies.
+/// Returns the first entry of the lowest type if it qualifies.
 fn lowest<L: Ledger>(by_type: &Row, sel: Selector, steps: &mut Steps<L>) -> Option<Entry>
     ensures found { MatchOption result (NoneLow sel by_type.now.entries.items)
         (IsLowest sel by_type.now.entries.items) }
@@ -156,7 +171,7 @@ fn lowest<L: Ledger>(by_type: &Row, sel: Selector, steps: &mut Steps<L>) -> Opti
     }
 }
 
-/// The first entry of this type.
+/// Returns the first entry of this type.
 fn first_of<L: Ledger>(by_type: &Row, mtype: i64, steps: &mut Steps<L>) -> Option<Entry>
     requires { AllPairs IsBefore by_type.now.entries.items }
     ensures found { MatchOption result (NoneOf mtype by_type.now.entries.items)
@@ -177,8 +192,8 @@ fn first_of<L: Ledger>(by_type: &Row, mtype: i64, steps: &mut Steps<L>) -> Optio
     }
 }
 
-/// The place of the first entry whose type is this or a higher one; where there is none, how many
-/// entries there are.
+/// Returns the place of the first entry whose type is at least `mtype`, or the number of entries if
+/// there is none.
 fn first_from<L: Ledger>(by_type: &Row, mtype: i64, steps: &mut Steps<L>) -> usize
     requires { AllPairs IsBefore by_type.now.entries.items }
     ensures within { result ≤ length by_type.now.entries.items }
@@ -202,7 +217,7 @@ fn first_from<L: Ledger>(by_type: &Row, mtype: i64, steps: &mut Steps<L>) -> usi
     low
 }
 
-/// The first entry whose type differs from this one.
+/// Returns the first entry whose type is not `refused`.
 fn first_except<L: Ledger>(by_number: &Row, refused: i64, steps: &mut Steps<L>) -> Option<Entry>
     ensures found { MatchOption result
         (NoneQualifies (Except refused) (types_of by_number.now.entries.items))

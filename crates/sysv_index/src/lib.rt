@@ -1,5 +1,6 @@
-//! The index of the messages that wait on one queue: by acceptance number, and by type and acceptance
-//! number. A receive finds its message in it by reading few entries, and how many it reads is proved.
+//! The index of the messages queued on one queue: by acceptance number, and by type and acceptance
+//! number. It finds the message of a receive by reading few entries; the number of entries that it
+//! reads is proved.
 #![tactic(auto)]
 
 mod entry;

@@ -1,4 +1,5 @@
-//! Entries in an order. No other module reads those that stay but through `probe`, which counts.
+//! Entries in an order. Other modules read the entries that stay in a row only through `probe`,
+//! which counts.
 
 ghost use Rattle.std.specs.Prelude.{◌≡◌, ◌≢◌, ◌+◌, ◌<◌, ◌≤◌, ◌↔◌, ◌==◌, not, [], ◌∷◌, ◌++◌, IsTrue, IfOk, Some, MatchOption, filter, slice_get, length};
 ghost use Rattle.std.specs.List.{All, AllPairs, Contains};
@@ -16,14 +17,14 @@ use std::sync::ledger::Ledger;
 use steps::Steps;
 use sysv_model::QUEUE_MESSAGES;
 
-/// Entries in an order, with room for `QUEUE_MESSAGES` from its opening on.
+/// Entries in an order, with space for `QUEUE_MESSAGES` from the start.
 #[derive(Drop)]
 pub(crate) struct Row {
     entries: VecDeque<Entry>,
 }
 
 impl Row {
-    /// A row without entries.
+    /// Creates a row without entries.
     pub(crate) fn open(alloc: Global) -> Result<Row, AllocError>
         ensures empty { IfOk result (λ row. row.entries.items ≡ []) }
         ensures roomy { IfOk result (λ row. QUEUE_MESSAGES ≤ deque_capacity row.entries) }
@@ -33,21 +34,22 @@ impl Row {
         })
     }
 
-    /// How many entries it has.
+    /// Returns the number of entries.
     pub(crate) fn len(&self) -> usize
         ensures { result ≡ length self.now.entries.items }
     {
         self.entries.len()
     }
 
-    /// Whether it has none.
+    /// Returns whether the row has no entries.
     pub(crate) fn is_empty(&self) -> bool
         ensures { IsTrue result ↔ (self.now.entries.items ≡ []) }
     {
         self.entries.is_empty()
     }
 
-    /// Reads the entry at a place, and counts it. There is no other way to read one that stays.
+    /// Reads the entry at a place and counts this. An entry that stays in the row can be read in no
+    /// other way.
     pub(crate) fn probe<L: Ledger>(&self, at: usize, steps: &mut Steps<L>) -> Entry
         requires { at < length self.now.entries.items }
         ensures read { slice_get self.now.entries.items at ≡ Some result }
@@ -57,7 +59,7 @@ impl Row {
         self.entries[at]
     }
 
-    /// Adds an entry at the end.
+    /// Appends an entry.
     pub(crate) fn push(&mut self, entry: Entry)
         requires { length self.old.entries.items < deque_capacity self.old.entries }
         ensures pushed { self.new.entries.items ≡ self.old.entries.items ++ entry ∷ [] }
@@ -66,7 +68,7 @@ impl Row {
         self.entries.push_back_reserved(entry);
     }
 
-    /// Adds an entry behind those of its type, where the row is in the order of types.
+    /// Inserts an entry after those of its type. The row is in the order of types.
     pub(crate) fn insert(&mut self, entry: Entry)
         requires room { length self.old.entries.items < deque_capacity self.old.entries }
         requires sorted { AllPairs IsBefore self.old.entries.items }
@@ -79,8 +81,8 @@ impl Row {
         self.entries.insert(at, entry).unwrap();
     }
 
-    /// Takes the entry with this number out and returns it, if the row is in the order of numbers.
-    /// `None` if there is no such entry.
+    /// Removes the entry with this number and returns it, or returns `None` if there is no such
+    /// entry. The row is in the order of numbers.
     pub(crate) fn remove_number(&mut self, number: u64) -> Option<Entry>
         requires rising { NumbersRise self.old.entries.items }
         ensures others { self.new.entries.items
@@ -97,7 +99,7 @@ impl Row {
         }
     }
 
-    /// Takes this entry out, if the row is in the order of types.
+    /// Removes this entry. The row is in the order of types.
     pub(crate) fn remove_entry(&mut self, entry: Entry)
         requires sorted { AllPairs IsBefore self.old.entries.items }
         requires differ { NumbersDiffer self.old.entries.items }
@@ -112,7 +114,7 @@ impl Row {
         let _removed = self.entries.remove(at);
     }
 
-    /// Takes all entries out.
+    /// Removes all entries.
     pub(crate) fn clear(&mut self)
         ensures empty { self.new.entries.items ≡ [] }
         ensures roomy { deque_capacity self.new.entries ≡ deque_capacity self.old.entries }

@@ -3,8 +3,10 @@ ghost use Rattle.std.specs.Prelude.{◌≡◌, ℕ, ◌+◌, ◌<◌};
 use std::marker::Model;
 use std::sync::ledger::{Blank, Book, Ledger, Share};
 
-/// How many entries selections have read. It takes no bytes and nothing is counted when the program
-/// runs: a contract sees a number, which rises by one with each entry that is read and by nothing else.
+/// The number of entries that selections have read.
+///
+/// A counter has no bytes, and nothing is counted when the program runs. Contracts see a number
+/// that rises by one with each entry that is read, and only then.
 #[derive(Drop)]
 pub struct Steps<L: Ledger> {
     book: Book<L>,
@@ -20,7 +22,11 @@ impl<L: Ledger> Model for Steps<L> {
 }
 
 impl<L: Ledger> Steps<L> {
-    /// A counter at 0, on a new ledger of one part or more.
+    /// Creates a counter at 0.
+    ///
+    /// # Conditions
+    ///
+    /// - `blank` has the name of `L` and its number of parts, which is above 0.
     pub fn open(blank: Blank) -> Self
         requires name { blank.name ≡ L.name }
         requires parts { blank.parts ≡ L.parts }
