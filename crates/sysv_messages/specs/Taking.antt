@@ -1,5 +1,5 @@
--- What a receive takes among the messages that wait (POSIX.1-2017, msgrcv, DESCRIPTION): the one that
--- its selector names, unless its text is longer than asked for.
+-- What a receive takes from the queued messages (POSIX.1-2017, msgrcv, DESCRIPTION): the message
+-- that its selector names, unless its body is longer than requested.
 use Rattle.std.specs.Prelude.{◌≡◌, ℕ, ◌<◌, ◌≤◌, List, Some, length, slice_get, remove}
 use Rattle.sysv_model.specs.Message.{Message}
 use Rattle.sysv_model.specs.declared.limits.TheConstants.{MESSAGE_BYTES as most_bytes}
@@ -10,7 +10,7 @@ use Rattle.sysv_messages.specs.Texts.{types_of}
 use Rattle.sysv_messages.specs.declared.messages.NotTaken.{NotTaken}
 use Rattle.sysv_messages.specs.declared.messages.NotTaken.TheVariants.{NoneQualifies as NoMessage, TooLong}
 
--- the message that the selector names is taken from its position, and the others stay
+-- The message that the selector names is taken from its position, and the others stay.
 pub record IsTaken (sel : Selector) (most : ℕ) (old : List Message) (m : Message) (new : List Message) : Type 0 where
   pub position : ℕ
   pub named : IsNamed sel (types_of old) position
@@ -18,7 +18,7 @@ pub record IsTaken (sel : Selector) (most : ℕ) (old : List Message) (m : Messa
   pub fits : length m.bytes ≤ most
   pub left : new ≡ remove old position
 
--- the message that the selector names has a longer text, which is one that a message may have
+-- The message that the selector names has a longer body, though not longer than a message may have.
 pub record IsTooLong (sel : Selector) (most : ℕ) (messages : List Message) : Type 0 where
   pub position : ℕ
   pub message : Message
@@ -27,7 +27,7 @@ pub record IsTooLong (sel : Selector) (most : ℕ) (messages : List Message) : T
   pub longer : most < length message.bytes
   pub short : length message.bytes ≤ most_bytes
 
--- why none is taken
+-- The cause for which no message is taken.
 abbrev pub IsRefused : Selector → ℕ → List Message → NotTaken → Type 0
 IsRefused sel most messages NoMessage = NoneQualifies sel (types_of messages)
 IsRefused sel most messages TooLong = IsTooLong sel most messages

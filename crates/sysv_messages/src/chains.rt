@@ -1,4 +1,4 @@
-//! Places, each of which has a chain or none.
+//! Places, each with a chain or without one.
 
 ghost use Rattle.std.specs.Prelude.{◌≡◌, ◌<◌, ◌≤◌, [], None, Some, IsSome, length, replicate, slice_set, vec_len, vec_capacity};
 ghost use Rattle.std.specs.List.{All};
@@ -8,7 +8,7 @@ ghost use Rattle.sysv_messages.specs.Kept.{chain_at};
 use std::mem;
 use sysv_pool::Chain;
 
-/// Adds so many places without a chain.
+/// Appends `places` places without a chain.
 pub(crate) fn add_bare(chains: &mut Vec<Option<Chain>>, places: usize)
     requires empty { chains.old.items ≡ [] }
     requires room { places ≤ vec_capacity chains.old }
@@ -42,7 +42,7 @@ pub(crate) fn take(chains: &mut Vec<Option<Chain>>, place: usize) -> Chain
     chain
 }
 
-/// Takes the chain at each place, and gives one chain of all their blocks.
+/// Takes the chain at each place, and returns one chain with all their blocks.
 pub(crate) fn take_all(chains: &mut Vec<Option<Chain>>) -> Chain
     ensures chain { result ≡ record { blocks = all_blocks chains.old.items; bytes = [] } }
     ensures bare { All (λ chain. chain ≡ None) chains.new.items }
@@ -57,7 +57,7 @@ pub(crate) fn take_all(chains: &mut Vec<Option<Chain>>) -> Chain
     all
 }
 
-/// Takes the places themselves with their chains, and gives one chain of all their blocks.
+/// Removes all places with their chains, and returns one chain with all their blocks.
 pub(crate) fn clear(chains: &mut Vec<Option<Chain>>) -> Chain
     ensures chain { result ≡ record { blocks = all_blocks chains.old.items; bytes = [] } }
     ensures items { chains.new.items ≡ [] }

@@ -1,5 +1,5 @@
-//! The messages that wait on one queue: their heads under keys, the chains that hold their texts at the
-//! same places, and an index by which a receive finds its message.
+//! The messages queued on one queue: their heads under keys, the chains that hold their bodies at
+//! the same places, and an index that finds the message of a receive.
 #![tactic(auto)]
 
 mod chains;

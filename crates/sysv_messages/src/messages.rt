@@ -21,26 +21,27 @@ use sysv_pool::Chain;
 use sysv_rules::Selector;
 use thiserror::Error;
 
-/// Why no message is taken.
+/// Why `Messages::take` took no message.
 #[derive(Clone, Copy, PartialEq, Eq, Debug, Error)]
 pub enum NotTaken {
-    /// No type qualifies.
+    /// No queued message has a type that qualifies.
     #[error("no message qualifies")]
     NoneQualifies,
-    /// The text of the message that is named is longer than asked for.
+    /// The body of the named message is longer than requested.
     #[error("the message is too long")]
     TooLong,
 }
 
-/// The messages that wait on one queue, at most 256, in the order of their acceptance. A store of
-/// messages can't be dropped, since their chains can't: it ends by `end`.
+/// The messages queued on one queue, at most 256, in the order of acceptance.
+///
+/// A store of messages cannot be dropped, because its chains cannot; end it with `end`.
 pub struct Messages {
     heads: Slab<Head>,
-    /// The chain of each message at the key of its head.
+    /// The chain of each message, at the key of its head.
     chains: Vec<Option<Chain>>,
-    /// The messages in the orders in which they are looked for, each with the key of its head.
+    /// The messages in the orders in which they are searched, each with the key of its head.
     index: Index,
-    /// The bytes of all texts.
+    /// The total number of bytes of all bodies.
     bytes: u32,
 }
 
@@ -58,8 +59,11 @@ impl Model for Messages {
 }
 
 impl Messages {
-    /// A store without messages, with room for 256; no later call takes memory. `NoMemory` where that
-    /// room is refused.
+    /// Creates a store without messages, with space for 256. No later call allocates.
+    ///
+    /// # Errors
+    ///
+    /// - `NoMemory` if allocation fails.
     pub fn open(alloc: Global) -> Result<Messages, NoMemory>
         ensures { IfOk result (λ messages. messages ≡ []) }
     {
@@ -76,7 +80,7 @@ impl Messages {
         })
     }
 
-    /// How many messages wait.
+    /// Returns the number of queued messages, at most 256.
     pub fn len(&self) -> usize
         ensures value { result ≡ length self.now }
         ensures few { result ≤ QUEUE_MESSAGES }
@@ -84,16 +88,22 @@ impl Messages {
         self.index.len()
     }
 
-    /// The bytes of their texts together.
+    /// Returns the total number of bytes of their bodies.
     pub fn bytes(&self) -> u32
         ensures { result ≡ bytes_of self.now }
     {
         self.bytes
     }
 
-    /// Puts a message at the end, with the text of `len` bytes, 0 to 8,192, that the chain holds in as
-    /// many blocks as it takes. Fewer than 256 messages are to wait, their numbers are to be below this
-    /// one, and the sum of the texts is to stay below 2^32. It takes no memory.
+    /// Appends a message. `chain` holds its body of `len` bytes, 0 to 8,192. Allocates nothing.
+    ///
+    /// # Conditions
+    ///
+    /// - Fewer than 256 messages are queued, and their numbers are below `number`.
+    /// - The body in the chain has `len` bytes, and the chain has exactly the number of blocks for
+    ///   it.
+    /// - `len` is at most 8,192.
+    /// - The total number of bytes stays below 2^32.
     pub fn push(&mut self, number: u64, sender: u32, mtype: i64, chain: Chain, len: usize)
         requires few { length self.old < QUEUE_MESSAGES }
         requires last { All (λ (m : Message). m.number < number) self.old }
@@ -119,10 +129,19 @@ impl Messages {
         self.bytes += len as u32;
     }
 
-    /// Takes the message that `sel` names (POSIX.1-2017, `msgrcv`, DESCRIPTION), if its text has at most
-    /// `most` bytes. The first cause of `NotTaken` that stands is the refusal, which leaves all as it
-    /// was. It takes no memory. `steps` counts the entries of the index that are read to find it: for any
-    /// message, an exact type and a bound at most two more than the number of messages has binary digits.
+    /// Takes the message that `sel` names if its body has at most `most` bytes (POSIX.1-2017,
+    /// `msgrcv`, DESCRIPTION). Allocates nothing.
+    ///
+    /// `steps` is raised by the number of entries of the index that were read, which is at least
+    /// one if a message is queued. For any message, an exact type or a bound, it is at most two
+    /// more than the number of binary digits of the number of messages.
+    ///
+    /// # Errors
+    ///
+    /// The messages are unchanged.
+    ///
+    /// - `NoneQualifies` if `sel` names no message.
+    /// - `TooLong` if the body of the named message is longer than `most` bytes.
     pub fn take<L: Ledger>(
         &mut self,
         sel: Selector,
@@ -155,8 +174,7 @@ impl Messages {
         })
     }
 
-    /// Takes all messages out, and gives one chain of their blocks, in which no text lies. It takes no
-    /// memory.
+    /// Takes all messages, and returns one chain with their blocks and no body. Allocates nothing.
     pub fn take_all(&mut self) -> Chain
         ensures blocks { result ≡ record { blocks = blocks_of self.old; bytes = [] } }
         ensures none { self.new ≡ [] }
@@ -168,8 +186,8 @@ impl Messages {
         chain
     }
 
-    /// Ends the store, and gives one chain of the blocks of all messages, in which no text lies. It takes
-    /// no memory.
+    /// Ends the store, and returns one chain with the blocks of all messages and no body. Allocates
+    /// nothing.
     pub fn end(self) -> Chain
         ensures { result ≡ record { blocks = blocks_of self; bytes = [] } }
     {

@@ -5,8 +5,9 @@ ghost use Rattle.sysv_messages.specs.Texts.{chain_of};
 use std::marker::Model;
 use sysv_pool::Chain;
 
-/// A message that was taken, with the chain that holds its text (POSIX.1-2017, `msgrcv`). It is seen as
-/// the message, and can be neither dropped nor copied: it ends by `into_chain`.
+/// A message that was taken, with the chain that holds its body (POSIX.1-2017, `msgrcv`).
+///
+/// Contracts see it as the message. It can be neither dropped nor copied; end it with `into_chain`.
 pub struct Waiting {
     pub(crate) number: u64,
     pub(crate) sender: u32,
@@ -31,28 +32,28 @@ impl Model for Waiting {
 }
 
 impl Waiting {
-    /// Its acceptance number.
+    /// Returns the message's acceptance number.
     pub fn number(&self) -> u64
         ensures { result ≡ self.now.number }
     {
         self.number
     }
 
-    /// The process that sent it.
+    /// Returns the process that sent the message.
     pub fn sender(&self) -> u32
         ensures { result ≡ self.now.sender }
     {
         self.sender
     }
 
-    /// Its type.
+    /// Returns the message's type.
     pub fn mtype(&self) -> i64
         ensures { result ≡ self.now.mtype }
     {
         self.mtype
     }
 
-    /// The bytes of its text, 0 to 8,192.
+    /// Returns the length of the body in bytes, 0 to 8,192.
     pub fn len(&self) -> usize
         ensures value { result ≡ length self.now.bytes }
         ensures short { result ≤ most_bytes }
@@ -60,7 +61,7 @@ impl Waiting {
         self.len
     }
 
-    /// The chain that holds its text.
+    /// Returns the chain that holds the body.
     pub fn into_chain(self) -> Chain
         ensures { result ≡ chain_of self.bytes }
     {
