@@ -1,4 +1,5 @@
--- A turn at any of the objects, by who makes it: the objects themselves, or a seat at their gates (this profile's).
+-- A turn at any of the objects, made at the objects themselves or with a seat at their gates (this
+-- profile's).
 use Rattle.std.specs.Prelude.{[], ⊤}
 use Rattle.sysv_model.specs.Turn.{Ask, OfSlot, OfRegistry, OfPool, Deed, AtSlot, AtRegistry, AtPool}
 use Rattle.sysv_queue.specs.Slot.{Slot}
@@ -13,19 +14,19 @@ use Rattle.sysv_turns.specs.SlotTurns.{IsThere, MayRaise, slot_asked, slot_call,
 use Rattle.sysv_turns.specs.RegistryTurns.{registry_call, registry_reply, FitsRegistryCall, LeavesRegistry}
 use Rattle.sysv_turns.specs.PoolTurns.{MayRelease, pool_call, pool_reply, FitsPoolCall, LeavesPool}
 
--- what is asked, and of which object
+-- The request, and the object that it goes to.
 abbrev pub ask_of_call : ObjectCall → Ask
 ask_of_call (asked.Slot call) = OfSlot (slot_asked call) (slot_call call)
 ask_of_call (asked.Registry call) = OfRegistry (registry_call call)
 ask_of_call (asked.Pool call) = OfPool (pool_call call)
 
--- a row is asked of a slot that is there
+-- A request for a row goes to a slot that exists.
 abbrev pub IsOfSomeSlot : ObjectCall → Type 0
 IsOfSomeSlot (asked.Slot call) = IsThere call
 IsOfSomeSlot (asked.Registry call) = ⊤
 IsOfSomeSlot (asked.Pool call) = ⊤
 
--- the chain that is handed over with it, or an empty one
+-- The chain that the request hands over, or an empty one.
 abbrev pub chain_asked : ObjectCall → Chained
 chain_asked (asked.Slot (Asks ask)) = record { blocks = 0; bytes = [] }
 chain_asked (asked.Slot (Place id cred mtype letter now)) = letter
@@ -33,20 +34,21 @@ chain_asked (asked.Registry call) = record { blocks = 0; bytes = [] }
 chain_asked (asked.Pool (Reserve size)) = record { blocks = 0; bytes = [] }
 chain_asked (asked.Pool (Release chain)) = chain
 
--- it may raise a count of its object
+-- The request may raise a count of its object.
 abbrev pub MayCount : ObjectCall → Type 0
 MayCount (asked.Slot call) = MayRaise call
 MayCount (asked.Registry call) = ⊥
 MayCount (asked.Pool call) = MayRelease call
 
--- a refused turn, and one that only reads, is to leave its object as it was
+-- The replies after which the object is unchanged: the refusals, and the replies to requests that
+-- only read.
 abbrev pub LeavesObject : ObjectReply → Type 0
 LeavesObject (told.Slot reply) = LeavesSlot reply
 LeavesObject (told.Registry reply) = LeavesRegistry reply
 LeavesObject (told.Pool reply) = LeavesPool reply
 
--- The turn was made, where `takes` says what it is to make one, and the reply is of the kind that the call has. Of a slot
--- it is told with what was there before it, which a removal discards
+-- The turn was made, if `takes` states which turns are made, and the reply fits the request. The
+-- reply of a slot depends on the slot before the turn, whose messages a removal discards.
 abbrev pub Takes : {P : Type 0} → (P → Deed → P → Type 0) → P → ObjectCall → ObjectReply → P → Type 0
 Takes takes before (asked.Slot call) (told.Slot reply) after =
     (slot : Slot) × takes before (AtSlot (slot_asked call) (slot_call call) (slot_reply slot reply)) after × FitsSlotCall slot call reply

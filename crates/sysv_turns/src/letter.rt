@@ -1,4 +1,4 @@
-//! A text on its way to a queue.
+//! A message body on its way to a queue.
 
 ghost use Rattle.std.specs.Prelude.{◌≡◌, ◌≤◌, length};
 ghost use Rattle.sysv_model.specs.declared.limits.TheConstants.{MESSAGE_BYTES as most_bytes};
@@ -8,8 +8,9 @@ use std::marker::Model;
 use sysv_model::Body;
 use sysv_pool::Chain;
 
-/// A chain that holds a text of at most 8,192 bytes in as many blocks as it takes. It can be neither dropped nor copied: it
-/// is spent by `into_chain`.
+/// A chain that holds a body of at most 8,192 bytes in the number of blocks that it needs.
+///
+/// A letter can be neither dropped nor copied; spend it with `into_chain`.
 pub struct Letter {
     chain: Chain,
     size: usize,
@@ -30,7 +31,12 @@ impl Model for Letter {
 }
 
 impl Letter {
-    /// The text of the body, of at most 8,192 bytes, in a chain that was reserved for so many.
+    /// Writes the body into the chain and returns both as a letter.
+    ///
+    /// # Conditions
+    ///
+    /// - The chain has exactly the number of blocks for this body.
+    /// - The body has at most 8,192 bytes.
     pub fn of(mut chain: Chain, body: &Body) -> Letter
         requires blocks { chain.blocks ≡ blocks_for (length body.now) }
         requires short { length body.now ≤ most_bytes }
@@ -43,14 +49,14 @@ impl Letter {
         }
     }
 
-    /// The length of the text in bytes, 0 to 8,192.
+    /// Returns the length of the body in bytes, 0 to 8,192.
     pub fn size(&self) -> usize
         ensures { result ≡ length self.now.bytes }
     {
         self.size
     }
 
-    /// The chain alone.
+    /// Returns the chain.
     pub fn into_chain(self) -> Chain
         ensures chain { result ≡ self }
         ensures blocks { result.blocks ≡ blocks_for (length result.bytes) }

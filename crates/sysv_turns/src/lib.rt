@@ -1,5 +1,5 @@
-//! Turns at the objects, as values: what a slot of a queue, the registry and the pool are asked and what they reply.
-//! Whoever has the objects makes them, as they are or behind gates.
+//! Turns at the objects, as values: the requests to a slot, the registry and the pool, and their
+//! replies. The owner of the objects makes the turns, on the objects themselves or behind gates.
 #![tactic(auto)]
 
 mod letter;

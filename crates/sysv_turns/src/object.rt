@@ -9,14 +9,14 @@ use crate::registry::{RegistryCall, RegistryReply};
 use crate::slot::{SlotCall, SlotReply};
 use sysv_pool::Chain;
 
-/// What a call asks at one of its steps, and of which object.
+/// The request of one step of a call, and the kind of object that it goes to.
 pub enum ObjectCall {
     Slot(SlotCall),
     Registry(RegistryCall),
     Pool(PoolCall),
 }
 
-/// What it is told, by an object of the same kind.
+/// The reply of an object of the same kind.
 pub enum ObjectReply {
     Slot(SlotReply),
     Registry(RegistryReply),
@@ -24,7 +24,7 @@ pub enum ObjectReply {
 }
 
 impl ObjectCall {
-    /// The chain that it hands over, or an empty one.
+    /// Returns the chain that the request hands over, or an empty chain if it hands over none.
     pub fn into_chain(self) -> Chain
         ensures { result ≡ chain_asked self }
     {
@@ -46,24 +46,33 @@ impl ObjectCall {
     }
 }
 
-/// What makes the turns of calls: the objects themselves, or a seat at their gates.
+/// A way to make the turns of calls: at the objects themselves, or with a seat at their gates.
 pub trait Turns {
     /// What a turn changes.
     type At;
 
-    /// Whether it may be asked for a turn.
+    /// When a turn may be requested.
     ghost ready: { Self → Self.At → Type 0 };
 
     /// What holds after each turn.
     ghost stays: { Self → Self.At → Type 0 };
 
-    /// Which turns it makes.
+    /// Which turns are made.
     ghost takes: { Self.At → Deed → Self.At → Type 0 };
 
-    /// What is so where it finds no turn, since a gate is worn out.
+    /// What holds if no turn was made because a gate is worn out.
     ghost misses: { Self.At → Ask → Self.At → Type 0 };
 
-    /// Makes one turn. Where a gate is worn out the call comes back.
+    /// Makes one turn.
+    ///
+    /// # Errors
+    ///
+    /// - The request, unchanged, if a gate is worn out. A turn may be requested again.
+    ///
+    /// # Conditions
+    ///
+    /// - A turn may be requested (`ready`).
+    /// - A request for a row goes to a slot that exists.
     fn make(&self, at: &mut Self::At, call: ObjectCall) -> Result<ObjectReply, ObjectCall>
         requires ready { ready self.now at.old }
         requires there { IsOfSomeSlot call }

@@ -7,7 +7,7 @@ ghost use Rattle.sysv_turns.specs.PoolTurns.{PoolMoves, MayRelease};
 use std::marker::Model;
 use sysv_pool::{Chain, Pool};
 
-/// The size of a text, 0 to 8,192 bytes.
+/// The size of a message body, 0 to 8,192 bytes.
 #[derive(Drop)]
 pub struct TextSize {
     size: usize,
@@ -25,7 +25,11 @@ impl Model for TextSize {
 }
 
 impl TextSize {
-    /// A size of at most 8,192.
+    /// Creates a size.
+    ///
+    /// # Conditions
+    ///
+    /// - `size` is at most 8,192.
     pub fn of(size: usize) -> TextSize
         requires { size ≤ most_bytes }
         ensures { result ≡ size }
@@ -33,7 +37,7 @@ impl TextSize {
         TextSize { size }
     }
 
-    /// The number of bytes.
+    /// Returns the number of bytes, 0 to 8,192.
     pub fn bytes(self) -> usize
         ensures size { result ≡ self }
         ensures short { result ≤ most_bytes }
@@ -42,20 +46,24 @@ impl TextSize {
     }
 }
 
-/// What the pool is asked, as the calls of `Pool` of the same names.
+/// The requests to the pool. Each is the call of `Pool` with the same name.
 pub enum PoolCall {
     Reserve(TextSize),
     Release(Chain),
 }
 
-/// What the pool answers, in the order of the calls. A chain of another pool comes back.
+/// The replies of the pool, in the order of the requests. A refused release hands its chain back.
 pub enum PoolReply {
     Reserved(Option<Chain>),
     Released(Result<(), Chain>),
 }
 
 impl PoolCall {
-    /// Makes the turn at this pool, whose released count is below 2^63 if the turn may raise it.
+    /// Makes the turn at this pool.
+    ///
+    /// # Conditions
+    ///
+    /// - For a release, the pool's released count is below 2^63.
     pub fn make(self, pool: &mut Pool) -> PoolReply
         requires { MayRelease self → pool.old.released < 2 ^ 63 }
         ensures { PoolMoves pool.old self result pool.new }

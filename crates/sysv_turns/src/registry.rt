@@ -5,7 +5,7 @@ ghost use Rattle.sysv_turns.specs.RegistryTurns.{RegistryMoves};
 use sysv_keys::{Begun, Registry};
 use sysv_model::Flags;
 
-/// What the registry is asked, as the calls of `Registry` of the same names.
+/// The requests to the registry. Each is the call of `Registry` with the same name.
 #[derive(Clone, Copy, PartialEq, Eq, Debug)]
 pub enum RegistryCall {
     Begin { key: i32, flags: Flags },
@@ -13,7 +13,8 @@ pub enum RegistryCall {
     Forget { id: i32 },
 }
 
-/// What the registry answers: to a begin what it found or made, and else whether a row was changed.
+/// The replies of the registry: what a begin found or made, and whether a settle or a forget
+/// changed a row.
 #[derive(Clone, Copy, PartialEq, Eq, Debug)]
 pub enum RegistryReply {
     Begun(Begun),
@@ -21,7 +22,7 @@ pub enum RegistryReply {
 }
 
 impl RegistryCall {
-    /// Makes the turn.
+    /// Makes the turn at this registry.
     pub fn make(self, registry: &mut Registry) -> RegistryReply
         ensures { RegistryMoves registry.old self result registry.new }
     {

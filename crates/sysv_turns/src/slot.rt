@@ -1,4 +1,4 @@
-//! Turns at a slot of a queue.
+//! Turns at a slot.
 
 ghost use Rattle.std.specs.Prelude.{◌≡◌, ◌^◌, ◌<◌};
 ghost use Rattle.sysv_turns.specs.SlotTurns.{SlotMoves, IsThere, IsThereFor, MayRaise, slot_of_ask, slot_asked};
@@ -9,7 +9,8 @@ use sysv_keys::slot_of_id;
 use sysv_model::{Cred, Errno, Flags, Row, Selector, SetTo, Stat};
 use sysv_queue::{Discarded, Look, PlaceRefused, Probe, QueueSlot, TakeRefused, Taken};
 
-/// What a slot is asked without a text, as the calls of `QueueSlot` of the same names.
+/// The requests to a slot that hand over no message body. Each is the call of `QueueSlot` with the
+/// same name.
 #[derive(Clone, Copy, PartialEq, Eq, Debug)]
 pub enum SlotAsk {
     Install {
@@ -51,13 +52,14 @@ pub enum SlotAsk {
         id: i32,
         cred: Cred,
     },
-    /// `QueueSlot::row`, at the slot of this number.
+    /// `QueueSlot::row`, at the slot with this number.
     Row {
         slot: usize,
     },
 }
 
-/// What a slot is asked: with a text, as `QueueSlot::place`, or without one.
+/// The requests to a slot: `QueueSlot::place`, which hands over a body, and the requests without
+/// one.
 pub enum SlotCall {
     Ask(SlotAsk),
     Place {
@@ -69,7 +71,7 @@ pub enum SlotCall {
     },
 }
 
-/// What a slot answers, in the order of the calls.
+/// The replies of a slot. Each is the result of the call.
 pub enum SlotReply {
     Installed(bool),
     Probed(Probe),
@@ -83,7 +85,9 @@ pub enum SlotReply {
 }
 
 impl SlotAsk {
-    /// The number of the slot at which it is made.
+    /// Returns the number of the slot that the request goes to: the slot of its identifier, or the
+    /// slot whose row it reads. It is below `SLOTS` unless the request reads the row of a slot that
+    /// does not exist.
     pub fn slot(&self) -> usize
         ensures number { result ≡ slot_of_ask self.now }
         ensures within { IsThereFor self.now → result < SLOTS }
@@ -101,7 +105,7 @@ impl SlotAsk {
         slot_of_id(id)
     }
 
-    // Makes the turn at this slot, whose counts are below 2^63 if the turn may raise one.
+    // Makes the turn at this slot. Its counts must be below 2^63 if the turn may raise one.
     #[inline(always)]
     fn make(self, slot: &mut QueueSlot) -> SlotReply
         requires arrived { MayRaise (SlotCall.Ask self) → slot.old.arrived < 2 ^ 63 }
@@ -135,7 +139,9 @@ impl SlotAsk {
 }
 
 impl SlotCall {
-    /// The number of the slot at which it is made: that of its identifier, or the one whose row it reads.
+    /// Returns the number of the slot that the request goes to: the slot of its identifier, or the
+    /// slot whose row it reads. It is below `SLOTS` unless the request reads the row of a slot that
+    /// does not exist.
     pub fn slot(&self) -> usize
         ensures number { result ≡ slot_asked self.now }
         ensures within { IsThere self.now → result < SLOTS }
@@ -146,7 +152,12 @@ impl SlotCall {
         }
     }
 
-    /// Makes the turn at this slot, whose counts are below 2^63 if the turn may raise one.
+    /// Makes the turn at this slot.
+    ///
+    /// # Conditions
+    ///
+    /// - If the turn may raise a count of the slot (a place, a take, a set or a removal), both
+    ///   counts are below 2^63.
     #[inline(always)]
     pub fn make(self, slot: &mut QueueSlot) -> SlotReply
         requires arrived { MayRaise self → slot.old.arrived < 2 ^ 63 }
