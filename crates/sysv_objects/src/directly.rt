@@ -1,9 +1,9 @@
-//! What makes turns at the objects themselves.
+//! Turns at the objects themselves.
 
 use crate::objects::Objects;
 use sysv_turns::{ObjectCall, ObjectReply, Turns};
 
-/// Makes turns at the objects themselves, which always have one.
+/// Makes turns at the objects themselves. A turn is always made: no gate can be worn out.
 #[derive(Clone, Copy, PartialEq, Eq, Debug)]
 pub struct Directly;
 

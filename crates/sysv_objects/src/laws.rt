@@ -10,7 +10,8 @@ use sysv_keys::{legal_history as legal_registry_history, one_legal_reply as one_
 use sysv_pool::{legal_history as legal_pool_history, one_legal_reply as one_pool_reply};
 use sysv_queue::{legal_history, one_legal_reply};
 
-/// No turn is a legal list of turns, and one more with a legal reply makes a legal list.
+/// States that the empty list of turns is legal, and that a legal list is still legal with one more
+/// legal turn.
 pub fn legal_turns()
     ensures none { (generation blocks : ℕ) → AreLegal generation blocks [] }
     ensures more { (generation blocks : ℕ) (turns : List Turn) (who : Who) (deed : Deed) →
@@ -22,7 +23,7 @@ pub fn legal_turns()
     legal_pool_history();
 }
 
-/// What is asked of an object after a legal list of turns has one legal reply, and no two.
+/// States that after a legal list of turns each request to an object has exactly one legal reply.
 pub fn one_legal_deed()
     ensures some { SomeDeedIsLegal }
     ensures one { NoTwoDeedsAreLegal }

@@ -1,6 +1,7 @@
-//! The objects at which the calls of System V message queues take their turns: the slots of the queues,
-//! the registry of their keys and the pool of blocks, as one value. `specs/` says which reply to a turn is the legal one,
-//! and for which lists of turns the objects stand.
+//! The objects at which the calls of System V message queues take their turns: the slots, the
+//! registry of the keys and the pool of blocks, as one value.
+//!
+//! `specs/` defines which reply to a turn is legal, and for which lists of turns the objects stand.
 #![tactic(auto)]
 
 mod directly;

@@ -1,4 +1,4 @@
-//! The slots of the queues, the registry and the pool.
+//! The slots, the registry and the pool.
 
 ghost use Rattle.std.specs.Prelude.{◌≡◌, ℕ, ◌+◌, ◌^◌, ◌<◌, ◌≤◌, ◌⊎◌, ◌↔◌, List, [], IsTrue, IfOk, IfSome, Err};
 ghost use Rattle.sysv_model.specs.History.{arrived, freed};
@@ -26,20 +26,22 @@ use sysv_turns::{
     ObjectCall, ObjectReply, PoolCall, PoolReply, RegistryCall, RegistryReply, SlotCall, SlotReply,
 };
 
-/// Why objects are not opened.
+/// Why the objects were not opened.
 #[derive(Clone, Copy, PartialEq, Eq, Debug)]
 pub enum ObjectsRefused {
-    /// Memory was refused.
+    /// Allocation failed.
     NoMemory,
-    /// The generation is above the last one.
+    /// The generation is above the last one, `GENERATION_LAST`.
     BadStart,
     /// The number of blocks is not 128 to 65,536.
     BadSize,
 }
 
-/// The slots of the queues, each under its number, the registry of the keys and identifiers, and the pool
-/// of the blocks in which texts lie. A call on an identifier goes to the slot that its number tells,
-/// whether a queue lives under it or not. Objects can't be dropped: they end by `end`.
+/// The slots by their numbers, the registry of keys and identifiers, and the pool of the blocks
+/// that hold message bodies.
+///
+/// A request with an identifier goes to the slot of this identifier, whether the identifier is live
+/// or not. Objects cannot be dropped; end them with `end`.
 pub struct Objects {
     slots: Vec<QueueSlot>,
     registry: Registry,
@@ -59,10 +61,18 @@ impl Model for Objects {
 }
 
 impl Objects {
-    /// Vacant slots, a registry without rows, whose slots all have this generation, and a pool of this many
-    /// blocks, 128 to 65,536. `BadStart` comes exactly where the generation is above the last one,
-    /// `GENERATION_LAST`, and else `BadSize` exactly where the number of blocks is out of its range. No
-    /// later call takes memory.
+    /// Creates vacant slots, a registry without rows whose slots all have the generation
+    /// `generation`, and a pool of `blocks` blocks, 128 to 65,536.
+    ///
+    /// No later call allocates.
+    ///
+    /// # Errors
+    ///
+    /// The first cause that applies is reported.
+    ///
+    /// - `BadStart` if and only if `generation` is above `GENERATION_LAST`.
+    /// - `BadSize` if `blocks` is not 128 to 65,536.
+    /// - `NoMemory` if allocation fails.
     pub fn open_at(alloc: Global, generation: u32, blocks: u32) -> Result<Objects, ObjectsRefused>
         ensures stands { IfOk result (StandsFor generation []) }
         ensures size { IfOk result (λ objects. objects.pool.size ≡ blocks) }
@@ -94,8 +104,16 @@ impl Objects {
         })
     }
 
-    /// Makes one turn: at the slot of its number, at the registry or at the pool. No count may be above 2^62 where the turn may
-    /// raise one. A refused turn, and one that only reads, changes nothing.
+    /// Makes one turn: at the slot that the request goes to, at the registry or at the pool.
+    ///
+    /// A refused turn and a turn that only reads change nothing. No turn changes an object that it
+    /// does not go to.
+    ///
+    /// # Conditions
+    ///
+    /// - If the turn may raise a count (of a slot or of the pool), the counts of all slots and the
+    ///   released count are at most 2^62.
+    /// - A request for a row goes to a slot that exists.
     #[inline(always)]
     pub fn make(&mut self, call: ObjectCall) -> ObjectReply
         requires counts { MayCount call → CountsUpTo (2 ^ 62) self.old }
@@ -112,6 +130,7 @@ impl Objects {
     }
 
     #[inline(always)]
+    /// Makes a turn at a slot.
     fn at_slot(&mut self, call: SlotCall) -> SlotReply
         requires counts { MayRaise call → CountsUpTo (2 ^ 62) self.old }
         requires there { IsThere call }
@@ -124,6 +143,7 @@ impl Objects {
         call.make(&mut self.slots[place])
     }
 
+    /// Makes a turn at the registry.
     fn at_registry(&mut self, call: RegistryCall) -> RegistryReply
         ensures turn { Takes MakesTurn self.old (ObjectCall.Registry call)
             (ObjectReply.Registry result) self.new }
@@ -133,6 +153,7 @@ impl Objects {
         call.make(&mut self.registry)
     }
 
+    /// Makes a turn at the pool.
     fn at_pool(&mut self, call: PoolCall) -> PoolReply
         requires { MayRelease call → CountsUpTo (2 ^ 62) self.old }
         ensures turn { Takes MakesTurn self.old (ObjectCall.Pool call) (ObjectReply.Pool result)
@@ -143,7 +164,11 @@ impl Objects {
         call.make(&mut self.pool)
     }
 
-    /// `Registry::is_unused`.
+    /// Returns what `Registry::is_unused` returns.
+    ///
+    /// # Conditions
+    ///
+    /// - `slot` is below `SLOTS`.
     pub fn is_unused(&self, slot: usize) -> bool
         requires { slot < SLOTS }
         ensures { (generation : ℕ) (turns : List Turn) → StandsFor generation turns self.now →
@@ -152,7 +177,7 @@ impl Objects {
         self.registry.is_unused(slot)
     }
 
-    /// The arrived count of the identifier's slot.
+    /// Returns the arrived count of the identifier's slot.
     pub fn arrived(&self, id: i32) -> u64
         ensures { (generation : ℕ) (turns : List Turn) → StandsFor generation turns self.now →
             result ≡ arrived (slot_history (slot_of_id id) turns) }
@@ -161,7 +186,7 @@ impl Objects {
         self.slots[place].counts().0
     }
 
-    /// The freed count of the identifier's slot.
+    /// Returns the freed count of the identifier's slot.
     pub fn freed(&self, id: i32) -> u64
         ensures { (generation : ℕ) (turns : List Turn) → StandsFor generation turns self.now →
             result ≡ freed (slot_history (slot_of_id id) turns) }
@@ -170,7 +195,7 @@ impl Objects {
         self.slots[place].counts().1
     }
 
-    /// The settled count of the registry.
+    /// Returns the settled count of the registry.
     pub fn settled(&self) -> u64
         ensures { (generation : ℕ) (turns : List Turn) → StandsFor generation turns self.now →
             result ≡ settled (registry_history turns) }
@@ -178,7 +203,7 @@ impl Objects {
         self.registry.settled()
     }
 
-    /// The released count of the pool.
+    /// Returns the released count of the pool.
     pub fn released(&self) -> u64
         ensures { (generation : ℕ) (turns : List Turn) → StandsFor generation turns self.now →
             result ≡ released (pool_history turns) }
@@ -186,9 +211,15 @@ impl Objects {
         self.pool.released()
     }
 
-    /// Ends the objects: puts the chain, and the blocks of all that waits, back into the pool, and answers
-    /// how many blocks are free then. Where they are more than the pool was opened with none of them is put
-    /// back. It takes no memory. No count may be above 2^62.
+    /// Ends the objects: returns `chain` and the blocks of all queued messages to the pool, and
+    /// returns the number of blocks that are then free.
+    ///
+    /// If more blocks than the pool was opened with would be free, none of them is returned to the
+    /// pool. Allocates nothing.
+    ///
+    /// # Conditions
+    ///
+    /// - The counts of all slots and the released count are at most 2^62.
     pub fn end(self, chain: Chain) -> u32
         requires { CountsUpTo (2 ^ 62) self }
         ensures own { self.pool.free + (blocks_in self.slots + chain.blocks) ≤ self.pool.size →
@@ -210,7 +241,7 @@ impl Objects {
     }
 }
 
-/// As many vacant slots as there are. `None` where memory was refused.
+/// Creates `SLOTS` vacant slots. Returns `None` if allocation fails.
 fn open_slots(alloc: Global) -> Option<Vec<QueueSlot>>
     ensures { IfSome result (λ slots. AreVacant slots.items) }
 {
@@ -227,7 +258,7 @@ fn open_slots(alloc: Global) -> Option<Vec<QueueSlot>>
     Some(slots)
 }
 
-/// Ends the slots, and gives one chain of the blocks of all that waits in them.
+/// Ends the slots, and returns one chain with the blocks of all their queued messages.
 fn joined(mut slots: Vec<QueueSlot>) -> Chain
     ensures { result ≡ record { blocks = blocks_in slots.items; bytes = [] } }
 {
