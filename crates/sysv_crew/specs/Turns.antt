@@ -1,16 +1,17 @@
--- The turns that passes make on threads, in one order. A pass has a number (this profile's).
+-- The turns that passes make on threads, in one order (this profile's). Each pass has a number.
 use Rattle.std.specs.Prelude.{ℕ, List, map}
 use Rattle.sysv_model.specs.History.{Seat}
 use Rattle.sysv_model.specs.Turn.{Deed, Turn}
 
--- a turn, and the number of the pass that made it
+-- A turn: its deed, and the number of the pass that made it.
 pub record Numbered : Type 0 where
   pub by : ℕ
   pub deed : Deed
 
--- as in the histories of the objects, where a seat has the number of its pass
+-- The turn as in the histories of the objects. It was made by the seat with the number of the pass.
 abbrev pub turn_of : Numbered → Turn
 turn_of t = record { who = Seat t.by; deed = t.deed }
 
+-- The turns of an order, as in the histories of the objects.
 abbrev pub turns_of : List Numbered → List Turn
 turns_of order = map turn_of order
