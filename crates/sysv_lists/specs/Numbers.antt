@@ -1,18 +1,19 @@
--- How often a number is in a list, and which numbers lie between two others.
+-- How often a number is in a list, and which numbers are between two others (this project's words).
 use Rattle.std.specs.Prelude.{◌≡◌, ℕ, ◌≤◌, ◌==◌, ◌&&◌, List, cond, count_by, nat_le, nat_lt}
 
--- how often x is in the list
+-- The number of times that x is in the list.
 abbrev pub times : ℕ → List ℕ → ℕ
 times x xs = count_by (λ y. y == x) xs
 
--- no number is in the list twice
+-- No number is in the list twice.
 abbrev pub NoneTwice : List ℕ → Type 0
 NoneTwice xs = (x : ℕ) → times x xs ≤ 1
 
--- 1 if x is at least `from` and below `to`, else 0
+-- 1 if x is at least `from` and below `to`, otherwise 0.
 abbrev pub once_between : ℕ → ℕ → ℕ → ℕ
 once_between from to x = cond (nat_le from x && nat_lt x to) 1 0
 
--- the numbers of the list are those from `from` to below `to`, each once
+-- The list has each number that is at least `from` and below `to` exactly once, and no other
+-- number.
 abbrev pub AreBetween : ℕ → ℕ → List ℕ → Type 0
 AreBetween from to xs = (x : ℕ) → times x xs ≡ once_between from to x

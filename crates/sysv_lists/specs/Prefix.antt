@@ -1,6 +1,6 @@
--- A prefix of a list (this project's word).
+-- Prefixes of lists (this project's word).
 use Rattle.std.specs.Prelude.{◌≡◌, List, ◌++◌}
 
--- the whole list begins with this one
+-- The whole list begins with this prefix.
 abbrev pub IsPrefixOf : {A : Type 0} → List A → List A → Type 0
 IsPrefixOf {A} prefix whole = (rest : List A) × (whole ≡ prefix ++ rest)
