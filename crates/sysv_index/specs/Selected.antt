@@ -18,7 +18,7 @@ pub record IsLowest (sel : Selector) (by_type : List Entry) (found : Entry) : Ty
   pub there : slice_get by_type 0 ≡ Some found
   pub low : Qualifies sel found.mtype
 
--- There is no first entry that qualifies among the entries by type.
+-- The first of the entries by type, if there is one, does not qualify.
 abbrev pub NoneLow : Selector → List Entry → Type 0
 NoneLow sel by_type = (e : Entry) → slice_get by_type 0 ≡ Some e → ¬ Qualifies sel e.mtype
 

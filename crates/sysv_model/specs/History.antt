@@ -62,25 +62,26 @@ History = List Entry
 abbrev pub then_turn : History → Who → Call → Reply → History
 then_turn h who call reply = h ++ record { who = who; call = call; reply = reply } ∷ []
 
--- The turns that end the wait of a receive: a message was accepted, or the queue was set or
--- removed.
+-- The turns that raise the arrived count, for which receives wait: a message was accepted, or the
+-- queue was set or removed.
 abbrev pub announces_arrival : Call → Reply → Bool
 announces_arrival (Place id cred mtype bytes now) (Accepted number) = true
 announces_arrival (Set id cred to now) Done = true
 announces_arrival (Remove id cred) (Discarded messages) = true
 announces_arrival call reply = false
 
--- The turns that end the wait of a send: a message was taken, or the queue was set or removed.
+-- The turns that raise the freed count, for which sends wait: a message was taken, or the queue was
+-- set or removed.
 abbrev pub announces_room : Call → Reply → Bool
 announces_room (Take id cred selector size noerror now) (Taken message) = true
 announces_room (Set id cred to now) Done = true
 announces_room (Remove id cred) (Discarded messages) = true
 announces_room call reply = false
 
--- The arrived count: the number of turns of the first kind, over all queues that the slot has held.
+-- The arrived count: the number of turns that raise it, over all queues that the slot has held.
 abbrev pub arrived : History → ℕ
 arrived h = count_by (λ (e : Entry). announces_arrival e.call e.reply) h
 
--- The freed count: the number of turns of the second kind, over all queues that the slot has held.
+-- The freed count: the number of turns that raise it, over all queues that the slot has held.
 abbrev pub freed : History → ℕ
 freed h = count_by (λ (e : Entry). announces_room e.call e.reply) h

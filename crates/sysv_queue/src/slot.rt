@@ -137,7 +137,7 @@ impl Model for QueueSlot {
 }
 
 impl QueueSlot {
-    /// Creates a vacant slot with space for 256 messages.
+    /// Creates a vacant slot with room for 256 messages.
     ///
     /// # Errors
     ///
@@ -189,7 +189,7 @@ impl QueueSlot {
         true
     }
 
-    /// Returns whether the queue `id` is live and grants the access that the mode in `flags`
+    /// Reports whether the queue `id` is live and grants the access that the mode in `flags`
     /// requests (POSIX.1-2017, `msgget`; which bits request which access is this profile's).
     ///
     /// The flags request read permission if a read bit is set, and write permission if a write bit
@@ -341,7 +341,7 @@ impl QueueSlot {
         }
     }
 
-    /// Returns whether the caller could place a message of `size` bytes now (POSIX.1-2017,
+    /// Reports whether the caller could place a message of `size` bytes now (POSIX.1-2017,
     /// `msgsnd`).
     ///
     /// The result is `Gone` if the identifier is not live, otherwise `Denied` if write permission
