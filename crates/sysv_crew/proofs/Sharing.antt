@@ -1,4 +1,5 @@
--- Shares that are the whole, and how they stay so when one is halved or they are listed in another order.
+-- Shares that are together the whole, and why they stay so when one is halved or when they are
+-- listed in another order.
 use Rattle.std.proofs.Common.{◌≡◌, ℕ, zero, suc, ◌+◌, ◌-◌, ◌*◌, ◌^◌, ◌≤◌, List, [], ◌∷◌, ◌++◌, map, refl, sym, ap, subst, ◌∙◌, arith}
 use Rattle.std.specs.List.{All}
 use Rattle.std.proofs.Math.Nat.{pow-suc}
@@ -35,14 +36,14 @@ twice_part fine depth low =
     let e : part (suc fine) depth ≡ 2 ^ suc (fine - depth) = ap (λ n. 2 ^ n) one_more in
     omega (arith, e, twice)
 
--- parts half as large are twice as many
+-- Parts of half the size are twice as many.
 twice_parts : (fine : ℕ) (xs : List ℕ) → All (AtMost fine) xs → parts (suc fine) xs ≡ 2 * parts fine xs
 twice_parts fine [] a = refl
 twice_parts fine (x ∷ xs) a =
     omega
     (arith, sum_by-cons (part (suc fine)) x xs, sum_by-cons (part fine) x xs, twice_part fine x (All-head (AtMost fine) x xs a), twice_parts fine xs (All-tail (AtMost fine) x xs a))
 
--- halves of the shares, in parts half as large
+-- The number of halved shares, in parts of half the size, is the same.
 parts_of_halves : (fine : ℕ) (xs : List ℕ) → parts (suc fine) (map suc xs) ≡ parts fine xs
 parts_of_halves fine [] = refl
 parts_of_halves fine (x ∷ xs) =
@@ -50,7 +51,8 @@ parts_of_halves fine (x ∷ xs) =
     let e : part (suc fine) (suc x) ≡ part fine x = ap (λ n. 2 ^ n) same in
     omega (arith, sum_by-cons (part (suc fine)) (suc x) (map suc xs), sum_by-cons (part fine) x xs, e, parts_of_halves fine xs)
 
--- the whole in parts of one size is the whole in parts of any other that are as fine as each share
+-- Shares that are the whole in parts of one size are the whole in parts of any other size that is
+-- at least as fine as each share.
 abbrev IsWholeIn : List ℕ → ℕ → Type 0
 IsWholeIn xs fine = parts fine xs ≡ 2 ^ fine
 

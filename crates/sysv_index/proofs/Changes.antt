@@ -1,4 +1,4 @@
--- Both orders stay those of one set of entries as an entry comes in and as one goes out.
+-- Both orders still have the same entries after an entry was added or removed.
 use Rattle.std.proofs.Common.{◌≡◌, ◌≢◌, ℕ, suc, ◌+◌, ◌<◌, ◌≤◌, ◌≤ℤ◌, ◌==◌, Bool, not, List, [], ◌∷◌, ◌++◌, Some, length, get_or, refl, sym, ap, subst, ◌∙◌, inl, inr, arith}
 use Rattle.std.specs.List.{All, Contains, filter, insert, remove, slice_get}
 use Rattle.std.specs.List.Sorted.{IsPermutation}
@@ -38,7 +38,7 @@ module _ (entries by_type : List Entry) (x : IsIndex entries by_type) where
   abbrev Rises : Entry → Entry → Type 0
   Rises a b = a.number < b.number
 
-  -- one number, one place
+  -- One number is at one place.
   pub one_place : (i j : ℕ) (a b : Entry) → slice_get entries i ≡ Some a → slice_get entries j ≡ Some b → a.number ≡ b.number → i ≡ j
   one_place i j a b here there same = elim (cases_order i j) [
     | inl e ↦ e
@@ -60,7 +60,7 @@ module _ (entries by_type : List Entry) (x : IsIndex entries by_type) where
       let e : a ≡ b = one_entry i j a b (slice_get-get_or by_type i d (omega arith)) (slice_get-get_or by_type j d within) same in
       never_before_itself b (subst (λ z. IsBefore z b) e (x.sorted i j d less within))
 
-  -- an entry comes in whose number is above all others
+  -- An entry is added whose number is above all others.
   module _ (e : Entry) (new : List Entry) (room : length entries < QUEUE_MESSAGES) (last : All (λ (other : Entry). other.number < e.number) entries) (came : IsInserted by_type e new) where
     last_of : All (λ (other : Entry). other.number < e.number) by_type
     last_of k d within =
@@ -92,7 +92,7 @@ module _ (entries by_type : List Entry) (x : IsIndex entries by_type) where
       few = let h = length_push entries e in omega arith;
     })
 
-  -- the entry with a number goes out, if there is one
+  -- The entry with this number is removed, if there is one.
   module _ (number : ℕ) where
     abbrev stays : Entry → Bool
     stays e = not (e.number == number)

@@ -1,4 +1,5 @@
--- What one entry tells of those before it and of those after it, where entries stand by type.
+-- What one entry implies for the entries before and after it, if entries are in the order of their
+-- types.
 use Rattle.std.proofs.Common.{◌≡◌, ℕ, zero, suc, ◌/◌, ◌^◌, ℤ, ◌+◌, ◌<◌, ◌≤◌, ◌<ℤ◌, ◌≤ℤ◌, true, false, List, Some, length, get_or, ◌≢◌, refl, sym, ap, subst, ◌∙◌, inl, inr, arith}
 use Rattle.std.specs.List.{All, AllPairs, AllWithin, insert, slice_get}
 use Rattle.std.specs.List.Sorted.{IsPartitionedBy, IsPartitionPoint}
@@ -43,12 +44,12 @@ above_from xs t middle e sorted within there higher k d low high =
     higher_of (get_or xs k d).mtype (get_or xs middle d).mtype t (types_rise xs sorted middle k d low high)
     (subst (λ (z : Entry). t ≤ℤ z.mtype) (sym is) higher)
 
--- what is halved is below half of a power
+-- Half of a number below a power of 2 is below half of that power.
 pub halved : (left some half : ℕ) → some < 2 ^ left → 0 < some → half ≤ some / 2 → (less : ℕ) × (half < 2 ^ less) × (less + 1 ≡ left)
 halved zero some half below more at_most = let one : 2 ^ 0 ≡ 1 = refl in absurd (omega arith)
 halved (suc left) some half below more at_most = let twice = two-pow-succ left in (left, omega arith, omega arith)
 
--- where an entry of a type comes in
+-- Where an entry of a type is inserted.
 admits_lower : (a b t : ℤ) → a ≤ℤ b → le_z b t ≡ true → le_z a t ≡ true
 admits_lower a b t h k = grind (arith, ints)
 
@@ -77,7 +78,7 @@ between t a b h k e = omega (arith, ints)
 lower_apart : (a t : ℤ) → a <ℤ t → ¬ (a ≡ t)
 lower_apart a t h e = omega (arith, ints)
 
--- the first entry of a type or a higher one is of another type, so there is none of the type
+-- If the first entry of a type or a higher one has another type, no entry has the type.
 pub none_of_type : (xs : List Entry) (t : ℤ) (at : ℕ) (e : Entry) → AllPairs IsBefore xs → slice_get xs at ≡ Some e → AllWithin (λ (o : Entry). o.mtype <ℤ t) xs 0 at →
     AllWithin (λ (o : Entry). t ≤ℤ o.mtype) xs at (length xs) → ¬ (e.mtype ≡ t) → All (λ (o : Entry). o.mtype ≢ t) xs
 none_of_type xs t at e sorted there below above other k d within same = elim (cases_lt k at) [

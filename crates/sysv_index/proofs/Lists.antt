@@ -23,7 +23,7 @@ other_number a b f = not_true (a == b) (λ e. f (one_number a b e))
 pub never_both : (t : Bool) → t ≡ true → t ≡ false → ⊥
 never_both t e f = let bad : true ≡ false = sym e ∙ f in cc
 
--- there is an element at each place within
+-- There is an element at each place below the length.
 pub there_is : {X : Type 0} (xs : List X) (i : ℕ) → i < length xs → (x : X) × (slice_get xs i ≡ Some x)
 there_is [] i within = absurd (omega arith)
 there_is (x ∷ xs) zero within = (x, refl)
@@ -32,14 +32,14 @@ there_is (x ∷ xs) (suc i) within = there_is xs i (omega arith)
 pub one_there : {X : Type 0} (xs : List X) (i : ℕ) (x y : X) → slice_get xs i ≡ Some x → slice_get xs i ≡ Some y → x ≡ y
 one_there xs i x y a b = same_Some x y (sym a ∙ b)
 
--- what a list has stands at a place of it
+-- An element of a list is at some place of it.
 pub place_of : {X : Type 0} (xs : List X) (x : X) → Contains xs x → (k : ℕ) × (slice_get xs k ≡ Some x)
 place_of xs x (k, within, is) = (k, slice_get-get_or xs k x within ∙ ap Some is)
 
 pub contains_at : {X : Type 0} (xs : List X) (k : ℕ) (x : X) → slice_get xs k ≡ Some x → Contains xs x
 contains_at xs k x there = (k, slice_get_within xs k x there, get_or_from_slice_get xs k x x there)
 
--- what holds of all holds of the one at a place
+-- What holds of all elements holds of the element at a place.
 pub at_place : {X : Type 0} (P : X → Type 0) (xs : List X) (k : ℕ) (x : X) → All P xs → slice_get xs k ≡ Some x → P x
 at_place P xs k x all there = subst P (get_or_from_slice_get xs k x x there) (all k x (slice_get_within xs k x there))
 
@@ -54,7 +54,8 @@ pairs_head R x xs all k d within = all 0 (suc k) d (omega arith) (omega arith)
 pub pairs_tail : {X : Type 0} (R : X → X → Type 0) (x : X) (xs : List X) → AllPairs R (x ∷ xs) → AllPairs R xs
 pairs_tail R x xs all i j d below within = all (suc i) (suc j) d (omega arith) (omega arith)
 
--- a pair of places of a list into which an element came, by where it stands to that element
+-- A pair of places of a list into which an element was inserted, by their positions relative to
+-- that element.
 module _ {X : Type 0} (R : X → X → Type 0) (xs : List X) (at : ℕ) (y : X) (within : at ≤ length xs) (all : AllPairs R xs)
     (below : AllWithin (λ x. R x y) xs 0 at) (above : AllWithin (λ x. R y x) xs at (length xs)) where
   both_below : (i j : ℕ) (d : X) → i < j → j < at → R (get_or (insert xs at y) i d) (get_or (insert xs at y) j d)
@@ -99,7 +100,7 @@ module _ {X : Type 0} (R : X → X → Type 0) (xs : List X) (at : ℕ) (y : X) 
             ])
       ]
 
--- what passes a filter and was in the list is in what the filter leaves
+-- An element of the list that passes a filter is in the filtered list.
 pub contains_filter : {X : Type 0} (p : X → Bool) (xs : List X) (k : ℕ) (x : X) → slice_get xs k ≡ Some x → p x ≡ true → (j : ℕ) × (slice_get (filter p xs) j ≡ Some x)
 contains_filter p [] k x there passes = cc
 contains_filter p (y ∷ ys) zero x there passes =
@@ -111,7 +112,7 @@ contains_filter p (y ∷ ys) (suc k) x there passes = step (p y) (contains_filte
     step true w = (suc w.0, w.1)
     step false w = w
 
--- the elements with another number
+-- The elements with another number.
 module _ {X : Type 0} (number : X → ℕ) (n : ℕ) where
   abbrev pub others : List X → List X
   others xs = filter (λ x. not (number x == n)) xs
@@ -133,7 +134,7 @@ module _ {X : Type 0} (number : X → ℕ) (n : ℕ) where
       ap (λ t. cond (not t) (y ∷ others ys) (others ys)) (other_number (number y) n apart)
       ∙ ap (λ zs. y ∷ zs) (others_present ys p x there is (pairs_tail (λ a b. number a ≢ number b) y ys differ))
 
-  -- an element of a list has the number, or none has
+  -- Some element of a list has the number, or none has it.
   pub found_or_absent : (xs : List X) → ((p : ℕ) × (x : X) × (slice_get xs p ≡ Some x) × (number x ≡ n)) ⊎ All (λ x. number x ≢ n) xs
   found_or_absent [] = inr (λ k d within. absurd (omega arith))
   found_or_absent (x ∷ xs) = step (number x == n) refl (found_or_absent xs)

@@ -1,4 +1,4 @@
--- The entry that goes out is at the place that halving finds.
+-- The entry to be removed is at the place that the binary search finds.
 use Rattle.std.proofs.Common.{◌≡◌, ◌≢◌, ℕ, ◌<◌, ◌≤◌, ◌↔◌, ◌&&◌, ◌||◌, Bool, true, false, not, nat_lt, int_lt, IsTrue, List, Some, get_or, refl, sym, subst, ◌∙◌, inl, inr, arith}
 use Rattle.std.specs.List.{All, AllPairs, slice_get}
 use Rattle.std.specs.List.Sorted.{IsPartitionedBy, IsPartitionPoint}
@@ -22,7 +22,7 @@ before_through a b c (inr h) (inr k) = let m = h.1 in let n = k.1 in inr (h.0 �
 pub rising_differ : (xs : List Entry) → NumbersRise xs → NumbersDiffer xs
 rising_differ xs rising i j d less within same = let h = rising i j d less within in omega arith
 
--- by number
+-- By number.
 abbrev pub below : ℕ → Entry → Bool
 below n e = nat_lt e.number n
 
@@ -52,7 +52,7 @@ none_of_number xs n at rising point other k d within same = elim (cases_order k 
       omega arith
 ]
 
--- by type
+-- By type.
 abbrev pub before : Entry → Entry → Bool
 before e a = int_lt a.mtype e.mtype || (not (int_lt e.mtype a.mtype) && nat_lt a.number e.number)
 

@@ -14,7 +14,7 @@ use Rattle.sysv_index.specs.Selected.{IsSelected, IsLowest, NoneLow, IsFirstOf, 
 use Rattle.sysv_index.proofs.Lists.{there_is, one_there, at_place, at_places}
 use Rattle.sysv_index.proofs.Changes.{known_at, held_at}
 
--- the types in the order of the numbers, at a place
+-- The type at a place of the entries in the order of their numbers.
 pub type_there : (entries : List Entry) (p : ℕ) (e : Entry) → slice_get entries p ≡ Some e → type_at (types_of entries) p ≡ e.mtype
 type_there entries p e there =
     get_or-map (λ (o : Entry). o.mtype) entries p e (pos 0) (slice_get_within entries p e there) ∙ ap (λ (o : Entry). o.mtype) (get_or_from_slice_get entries p e e there)
@@ -44,12 +44,12 @@ not_earlier e o (inr (inr equal)) t h = let n = equal.1 in omega arith
 not_both : (a t : ℤ) → a <ℤ t → ¬ (a ≡ t)
 not_both a t h e = omega (arith, ints)
 
--- what a bound admits it admits of lower types
+-- A bound that includes a type includes all lower types.
 admits_lower : (a b : ℤ) (bound : ℕ) → ¬ (b <ℤ a) → b ≤ℤ pos bound → a ≤ℤ pos bound
 admits_lower a b bound h k = grind (arith, ints)
 
 module _ (entries by_type : List Entry) (x : IsIndex entries by_type) where
-  -- an entry by type, and one that does not stand before it
+  -- An entry by type, and an entry that is not before it.
   from_place : (i k : ℕ) (e o : Entry) → slice_get by_type i ≡ Some e → slice_get by_type k ≡ Some o → i ≤ k → (e ≡ o) ⊎ IsBefore e o
   from_place i k e o here there order = elim (cases_lt i k) [
     | inl less ↦ inr (at_places IsBefore by_type i k e o x.sorted less here there)
@@ -129,7 +129,7 @@ none_first : (entries : List Entry) → slice_get entries 0 ≡ None → NoneQua
 none_first [] there place q = let h = q.0 in omega arith
 none_first (o ∷ os) there place q = cc
 
--- one whose type differs, where no earlier one's does
+-- No earlier entry has another type.
 abbrev pub NoneBefore : ℤ → List Entry → ℕ → Type 0
 NoneBefore refused entries n = (earlier : ℕ) → earlier < n → ¬ QualifiesAt (Except refused) (types_of entries) earlier
 
@@ -145,7 +145,7 @@ none_before_next entries refused p e none there same earlier less q = elim (case
 pub none_differs : (entries : List Entry) (refused : ℤ) (n : ℕ) → NoneBefore refused entries n → length entries ≤ n → NoneQualifies (Except refused) (types_of entries)
 none_differs entries refused n none all place q = let long = length-map entries (λ (o : Entry). o.mtype) in none place (let h = q.0 in omega arith) q
 
--- what is found, or that nothing is, is what the selector names, or that it names nothing
+-- The result of a search is what the selector names; if it is nothing, the selector names nothing.
 pub earliest_selected : (entries : List Entry) (sel : Selector) (r : Option Entry) → sel ≡ Any → r ≡ slice_get entries 0 → MatchOption r (NoneQualifies sel (types_of entries)) (IsSelected sel entries)
 earliest_selected entries sel None is first = subst (λ s. NoneQualifies s (types_of entries)) (sym is) (none_first entries (sym first))
 earliest_selected entries sel (Some e) is first = subst (λ s. IsSelected s entries e) (sym is) (earliest_named entries e (sym first))

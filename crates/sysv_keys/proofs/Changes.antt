@@ -1,5 +1,5 @@
--- What a turn that makes, settles or forgets an identifier leaves of what was made, settled and
--- forgotten, and of the rows.
+-- How a turn that makes, settles or forgets an identifier changes what was made, settled and
+-- forgotten, and the rows.
 use Rattle.std.proofs.Common.{◌≡◌, ◌≢◌, ℕ, ℤ, ◌+◌, ◌<◌, ◌==◌, Bool, true, false, [], ◌∷◌, ◌++◌, cond, pos, refl, sym, ap, subst, ◌∙◌, add-zero, ◌⊎◌, inl, inr, arith}
 use Rattle.std.proofs.lemmas.Bool.Decides.{Decides-eqb}
 use Rattle.sysv_model.specs.History.{Who}
@@ -14,14 +14,14 @@ use Rattle.sysv_keys.proofs.Logic.{or_cases, or_left, or_right, or_without, one_
 use Rattle.sysv_keys.proofs.More.{IsQuiet, made_turn, settled_turn, forgotten_turn, made-more, settled_at-more, forgotten-more, generation-more}
 use Rattle.sysv_keys.proofs.Facts.{MadeIn, Facts, quiet_made, quiet_settled, quiet_forgotten, slot-id, madein_same, fresh, never_settled, never_forgotten}
 
--- a row by its parts
+-- A row, by its parts.
 abbrev pub a_row : ℤ → ℤ → Bool → KeyRow
 a_row id key live = record { id = id; key = key; live = live }
 
 pub row_is : (h : RegistryHistory) (row : KeyRow) (id key : ℤ) (live : Bool) → IsRow h row → row.id ≡ id → row.key ≡ key → row.live ≡ live → row ≡ a_row id key live
 row_is h row id key live r e1 e2 e3 = ap (λ x. a_row x row.key row.live) e1 ∙ (ap (λ x. a_row id x row.live) e2 ∙ ap (a_row id key) e3)
 
--- a turn that changes no row
+-- A turn that changes no row.
 module _ (opening : ℕ) (h : RegistryHistory) (e : RegistryEntry) (q : IsQuiet e.call e.reply) where
   pub row_by_quiet : (row : KeyRow) → IsRow (h ++ e ∷ []) row → IsRow h row
   row_by_quiet row r = record {
@@ -37,11 +37,11 @@ module _ (opening : ℕ) (h : RegistryHistory) (e : RegistryEntry) (q : IsQuiet 
     stage = quiet_settled opening h e q row.id ∙ r.stage;
   }
 
--- where a key that is not private is made, no row has it
+-- If an identifier is made for a key that is not private, no row has the key.
 pub not_bound : (h : RegistryHistory) (key : ℤ) (flags : Flags) → Creates h key flags → key ≢ IPC_PRIVATE → (row : KeyRow) → IsRow h row → row.key ≡ key → ⊥
 not_bound h key flags creates public row r same = elim creates [ inl private ↦ public private | inr none ↦ none.0 (row, r, same) ]
 
--- a turn that made an identifier which was not made before
+-- A turn that makes an identifier that was not made before.
 module _ (opening : ℕ) (h : RegistryHistory) (who : Who) (key : ℤ) (flags : Flags) (id : ℤ) where
   made_before : (other asked : ℤ) → is_made other asked (h ++ made_turn who key flags id ∷ []) ≡ true → (is_made other asked h ≡ true) ⊎ ((other ≡ id) × (asked ≡ key))
   made_before other asked t =
@@ -121,7 +121,7 @@ module _ (opening : ℕ) (h : RegistryHistory) (who : Who) (key : ℤ) (flags : 
       | inr new ↦ inr (row_is _ row id key false r new.0 new.1 (sym r.stage ∙ (settled_by_made row.id ∙ (ap (λ x. is_settled x h) new.0 ∙ never_settled opening h id f not_made))))
     ]
 
--- a turn that settled an identifier
+-- A turn that settles an identifier.
 module _ (opening : ℕ) (h : RegistryHistory) (who : Who) (id : ℤ) where
   made_by_settled : (other asked : ℤ) → is_made other asked (h ++ settled_turn who id ∷ []) ≡ is_made other asked h
   made_by_settled other asked = made-more h (settled_turn who id) other asked ∙ or_without _ _ refl
@@ -163,14 +163,14 @@ module _ (opening : ℕ) (h : RegistryHistory) (who : Who) (id : ℤ) where
       | inr apart ↦ inl (record { made = sym (made_by_settled row.id row.key) ∙ r.made; kept = sym (forgotten_by_settled row.id) ∙ r.kept; stage = sym (settled_other row.id apart) ∙ r.stage }, apart)
     ]
 
-    -- the row as it was before
+    -- The row as it was before.
     pub settled_source : (row : KeyRow) → IsRow (h ++ settled_turn who id ∷ []) row → (old : KeyRow) × IsRow h old × (old.id ≡ row.id) × (old.key ≡ row.key)
     settled_source row r = elim (row_by_settled row r) [
       | inl w ↦ (row, w.0, refl, refl)
       | inr same ↦ (a_row id key false, was, sym (ap (λ (x : KeyRow). x.id) same), sym (ap (λ (x : KeyRow). x.key) same))
     ]
 
--- a turn that forgot an identifier
+-- A turn that forgets an identifier.
 module _ (opening : ℕ) (h : RegistryHistory) (who : Who) (id : ℤ) where
   made_by_forgotten : (other asked : ℤ) → is_made other asked (h ++ forgotten_turn who id ∷ []) ≡ is_made other asked h
   made_by_forgotten other asked = made-more h (forgotten_turn who id) other asked ∙ or_without _ _ refl
@@ -192,7 +192,7 @@ module _ (opening : ℕ) (h : RegistryHistory) (who : Who) (id : ℤ) where
       generation-more h (forgotten_turn who id) opening slot ∙ (ap (λ t. generation opening slot h + cond t 1 0) (not_true (slot_of_id id == slot) (λ e. apart (sym ((Decides-eqb (slot_of_id id) slot).0 e)))) ∙ add-zero _)
 
   module _ (f : Facts opening h) (key : ℤ) (live : Bool) (was : IsRow h (a_row id key live)) where
-    -- another identifier of the slot that was not forgotten would be this one
+    -- Another identifier of the slot that was made and not forgotten would be the same identifier.
     alone : (other asked : ℤ) → is_made other asked h ≡ true → is_forgotten other h ≡ false → slot_of_id other ≡ slot_of_id id → other ≡ id
     alone other asked made kept same =
         let m = f.made_in other asked made in

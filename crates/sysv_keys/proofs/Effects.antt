@@ -1,4 +1,5 @@
--- The kinds of legal turns: one that changes no row, or one that makes, settles or forgets an identifier.
+-- The kinds of legal turns: those that change no row, and those that make, settle or forget an
+-- identifier.
 use Rattle.std.proofs.Common.{◌≡◌, ℕ, ℤ, Bool, true, false, [], ◌∷◌, ◌++◌, refl, subst}
 use Rattle.sysv_model.specs.declared.errno.Errno.{Errno}
 use Rattle.sysv_model.specs.declared.flags.Flags.{Flags}
@@ -29,7 +30,7 @@ pub quiet_forget : (id : ℤ) → IsQuiet (Forget id) (Changed false)
 quiet_forget id = record { none_made = λ i k. refl; none_settled = λ i. refl; none_forgotten = λ i. refl; none_freed = λ s. refl; not_counted = refl }
 
 module _ (opening : ℕ) (h : RegistryHistory) (P : RegistryEntry → Type 0) where
-  -- what holds after each kind of turn
+  -- What holds after each kind of turn.
   pub record Each : Type 0 where
     pub quiet : (e : RegistryEntry) → IsQuiet e.call e.reply → P e
     pub made : (who : Who) (key : ℤ) (flags : Flags) (id : ℤ) (slot : ℕ) → Creates h key flags → IsLeastVacant opening h slot → id ≡ id_of slot (generation opening slot h) → P (made_turn who key flags id)
@@ -69,7 +70,7 @@ facts_more opening h e f l = by_kind opening h (λ (t : RegistryEntry). Facts op
   forgotten = λ who id key live was. facts_forgotten opening h who id f key live was;
 }) e l
 
--- what holds of no entry, and after one more legal turn, holds of every legal history
+-- What holds of the empty history and is kept by one more legal turn holds of every legal history.
 pub over_legal : (opening : ℕ) (P : RegistryHistory → Type 0) → P [] → ((h : RegistryHistory) (e : RegistryEntry) → IsLegalHistory opening h → IsLegalReply opening h e.call e.reply → P h → P (h ++ e ∷ [])) → (h : RegistryHistory) → IsLegalHistory opening h → P h
 over_legal opening P empty more = from_end (λ (h : RegistryHistory). IsLegalHistory opening h → P h) (λ l. empty)
     (λ h e before l. let front = legal_front opening h (e ∷ []) l in more h e front (legal_last opening h e l) (before front))

@@ -1,6 +1,6 @@
--- What holds of every history of legal replies: each identifier that was settled or forgotten was
--- made; an identifier was made of its slot and of a generation that the slot had, and was forgotten
--- exactly where the slot has a later one now; and it was made for one key.
+-- What holds of every legal history. Each identifier that was settled or forgotten was made. An
+-- identifier was made of its slot and of a generation that the slot had, and it was forgotten if
+-- and only if the slot now has a later generation. It was made for one key.
 use Rattle.std.proofs.Common.{◌≡◌, ℕ, ℤ, ◌+◌, ◌*◌, ◌<◌, ◌≤◌, true, false, [], ◌∷◌, ◌++◌, cond, refl, sym, ap, subst, ◌∙◌, add-zero, inl, inr, arith}
 use Rattle.sysv_model.specs.Registry.{RegistryEntry, RegistryHistory}
 use Rattle.sysv_keys.specs.declared.identifier.TheConstants.{SLOTS, GENERATION_LAST}
@@ -9,7 +9,7 @@ use Rattle.sysv_keys.specs.Rows.{is_made, is_settled, is_forgotten, IsVacant, ge
 use Rattle.sysv_keys.proofs.Logic.{or_without, not_true, true_or_false, never_both}
 use Rattle.sysv_keys.proofs.More.{made-more, settled_at-more, forgotten-more, generation-more, IsQuiet}
 
--- the generation in which an identifier was made, beside that of its slot now
+-- The generation in which an identifier was made, compared with that of its slot now.
 pub record MadeIn (opening : ℕ) (h : RegistryHistory) (id : ℤ) : Type 0 where
   pub age : ℕ
   pub is : id ≡ id_of (slot_of_id id) age
@@ -31,14 +31,14 @@ facts_empty opening = record {
   one_key = λ id key other e f. cc;
 }
 
--- an identifier lies in its slot, and tells its generation
+-- The slot and the generation of an identifier can be computed from it.
 pub slot-id : (slot age : ℕ) → slot < SLOTS → slot_of_id (id_of slot age) ≡ slot
 slot-id slot age within = omega arith
 
 pub age-id : (slot age other : ℕ) → slot < SLOTS → id_of slot age ≡ id_of slot other → age ≡ other
 age-id slot age other within same = let n : slot + SLOTS * age ≡ slot + SLOTS * other = cc in omega arith
 
--- an identifier that keeps its generation, in a history that forgot it as the other did
+-- MadeIn is kept if the identifier's generation and whether it was forgotten are kept.
 pub madein_same : (opening : ℕ) (h k : RegistryHistory) (id : ℤ) → MadeIn opening h id → is_forgotten id k ≡ is_forgotten id h →
     generation opening (slot_of_id id) k ≡ generation opening (slot_of_id id) h → MadeIn opening k id
 madein_same opening h k id m forgotten aged = record {
@@ -49,7 +49,7 @@ madein_same opening h k id m forgotten aged = record {
   present = λ e. m.present (sym forgotten ∙ e) ∙ sym aged;
 }
 
--- after a turn that makes, settles and forgets nothing
+-- After a turn that makes, settles and forgets nothing.
 module _ (opening : ℕ) (h : RegistryHistory) (e : RegistryEntry) where
   module _ (q : IsQuiet e.call e.reply) where
     pub quiet_made : (id key : ℤ) → is_made id key (h ++ e ∷ []) ≡ is_made id key h
@@ -72,7 +72,7 @@ module _ (opening : ℕ) (h : RegistryHistory) (e : RegistryEntry) where
       one_key = λ id key other s t. f.one_key id key other (sym (quiet_made id key) ∙ s) (sym (quiet_made id other) ∙ t);
     }
 
--- the identifier of a vacant slot in its generation was not made yet
+-- The identifier of a vacant slot in its present generation was not made before.
 pub fresh : (opening : ℕ) (h : RegistryHistory) (slot : ℕ) → Facts opening h → IsVacant opening h slot → (key : ℤ) → is_made (id_of slot (generation opening slot h)) key h ≡ false
 fresh opening h slot f v key = not_true _ (λ made.
     let age = generation opening slot h in

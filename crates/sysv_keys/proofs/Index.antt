@@ -1,4 +1,4 @@
--- The index from keys to slots, as a place is written and as it is made anew.
+-- The index from keys to slots, when a place is written and when the index is built again.
 use Rattle.std.proofs.Common.{◌≡◌, ◌≢◌, ℕ, ℤ, ◌+◌, ◌<◌, ◌≤◌, Bool, true, false, not, List, Option, Some, None, Result, Ok, Err, IsOk, IfOk, OnOk, is_some, FitsSigned, w32, to_z, of_z, if◌then◌else◌, cond, pos, set, take, length, refl, sym, ap, subst, ◌∙◌, ◌⊎◌, inl, inr, arith}
 use Rattle.std.specs.List.{slice_get, count_by, sum_by}
 use Rattle.std.specs.Ordering.{int_eq}
@@ -29,7 +29,7 @@ counts p = counted_by p.generation p.row
 pub count_set : (xs : List Place) (i : ℕ) (x y : Place) → slice_get xs i ≡ Some x → count_by indexed (set xs i y) + cond {A = ℕ} (indexed x) 1 0 ≡ count_by indexed xs + cond {A = ℕ} (indexed y) 1 0
 count_set xs i x y there = sum_set (λ (p : Place). cond {A = ℕ} (indexed p) 1 0) xs i x y there
 
--- where a place is not indexed, there are fewer that are than places
+-- If a place is not indexed, fewer places are indexed than there are.
 pub count_less : (xs : List Place) (i : ℕ) (x : Place) → slice_get xs i ≡ Some x → indexed x ≡ false → count_by indexed xs < length xs
 count_less xs i x there none =
     let one : Place = record { generation = 0; row = Some (record { id = pos 0; key = pos 1; live = false }) } in
@@ -45,7 +45,7 @@ private_unindexed row e = ap not (same_id row.key IPC_PRIVATE e)
 pub shared_indexed : (row : KeyRow) → row.key ≢ IPC_PRIVATE → is_indexed (Some row) ≡ true
 shared_indexed row e = ap not (other_id row.key IPC_PRIVATE e)
 
--- the index, seen as a function
+-- The index, as a function from keys to slots.
 module _ (places : List Place) (f : ℤ → Option ℕ) (bound room : ℕ) (x : IsIndex places f bound room) where
   pub none_of : (key : ℤ) → key ≢ IPC_PRIVATE → f key ≡ None → (slot : ℕ) (row : KeyRow) → Holds places slot row → row.key ≢ key
   none_of key shared none slot row at same =
@@ -63,12 +63,12 @@ module _ (places : List Place) (f : ℤ → Option ℕ) (bound room : ℕ) (x : 
   pub within : (key : ℤ) (slot : ℕ) → f key ≡ Some slot → slot < length places
   within key slot found = let w = x.known key slot found in slice_get_within places slot w.1.place w.1.there
 
-  -- the keys of an index differ
+  -- The keys of an index differ.
   pub differ : KeysDiffer places
   differ one other row twin a b shared same =
       same_Some one other (sym (x.found one row a shared) ∙ (ap f same ∙ x.found other twin b (λ p. shared (same ∙ p))))
 
-  -- a place is written, and the index with it
+  -- A place is written, and the index changes with it.
   module _ (slot : ℕ) (place new : Place) (there : slice_get places slot ≡ Some place) where
     holds_new : (row : KeyRow) → new.row ≡ Some row → Holds (set places slot new) slot row
     holds_new row is = record { place = new; there = at_set places slot new (slice_get_within places slot place there); holds = is }
@@ -84,7 +84,7 @@ module _ (places : List Place) (f : ℤ → Option ℕ) (bound room : ℕ) (x : 
       | inr apart ↦ inr (apart, record { place = h.place; there = beside_set places slot other new h.place apart h.there; holds = h.holds })
     ]
 
-    -- where the row goes, the keys that are left differ
+    -- If the row is removed, the remaining keys still differ.
     pub differ_without : new.row ≡ None → KeysDiffer (set places slot new)
     differ_without gone one other row twin a b shared same = elim (holds_by one row a) [
       | inl w ↦ let bad : None ≡ Some row = sym gone ∙ w.1 in cc
@@ -112,7 +112,7 @@ module _ (places : List Place) (f : ℤ → Option ℕ) (bound room : ℕ) (x : 
       roomy = roomy;
     }
 
-    -- what the index says of another slot, and of this one
+    -- What the index has is either at the written slot or at another slot.
     asked : (key : ℤ) (at : ℕ) → f key ≡ Some at → ((at ≡ slot) × ((row : KeyRow) × (place.row ≡ Some row) × (row.key ≡ key) × (key ≢ IPC_PRIVATE))) ⊎ ((at ≢ slot) × (f key ≡ Some at))
     asked key at is = elim (nat_decided at slot) [
       | inl same ↦
@@ -123,7 +123,7 @@ module _ (places : List Place) (f : ℤ → Option ℕ) (bound room : ℕ) (x : 
       | inr apart ↦ inr (apart, is)
     ]
 
-    -- the row changes and not its key
+    -- The row changes, but its key does not.
     pub restaged : (row other : KeyRow) → place.row ≡ Some row → new.row ≡ Some other → row.key ≡ other.key → IsIndex (set places slot new) f bound room
     restaged row other was now same =
         let e = count_set places slot place new there in
@@ -141,7 +141,7 @@ module _ (places : List Place) (f : ℤ → Option ℕ) (bound room : ℕ) (x : 
         ])
         (omega arith) x.roomy
 
-    -- a place that is not indexed gets a row with a private key, or loses it
+    -- A place that is not indexed gets a row with a private key, or loses such a row.
     pub unindexed : indexed place ≡ false → indexed new ≡ false → ((row : KeyRow) → new.row ≡ Some row → row.key ≡ IPC_PRIVATE) → ((row : KeyRow) → place.row ≡ Some row → row.key ≡ IPC_PRIVATE) → IsIndex (set places slot new) f bound room
     unindexed was now private before =
         let e = count_set places slot place new there in
@@ -157,7 +157,7 @@ module _ (places : List Place) (f : ℤ → Option ℕ) (bound room : ℕ) (x : 
         ])
         (omega arith) x.roomy
 
-    -- a place without a row gets one of a new key, and so does the index
+    -- A place without a row gets a row with a new key, and so does the index.
     pub added : (g : ℤ → Option ℕ) (more left : ℕ) (row : KeyRow) → place.row ≡ None → new.row ≡ Some row → row.key ≢ IPC_PRIVATE →
         ((other : ℕ) (twin : KeyRow) → Holds places other twin → twin.key ≢ row.key) →
         g row.key ≡ Some slot → ((key : ℤ) → key ≢ row.key → g key ≡ f key) → more ≡ bound + 1 → room ≤ left + 1 → IsIndex (set places slot new) g more left
@@ -181,7 +181,7 @@ module _ (places : List Place) (f : ℤ → Option ℕ) (bound room : ℕ) (x : 
         ])
         (omega arith) (omega arith)
 
--- the index, seen as a function, over the first i places
+-- The index, as a function, over the first i places.
 pub record IsFilled (places : List Place) (f : ℤ → Option ℕ) (bound room i : ℕ) : Type 0 where
   pub found : (slot : ℕ) (row : KeyRow) → slot < i → Holds places slot row → row.key ≢ IPC_PRIVATE → f row.key ≡ Some slot
   pub known : (key : ℤ) (slot : ℕ) → f key ≡ Some slot → (row : KeyRow) × Holds places slot row × (row.key ≡ key) × (key ≢ IPC_PRIVATE) × (slot < i)
@@ -204,7 +204,7 @@ filled_none places f bound room none empty roomy = record {
   roomy = omega arith;
 }
 
--- there is room for one more
+-- There is space for one more key.
 pub room_left : (places : List Place) (f : ℤ → Option ℕ) (bound room i : ℕ) → IsFilled places f bound room i → i < length places → length places ≡ SLOTS → 0 < room
 room_left places f bound room i x within wide =
     let few = x.few in
@@ -214,7 +214,7 @@ room_left places f bound room i x within wide =
     omega arith
 
 module _ (places : List Place) (f : ℤ → Option ℕ) (bound room i : ℕ) (x : IsFilled places f bound room i) (place : Place) (there : slice_get places i ≡ Some place) where
-  -- past a place that is not indexed
+  -- After a place that is not indexed.
   pub filled_past : indexed place ≡ false → IsFilled places f bound room (i + 1)
   filled_past none =
       let at = count_by_more_no indexed places i place (slice_get_within places i place there) (ap indexed (get_or_from_slice_get places i place place there) ∙ none) in
@@ -231,7 +231,7 @@ module _ (places : List Place) (f : ℤ → Option ℕ) (bound room i : ℕ) (x 
         roomy = x.roomy;
       }
 
-  -- past a place with a row whose key the index gets
+  -- After a place with a row whose key is entered into the index.
   pub filled_more : (g : ℤ → Option ℕ) (more left : ℕ) (row : KeyRow) → KeysDiffer places → place.row ≡ Some row → row.key ≢ IPC_PRIVATE →
       g row.key ≡ Some i → ((key : ℤ) → key ≢ row.key → g key ≡ f key) → (f row.key ≡ None → more ≡ bound + 1) → room ≤ left + 1 → IsFilled places g more left (i + 1)
   filled_more g more left row differ is shared here past grows shrinks =
@@ -263,20 +263,20 @@ module _ (places : List Place) (f : ℤ → Option ℕ) (bound room i : ℕ) (x 
       none_of_some None none = refl
       none_of_some (Some n) none = absurd (none n refl)
 
--- what an insertion that succeeded has done
+-- The effect of an insertion that succeeded.
 pub inserted : {E : Type 0} (U : Type 0) (o : Option ℕ) (old new : ℕ) (result : Result (Option ℕ) E) → IsOk result → OnOk result U → IfOk result (λ was. was ≡ o) →
     IfOk result (λ was. new ≡ old + (if is_some was then 0 else 1)) → U × (o ≡ None → new ≡ old + 1)
 inserted U o old new (Ok was) ok u is len = (u, λ none. len ∙ ap (λ w. old + (if is_some w then 0 else 1)) (is ∙ none))
 inserted U o old new (Err e) ok u is len = cc
 
--- a key as the code tests it
+-- A key that the code finds not to be 0 is not private.
 pub key_shared : (key : ℤ) → FitsSigned w32 key → (of_z w32 key ≡ 0 → ⊥) → key ≢ IPC_PRIVATE
 key_shared key fits not_zero same = not_zero (ap (of_z w32) same)
 
 pub key_private : (key : ℤ) → FitsSigned w32 key → of_z w32 key ≡ 0 → key ≡ IPC_PRIVATE
 key_private key fits zeroed = sym (to_z-of_z w32 key fits) ∙ ap (to_z w32) zeroed
 
--- a key of no row is not in the index
+-- A key without a row is not in the index.
 pub none_unknown : (places : List Place) (f : ℤ → Option ℕ) (bound room : ℕ) → IsIndex places f bound room → (key : ℤ) → ((slot : ℕ) (row : KeyRow) → Holds places slot row → row.key ≢ key) → f key ≡ None
 none_unknown places f bound room x key none = go (f key) (λ slot is. let k = x.known key slot is in none slot k.0 k.1 k.2)
   where

@@ -1,4 +1,4 @@
--- What the code keeps of its places, as one of them is written.
+-- The invariant of the registry, when one of its places is written.
 use Rattle.std.proofs.Common.{◌≡◌, ℕ, ℤ, suc, ◌+◌, ◌*◌, ◌^◌, ◌<◌, ◌≤◌, Bool, true, false, List, [], ◌∷◌, Option, Some, None, if◌then◌else◌, set, length, replicate, refl, sym, ap, subst, ◌∙◌, inl, inr, arith}
 use Rattle.std.specs.List.{slice_get, sum_by}
 use Rattle.std.proofs.Math.ListN.{length-set}
@@ -14,7 +14,7 @@ use Rattle.sysv_keys.proofs.Stands.{a_place, each_replicated}
 use Rattle.sysv_keys.proofs.Places.{at_set, beside_set, one_there}
 use Rattle.sysv_keys.proofs.Index.{counts, sum_set, restaged, count_less}
 
--- a sum of at most as many terms, each at most so great
+-- A sum is at most the number of terms times the largest term.
 sum_most : {X : Type 0} (f : X → ℕ) (most : ℕ) (xs : List X) → ((i : ℕ) (x : X) → slice_get xs i ≡ Some x → f x ≤ most) → sum_by f xs ≤ length xs * most
 sum_most f most [] each = omega arith
 sum_most f most (x ∷ xs) each =
@@ -38,7 +38,7 @@ counted_row generation row = one_or_none row.live
     one_or_none false = omega arith
 
 module _ (places : List Place) (f : ℤ → Option ℕ) (bound room settled : ℕ) (k : IsKept places f bound room settled) where
-  -- the settled count stays far below what its type holds
+  -- The settled count is far below the largest value of its type.
   pub settled_small : settled + 1 < 2 ^ 63
   settled_small =
       let most = sum_most counts (2 * (GENERATION_LAST + 1)) places (λ i p there. let young = k.young i p there in let c = counted_most p.generation p.row in omega arith) in
@@ -46,7 +46,7 @@ module _ (places : List Place) (f : ℤ → Option ℕ) (bound room settled : �
       let counted = k.counted in
       omega arith
 
-  -- where a place has no row, the index has room for one more key
+  -- If a place has no row, the index has space for one more key.
   pub room_for_one : (slot : ℕ) (place : Place) → slice_get places slot ≡ Some place → place.row ≡ None → 0 < room
   room_for_one slot place there none =
       let fewer = count_less places slot place there (ap is_indexed none) in
@@ -74,7 +74,7 @@ module _ (places : List Place) (f : ℤ → Option ℕ) (bound room settled : �
           counted = omega arith;
         }
 
-    -- the row of the place becomes Live
+    -- The row of the place becomes Live.
     pub kept_settled : (row : KeyRow) → place.row ≡ Some row → row.live ≡ false → new ≡ record { generation = place.generation; row = Some (record { id = row.id; key = row.key; live = true }) } → IsKept (set places slot new) f bound room (settled + 1)
     kept_settled row is making now =
         let row_now = ap (λ (p : Place). p.row) now in
@@ -87,7 +87,7 @@ module _ (places : List Place) (f : ℤ → Option ℕ) (bound room settled : �
         (restaged places f bound room k.index slot place new there row (record { id = row.id; key = row.key; live = true }) is row_now refl)
         (omega arith)
 
-    -- the place loses its row, and is a generation older
+    -- The row of the place is removed, and its generation rises by one.
     pub kept_forgotten : (g : ℤ → Option ℕ) (more left : ℕ) (row : KeyRow) → place.row ≡ Some row → new ≡ record { generation = place.generation + 1; row = None } → IsIndex (set places slot new) g more left →
         IsKept (set places slot new) g more left (settled + 1)
     kept_forgotten g more left row is now index =
@@ -99,7 +99,7 @@ module _ (places : List Place) (f : ℤ → Option ℕ) (bound room settled : �
         index
         (omega arith)
 
-    -- the place gets a row that is Making
+    -- The place gets a row that is Making.
     pub kept_made : (g : ℤ → Option ℕ) (more left : ℕ) (id key : ℤ) → place.row ≡ None → place.generation ≤ GENERATION_LAST → new ≡ record { generation = place.generation; row = Some (record { id = id; key = key; live = false }) } →
         IsIndex (set places slot new) g more left → IsKept (set places slot new) g more left settled
     kept_made g more left id key is usable now index =
@@ -110,7 +110,7 @@ module _ (places : List Place) (f : ℤ → Option ℕ) (bound room settled : �
         index
         (omega arith)
 
--- what is kept of a registry that was just opened
+-- The invariant of a registry that was just opened.
 pub kept_fresh : (generation : ℕ) (f : ℤ → Option ℕ) (bound room : ℕ) → generation ≤ GENERATION_LAST → ((key : ℤ) → f key ≡ None) → bound ≡ 0 → SLOTS ≤ room → IsKept (replicate SLOTS (a_place generation None)) f bound room 0
 kept_fresh generation f bound room usable none empty roomy = record {
   wide = length-replicate SLOTS (a_place generation None);

@@ -1,4 +1,4 @@
--- Every history of legal replies obeys the registry law.
+-- Every legal history obeys the registry law.
 use Rattle.std.proofs.Common.{◌≡◌, ◌≢◌, ℕ, ℤ, ◌+◌, ◌*◌, ◌<◌, ◌≤◌, ◌||◌, Bool, true, false, List, [], ◌∷◌, ◌++◌, cond, refl, sym, ap, subst, ◌∙◌, append_assoc, ◌⊎◌, inl, inr, arith}
 use Rattle.std.proofs.lemmas.List.Folds.{list_any-append}
 use Rattle.std.proofs.lemmas.List.Sums.{sum_by-append}
@@ -18,7 +18,7 @@ use Rattle.sysv_keys.proofs.More.{settled-more, count_more}
 use Rattle.sysv_keys.proofs.Changes.{a_row, row_is, row_by_made, settled_source, row_by_forgotten, row_by_quiet, not_bound}
 use Rattle.sysv_keys.proofs.Effects.{facts, over_legal, by_kind}
 
--- a test that an element of a list passes
+-- If an element passes a test, some element of the list does.
 any_at : {X : Type 0} (p : X → Bool) (before after : List X) (x : X) → p x ≡ true → list_any p (before ++ x ∷ after) ≡ true
 any_at p before after x e = list_any-append p before (x ∷ after) ∙ or_right (list_any p before) (p x || list_any p after) (or_left (p x) (list_any p after) e)
 
@@ -33,7 +33,7 @@ module _ (opening : ℕ) (h : RegistryHistory) where
       let within : slot_of_id id < SLOTS = omega arith in
       record { number = slot_of_id id + SLOTS * m.age; whole = m.is; most = omega arith }
 
-  -- a legal turn that answered Made, with the identifier and the slot
+  -- The identifier is that of the least vacant slot in its generation, as after a legal Made.
   abbrev IsLeastOf : ℤ → Type 0
   IsLeastOf id = IsLeastVacant opening h (slot_of_id id) × (id ≡ id_of (slot_of_id id) (generation opening (slot_of_id id) h))
 
@@ -82,7 +82,7 @@ module _ (opening : ℕ) (h : RegistryHistory) where
   no_row_forgotten : (id : ℤ) → is_forgotten id h ≡ true → (row : KeyRow) × IsRow h row × (row.id ≡ id) → ⊥
   no_row_forgotten id gone r = never_both _ (subst (λ x. is_forgotten x h ≡ true) (sym r.2) gone) r.1.kept
 
-  -- an identifier that was made is not made again
+  -- An identifier that was made is not made again.
   not_again : Facts opening h → (id key : ℤ) → is_made id key h ≡ true → (call : RegistryCall) (reply : RegistryReply) → IsLegalReply opening h call reply → reply ≢ Made id
   not_again f id key made call reply l e =
       let least = made_least id call reply l e in
@@ -108,7 +108,7 @@ module _ (opening : ℕ) (h : RegistryHistory) where
       let live : row.live ≡ twin.live = sym r.stage ∙ (ap (λ x. is_settled x h) id ∙ t.stage) in
       row_is h row twin.id twin.key twin.live r id key live
 
--- a key that is not private has one row at most
+-- A key that is not private has at most one row.
 abbrev OneOfKey : RegistryHistory → Type 0
 OneOfKey h = (row twin : KeyRow) → IsRow h row → IsRow h twin → row.key ≢ IPC_PRIVATE → row.key ≡ twin.key → row.id ≡ twin.id
 
@@ -147,7 +147,7 @@ counted opening = over_legal opening (λ h. settled h ≡ count_by (λ (e : Regi
     let c = count_more (λ (e : RegistryEntry). is_forget e.call e.reply) h e in
     omega arith)
 
--- the turns up to some place of a history, and the turn there
+-- The turns before a turn in a legal history are legal, and so is that turn.
 up_to : (opening : ℕ) (h before middle after : RegistryHistory) (e f : RegistryEntry) → IsLegalHistory opening h → h ≡ before ++ e ∷ (middle ++ f ∷ after) → IsLegalHistory opening (before ++ e ∷ middle) × IsLegalReply opening (before ++ e ∷ middle) f.call f.reply
 up_to opening h before middle after e f legal same =
     let split : h ≡ (before ++ e ∷ middle) ++ f ∷ after = same ∙ sym (append_assoc before (e ∷ middle) (f ∷ after)) in (

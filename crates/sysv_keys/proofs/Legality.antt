@@ -1,4 +1,4 @@
--- A history is legal when the history before its last turn is, and that turn's reply.
+-- A history is legal if the history before its last turn is legal and the last reply is legal.
 use Rattle.std.proofs.Common.{◌≡◌, ℕ, [], ◌∷◌, ◌++◌, inl, inr, refl, sym, subst, ap, ◌∙◌, append_assoc}
 use Rattle.sysv_model.specs.Registry.{RegistryEntry, RegistryHistory}
 use Rattle.sysv_keys.specs.LegalReply.{IsLegalReply, IsLegalHistory}
@@ -20,7 +20,7 @@ legal_more opening h e legal last before f after same =
       | inr w ↦ legal before f w.0 w.2
     ]
 
--- a part of a legal history up to some turn is legal
+-- The first part of a legal history is legal.
 pub legal_front : (opening : ℕ) (h rest : RegistryHistory) → IsLegalHistory opening (h ++ rest) → IsLegalHistory opening h
 legal_front opening h rest legal before f after same =
     legal before f (after ++ rest) (ap (λ (k : RegistryHistory). k ++ rest) same ∙ append_assoc before (f ∷ after) rest)

@@ -1,4 +1,4 @@
--- Tests of identifiers and keys, and of two tests together.
+-- Tests of identifiers and keys, and combinations of two tests.
 use Rattle.std.proofs.Common.{◌≡◌, ℕ, ℤ, ◌||◌, ◌&&◌, Bool, true, false, not, w32, to_z, of_z, FitsSigned, List, [], ◌∷◌, ◌++◌, pos, refl, sym, ap, ◌∙◌, ◌⊎◌, inl, inr}
 use Rattle.std.specs.List.{list_any}
 use Rattle.std.specs.Ordering.{int_eq}
@@ -23,11 +23,11 @@ same_or_not : (t : Bool) (a b : ℤ) → int_eq a b ≡ t → (a ≡ b) ⊎ ¬ (
 same_or_not true a b e = inl (one_id a b e)
 same_or_not false a b e = inr (λ same. let t = same_id a b same in let bad : true ≡ false = sym t ∙ e in cc)
 
--- two identifiers are one, or they are not
+-- Two identifiers are equal or they are not.
 pub decided : (a b : ℤ) → (a ≡ b) ⊎ ¬ (a ≡ b)
 decided a b = same_or_not (int_eq a b) a b refl
 
--- two numbers are one, or they are not
+-- Two numbers are equal or they are not.
 pub nat_decided : (a b : ℕ) → (a ≡ b) ⊎ ¬ (a ≡ b)
 nat_decided a b = elim (decided (pos a) (pos b)) [ inl e ↦ inl cc | inr f ↦ inr (λ e. f (ap pos e)) ]
 
@@ -66,7 +66,7 @@ pub and_true : (a b : Bool) → a ≡ true → b ≡ true → (a && b) ≡ true
 and_true true b e f = f
 and_true false b e f = e
 
--- a test of a list with one more element, and how many of its elements pass
+-- A test of a list with one more element.
 pub any_more : {X : Type 0} (p : X → Bool) (xs : List X) (x : X) → list_any p (xs ++ x ∷ []) ≡ (list_any p xs || p x)
 any_more p xs x = list_any-append p xs (x ∷ []) ∙ ap (λ t. list_any p xs || t) (last (p x))
   where
@@ -82,6 +82,6 @@ pub not_else : (t : Bool) → not t ≡ false → t ≡ true
 not_else true e = refl
 not_else false e = cc
 
--- numbers that the code compares by their bits
+-- Numbers that the code compares by their bits.
 pub same_bits : (a b : ℤ) → FitsSigned w32 a → FitsSigned w32 b → of_z w32 a ≡ of_z w32 b → a ≡ b
 same_bits a b fits fits_too e = sym (to_z-of_z w32 a fits) ∙ (ap (to_z w32) e ∙ to_z-of_z w32 b fits_too)

@@ -1,4 +1,4 @@
--- What one more turn changes of what a history has made, settled and forgotten, and of its rows.
+-- How one more turn changes what a history has made, settled and forgotten, and its rows.
 use Rattle.std.proofs.Common.{◌≡◌, ℕ, ℤ, ◌+◌, ◌||◌, Bool, true, false, [], ◌∷◌, ◌++◌, cond, ap, ◌∙◌, zero-add, arith}
 use Rattle.std.specs.List.{count_by}
 use Rattle.std.proofs.lemmas.List.Sums.{sum_by-append}
@@ -8,7 +8,7 @@ use Rattle.sysv_model.specs.Registry.{RegistryCall, RegistryReply, RegistryEntry
 use Rattle.sysv_keys.specs.Rows.{makes, settles, forgets, frees, is_made, is_settled, is_forgotten, generation}
 use Rattle.sysv_keys.proofs.Logic.{any_more}
 
--- the turns that change a row
+-- The turns that change a row.
 abbrev pub made_turn : Who → ℤ → Flags → ℤ → RegistryEntry
 made_turn who key flags id = record { who = who; call = Begin key flags; reply = Made id }
 
@@ -37,7 +37,7 @@ module _ (h : RegistryHistory) (e : RegistryEntry) where
   pub settled-more : settled (h ++ e ∷ []) ≡ settled h + cond (changes_row e.reply) 1 0
   settled-more = count_more (λ (e : RegistryEntry). changes_row e.reply) h e
 
--- a turn that changes no row
+-- A turn that changes no row.
 pub record IsQuiet (call : RegistryCall) (reply : RegistryReply) : Type 0 where
   pub none_made : (id key : ℤ) → makes id key call reply ≡ false
   pub none_settled : (id : ℤ) → settles id call reply ≡ false

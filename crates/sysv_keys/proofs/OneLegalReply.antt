@@ -24,7 +24,7 @@ use Rattle.sysv_keys.proofs.Stands.{a_place, stands_empty, stands_made, stands_s
 use Rattle.sysv_keys.proofs.Law.{registry_law}
 use Rattle.sysv_keys.proofs.Turns.{not_bound_where, least_is_vacant, none_is_vacant}
 
--- every legal history is one that some registry stands for
+-- Some registry stands for each legal history.
 seen : (opening : ℕ) (h : RegistryHistory) → IsLegalHistory opening h → (r : Registry) × StandsFor opening h r
 seen opening = over_legal opening (λ h. (r : Registry) × StandsFor opening h r) (_, stands_empty opening)
     (λ h e l last old.
@@ -45,7 +45,7 @@ seen opening = over_legal opening (λ h. (r : Registry) × StandsFor opening h r
           (_, stands_forgotten opening h r st who id key live (slot_of_id id) at.place at.there at.holds);
     }) e last last)
 
--- whether a place has a row of the key, one that is Making under the identifier, one of the identifier
+-- Whether a place has a row of the key, a Making row of the identifier, or a row of the identifier.
 abbrev HasKey : ℤ → Option KeyRow → Type 0
 HasKey key None = ⊥
 HasKey key (Some row) = row.key ≡ key
@@ -90,12 +90,12 @@ id_row id None t = absurd t
 id_row id (Some row) t = (row, refl, t)
 
 module _ (opening : ℕ) (h : RegistryHistory) (r : Registry) (st : StandsFor opening h r) where
-  -- a begin of a key with a row
+  -- A begin of a key that has a row.
   reply_bound : (key : ℤ) (flags : Flags) (row : KeyRow) (live : Bool) → key ≢ IPC_PRIVATE → IsRow h (a_row row.id key live) → (reply : RegistryReply) × IsLegalReply opening h (Begin key flags) reply
   reply_bound key flags row true shared is = (Found row.id (settled h), (shared, is, refl))
   reply_bound key flags row false shared is = (Busy (settled h), (shared, (row.id, is), refl))
 
-  -- a begin that is to make a queue
+  -- A begin that is to make an identifier.
   reply_creating : (key : ℤ) (flags : Flags) → Creates h key flags → (reply : RegistryReply) × IsLegalReply opening h (Begin key flags) reply
   reply_creating key flags creates = elim (first_or_none IsOpen (λ p. open_or_not p.generation p.row) r.places) [
     | inl w ↦
@@ -154,13 +154,14 @@ some_reply_is_legal opening h (Begin key flags) legal = let at = seen opening h 
 some_reply_is_legal opening h (Settle id) legal = let at = seen opening h legal in reply_settle opening h at.0 at.1 id
 some_reply_is_legal opening h (Forget id) legal = let at = seen opening h legal in reply_forget opening h at.0 at.1 id
 
--- the reply to a begin by its cause
+-- The reply to a begin, by its cause.
 abbrev bound_reply : RegistryHistory → ℤ → Bool → RegistryReply
 bound_reply h id true = Found id (settled h)
 bound_reply h id false = Busy (settled h)
 
 module _ (opening : ℕ) (h : RegistryHistory) (legal : IsLegalHistory opening h) (key : ℤ) (flags : Flags) where
-  -- the causes: a row has the key; none has it and none is to be made; no slot is vacant; one is made
+  -- The causes: a row has the key; none has it and none is to be made; no slot is vacant; an
+  -- identifier is made.
   record IsBoundReply (reply : RegistryReply) : Type 0 where
     row : KeyRow
     is : IsRow h row

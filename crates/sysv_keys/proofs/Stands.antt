@@ -1,4 +1,4 @@
--- How a registry that stands for a history goes on by one turn.
+-- The turns of a registry that stands for a history.
 use Rattle.std.proofs.Common.{◌≡◌, ◌≢◌, ℕ, zero, suc, ℤ, ◌+◌, ◌<◌, Bool, true, false, List, [], ◌∷◌, ◌++◌, Option, Some, None, cond, set, length, replicate, refl, sym, ap, subst, ◌∙◌, add-zero, inl, inr, arith}
 use Rattle.std.proofs.Math.ListN.{length-set, length-replicate}
 use Rattle.std.specs.List.{slice_get}
@@ -25,7 +25,7 @@ use Rattle.sysv_keys.proofs.Effects.{facts}
 abbrev pub a_place : ℕ → Option KeyRow → Place
 a_place generation row = record { generation = generation; row = row }
 
--- a registry that was just opened
+-- A registry that was just opened.
 pub stands_fresh : (opening : ℕ) (places : List Place) → length places ≡ SLOTS → ((slot : ℕ) (place : Place) → slice_get places slot ≡ Some place → place ≡ a_place opening None) →
     StandsFor opening [] (record { places = places; settled = 0 })
 stands_fresh opening places wide each = record {
@@ -47,18 +47,18 @@ pub stands_empty : (opening : ℕ) → StandsFor opening [] (record { places = r
 stands_empty opening = stands_fresh opening (replicate SLOTS (a_place opening None)) (length-replicate SLOTS (a_place opening None)) (each_replicated SLOTS (a_place opening None))
 
 module _ (opening : ℕ) (h : RegistryHistory) (r : Registry) (st : StandsFor opening h r) where
-  -- a row in a place is a row of the history
+  -- A row in a place is a row of the history.
   pub row_there : (slot : ℕ) (row : KeyRow) → Holds r.places slot row → IsRow h row × (slot_of_id row.id ≡ slot)
   row_there slot row there = ((st.places slot there.place there.there).rowed row).0 there.holds
 
-  -- and a row of the history is in its place
+  -- A row of the history is in its place.
   pub row_back : (row : KeyRow) → IsRow h row → Holds r.places (slot_of_id row.id) row
   row_back row is =
       let wide = st.wide in
       let at = there_is r.places (slot_of_id row.id) (omega arith) in
       record { place = at.0; there = at.1; holds = ((st.places (slot_of_id row.id) at.0 at.1).rowed row).1 (is, refl) }
 
-  -- with another place at a slot, after a turn that changes that slot alone
+  -- The registry with another place at a slot, after a turn that changes only that slot.
   module _ (e : RegistryEntry) (legal : IsLegalReply opening h e.call e.reply) where
     pub stands_with : (slot : ℕ) (place : Place) (count : ℕ) → slot < SLOTS →
         ((other : ℕ) → other ≢ slot → generation opening other (h ++ e ∷ []) ≡ generation opening other h) →
@@ -130,7 +130,7 @@ module _ (opening : ℕ) (h : RegistryHistory) (r : Registry) (st : StandsFor op
       })
       (st.counted ∙ sym (settled-more h (made_turn who key flags id) ∙ add-zero _))
 
-  -- two rows in one place are one
+  -- Two rows in the same place are equal.
   one_held : (slot : ℕ) (place : Place) (row twin : KeyRow) → slice_get r.places slot ≡ Some place → place.row ≡ Some row → IsRow h twin → slot_of_id twin.id ≡ slot → twin ≡ row
   one_held slot place row twin there holds is at = same_Some _ _ (sym (((st.places slot place there).rowed twin).1 (is, at)) ∙ holds)
 

@@ -1,4 +1,4 @@
--- The turns that a registry makes, by what it is seen as.
+-- The turns that a registry makes, by its state.
 use Rattle.std.proofs.Common.{◌≡◌, ◌≢◌, ℕ, ℤ, ◌+◌, ◌<◌, ◌≤◌, Bool, true, false, [], ◌∷◌, ◌++◌, Option, Some, None, length, refl, sym, ap, subst, ◌∙◌, ◌⊎◌, inl, inr, arith}
 use Rattle.std.specs.List.{slice_get}
 use Rattle.std.proofs.lemmas.Option.{slice_get_within}
@@ -22,7 +22,7 @@ use Rattle.sysv_keys.proofs.Changes.{a_row}
 use Rattle.sysv_keys.proofs.Effects.{quiet_begin_found, quiet_begin_busy, quiet_begin_unbound, quiet_settle, quiet_forget}
 use Rattle.sysv_keys.proofs.Stands.{row_there, row_back, stands_quiet, stands_made, stands_settled, stands_forgotten}
 
--- a place has no row where each row that it might have is ruled out
+-- A place has no row if each row that it might have is excluded.
 no_row : (o : Option KeyRow) → ((row : KeyRow) → o ≢ Some row) → o ≡ None
 no_row None none = refl
 no_row (Some row) none = absurd (none row refl)
@@ -127,7 +127,7 @@ module _ (r : Registry) where
   turn_not_forgotten id place there none = turn_quiet _ _ (quiet_forget id)
       (λ opening h st row is same. none row (((st.places (slot_of_id id) place there).rowed row).1 (is, ap slot_of_id same)) same)
 
--- the same by the row that the place has
+-- The same, by the row that the place has.
 pub turn_settled_at : (r : Registry) (id : ℤ) (slot : ℕ) (place : Place) (row : KeyRow) → slice_get r.places slot ≡ Some place → place.row ≡ Some row → row.id ≡ id → row.live ≡ false →
     MakesTurn r (Settle id) (Changed true) (with_place r slot place.generation (Some (a_row row.id row.key true)) (r.settled + 1))
 turn_settled_at r id slot place row there holds same making =

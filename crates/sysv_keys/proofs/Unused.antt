@@ -1,4 +1,4 @@
--- Slots of which no identifier was ever made.
+-- Unused slots.
 use Rattle.std.proofs.Common.{◌≡◌, ◌≢◌, ◌↔◌, rules, ℕ, ℤ, IsTrue, is_some, nat_eq, get_or, length, pos, ◌+◌, ◌<◌, ◌≤◌, ◌==◌, Bool, true, false, cond, List, [], ◌∷◌, ◌++◌, Option, None, Some, ◌⊎◌, inl, inr, refl, sym, ap, subst, ◌∙◌, arith}
 use Rattle.std.specs.Ordering.{int_eq}
 use Rattle.std.specs.List.{list_any, count_by, slice_get}
@@ -21,7 +21,7 @@ use Rattle.sysv_keys.proofs.Logic.{true_or_false, or_cases, or_left, or_right, a
 use Rattle.sysv_keys.proofs.Changes.{a_row, row_made}
 use Rattle.sysv_keys.proofs.Effects.{facts}
 
--- a turn that forgot an identifier is one of its slot
+-- A turn that forgot an identifier forgot an identifier of its slot.
 forgets_frees : (id : ℤ) (call : RegistryCall) (reply : RegistryReply) → forgets id call reply ≡ true → frees (slot_of_id id) call reply ≡ true
 forgets_frees id (Forget at) (Changed true) e = let same : at ≡ id = one_id at id e in subst (λ n. (slot_of_id at == n) ≡ true) (ap slot_of_id same) (itself (slot_of_id at))
   where
@@ -65,7 +65,7 @@ settles_made : (opening : ℕ) (h : RegistryHistory) (who : Who) (key : ℤ) (fl
     IsLegalReply opening (h ++ record { who = who; call = Begin key flags; reply = Made id } ∷ []) (Settle id) (Changed true)
 settles_made opening h who key flags id legal made = (key, row_made opening h who key flags id (facts opening h legal) made.1.0 made.1.1.0 made.1.2)
 
--- this turn made an identifier of the slot
+-- The turn made an identifier of the slot.
 abbrev in_slot : ℕ → RegistryCall → RegistryReply → Bool
 in_slot slot (Begin key flags) (Made id) = slot_of_id id == slot
 in_slot slot call reply = false
@@ -125,7 +125,7 @@ unused_or_not opening slot h = elim (true_or_false (list_any (λ (e : RegistryEn
 pub unused_slots : UnusedSlots
 unused_slots = record { either = unused_or_not; never = never_made; zero = makes_zero; settles = settles_made }
 
--- ---- as a place of the registry tells
+-- ---- by the places of the registry
 
 pub unused_there : (opening : ℕ) (h : RegistryHistory) (r : Registry) (slot : ℕ) (place : Place) → StandsFor opening h r → slice_get r.places slot ≡ Some place → place.row ≡ None → place.generation ≡ 0 → IsUnused opening h slot
 unused_there opening h r slot place st there none young =

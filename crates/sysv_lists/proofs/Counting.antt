@@ -1,4 +1,4 @@
--- How often numbers are in lists that grow at their end, and which numbers lie between two others.
+-- How often numbers are in lists that grow at their end, and which numbers are between two others.
 use Rattle.std.proofs.Common.{◌≡◌, ℕ, ◌+◌, ◌<◌, ◌≤◌, ◌==◌, cond, List, [], ◌∷◌, ◌++◌, ap, arith}
 use Rattle.std.proofs.lemmas.List.Sums.{sum_by-append, sum_by_push}
 use Rattle.std.proofs.lemmas.Bool.Decides.{nat_tests}
@@ -19,7 +19,7 @@ times-same n = grind (arith, nat_tests, times-one n n)
 pub times-one-le : (x n : ℕ) → times x (n ∷ []) ≤ 1
 times-one-le x n = grind (arith, nat_tests, times-one x n)
 
--- a list of one number has no other
+-- A list of one number has no other.
 pub the-one : (x n : ℕ) → 1 ≤ times x (n ∷ []) → n ≡ x
 the-one x n has = grind (arith, nat_tests, times-one x n)
 
@@ -35,18 +35,18 @@ none_of x ks is = ap (times x) is
 pub once_between-same : (n x : ℕ) → once_between n n x ≡ 0
 once_between-same n x = grind (arith, nat_tests)
 
--- one number more at the end
+-- One more number at the end.
 pub once_between-next : (from n x : ℕ) → from ≤ n → once_between from (n + 1) x ≡ once_between from n x + cond (n == x) 1 0
 once_between-next from n x le = grind (arith, nat_tests)
 
--- one number less at the start
+-- One number less at the start.
 pub once_between-drop : (from n x : ℕ) → from < n → once_between from n x ≡ once_between (from + 1) n x + cond (from == x) 1 0
 once_between-drop from n x less = grind (arith, nat_tests)
 
 pub once_between-le : (from n x : ℕ) → once_between from n x ≤ 1
 once_between-le from n x = grind (arith, nat_tests)
 
--- the first of the numbers is among them if there are any, and only then
+-- The first number is among those between two others if and only if there are any.
 pub once_between-first : (from n : ℕ) → from < n → once_between from n from ≡ 1
 once_between-first from n less = grind (arith, nat_tests)
 

@@ -1,7 +1,7 @@
--- Two numbers, one of which is at most the other.
+-- Two numbers, of which one is at most the other.
 use Rattle.std.proofs.Common.{ℕ, zero, suc, ◌<◌, ◌≤◌, ◌⊎◌, inl, inr, arith}
 
--- a number is at most another, or above it
+-- A number is at most another, or above it.
 pub at_most : (a b : ℕ) → (a ≤ b) ⊎ (b < a)
 at_most zero b = inl (omega arith)
 at_most (suc a) zero = inr (omega arith)

@@ -7,21 +7,21 @@ module _ {A : Type 0} where
   pub prefix_self : (xs : List A) → IsPrefixOf xs xs
   prefix_self xs = ([], sym (append-nil xs))
 
-  -- a prefix of the whole is one of a longer list
+  -- A prefix of a list is a prefix of a longer list.
   pub prefix_longer : (part whole more : List A) → IsPrefixOf part whole → IsPrefixOf part (whole ++ more)
   prefix_longer part whole more b = (b.0 ++ more, ap (λ (l : List A). l ++ more) b.1 ∙ append_assoc part b.0 more)
 
   pub prefix_snoc : (part whole : List A) (x : A) → IsPrefixOf part whole → IsPrefixOf part (whole ++ x ∷ [])
   prefix_snoc part whole x b = prefix_longer part whole (x ∷ []) b
 
-  -- the first elements, as many as are wanted
+  -- The first `count` elements are a prefix.
   pub prefix_take : (count : ℕ) (xs : List A) → IsPrefixOf (take count xs) xs
   prefix_take count xs = (drop count xs, sym (take-append-drop count xs))
 
   pub prefix_trans : (xs ys zs : List A) → IsPrefixOf xs ys → IsPrefixOf ys zs → IsPrefixOf xs zs
   prefix_trans xs ys zs short long = (short.0 ++ long.0, long.1 ∙ ap (λ (l : List A). l ++ long.0) short.1 ∙ append_assoc xs short.0 long.0)
 
-  -- a prefix that is as long as the whole is the whole
+  -- A prefix that is as long as the list is the list.
   pub prefix_whole : (part whole : List A) → IsPrefixOf part whole → length whole ≤ length part → part ≡ whole
   prefix_whole part whole b le =
       let more : List A = b.0 in

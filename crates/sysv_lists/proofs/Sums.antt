@@ -18,7 +18,7 @@ module _ {A : Type 0} (f : A → ℕ) where
   at-le-sum_by (x ∷ xs) zero a at = let is : f x ≡ f a = ap f (some-injective x a at) in omega (arith, sum_by-cons f x xs)
   at-le-sum_by (x ∷ xs) (suc i) a at = let r = at-le-sum_by xs i a at in omega (arith, sum_by-cons f x xs)
 
-  -- two elements have at most what all have
+  -- Two elements have together at most the sum of all.
   pub two-le-sum_by : (xs : List A) (i k : ℕ) (a b : A) → k ≢ i → get_elem? xs i ≡ some a → get_elem? xs k ≡ some b → f a + f b ≤ sum_by f xs
   two-le-sum_by [] i k a b apart at there = absurd (some-ne-none a (sym at))
   two-le-sum_by (x ∷ xs) zero zero a b apart at there = absurd (apart refl)
@@ -29,7 +29,7 @@ module _ {A : Type 0} (f : A → ℕ) where
   two-le-sum_by (x ∷ xs) (suc i) (suc k) a b apart at there =
       let r = two-le-sum_by xs i k a b (λ e. apart (ap suc e)) at there in omega (arith, sum_by-cons f x xs)
 
-  -- if all together have something, one has
+  -- If the sum is at least 1, one element has at least 1.
   pub some_part : (xs : List A) → 1 ≤ sum_by f xs → (i : ℕ) × (a : A) × (get_elem? xs i ≡ some a) × (1 ≤ f a)
   some_part [] most = absurd (omega arith)
   some_part (x ∷ xs) most =
@@ -42,7 +42,7 @@ module _ {A : Type 0} (f : A → ℕ) where
     sum_by-le-each (x ∷ xs) each =
         let first = each zero x refl in let rest = sum_by-le-each xs (λ i a at. each (suc i) a at) in omega (arith, sum_by-cons f x xs, sum_by-cons g x xs)
 
-    -- if g is 0 wherever f is, and f adds up to nothing, so does g
+    -- If g is 0 wherever f is 0, and the sum of f is 0, then the sum of g is 0.
     pub sum_by-none : (xs : List A) → ((i : ℕ) (a : A) → get_elem? xs i ≡ some a → f a ≡ 0 → g a ≡ 0) → sum_by f xs ≤ 0 → sum_by g xs ≡ 0
     sum_by-none [] each none = refl
     sum_by-none (x ∷ xs) each none =
@@ -51,7 +51,8 @@ module _ {A : Type 0} (f : A → ℕ) where
         let rest = sum_by-none xs (λ i a at. each (suc i) a at) (omega arith) in
         omega (arith, sum_by-cons g x xs)
 
-    -- if g is 0 wherever f is, and one element has all that f adds up to, it has all that g does
+    -- If g is 0 wherever f is 0, and one element has the whole sum of f, then it has the whole sum
+    -- of g.
     pub sum_by-alone : (xs : List A) (i : ℕ) (a : A) → get_elem? xs i ≡ some a → ((k : ℕ) (b : A) → get_elem? xs k ≡ some b → f b ≡ 0 → g b ≡ 0) → sum_by f xs ≤ f a → sum_by g xs ≡ g a
     sum_by-alone [] i a at each all = absurd (some-ne-none a (sym at))
     sum_by-alone (x ∷ xs) zero a at each all =

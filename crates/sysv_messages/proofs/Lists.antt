@@ -1,4 +1,4 @@
--- Lists seen through a function, and lists read at a place.
+-- Lists to which a function is applied, and lists read at a place.
 use Rattle.std.proofs.Common.{◌≡◌, ◌≢◌, ℕ, zero, suc, ◌<◌, ◌==◌, Bool, true, not, List, [], ◌∷◌, Option, None, Some, IsSome, length, map, get_or, refl, sym, ap, subst, ◌∙◌, inl, inr}
 use Rattle.std.specs.List.{All, remove, slice_get, slice_index_or}
 use Rattle.std.proofs.lemmas.Bool.Decides.{Decides-eqb}
@@ -7,7 +7,7 @@ use Rattle.std.proofs.lemmas.List.{get_or_past}
 use Rattle.std.proofs.lemmas.List.Elements.{All-head, All-tail}
 use Rattle.std.proofs.lemmas.Option.{slice_get_within, get_or_from_slice_get}
 
--- two functions that agree on all of a list
+-- Two functions that agree on all elements of a list.
 pub map_same : {X Y : Type 0} (f g : X → Y) (xs : List X) → All (λ x. f x ≡ g x) xs → map f xs ≡ map g xs
 map_same f g [] all = refl
 map_same f g (x ∷ xs) all =
@@ -20,7 +20,7 @@ map_remove f [] (suc i) = refl
 map_remove f (x ∷ xs) zero = refl
 map_remove f (x ∷ xs) (suc i) = ap (λ ys. f x ∷ ys) (map_remove f xs i)
 
--- what holds of all holds of the one at a place
+-- What holds of all elements holds of the element at a place.
 pub at_place : {X : Type 0} (P : X → Type 0) (xs : List X) (k : ℕ) (x : X) → All P xs → slice_get xs k ≡ Some x → P x
 at_place P xs k x all there = subst P (get_or_from_slice_get xs k x x there) (all k x (slice_get_within xs k x there))
 
@@ -36,7 +36,7 @@ never_none o x e f = let bad : Some x ≡ None = sym e ∙ f in absurd cc
 pub no_some : {X : Type 0} (o : Option X) → o ≡ None → IsSome o → ⊥
 no_some {X} o none some = let bad : IsSome {T = X} None = subst IsSome none some in absurd cc
 
--- only a place of the list has something
+-- Only a place of the list has an element.
 pub place_within : {X : Type 0} (xs : List (Option X)) (place : ℕ) (x : X) → slice_index_or xs place None ≡ Some x → place < length xs
 place_within xs place x there = elim (cases_lt place (length xs)) [
   | inl within ↦ within

@@ -1,4 +1,4 @@
--- What a selection among the entries says of the messages.
+-- What a selection among the entries implies for the messages.
 use Rattle.std.proofs.Common.{◌≡◌, ℕ, ◌+◌, ◌-◌, ◌≤◌, ◌<◌, ◌==◌, not, None, set, List, Option, Some, length, sym, ap, subst, ◌∙◌, arith}
 use Rattle.std.specs.List.{filter, remove, slice_get}
 use Rattle.std.proofs.lemmas.Option.{same_Some}
@@ -49,7 +49,7 @@ module _ (heads : Slab Head) (chains : List (Option Chained)) (entries : List En
   pub too_long : (most : ℕ) → most < length its_message.bytes → IsTooLong sel most messages
   too_long most longer = record { position = x.position; message = its_message; named = named; there = there_seen; longer = longer; short = kept_it.short }
 
-  -- the head and the chain at its place go out, and its entry
+  -- The head and the chain at the entry's place are removed, and so is the entry.
   module _ (heads' : Slab Head) (chains' : List (Option Chained)) (entries' : List Entry) (head : Head) (chain : Chained)
       (known : get heads found.place ≡ Some head) (given : chain_at chains found.place ≡ Some chain)
       (updates : Updates heads heads' found.place None) (counted : slab_len heads' + 1 ≡ slab_len heads) (capacity : heads'.capacity ≡ heads.capacity)

@@ -1,4 +1,4 @@
--- What is seen of an entry whose place another message's coming or going does not touch.
+-- What is seen of an entry whose place is not changed when another message is added or removed.
 use Rattle.std.proofs.Common.{◌≡◌, ◌≢◌, ℕ, ◌<◌, List, [], ◌∷◌, Option, Some, refl, sym, ap, subst, ◌∙◌, arith}
 use Rattle.std.specs.List.{All, slice_get}
 use Rattle.std.proofs.lemmas.List.{get_or-map, length-map}
@@ -27,7 +27,7 @@ numbers_seen heads chains entries n low k d within =
     let f : Entry → Message = λ (e : Entry). message_at heads chains e in
     subst (λ (m : Message). m.number < n) (get_or-map f entries k d (f d) within) (low k (f d) (omega (arith, length-map entries f)))
 
--- heads and chains that are as they were but at one place
+-- Heads and chains that are unchanged except at one place.
 module _ (heads heads' : Slab Head) (chains chains' : List (Option Chained)) (place : ℕ)
     (same_heads : (other : ℕ) → other ≢ place → get heads' other ≡ get heads other) (same_chains : (other : ℕ) → other ≢ place → chain_at chains' other ≡ chain_at chains other) where
   pub message_elsewhere : (e : Entry) → e.place ≢ place → message_at heads' chains' e ≡ message_at heads chains e

@@ -1,4 +1,4 @@
--- A message goes out.
+-- A message is removed.
 use Rattle.std.proofs.Common.{◌≡◌, ◌≢◌, ℕ, ◌+◌, ◌-◌, ◌<◌, ◌≤◌, ◌==◌, true, not, sum_by, List, ◌∷◌, Option, None, Some, IsSome, length, set, refl, sym, ap, subst, ◌∙◌, inl, inr, arith}
 use Rattle.std.specs.List.{All, AllPairs, Contains, filter, remove, slice_get}
 use Rattle.std.proofs.lemmas.Bool.{cases_eq}
@@ -21,7 +21,7 @@ use Rattle.sysv_messages.specs.Kept.{chain_at, head_of, message_at, messages_of,
 use Rattle.sysv_messages.proofs.Lists.{map_remove, at_place, all_both, other_number, place_within, no_some}
 use Rattle.sysv_messages.proofs.Seen.{seen_at, all_kept, all_seen}
 
--- what a sum over messages loses
+-- How much a sum over messages falls.
 pub sum_less : (f : Message → ℕ) (ms : List Message) (position : ℕ) (m : Message) → slice_get ms position ≡ Some m → sum_by f (remove ms position) + f m ≡ sum_by f ms
 sum_less f ms position m there =
     subst (λ (x : Message). sum_by f (remove ms position) + f x ≡ sum_by f ms) (get_or_from_slice_get ms position m m there) (sum_by-remove f ms position m (slice_get_within ms position m there))
@@ -51,7 +51,7 @@ module _ (heads : Slab Head) (chains : List (Option Chained)) (entries : List En
     passed : All (λ (o : Entry). not (o.number == e.number) ≡ true) entries'
     passed = subst (λ es. All (λ (o : Entry). not (o.number == e.number) ≡ true) es) (sym others) (filter_passes (λ (o : Entry). not (o.number == e.number)) entries)
 
-    -- heads at one place are one head, and so have one number
+    -- Heads at the same place are the same head, and so have the same number.
     apart_from : (o : Entry) → not (o.number == e.number) ≡ true → IsKept heads chains o → o.place ≢ e.place
     apart_from o other kept same =
         let one : head_of (message_at heads chains o) ≡ head_of its = same_Some _ _ (sym kept.known ∙ (ap (get heads) same ∙ kept_there.known)) in

@@ -1,4 +1,4 @@
--- Texts that lie in blocks of 64 bytes, each in a box of its own.
+-- Bodies in blocks of 64 bytes, each block in a box of its own.
 use Rattle.std.proofs.Common.{◌≡◌, ℕ, ◌+◌, ◌-◌, ◌*◌, ◌<◌, ◌≤◌, min, inl, inr, zero, suc, List, [], ◌∷◌, ◌++◌, length, take, drop, refl, sym, ap, ◌∙◌, arith, append_assoc, length-append, length-take}
 use Rattle.std.proofs.Math.ListN.{get_or, set}
 use Rattle.std.proofs.Math.Seq.{take-append-add, take-append_seam, drop-append-add}
@@ -24,7 +24,7 @@ pub length-bytes_of : (blocks : List Boxed) → AreWhole blocks → length (byte
 length-bytes_of [] w = refl
 length-bytes_of (b ∷ bs) w = let behind = length-bytes_of bs w.1 in let full = w.0 in omega (arith, length-append b.value (bytes_of bs), full, behind)
 
--- each block by its number
+-- Each block, by its number.
 pub block_at : (i : ℕ) (blocks : List Boxed) (d : Boxed) → AreWhole blocks → i < length blocks → take 64 (drop (i * 64) (bytes_of blocks)) ≡ (get_or blocks i d).value
 block_at i [] d w within = absurd (omega arith)
 block_at zero (b ∷ bs) d w within = ap (λ n. take n (b.value ++ bytes_of bs)) (sym w.0) ∙ take-append_seam b.value (bytes_of bs)
@@ -33,13 +33,13 @@ block_at (suc i) (b ∷ bs) d w within =
     let on : suc i * 64 ≡ length b.value + i * 64 = omega (arith, full) in
     ap (λ n. take 64 (drop n (b.value ++ bytes_of bs))) on ∙ (ap (λ t. take 64 t) (drop-append-add b.value (bytes_of bs) (i * 64)) ∙ block_at i bs d w.1 (omega arith))
 
--- each byte by its block and its place there
+-- Each byte, by its block and its index there.
 pub byte_at : (i j : ℕ) (blocks : List Boxed) (d : Boxed) → AreWhole blocks → i < length blocks → j < 64 → get_or (bytes_of blocks) (i * 64 + j) 0 ≡ get_or (get_or blocks i d).value j 0
 byte_at i j blocks d w within small =
     sym (get_or-drop (i * 64) (bytes_of blocks) j 0)
     ∙ (sym (get_or-take 64 (drop (i * 64) (bytes_of blocks)) j 0 small) ∙ ap (λ t. get_or t j 0) (block_at i blocks d w within))
 
--- a fragment that is put into a block comes after the bytes that stand before it
+-- A piece that is written into a block follows the bytes before it.
 pub put_at : (i offset : ℕ) (blocks : List Boxed) (block d : Boxed) (fragment : List ℕ) → AreWhole blocks → i < length blocks →
     length block.value ≡ 64 → offset + length fragment ≤ 64 → take (offset + length fragment) block.value ≡ take offset (get_or blocks i d).value ++ fragment →
     take (i * 64 + offset + length fragment) (bytes_of (set blocks i block)) ≡ take (i * 64 + offset) (bytes_of blocks) ++ fragment
@@ -63,7 +63,7 @@ put_at (suc i) offset (b ∷ bs) block d fragment w within full fits put =
     ∙ (sym (append_assoc b.value (take (i * 64 + offset) old) fragment)
     ∙ ap (λ t. t ++ fragment) (sym (ap (λ n. take n (b.value ++ old)) on ∙ take-append-add b.value old (i * 64 + offset))))))
 
--- a text that is no longer than the blocks has its whole length
+-- A body that is no longer than its blocks has its full length.
 pub length_kept : (blocks : List Boxed) (len : ℕ) → HasRoom blocks len → length (take len (bytes_of blocks)) ≡ len
 length_kept blocks len kept =
     let all = length-bytes_of blocks kept.whole in
@@ -81,7 +81,7 @@ front_of_front m bytes = elim (at_most 64 m) [
       take-take (min 64 m) 64 bytes (omega arith) ∙ (ap (λ n. take n bytes) all ∙ sym (take_all 64 (take m bytes) (omega (arith, length-take m bytes))))
 ]
 
--- the part of a block that a text of that many bytes takes is the text's own block
+-- The part of a block that a body of this length uses is the block of the body.
 pub block_kept : (i len : ℕ) (blocks : List Boxed) (d : Boxed) → AreWhole blocks → i < length blocks → i * 64 < len →
     take (min 64 (len - i * 64)) (get_or blocks i d).value ≡ take 64 (drop (i * 64) (take len (bytes_of blocks)))
 block_kept i len blocks d w within more =

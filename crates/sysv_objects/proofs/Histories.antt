@@ -1,4 +1,4 @@
--- One more turn, as the histories of the objects have it.
+-- One more turn, in the histories of the objects.
 use Rattle.std.proofs.Common.{◌≡◌, ◌≢◌, ℕ, ◌+◌, ◌≤◌, Bool, true, false, cond, List, [], ◌∷◌, ◌++◌, refl, ap, ◌∙◌, arith}
 use Rattle.std.proofs.Math.Dec.{eqb}
 use Rattle.std.proofs.lemmas.Grind.{flat_map-append}
@@ -33,7 +33,7 @@ another : (n m : ℕ) (b : Bool) → eqb n m ≡ b → n ≢ m → b ≡ false
 another n m true e f = absurd (f (grind (arith, nat_tests)))
 another n m false e f = refl
 
--- a turn at a slot adds to its history, and to no other slot's
+-- A turn at a slot is added to the history of this slot, and to that of no other slot.
 pub at_its_slot : (slot : ℕ) (turns : List Turn) (who : Who) (call : Call) (reply : Reply) →
     slot_history slot (turns ++ turn_of who (AtSlot slot call reply) ∷ []) ≡ then_turn (slot_history slot turns) who call reply
 at_its_slot slot turns who call reply =

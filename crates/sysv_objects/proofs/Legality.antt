@@ -16,7 +16,7 @@ use Rattle.sysv_objects.specs.LegalDeed.{IsLegalDeed, AreLegal}
 use Rattle.sysv_objects.specs.OneDeed.{SomeDeedIsLegal, NoTwoDeedsAreLegal}
 use Rattle.sysv_objects.proofs.Histories.{turn_of, at_its_slot, at_another, registry_more, pool_more, not_at_registry, not_at_slot, slot_not_at_pool, registry_not_at_pool, pool_not_at_slot, pool_not_at_registry}
 
--- what the laws of the slots, of the registry and of the pool say of legal histories
+-- The laws of the slots, of the registry and of the pool about legal histories.
 pub record Laws : Type 0 where
   pub slot_none : IsLegalHistory []
   pub slot_more : (h : History) (e : Entry) → IsLegalHistory h → IsLegalReply h e.call e.reply → IsLegalHistory (h ++ e ∷ [])

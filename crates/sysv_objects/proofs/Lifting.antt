@@ -1,4 +1,4 @@
--- A turn at a slot, at the registry or at the pool is one of the objects.
+-- A turn at a slot, at the registry or at the pool is a turn at the objects.
 use Rattle.std.proofs.Common.{◌≡◌, ℕ, ◌+◌, ◌≤◌, cond, None, Ok, Err, List, [], ◌∷◌, ◌++◌, Some, inl, inr, refl, sym, ap, subst, ◌∙◌, arith, slice_get, slice_set, length-set}
 use Rattle.sysv_model.specs.History.{Who, Actor, Call, Reply, Entry}
 use Rattle.sysv_model.specs.Registry.{RegistryCall, RegistryReply}
@@ -23,7 +23,7 @@ use Rattle.sysv_objects.specs.StandsFor.{StandsFor, Stand, MakesTurn}
 use Rattle.sysv_objects.proofs.Lists.{get_set}
 use Rattle.sysv_objects.proofs.Histories.{turn_of, at_its_slot, at_another, registry_more, not_at_registry, not_at_slot, slot_not_at_pool, registry_not_at_pool, pool_not_at_slot, pool_not_at_registry, pool_more, arrives, frees}
 
--- the objects with another slot at that number, with another registry, and with another pool
+-- The objects with another slot at this number, with another registry, and with another pool.
 abbrev pub with_slot : Objects → ℕ → Slot → Objects
 with_slot objects number slot = record { slots = slice_set objects.slots number slot; registry = objects.registry; pool = objects.pool }
 
@@ -33,7 +33,7 @@ with_registry objects registry = record { slots = objects.slots; registry = regi
 abbrev pub with_pool : Objects → Pool → Objects
 with_pool objects pool = record { slots = objects.slots; registry = objects.registry; pool = pool }
 
--- objects that stand for some turns stand for some after a turn
+-- Objects that stand for some turns before a turn stand for some turns after it.
 pub stand_on : (old new : Objects) (deed : Deed) → Stand old → MakesTurn old deed new → Stand new
 stand_on old new deed st turn = (st.0, st.1 ++ turn_of (Actor 0 0) deed ∷ [], turn.stands st.0 st.1 (Actor 0 0) st.2)
 
@@ -108,7 +108,7 @@ at_registry old new call reply turn = record {
 
 -- ---- at the pool
 
--- the released count rises by a release alone
+-- Only a release raises the released count.
 releases : (call : Asked) (reply : Told) → FitsPoolCall call reply → cond (is_release (pool_reply reply)) 1 0 ≤ pool_raises (pool_call call)
 releases (asked.Reserve size) (told.Reserved None) fits = omega arith
 releases (asked.Reserve size) (told.Reserved (Some chain)) fits = omega arith

@@ -25,7 +25,7 @@ use Rattle.sysv_objects.proofs.Lifting.{stand_on, at_slot, at_registry, at_pool}
 abbrev pub objects_of : List Slot → Registry → Pool → Objects
 objects_of slots registry pool = record { slots = slots; registry = registry; pool = pool }
 
--- the code works with the bits of an identifier
+-- The code computes the slot from the bits of an identifier.
 pub its_slot : (place : ℕ) (id : ℤ) → FitsSigned w32 id → place ≡ slot_of_id (to_z w32 (of_z w32 id)) → place ≡ slot_of_id id
 its_slot place id fits is = is ∙ ap slot_of_id (to_z-of_z w32 id fits)
 
@@ -45,7 +45,7 @@ module _ (items : List Slot) (registry : Registry) (pool : Pool) (seen : Objects
       stand_on (objects_of items registry pool) (objects_of (slice_set items place new) registry pool) (AtSlot place call reply) st
       (at_slot (objects_of items registry pool) place was new call reply there turn st)
 
-  -- a slot that is left as it was leaves the objects as they were
+  -- If the slot is unchanged, the objects are unchanged.
   pub left : (new : Slot) → new ≡ was → objects_of (slice_set items place new) registry pool ≡ seen
   left new same =
       ap (λ slots. objects_of slots registry pool) (ap (slice_set items place) (same ∙ read) ∙ set-get_or items place was) ∙ view

@@ -1,4 +1,4 @@
--- A history is legal when the history before its last turn is, and that turn's reply.
+-- A history is legal if the history before its last turn is legal and the last reply is legal.
 use Rattle.std.proofs.Common.{◌≡◌, ℕ, [], ◌∷◌, ◌++◌, inl, inr, refl, sym, subst, ap, ◌∙◌, append_assoc}
 use Rattle.sysv_model.specs.Pool.{PoolEntry, PoolHistory}
 use Rattle.sysv_pool.specs.LegalReply.{IsLegalReply, IsLegalHistory}

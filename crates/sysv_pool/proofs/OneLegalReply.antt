@@ -1,4 +1,4 @@
--- Each call has exactly one legal reply, since the blocks are enough or not.
+-- Each call has exactly one legal reply, because there are enough blocks or there are not.
 use Rattle.std.proofs.Common.{◌≡◌, ◌+◌, inl, inr, refl, sym, ap, ◌∙◌, arith}
 use Rattle.sysv_lists.proofs.Orders.{at_most}
 use Rattle.sysv_model.specs.Pool.{blocks_for, PoolCall, Reserve, Release, PoolReply, Reserved, TooFew, Released, Foreign}

@@ -1,4 +1,4 @@
--- The sums over a history with one more turn, and what they are after every legal history.
+-- The sums over a history with one more turn, and their bounds after every legal history.
 use Rattle.std.proofs.Common.{◌≡◌, ℕ, ◌+◌, ◌-◌, ◌≤◌, [], ◌∷◌, ◌++◌, cond, arith}
 use Rattle.std.proofs.lemmas.List.Sums.{sum_by_push}
 use Rattle.sysv_model.specs.Pool.{PoolCall, Reserve, Release, PoolReply, Reserved, TooFew, Released, Foreign, PoolEntry, PoolHistory, released, frees}
@@ -16,12 +16,12 @@ returned-more h e = sum_by_push (λ (x : PoolEntry). returned_by x.call x.reply)
 pub released-more : (h : PoolHistory) (e : PoolEntry) → released (h ++ e ∷ []) ≡ released h + cond (frees e.reply) 1 0
 released-more h e = sum_by_push (λ (x : PoolEntry). cond (frees x.reply) 1 0) h e
 
--- the sums keep within the size
+-- The sums stay within the size.
 pub record Within (size : ℕ) (h : PoolHistory) : Type 0 where
   pub paid : reserved h ≤ size + returned h
   pub owed : returned h ≤ reserved h
 
--- one more legal reply keeps them there
+-- One more legal reply keeps them within it.
 step : (size taken back : ℕ) (count : ℕ) (call : PoolCall) (reply : PoolReply) → taken ≤ size + back → back ≤ taken →
     Legal (record { size = size; free = (size + back) - taken; released = count }) call reply →
     (taken + reserved_by reply ≤ size + (back + returned_by call reply)) × (back + returned_by call reply ≤ taken + reserved_by reply)

@@ -1,18 +1,18 @@
--- Texts that lie in blocks of 64 bytes.
+-- Bodies in blocks of 64 bytes.
 use Rattle.std.proofs.Common.{◌≡◌, ℕ, ◌+◌, ◌-◌, ◌*◌, ◌/◌, ◌%◌, inl, inr, min, List, ◌++◌, length, take, drop, sym, ap, ◌∙◌, arith, length-take, length-drop}
 use Rattle.std.proofs.Math.Seq.{take-append-add}
 use Rattle.std.proofs.lemmas.List.{take_all, take-append-le, take-append-drop, drop-drop}
 use Rattle.sysv_lists.proofs.Orders.{at_most}
 use Rattle.sysv_model.specs.Blocks.{block_of}
 
--- as many blocks as hold n bytes, rounded up either way
+-- Two ways to round the number of blocks up agree.
 pub rounded_up : (n : ℕ) → n / 64 + min 1 (n % 64) ≡ (n + 63) / 64
 rounded_up n = omega arith
 
 pub length-block_of : (k : ℕ) (body : List ℕ) → length (block_of k body) ≡ min 64 (length body - k * 64)
 length-block_of k body = length-take 64 (drop (k * 64) body) ∙ ap (λ n. min 64 n) (length-drop (k * 64) body)
 
--- with one more block filled in front, the text lies in the blocks from there on
+-- With one more block filled in front, the blocks from there on hold the body.
 pub one_more : (text body rest : List ℕ) (k : ℕ) → length text ≡ 64 → take (length (block_of k body)) text ≡ block_of k body →
     take (length body - (k + 1) * 64) rest ≡ drop ((k + 1) * 64) body → take (length body - k * 64) (text ++ rest) ≡ drop (k * 64) body
 one_more text body rest k full written behind = elim (at_most ((k + 1) * 64) (length body)) [

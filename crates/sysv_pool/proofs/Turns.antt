@@ -1,4 +1,4 @@
--- How a pool that stands for a history goes on by one turn.
+-- The turns of a pool that stands for a history.
 use Rattle.std.proofs.Common.{◌≡◌, ℕ, ◌+◌, ◌-◌, ◌≤◌, ◌<◌, [], refl, sym, ap, subst, ◌∙◌, arith}
 use Rattle.sysv_model.specs.History.{Who}
 use Rattle.sysv_model.specs.Pool.{blocks_for, PoolCall, Reserve, Release, PoolReply, Reserved, TooFew, Released, Foreign, PoolEntry, PoolHistory, released}
@@ -14,7 +14,7 @@ pool size free count = record { size = size; free = free; released = count }
 pub stands_empty : (size : ℕ) → StandsFor [] (pool size size 0)
 stands_empty size = record { legal = legal_empty size; seen = ap (λ n. pool size n 0) (omega arith) }
 
--- a turn whose reply is legal and whose pool goes on as each history does
+-- A call makes a turn if its reply is legal and the pool changes as each history does.
 makes_turn : (size free count : ℕ) (call : PoolCall) (reply : PoolReply) (free' count' : ℕ) → Legal (pool size free count) call reply →
     ((h : PoolHistory) (who : Who) → IsLegalHistory size h → free_after size h ≡ free → released h ≡ count →
     (free_after size (then_turn h who call reply) ≡ free') × (released (then_turn h who call reply) ≡ count')) →

@@ -1,4 +1,4 @@
--- What one more turn does to the blocks of what waits.
+-- How one more turn changes the blocks of the queued messages.
 use Rattle.std.proofs.Common.{◌≡◌, ℕ, ℤ, ◌+◌, cond, List, [], ◌∷◌, ◌++◌, Some, length, refl, sym, ap, subst, ◌∙◌, arith, remove, slice_get}
 use Rattle.std.proofs.lemmas.List.Sums.{sum_by_push, sum_by-remove}
 use Rattle.std.proofs.lemmas.Option.{slice_get_within, get_or_from_slice_get}
@@ -14,7 +14,8 @@ use Rattle.sysv_queue.proofs.Ids.{same_id}
 use Rattle.sysv_queue.proofs.Turns.{Kind, Quiet, Makes, Accepts, Takes, Changes, Discards, kind_of}
 use Rattle.sysv_queue.proofs.Stands.{after_quiet, after_made, after_sent, after_taken, after_changed, after_removed}
 
--- a turn that accepts nothing puts no block, and one that delivers and discards nothing takes none
+-- A turn that accepts nothing puts no blocks on the queue, and a turn that delivers and discards
+-- nothing takes none off it.
 put_none : (call : Call) (reply : Reply) → ((id : ℤ) → accepted_by id call reply ≡ []) → blocks_put call reply ≡ 0
 put_none (Place id cred mtype bytes now) (Accepted number) none =
     let m : Message = record { number = number; sender = cred.pid; mtype = mtype; bytes = bytes } in

@@ -1,4 +1,4 @@
--- What was accepted is, each message once, what was delivered, discarded or still waits.
+-- The accepted messages are, each once, those delivered, discarded or still queued.
 use Rattle.std.proofs.Common.{◌≡◌, ◌≢◌, ℕ, ℤ, inl, inr, Bool, true, List, [], ◌∷◌, ◌++◌, Some, IsPermutation, sym, ap, subst, ◌∙◌, slice_get, remove, append_assoc}
 use Rattle.std.specs.List.{AllPairs, All, Contains}
 use Rattle.std.proofs.lemmas.List.{append-nil}
@@ -21,7 +21,7 @@ use Rattle.sysv_queue.proofs.Facts.{Facts, facts, accepted-sent, accepted_else, 
 use Rattle.sysv_queue.proofs.Order.{apart_where_rising}
 use Rattle.sysv_queue.proofs.Distinct.{distinct_permuted, distinct_front}
 
--- of lists: all is, each message once, what was taken, what is gone and what is left
+-- All messages of the first list are, each once, those taken, gone or left.
 abbrev Splits : List Message → List Message → List Message → List Message → Type 0
 Splits all taken gone left = IsPermutation all (taken ++ (gone ++ left))
 
@@ -29,20 +29,20 @@ splits_as : (a b d e g k w v : List Message) → b ≡ a → e ≡ d → k ≡ g
 splits_as a b d e g k w v all taken gone left s =
     subst (λ ms. Splits ms e k v) (sym all) (subst (λ ms. Splits a ms k v) (sym taken) (subst (λ ms. Splits a d ms v) (sym gone) (subst (λ ms. Splits a d g ms) (sym left) s)))
 
--- one more message is there and left
+-- One more message is accepted and left.
 splits_sent : (a d g w : List Message) (m : Message) → Splits a d g w → Splits (a ++ m ∷ []) d g (w ++ m ∷ [])
 splits_sent a d g w m s =
     subst (IsPermutation (a ++ m ∷ [])) (append_assoc d (g ++ w) (m ∷ []) ∙ ap (λ ms. d ++ ms) (append_assoc g w (m ∷ [])))
     (IsPermutation-append_left (m ∷ []) a (d ++ (g ++ w)) s)
 
--- the message at a place of what is left is taken
+-- The message at a place of those left is taken.
 splits_taken : (a d g w : List Message) (place : ℕ) (m : Message) → slice_get w place ≡ Some m → Splits a d g w → Splits a (d ++ m ∷ []) g (remove w place)
 splits_taken a d g w place m there s =
     let out = IsPermutation-remove w place m (slice_get_within w place m there) (sym (get_or_from_slice_get w place m m there)) in
     IsPermutation-pop_more a d (g ++ w) (g ++ remove w place) m s
     (IsPermutation-trans _ _ _ (IsPermutation-append_right g w (m ∷ remove w place) out) (IsPermutation-middle g m (remove w place)))
 
--- all that is left is discarded
+-- All messages that are left are discarded.
 splits_lost : (a d g w : List Message) → Splits a d g w → Splits a d (g ++ w) []
 splits_lost a d g w s = subst (λ ms. IsPermutation a (d ++ ms)) (sym (append-nil (g ++ w))) s
 
@@ -110,7 +110,7 @@ pub conserved : (h : History) → IsLegalHistory h → IsConserved h
 conserved = from_end (λ (h : History). IsLegalHistory h → IsConserved h) (λ _ id. IsPermutation-refl [])
     (λ h e before legal. conserved_more h e.who e.call e.reply (kind_of (slot_of h) e.call e.reply (legal_last h e legal)) (facts h (legal_front h e legal)) (legal_last h e legal) (before (legal_front h e legal)))
 
--- what was delivered or discarded had been accepted
+-- What was delivered or discarded had been accepted.
 pub had_accepted : (h : History) → IsConserved h → (id : ℤ) (m : Message) → Contains (delivered id h ++ discarded id h) m → Contains (accepted id h) m
 had_accepted h c id m has =
     let taken = delivered id h in
@@ -123,7 +123,7 @@ pub all_accepted : (h : History) → IsConserved h → (id : ℤ) → All (Conta
 all_accepted h c id =
     All-weaker (Contains (delivered id h ++ discarded id h)) (Contains (accepted id h)) (had_accepted h c id) (delivered id h ++ discarded id h) (All-contains_itself (delivered id h ++ discarded id h))
 
--- no number stands twice among what was delivered or discarded
+-- No two messages that were delivered or discarded have the same number.
 pub each_once : (h : History) → Facts h → IsConserved h → (id : ℤ) → AllPairs (λ (m n : Message). m.number ≢ n.number) (delivered id h ++ discarded id h)
 each_once h f c id =
     let taken = delivered id h in

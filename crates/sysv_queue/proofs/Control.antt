@@ -1,4 +1,4 @@
--- The turns of the calls that change a queue and remove it.
+-- The turns of the calls that change or remove a queue.
 use Rattle.std.proofs.Common.{◌≡◌, ℕ, ℤ, ◌+◌, ◌<◌, ◌≤◌, ◌⊎◌, inl, inr, [], Option, None, Some, refl, sym, ap, subst, arith, option_map}
 use Rattle.sysv_model.specs.declared.cred.Cred.{Cred}
 use Rattle.sysv_model.specs.declared.errno.Errno.{Errno}
@@ -39,7 +39,7 @@ module _ (s : Slot) (id : ℤ) (cred : Cred) (to : SetTo) (now : ℕ) where
   pub set_above_most : HasId s.live id → MayControl cred s.live → MAX_QBYTES < to.qbytes → MakesTurn s (Set id cred to now) (Refused EINVAL) s
   set_above_most lives may above = turn_quiet s _ _ (quiet_set_refused id cred to now EINVAL) (inr (lives, may, λ within. omega arith))
 
-  -- a raise by another than user 0
+  -- A raise of the limit by a caller other than user 0.
   never_limits : (queue : Attributes) (live : Option Attributes) → live ≡ Some queue → queue.qbytes < to.qbytes → ¬ (cred.uid ≡ 0) → ¬ MayLimit cred to live
   never_limits queue live is raise other = subst (λ l. ¬ MayLimit cred to l) (sym is) (λ limit. elim limit [ inl no_raise ↦ omega arith | inr zero_user ↦ other zero_user ])
 

@@ -1,4 +1,4 @@
--- A slot, and what it gives, may go to another thread, and threads may share it.
+-- A slot and its results may be sent to another thread, and threads may share them.
 use denote.Param.Send.{IsSend, IsSync, sendable, view_send, view_sync}
 use denote.Param.SendFields.{declared_send, declared_sync, as_row_send, as_row_sync}
 use Rattle.std.proofs.Crossing.{Box-send, Box-sync, crosses}

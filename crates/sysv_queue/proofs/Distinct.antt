@@ -1,4 +1,4 @@
--- Messages whose numbers are pairwise different, in whatever order they stand.
+-- Messages with pairwise different numbers, in any order.
 use Rattle.std.proofs.Common.{◌≡◌, ◌≢◌, ℕ, ◌<◌, ◌⊎◌, inl, inr, List, ◌++◌, length, get_or, swap, IsPermutation, refl, sym, ap, ◌∙◌, arith, length-append}
 use Rattle.std.specs.List.{AllPairs}
 use Rattle.std.proofs.lemmas.Bool.{cases_eq}
@@ -7,7 +7,7 @@ use Rattle.std.proofs.lemmas.List.Edits.{Swapped, swapped_from_swap, length-swap
 use Rattle.std.proofs.lemmas.List.Sorted.{IsPermutation-keeps}
 use Rattle.sysv_model.specs.Message.{Message}
 
--- two places with one number are one place
+-- Two places with the same number are the same place.
 abbrev AreApart : List Message → Type 0
 AreApart ms = (i j : ℕ) (d : Message) → i < length ms → j < length ms → (get_or ms i d).number ≡ (get_or ms j d).number → i ≡ j
 
@@ -17,7 +17,7 @@ apart_places ms h i j d p q e =
     let not_above : j < i → ⊥ = λ less. h j i d less p (sym e) in
     omega arith
 
--- where an exchange of the places a and b took what it put at m from
+-- After the exchange of places a and b, the element at m was at k.
 abbrev From : ℕ → ℕ → ℕ → ℕ → Type 0
 From a b m k = ((m ≡ a) × (k ≡ b)) ⊎ (((m ≡ b) × (k ≡ a)) ⊎ ((m ≢ a) × (m ≢ b) × (k ≡ m)))
 
@@ -35,13 +35,13 @@ apart_swapped ms a b p q h i j d less within e =
     let same = h x.0 y.0 d (omega (arith, x.1)) (omega (arith, y.1)) (ap (λ (m : Message). m.number) (sym x.2) ∙ (e ∙ ap (λ (m : Message). m.number) y.2)) in
     omega (arith, x.1, y.1)
 
--- numbers that are pairwise different stay so in another order
+-- Pairwise different numbers are still so in another order.
 pub distinct_permuted : (ms ns : List Message) → IsPermutation ms ns → AllPairs (λ (m n : Message). m.number ≢ n.number) ms → AllPairs (λ (m n : Message). m.number ≢ n.number) ns
 distinct_permuted ms ns moved h =
     let apart = IsPermutation-keeps ms AreApart (apart_places ms h) apart_swapped ns moved in
     λ i j d less within e. let same = apart i j d (omega arith) within e in omega arith
 
--- the numbers of a prefix of such a list are pairwise different too
+-- The numbers of a prefix of such a list are pairwise different too.
 pub distinct_front : (ms ns : List Message) → AllPairs (λ (m n : Message). m.number ≢ n.number) (ms ++ ns) → AllPairs (λ (m n : Message). m.number ≢ n.number) ms
 distinct_front ms ns h i j d less within e =
     let long = length-append ms ns in

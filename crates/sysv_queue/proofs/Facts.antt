@@ -1,4 +1,4 @@
--- What holds of every legal history, by which one more turn is understood.
+-- What holds of every legal history. The lemmas about one more turn use it.
 use Rattle.std.proofs.Common.{◌≡◌, ℕ, zero, suc, ℤ, ◌+◌, ◌<◌, ◌≤◌, inl, inr, append_assoc, Bool, true, false, cond, List, [], ◌∷◌, ◌++◌, Option, None, Some, refl, sym, ap, subst, ◌∙◌, arith, slice_get, remove, add-zero}
 use Rattle.std.specs.Ordering.{int_eq}
 use Rattle.std.specs.List.{AllByRecursion}
@@ -22,10 +22,10 @@ pub record Facts (h : History) : Type 0 where
   -- acceptance numbers are below the arrived count, and rise
   pub low : (id : ℤ) → AreBelow (arrived h) (accepted id h)
   pub rises : (id : ℤ) → Rises (accepted id h)
-  -- so are those of what was delivered below it, and of what was discarded
+  -- the numbers of delivered and of discarded messages are below it too
   pub gone_low : (id : ℤ) → AreBelow (arrived h) (delivered id h)
   pub lost_low : (id : ℤ) → AreBelow (arrived h) (discarded id h)
-  -- nothing waits under an identifier that is not live
+  -- nothing is queued under an identifier that is not live
   pub others : (id : ℤ) → ¬ IsLive h id → waiting id h ≡ []
 
 pub facts_empty : Facts []
@@ -39,11 +39,11 @@ at_place P (y ∷ xs) (suc place) x a e = at_place P xs place x a.1 e
 pub later : (m n : ℕ) (xs : List Message) → m ≤ n → AreBelow m xs → AreBelow n xs
 later m n xs le a = weaker (λ (x : Message). x.number < m) (λ (x : Message). x.number < n) (λ x p. omega arith) xs a
 
--- what waits on the live queue has numbers below the arrived count, that rise
+-- The numbers of the queued messages are below the arrived count, and rise.
 pub waiting_low : (h : History) (id : ℤ) → Facts h → AreBelow (arrived h) (waiting id h)
 waiting_low h id f = filtered _ (λ (x : Message). x.number < arrived h) (accepted id h) (f.low id)
 
--- nothing that was delivered or discarded has the arrived count for its number
+-- Nothing that was delivered or discarded has the arrived count as its number.
 pub none_gone : (h : History) (id : ℤ) → Facts h → has_number (arrived h) (delivered id h ++ discarded id h) ≡ false
 none_gone h id f = is_new (arrived h) (delivered id h ++ discarded id h) (below_append (arrived h) (delivered id h) (discarded id h) (f.gone_low id) (f.lost_low id))
 
@@ -84,7 +84,7 @@ below_with false n xs m a l = subst (λ ys. AreBelow n ys) (sym (append-nil xs))
 pub none_with : (b : Bool) (xs : List Message) (m : Message) → b ≡ false → xs ++ cond b (m ∷ []) [] ≡ xs
 none_with b xs m e = ap (λ t. xs ++ cond t (m ∷ []) []) e ∙ append-nil xs
 
--- a turn that accepts a message
+-- A turn that accepts a message.
 module _ (h : History) (who : Who) (f : Facts h) (at : ℤ) (cred : Cred) (mtype : ℤ) (bytes : List ℕ) (now number : ℕ) (live_at : HasId (live h) at) (numbered : number ≡ arrived h) where
   abbrev pub sent_message : Message
   sent_message = record { number = number; sender = cred.pid; mtype = mtype; bytes = bytes }
@@ -144,7 +144,7 @@ module _ (h : History) (who : Who) (f : Facts h) (at : ℤ) (cred : Cred) (mtype
             waiting_else id (λ same. g (still_live (subst (λ i. HasId (live h) i) same live_at))) ∙ f.others id (λ l. g (still_live l));
       }
 
--- a turn that delivers the message at a place
+-- A turn that delivers the message at a place.
 module _ (h : History) (who : Who) (f : Facts h) (at : ℤ) (cred : Cred) (selector : Selector) (size : ℕ) (noerror : Bool) (now : ℕ) (m : Message) (place : ℕ) (live_at : HasId (live h) at) (there : slice_get (held h) place ≡ Some m) where
   abbrev pub taken_turn : Entry
   taken_turn = record { who = who; call = Take at cred selector size noerror now; reply = Taken m }
@@ -203,7 +203,7 @@ module _ (h : History) (who : Who) (f : Facts h) (at : ℤ) (cred : Cred) (selec
       ∙ (waiting_less (accepted at h) (delivered at h ++ discarded at h) (m ∷ [])
       ∙ filter-remove (waiting at h) place m (waiting_rises h at f) there_at)))
 
--- a turn that discards all that waits
+-- A turn that discards all queued messages.
 module _ (h : History) (who : Who) (f : Facts h) (at : ℤ) (cred : Cred) (messages : List Message) (live_at : HasId (live h) at) (whole : messages ≡ held h) where
   abbrev pub removed_turn : Entry
   removed_turn = record { who = who; call = Remove at cred; reply = Discarded messages }
@@ -238,7 +238,7 @@ module _ (h : History) (who : Who) (f : Facts h) (at : ℤ) (cred : Cred) (messa
       ∙ (ap (waiting_from (accepted at h)) (sym (append_assoc (delivered at h) (discarded at h) (waiting at h)))
       ∙ (waiting_less (accepted at h) (delivered at h ++ discarded at h) (waiting at h) ∙ none_left (waiting at h)))))
 
-  -- a discarded message had waited
+  -- A discarded message was queued.
   lost_with : (id : ℤ) → AreBelow (arrived h) (discarded id (h ++ removed_turn ∷ []))
   lost_with id = elim (decided at id) [
     | inl same ↦ subst (λ i. AreBelow (arrived h) (discarded i (h ++ removed_turn ∷ []))) same

@@ -1,4 +1,4 @@
--- Lists of messages whose numbers rise, and what waits of them once one more was accepted or
+-- Lists of messages with rising numbers, and which of them are queued once one more was accepted or
 -- delivered.
 use Rattle.std.proofs.Common.{◌≡◌, ℕ, zero, suc, ◌<◌, ◌==◌, Bool, true, false, not, cond, ◌||◌, List, [], ◌∷◌, ◌++◌, Some, refl, sym, ap, subst, ◌∙◌, arith, remove, slice_get, rules}
 use Rattle.std.specs.List.{filter, AllByRecursion, Contains}
@@ -8,12 +8,12 @@ use Rattle.std.proofs.lemmas.Bool.Decides.{nat_tests}
 use Rattle.sysv_model.specs.Message.{Message}
 use Rattle.sysv_model.specs.Waiting.{has_number}
 
--- each number is below all later ones
+-- Each number is below all later ones.
 abbrev pub Rises : List Message → Type 0
 Rises [] = Unit {0}
 Rises (x ∷ xs) = AllByRecursion (λ (m : Message). x.number < m.number) xs × Rises xs
 
--- each number is below n
+-- Each number is below n.
 abbrev pub AreBelow : ℕ → List Message → Type 0
 AreBelow n xs = AllByRecursion (λ (m : Message). m.number < n) xs
 
@@ -52,11 +52,11 @@ pub rises_filter : (p : Message → Bool) (xs : List Message) → Rises xs → R
 rises_filter p [] r = tt
 rises_filter p (x ∷ xs) r = rises_at (p x) x (filter p xs) (filtered p (λ (m : Message). x.number < m.number) xs r.0) (rises_filter p xs r.1)
 
--- what waits of the accepted messages once the others are gone
+-- The accepted messages that are still queued once the others are gone.
 abbrev pub waiting_from : List Message → List Message → List Message
 waiting_from all gone = filter (λ (m : Message). not (has_number m.number gone)) all
 
--- no number from n on is among messages whose numbers are below n
+-- No number from n on is in a list whose numbers are below n.
 pub is_new : (n : ℕ) (xs : List Message) → AreBelow n xs → has_number n xs ≡ false
 is_new n [] b = refl
 is_new n (x ∷ xs) b = let other : (x.number == n) ≡ false = grind (arith, nat_tests, b.0) in let rest = is_new n xs b.1 in ap (λ t. t || has_number n xs) other ∙ rest
@@ -76,7 +76,7 @@ pull_in : (a : Bool) (q : Message → Bool) (x : Message) (ys : List Message) �
 pull_in true q x ys = refl
 pull_in false q x ys = refl
 
--- once more is gone, what waited waits without it
+-- Once more messages are gone, those that were queued before are queued without them.
 pub waiting_less : (all gone more : List Message) →
     waiting_from all (gone ++ more) ≡ filter (λ (x : Message). not (has_number x.number more)) (waiting_from all gone)
 waiting_less [] gone more = refl
@@ -90,7 +90,7 @@ waiting_less (x ∷ all) gone more =
     ∙ (both_tests (has_number x.number gone) (has_number x.number more) x (filter left (waiting_from all gone))
     ∙ pull_in (has_number x.number gone) left x (waiting_from all gone)))
 
--- which numbers are gone decides what waits, not their order
+-- Which messages are queued depends on the numbers that are gone, not on their order.
 same_numbers : (all g k : List Message) → ((n : ℕ) → has_number n g ≡ has_number n k) → waiting_from all g ≡ waiting_from all k
 same_numbers [] g k same = refl
 same_numbers (x ∷ all) g k same =
@@ -112,7 +112,7 @@ pub waiting_swapped : (all a b c : List Message) → waiting_from all ((a ++ b) 
 waiting_swapped all a b c = same_numbers all ((a ++ b) ++ c) ((a ++ c) ++ b)
     (λ n. numbers_of n a b c ∙ (both_orders (has_number n a) (has_number n b) (has_number n c) ∙ sym (numbers_of n a c b)))
 
--- nothing is left of a list without its own numbers
+-- Nothing is left of a list without its own numbers.
 or_true : (a : Bool) → (a || true) ≡ true
 or_true true = refl
 or_true false = refl
@@ -145,7 +145,7 @@ above_first n [] place m a e = absurd cc
 above_first n (x ∷ xs) zero m a e = let same : x ≡ m = cc in subst (λ (y : Message). n < y.number) same a.0
 above_first n (x ∷ xs) (suc place) m a e = above_first n xs place m a.1 e
 
--- where numbers rise, to leave out a message's number is to remove its place
+-- In a list with rising numbers, leaving out a message's number removes its place.
 pub filter-remove : (xs : List Message) (place : ℕ) (m : Message) → Rises xs → slice_get xs place ≡ Some m →
     filter (λ (x : Message). not (has_number x.number (m ∷ []))) xs ≡ remove xs place
 filter-remove [] place m r e = absurd cc

@@ -1,4 +1,5 @@
--- After a removal of an identifier no turn accepts or delivers under it before another install of it.
+-- After an identifier was removed, no turn accepts or delivers under it before it is installed
+-- again.
 use Rattle.std.proofs.Common.{◌≡◌, ℤ, true, false, cond, List, [], ◌∷◌, ◌++◌, Option, None, refl, sym, ap, subst, ◌∙◌, append_assoc}
 use Rattle.std.specs.List.{AllByRecursion}
 use Rattle.std.proofs.lemmas.List.{append-nil}
@@ -14,12 +15,12 @@ use Rattle.sysv_queue.specs.QueueLaw.{RemovalIsFinal, removes, installs}
 use Rattle.sysv_queue.proofs.Turns.{live-more}
 use Rattle.sysv_queue.proofs.Ids.{same_id, other_id, gives_no_id}
 
--- no queue lives after a turn that removes one
+-- No queue is live after a turn that removes one.
 vacant_after : (old : Option Attributes) (id : ℤ) (call : Call) (reply : Reply) → removes id call reply ≡ true → live_after old call reply ≡ None
 vacant_after old id (Remove at cred) (Discarded messages) e = refl
 vacant_after old id call reply e = absurd cc
 
--- an identifier that is not live is not live after a turn that does not install it
+-- An identifier that is not live is not live after a turn that does not install it.
 pub stays_dead : (old : Option Attributes) (id : ℤ) (call : Call) (reply : Reply) → installs id call reply ≡ false → ¬ HasId old id → ¬ HasId (live_after old call reply) id
 stays_dead old id (Install at key cred mode now) (Installed true) e dead = λ (same : at ≡ id). let t = same_id at id same in let bad : true ≡ false = sym t ∙ e in cc
 stays_dead old id (Place at cred mtype bytes now) (Accepted number) e dead = λ lives. dead (gives_no_id (sent_to cred now) (λ a. refl) old id lives)
@@ -34,7 +35,7 @@ dead_along h id (t ∷ middle) a dead =
     subst (λ (k : History). ¬ IsLive k id) (append_assoc h (t ∷ []) middle)
     (dead_along (h ++ t ∷ []) id middle a.1 (subst (λ l. ¬ HasId l id) (sym (live-more h t)) (stays_dead (live h) id t.call t.reply a.0 dead)))
 
--- nothing is accepted or delivered under an identifier that is not live
+-- Nothing is accepted or delivered under an identifier that is not live.
 pub neither : (s : Slot) (id : ℤ) (call : Call) (reply : Reply) → Legal s call reply → ¬ HasId s.live id → (accepted_by id call reply ≡ []) × (delivered_by id call reply ≡ [])
 neither s id (Place at cred mtype bytes now) (Accepted number) l dead =
     let m : Message = record { number = number; sender = cred.pid; mtype = mtype; bytes = bytes } in
@@ -45,7 +46,7 @@ neither s id (Take at cred selector size noerror now) (Taken m) l dead =
     (refl, ap (λ t. cond t (m ∷ []) []) (other_id at id other))
 neither s id call reply l dead = (refl, refl)
 
--- an identifier is not live after its removal, nor later while it is not installed again
+-- An identifier is not live after its removal, nor later until it is installed again.
 pub dead_since : (id : ℤ) (before middle : History) (e : Entry) → removes id e.call e.reply ≡ true → AllByRecursion (λ (t : Entry). installs id t.call t.reply ≡ false) middle → ¬ IsLive (before ++ e ∷ middle) id
 dead_since id before middle e removed none =
     let vacant : live (before ++ e ∷ []) ≡ None = live-more before e ∙ vacant_after (live before) id e.call e.reply removed in

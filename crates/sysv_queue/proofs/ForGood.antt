@@ -1,5 +1,5 @@
--- A call is told that its identifier is not live exactly where it is not, and an identifier that is
--- installed once never lives again after its removal.
+-- A call is told that its identifier is not live if and only if it is not live, and an identifier
+-- that is installed once is never live again after its removal.
 use Rattle.std.proofs.Common.{◌≡◌, ℤ, inl, inr, Bool, true, false, List, [], ◌∷◌, ◌++◌, Option, refl, sym, ap, subst, ◌∙◌, append_assoc}
 use Rattle.std.specs.List.{AllByRecursion, flat_map}
 use Rattle.std.proofs.lemmas.List.Concat.{flat_map-cons}
@@ -66,7 +66,7 @@ live_made : (old : Option Attributes) (id : ℤ) (call : Call) (reply : Reply) �
 live_made old id (Install at key cred mode now) (Installed true) e = (Decides-int_eq at id).0 e
 live_made old id call reply e = absurd cc
 
--- a legal turn that does not remove an identifier keeps it live
+-- A legal turn that does not remove an identifier keeps it live.
 stays_live : (s : Slot) (id : ℤ) (call : Call) (reply : Reply) → Legal s call reply → removes id call reply ≡ false → HasId s.live id → HasId (live_after s.live call reply) id
 stays_live s id (Install at key cred mode now) (Installed true) l e lives = absurd (subst (λ a. HasId a id) l lives)
 stays_live s id (Place at cred mtype bytes now) (Accepted number) l e lives = keeps_id (sent_to cred now) (λ a. refl) s.live id lives
@@ -96,12 +96,12 @@ lives_till_removed h id legal before since e whole made none =
 
 -- ---- a removal
 
--- a removal found the identifier live
+-- A removal found the identifier live.
 removal_found : (s : Slot) (id : ℤ) (call : Call) (reply : Reply) → Legal s call reply → removes id call reply ≡ true → HasId s.live id
 removal_found s id (Remove at cred) (Discarded messages) l e = subst (HasId s.live) ((Decides-int_eq at id).0 e) l.0
 removal_found s id call reply l e = absurd cc
 
--- a turn that installs the identifier
+-- A turn that installs the identifier.
 record Installing (id : ℤ) (h : History) : Type 0 where
   before : History
   turn : Entry
@@ -117,7 +117,7 @@ installing_more id h e false other before lives = elim (is_live (live h) id) [
   | inr dead ↦ absurd (stays_dead (live h) id e.call e.reply other dead (subst (λ l. HasId l id) (live-more h e) lives))
 ]
 
--- an identifier that is live was installed
+-- An identifier that is live was installed.
 was_installed : (id : ℤ) (h : History) → IsLive h id → Installing id h
 was_installed id = from_end (λ (h : History). IsLive h id → Installing id h) (λ lives. absurd lives) (λ h e before. installing_more id h e (installs id e.call e.reply) refl before)
 
@@ -132,7 +132,7 @@ module _ (one : NoTwoRepliesAreLegal) where
     found : IsLive before id
     found = removal_found (slot_of before) id e.call e.reply (legal before e after whole) removed
 
-    -- it was installed before, so it is not installed since
+    -- It was installed before, so it is not installed since then.
     never_again : AllByRecursion (λ (t : Entry). installs id t.call t.reply ≡ false) after
     never_again =
         let made : Installing id before = was_installed id before found in
@@ -145,7 +145,7 @@ module _ (one : NoTwoRepliesAreLegal) where
         ∙ ap (λ (k : History). made.before ++ made.turn ∷ k) (sym (append_assoc made.after (e ∷ middle) (t ∷ rest)))))) in
         once made.before (made.after ++ e ∷ middle) rest made.turn t split made.makes)
 
-    -- a turn since then finds it not live
+    -- A turn since then finds it not live.
     finds_dead : (middle rest : History) (t : Entry) → after ≡ middle ++ t ∷ rest → ¬ IsLive (before ++ e ∷ middle) id
     finds_dead middle rest t same =
         dead_since id before middle e removed

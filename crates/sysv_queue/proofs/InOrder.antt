@@ -1,5 +1,5 @@
--- Messages of one type leave in the order of acceptance, since a receive takes the first of its type
--- and a removal discards all that waits.
+-- Messages of one type leave in the order of acceptance, because a receive takes the first of its
+-- type and a removal discards all queued messages.
 use Rattle.std.proofs.Common.{◌≡◌, ℕ, ℤ, ◌<◌, inl, inr, Bool, true, false, List, [], ◌∷◌, ◌++◌, Some, refl, sym, ap, subst, ◌∙◌, arith, slice_get, remove, length, append_assoc}
 use Rattle.std.specs.List.{All, Contains}
 use Rattle.std.proofs.lemmas.Option.{slice_get_read, slice_get_within, get_or_from_slice_get}
@@ -27,17 +27,17 @@ use Rattle.sysv_queue.proofs.Order.{nothing_in, earlier_place, rises_across, sta
 use Rattle.sysv_queue.proofs.Accepting.{accepts_number, accepts_alone, discarded_before}
 use Rattle.sysv_queue.proofs.Conserved.{IsConserved, conserved}
 
--- two messages of one type of one identifier, the first of which has the lesser number
+-- Two messages of the same type and identifier, of which the first has the lower number.
 module _ (id : ℤ) (m n : Message) (earlier : m.number < n.number) (one_type : m.mtype ≡ n.mtype) where
-  -- both were accepted under that identifier, the second does not wait once the first was discarded,
-  -- and was not delivered before it
+  -- Both were accepted under this identifier. The second is not queued once the first was
+  -- discarded, and was not delivered before the first.
   record Follows (i : ℤ) (h : History) : Type 0 where
     first : Contains (accepted i h) m
     second : Contains (accepted i h) n
     together : Contains (discarded i h) m → ¬ Contains (waiting i h) n
     ordered : Contains (delivered i h) n → StandsBefore (delivered i h) m n
 
-  -- a turn that leaves the messages of the identifier as they were
+  -- A turn that leaves the messages of the identifier unchanged.
   follows_same : (i : ℤ) (h k : History) → accepted i k ≡ accepted i h → delivered i k ≡ delivered i h → discarded i k ≡ discarded i h → waiting i k ≡ waiting i h → Follows i h → Follows i k
   follows_same i h k all taken lost left p = record {
     first = subst (λ ms. Contains ms m) (sym all) p.first;
@@ -49,7 +49,7 @@ module _ (id : ℤ) (m n : Message) (earlier : m.number < n.number) (one_type : 
   follows_still : (h : History) (e : Entry) → IsStill e.call e.reply → Follows id h → Follows id (h ++ e ∷ [])
   follows_still h e s p = follows_same id h (h ++ e ∷ []) (accepted-still h e s id) (delivered-still h e s id) (discarded-still h e s id) (waiting-still h e s id) p
 
-  -- a turn that accepts a message, whose number is above both
+  -- A turn that accepts a message, whose number is above both.
   module _ (h : History) (who : Who) (f : Facts h) (at : ℤ) (cred : Cred) (mtype : ℤ) (bytes : List ℕ) (now number : ℕ) (live_at : HasId (live h) at) (numbered : number ≡ arrived h) where
     sent_here : Follows at h → Follows at (then_turn h who (Place at cred mtype bytes now) (Accepted number))
     sent_here p =
@@ -76,9 +76,10 @@ module _ (id : ℤ) (m n : Message) (earlier : m.number < n.number) (one_type : 
           (discarded-sent h who f at cred mtype bytes now number live_at numbered id) (waiting_else h who f at cred mtype bytes now number live_at numbered id other) p
     ]
 
-  -- a turn that delivers the message x at a named place
+  -- A turn that delivers the message x at a named place.
   module _ (h : History) (who : Who) (f : Facts h) (at : ℤ) (cred : Cred) (selector : Selector) (size : ℕ) (noerror : Bool) (now : ℕ) (x : Message) (place : ℕ) (live_at : HasId (live h) at) (named : IsNamed selector (held h) place) (there : slice_get (held h) place ≡ Some x) where
-    -- the first does not wait if x is the second: it would stand before it and be of its type
+    -- If x is the second message, the first is not queued: it would be before x and of the same
+    -- type.
     never_waits : x ≡ n → ¬ Contains (waiting at h) m
     never_waits same (i, within, e) =
         let left = waiting at h in
@@ -90,7 +91,7 @@ module _ (id : ℤ) (m n : Message) (earlier : m.number < n.number) (one_type : 
         let among : IsNamed selector left place = subst (λ ms. IsNamed selector ms place) (waiting_on-id (live h) at h live_at) named in
         first_of_type selector (types_of left) place i among less (type_of_place left i m m_there ∙ (one_type ∙ sym (type_of_place left place x x_there ∙ type_is)))
 
-    -- so it was delivered already
+    -- So the first was delivered already.
     comes_last : IsConserved h → Follows at h → x ≡ n → StandsBefore (delivered at h ++ x ∷ []) m n
     comes_last c p same =
         let x_there : slice_get (waiting at h) place ≡ Some x = there_at h who f at cred selector size noerror now x place live_at there in
@@ -133,7 +134,7 @@ module _ (id : ℤ) (m n : Message) (earlier : m.number < n.number) (one_type : 
           (discarded-taken h who f at cred selector size noerror now x place live_at there id) (untouched h who f at cred selector size noerror now x place live_at there id other) p
     ]
 
-  -- a turn that discards all that waits
+  -- A turn that discards all queued messages.
   module _ (h : History) (who : Who) (f : Facts h) (at : ℤ) (cred : Cred) (messages : List Message) (live_at : HasId (live h) at) (whole : messages ≡ held h) where
     removed_here : Follows at h → Follows at (then_turn h who (Remove at cred) (Discarded messages))
     removed_here p =
@@ -161,7 +162,7 @@ module _ (id : ℤ) (m n : Message) (earlier : m.number < n.number) (one_type : 
   follows_more h who call reply (Changes id cred to now) f c l p = follows_still h (record { who = who; call = call; reply = reply }) (still_set id cred to now Done) p
   follows_more h who call reply (Discards id cred messages) f c l p = follows_removed h who f id cred messages l.0 l.2 p
 
-  -- so the second never leaves first, however the history goes on
+  -- So the second never leaves before the first, however the history goes on.
   follows_on : (h after : History) → IsLegalHistory (h ++ after) → Follows id h → Follows id (h ++ after)
   follows_on h after legal p =
       from_front (λ (k : History). IsLegalHistory k → Follows id k)
@@ -170,7 +171,7 @@ module _ (id : ℤ) (m n : Message) (earlier : m.number < n.number) (one_type : 
       follows_more k e.who e.call e.reply (kind_of (slot_of k) e.call e.reply (legal_last k e whole)) (facts k front) (conserved k front) (legal_last k e whole) (before front))
       h after (λ start. p) legal
 
--- right after the second was accepted, with no removal since the first was: neither is gone
+-- Right after the second was accepted, with no removal since the first was accepted.
 follows_first : (id : ℤ) (before middle : History) (e f : Entry) (m n : Message) (earlier : m.number < n.number) (one_type : m.mtype ≡ n.mtype) → IsLegalHistory ((before ++ e ∷ middle) ++ f ∷ []) →
     accepted_by id e.call e.reply ≡ m ∷ [] → accepted_by id f.call f.reply ≡ n ∷ [] → All (λ (t : Entry). removes id t.call t.reply ≡ false) middle →
     Contains (accepted id ((before ++ e ∷ middle) ++ f ∷ [])) m → Contains (accepted id ((before ++ e ∷ middle) ++ f ∷ [])) n → Follows id m n earlier one_type id ((before ++ e ∷ middle) ++ f ∷ [])

@@ -1,4 +1,4 @@
--- Every history of legal replies obeys the queue law.
+-- Every legal history obeys the queue law.
 use Rattle.std.proofs.Common.{◌≡◌, Some, subst, slice_get}
 use Rattle.sysv_model.specs.History.{Take, Taken, History}
 use Rattle.sysv_model.specs.Live.{live}

@@ -1,4 +1,4 @@
--- A history is legal when the history before its last turn is, and that turn's reply.
+-- A history is legal if the history before its last turn is legal and the last reply is legal.
 use Rattle.std.proofs.Common.{◌≡◌, [], ◌∷◌, ◌++◌, inl, inr, refl, sym, subst, ap, ◌∙◌, append_assoc}
 use Rattle.sysv_model.specs.History.{Entry, History}
 use Rattle.sysv_queue.specs.LegalReply.{IsLegalReply, IsLegalHistory}
@@ -24,7 +24,7 @@ pub legal_front : (h : History) (e : Entry) → IsLegalHistory (h ++ e ∷ []) �
 legal_front h e legal before f after same =
     legal before f (after ++ e ∷ []) (ap (λ (k : History). k ++ e ∷ []) same ∙ append_assoc before (f ∷ after) (e ∷ []))
 
--- the start of a legal history is one
+-- The first part of a legal history is legal.
 pub legal_start : (h k : History) → IsLegalHistory (h ++ k) → IsLegalHistory h
 legal_start h k legal before f after same =
     legal before f (after ++ k) (ap (λ (x : History). x ++ k) same ∙ append_assoc before (f ∷ after) k)

@@ -1,4 +1,5 @@
--- The messages that wait keep their numbers below the arrived count, whatever comes and goes.
+-- The numbers of the queued messages stay below the arrived count when messages are added and
+-- removed.
 use Rattle.std.proofs.Common.{◌≡◌, ℕ, zero, suc, ◌+◌, ◌<◌, List, [], ◌∷◌, ◌++◌, remove, sym, subst, arith}
 use Rattle.std.specs.List.{All}
 use Rattle.std.proofs.lemmas.List.Elements.{All-cons, All-head, All-tail, All-push, All-weaker}

@@ -1,5 +1,5 @@
--- Each call has exactly one legal reply, since what a caller wants is permitted or not
--- and a selector names one place or none.
+-- Each call has exactly one legal reply, because permission is granted or not, and a selector names
+-- one place or none.
 use Rattle.std.proofs.Common.{◌≡◌, ◌≢◌, ℕ, ℤ, ◌+◌, ◌⊎◌, inl, inr, Bool, true, false, List, Option, None, Some, IsSome, refl, sym, ap, subst, ◌∙◌, arith, length, option_map, bit_and}
 use Rattle.std.proofs.lemmas.Bool.{cases_eq}
 use Rattle.sysv_lists.proofs.Orders.{at_most}
@@ -49,7 +49,7 @@ some_install : (l : Option Attributes) (messages : List Message) (arrived freed 
 some_install None messages arrived freed = (Installed true, refl)
 some_install (Some a) messages arrived freed = (Installed false, refl)
 
--- who is user 0, the owner or the creator, or none of them
+-- The caller may control the queue or not.
 controls : (cred : Cred) (l : Option Attributes) → MayControl cred l ⊎ ¬ MayControl cred l
 controls cred None = inr (λ h. h)
 controls cred (Some a) = elim (cases_eq cred.uid 0) [
@@ -102,7 +102,7 @@ module _ (permitted : PermittedOrNot) (named_or_none : NamedOrNone) where
   granted want cred None = inr (λ h. h)
   granted want cred (Some a) = permitted cred a.perm want
 
-  -- what the flags ask is granted, or not
+  -- The permission that the flags request is granted or not.
   wanted : (want : Want) (bits : ℕ) (cred : Cred) (l : Option Attributes) → (bits ≢ 0 → IsGranted want cred l) ⊎ ¬ (bits ≢ 0 → IsGranted want cred l)
   wanted want bits cred l = elim (granted want cred l) [
     | inl may ↦ inl (λ asks. may)
@@ -225,7 +225,7 @@ one_stat s id cred (Refused EACCES) b la lb = absurd lb
 one_stat s id cred (Told stat) b la lb = absurd lb
 one_stat s id cred a b la lb = absurd la
 
--- the causes of EINVAL, of EPERM and of success exclude each other
+-- The causes of EINVAL, of EPERM and of success exclude each other.
 set_invalid : (s : Slot) (id : ℤ) (cred : Cred) (to : SetTo) → LegalSet s id cred to (Refused EINVAL) → LegalSet s id cred to (Refused EPERM) → ⊥
 set_invalid s id cred to (inl gone) (inl w) = gone w.0
 set_invalid s id cred to (inl gone) (inr w) = gone w.0

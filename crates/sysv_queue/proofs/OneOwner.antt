@@ -19,7 +19,7 @@ use Rattle.sysv_queue.proofs.Order.{nothing_in, old_or_new}
 abbrev pub OneOwner : History → Type 0
 OneOwner h = (id other : ℤ) (m n : Message) → Contains (accepted id h) m → Contains (accepted other h) n → m.number ≡ n.number → id ≡ other
 
--- a turn that accepts nothing
+-- A turn that accepts nothing.
 owner_kept : (h k : History) → ((id : ℤ) → accepted id k ≡ accepted id h) → OneOwner h → OneOwner k
 owner_kept h k all o = λ id other m n a b same. o id other m n (subst (λ ms. Contains ms m) (all id) a) (subst (λ ms. Contains ms n) (all other) b) same
 

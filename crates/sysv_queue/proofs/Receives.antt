@@ -1,4 +1,4 @@
--- The turns of a receive that came to its queue, by what the store of messages gave.
+-- The turns of a receive that reached its queue, by the result of the store of messages.
 use Rattle.std.proofs.Common.{◌≡◌, ℕ, ℤ, ◌+◌, ◌<◌, ◌≤◌, Bool, true, false, inl, inr, length, option_map, remove, refl, sym, ap, subst, ◌∙◌, arith}
 use Rattle.sysv_model.specs.declared.cred.Cred.{Cred}
 use Rattle.sysv_model.specs.declared.limits.TheConstants.{MESSAGE_BYTES as most_bytes}
@@ -17,7 +17,7 @@ use Rattle.sysv_queue.proofs.Naming.{never_given, none_named}
 use Rattle.sysv_queue.proofs.Turns.{quiet_take_no_match, quiet_take_too_long}
 use Rattle.sysv_queue.proofs.Stands.{slot, turn_quiet, turn_taken}
 
--- a text longer than a receive may take is not given, and a text of at most that is
+-- A body longer than a receive may take is not received, and a body of at most that length is.
 never_fits : (size most : ℕ) (noerror : Bool) (m : Message) → (noerror ≡ false → most ≡ size) → (noerror ≡ true → most ≡ most_bytes) →
     most < length m.bytes → length m.bytes ≤ most_bytes → ¬ IsGivable size noerror m
 never_fits size most false m whole cut longer short = let is = whole refl in never_given size false m (omega arith) refl

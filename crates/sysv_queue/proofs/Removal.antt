@@ -1,4 +1,4 @@
--- What is left of the types when one message is taken out of the list.
+-- The types that are left when one message is removed from the list.
 use Rattle.std.proofs.Common.{◌≡◌, ℕ, zero, suc, List, [], ◌∷◌, refl, ap, remove}
 use Rattle.sysv_model.specs.Message.{Message}
 use Rattle.sysv_queue.specs.Named.{types_of}

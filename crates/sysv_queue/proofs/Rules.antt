@@ -1,5 +1,5 @@
--- The laws of the rules that the lemmas start from: what a caller wants is permitted or not, and a
--- selector names one place of a list or none.
+-- The laws of sysv_rules that the lemmas use: permission is granted or not, and a selector names
+-- one place of a list or none.
 use Rattle.std.specs.Prelude.{◌≡◌, ◌⊎◌, ℕ, ℤ, List}
 use Rattle.sysv_model.specs.declared.selector.Selector.{Selector}
 use Rattle.sysv_model.specs.declared.cred.Cred.{Cred}

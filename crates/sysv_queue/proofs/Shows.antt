@@ -1,4 +1,4 @@
--- What the code shows of a live queue is what the slot shows of it as it is seen.
+-- What the code reports of a live queue is what its state shows.
 use Rattle.std.proofs.Common.{◌≡◌, ℕ, List, Option, Some, option_map, length, sym, ap, ◌∙◌}
 use Rattle.sysv_model.specs.declared.attributes.Attributes.{Attributes}
 use Rattle.sysv_model.specs.declared.attributes.Stat.{Stat}

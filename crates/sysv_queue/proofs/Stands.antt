@@ -1,4 +1,4 @@
--- How a slot that stands for a history goes on by one turn.
+-- The turns of a slot that stands for a history.
 use Rattle.std.proofs.Common.{◌≡◌, ℕ, ℤ, ◌+◌, Bool, true, List, [], ◌∷◌, ◌++◌, Option, None, Some, refl, sym, ap, subst, ◌∙◌, option_map, remove, slice_get}
 use Rattle.sysv_model.specs.declared.cred.Cred.{Cred}
 use Rattle.sysv_model.specs.declared.attributes.Attributes.{Attributes}
@@ -27,12 +27,12 @@ pub same_slot : (l l' : Option Attributes) (ms ms' : List Message) (a a' f f' : 
 same_slot l l' ms ms' a a' f f' e1 e2 e3 e4 =
     ap (λ x. slot x ms a f) e1 ∙ (ap (λ x. slot l' x a f) e2 ∙ (ap (λ x. slot l' ms' x f) e3 ∙ ap (λ x. slot l' ms' a' x) e4))
 
--- what waits on the live queue after a turn that leaves every message where it is
+-- The messages of the live queue after a turn that leaves every message where it is.
 held_still : (h : History) (e : Entry) (l : Option Attributes) → IsStill e.call e.reply → waiting_on l (h ++ e ∷ []) ≡ waiting_on l h
 held_still h e None s = refl
 held_still h e (Some a) s = waiting-still h e s a.id
 
--- a change that keeps the identifier keeps what waits
+-- A change that keeps the identifier keeps the queued messages.
 held_changed : (f : Attributes → Attributes) → ((a : Attributes) → (f a).id ≡ a.id) → (l : Option Attributes) (h : History) → waiting_on (option_map f l) h ≡ waiting_on l h
 held_changed f same None h = refl
 held_changed f same (Some a) h = ap (λ i. waiting i h) (same a)
@@ -95,7 +95,7 @@ after_removed h who id cred messages =
     let e : Entry = record { who = who; call = Remove id cred; reply = Discarded messages } in
     same_slot _ _ _ _ _ _ _ _ (live-more h e) (ap (λ l. waiting_on l (h ++ e ∷ [])) (live-more h e)) (arrived-more h e) (freed-more h e)
 
--- a turn whose reply is legal and whose slot goes on as each history does
+-- A call makes a turn if its reply is legal and the slot changes as each history does.
 makes_turn : (old new : Slot) (call : Call) (reply : Reply) → Legal old call reply → ((h : History) (who : Who) → StandsFor h old → slot_of (then_turn h who call reply) ≡ new) → MakesTurn old call reply new
 makes_turn old new call reply legal goes_on = record {
   legal = legal;
@@ -108,7 +108,7 @@ makes_turn old new call reply legal goes_on = record {
 pub turn_quiet : (s : Slot) (call : Call) (reply : Reply) → IsQuiet call reply → Legal s call reply → MakesTurn s call reply s
 turn_quiet s call reply q legal = makes_turn s s call reply legal (λ h who st. after_quiet h who call reply q ∙ st.seen)
 
--- nothing waits on a vacant slot
+-- Nothing is queued in a vacant slot.
 vacant_holds : (s : Slot) (h : History) → StandsFor h s → s.live ≡ None → s.messages ≡ []
 vacant_holds s h st vacant =
     sym (ap (λ (x : Slot). x.messages) st.seen) ∙ ap (λ l. waiting_on l h) (ap (λ (x : Slot). x.live) st.seen ∙ vacant)

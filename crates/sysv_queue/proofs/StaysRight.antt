@@ -1,5 +1,5 @@
--- A refusal for room or for match stays right while its count stays: the turns that leave the count
--- leave no new match, and no new room.
+-- A refusal stays right while its count is the same: the turns that leave the count unchanged add
+-- no match and no room.
 use Rattle.std.proofs.Common.{◌≡◌, ℕ, zero, suc, ℤ, ◌+◌, ◌≤◌, inl, inr, Bool, cond, List, [], ◌∷◌, ◌++◌, Option, None, Some, MatchOption, refl, sym, subst, arith, length, remove, option_map, length-append}
 use Rattle.std.specs.List.{AllByRecursion}
 use Rattle.std.proofs.lemmas.List.Sums.{sum_by-append}
@@ -34,7 +34,7 @@ counts_never_fall h more =
     let f = sum_by-append (λ (e : Entry). cond (announces_room e.call e.reply) 1 0) h more in
     (omega arith, omega arith)
 
--- a change that keeps owner, creator and mode keeps what is granted
+-- A change that keeps owner, creator and mode keeps the permissions.
 granted_still : (f : Attributes → Attributes) → ((a : Attributes) → (f a).perm ≡ a.perm) → (want : Want) (cred : Cred) (l : Option Attributes) → IsGranted want cred l → IsGranted want cred (option_map f l)
 granted_still f same want cred None granted = granted
 granted_still f same want cred (Some a) granted = subst (λ p. IsPermitted cred p want) (sym (same a)) granted
@@ -60,7 +60,7 @@ all_left P (x ∷ xs) zero a = a.1
 all_left P (x ∷ xs) (suc place) a = (a.0, all_left P xs place a.1)
 
 module _ (named_or_none : NamedOrNone) where
-  -- where no message is named, none is once one was taken
+  -- If no message is named, none is named after one was taken.
   none_named_left : (selector : Selector) (ms : List Message) (place : ℕ) → ((i : ℕ) → ¬ IsNamed selector ms i) → (i : ℕ) → ¬ IsNamed selector (remove ms place) i
   none_named_left selector ms place none =
       let before : NoneQualifies selector (types_of ms) = elim (named_or_none selector (types_of ms)) [ inl at ↦ absurd (none at.0 at.1) | inr q ↦ q ] in
@@ -69,7 +69,7 @@ module _ (named_or_none : NamedOrNone) where
       (subst (NoneQualifies selector) (sym (types_of-remove ms place)) (none_at selector (remove (types_of ms) place) left))
 
   module _ (id : ℤ) (cred : Cred) (selector : Selector) (size : ℕ) (noerror : Bool) (count : ℕ) where
-    -- no match is the legal reply there
+    -- NoMatch is the legal reply.
     abbrev Unmatched : Slot → Type 0
     Unmatched s = LegalTake s id cred selector size noerror (NoMatch count)
 
@@ -90,7 +90,7 @@ module _ (named_or_none : NamedOrNone) where
     unmatched_more h who call reply (Changes at by to now) legal l same u = let more = arrived-more h (record { who = who; call = call; reply = reply }) in absurd (omega arith)
     unmatched_more h who call reply (Discards at by messages) legal l same u = let more = arrived-more h (record { who = who; call = call; reply = reply }) in absurd (omega arith)
 
-    -- along the turns after h
+    -- Along the turns after h.
     abbrev UnmatchedSince : History → History → Type 0
     UnmatchedSince h k = (arrived h ≤ arrived k) × (IsLegalHistory k → arrived k ≡ arrived h → Unmatched (slot_of k))
 
@@ -114,7 +114,7 @@ module _ (named_or_none : NamedOrNone) where
 
 -- ---- no room
 
--- where a message fits once another was accepted, it fitted before
+-- If a message fits after another was accepted, it fitted before.
 room_before : (l : Option Attributes) (by : Cred) (now : ℕ) (ms : List Message) (m : Message) (size : ℕ) →
     MatchOption (option_map (sent_to by now) l) ⊥ (λ (a : Attributes). FitsOn a.qbytes (ms ++ m ∷ []) size) → MatchOption l ⊥ (λ (a : Attributes). FitsOn a.qbytes ms size)
 room_before None by now ms m size room = room
@@ -124,7 +124,7 @@ room_before (Some a) by now ms m size room =
     (omega (arith, room.0), omega (arith, room.1))
 
 module _ (id : ℤ) (cred : Cred) (size count : ℕ) where
-  -- full is the legal reply there
+  -- Full is the legal reply.
   abbrev Crowded : Slot → Type 0
   Crowded s = LegalLook s id cred size (Full count)
 

@@ -1,4 +1,4 @@
--- What one more turn does to each part of a history, and the kinds of legal turn.
+-- How one more turn changes each part of a history, and the kinds of legal turns.
 use Rattle.std.proofs.Common.{◌≡◌, ℕ, ℤ, ◌+◌, ◌≤◌, arith, Bool, true, false, cond, List, [], ◌∷◌, ◌++◌, Option, None, refl, ap, ◌∙◌, length, zero-add, add-zero}
 use Rattle.std.proofs.lemmas.List.{append-nil}
 use Rattle.std.proofs.lemmas.List.Sums.{fold-append, sum_by-append}
@@ -35,24 +35,24 @@ arrived-more h e = sum_by-append (λ (e : Entry). cond (announces_arrival e.call
 pub freed-more : (h : History) (e : Entry) → freed (h ++ e ∷ []) ≡ freed h + cond (announces_room e.call e.reply) 1 0
 freed-more h e = sum_by-append (λ (e : Entry). cond (announces_room e.call e.reply) 1 0) h (e ∷ []) ∙ ap (λ n. freed h + n) (zero-add _)
 
--- a turn that accepts, delivers and discards nothing
+-- A turn that accepts, delivers and discards nothing.
 pub record IsStill (call : Call) (reply : Reply) : Type 0 where
   pub accepted : (id : ℤ) → accepted_by id call reply ≡ []
   pub delivered : (id : ℤ) → delivered_by id call reply ≡ []
   pub discarded : (id : ℤ) → discarded_by id call reply ≡ []
 
--- a turn that announces nothing
+-- A turn that raises no count.
 pub record IsSilent (call : Call) (reply : Reply) : Type 0 where
   pub arrival : announces_arrival call reply ≡ false
   pub room : announces_room call reply ≡ false
 
--- a turn that changes nothing at all
+-- A turn that changes nothing at all.
 pub record IsQuiet (call : Call) (reply : Reply) : Type 0 where
   pub still : IsStill call reply
   pub silent : IsSilent call reply
   pub live : (old : Option Attributes) → live_after old call reply ≡ old
 
--- the kinds of turn that have a legal reply
+-- The kinds of turns that have a legal reply.
 pub data Kind : Call → Reply → Type 0 where
   Quiet : {call : Call} {reply : Reply} → IsQuiet call reply → Kind call reply
   Makes : (id key : ℤ) (cred : Cred) (mode now : ℕ) → Kind (Install id key cred mode now) (Installed true)
@@ -169,7 +169,7 @@ module _ (h : History) (e : Entry) (silent : IsSilent e.call e.reply) where
   pub freed-still : freed (h ++ e ∷ []) ≡ freed h
   freed-still = freed-more h e ∙ (ap (λ b. freed h + cond b 1 0) silent.room ∙ add-zero _)
 
--- neither count falls
+-- Neither count falls.
 pub arrived_grows : (h : History) (e : Entry) → arrived h ≤ arrived (h ++ e ∷ [])
 arrived_grows h e = let more = arrived-more h e in omega arith
 

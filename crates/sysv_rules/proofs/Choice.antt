@@ -1,4 +1,4 @@
--- In every list a selector names a place, or no type of the list qualifies.
+-- A selector names a place of a list, or no type of the list qualifies.
 use Rattle.std.proofs.Common.{◌≡◌, ℕ, zero, suc, ◌<◌, ◌≤◌, ◌<ℤ◌, ◌≤ℤ◌, ℤ, pos, Bool, true, false, List, [], ◌∷◌, length, ◌⊎◌, inl, inr, refl, sym, ◌∙◌, arith}
 use Rattle.std.proofs.lemmas.Int.{by_lt_z, ints}
 use Rattle.std.specs.Ordering.{int_eq}
@@ -15,7 +15,7 @@ by_test false a b e = inr (λ same. let t = (Decides-int_eq a b).1 same in let b
 above : (b : ℕ) (t : ℤ) → pos b <ℤ t → ¬ (t ≤ℤ pos b)
 above b t h k = omega (arith, ints)
 
--- a type qualifies or not
+-- A type qualifies or it does not.
 pub qualifies_or_not : (sel : Selector) (mtype : ℤ) → Qualifies sel mtype ⊎ ¬ Qualifies sel mtype
 qualifies_or_not Any mtype = inl tt
 qualifies_or_not (Exactly asked) mtype = by_test (int_eq mtype asked) mtype asked refl
@@ -29,7 +29,7 @@ NoneBelow sel types n = (place : ℕ) → place < n → ¬ QualifiesAt sel types
 none_at : (sel : Selector) (types : List ℤ) (n : ℕ) → NoneBelow sel types n → ¬ QualifiesAt sel types n → NoneBelow sel types (suc n)
 none_at sel types n none not_here place below here = grind arith
 
--- among the first n places one is the first that qualifies, or none qualifies
+-- One of the first n places is the first that qualifies, or none of them qualifies.
 pub first_or_none : (sel : Selector) (types : List ℤ) (n : ℕ) → n ≤ length types → ((place : ℕ) × IsFirst sel types place) ⊎ NoneBelow sel types n
 first_or_none sel types zero h = inr (λ place below. absurd (omega arith))
 first_or_none sel types (suc n) h =
@@ -41,7 +41,7 @@ first_or_none sel types (suc n) h =
       ]
     ]
 
--- the first place of the lowest type among the first n
+-- The first place of the lowest type among the first n places.
 abbrev LeastBelow : List ℤ → ℕ → ℕ → Type 0
 LeastBelow types n place =
     (place < n)

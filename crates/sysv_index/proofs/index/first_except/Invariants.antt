@@ -2,7 +2,7 @@ use Rattle.std.proofs.Common.{◌≡◌, ◌+◌}
 use Rattle.sysv_index.proofs.Selection.{NoneBefore}
 use Rattle.sysv_index.proofs.index.first_except.Given as goal
 
--- each entry so far is of the type, and each was read once
+-- Each entry so far has this type, and each was read once.
 abbrev pub invariant-loop-at : goal.invariant-loop-at
 invariant-loop-at g l = record {
   none : NoneBefore l.refused l.by_number.entries.items l.at;

@@ -4,7 +4,8 @@ use Rattle.sysv_rules.specs.Digits.{digits}
 use Rattle.sysv_index.specs.declared.entry.Entry.{Entry}
 use Rattle.sysv_index.proofs.index.first_from.Given as goal
 
--- the entries that are left are fewer than a power of 2 which falls with each that is read
+-- The number of remaining entries is below a power of 2 whose exponent falls with each entry that
+-- is read.
 abbrev pub invariant-loop-low : goal.invariant-loop-low
 invariant-loop-low g l = record {
   ordered : l.low ≤ l.high;

@@ -3,7 +3,7 @@ use Rattle.std.specs.List.{AllWithin}
 use Rattle.sysv_messages.specs.Texts.{all_blocks}
 use Rattle.sysv_messages.proofs.chains.take_all.Given as goal
 
--- the blocks of the chains that were taken are in the chain, and their places are bare
+-- The chain has the blocks of the chains taken so far, and their places have none.
 abbrev pub invariant-loop-place : goal.invariant-loop-place
 invariant-loop-place l = record {
   all : l.all.blocks + all_blocks l.chains.items ≡ all_blocks l.initial.chains.items;

@@ -2,7 +2,7 @@ use Rattle.std.proofs.Common.{◌≡◌, ◌+◌, ◌++◌, length, take, arith,
 use Rattle.std.proofs.lemmas.List.{take_all}
 use Rattle.sysv_model.proofs.body.write.Goals as goal
 
--- a piece as long as a block leaves nothing of what was there
+-- A piece as long as a block replaces all of its bytes.
 pub returns-in-Some-clause-text : goal.returns-in-Some-clause-text
 returns-in-Some-clause-text c =
     let piece = c.args.piece.now in

@@ -3,7 +3,7 @@ use Rattle.std.specs.List.{concat}
 use Rattle.sysv_pool.specs.Blocks.{contents_of}
 use Rattle.sysv_pool.proofs.blocks.copy_front.Given as goal
 
--- what was copied, and what is left to copy of the blocks ahead, is what was asked for
+-- The bytes copied so far and those still to be copied are together what was requested.
 abbrev pub invariant-loop-link : goal.invariant-loop-link
 invariant-loop-link l = record {
   there : l.left ≤ length (concat (contents_of l.link));

@@ -2,7 +2,7 @@ use Rattle.std.proofs.Common.{◌≡◌, ℕ, ◌<◌, ◌<ℤ◌}
 use Rattle.sysv_rules.specs.Qualifies.{type_at}
 use Rattle.sysv_rules.proofs.selector.least.Given as goal
 
--- the first place of the lowest type so far
+-- `lowest` is the first place of the lowest type so far.
 abbrev pub invariant-loop-place : goal.invariant-loop-place
 invariant-loop-place l = record {
   within : l.lowest < l.place;

@@ -1,7 +1,7 @@
 use Rattle.std.proofs.Common.{◌≡◌, ◌+◌, ◌++◌, length}
 use Rattle.sysv_model.proofs.body.Body.push_piece.Given as goal
 
--- the text and what is left of the piece are what they were together
+-- The body followed by the rest of the piece stays the same.
 abbrev pub invariant-loop-rest : goal.invariant-loop-rest
 invariant-loop-rest l = record {
   text : l.self ++ l.rest ≡ l.initial.self ++ l.initial.rest;

@@ -1,4 +1,4 @@
--- What was written so far is in the writer, and less is left each time.
+-- The writer has taken what was written so far, and each write leaves fewer bytes.
 use Rattle.std.proofs.Common.{◌≡◌, ◌-◌, ◌≤◌, length, take}
 use Rattle.std.specs.Io.KnownBytes.{Appends}
 use Rattle.sysv_model.specs.Watched.{failures_of, stream_name, stream_of}

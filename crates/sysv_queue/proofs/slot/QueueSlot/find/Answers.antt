@@ -8,7 +8,7 @@ use Rattle.sysv_queue.proofs.Turns.{quiet_look}
 use Rattle.sysv_queue.proofs.Stands.{turn_quiet}
 use Rattle.sysv_queue.proofs.slot.QueueSlot.find.Goals as goal
 
--- a live queue has room where the message fits on it
+-- A live queue has room for a message if and only if the message fits on it.
 room_of : (s : Slot) (size : ℕ) (live : Option Attributes) (queue : Attributes) → live ≡ Some queue → FitsOn queue.qbytes s.messages size ↔ MatchOption live ⊥ (λ a. FitsOn a.qbytes s.messages size)
 room_of s size live queue is = subst (λ l. FitsOn queue.qbytes s.messages size ↔ MatchOption l ⊥ (λ a. FitsOn a.qbytes s.messages size)) (sym is) ((λ fits. fits), (λ room. room))
 
