@@ -45,14 +45,14 @@ AreOwn numbers turns = All (λ (t : Numbered). 1 ≤ times t.by numbers) turns
 
 -- ---- what a pass does
 
--- The pass has seen more turns, all made by others.
+-- The pass has seen more turns, if any, all made by others.
 pub record SeesMore (before after : Member) : Type 0 where
   pub others : List Numbered
   pub apart : AreOfOthers before.numbers others
   pub goes_on : after ≡ record before { order = before.order ++ others }
 
--- The pass has made a turn, after it saw some turns of others. Its turn is the last that it has
--- seen.
+-- The pass has seen turns of others, if any, and has then made a turn. Its own turn is the last
+-- that it has seen.
 pub record MakesTurn (before : Member) (deed : Deed) (after : Member) : Type 0 where
   pub others : List Numbered
   pub apart : AreOfOthers before.numbers others
@@ -66,8 +66,8 @@ pub data Does (before : Member) : List Deed → Member → Type 0 where
   makes : {deeds : List Deed} {mid : Member} (deed : Deed) (after : Member) →
       Does before deeds mid → MakesTurn mid deed after → Does before (deeds ++ deed ∷ []) after
 
--- Another pass was split off, which has seen the same turns. The new pass has a number of its own,
--- under which none of these turns was made. Each of the two passes has half of each share.
+-- Another pass was split off, which has seen the same turns. The new pass has one number, and none
+-- of these turns was made under it. Each of the two passes has half of each share.
 pub record Splits (before kept new : Member) : Type 0 where
   pub apart : AreOfOthers (new.number ∷ []) before.order
   pub parent : kept ≡ record before { shares = map suc before.shares }

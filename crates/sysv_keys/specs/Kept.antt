@@ -24,7 +24,7 @@ abbrev pub age_after : ℕ → Option KeyRow → ℕ
 age_after generation None = generation
 age_after generation (Some row) = generation + 1
 
--- An upper bound of the settles and forgets that changed a row in this place.
+-- An upper bound on the number of settles and forgets that changed a row in this place.
 abbrev pub counted_by : ℕ → Option KeyRow → ℕ
 counted_by generation None = 2 * generation
 counted_by generation (Some row) = 2 * generation + (if row.live then 1 else 0)

@@ -8,7 +8,7 @@ use Rattle.sysv_keys.specs.Identifier.{slot_of_id}
 use Rattle.sysv_keys.specs.Rows.{is_made, IsUnused}
 use Rattle.sysv_keys.specs.LegalReply.{IsLegalReply, IsLegalHistory}
 
--- What holds after any history of the registry, legal ones for the last clause.
+-- What holds after every history of the registry. The last clause requires a legal history.
 pub record UnusedSlots : Type 0 where
   -- a slot is unused or it is not
   pub either : (opening slot : ℕ) (h : RegistryHistory) → IsUnused opening h slot ⊎ ¬ IsUnused opening h slot

@@ -12,8 +12,8 @@ use Rattle.sysv_model.specs.declared.selector.Selector.{Selector}
 use Rattle.sysv_model.specs.Message.{Message}
 
 -- Who makes a turn. Either an actor of a world, in the call that it started at the step number
--- `start`, or a seat with this number on threads. Actors count from 1. The preset queue is created
--- by actor 0 at start 0.
+-- `start`, or a seat with this number on threads. Actors are numbered from 1. The preset queue is
+-- created by actor 0 at start 0.
 pub data Who : Type 0 where
   Actor : (actor start : ℕ) → Who
   Seat : (number : ℕ) → Who

@@ -29,7 +29,7 @@ pub enum Errno {
     ENOMSG,
     /// The queue was removed during the call.
     EIDRM,
-    /// A gate of the service is worn out.
+    /// A gate of the service is worn out: its 2^62 turns are made.
     EOVERFLOW,
 }
 

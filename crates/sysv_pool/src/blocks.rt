@@ -9,8 +9,10 @@ use std::marker::Model;
 use std::mem;
 use sysv_model::{BLOCK_BYTES, Body, NoMemory};
 
-/// A block of 64 bytes and the blocks linked after it. Blocks are freed one at a time by
-/// `free_all`, so dropping a block never drops another one.
+/// A block of 64 bytes and the blocks linked after it.
+///
+/// Dropping a block would drop those after it recursively. `free_all` frees one block at a time
+/// instead.
 #[derive(Drop)]
 pub(crate) struct Block {
     bytes: [u8; BLOCK_BYTES],
@@ -46,7 +48,7 @@ impl Model for Block {
 ///
 /// # Errors
 ///
-/// - `NoMemory` if allocation fails. No block is left allocated.
+/// - `NoMemory` if allocation fails.
 pub(crate) fn linked(alloc: Global, blocks: u32) -> Result<Link, NoMemory>
     ensures { IfOk result (λ link. length (contents_of link) ≡ blocks) }
 {

@@ -1,9 +1,10 @@
 -- What the replies of calls that name a queue say about it, and what its removal means for good
 -- (this profile's: POSIX.1-2017, msgctl, IPC_RMID defines the removal, but does not say whether an
 -- identifier is used again). A call is told that its identifier is not live if and only if it is
--- not live. An identifier is live from its install to its removal. If it is installed once, then
--- after its removal it accepts and delivers nothing more, and each call that names it is told that
--- it is not live.
+-- not live; only a set of a limit above the maximum fails with the same errno for another reason.
+-- An identifier is live from its install to its removal. If it is installed once, then after its
+-- removal it accepts and delivers nothing more, and each call that names it is told that it is not
+-- live.
 use Rattle.std.specs.Prelude.{◌≡◌, ◌≤◌, ℤ, true, false, [], ◌∷◌, ◌++◌, All, ⊤}
 use Rattle.sysv_model.specs.declared.errno.Errno.TheVariants.{EINVAL}
 use Rattle.sysv_model.specs.declared.limits.TheConstants.{MAX_QBYTES}

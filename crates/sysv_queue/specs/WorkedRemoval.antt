@@ -97,8 +97,8 @@ pub record WorkedRemoval : Type 0 where
 
 -- Legal replies to other calls, before the removal (after four turns) and after it.
 pub record OtherReplies : Type 0 where
-  -- first a stranger's EPERM, then EINVAL for a limit above the maximum, then EPERM for a raise by
-  -- the owner
+  -- the causes of a set in their order: EPERM for a stranger, EINVAL for a limit above the maximum,
+  -- EPERM for a raise by a caller other than user 0
   pub stranger_sets : IsLegalReply (after_turns 4) (sets_limit stranger 70000) (Refused EPERM)
   pub above_the_most : IsLegalReply (after_turns 4) (sets_limit owner 70000) (Refused EINVAL)
   pub above_the_most_by_zero : IsLegalReply (after_turns 4) (sets_limit user_zero 70000) (Refused EINVAL)

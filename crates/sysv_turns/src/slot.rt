@@ -71,7 +71,8 @@ pub enum SlotCall {
     },
 }
 
-/// The replies of a slot. Each is the result of the call.
+/// The replies of a slot: the results of `install`, `probe`, `look`, `place`, `take`, `stat`,
+/// `set`, `remove` and `row`, in this order.
 pub enum SlotReply {
     Installed(bool),
     Probed(Probe),
