@@ -1,4 +1,5 @@
--- What a call asks at a step, and of which object (this profile's). The moment is that of the step.
+-- What a call requests at a step, and of which object (this project's profile). The time in a
+-- request is that of the step.
 use Rattle.std.specs.Prelude.{ℕ, length}
 use Rattle.sysv_model.specs.History.{Install, Probe, Look, Place, Take, ReadStat, Set, Remove}
 use Rattle.sysv_model.specs.Registry.{Begin, Settle, Forget}

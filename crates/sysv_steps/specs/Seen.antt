@@ -1,7 +1,7 @@
--- What the code keeps of a call, with the text that its driver holds, as a state of the definitions (this
--- profile's). The text is that of a send under way, and of a receive that was given a message what it was
--- given. A wait keeps the value that its count has to pass, which is one below the goal. Of a chain the
--- definitions keep its blocks, and of a delivery its type.
+-- What the code keeps of a call, with the body that its driver holds, as a state of the definitions
+-- (this project's profile). `text` is the body of a send under way, or the bytes that a receive
+-- returned. The code's wait keeps the value that its count must exceed, which is one below the
+-- goal. The definitions keep only the number of blocks of a chain, and only the type of a delivery.
 use Rattle.std.specs.Prelude.{ℕ, ◌+◌, List}
 use Rattle.sysv_steps.specs.declared.ending.Ending.{Ending as EndingKept}
 use Rattle.sysv_steps.specs.declared.ending.Ending.TheVariants as ending
