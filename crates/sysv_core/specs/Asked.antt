@@ -1,4 +1,4 @@
--- What a call of the code asks (this profile's).
+-- The arguments of a call of the code as a call of the definitions (this project's profile).
 use Rattle.sysv_steps.specs.Call.{SystemCall, Msgget, Msgsnd, Msgrcv, MsgctlStat, MsgctlSet, MsgctlRmid}
 use Rattle.sysv_core.specs.declared.event.Call.{Call}
 use Rattle.sysv_core.specs.declared.event.Call.TheVariants as call
