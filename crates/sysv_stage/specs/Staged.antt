@@ -1,4 +1,4 @@
--- When the stage that the code keeps is seen as a scene of the definitions (this project's script
+-- The stage that the code keeps is seen as this scene of the definitions (this project's script
 -- language).
 use Rattle.std.specs.Prelude.{◌≡◌}
 use Rattle.sysv_core.specs.Seen.{IsSeenAs}
