@@ -122,8 +122,8 @@ impl Stage {
         Ok(true)
     }
 
-    /// Does what a line means that is neither skipped nor the first to size the pool, and composes
-    /// what it prints.
+    /// Does what a line means, if it is not the first one that sizes the pool, and composes what it
+    /// prints.
     fn act(&mut self, alloc: Global, line: Line<'_>, output: &mut Output) -> Result<bool, NoMemory>
         requires { LineFits line }
         ensures runs { IfOk result (λ understood. (s : Scene) → IsSceneOf s self.old →
