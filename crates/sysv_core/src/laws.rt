@@ -114,9 +114,9 @@ pub fn worked_answers()
     each_answer_is_right();
 }
 
-/// States that the laws of waits and removals admit a receive that waits rightly and is told of a
-/// removal, and that they refuse a receive that keeps waiting, one that is told something else, and
-/// an identifier that is installed again.
+/// States that the laws of waits and removals admit a receive that waits rightly and then reports a
+/// removal. They refuse a receive that keeps waiting, one that reports something else, and an
+/// identifier that is installed again.
 pub fn worked_waits()
     ensures { WorkedWaits }
 {}

@@ -20,9 +20,10 @@ use sysv_turns::{
 
 /// Makes one step of a send whose body is `text` and returns the state that follows.
 ///
-/// A chain that cannot be released is added to `kept`. If the gate of the step's turn is worn out,
-/// the call is over with EOVERFLOW, at the place after it has released its chain. If the gate of
-/// the pool is worn out at that release, the call ends or waits as it would after it.
+/// A chain that cannot be released is added to `kept`. If the gate of a look or a reserve is worn
+/// out, the call is over with EOVERFLOW. If that of the place is worn out, the call first releases
+/// its chain, and then fails with EOVERFLOW. If that of the release is worn out, the call ends or
+/// waits as it would after the release.
 ///
 /// # Conditions
 ///
