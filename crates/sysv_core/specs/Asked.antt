@@ -3,6 +3,7 @@ use Rattle.sysv_steps.specs.Call.{SystemCall, Msgget, Msgsnd, Msgrcv, MsgctlStat
 use Rattle.sysv_core.specs.declared.event.Call.{Call}
 use Rattle.sysv_core.specs.declared.event.Call.TheVariants as call
 
+-- The call of the definitions.
 abbrev pub asked_of : Call → SystemCall
 asked_of (call.Get key flags) = Msgget key flags
 asked_of (call.Send id mtype flags body) = Msgsnd id mtype flags body

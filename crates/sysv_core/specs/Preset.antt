@@ -9,6 +9,7 @@ use Rattle.sysv_objects.specs.Objects.{Objects, CountsUpTo}
 use Rattle.sysv_objects.specs.StandsFor.{StandsFor}
 use Rattle.sysv_core.specs.World.{with_preset_turns}
 
+-- The preset queue was made by its three turns.
 pub record PresetMade (generation : ℕ) (turns : List Turn) (old : Objects) (result : Bool) (new : Objects) : Type 0 where
   pub made : result ≡ true
   pub stands : StandsFor generation (with_preset_turns turns) new

@@ -160,10 +160,10 @@ impl World {
     ///
     /// An event is the start of a call or one step of it: one turn at its object, or one look at
     /// the count for which it waits (POSIX.1-2017, `msgget`, `msgsnd`, `msgrcv` and `msgctl`; the
-    /// steps are this project's profile). `Nothing` is the result, and nothing changes, if the
-    /// actor does not exist, is in a call at a start, or is idle at a step, and if its call still
-    /// has to wait. From step number 2^62 on, the result is `Worn`, and nothing changes. Allocates
-    /// nothing.
+    /// steps are this project's profile). The result is `Answer` if the call is over, else
+    /// `Nothing`. An event that is not possible changes nothing, and its result is `Nothing`: its
+    /// actor does not exist, is in a call at a start, is idle at a step, or still has to wait.
+    /// From step number 2^62 on, the result is `Worn` and nothing changes. Allocates nothing.
     pub fn step(&mut self, event: Event) -> Stepped
         // For every list of happenings for which the world stands, it then stands for that list and
         // the event, and the result is that of the run.
@@ -221,7 +221,7 @@ impl World {
     }
 
     /// Returns an empty body that can be used for another call: that of the last send that is over.
-    /// Returns `None` if no send is over, or if that body was returned before. Allocates nothing.
+    /// Returns `None` if no send has ended, or if that body was returned before. Allocates nothing.
     pub fn spare(&mut self) -> Option<Body>
         ensures empty { IfSome result (λ body. body ≡ []) }
         ensures kept { self.new ≡ self.old }

@@ -8,6 +8,7 @@ use Rattle.sysv_model.specs.Turn.{Ask, OfSlot, OfRegistry, OfPool}
 use Rattle.sysv_keys.specs.Identifier.{slot_of_id}
 use Rattle.sysv_steps.specs.State.{Phase, AtBegin, AtInstall, AtSettle, AtProbe, AtUnmake, AtLook, AtReserve, AtPlace, AtSendGiveback, AtTake, AtReceiveGiveback, AtStat, AtSet, AtSetGiveback, AtRemove, AtForget, AtRemoveGiveback}
 
+-- The request of a call at this step, made at the time `now`.
 abbrev pub asks : Phase → ℕ → Ask
 asks (AtBegin get) now = OfRegistry (Begin get.key get.flags)
 asks (AtInstall get id) now = OfSlot (slot_of_id id) (Install id get.key get.cred get.flags.0 now)
