@@ -1,5 +1,5 @@
--- A deed of a call, and the turn that made it, among all turns; and the entry of that turn in the history of
--- its object.
+-- A deed of a call and the turn that made it, among all turns; and the entry of that turn in the
+-- history of its object.
 use Rattle.std.proofs.Common.{◌≡◌, ℕ, Bool, true, false, cond, List, [], ◌∷◌, ◌++◌, refl, ap, subst, ◌∙◌, arith, map}
 use Rattle.std.specs.List.{filter}
 use Rattle.std.proofs.Math.Dec.{eqb}
@@ -10,7 +10,7 @@ use Rattle.sysv_model.specs.Registry.{RegistryCall, RegistryReply}
 use Rattle.sysv_model.specs.Turn.{Deed, AtSlot, AtRegistry, Turn, slot_entry, registry_entry, slot_history, registry_history, is_same, deeds_of}
 use Rattle.sysv_core.proofs.Histories.{turn_of}
 
--- the turn of that deed, with the deeds of the call before it and after it
+-- The turn of that deed, with the deeds of the call before it and after it.
 pub record Made (who : Who) (turns : List Turn) (front : List Deed) (deed : Deed) (later : List Deed) : Type 0 where
   pub before : List Turn
   pub by : Who
@@ -65,7 +65,7 @@ made_at who (t ∷ ts) front deed later e = made_here who t ts (is_same who t.wh
 itself : (n : ℕ) → eqb n n ≡ true
 itself n = grind (arith, nat_tests)
 
--- the history of a slot around one of its turns
+-- The history of a slot around one of its turns.
 pub slot_around : (slot : ℕ) (before after : List Turn) (who : Who) (call : Call) (reply : Reply) →
     slot_history slot (before ++ turn_of who (AtSlot slot call reply) ∷ after) ≡ slot_history slot before ++ record { who = who; call = call; reply = reply } ∷ slot_history slot after
 slot_around slot before after who call reply =
@@ -73,7 +73,7 @@ slot_around slot before after who call reply =
     flat_map-append (λ (x : Turn). slot_entry slot x.who x.deed) before (turn_of who (AtSlot slot call reply) ∷ after)
     ∙ ap (λ b. slot_history slot before ++ (cond b (e ∷ []) [] ++ slot_history slot after)) (itself slot)
 
--- and that of the registry
+-- The history of the registry around one of its turns.
 pub registry_around : (before after : List Turn) (who : Who) (call : RegistryCall) (reply : RegistryReply) →
     registry_history (before ++ turn_of who (AtRegistry call reply) ∷ after) ≡ registry_history before ++ record { who = who; call = call; reply = reply } ∷ registry_history after
 registry_around before after who call reply = flat_map-append (λ (x : Turn). registry_entry x.who x.deed) before (turn_of who (AtRegistry call reply) ∷ after)

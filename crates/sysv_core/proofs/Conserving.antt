@@ -1,4 +1,5 @@
--- A turn moves blocks between the pool, the queues and the call that makes it, and makes or loses none.
+-- A turn moves blocks between the pool, the queues and the call that makes it. It makes or loses
+-- none.
 use Rattle.std.proofs.Common.{◌≡◌, ◌≢◌, inl, inr, ℕ, zero, suc, ℤ, pos, ◌+◌, ◌<◌, ◌≤◌, Bool, true, false, cond, List, [], ◌∷◌, ◌++◌, Option, None, Some, refl, sym, ap, subst, ◌∙◌, arith, slice_get, slice_set, replicate, unsigned_abs}
 use Rattle.std.specs.List.{All, Contains, sum_by, range_with_len}
 use Rattle.std.proofs.Math.Dec.{eqb}
@@ -46,7 +47,7 @@ same_sum f g from zero same = refl
 same_sum f g from (suc n) same =
     omega (arith, sum_by-cons f from (range_with_len (from + 1) n), sum_by-cons g from (range_with_len (from + 1) n), same from (omega arith), same_sum f g (from + 1) n (λ i low. same i (omega (arith, low))))
 
--- where one term is another
+-- Two sums that differ in one term.
 one_changed : (f g : ℕ → ℕ) (from n k : ℕ) → from ≤ k → k < from + n → ((i : ℕ) → k ≢ i → f i ≡ g i) → sum_by f (range_with_len from n) + g k ≡ sum_by g (range_with_len from n) + f k
 one_changed f g from zero k low high same = absurd (omega (arith, low, high))
 one_changed f g from (suc n) k low high same = elim (same_place from k) [
@@ -76,13 +77,13 @@ pub is_sum : (turns : List Turn) → blocks_waiting turns ≡ sum_by (waiting_at
 unfolding blocks_waiting
 is_sum turns = refl
 
--- no turn at another object
+-- A turn that is not at a slot changes no queued message.
 waiting_stays : (turns : List Turn) (who : Who) (deed : Deed) → ((slot : ℕ) → slot_history slot (turns ++ turn_of who deed ∷ []) ≡ slot_history slot turns) → blocks_waiting (turns ++ turn_of who deed ∷ []) ≡ blocks_waiting turns
 waiting_stays turns who deed same =
     let more = turns ++ turn_of who deed ∷ [] in
     is_sum more ∙ (same_sum (waiting_at more) (waiting_at turns) 0 SLOTS (λ slot low. ap (λ h. blocks_of (waiting_in h)) (same slot)) ∙ sym (is_sum turns))
 
--- and a turn at a slot only what waits in it
+-- A turn at a slot changes the queued messages of that slot only.
 another_slot : (turns : List Turn) (who : Who) (slot : ℕ) (call : Call) (reply : Reply) (other : ℕ) (b : Bool) → (b ≡ true → slot ≡ other) → slot ≢ other →
     slot_history other turns ++ cond b (record { who = who; call = call; reply = reply } ∷ []) [] ≡ slot_history other turns
 another_slot turns who slot call reply other true same apart = absurd (apart (same refl))
@@ -113,7 +114,7 @@ waiting_moves kept turns who slot call reply legal now low =
 
 -- ---- what a turn moves
 
--- what goes onto a queue leaves the call, and what comes off it is given to the call
+-- What is put on a queue leaves the call, and what is taken from a queue is received by the call.
 left_is_put : (slot : ℕ) (call : Call) (reply : Reply) → left_by (AtSlot slot call reply) ≡ blocks_put call reply
 left_is_put slot (Place id cred mtype bytes now) (Accepted number) = refl
 left_is_put slot call (Accepted number) = refl
@@ -126,7 +127,7 @@ given_is_off s slot call (Taken m) l = absurd l
 given_is_off s slot call (Discarded messages) l = absurd l
 given_is_off s slot call reply l = refl
 
--- the pool gives what a call asked for
+-- The pool grants what a call requested.
 only_one : (d x : Deed) → Contains (d ∷ []) x → d ≡ x
 only_one d x (zero, low, is) = is
 only_one d x (suc k, low, is) = absurd (omega (arith, low))
@@ -134,7 +135,7 @@ only_one d x (suc k, low, is) = absurd (omega (arith, low))
 gives_it : (generation blocks : ℕ) (turns : List Turn) (deed : Deed) → IsLegalDeed generation blocks turns deed → GivesWhatIsAsked (deed ∷ [])
 gives_it generation blocks turns deed legal size n has = (subst (IsLegalDeed generation blocks turns) (only_one deed (AtPool (Reserve size) (Reserved n)) has) legal).1
 
--- the free blocks after a turn at the pool
+-- The number of free blocks after a turn at the pool.
 free_moves : (size : ℕ) (h : PoolHistory) (e : PoolEntry) → PoolLaw size h → LegalAtPool (state_of size h) e.call e.reply →
     free_after size (h ++ e ∷ []) + reserved_by e.reply ≡ free_after size h + returned_by e.call e.reply
 free_moves size h e law legal = by_turn e.call e.reply legal (returned_more h e) (reserved_more h e)
@@ -154,13 +155,13 @@ in_state call (Goes phase) = refl
 in_state call (Waits wait) = refl
 in_state call (Over ending) = refl
 
--- a call holds no more than all of them
+-- A call holds no more than all calls together.
 no_more : (actors : List (Option Doing)) (place : ℕ) (was : Option Doing) → slice_get actors place ≡ Some was → blocks_in_call was ≤ blocks_in_calls actors
 no_more actors place was there = omega (arith, sum_set blocks_in_call actors place was None there)
 
 -- ---- one turn
 
--- a call asks slots that there are
+-- A call makes requests only of slots that exist.
 there_is : (id : ℤ) (slot : ℕ) → slot ≡ slot_of_id id → slot < SLOTS
 there_is id slot e = omega (arith, e, mod-lt (unsigned_abs id) {m = SLOTS} (omega arith))
 
@@ -175,7 +176,7 @@ asks_slot (AtSet cred id to) now slot call e = there_is id slot cc
 asks_slot (AtRemove cred id) now slot call e = there_is id slot cc
 asks_slot phase now slot call e = absurd cc
 
--- what the laws of the queues, of the pool and of the steps say of blocks
+-- The laws about blocks of the queues, the pool and the steps.
 pub record BlockLaws : Type 0 where
   pub kept : TurnKeepsBlocks
   pub law : (size : ℕ) (h : PoolHistory) → IsLegalPoolHistory size h → PoolLaw size h
@@ -195,7 +196,7 @@ module _ (b : BlockLaws) (generation size : ℕ) (turns : List Turn) (actors : L
     holds : held (Goes phase) ≤ blocks_in_calls actors
     holds = no_more actors place was there
 
-    -- no chain of a call is foreign
+    -- No chain of a call is foreign.
     taken : (c : PoolCall) (reply : PoolReply) → LegalAtPool (state_of size (pool_history turns)) c reply → held state + left_by (AtPool c reply) ≡ held (Goes phase) + given_by (AtPool c reply) → reply ≢ Foreign
     taken (Release blocks) Foreign l balance e = omega (arith, l, balance, all.whole, holds)
     taken (Reserve n) Foreign l balance e = l
@@ -255,7 +256,7 @@ module _ (b : BlockLaws) (generation size : ℕ) (turns : List Turn) (actors : L
           taken_back = subst (All (λ (x : PoolEntry). x.reply ≢ Foreign)) (sym pool) (All-push (λ (x : PoolEntry). x.reply ≢ Foreign) h e all.taken_back back);
         }
 
-  -- the three turns of a preset move no block
+  -- The three turns of a preset move no block.
   pub preset_conserves : AreLegal generation size (with_preset_turns turns) → AreConserved size (with_preset_turns turns) actors
   preset_conserves after =
       let first = begun_turns turns in
@@ -276,7 +277,7 @@ module _ (b : BlockLaws) (generation size : ℕ) (turns : List Turn) (actors : L
 
 -- ---- no turn
 
--- a call that starts, or whose wait is over, holds what it held
+-- A call that starts, or whose wait is over, holds what it held.
 pub stands_conserves : (size : ℕ) (turns : List Turn) (actors : List (Option Doing)) (place : ℕ) (was : Option Doing) (call : Started) (state : State) → slice_get actors place ≡ Some was → held state ≡ blocks_in_call was →
     AreConserved size turns actors → AreConserved size turns (slice_set actors place (doing_in call state))
 stands_conserves size turns actors place was call state there same all = record {

@@ -20,12 +20,13 @@ use Rattle.sysv_steps.specs.HeldBlocks.{HasItsBlocks}
 use Rattle.sysv_core.specs.Kinds.{Kind, Sends, Receives, Bare, kind_of, phase_kind, wait_kind, IsOf}
 use Rattle.sysv_lists.proofs.Orders.{at_most}
 
--- the step is an install
+-- The step is an install.
 abbrev pub is_install : Phase → Bool
 is_install (AtInstall get id) = true
 is_install phase = false
 
--- a state of that kind, with the blocks that its text takes, and not one before an install
+-- A state of that kind that is not before an install, with the number of blocks that the body
+-- needs.
 abbrev pub IsLater : Kind → State → Type 0
 IsLater kind (Goes phase) = (phase_kind phase ≡ Some kind) × (is_install phase ≡ false) × HasItsBlocks (Goes phase)
 IsLater kind (Waits wait) = wait_kind wait ≡ Some kind
@@ -114,7 +115,7 @@ forget_later blocks reply t e = absurd cc
 
 -- ---- the rows of the pool
 
--- a chain that the pool reserves for a text has the blocks that it takes
+-- A chain that the pool reserves for a body has the number of blocks that the body needs.
 abbrev pub GivesBlocks : Phase → Deed → Type 0
 GivesBlocks (AtReserve send) (AtPool call (Reserved blocks)) = blocks ≡ blocks_for (length send.text)
 GivesBlocks phase deed = Unit {0}
@@ -135,7 +136,7 @@ goes_later : (kind : Kind) (blocks : ℕ) (afterwards : Afterwards) → phase_ki
 goes_later kind blocks (IsRefused why) k = tt
 goes_later kind blocks (WaitsOn wait) k = k
 
--- the state is one before the install of an identifier that this turn made
+-- The state is before the install of an identifier that this turn made.
 pub record IsNewlyMade (phase : Phase) (deed : Deed) (t : State) : Type 0 where
   pub get : Getting
   pub id : ℤ
@@ -201,7 +202,7 @@ blocks_next kind phase deed t g k e = elim (leads_on kind phase deed t g k e) [
   | makes is n ↦ subst HasItsBlocks (sym n.is) tt
 ]
 
--- what is asked of the pool and answered as it has to be
+-- The request to the pool is this one.
 pool_call : {call other : PoolCall} → OfPool call ≡ OfPool other → call ≡ other
 pool_call e = cc
 
@@ -240,7 +241,7 @@ begun_by cred asked released false = first_later cred asked released
 pub begun_later : (cred : Cred) (asked : SystemCall) (released : ℕ) → IsLater (kind_of asked) (begin cred asked released)
 begun_later cred asked released = begun_by cred asked released (is_refused asked)
 
--- a wait whose test says that it is not over
+-- A wait that is found not to be over.
 pub not_over : (b : Bool) → b ≡ false → (goal count value : ℕ) → IsTrue b ↔ goal ≤ count → count ≡ value → value < goal
 not_over b off goal count value test is = elim (at_most goal count) [
   | inl reached ↦ let bad : IsTrue false = subst IsTrue off (test.1 reached) in search rules

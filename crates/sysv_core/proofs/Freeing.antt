@@ -1,4 +1,5 @@
--- What lies in the slots and the pool of the code, and what its calls hold, are all blocks of the world.
+-- The blocks in the slots and the pool of the code, and those that its calls hold, are all blocks
+-- of the world.
 use Rattle.std.proofs.Common.{◌≡◌, ℕ, suc, ◌+◌, ◌≤◌, List, [], ◌∷◌, Option, None, Some, refl, sym, ap, ◌∙◌, arith, length, map, slice_get}
 use Rattle.std.specs.List.{sum_by, range_with_len}
 use Rattle.std.proofs.lemmas.List.Sums.{sum_by-cons}
@@ -46,7 +47,8 @@ module _ (w : World) (seen : Seen) (s : IsSeenAs w seen) where
   all_there : seen.objects.pool.free + (blocks_in seen.objects.slots + blocks_held seen.states) ≡ w.blocks
   all_there = omega (arith, waiting, free, held, s.sound.blocks.whole)
 
--- where so many blocks are free as there are in all places, if they are no more than the pool has
+-- The sum of these blocks is the size of the pool with which the world was opened, if all of them
+-- can be put back.
 pub all_free : (o : Opening) (list : List Happening) (given : List Given) (seen : Seen) (blocks : ℕ) →
     (seen.objects.pool.free + (blocks_in seen.objects.slots + blocks_held seen.states) ≤ seen.objects.pool.size → blocks ≡ seen.objects.pool.free + (blocks_in seen.objects.slots + blocks_held seen.states)) →
     StandsFor o list given seen → blocks ≡ o.blocks

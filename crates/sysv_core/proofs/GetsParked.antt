@@ -1,4 +1,5 @@
--- A get that waits below its goal waits for a row of its key that another call has still to settle or forget.
+-- A get that waits below its goal waits for a row of its key that another call still has to settle
+-- or forget.
 use Rattle.std.proofs.Common.{◌≡◌, ◌⊎◌, inl, inr, ℕ, ℤ, ◌+◌, ◌<◌, ◌≤◌, ◌||◌, Bool, true, false, cond, List, [], ◌∷◌, ◌++◌, Option, None, Some, refl, sym, ap, subst, ◌∙◌, arith, append_assoc}
 use Rattle.std.specs.List.{list_any}
 use Rattle.std.proofs.lemmas.Bool.Decides.{Decides-int_eq}
@@ -95,7 +96,7 @@ dead_still (e ∷ since) h id none dead =
       | inr made ↦ let not_made = none [] since e refl in let bad : true ≡ false = sym made ∙ not_made in cc
     ]))
 
--- an install in a history
+-- An install in a history.
 record InstallIn (id : ℤ) (h : History) : Type 0 where
   front : History
   turn : Entry
@@ -111,7 +112,7 @@ install_in id (x ∷ h) e = by_first (installs id x.call x.reply) refl e (instal
     by_first true is any rest = record { front = []; turn = x; back = h; whole = refl; makes_it = is }
     by_first false is any rest = let r = rest any in record { front = x ∷ r.front; turn = r.turn; back = r.back; whole = ap (λ k. x ∷ k) r.whole; makes_it = r.makes_it }
 
--- where it was installed before a turn that found it not live, it does not live
+-- A queue that was installed before a turn that found it not live is not live.
 never_lives : (id : ℤ) (h before more after : History) (p : Entry) → IsInstalledOnce id h → h ≡ (before ++ more) ++ p ∷ after → list_any (λ (x : Entry). installs id x.call x.reply) before ≡ true → ¬ IsLive (before ++ more) id → ¬ IsLive h id
 never_lives id h before more after p once whole was dead =
     let i = install_in id before was in
@@ -136,7 +137,7 @@ module _ (w : World) (legal : AreLegal w.generation w.blocks w.turns) (tended : 
   abbrev all_rows : RegistryHistory
   all_rows = registry_history w.turns
 
-  -- the row that the registry told of is there still
+  -- The row that the registry reported still exists.
   row_now : (front later : List Deed) (reply : RegistryReply) (row : KeyRow) (m : Made who w.turns front (AtRegistry (Begin get.key get.flags) reply) later) → IsRow (registry_history m.before) row → told ≡ settled (registry_history m.before) → IsRow all_rows row
   row_now front later reply row m is count =
       let e : RegistryEntry = record { who = m.by; call = Begin get.key get.flags; reply = reply } in

@@ -1,4 +1,4 @@
--- The history of each object with one more turn.
+-- The history of each object after one more turn.
 use Rattle.std.proofs.Common.{◌≡◌, ℕ, ◌+◌, Bool, cond, List, [], ◌∷◌, ◌++◌, refl, ap, ◌∙◌, arith}
 use Rattle.std.proofs.lemmas.Grind.{flat_map-append}
 use Rattle.std.proofs.lemmas.List.{append-nil}
@@ -24,14 +24,15 @@ pub pool_more : (turns : List Turn) (t : Turn) → pool_history (turns ++ t ∷ 
 pool_more turns t =
     flat_map-append (λ (x : Turn). pool_entry x.who x.deed) turns (t ∷ []) ∙ ap (λ es. pool_history turns ++ es) (append-nil (pool_entry t.who t.deed))
 
--- a turn that is not at the pool leaves its history, and one that is not at a slot that of each slot
+-- A turn that is not at the pool leaves the pool's history as it was, and one that is not at a slot
+-- leaves that of each slot.
 pub pool_stays : (turns : List Turn) (who : Who) (deed : Deed) → pool_entry who deed ≡ [] → pool_history (turns ++ turn_of who deed ∷ []) ≡ pool_history turns
 pool_stays turns who deed none = pool_more turns (turn_of who deed) ∙ (ap (λ es. pool_history turns ++ es) none ∙ append-nil (pool_history turns))
 
 pub slot_stays : (slot : ℕ) (turns : List Turn) (who : Who) (deed : Deed) → slot_entry slot who deed ≡ [] → slot_history slot (turns ++ turn_of who deed ∷ []) ≡ slot_history slot turns
 slot_stays slot turns who deed none = slot_more slot turns (turn_of who deed) ∙ (ap (λ es. slot_history slot turns ++ es) none ∙ append-nil (slot_history slot turns))
 
--- the three turns of a preset
+-- The three turns of a preset.
 abbrev pub begun_turns : List Turn → List Turn
 begun_turns turns = turns ++ turn_of preset_who preset_begin ∷ []
 

@@ -26,7 +26,7 @@ use Rattle.sysv_core.specs.Kinds.{Kind, Sends, Receives, Bare, kind_of, phase_ki
 use Rattle.sysv_core.specs.Held.{text_in, IsHeldBy, IsHeldOrOver}
 use Rattle.sysv_lists.proofs.Orders.{at_most}
 
--- a call whose wait is over has what it had
+-- A call whose wait is over has what it had.
 pub resumed_held : (wait : Wait) (value : ℕ) (phase : Phase) (body : Option (List ℕ)) → resume wait value ≡ phase → IsHeldBy (Waits wait) body → IsHeldBy (Goes phase) body
 resumed_held (OnSettled goal get) value phase body e h = subst (λ p. IsHeldBy (Goes p) body) e (record { has = h.has; short = h.short; blocks = λ send n f. absurd cc; afterwards = λ n w f. absurd cc })
 resumed_held (OnFreed goal send) value phase body e h = subst (λ p. IsHeldBy (Goes p) body) e (record { has = h.has; short = h.short; blocks = λ send n f. absurd cc; afterwards = λ n w f. absurd cc })
@@ -35,7 +35,7 @@ resumed_held (OnReleased goal send) value phase body e h = subst (λ p. IsHeldBy
 
 -- ---- the start
 
--- a body of such a call, whose text is short where it is sent
+-- The body that a call of this kind brings. That of a send is not too long.
 pub record IsBrought (kind : Kind) (body : Option (List ℕ)) : Type 0 where
   pub has : is_some body ≡ brings (Some kind)
   pub short : kind ≡ Sends → length (text_in body) ≤ MESSAGE_BYTES
@@ -61,7 +61,7 @@ begun_held : (cred : Cred) (asked : SystemCall) (released : ℕ) (s : State) (bo
 begun_held cred asked released s body true h e = subst (λ x. IsHeldOrOver x body) e tt
 begun_held cred asked released s body false h e = subst (λ x. IsHeldOrOver x body) e (held_first cred asked released body h)
 
--- a call that was just started
+-- A call that was just started.
 pub held_begun : (cred : Cred) (asked : SystemCall) (released : ℕ) (s : State) (body : Option (List ℕ)) → IsBrought (kind_of asked) body → begin cred asked released ≡ s → IsHeldOrOver s body
 held_begun cred asked released s body h e = begun_held cred asked released s body (is_refused asked) h e
 
@@ -85,7 +85,7 @@ sent_by cred id mtype flags text released s false r e =
 pub held_sent : (cred : Cred) (id mtype : ℤ) (flags : Flags) (text : List ℕ) (released : ℕ) (s : State) → begin cred (Msgsnd id mtype flags text) released ≡ s → IsHeldOrOver s (Some text)
 held_sent cred id mtype flags text released s e = sent_by cred id mtype flags text released s (is_refused (Msgsnd id mtype flags text)) refl e
 
--- a get holds no body and no blocks
+-- A get holds no body and no blocks.
 pub held_get : (s : State) → Gets s → IsHeldOrOver s None
 held_get (Goes (AtBegin get)) k = record { has = refl; short = λ e. absurd cc; blocks = λ send n e. absurd cc; afterwards = λ n w e. absurd cc }
 held_get (Goes (AtInstall get id)) k = record { has = refl; short = λ e. absurd cc; blocks = λ send n e. absurd cc; afterwards = λ n w e. absurd cc }

@@ -1,5 +1,5 @@
--- No identifier is installed twice: each install of it takes up one turn of the registry that made it, and the
--- registry makes it once.
+-- No identifier is installed twice: each install of it uses up one turn of the registry that made
+-- it, and the registry makes it once.
 use Rattle.std.proofs.Common.{◌≡◌, ◌≢◌, inl, inr, ℕ, zero, suc, ℤ, ◌+◌, ◌≤◌, Bool, true, false, cond, List, [], ◌∷◌, ◌++◌, Option, None, Some, refl, sym, ap, subst, ◌∙◌, arith, slice_get, slice_set, replicate}
 use Rattle.std.specs.List.{All, sum_by}
 use Rattle.std.specs.Ordering.{int_eq}
@@ -50,7 +50,7 @@ installs_id id (AtSlot slot call reply) = installs id call reply
 installs_id id (AtRegistry call reply) = false
 installs_id id (AtPool call reply) = false
 
--- a call that stands before the install
+-- A call that is before the install.
 abbrev pub holds_in : ℤ → State → ℕ
 holds_in id (Goes (AtInstall get at)) = one (int_eq at id)
 holds_in id state = 0
@@ -134,7 +134,7 @@ module _ (w : World) (s : IsSound w) (c : Counted w.turns w.actors) (place : ℕ
         home = All-push (λ (x : Turn). IsInItsSlot x.deed) w.turns t c.home (turn_home phase deed now asked);
       }
 
-  -- a call that goes on without a turn, or that starts
+  -- A call that continues without a turn, or that starts.
   pub stand_counts : (was : Option Doing) (state : State) → slice_get w.actors place ≡ Some was → ((id : ℤ) → holds_in id state ≡ 0) → Counted w.turns (slice_set w.actors place (doing_in call state))
   stand_counts was state there none = record {
     count = λ id. omega (arith, sum_set (holds id) w.actors place was (doing_in call state) there, held_is id call state, none id, c.count id);
@@ -210,7 +210,7 @@ leads_counts sound w after (x ∷ xs) given s c l = leads_counts sound l.0 after
 
 -- ---- once at most
 
--- the registry made it once
+-- The registry made the identifier only once.
 abbrev pub Once : ℤ → RegistryHistory → Type 0
 Once id h = (before middle after : RegistryHistory) (e f : RegistryEntry) → h ≡ before ++ e ∷ (middle ++ f ∷ after) → e.reply ≡ Made id → f.reply ≢ Made id
 
@@ -250,7 +250,7 @@ given_once id (e ∷ h) once = by_first (given_once id h (λ before middle after
     by_first rest false g =
         omega (arith, sum_by-cons (λ (x : RegistryEntry). one (gives id x.reply)) e h, ap one g, rest)
 
--- in the histories of the objects
+-- The same counts in the histories of the objects.
 made_there : (id : ℤ) (who : Who) (deed : Deed) (turns : List Turn) → made_count id turns ≡ given_count id (registry_history turns) →
     made_count id (turn_of who deed ∷ turns) ≡ given_count id (registry_history (turn_of who deed ∷ turns))
 made_there id who (AtSlot slot call reply) turns e = omega (arith, e, sum_by-cons (λ (x : Turn). one (makes_id id x.deed)) (turn_of who (AtSlot slot call reply)) turns)
@@ -321,7 +321,7 @@ opening_counts o = record {
   home = λ k d low. absurd (omega (arith, low));
 }
 
--- in such a world
+-- The same in a world of which this holds.
 pub good_of : RemovedForGood → (generation : ℕ) (turns : List Turn) (actors : List (Option Doing)) → Counted turns actors → RegistryLaw generation (registry_history turns) → ((slot : ℕ) → IsLegalHistory (slot_history slot turns)) → AreRemovedForGood turns
 good_of for_good generation turns actors c law legal =
     let once : (slot : ℕ) (id : ℤ) → IsInstalledOnce id (slot_history slot turns) = λ slot id.

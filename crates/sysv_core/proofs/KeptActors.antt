@@ -47,7 +47,7 @@ module _ (items : List (Option Doing)) (states : List (Option State)) (view : st
   pub seen_same : (x : Option Doing) (p : Option State) → state_kept x ≡ p → slice_get states place ≡ Some p → states_kept (slice_set items place x) ≡ states
   seen_same x p e there = seen_set x p e ∙ slice_set-same states place p there
 
-  -- what is put at that place, over what was taken from it or not
+  -- What is stored at that place, whether or not something was taken from it.
   pub seen_settled : (new : List (Option Doing)) (l : Led) → new ≡ slice_set items place (doing_led l) → states_kept new ≡ slice_set states place (kept_led l)
   seen_settled new l e = ap states_kept e ∙ seen_set (doing_led l) (kept_led l) refl
 
@@ -57,7 +57,7 @@ module _ (items : List (Option Doing)) (states : List (Option State)) (view : st
   there : (x : Option Doing) → x ≡ slice_index_or items place x → slice_get items place ≡ Some x
   there x read = slice_get_read items (length items) place x refl inside read
 
-  -- the actor at that place is in no call
+  -- The actor at that place is in no call.
   pub idle_there : (x : Option Doing) → x ≡ slice_index_or items place x → is_some x ≡ false → slice_get items place ≡ Some None
   idle_there x read e = there x read ∙ ap Some (none_is x e)
     where
@@ -65,7 +65,7 @@ module _ (items : List (Option Doing)) (states : List (Option State)) (view : st
       none_is None e = refl
       none_is (Some d) e = absurd cc
 
-  -- nor is it once its call was taken out
+  -- An actor whose call was taken out is in no call.
   pub taken_there : (x : Option Doing) → x ≡ slice_index_or items place x → (new : Option Doing) → new ≡ None → slice_get (slice_set items place new) place ≡ Some None
   taken_there x read new e = get_set_same items place new x (there x read) ∙ ap Some e
 
@@ -75,7 +75,7 @@ same_seen o p s t m n a b e f g h = cc
 
 -- ---- the bound of the tally
 
--- an event gives a message only where it is counted
+-- An event returns a message only if it is counted.
 pub given_counted : (actor : ℕ) (l : Led) → messages_given (told_by actor l) ≤ counted_led l
 given_counted actor (led.To doing) = omega arith
 given_counted actor (led.Stays doing) = omega arith
@@ -115,7 +115,7 @@ raises_at_most (AtRegistry call reply) = omega arith
 raises_at_most (AtPool (Reserve size) reply) = omega arith
 raises_at_most (AtPool (Release blocks) reply) = omega arith
 
--- a step raises the counts no further than the step number
+-- A step does not raise the counts above the step number.
 pub counts_on : (old : Objects) (state : State) (now : ℕ) (l : Led) (new : Objects) (n : ℕ) → StepLeads old state now l new → CountsUpTo n old → CountsUpTo (n + counted_led l) new
 counts_on old (Goes phase) now (led.To doing) new n step up = weaker (n + raises_by step.deed) (n + 1) new (omega (arith, raises_at_most step.deed)) (step.turn.counts n up)
 counts_on old (Goes phase) now (led.Over ended) new n step up = weaker (n + raises_by step.deed) (n + 1) new (omega (arith, raises_at_most step.deed)) (step.turn.counts n up)

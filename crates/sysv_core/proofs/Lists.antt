@@ -44,7 +44,7 @@ same_place zero (suc j) = inr (λ e. omega arith)
 same_place (suc i) zero = inr (λ e. omega arith)
 same_place (suc i) (suc j) = elim (same_place i j) [ inl e ↦ inl (ap suc e) | inr f ↦ inr (λ e. f (omega arith)) ]
 
--- a sum where one element is another
+-- A sum after one element was replaced.
 pub sum_set : {X : Type 0} (f : X → ℕ) (xs : List X) (i : ℕ) (x y : X) → slice_get xs i ≡ Some x → sum_by f (slice_set xs i y) + f x ≡ sum_by f xs + f y
 sum_set f [] i x y e = absurd cc
 sum_set f (z ∷ xs) zero x y e =

@@ -47,11 +47,11 @@ use Rattle.sysv_core.proofs.Settling.{settled_once_installed}
 use Rattle.sysv_core.proofs.Lists.{get_set_same, get_set_other, same_place}
 use Rattle.sysv_core.proofs.Own.{same_who, same_itself, not_same, same_or_not, own_deed, other_deed, own_endings, other_endings, IsIn, at_actor, own_standing, other_standing}
 
--- the call was started by an actor before this step number
+-- The call was started by an actor before this step number.
 abbrev pub IsBefore : ℕ → Started → Type 0
 IsBefore n call = (place : ℕ) × (start : ℕ) × (call.who ≡ Actor (suc place) start) × (start < n)
 
--- the actor at that place is in a call that it started
+-- The actor at that place is in a call that it started.
 abbrev pub IsOwn : List Started → ℕ → Doing → Type 0
 IsOwn calls place d = Contains calls d.call × ((start : ℕ) × (d.call.who ≡ Actor (suc place) start))
 
@@ -70,12 +70,12 @@ pub record Inv (w : World) (given : List Given) : Type 0 where
 
 -- ---- one call moves
 
--- the call stands there after these turns, and had no answer
+-- After these turns the call is in that state, and had no ending.
 pub record Stands (turns : List Turn) (given : List Given) (call : Started) (state : State) : Type 0 where
   pub plays : Plays (begun call) (deeds_of call.who turns) state
   pub quiet : endings_of call.who given ≡ []
 
--- the turns of all other calls are the same
+-- The turns of all other calls are the same.
 abbrev pub OthersStay : Who → List Turn → List Turn → Type 0
 OthersStay who turns more = (other : Who) → is_same other who ≡ false → deeds_of other more ≡ deeds_of other turns
 
@@ -100,7 +100,7 @@ module _ (w : World) (given : List Given) (turns : List Turn) (calls : List Star
     stands = own_standing w.actors place start was call state who there;
   }
 
-  -- what an actor does is of a call that it started
+  -- An actor is in a call that it started.
   now_doing : (start : ℕ) → call.who ≡ Actor (suc place) start → Contains calls call → ((c : Started) → Contains w.calls c → Contains calls c) → AreOwn w.calls w.actors →
       (o : Option Doing) → o ≡ doing_in call state → AreOwn calls (slice_set w.actors place o)
   now_doing start who has more own o is = λ p d at. elim (same_place place p) [
@@ -133,7 +133,7 @@ known_more calls given call (Over ending) has all = All-push (λ (g : Given). Co
 sooner : (n : ℕ) (c : Started) → IsBefore n c → IsBefore (n + 1) c
 sooner n c b = (b.0, b.1, b.2, omega (arith, b.3))
 
--- where an actor is in a call, the call stands there and has no answer
+-- If an actor is in a call, the call is in that state and has no ending.
 module _ (w : World) (given : List Given) (i : Inv w given) (place : ℕ) (d : Doing) (there : slice_get w.actors place ≡ Some (Some d)) where
   abbrev it : Started
   it = d.call
@@ -263,7 +263,7 @@ also_before : (who : Who) (e : Ending) (x : Given) (rest : List Given) (b : Bool
 also_before who e x rest true h = inr h
 also_before who e x rest false h = h
 
--- what a call was given is among its endings
+-- An ending that a call had is among its endings.
 given_is : (who : Who) (given : List Given) (g : Given) → Contains given g → is_same who g.call.who ≡ true → IsAmong g.ending (endings_of who given)
 given_is who [] g (k, low, is) same = absurd (omega (arith, low))
 given_is who (x ∷ given) g (zero, low, is) same =
@@ -273,7 +273,7 @@ given_is who (x ∷ given) g (zero, low, is) same =
 given_is who (x ∷ given) g (suc k, low, is) same =
     also_before who g.ending x (filter (λ (y : Given). is_same who y.call.who) given) (is_same who x.call.who) (given_is who given g (k, omega (arith, low), is) same)
 
--- an ending that was given is where the call stands, and the right one
+-- An ending that a call had is that of its state, and is right.
 is_right : EachAnswerIsRight → (call : Started) (deeds : List Deed) (state : State) (ending : Ending) → Plays (begun call) deeds state → IsAmong ending (ended state) → IsRightAnswer call.asked deeds ending
 is_right right call deeds (Goes phase) ending plays among = absurd among
 is_right right call deeds (Waits wait) ending plays among = absurd among

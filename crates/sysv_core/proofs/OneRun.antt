@@ -1,4 +1,4 @@
--- Each event, preset and list leads to one world at most.
+-- Each event, preset and list leads to at most one world.
 use Rattle.std.proofs.Common.{◌≡◌, ℕ, inl, inr, Bool, List, [], ◌∷◌, ◌++◌, Option, None, Some, refl, sym, ap, subst, ◌∙◌, arith}
 use Rattle.sysv_model.specs.declared.cred.Cred.{Cred}
 use Rattle.sysv_model.specs.Turn.{Deed}
@@ -19,7 +19,7 @@ use Rattle.sysv_core.specs.Seen.{Tells, Gives, happening_of}
 use Rattle.sysv_model.specs.History.{Who, Actor, Seat}
 use Rattle.sysv_core.specs.OneRun.{OneStep, OnePreset, OneRun}
 
--- the same endings, and the same world
+-- The same endings and the same world.
 abbrev Same : List Given → List Given → World → World → Type 0
 Same r s a b = (r ≡ s) × (a ≡ b)
 

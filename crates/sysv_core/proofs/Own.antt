@@ -1,4 +1,5 @@
--- What a call's own are among all turns, endings and actors, and that one more of another call leaves them.
+-- What belongs to a call among all turns, endings and actors, and that one more item of another
+-- call leaves it as it was.
 use Rattle.std.proofs.Common.{◌≡◌, ◌≢◌, ℕ, zero, suc, ◌==◌, ◌&&◌, ◌⊎◌, inl, inr, Bool, true, false, cond, List, [], ◌∷◌, ◌++◌, Option, None, Some, refl, sym, ap, subst, ◌∙◌, arith, map, slice_get, slice_set}
 use Rattle.std.specs.List.{filter}
 use Rattle.std.proofs.lemmas.List.{append-nil, map-append}
@@ -78,7 +79,7 @@ other_endings who given call (Over ending) e =
     endings_more who given g
     ∙ (ap (λ b. endings_of who given ++ map (λ (x : Given). x.ending) (cond b (g ∷ []) [])) e ∙ append-nil (endings_of who given))
 
--- a call without an answer has that of its state
+-- A call without an ending has that of its state afterwards.
 pub own_endings : (given : List Given) (call : Started) (state : State) → is_same call.who call.who ≡ true → endings_of call.who given ≡ [] → endings_of call.who (given ++ given_in call state) ≡ ended state
 own_endings given call (Goes phase) same none = ap (endings_of call.who) (append-nil given) ∙ none
 own_endings given call (Waits wait) same none = ap (endings_of call.who) (append-nil given) ∙ none
@@ -89,7 +90,7 @@ own_endings given call (Over ending) same none =
 
 -- ---- actors
 
--- the actor is idle, or in a call of that name
+-- The actor is idle, or in a call of that name.
 abbrev pub IsIn : Who → Option Doing → Type 0
 IsIn who None = Unit {0}
 IsIn who (Some doing) = doing.call.who ≡ who

@@ -1,5 +1,5 @@
--- Who waits below its goal has a reason to: its last turn at the slot was a refusal, which is right as long as
--- the count has not risen.
+-- A call that waits below its goal has a reason to: its last turn at the slot was a refusal, which
+-- is right as long as the count has not risen.
 use Rattle.std.proofs.Common.{◌≡◌, inl, inr, ℕ, ℤ, ◌+◌, ◌<◌, Bool, List, ◌∷◌, ◌++◌, Option, None, Some, MatchOption, sym, ap, subst, ◌∙◌, arith, length, slice_get}
 use Rattle.sysv_model.specs.declared.attributes.Attributes.{Attributes}
 use Rattle.sysv_model.specs.declared.cred.Cred.{Cred}
@@ -35,7 +35,7 @@ use Rattle.sysv_core.proofs.Waking.{AreToBeWoken}
 use Rattle.sysv_core.proofs.GetsParked.{being_changed}
 use Rattle.sysv_core.proofs.Along.{Made, made_at, slot_around}
 
--- what waits on the live queue
+-- The messages of the live queue.
 held_is : (l : Option Attributes) (h : History) (id : ℤ) → HasId l id → waiting_on l h ≡ waiting id h
 held_is None h id lives = absurd lives
 held_is (Some a) h id lives = ap (λ i. waiting i h) lives
@@ -43,7 +43,7 @@ held_is (Some a) h id lives = ap (λ i. waiting i h) lives
 crowded_is : (l : Option Attributes) (a : Attributes) (ms : List Message) (size : ℕ) → ¬ MatchOption l ⊥ (λ (b : Attributes). FitsOn b.qbytes ms size) → l ≡ Some a → ¬ FitsOn a.qbytes ms size
 crowded_is l a ms size crowded is = subst (λ (o : Option Attributes). ¬ MatchOption o ⊥ (λ (b : Attributes). FitsOn b.qbytes ms size)) is crowded
 
--- what such a refusal says
+-- What such a refusal states.
 nothing_to_take : (h : History) (id : ℤ) (cred : Cred) (selector : Selector) (size : ℕ) (noerror : Bool) (now count : ℕ) → IsLegalReply h (Take id cred selector size noerror now) (NoMatch count) → HasNothingToTake h id cred selector
 nothing_to_take h id cred selector size noerror now count l = record {
   lives = l.0;
@@ -61,7 +61,7 @@ no_room h id cred size count l = record {
 -- ---- the refusal is right still
 
 module _ (w : World) (legal : AreLegal w.generation w.blocks w.turns) (who : Who) (slot : ℕ) (call : Call) (reply : Reply) (front later : List Deed) (m : Made who w.turns front (AtSlot slot call reply) later) where
-  -- the history of the slot up to that turn, and from it on
+  -- The history of the slot before that turn, and from that turn on.
   abbrev earlier : History
   earlier = slot_history slot m.before
 
@@ -145,7 +145,7 @@ a_send turns cred id mtype text s is n =
 
 -- ---- every wait
 
--- where it waits for blocks
+-- The same for a wait for blocks.
 abbrev IsShortOf : World → Wait → Type 0
 IsShortOf w (OnReleased goal s) = released (pool_history w.turns) < goal → HasTooFewBlocks w (length s.text) × IsToBeWoken w s.id s.cred
 IsShortOf w wait = Unit {0}

@@ -24,7 +24,7 @@ use Rattle.sysv_core.specs.World.{preset_who, preset_cred, preset_flags, preset_
 use Rattle.sysv_core.specs.Preset.{PresetMade}
 use Rattle.sysv_core.proofs.Histories.{turn_of}
 
--- a begin that made no identifier told that it did not
+-- A begin whose reply is an identifier made that identifier.
 made_of : (b : Begun) (id : ℤ) → begun_reply b ≡ Made id → b ≡ begun.Made id
 made_of (begun.Made made) id e = let same : made ≡ id = cc in ap begun.Made same
 made_of (begun.Found made told) id e = absurd cc
@@ -40,7 +40,7 @@ same_id a b e = cc
 same_change : (a b : Bool) → Changed a ≡ Changed b → a ≡ b
 same_change a b e = cc
 
--- a queue can be installed where none lives
+-- A queue can be installed in a slot without a live queue.
 is_installed : (o : Option Attributes) (b : Bool) → o ≡ None → (b ≡ false → IsSome o) → b ≡ true
 is_installed o true none taken = refl
 is_installed None false none taken = absurd (let bad = taken refl in cc)

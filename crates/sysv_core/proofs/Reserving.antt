@@ -1,6 +1,6 @@
--- A send that waits for blocks below its goal waits while too few are free. It read the released count before
--- it was refused, so as long as the count is not above what it read, nothing came back since the refusal, and
--- what was reserved since only took blocks.
+-- A send that waits for blocks below its goal waits while too few are free. It read the released
+-- count before it was refused. So as long as the count is not above that value, no chain came back
+-- since the refusal, and reservations since then only took blocks.
 use Rattle.std.proofs.Common.{◌≡◌, ◌⊎◌, inl, inr, ℕ, zero, suc, ◌+◌, ◌<◌, ◌≤◌, Bool, true, false, cond, List, [], ◌∷◌, ◌++◌, Option, None, Some, refl, sym, subst, arith, length, slice_get, slice_set}
 use Rattle.std.proofs.lemmas.List.{append-nil}
 use Rattle.std.specs.Prelude.{ℤ}
@@ -27,7 +27,7 @@ use Rattle.sysv_core.proofs.Sounding.{moved, other, does, none_busy}
 
 -- ---- what a call keeps
 
--- a send read this count at its start or at the end of a wait for blocks
+-- The released count that a send read at its start or at the end of a wait for blocks.
 abbrev pub read_by_wait : Wait → ℕ
 read_by_wait (OnFreed goal send) = send.released
 read_by_wait (OnReleased goal send) = send.released
@@ -41,8 +41,8 @@ read_by (Goes (AtSendGiveback blocks (WaitsOn wait))) = read_by_wait wait
 read_by (Waits wait) = read_by_wait wait
 read_by state = 0
 
--- a chain came back since the send read the count, or too few blocks are free; no send gives a chain back
--- and then waits for blocks
+-- A chain came back since the send read the count, or too few blocks are free. No send releases a
+-- chain and then waits for blocks.
 abbrev pub IsShort : ℕ → PoolHistory → State → Type 0
 IsShort size h (Waits (OnReleased goal send)) = (goal ≡ send.released + 1) × ((send.released < released h) ⊎ (free_after size h < blocks_for (length send.text)))
 IsShort size h (Goes (AtSendGiveback blocks (WaitsOn (OnReleased goal send)))) = ⊥
@@ -54,7 +54,7 @@ pub record IsRight (size : ℕ) (h : PoolHistory) (state : State) : Type 0 where
 
 -- ---- one more turn at the pool
 
--- it counts at the pool, or it frees nothing
+-- A turn counts at the pool, or it frees nothing.
 counts_or_not : (call : PoolCall) (reply : PoolReply) → (one (frees reply) ≡ 1) ⊎ (returned_by call reply ≡ 0)
 counts_or_not call Released = inl refl
 counts_or_not (Reserve size) reply = inr refl
@@ -89,7 +89,8 @@ right_more size h e state r = record { read = omega (arith, r.read, released_mor
 some_is : {X : Type 0} {x y : X} → Some x ≡ Some y → y ≡ x
 some_is e = cc
 
--- a send reserves after a look, and waits for blocks after a reserve; no turn leads to a set or to a removal
+-- A send reserves after a look, and waits for blocks after a reserve. No turn leads to a set or to
+-- a removal.
 abbrev pub Comes : Phase → State → Type 0
 Comes phase (Goes (AtReserve send)) = (before : Sending) × (phase ≡ AtLook before) × (send ≡ record before { seen = true })
 Comes phase (Waits (OnReleased goal send)) = phase ≡ AtReserve send
@@ -97,7 +98,7 @@ Comes phase (Goes (AtSet cred id to)) = ⊥
 Comes phase (Goes (AtRemove cred id)) = ⊥
 Comes phase state = Unit {0}
 
--- what the turn leads to, by what the call had read
+-- What the turn leads to, by the released count that the call had read.
 pub record Follows (size : ℕ) (h : PoolHistory) (phase : Phase) (state : State) : Type 0 where
   pub read : read_by state ≤ read_by (Goes phase)
   pub short : IsShort size h state
@@ -107,7 +108,7 @@ abbrev pub FollowsIn : ℕ → PoolHistory → Phase → Option State → Type 0
 FollowsIn size h phase None = Unit {0}
 FollowsIn size h phase (Some state) = Follows size h phase state
 
--- a call that is refused, or waits for something else than blocks
+-- A call that is refused, or waits for something other than blocks.
 full_waits : (size : ℕ) (h : PoolHistory) (send : Sending) (freed : ℕ) (nowait : Bool) (why : Errno) (same : Sending) → same.released ≡ send.released → Follows size h (AtLook send) (goes_on (waits_or nowait (OnFreed freed same) why))
 full_waits size h send freed true why same is = record { read = omega arith; short = tt; comes = tt }
 full_waits size h send freed false why same is = record { read = omega (arith, is); short = tt; comes = tt }
@@ -162,7 +163,7 @@ look_follows size h send (Full freed) = full_waits size h send (freed + 1) send.
 look_follows size h send Fits = record { read = omega arith; short = tt; comes = (send, refl, refl) }
 look_follows size h send reply = tt
 
--- a turn that told a send of too few blocks was legal
+-- If the turn reported too few blocks to a send, too few were free.
 abbrev pub ToldTooFew : ℕ → PoolHistory → Phase → Deed → Type 0
 ToldTooFew size h (AtReserve send) (AtPool call TooFew) = free_after size h < blocks_for (length send.text)
 ToldTooFew size h phase deed = Unit {0}
@@ -239,7 +240,7 @@ followed size h (AtForget id blocks) (AtRegistry call reply) s few = forget_foll
 followed size h (AtRemoveGiveback blocks) (AtPool call reply) s few = giveback_follows size h (AtRemoveGiveback blocks) _ reply (plain size h _ _ refl tt tt)
 followed size h phase deed s few = tt
 
--- a legal turn of the call
+-- The same of a legal turn of the call.
 was_told : (blocks : ℕ) (h : PoolHistory) (send : Sending) (call : PoolCall) → OfPool call ≡ OfPool (Reserve (length send.text)) → IsLegalReply blocks h call TooFew → free_after blocks h < blocks_for (length send.text)
 was_told blocks h send call asked legal =
     let is : call ≡ Reserve (length send.text) = cc in
@@ -254,7 +255,7 @@ told_too_few generation blocks turns phase now deed asked legal = tt
 abbrev pub AreRight : ℕ → List Turn → List (Option Doing) → Type 0
 AreRight blocks turns actors = (place : ℕ) (d : Doing) → slice_get actors place ≡ Some (Some d) → IsRight blocks (pool_history turns) d.state
 
--- after one more turn, whoever made it
+-- The same after one more turn of any caller.
 still_right : (blocks : ℕ) (turns : List Turn) (who : Who) (deed : Deed) (state : State) → IsRight blocks (pool_history turns) state → IsRight blocks (pool_history (turns ++ turn_of who deed ∷ [])) state
 still_right blocks turns who deed state r = subst (λ h. IsRight blocks h state) (sym (pool_more turns (turn_of who deed))) (by_deed deed)
   where
@@ -276,7 +277,7 @@ module _ (w : World) (all : AreRight w.blocks w.turns w.actors) (place : ℕ) (c
     | other old ↦ still_right w.blocks w.turns call.who deed d.state (all at d old)
   ]
 
-  -- a call that goes on without a turn, or that starts
+  -- A call that continues without a turn, or that starts.
   stand_right : (was : Option Doing) (state : State) → slice_get w.actors place ≡ Some was → IsRight w.blocks (pool_history w.turns) state → AreRight w.blocks w.turns (slice_set w.actors place (doing_in call state))
   stand_right was state there right = λ at d here. elim (does w.actors place was call state at d there here) [
     | moved same c s ↦ subst (IsRight w.blocks (pool_history w.turns)) (sym s) right
@@ -327,7 +328,7 @@ starts_right w after given place cred asked (Some None) all there t =
     let call = starting w (suc place) cred asked in
     subst AllRight (sym t.1) (stand_right w all place call None (begun call) there (begun_right w.blocks (pool_history w.turns) cred asked (is_refused asked)))
 
--- a preset makes no turn at the pool
+-- A preset makes no turn at the pool.
 preset_right : (w after : World) (made : Bool) → AllRight w → Presets w made after → AllRight after
 preset_right w after made all (inr p) = same_right w after p.2 all
 preset_right w after made all (inl p) =
@@ -353,7 +354,7 @@ leads_right w after (x ∷ xs) given all l = leads_right l.0 after xs l.2 (makes
 
 -- ---- who waits for blocks
 
--- each send that waits for blocks below its goal
+-- Each send that waits for blocks below its goal has too few of them.
 abbrev pub AreShort : World → Type 0
 AreShort w = (place : ℕ) (d : Doing) (goal : ℕ) (send : Sending) → slice_get w.actors place ≡ Some (Some d) → d.state ≡ Waits (OnReleased goal send) → released (pool_history w.turns) < goal → free_after w.blocks (pool_history w.turns) < blocks_for (length send.text)
 

@@ -1,4 +1,4 @@
--- A list that leads somewhere goes on by one more happening.
+-- A list that leads to a world is extended by one more happening.
 use Rattle.std.proofs.Common.{◌≡◌, ◌≤◌, ◌⊎◌, inl, ℕ, ◌+◌, cond, zero-add, Bool, List, [], ◌∷◌, ◌++◌, refl, sym, ap, subst, ◌∙◌, append_assoc, map}
 use Rattle.std.proofs.lemmas.List.{append-nil, map-append}
 use Rattle.std.proofs.lemmas.List.Sums.{sum_by-append}
@@ -45,7 +45,7 @@ stands_step old new event result goes = λ o es given s.
       },
     )
 
--- an event that finds the world worn
+-- An event that finds the world worn out.
 worn_makes : (w : World) (event : Event) → WORN ≤ w.steps → Makes w (happening_of event) [] w
 worn_makes w (Start actor cred call) worn = inl (worn, (refl, refl))
 worn_makes w (Step actor now) worn = inl (worn, (refl, refl))
@@ -55,13 +55,13 @@ worn_step seen event worn = λ w s.
     let old : WORN ≤ w.steps = subst (λ n. WORN ≤ n) (sym s.steps) worn in
     (w, ([], worn_makes w event old, (old, refl)), s)
 
--- the messages that one more answer gives
+-- The messages that one more answer returns.
 pub messages_more : (answers : List Answer) (a : Answer) → messages_in (answers ++ a ∷ []) ≡ messages_in answers + messages_given (stepped.Answer a)
 messages_more answers a =
     let one : Answer → ℕ = λ x. cond (is_got x.result) 1 0 in
     sum_by-append one answers (a ∷ []) ∙ ap (λ n. messages_in answers + n) (zero-add _)
 
--- from one list that a world stood for to that list and the events done since, with their answers
+-- From one list for which a world stood to that list and the events since then, with their answers.
 pub record UnderWay (start now : Seen) (done : List Event) (answers : List Answer) : Type 0 where
   pub goes : (o : Opening) (es : List Happening) (given : List Given) → StandsFor o es given start →
       (more : List Given) × TellAll more answers × StandsFor o (es ++ map happening_of done) (given ++ more) now
@@ -81,7 +81,7 @@ one_told [] (b ∷ answers) g a all one = absurd all
 one_told (h ∷ given) [] g a all one = absurd all
 one_told (h ∷ given) (b ∷ answers) g a all one = (all.0, one_told given answers g a all.1 one)
 
--- what an event gave, as answers
+-- The result of an event, as answers.
 abbrev pub answers_in : Stepped → List Answer
 answers_in (stepped.Answer answer) = answer ∷ []
 answers_in stepped.Nothing = []
@@ -114,6 +114,6 @@ runs_on start new events done left answers u split worn o es given s =
     let g = u.goes o es given s in
     record { done = done; left = left; more = g.0; split = split; worn = worn; told = g.1; stands = g.2 }
 
--- each world of a list obeys the laws
+-- The world of each list obeys the laws.
 pub laws_hold : EveryRunObeys → (seen : Seen) → LawsHold seen
 laws_hold obeys seen = λ o list given s. obeys o list given s.world s.led

@@ -1,4 +1,4 @@
--- One happening in a world of the definitions, told from what the world of the code is seen as.
+-- One happening in a world of the definitions, from what the world of the code is seen as.
 use Rattle.std.proofs.Common.{◌≡◌, ℕ, zero, suc, ◌+◌, ◌<◌, ◌⊎◌, inl, inr, Bool, false, List, [], ◌∷◌, ◌++◌, Option, None, Some, refl, sym, ap, subst, ◌∙◌, arith, add-zero, length, map, slice_get, slice_set, option_map}
 use Rattle.std.proofs.lemmas.List.{length-map}
 use Rattle.std.proofs.lemmas.Option.{slice_get-map, slice_get_past}
@@ -65,7 +65,7 @@ state_led call b (Goes phase) (led.Over ended) h = absurd h
 state_led call b (Waits wait) (led.Over ended) h = absurd h
 state_led call b state (led.Stays doing) h = absurd h
 
--- what was led to is told
+-- The result of a start or a step is reported.
 tells_led : (w : World) (call : Started) (actor : ℕ) (state : State) (l : Led) → w.steps < WORN → IsToCaller call.who actor → LeadsTo (gives_back (Some (kind_of call.asked))) state l →
     Gives w (given_in call state) (told_by actor l)
 tells_led w call actor (Goes phase) (led.To doing) young own h = (young, refl)
@@ -87,14 +87,14 @@ counts_led b state (led.To doing) n h = refl
 counts_led b state (led.Over ended) n h = refl
 counts_led b state (led.Stays doing) n h = absurd h
 
--- some world after the event is seen so
+-- Some world after the event is what the world of the code is seen as.
 abbrev pub Moves : World → Event → Stepped → Seen → Type 0
 Moves w event result new = (after : World) × Steps w event result after × IsSeenAs after new
 
 pub moves_as : (w : World) (event : Event) (r told : Stepped) (new kept : Seen) → told ≡ r → kept ≡ new → Moves w event r new → Moves w event told kept
 moves_as w event r told new kept e f m = subst (λ x. Moves w event x kept) (sym e) (subst (Moves w event r) (sym f) m)
 
--- no world of the definitions has the tally
+-- No world of the definitions depends on the tally.
 pub tallied : (w : World) (event : Event) (r : Stepped) (new : Seen) (t : Tallied) → Moves w event r new → Moves w event r (record new { tally = t })
 tallied w event r new t m =
     let s = m.2 in
@@ -118,7 +118,7 @@ module _ (w : World) (seen : Seen) (s : IsSeenAs w seen) (sound : StaysSound) wh
   absent (suc place) (inl e) = absurd (omega arith)
   absent (suc place) (inr e) = slice_get_past w.actors place (omega (arith, as_many))
 
-  -- the actor after the one at that place
+  -- The actor of a place: its number is one more than the place.
   at : (actor place : ℕ) → actor ≡ place + 1 → actor_at w.actors actor ≡ slice_get w.actors place
   at zero place e = absurd (omega arith)
   at (suc n) place e = let same : n ≡ place = omega arith in ap (slice_get w.actors) same
@@ -185,7 +185,7 @@ module _ (w : World) (seen : Seen) (s : IsSeenAs w seen) (sound : StaysSound) wh
 
   -- ---- a step of a call
 
-  -- the world goes on as the call does
+  -- The world continues as the call does.
   goes : (n place now : ℕ) (l : Led) (objects : Objects) (d : Doing) (turns : List Turn) (state : State) → w.steps < WORN → n ≡ place → slice_get w.actors n ≡ Some (Some d) → IsToCaller d.call.who (suc n) →
       ObjectsStandFor w.generation turns objects → objects.pool.size ≡ seen.objects.pool.size → LeadsTo (gives_back (Some (kind_of d.call.asked))) state l →
       let after : World = in_state (record w { turns = turns }) (suc n) d.call state in
@@ -217,7 +217,7 @@ module _ (w : World) (seen : Seen) (s : IsSeenAs w seen) (sound : StaysSound) wh
       goes n place now l objects d turns turn.state young same busy own.1 (turn.turn.stands w.generation w.turns d.call.who s.objects) turn.turn.size to
       (subst (λ st. Continues w (suc n) now d.call st (given_in d.call turn.state) after) (sym is) (turn.deed, turn.state, turn.asked, legal, turn.goes, refl, refl))
 
-  -- the actor waits on
+  -- The actor still waits.
   stays_here : (n place now : ℕ) (wait : Wait) (l : Led) (d : Doing) → w.steps < WORN → slice_get w.actors n ≡ Some (Some d) → d.state ≡ Waits wait → slice_get seen.states place ≡ Some (Some (Waits wait)) →
       Continues w (suc n) now d.call d.state [] w → Stays (Waits wait) l →
       Moves w (Step (suc n) now) (told_by (suc n) l) (record { objects = seen.objects; states = slice_set seen.states place (kept_led l); steps = seen.steps + counted_led l; tally = seen.tally })

@@ -1,4 +1,4 @@
--- An identifier was installed before it is settled.
+-- An identifier is installed before it is settled.
 use Rattle.std.proofs.Common.{◌≡◌, ◌⊎◌, inl, inr, ℕ, zero, suc, ℤ, pos, ◌||◌, Bool, true, false, cond, List, [], ◌∷◌, ◌++◌, Option, None, Some, refl, sym, ap, subst, ◌∙◌, slice_get, slice_set}
 use Rattle.std.specs.List.{list_any}
 use Rattle.std.specs.Ordering.{int_eq}
@@ -31,7 +31,7 @@ use Rattle.sysv_core.proofs.Tending.{BeforeSettle, install_goes, one_of, or_left
 
 -- ---- what leads to a settle
 
--- it is not before a settle
+-- The state is not before a settle.
 abbrev pub Elsewhere : Option State → Type 0
 Elsewhere (Some (Goes (AtSettle at))) = ⊥
 Elsewhere state = Unit {0}
@@ -81,11 +81,11 @@ settle_follows phase deed state id n p = absurd p
 abbrev pub was_installed : ℤ → List Turn → Bool
 was_installed id turns = list_any (λ (e : Entry). installs id e.call e.reply) (slot_history (slot_of_id id) turns)
 
--- at whatever turn an identifier is settled, it was installed by then
+-- After each part of the turns, each identifier that was settled was installed.
 abbrev pub SettledOnceInstalled : List Turn → Type 0
 SettledOnceInstalled turns = (id : ℤ) (front back : List Turn) → turns ≡ front ++ back → is_settled id (registry_history front) ≡ true → was_installed id front ≡ true
 
--- and who is to settle one has installed it
+-- An identifier that a call is to settle was installed.
 abbrev Ready : List Turn → List (Option Doing) → Type 0
 Ready turns actors = (id : ℤ) (place : ℕ) (d : Doing) → slice_get actors place ≡ Some (Some d) → BeforeSettle id d.state → was_installed id turns ≡ true
 
@@ -113,7 +113,7 @@ was_more id turns t e =
     ∙ (list_any-append (λ (x : Entry). installs id x.call x.reply) (slot_history (slot_of_id id) turns) (slot_entry (slot_of_id id) t.who t.deed)
     ∙ or_left (was_installed id turns) (list_any (λ (x : Entry). installs id x.call x.reply) (slot_entry (slot_of_id id) t.who t.deed)) e)
 
--- a turn at the slot that installs it
+-- A turn at the slot that installs the identifier.
 pub was_now : (id : ℤ) (slot : ℕ) (turns : List Turn) (who : Who) (c : Call) (reply : Reply) → slot ≡ slot_of_id id → installs id c reply ≡ true → was_installed id (turns ++ turn_of who (AtSlot slot c reply) ∷ []) ≡ true
 was_now id slot turns who c reply here is =
     let e : Entry = record { who = who; call = c; reply = reply } in
@@ -128,7 +128,7 @@ settled_source id turns t e =
     one_of (is_settled id (registry_history turns)) (is_settled id (registry_entry t.who t.deed))
     (sym (list_any-append (λ (x : RegistryEntry). settles id x.call x.reply) (registry_history turns) (registry_entry t.who t.deed)) ∙ (ap (is_settled id) (sym (registry_more turns t)) ∙ e))
 
--- one more turn
+-- One more turn.
 one_turn : (turns : List Turn) (t : Turn) → SettledOnceInstalled turns → ((id : ℤ) → is_settled id (registry_entry t.who t.deed) ≡ true → was_installed id turns ≡ true) → SettledOnceInstalled (turns ++ t ∷ [])
 one_turn turns t all new = λ id front back whole s. elim (prefix_more turns t front back whole) [
   | inr r ↦ all id front r.0 r.1 s

@@ -1,4 +1,4 @@
--- Each event, preset and list leads somewhere.
+-- Each event, preset and list leads to some world.
 use Rattle.std.proofs.Common.{◌≡◌, ℕ, zero, suc, ℤ, ◌<◌, ◌≤◌, inl, inr, true, false, List, [], ◌∷◌, ◌++◌, Option, None, Some, refl, sym, subst, length, slice_get}
 use Rattle.sysv_model.specs.declared.cred.Cred.{Cred}
 use Rattle.sysv_model.specs.declared.attributes.SetTo.{SetTo}

@@ -1,4 +1,4 @@
--- Whatever happens in a sound world leaves a sound world.
+-- Each happening in a sound world leaves a sound world.
 use Rattle.std.proofs.Common.{◌≡◌, ◌⊎◌, inl, inr, ℕ, zero, suc, ℤ, pos, ◌||◌, ◌&&◌, Bool, true, false, cond, ◌+◌, List, [], ◌∷◌, ◌++◌, Option, None, Some, refl, sym, ap, subst, ◌∙◌, slice_get, slice_set, replicate}
 use Rattle.std.proofs.Math.Dec.{eqb}
 use Rattle.std.proofs.lemmas.Bool.Decides.{Decides-int_eq}
@@ -56,7 +56,7 @@ still_made turns t slot m = record { id = m.id; key = m.key; made = made_more m.
 same_int : (a : ℤ) → int_eq a a ≡ true
 same_int a = (Decides-int_eq a a).1 refl
 
--- a begin that makes an identifier
+-- A begin that makes an identifier.
 pub made_it : (turns : List Turn) (who : Who) (key : ℤ) (flags : Flags) (id : ℤ) → is_made id key (registry_history (turns ++ turn_of who (AtRegistry (Begin key flags) (Made id)) ∷ [])) ≡ true
 made_it turns who key flags id =
     ap (is_made id key) (registry_more turns (turn_of who (AtRegistry (Begin key flags) (Made id))))
@@ -71,7 +71,7 @@ made_now turns who key flags id = record { id = id; key = key; made = made_it tu
 pub data IsInstall (call : Call) : Type 0 where
   installs : (id key : ℤ) (cred : Cred) (mode now : ℕ) → call ≡ Install id key cred mode now → IsInstall call
 
--- a queue that lives was installed in this turn, or lived before it
+-- A live queue was installed in this turn, or a queue was live before it.
 lived_before : (l : Option Attributes) (call : Call) (reply : Reply) (a : Attributes) → live_after l call reply ≡ Some a → IsInstall call ⊎ ((b : Attributes) × (l ≡ Some b))
 lived_before (Some b) call reply a e = inr (b, refl)
 lived_before None (Install id key cred mode now) reply a e = inl (installs id key cred mode now refl)
@@ -81,7 +81,7 @@ lived_before None (Set id cred to now) Done a e = absurd cc
 lived_before None (Remove id cred) (Discarded messages) a e = absurd cc
 lived_before None call reply a e = absurd cc
 
--- the same after a turn, which may be at another object
+-- The same after a turn, which may be at another object.
 pub data Lived (turns : List Turn) (slot : ℕ) (deed : Deed) : Type 0 where
   before : (a : Attributes) → live (slot_history slot turns) ≡ Some a → Lived turns slot deed
   installed : (call : Call) (reply : Reply) → deed ≡ AtSlot slot call reply → IsInstall call → Lived turns slot deed
@@ -107,7 +107,7 @@ lived turns who (AtRegistry call reply) slot a e =
 lived turns who (AtPool call reply) slot a e =
     before a (ap live (sym (slot_more slot turns (turn_of who (AtPool call reply)) ∙ append-nil (slot_history slot turns))) ∙ e)
 
--- the step that asks for an install
+-- The step that requests an install.
 installs_there : (phase : Phase) (now slot : ℕ) (id key : ℤ) (cred : Cred) (mode moment : ℕ) → OfSlot slot (Install id key cred mode moment) ≡ asks phase now →
     (get : Getting) × (made : ℤ) × (phase ≡ AtInstall get made) × (slot ≡ slot_of_id made)
 installs_there (AtInstall get made) now slot id key cred mode moment e = (get, made, refl, cc)
@@ -138,7 +138,7 @@ is_in call (Goes phase) d e = (cc, cc)
 is_in call (Waits wait) d e = (cc, cc)
 is_in call (Over ending) d e = absurd cc
 
--- what an actor does once one of them does something else
+-- What an actor does after one of them does something else.
 pub data Does (actors : List (Option Doing)) (place : ℕ) (call : Started) (state : State) (at : ℕ) (d : Doing) : Type 0 where
   moved : place ≡ at → d.call ≡ call → d.state ≡ state → Does actors place call state at d
   other : slice_get actors at ≡ Some (Some d) → Does actors place call state at d
@@ -170,7 +170,7 @@ not_install kind state get id l e = let bad : IsLater kind (Goes (AtInstall get 
 abbrev pub AreInstalled : List Turn → List (Option Doing) → Type 0
 AreInstalled turns actors = (place : ℕ) (d : Doing) (get : Getting) (id : ℤ) → slice_get actors place ≡ Some (Some d) → d.state ≡ Goes (AtInstall get id) → IsMadeIn turns (slot_of_id id)
 
--- an actor whose call does not stand before an install
+-- An actor whose call is not before an install.
 pub later_installs : (turns more : List Turn) (actors : List (Option Doing)) (place : ℕ) (was : Option Doing) (call : Started) (state : State) (kind : Kind) → slice_get actors place ≡ Some was →
     ((slot : ℕ) → IsMadeIn turns slot → IsMadeIn more slot) → AreInstalled turns actors → IsLater kind state → AreInstalled more (slice_set actors place (doing_in call state))
 later_installs turns more actors place was call state kind there still all l = λ at d get id here e. elim (does actors place was call state at d there here) [
@@ -186,7 +186,7 @@ module _ (more : (generation blocks : ℕ) (turns : List Turn) (who : Who) (deed
   stays_sound w after e s = subst IsSound (sym e) s
 
   module _ (w : World) (s : IsSound w) (place : ℕ) (call : Started) where
-    -- after a turn of the call
+    -- The world after a turn of the call.
     pub turn_sound : (phase : Phase) (now : ℕ) (deed : Deed) (state : State) → slice_get w.actors place ≡ Some (Some record { call = call; state = Goes phase }) → asked_by deed ≡ asks phase now →
         IsLegalDeed w.generation w.blocks w.turns deed → next phase deed ≡ Some state →
         IsSound (record w { turns = w.turns ++ turn_of call.who deed ∷ []; actors = slice_set w.actors place (doing_in call state); steps = w.steps + 1 })
@@ -220,7 +220,7 @@ module _ (more : (generation blocks : ℕ) (turns : List Turn) (who : Who) (deed
           ];
         }
 
-    -- once the call goes on without a turn
+    -- The world after the call continues without a turn.
     pub look_sound : (d : Doing) (state : State) → d.call ≡ call → slice_get w.actors place ≡ Some (Some d) → IsLater (kind_of call.asked) state → held state ≡ held d.state → IsSound (record w { actors = slice_set w.actors place (doing_in call state); steps = w.steps + 1 })
     look_sound d state is there l held_same = record {
       legal = s.legal;
@@ -267,7 +267,7 @@ module _ (more : (generation blocks : ℕ) (turns : List Turn) (who : Who) (deed
 -- ---- the preset
 
 module _ (more : (generation blocks : ℕ) (turns : List Turn) (who : Who) (deed : Deed) → AreLegal generation blocks turns → IsLegalDeed generation blocks turns deed → AreLegal generation blocks (turns ++ turn_of who deed ∷ [])) (unused : UnusedSlots) where
-  -- no queue lives in an unused slot
+  -- No queue is live in an unused slot.
   pub vacant_there : (w : World) → IsSound w → IsUnused w.generation (registry_history w.turns) 0 → live (slot_history 0 w.turns) ≡ None
   vacant_there w s u = none_lives (live (slot_history 0 w.turns)) refl
     where
@@ -275,7 +275,7 @@ module _ (more : (generation blocks : ℕ) (turns : List Turn) (who : Who) (deed
       none_lives None e = e
       none_lives (Some a) e = let m = s.lives 0 a e in absurd (unused.never w.generation 0 (registry_history w.turns) u m.id m.key m.made m.here)
 
-  -- the three turns are legal
+  -- The three turns are legal.
   pub preset_legal : (generation blocks : ℕ) (turns : List Turn) → AreLegal generation blocks turns → IsUnused generation (registry_history turns) 0 → live (slot_history 0 turns) ≡ None →
       (AreLegal generation blocks (with_preset_turns turns))
   preset_legal generation blocks turns legal u vacant =

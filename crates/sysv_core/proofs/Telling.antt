@@ -1,4 +1,4 @@
--- What the sends and receives of a queue are told after its removal.
+-- What the sends and receives of a queue report after its removal.
 use Rattle.std.proofs.Common.{◌≡◌, inl, inr, ℕ, zero, suc, ℤ, ◌||◌, Bool, true, false, cond, List, [], ◌∷◌, ◌++◌, refl, sym, ap, subst, ◌∙◌, arith, map, append_assoc, length}
 use Rattle.std.specs.List.{All, Contains, filter, list_any}
 use Rattle.std.specs.Ordering.{int_eq}
@@ -31,7 +31,7 @@ use Rattle.sysv_core.proofs.Along.{made_at, slot_around}
 
 -- ---- lists
 
--- where an element stands
+-- The place of an element in a list.
 pub contained_at : {X : Type 0} (xs : List X) (x : X) → Contains xs x → (front : List X) × (back : List X) × (xs ≡ front ++ x ∷ back)
 contained_at [] x (k, low, is) = absurd (omega (arith, low))
 contained_at (y ∷ xs) x (zero, low, is) = ([], xs, ap (λ z. z ∷ xs) is)
@@ -39,7 +39,7 @@ contained_at (y ∷ xs) x (suc k, low, is) =
     let r = contained_at xs x (k, omega (arith, low), is) in
     (y ∷ r.0, r.1, ap (λ zs. y ∷ zs) r.2)
 
--- the first deed that passes a test
+-- The first deed that passes a test.
 record First (p : Deed → Bool) (deeds : List Deed) : Type 0 where
   front : List Deed
   deed : Deed
@@ -77,7 +77,7 @@ deeds_both who xs ys =
 abbrev from_turn : Who → Bool → Turn → List Turn → List Deed
 from_turn who b t ts = map (λ (x : Turn). x.deed) (cond b (t ∷ filter (λ (x : Turn). is_same who x.who) ts) (filter (λ (x : Turn). is_same who x.who) ts))
 
--- no send and no receive asks for a removal
+-- No send and no receive requests a removal.
 not_removal : (id at : ℤ) (slot : ℕ) (cred by : Cred) (asked : SystemCall) → IsOfQueue id asked → AsksFor cred asked (OfSlot slot (Remove at by)) → ⊥
 not_removal id at slot cred by (Msgsnd i mtype flags text) q (inl e) = cc
 not_removal id at slot cred by (Msgsnd i mtype flags text) q (inr (inl e)) = cc
@@ -90,7 +90,8 @@ not_removal id at slot cred by (MsgctlStat i) q e = q
 not_removal id at slot cred by (MsgctlSet i to) q e = q
 not_removal id at slot cred by (MsgctlRmid i) q e = q
 
--- what such a call asks of a slot names the identifier, and its reply where that is not live is Gone
+-- What such a call requests of a slot has the identifier, and the reply is Gone if that is not
+-- live.
 record IsAbout (id : ℤ) (slot : ℕ) (call : Call) : Type 0 where
   there : slot ≡ slot_of_id id
   names : NamesId id call
@@ -148,7 +149,7 @@ module _ (w : World) (given : List Given) (call : Started) (fate : Fate w given 
   parted : deeds_of call.who w.turns ≡ earlier ++ from_turn call.who (is_same call.who t.who) t after
   parted = ap (deeds_of call.who) whole ∙ deeds_both call.who before (t ∷ after)
 
-  -- the removal is another call's
+  -- The removal belongs to another call.
   another : (b : Bool) → is_same call.who t.who ≡ b → is_same call.who t.who ≡ false
   another false e = e
   another true e =
@@ -162,7 +163,7 @@ module _ (w : World) (given : List Given) (call : Started) (fate : Fate w given 
   same_int : int_eq id id ≡ true
   same_int = (Decides-int_eq id id).1 refl
 
-  -- the history of the slot around the removal
+  -- The history of the slot around the removal.
   abbrev slot : ℕ
   slot = slot_of_id id
 
@@ -177,7 +178,7 @@ module _ (w : World) (given : List Given) (call : Started) (fate : Fate w given 
   told_gone : (e : Entry) → Contains (slot_history slot after) e → NamesId id e.call → e.reply ≡ not_live_reply e.call
   told_gone e has = All-contains (λ (x : Entry). NamesId id x.call → x.reply ≡ not_live_reply x.call) (slot_history slot after) e (good.gone slot id (slot_history slot before) (slot_history slot after) entry history same_int).told has
 
-  -- a turn of the call at the slot since then
+  -- A turn of the call at the slot since then.
   finds_gone : (deed : Deed) → Contains since deed → is_at_slot deed ≡ true → found_gone deed ≡ true
   finds_gone (AtSlot at c reply) has e =
       let a = is_about id at c call.cred call.asked q (asked_for (AtSlot at c reply) (subst (λ (ds : List Deed). Contains ds (AtSlot at c reply)) (sym deeds_are) (Contains-append_right earlier since (AtSlot at c reply) has))) in
@@ -191,7 +192,7 @@ module _ (w : World) (given : List Given) (call : Started) (fate : Fate w given 
   finds_gone (AtRegistry c reply) has e = absurd cc
   finds_gone (AtPool c reply) has e = absurd cc
 
-  -- the first of them decides the answer
+  -- The first of these turns decides the result.
   module _ (come : some is_at_slot since) where
     came : First is_at_slot since
     came = first_of is_at_slot since come

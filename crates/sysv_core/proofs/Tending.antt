@@ -1,4 +1,5 @@
--- Each row that was made and not forgotten has a live queue and is settled, or an actor tends it.
+-- Each row that was made and not forgotten has a live queue and is settled, or an actor's call
+-- deals with it.
 use Rattle.std.proofs.Common.{◌≡◌, ◌⊎◌, inl, inr, ℕ, zero, suc, ℤ, pos, ◌||◌, ◌&&◌, Bool, true, false, cond, List, [], ◌∷◌, ◌++◌, Option, None, Some, refl, sym, ap, subst, ◌∙◌, slice_get, slice_set, option_map}
 use Rattle.std.specs.List.{list_any}
 use Rattle.std.specs.Ordering.{int_eq}
@@ -40,14 +41,14 @@ use Rattle.sysv_core.proofs.Along.{slot_around, registry_around}
 
 -- ---- actors
 
--- some actor's call stands so
+-- Some actor's call is in such a state.
 pub record SomeStands (P : State → Type 0) (actors : List (Option Doing)) : Type 0 where
   pub place : ℕ
   pub doing : Doing
   pub there : slice_get actors place ≡ Some (Some doing)
   pub stands : P doing.state
 
--- it is the one that moves, or it stands so still
+-- It is the call that moves, or it is still in that state.
 still_stands : (P : State → Type 0) (actors : List (Option Doing)) (place : ℕ) (was new : Option Doing) → slice_get actors place ≡ Some was → SomeStands P actors →
     ((d : Doing) × (was ≡ Some d) × P d.state) ⊎ SomeStands P (slice_set actors place new)
 still_stands P actors place was new there s = elim (same_place place s.place) [
@@ -60,7 +61,7 @@ still_stands P actors place was new there s = elim (same_place place s.place) [
     inner : (x y : Option Doing) → Some x ≡ Some y → x ≡ y
     inner x y e = cc
 
--- a call that goes to a step
+-- A call that comes to a step.
 stands_now : (P : State → Type 0) (actors : List (Option Doing)) (place : ℕ) (was : Option Doing) (call : Started) (phase : Phase) (state : State) → slice_get actors place ≡ Some was → state ≡ Goes phase → P (Goes phase) →
     SomeStands P (slice_set actors place (doing_in call state))
 stands_now P actors place was call phase state there is p =
@@ -68,7 +69,7 @@ stands_now P actors place was call phase state there is p =
 
 -- ---- what is known of an identifier
 
--- its install is still to come, or was refused
+-- The install of the identifier is still to come, or was refused.
 abbrev pub BeforeInstall : ℤ → State → Type 0
 BeforeInstall id (Goes (AtInstall get at)) = at ≡ id
 BeforeInstall id (Goes (AtUnmake at)) = at ≡ id
@@ -131,7 +132,7 @@ any_more p h e = list_any-append p h (e ∷ []) ∙ ap (λ b. list_any p h || b)
 
 -- ---- a turn at a slot
 
--- a legal turn keeps an identifier live, or removes it
+-- A legal turn keeps an identifier live, or removes its queue.
 keeps : (id : ℤ) (f : Attributes → Attributes) → ((a : Attributes) → (f a).id ≡ a.id) → (l : Option Attributes) → HasId l id → HasId (option_map f l) id
 keeps id f same None lives = absurd lives
 keeps id f same (Some a) lives = same a ∙ lives
@@ -154,11 +155,11 @@ lives_on s id call reply l lives = inl lives
 some_is : {X : Type 0} {x y : X} → Some x ≡ Some y → y ≡ x
 some_is e = cc
 
--- the call that moves stood at that step
+-- The call that moves was before that step.
 mine : (P : State → Type 0) (call : Started) (phase : Phase) → ((d : Doing) × (Some record { call = call; state = Goes phase } ≡ Some d) × P d.state) → P (Goes phase)
 mine P call phase (d, is, p) = let same : d.state ≡ Goes phase = ap (λ (x : Doing). x.state) (some_is is) in subst P same p
 
--- an install leads to a settle of the queue that lives now, or to giving the identifier up
+-- An install leads to a settle of the queue that is now live, or to giving the identifier up.
 pub record Installs (id : ℤ) (slot : ℕ) (c : Call) (reply : Reply) (state : State) : Type 0 where
   pub to : state ≡ Goes (AtSettle id)
   pub here : slot ≡ slot_of_id id
@@ -214,7 +215,7 @@ live_more h e = fold-append (λ (old : Option Attributes) (x : Entry). live_afte
 eqb_same : (a b : ℕ) → eqb a b ≡ true → a ≡ b
 eqb_same a b e = eqb-true a b e
 
--- a queue that lives is live still after a legal turn at some slot, or that turn removed it
+-- A live queue is still live after a legal turn at some slot, or that turn removed it.
 pub live_past : (turns : List Turn) (who : Who) (slot : ℕ) (c : Call) (reply : Reply) (id : ℤ) → Legal (slot_of (slot_history slot turns)) c reply → IsLive (slot_history (slot_of_id id) turns) id →
     IsLive (slot_history (slot_of_id id) (turns ++ turn_of who (AtSlot slot c reply) ∷ [])) id ⊎ IsRemovedBy id c reply
 live_past turns who slot c reply id legal lives =
@@ -319,13 +320,13 @@ settle_asks : (id : ℤ) (phase : Phase) (now : ℕ) (c : RegistryCall) → OfRe
 settle_asks id (AtSettle at) now c a p = let is : c ≡ Settle at = cc in is ∙ ap Settle p
 settle_asks id phase now c a p = absurd p
 
--- a legal forget of an identifier that is there forgets it
+-- A legal forget of an identifier that has a row forgets it.
 forgets_it : (h : RegistryHistory) (id key : ℤ) (reply : RegistryReply) → is_made id key h ≡ true → is_forgotten id h ≡ false → LegalForget h id reply → forgets id (Forget id) reply ≡ true
 forgets_it h id key (Changed true) made kept l = same_int id
 forgets_it h id key (Changed false) made kept l = absurd (l (record { id = id; key = key; live = is_settled id h }) (record { made = made; kept = kept; stage = refl }) refl)
 forgets_it h id key reply made kept l = absurd l
 
--- and a legal settle of it finds it settled, or settles it
+-- A legal settle of such an identifier finds it settled, or settles it.
 settles_it : (h : RegistryHistory) (id key : ℤ) (reply : RegistryReply) → is_made id key h ≡ true → is_forgotten id h ≡ false → LegalSettle h id reply → (is_settled id h ≡ true) ⊎ (settles id (Settle id) reply ≡ true)
 settles_it h id key (Changed true) made kept l = inr (same_int id)
 settles_it h id key (Changed false) made kept l = elim (either (is_settled id h)) [
@@ -357,7 +358,7 @@ module _ (generation : ℕ) (turns : List Turn) (actors : List (Option Doing)) (
   any_then : (p : RegistryEntry → Bool) → list_any p (registry_history then_turns) ≡ (list_any p (registry_history turns) || p told)
   any_then p = ap (list_any p) registry_is ∙ any_more p (registry_history turns) told
 
-  -- an identifier that was there, and is there still, is not one that the call forgets
+  -- An identifier that had a row, and still has it, is not one that the call forgets.
   not_forgotten : (id key : ℤ) → is_made id key (registry_history turns) ≡ true → is_forgotten id (registry_history turns) ≡ false → forgets id c reply ≡ false → c ≡ Forget id → ⊥
   not_forgotten id key made kept none is =
       let l : LegalForget (registry_history turns) id reply = subst (λ x. IsLegalRegistryReply generation (registry_history turns) x reply) is legal in
@@ -403,7 +404,7 @@ module _ (generation : ℕ) (turns : List Turn) (actors : List (Option Doing)) (
 
 -- ---- a turn at the pool
 
--- no call that has to install, to settle or to forget an identifier stands before a turn at the pool
+-- No call that has to install, to settle or to forget an identifier is before a turn at the pool.
 no_pool_install : (id : ℤ) (phase : Phase) (c : PoolCall) (reply : PoolReply) (state : State) → next phase (AtPool c reply) ≡ Some state → BeforeInstall id (Goes phase) → ⊥
 no_pool_install id (AtInstall get at) c reply state n p = cc
 no_pool_install id (AtUnmake at) c reply state n p = cc

@@ -1,5 +1,6 @@
--- Each install finds its slot vacant. A queue that lives has a row, since its identifier is forgotten only after it
--- was removed; an identifier that is to be installed has one too, and was not installed; and a slot has one row.
+-- Each install finds its slot vacant. A live queue has a row, because its identifier is forgotten
+-- only after the queue was removed. An identifier that is to be installed has a row too, and was
+-- not installed. And a slot has one row.
 use Rattle.std.proofs.Common.{◌≡◌, ◌⊎◌, inl, inr, ℕ, zero, suc, ℤ, pos, ◌≤◌, ◌||◌, Bool, true, false, cond, List, [], ◌∷◌, ◌++◌, Option, None, Some, IsSome, refl, sym, ap, subst, ◌∙◌, arith, slice_get, slice_set}
 use Rattle.std.specs.List.{list_any}
 use Rattle.std.proofs.Math.Dec.{eqb}
@@ -57,7 +58,7 @@ was_removed id turns = list_any (λ (e : Entry). removes id e.call e.reply) (slo
 abbrev pub WasMade : ℤ → List Turn → Type 0
 WasMade id turns = (key : ℤ) × (is_made id key (registry_history turns) ≡ true)
 
--- the queue that lives in the slot
+-- The queue that is live in the slot.
 pub record IsKnown (turns : List Turn) (slot : ℕ) (id : ℤ) : Type 0 where
   pub here : slot_of_id id ≡ slot
   pub installed : was_installed id turns ≡ true
@@ -69,7 +70,7 @@ pub record Facts (turns : List Turn) : Type 0 where
   pub removed : (id : ℤ) → was_removed id turns ≡ true → was_installed id turns ≡ true
   pub vacant : AllFindVacant turns
 
--- of a call that stands there
+-- What is known of a call in this state.
 abbrev pub Fits : List Turn → State → Type 0
 Fits turns (Goes (AtInstall get id)) = WasMade id turns
 Fits turns (Goes (AtForget id blocks)) = was_removed id turns ≡ true
@@ -102,7 +103,7 @@ fits_still turns t (Goes (AtForget id blocks)) f = removed_still id turns t f
 fits_still turns t (Goes (AtUnmake id)) f = f
 fits_still turns t state f = tt
 
--- a queue that lives lived before the turn, or was installed in it
+-- A live queue was live before the turn, or was installed in it.
 lived : (l : Option Attributes) (call : Call) (reply : Reply) (a : Attributes) → live_after l call reply ≡ Some a → (installs a.id call reply ≡ true) ⊎ ((b : Attributes) × (l ≡ Some b) × (b.id ≡ a.id))
 lived l (Install id key cred mode now) (Installed true) a e = let same : id ≡ a.id = ids e in inl ((Decides-int_eq id a.id).1 same)
   where
@@ -129,8 +130,9 @@ lived None (Set id cred to now) Done a e = absurd cc
 lived l (Remove id cred) (Discarded messages) a e = absurd cc
 lived l call reply a e = inr (a, e, refl)
 
--- what is asked of a turn: at a slot, that it is legal and finds the slot vacant where it installs a queue, which is
--- that of an identifier that was made; and at the registry, that what it forgets was removed
+-- What is demanded of a turn. At a slot, the turn is legal; if it installs a queue, it finds the
+-- slot vacant, and the identifier was made. At the registry, an identifier that it forgets was
+-- removed.
 pub record IsFineAt (turns : List Turn) (slot : ℕ) (call : Call) (reply : Reply) : Type 0 where
   pub legal : Legal (slot_of (slot_history slot turns)) call reply
   pub finds : FindsVacant (AtSlot slot call reply)
@@ -179,7 +181,7 @@ module _ (turns : List Turn) (f : Facts turns) (who : Who) where
   forgot_now (AtSlot slot call reply) fine id e = absurd cc
   forgot_now (AtPool call reply) fine id e = absurd cc
 
-  -- a removal found the queue live
+  -- A removal found the queue live.
   removal_known : (slot : ℕ) (id : ℤ) (call : Call) (reply : Reply) → Legal (slot_of (slot_history slot turns)) call reply → removes id call reply ≡ true → was_installed id turns ≡ true
   removal_known slot id (Remove at cred) (Discarded messages) l e = of_live (live (slot_history slot turns)) refl l.0
     where
@@ -210,7 +212,7 @@ module _ (turns : List Turn) (f : Facts turns) (who : Who) where
 
 -- ---- a slot that is occupied
 
--- where some entry passes a test
+-- Some entry passes a test.
 abbrev At : (Entry → Bool) → History → Type 0
 At p h = (before after : History) × (e : Entry) × (h ≡ before ++ e ∷ after) × (p e ≡ true)
 
@@ -232,11 +234,11 @@ counts_some id [] e = absurd cc
 counts_some id (x ∷ h) e = count_first id x h (installs id x.call x.reply) refl (counts_some id h) e
 
 module _ (for_good : RemovedForGood) (w : World) (s : IsSound w) (law : RegistryLaw w.generation (registry_history w.turns)) (c : Counted w.turns w.actors) (f : Facts w.turns) (fit : AllFit w.turns w.actors) where
-  -- the row of an identifier that was made and not forgotten
+  -- The row of an identifier that was made and not forgotten.
   abbrev row_of : (id key : ℤ) → KeyRow
   row_of id key = record { id = id; key = key; live = is_settled id (registry_history w.turns) }
 
-  -- an identifier that was removed does not live
+  -- The queue of an identifier that was removed is not live.
   not_live : (id : ℤ) → was_removed id w.turns ≡ true → ¬ IsLive (slot_history (slot_of_id id) w.turns) id
   not_live id e =
       let at = any_at (λ (x : Entry). removes id x.call x.reply) (slot_history (slot_of_id id) w.turns) e in
@@ -249,7 +251,7 @@ module _ (for_good : RemovedForGood) (w : World) (s : IsSound w) (law : Registry
       by_value true e = absurd (never (f.forgot id e))
       by_value false e = e
 
-  -- one that is to be installed was not installed yet
+  -- An identifier that is to be installed was not installed yet.
   not_yet : (place : ℕ) (d : Doing) (get : Getting) (id : ℤ) → slice_get w.actors place ≡ Some (Some d) → d.state ≡ Goes (AtInstall get id) → was_installed id w.turns ≡ true → ⊥
   not_yet place d get id there stands e =
       let held : holds id (Some d) ≡ 1 = ap (λ st. holds id (Some record { call = d.call; state = st })) stands ∙ ap one (same_int id) in
@@ -267,7 +269,7 @@ module _ (for_good : RemovedForGood) (w : World) (s : IsSound w) (law : Registry
   fits_at : (place : ℕ) (d : Doing) (phase : Phase) → slice_get w.actors place ≡ Some (Some d) → d.state ≡ Goes phase → Fits w.turns (Goes phase)
   fits_at place d phase there stands = subst (Fits w.turns) stands (fit place d there)
 
-  -- so the slot of such an identifier is vacant
+  -- So the slot of such an identifier is vacant.
   is_vacant : (place : ℕ) (d : Doing) (get : Getting) (id : ℤ) → slice_get w.actors place ≡ Some (Some d) → d.state ≡ Goes (AtInstall get id) → (a : Attributes) → live (slot_history (slot_of_id id) w.turns) ≡ Some a → ⊥
   is_vacant place d get id there stands a lives =
       let k = f.lives (slot_of_id id) a lives in
@@ -288,7 +290,7 @@ module _ (for_good : RemovedForGood) (w : World) (s : IsSound w) (law : Registry
 
 -- ---- where a turn leads
 
--- not before an install, a forget, or giving an identifier up
+-- The state is not before an install, a forget, or giving an identifier up.
 abbrev Quiet : Option State → Type 0
 Quiet (Some (Goes (AtInstall get id))) = ⊥
 Quiet (Some (Goes (AtForget id blocks))) = ⊥
@@ -351,13 +353,13 @@ some_is e = cc
 
 -- ---- a turn of a call
 
--- an identifier that was just made
+-- An identifier that was just made.
 made_here : (turns : List Turn) (who : Who) (get : Getting) (call : RegistryCall) (id : ℤ) (now : ℕ) → OfRegistry call ≡ asks (AtBegin get) now → WasMade id (turns ++ turn_of who (AtRegistry call (Made id)) ∷ [])
 made_here turns who get call id now e =
     let is : call ≡ Begin get.key get.flags = cc in
     (get.key, subst (λ x. is_made id get.key (registry_history (turns ++ turn_of who (AtRegistry x (Made id)) ∷ [])) ≡ true) (sym is) (made_it turns who get.key get.flags id))
 
--- or removed
+-- An identifier whose queue was just removed.
 removed_here : (turns : List Turn) (who : Who) (by : Cred) (id : ℤ) (slot : ℕ) (call : Call) (messages : List Message) (now : ℕ) → OfSlot slot call ≡ asks (AtRemove by id) now →
     was_removed id (turns ++ turn_of who (AtSlot slot call (Discarded messages)) ∷ []) ≡ true
 removed_here turns who by id slot call messages now e =
@@ -370,7 +372,7 @@ removed_here turns who by id slot call messages now e =
     ∙ (list_any-append p (slot_history slot turns) (entry ∷ [])
     ∙ or_right (list_any p (slot_history slot turns)) (list_any p (entry ∷ [])) (or_left (p entry) false (ap (λ c. removes id c (Discarded messages)) is ∙ same_int id))))
 
--- the step that asks for an install, and the one that asks for a forget
+-- The step that requests an install, and the one that requests a forget.
 install_asked : (phase : Phase) (now slot : ℕ) (at key : ℤ) (cred : Cred) (mode moment : ℕ) → OfSlot slot (Install at key cred mode moment) ≡ asks phase now → (get : Getting) × (phase ≡ AtInstall get at) × (slot ≡ slot_of_id at)
 install_asked (AtInstall get id) now slot at key cred mode moment e =
     let same : id ≡ at = cc in
@@ -454,7 +456,7 @@ module _ (for_good : RemovedForGood) (registry_law : (generation : ℕ) (h : Reg
       | other old ↦ fits_still w.turns (turn_of call.who deed) e.state (k.fit at e old)
     ]
 
-  -- a call that goes on without a turn, or that starts
+  -- A call that continues without a turn, or that starts.
   pub stand_fits : (w : World) (k : IsKept w) (place : ℕ) (was : Option Doing) (call : Started) (state : State) → slice_get w.actors place ≡ Some was → Fits w.turns state → AllFit w.turns (slice_set w.actors place (doing_in call state))
   stand_fits w k place was call state there fits at e here = elim (does w.actors place was call state at e there here) [
     | moved same c st ↦ subst (Fits w.turns) (sym st) fits
@@ -478,7 +480,7 @@ module _ (for_good : RemovedForGood) (registry_law : (generation : ℕ) (h : Reg
 
   -- ---- what happens
 
-  -- the turns and the actors then
+  -- The same of these turns and actors.
   pub record IsKeptThen (turns : List Turn) (actors : List (Option Doing)) : Type 0 where
     pub facts : Facts turns
     pub fit : AllFit turns actors

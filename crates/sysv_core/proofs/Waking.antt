@@ -1,5 +1,5 @@
--- The queue of a send that waits for blocks is live and may be written to, or a set of it or its removal has
--- still to come to its giveback, which ends the wait, since the pool takes back every chain.
+-- The queue of a send that waits for blocks is live and may be written to, or a set or a removal of
+-- it is still before its giveback, which ends the wait because the pool takes back every chain.
 use Rattle.std.proofs.Common.{◌≡◌, ◌≢◌, ◌⊎◌, inl, inr, ℕ, zero, suc, ℤ, pos, ◌+◌, ◌<◌, ◌≤◌, Bool, true, false, cond, List, [], ◌∷◌, ◌++◌, Option, None, Some, refl, sym, ap, subst, ◌∙◌, arith, length, slice_get, slice_set, option_map}
 use Rattle.std.proofs.Math.Dec.{eqb}
 use Rattle.std.proofs.lemmas.Bool.{eqb-true}
@@ -54,7 +54,7 @@ one_id : (o : Option Attributes) (x y : ℤ) → HasId o x → HasId o y → x �
 one_id None x y p q = absurd p
 one_id (Some a) x y p q = sym p ∙ q
 
--- the turn set the queue, or removed it
+-- The turn set the queue or removed it.
 abbrev IsSetBy : ℤ → Call → Reply → Type 0
 IsSetBy id call reply = (at : ℤ) × (cred : Cred) × (to : SetTo) × (now : ℕ) × (call ≡ Set at cred to now) × (reply ≡ Done) × (at ≡ id)
 
@@ -95,7 +95,7 @@ open_past turns who slot c reply id by legal open_ =
 
 -- ---- who has still to give back
 
--- a set and a removal stand before a turn of their own, and so does no other call
+-- A set and a removal are before a turn of their own, and no other call is.
 abbrev IsAsked : SystemCall → State → Type 0
 IsAsked asked (Goes (AtSet cred id to)) = asked ≡ MsgctlSet id to
 IsAsked asked (Goes (AtRemove cred id)) = asked ≡ MsgctlRmid id
@@ -137,7 +137,7 @@ giver_goes (MsgctlRmid at) (AtRemoveGiveback blocks) (AtSlot slot c reply) state
 giver_goes (MsgctlRmid at) (AtRemoveGiveback blocks) (AtRegistry c reply) state id p n = absurd cc
 giver_goes asked phase deed state id p n = absurd p
 
--- some actor's call has
+-- Some actor's call still has to release a chain.
 record SomeGive (id : ℤ) (actors : List (Option Doing)) : Type 0 where
   place : ℕ
   doing : Doing
@@ -181,14 +181,14 @@ IsWoken turns actors (Goes (AtReserve s)) = Woken turns actors s
 IsWoken turns actors (Waits (OnReleased goal s)) = Woken turns actors s
 IsWoken turns actors state = Unit {0}
 
--- a turn at the pool that takes a chain back ends each wait
+-- A turn at the pool that takes back a chain ends each wait.
 after_giving : (turns : List Turn) (who : Who) (deed : Deed) (n : ℕ) → n ≤ released (pool_history turns) → AtPoolWith Released deed → n < released (pool_history (turns ++ turn_of who deed ∷ []))
 after_giving turns who deed n read (c, is) =
     let e : PoolEntry = record { who = who; call = c; reply = Released } in
     let more : pool_history (turns ++ turn_of who deed ∷ []) ≡ pool_history turns ++ e ∷ [] = pool_more turns (turn_of who deed) ∙ ap (λ d. pool_history turns ++ pool_entry who d) is in
     subst (λ h. n < released h) (sym more) (omega (arith, read, released_more (pool_history turns) e))
 
--- and no turn takes that away
+-- No turn undoes that.
 pool_part : (turns : List Turn) (who : Who) (deed : Deed) (n : ℕ) → n < released (pool_history turns) → n < released (pool_history (turns ++ turn_of who deed ∷ []))
 pool_part turns who (AtSlot slot c reply) n since = subst (λ h. n < released h) (sym (pool_stays turns who (AtSlot slot c reply) refl)) since
 pool_part turns who (AtRegistry c reply) n since = subst (λ h. n < released h) (sym (pool_stays turns who (AtRegistry c reply) refl)) since
@@ -196,7 +196,7 @@ pool_part turns who (AtPool c reply) n since =
     let e : PoolEntry = record { who = who; call = c; reply = reply } in
     subst (λ h. n < released h) (sym (pool_more turns (turn_of who (AtPool c reply)))) (omega (arith, since, released_more (pool_history turns) e))
 
--- no chain is refused
+-- No chain is refused.
 never_foreign : (w after : World) (who : Who) (deed : Deed) → IsSound after → after.turns ≡ w.turns ++ turn_of who deed ∷ [] → AtPoolWith Foreign deed → ⊥
 never_foreign w after who deed s turns_are (c, is) =
     let e : PoolEntry = record { who = who; call = c; reply = Foreign } in
@@ -245,7 +245,7 @@ module _ (generation blocks : ℕ) (turns : List Turn) (actors : List (Option Do
   ]
   woken_on s read (inr (inr p)) = inr (inr (pool_part turns call.who deed s.released p))
 
-  -- another call
+  -- Another call.
   still_woken : (st : State) → IsRight blocks (pool_history turns) st → IsWoken turns actors st → IsWoken later moved_actors st
   still_woken (Goes (AtReserve s)) r k = woken_on s r.read k
   still_woken (Waits (OnReleased goal s)) r k = woken_on s r.read k
@@ -254,7 +254,7 @@ module _ (generation blocks : ℕ) (turns : List Turn) (actors : List (Option Do
   still_woken (Waits (OnArrived goal receive)) r k = tt
   still_woken st r k = tt
 
-  -- the call itself
+  -- The call itself.
   looked : (s t : Sending) (d : Deed) → d ≡ deed → asked_by d ≡ asks (AtLook s) now → IsLegalDeed generation blocks turns d → next (AtLook s) d ≡ Some (Goes (AtReserve t)) → IsOpenTo (slot_history (slot_of_id s.id) turns) s.id s.cred
   looked s t (AtSlot slot c Fits) is a l n =
       let here : slot ≡ slot_of_id s.id = cc in
@@ -324,7 +324,7 @@ turn_woken w after place now call phase deed state k right sound there asked leg
       ];
     }
 
--- a call that goes on without a turn, or that starts
+-- A call that continues without a turn, or that starts.
 stays_woken : (turns : List Turn) (actors : List (Option Doing)) (place : ℕ) (was new : Option Doing) → slice_get actors place ≡ Some was → ((d : Doing) (id : ℤ) → was ≡ Some d → HasToGiveBack d.call.asked d.state id → ⊥) →
     (st : State) → IsWoken turns actors st → IsWoken turns (slice_set actors place new) st
 stays_woken turns actors place was new there none st k = by_state st k
@@ -427,7 +427,7 @@ starts_woken w after given place cred asked (Some None) k right there t =
     stand_woken w after place None call (begun call) k right there (λ d id e. absurd cc) (begun_woken cred asked call.released (is_refused asked)) (begun_asked cred asked call.released (is_refused asked))
     (ap (λ (x : World). x.turns) t.1) (ap (λ (x : World). x.actors) t.1)
 
--- the three turns of a preset leave each queue as it was that is open
+-- The three turns of a preset leave each queue open that was open.
 preset_open : (turns : List Turn) → IsLegalHistory (slot_history 0 (with_preset_turns turns)) → (id : ℤ) (by : Cred) → IsOpenTo (slot_history (slot_of_id id) turns) id by → IsOpenTo (slot_history (slot_of_id id) (with_preset_turns turns)) id by
 preset_open turns legal id by o =
     subst (λ (h : History). IsOpenTo h id by) (sym (preset_slot (slot_of_id id) turns))
@@ -490,7 +490,7 @@ leads_woken sound w after (x ∷ xs) given s k l =
 
 -- ---- who waits for blocks
 
--- each send that waits for blocks below its goal
+-- Each send that waits for blocks below its goal is to be woken.
 abbrev pub AreToBeWoken : World → Type 0
 AreToBeWoken w = (place : ℕ) (d : Doing) (goal : ℕ) (send : Sending) → slice_get w.actors place ≡ Some (Some d) → d.state ≡ Waits (OnReleased goal send) → released (pool_history w.turns) < goal → IsToBeWoken w send.id send.cred
 

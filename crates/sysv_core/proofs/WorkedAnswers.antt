@@ -1,4 +1,4 @@
--- What the answer law admits and refuses at the worked run's send.
+-- What the answer law admits and refuses at the send of the worked run.
 use Rattle.std.proofs.Common.{◌≡◌, ℕ, zero, suc, pos, true, inl, inr, [], ◌∷◌, None, Some, refl, ap, subst, arith}
 use Rattle.std.specs.List.{Contains}
 use Rattle.sysv_model.specs.declared.errno.Errno.TheVariants.{EAGAIN}
@@ -39,7 +39,7 @@ over_and_going x s (Goes phase) e f = cc
 over_and_going x s (Waits wait) e f = cc
 over_and_going x s (Over ending) e f = cc
 
--- no call of the run is actor 3's
+-- No call of the run belongs to actor 3.
 none_of_three : (place : ℕ) → (call : Started) × Contains the_calls call × (Actor 3 place ≡ call.who) → ⊥
 none_of_three place (call, (zero, low, is), name) = let e = ap (λ (c : Started). c.who) is in cc
 none_of_three place (call, (suc zero, low, is), name) = let e = ap (λ (c : Started). c.who) is in cc
@@ -54,7 +54,7 @@ nobody : (deed : Deed) → ¬ IsMade the_calls (record { who = Actor 3 0; deed =
 nobody deed (inl preset) = cc
 nobody deed (inr by) = none_of_three 0 by
 
--- a look for 6 bytes is not asked for by a send of 5
+-- A send of 5 bytes does not request room for 6.
 other_size : AsksFor the_send.cred the_send.asked (OfSlot 0 (look_for 6)) → ⊥
 other_size (inl is) = cc
 other_size (inr (inl is)) = cc

@@ -1,4 +1,5 @@
--- The worked run, one lemma for each of its happenings; the replies that are not legal at its turns.
+-- The worked run, with one lemma for each of its happenings, and the replies that are not legal at
+-- its turns.
 use Rattle.std.proofs.Common.{◌≡◌, ℕ, ℤ, pos, zero, suc, ◌+◌, ◌<◌, ◌≤◌, ◌||◌, inl, inr, true, false, List, [], ◌∷◌, ◌++◌, length, None, Some, refl, sym, ap, ◌∙◌, arith, slice_get, take, replicate, nat_lt}
 use Rattle.sysv_model.specs.declared.cred.Cred.{Cred}
 use Rattle.sysv_model.specs.declared.errno.Errno.TheVariants.{EINVAL, ENOMSG}
@@ -19,14 +20,14 @@ use Rattle.sysv_core.specs.WorkedRun.{sender, receiver, hello, receive_up_to_100
 
 -- ---- the legal replies of the run
 
--- the preset queue is the owner's to read and to write
+-- The owner of the preset queue may read and write it.
 may_write : MayWrite sender (live (after_turns 1))
 may_write = inr (inl (inl refl, λ none. cc))
 
 may_read : MayRead sender (live (after_turns 1))
 may_read = inr (inl (inl refl, λ none. cc))
 
--- any message is named at the first place
+-- Any message is named at the first place.
 first_is_named : (m : Message) (ms : List Message) → IsNamed Any (m ∷ ms) 0
 first_is_named m ms = ((omega arith, tt), λ earlier below q. omega arith)
 
@@ -62,7 +63,8 @@ legal_third_take = (refl, may_read, none_is_named, refl)
 abbrev after_calls : ℕ → List Started
 after_calls count = take count the_calls
 
--- after that many turns at the slot, calls and counted events, where no actor is in a call, and where one is
+-- The world after this number of turns at the slot, of calls and of counted events, if no actor is
+-- in a call, and if one is.
 abbrev pub idle_at : (turns calls count : ℕ) → World
 idle_at turns calls count = record { turns = take (turns + 2) the_turns; calls = after_calls calls; actors = replicate 16 None; steps = count; blocks = 128; generation = 0 }
 
@@ -90,7 +92,7 @@ take_of cred = AtTake record { cred = cred; id = pos 0; selector = Any; size = 1
 
 -- ---- the happenings
 
--- as records, so that what they speak of is found from them
+-- As records, so that what they are about is inferred from them.
 record Went (w : World) (x : Happening) (one : List Given) (mid : World) : Type 0 where
   pub goes : Makes w x one mid
 
@@ -154,7 +156,7 @@ begins_third_take = record { goes = inr (omega arith, (refl, refl)) }
 goes_third_take : Went (calling_at 12 6 17 2 (two_calls 16 2 receive_up_to_100) (take_of receiver)) (steps 2) (two_ends 16 2 receive_up_to_100 (Refused ENOMSG) ∷ []) (idle_at 13 6 18)
 goes_third_take = record { goes = inr (omega arith, (AtSlot 0 (take_by receiver) (NoMatch 2), Over (Refused ENOMSG), refl, legal_third_take, refl, refl, refl)) }
 
--- a send of type 0 is refused
+-- A send of type 0 is refused.
 goes_typeless : Went (idle_at 13 6 18) (one_starts send_typeless) (last_ends (Refused EINVAL) ∷ []) (idle_at 13 7 19)
 goes_typeless = record { goes = inr (omega arith, (refl, refl)) }
 
@@ -182,12 +184,12 @@ worked_run =
 
 -- ---- replies that are not legal
 
--- only the first place is named
+-- Only the first place is named.
 named_is_first : (ms : List Message) (place : ℕ) → IsNamed Any ms place → place ≡ 0
 named_is_first ms zero named = refl
 named_is_first ms (suc place) named = let within = named.0.0 in absurd (named.1 0 (omega arith) (omega arith, tt))
 
--- a message that is named is the first one
+-- A message that is named is the first one.
 named_is : (m first : Message) (ms : List Message) (place : ℕ) → IsNamed Any (first ∷ ms) place → slice_get (first ∷ ms) place ≡ Some m → m ≡ first
 named_is m first ms place named there =
     let here : slice_get (first ∷ ms) 0 ≡ Some m = ap (slice_get (first ∷ ms)) (sym (named_is_first (first ∷ ms) place named)) ∙ there in

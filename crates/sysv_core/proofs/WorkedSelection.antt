@@ -11,7 +11,7 @@ use Rattle.sysv_core.specs.WorkedRun.{receiver, hello_message, empty_message, af
 use Rattle.sysv_core.proofs.WorkedRun.{not_again}
 use Rattle.sysv_core.specs.WorkedSelection.{stranger, root, WorkedSelection}
 
--- the types of the two messages
+-- The types of the two messages.
 abbrev the_types : List ℤ
 the_types = pos 5 ∷ pos 2 ∷ []
 
@@ -38,7 +38,7 @@ stranger_writes_not (inr (inl (inr creator, bit))) = omega (arith, creator)
 stranger_writes_not (inr (inr (inl member))) = member.2 refl
 stranger_writes_not (inr (inr (inr other))) = other.1 (inl refl)
 
--- the second place has the lowest type
+-- The second place has the lowest type.
 lowest : (other : ℕ) → other < 2 → ¬ (type_at the_types other <ℤ pos 2)
 lowest zero within below = let b : pos 5 <ℤ pos 2 = below in omega (arith, ints)
 lowest (suc zero) within below = let b : pos 2 <ℤ pos 2 = below in omega (arith, ints)
@@ -54,7 +54,7 @@ second_named bound within = ((omega arith, within), (omega arith, lowest, foremo
 first_not_named : (bound : ℕ) → ¬ IsNamed (UpTo bound) the_types 0
 first_not_named bound named = let higher : ¬ (pos 2 <ℤ pos 5) = named.1.1 1 (omega arith) in higher (omega (arith, ints))
 
--- a type that is asked for exactly
+-- A type that is requested exactly.
 five_named : IsNamed (Exactly (pos 5)) the_types 0
 five_named = ((omega arith, refl), λ earlier below q. omega arith)
 
@@ -75,7 +75,7 @@ none_up_to_one zero q = let s : pos 5 ≤ℤ pos 1 = q.1 in omega (arith, ints)
 none_up_to_one (suc zero) q = let s : pos 2 ≤ℤ pos 1 = q.1 in omega (arith, ints)
 none_up_to_one (suc (suc place)) q = let within = q.0 in omega arith
 
--- every type but one
+-- Every type but one.
 no_other_before : (earlier : ℕ) → earlier < 1 → ¬ QualifiesAt (Except (pos 5)) the_types earlier
 no_other_before zero below q = q.1 refl
 no_other_before (suc earlier) below q = omega arith
@@ -92,7 +92,7 @@ but_two_named = first_differs (pos 2) (λ same. omega (arith, ints, same))
 but_three_named : IsNamed (Except (pos 3)) the_types 0
 but_three_named = first_differs (pos 3) (λ same. omega (arith, ints, same))
 
--- the message of the type that is left out is not given, nor a later one
+-- The message of the excluded type is not taken, nor a later one.
 never_excepted : (place : ℕ) → IsNamed (Except (pos 5)) the_types place → slice_get (hello_message ∷ empty_message ∷ []) place ≡ Some hello_message → ⊥
 never_excepted zero named there = named.0.1 refl
 never_excepted (suc zero) named there =
@@ -109,11 +109,11 @@ never_later zero named there =
 never_later (suc zero) named there = named.1 0 (omega arith) but_three_named.0
 never_later (suc (suc place)) named there = let within = named.0.0 in omega arith
 
--- any message is the first
+-- Any message is the first one.
 first_named : IsNamed Any the_types 0
 first_named = ((omega arith, tt), λ earlier below q. omega arith)
 
--- the first message is named by no bound
+-- No bound names the first message.
 never_earliest : (bound place : ℕ) → IsNamed (UpTo bound) the_types place → slice_get (hello_message ∷ empty_message ∷ []) place ≡ Some hello_message → ⊥
 never_earliest bound zero named there = first_not_named bound named
 never_earliest bound (suc zero) named there =

@@ -1,8 +1,9 @@
--- The law of the answers. Each call that was started plays its own turns: the step table, taken along
--- them from its start, leads to where it stands. Where it is over it has one answer, that one, and no actor
--- is in it; else its actor is in it there, and it has no answer. And each turn is that of a call that was
--- started, and asks what that call was asked, or of a preset (POSIX.1-2017, msgsnd and msgrcv, RETURN VALUE
--- and ERRORS; the steps are this profile's).
+-- The law of the answers. Each call that was started plays its own turns: the step table, taken
+-- along them from the start of the call, leads to the state of the call. A call that is over has
+-- one ending, the one of that state, and no actor is in it. A call that is not over has no ending,
+-- and its actor is in it in that state. Each turn is made by a call that was started, and requests
+-- what the arguments of that call name, or is made by a preset (POSIX.1-2017, msgsnd and msgrcv,
+-- RETURN VALUE and ERRORS; the steps are this project's profile).
 use Rattle.std.specs.Prelude.{◌≡◌, ◌⊎◌, List, [], ◌∷◌, Option, Some, None, Contains, filter, map, if◌then◌else◌}
 use Rattle.sysv_model.specs.History.{Who, Actor, Seat}
 use Rattle.sysv_model.specs.Turn.{Turn, is_same, deeds_of}
@@ -11,41 +12,46 @@ use Rattle.sysv_steps.specs.Played.{Plays}
 use Rattle.sysv_steps.specs.AsksFor.{AllAskFor}
 use Rattle.sysv_core.specs.World.{World, Started, Doing, Given, actor_at, begun}
 
--- the endings that a call was given, in order
+-- The endings of the calls of this name, in order.
 abbrev pub endings_of : Who → List Given → List Ending
 endings_of who given = map (λ (g : Given). g.ending) (filter (λ (g : Given). is_same who g.call.who) given)
 
--- where an actor stands in this call, if it is in it
+-- The state in which an actor is in the call of this name, if it is in that call.
 abbrev pub stands_in : Who → Option (Option Doing) → Option State
 stands_in who None = None
 stands_in who (Some None) = None
 stands_in who (Some (Some doing)) = if is_same who doing.call.who then Some doing.state else None
 
+-- The state in which the actor of the call of this name is in it, if it is.
 abbrev pub standing_of : Who → List (Option Doing) → Option State
 standing_of (Actor actor start) actors = stands_in (Actor actor start) (actor_at actors actor)
 standing_of (Seat number) actors = None
 
--- a call that stands there has this one answer, or none; and its actor is in it there, or no longer
+-- The endings of a call in this state: one if it is over, else none.
 abbrev pub ended : State → List Ending
 ended (Goes phase) = []
 ended (Waits wait) = []
 ended (Over ending) = ending ∷ []
 
+-- The state in which the actor of a call in this state is in it: none if the call is over.
 abbrev pub standing : State → Option State
 standing (Goes phase) = Some (Goes phase)
 standing (Waits wait) = Some (Waits wait)
 standing (Over ending) = None
 
+-- The call plays its own turns to a state; its endings, and what its actor does, are those of that
+-- state.
 pub record Fate (w : World) (given : List Given) (call : Started) : Type 0 where
   pub state : State
   pub plays : Plays (begun call) (deeds_of call.who w.turns) state
   pub answered : endings_of call.who given ≡ ended state
   pub stands : standing_of call.who w.actors ≡ standing state
 
--- the turn is that of a preset, or of a call that was started
+-- The turn is made by a preset, or by a call that was started.
 abbrev pub IsMade : List Started → Turn → Type 0
 IsMade calls t = (t.who ≡ Actor 0 0) ⊎ ((call : Started) × Contains calls call × (t.who ≡ call.who))
 
--- each turn of the call asks for what the call was asked, under its credentials, and for nothing else
+-- Each turn of the call requests, under the call's credentials, what its arguments name, and
+-- nothing else.
 abbrev pub AsksAsItWasAsked : World → Started → Type 0
 AsksAsItWasAsked w call = AllAskFor call.cred call.asked (deeds_of call.who w.turns)

@@ -1,16 +1,17 @@
--- The headline. For every list of atomic steps of any number of senders and receivers:
--- every accepted message is delivered exactly once, discarded when its queue is removed, or still queued;
--- each receive takes the message that its selector names; messages of one type leave in the order of
--- acceptance; every result follows from the call's arguments and from that call's own turns; a receive waits
--- only while no message is named, a send only while there is no room or too few blocks are free, a get only
--- while another call is creating or removing the queue of its key; after a removal nothing is accepted or
--- delivered under that identifier, for good; sends and receives that had reached the queue before then fail
--- with EIDRM, and later ones fail with EINVAL (what POSIX.1-2017 says of msgget, msgsnd, msgrcv and msgctl,
--- in this profile's steps).
+-- The headline. For every list of atomic steps of any number of senders and receivers: every
+-- accepted message is delivered exactly once, discarded when its queue is removed, or still queued;
+-- each receive takes the message that its selector names; messages of one type leave in the order
+-- of acceptance; every result follows from the call's arguments and from that call's own turns; a
+-- receive waits only while no message is named, a send only while there is no room or too few
+-- blocks are free, a get only while another call is creating or removing the queue of its key;
+-- after a removal nothing is accepted or delivered under that identifier, for good; sends and
+-- receives that had reached the queue before then fail with EIDRM, and later ones fail with EINVAL
+-- (what POSIX.1-2017 says of msgget, msgsnd, msgrcv and msgctl, in the steps of this project's
+-- profile).
 --
--- EveryRunObeys is the sentence. A world of the code stands for the list of what has happened in it, and
--- a step, a preset and a run of events lead from the world of a list to the world of the longer list,
--- with the answers of that run and no others.
+-- EveryRunObeys is this statement. A world of the code stands for the list of what has happened in
+-- it. A step, a preset and a run of events lead from the world of a list to the world of the longer
+-- list, with the answers of that run and no others.
 use Rattle.std.specs.Prelude.{◌≡◌, ◌≢◌, ◌⊎◌, ℕ, ◌≤◌, List, [], ◌∷◌, ◌++◌, map, All, AllPairs, Contains}
 use Rattle.sysv_model.specs.declared.limits.TheConstants.{WORN}
 use Rattle.sysv_model.specs.Turn.{slot_history, registry_history, pool_history, deeds_of}
@@ -32,56 +33,60 @@ use Rattle.sysv_core.specs.LastWords.{AreToldOfRemovals}
 use Rattle.sysv_core.specs.Tending.{AreTended}
 use Rattle.sysv_core.specs.Seen.{Seen, StandsFor, happening_of, TellAll, Gives}
 
--- what holds of a world that was opened so, and of the endings given on the way to it
+-- The laws of a world that was opened in this way, and of the endings on the way to it.
 pub record Obeys (o : Opening) (w : World) (given : List Given) : Type 0 where
-  -- the history of each slot obeys the queue law
+  -- The history of each slot obeys the queue law.
   pub queues : (slot : ℕ) → QueueLaw (slot_history slot w.turns)
-  -- that of the registry obeys the registry law: no identifier is made twice
+  -- The history of the registry obeys the registry law: no identifier is made twice.
   pub registry : RegistryLaw o.generation (registry_history w.turns)
-  -- that of the pool obeys the pool law: each block is free or out
+  -- The history of the pool obeys the pool law: each block is free, or in a chain that is reserved
+  -- and not yet back.
   pub pool : PoolLaw o.blocks (pool_history w.turns)
-  -- each block is free, under a message that waits, or held by a call, and the pool takes back every chain
+  -- Each block is free, under a queued message, or held by a call, and the pool takes back every
+  -- chain.
   pub conserved : AreConserved o.blocks w.turns w.actors
-  -- each call plays its own turns, and has one answer once it is over
+  -- Each call plays its own turns, and has one ending if it is over.
   pub calls : All (Fate w given) w.calls
-  -- no two calls have one name
+  -- No two calls have the same name.
   pub apart : AllPairs (λ (c d : Started). c.who ≢ d.who) w.calls
-  -- no other call makes a turn
+  -- Each turn is made by one of the calls, or by a preset.
   pub made : All (IsMade w.calls) w.turns
-  -- each turn of a call asks for what the call was asked, also of one under way
+  -- Each turn of a call requests what the call's arguments name, also if the call is under way.
   pub asked : All (AsksAsItWasAsked w) w.calls
-  -- no other call has an answer
+  -- Each ending belongs to one of the calls.
   pub known : All (λ (g : Given). Contains w.calls g.call) given
-  -- each answer is the right one for what was asked and for the turns of that call
+  -- Each ending is right for the arguments of its call and for the turns of that call.
   pub right : All (λ (g : Given). IsRightAnswer g.call.asked (deeds_of g.call.who w.turns) g.ending) given
-  -- each call that waits has a reason to
+  -- Each call that waits below its goal has a reason to.
   pub parked : AreParkedRightly w
-  -- a row that is not settled, or whose queue does not live, is some actor's to settle or to forget
+  -- A row that is not settled, or whose queue is not live, is to be settled or forgotten by some
+  -- actor's call.
   pub tended : AreTended w
-  -- each msgget finds the slot of its new identifier vacant
+  -- Each msgget finds the slot of its new identifier vacant.
   pub vacant : AllFindVacant w.turns
-  -- what was removed is gone for good
+  -- A removal is for good.
   pub removed : AreRemovedForGood w.turns
-  -- and the sends and receives of its queue are told so
+  -- Sends and receives of a removed queue fail with EIDRM if they had reached it before, else with
+  -- EINVAL.
   pub told : AreToldOfRemovals w given
 
--- every list leads from every opening only to worlds that obey the laws
+-- Every list of happenings leads from every opening only to worlds that obey the laws.
 abbrev pub EveryRunObeys : Type 0
 EveryRunObeys = (o : Opening) (list : List Happening) (given : List Given) (w : World) → Leads (opening o) list given w → Obeys o w given
 
--- For every list that the world stood for, it now stands for that list and a preset.
+-- For every list for which the world stood, it now stands for that list and a preset.
 abbrev pub StandsWithPreset : Seen → Seen → Type 0
 StandsWithPreset old new = (o : Opening) (list : List Happening) (given : List Given) →
     StandsFor o list given old → StandsFor o (list ++ Preset ∷ []) given new
 
--- For every list that the world stood for, it now stands for that list and the event, and the event
--- gave what the run gives.
+-- For every list for which the world stood, it now stands for that list and the event, and the
+-- result of the event is that of the run.
 abbrev pub StandsWithEvent : Seen → Event → Stepped → Seen → Type 0
 StandsWithEvent old event result new = (o : Opening) (list : List Happening) (given : List Given) (s : StandsFor o list given old) →
     (more : List Given) × Gives s.world more result × StandsFor o (list ++ happening_of event ∷ []) (given ++ more) new
 
--- The world goes on from that list by the events, all of them or up to the first that finds it worn
--- out at step number 2^62, and the answers are those that they give, in order.
+-- The world continues from that list by the events, all of them or up to the first that finds it
+-- worn out at step number 2^62. The answers are those of the endings on the way, in order.
 pub record RunsOn (o : Opening) (list : List Happening) (given : List Given) (events : List Event) (answers : List Answer) (new : Seen) : Type 0 where
   pub done : List Event
   pub left : List Event
@@ -91,12 +96,12 @@ pub record RunsOn (o : Opening) (list : List Happening) (given : List Given) (ev
   pub told : TellAll more answers
   pub stands : StandsFor o (list ++ map happening_of done) (given ++ more) new
 
--- For every list that the world stood for, it now stands for that list and the events done, with the
--- answers of that run in order.
+-- For every list for which the world stood, it now stands for that list and the events that
+-- happened, with the answers of that run in order.
 abbrev pub StandsWithEvents : Seen → List Event → List Answer → Seen → Type 0
 StandsWithEvents old events answers new = (o : Opening) (list : List Happening) (given : List Given) →
     StandsFor o list given old → RunsOn o list given events answers new
 
--- For every list that the world stands for, the world to which it leads obeys the laws.
+-- For every list for which the world stands, the world to which it leads obeys the laws.
 abbrev pub LawsHold : Seen → Type 0
 LawsHold seen = (o : Opening) (list : List Happening) (given : List Given) (s : StandsFor o list given seen) → Obeys o s.world given

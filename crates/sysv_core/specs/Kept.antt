@@ -1,4 +1,5 @@
--- What a world of the code keeps of its actors, as states of the definitions (this profile's).
+-- What a world of the code keeps of its actors, as states of the definitions (this project's
+-- profile).
 use Rattle.std.specs.Prelude.{ℕ, List, Option, Some, None, option_map, map, sum_by}
 use Rattle.sysv_steps.specs.State.{State}
 use Rattle.sysv_steps.specs.HeldBlocks.{held}
@@ -10,38 +11,44 @@ use Rattle.sysv_core.specs.declared.event.Stepped.TheVariants as stepped
 use Rattle.sysv_core.specs.Standing.{stands_at}
 use Rattle.sysv_core.specs.Held.{text_in}
 
+-- The state of the call that an actor is in, if it is in one.
 abbrev pub state_kept : Option Doing → Option State
 state_kept doing = option_map (λ (d : Doing). stands_at d.standing (text_in d.body)) doing
 
+-- The states of the calls of all actors.
 abbrev pub states_kept : List (Option Doing) → List (Option State)
 states_kept actors = map state_kept actors
 
--- the blocks that they hold
+-- The number of blocks that a call in this state holds.
 abbrev pub blocks_at : Option State → ℕ
 blocks_at None = 0
 blocks_at (Some state) = held state
 
+-- The number of blocks that all these calls hold.
 abbrev pub blocks_held : List (Option State) → ℕ
 blocks_held states = sum_by blocks_at states
 
+-- The number of blocks that the calls of these actors hold.
 abbrev pub blocks_kept : List (Option Doing) → ℕ
 blocks_kept actors = blocks_held (states_kept actors)
 
--- what is kept of a call after a start or a step, and what is told of it
+-- What is kept of a call after a start or a step: nothing if it is over.
 abbrev pub doing_led : Led → Option Doing
 doing_led (led.To doing) = Some doing
 doing_led (led.Stays doing) = Some doing
 doing_led (led.Over ended) = None
 
+-- The same, as a state of the definitions.
 abbrev pub kept_led : Led → Option State
 kept_led l = state_kept (doing_led l)
 
--- the steps that it counts: none where the call waits on
+-- The number of steps that are counted: none if the call still has to wait.
 abbrev pub counted_led : Led → ℕ
 counted_led (led.To doing) = 1
 counted_led (led.Stays doing) = 0
 counted_led (led.Over ended) = 1
 
+-- What a start or a step of the actor's call returns.
 abbrev pub told_by : ℕ → Led → Stepped
 told_by actor (led.To doing) = stepped.Nothing
 told_by actor (led.Stays doing) = stepped.Nothing

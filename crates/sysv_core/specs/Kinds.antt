@@ -1,15 +1,17 @@
--- The kind of a call, by what becomes of the body that it brings (this profile's): a send has its text in
--- one, and a receive is given its text in one; no other call brings a body. Each step and each wait is of
--- calls of one kind.
+-- The kinds of calls, by what becomes of the body that a call brings (this project's profile): a
+-- send brings a body to send, a receive brings one to fill, and no other call brings a body. Each
+-- step and each wait belongs to calls of one kind.
 use Rattle.std.specs.Prelude.{◌≡◌, Bool, true, false, Option, Some, None, ⊤}
 use Rattle.sysv_steps.specs.Call.{SystemCall, Msgget, Msgsnd, Msgrcv, MsgctlStat, MsgctlSet, MsgctlRmid}
 use Rattle.sysv_steps.specs.State.{Wait, OnSettled, OnFreed, OnReleased, OnArrived, IsRefused, WaitsOn, Phase, AtBegin, AtInstall, AtSettle, AtProbe, AtUnmake, AtLook, AtReserve, AtPlace, AtSendGiveback, AtTake, AtReceiveGiveback, AtStat, AtSet, AtSetGiveback, AtRemove, AtForget, AtRemoveGiveback, State, Goes, Waits, Over}
 
+-- The kinds: a send, a receive, and a call without a body.
 pub data Kind : Type 0 where
   Sends : Kind
   Receives : Kind
   Bare : Kind
 
+-- The kind of a call.
 abbrev pub kind_of : SystemCall → Kind
 kind_of (Msgget key flags) = Bare
 kind_of (Msgsnd id mtype flags text) = Sends
@@ -18,13 +20,15 @@ kind_of (MsgctlStat id) = Bare
 kind_of (MsgctlSet id to) = Bare
 kind_of (MsgctlRmid id) = Bare
 
--- a send that gives its chain back is of the kind of the wait that follows, if one does
+-- The kind of the calls that can be in a wait.
 abbrev pub wait_kind : Wait → Option Kind
 wait_kind (OnSettled goal get) = Some Bare
 wait_kind (OnFreed goal send) = Some Sends
 wait_kind (OnReleased goal send) = Some Sends
 wait_kind (OnArrived goal receive) = Some Receives
 
+-- The kind of the calls that can be before a step. A send that releases its chain is of the kind of
+-- the wait that follows, if one does.
 abbrev pub phase_kind : Phase → Option Kind
 phase_kind (AtBegin get) = Some Bare
 phase_kind (AtInstall get id) = Some Bare
@@ -45,32 +49,33 @@ phase_kind (AtRemove cred id) = Some Bare
 phase_kind (AtForget id blocks) = Some Bare
 phase_kind (AtRemoveGiveback blocks) = Some Bare
 
--- a call of that kind can stand there
+-- A call of this kind can be in this state.
 abbrev pub IsOf : Kind → State → Type 0
 IsOf kind (Goes phase) = phase_kind phase ≡ Some kind
 IsOf kind (Waits wait) = wait_kind wait ≡ Some kind
 IsOf kind (Over ending) = ⊤
 
--- a call of that kind gives its body back
+-- A call of this kind returns its body.
 abbrev pub gives_back : Option Kind → Bool
 gives_back None = false
 gives_back (Some Sends) = false
 gives_back (Some Receives) = true
 gives_back (Some Bare) = false
 
--- and has one
+-- A call of this kind brings a body.
 abbrev pub brings : Option Kind → Bool
 brings None = false
 brings (Some Sends) = true
 brings (Some Receives) = true
 brings (Some Bare) = false
 
--- the kind of the calls that stand there
+-- The kind of the calls that can be in this state.
 abbrev pub kind_at : State → Option Kind
 kind_at (Goes phase) = phase_kind phase
 kind_at (Waits wait) = wait_kind wait
 kind_at (Over ending) = None
 
+-- The calls that can be in this state bring a body.
 abbrev pub has_body : State → Bool
 has_body (Goes phase) = brings (phase_kind phase)
 has_body (Waits wait) = brings (wait_kind wait)

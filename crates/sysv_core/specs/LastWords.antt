@@ -1,7 +1,7 @@
--- What a removal leaves to say to the sends and receives of its queue (POSIX.1-2017, msgsnd and msgrcv, ERRORS,
--- EIDRM and EINVAL). Each turn that such a call makes at the queue after the removal finds it gone. A call
--- that had come to the queue before and comes to it after is answered that it was removed, and one that comes
--- to it only after, that there is none.
+-- What the sends and receives of a removed queue report (POSIX.1-2017, msgsnd and msgrcv, ERRORS,
+-- EIDRM and EINVAL). Each turn that such a call makes at the slot after the removal finds the
+-- identifier gone. A call that came to the slot before the removal and comes to it again afterwards
+-- fails with EIDRM; one that comes to it only afterwards fails with EINVAL.
 use Rattle.std.specs.Prelude.{◌≡◌, ℤ, true, false, List, ◌∷◌, ◌++◌, All, Contains}
 use Rattle.std.specs.List.{list_any}
 use Rattle.sysv_model.specs.declared.cred.Cred.{Cred}
@@ -16,22 +16,24 @@ use Rattle.sysv_steps.specs.Answers.{is_at_slot, found_gone, some}
 use Rattle.sysv_core.specs.World.{World, Started, Given}
 use Rattle.sysv_core.specs.AnswerLaw.{endings_of}
 
--- a send or a receive under this identifier
+-- The call is a send or a receive under this identifier.
 abbrev pub IsOfQueue : ℤ → SystemCall → Type 0
 IsOfQueue id (Msgsnd at mtype flags text) = at ≡ id
 IsOfQueue id (Msgrcv at size mtype flags) = at ≡ id
 IsOfQueue id asked = ⊥
 
--- the queue of this identifier is removed
+-- The deed removes the queue of this identifier.
 abbrev pub IsRemoval : ℤ → Deed → Type 0
 IsRemoval id deed = (cred : Cred) × (messages : List Message) × (deed ≡ AtSlot (slot_of_id id) (Remove id cred) (Discarded messages))
 
--- by what the call did before the removal and after it, and by its answer, if it is over
+-- What such a call finds after the removal, and how it ends if it is over, by its deeds before the
+-- removal and after it.
 pub record IsToldSo (before after : List Deed) (endings : List Ending) : Type 0 where
   pub gone : All (λ (deed : Deed). is_at_slot deed ≡ true → found_gone deed ≡ true) after
   pub removed : some is_at_slot before → some is_at_slot after → All (λ (ending : Ending). ending ≡ Refused EIDRM) endings
   pub absent : list_any is_at_slot before ≡ false → some is_at_slot after → All (λ (ending : Ending). ending ≡ Refused EINVAL) endings
 
+-- This holds of each removal in the world and of each send and receive under its identifier.
 abbrev pub AreToldOfRemovals : World → List Given → Type 0
 AreToldOfRemovals w given = (id : ℤ) (before after : List Turn) (t : Turn) (call : Started) → w.turns ≡ before ++ t ∷ after → IsRemoval id t.deed →
     Contains w.calls call → IsOfQueue id call.asked → IsToldSo (deeds_of call.who before) (deeds_of call.who after) (endings_of call.who given)

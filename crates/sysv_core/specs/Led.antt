@@ -1,4 +1,5 @@
--- What the code's start or step of a call leads to, as a state of the definitions (this profile's).
+-- The result of a start or a step of a call in the code, as a state of the definitions (this
+-- project's profile).
 use Rattle.std.specs.Prelude.{◌≡◌, ◌<◌, ◌≤◌, ◌⊎◌, ℕ, Bool, List, Some}
 use Rattle.sysv_model.specs.Turn.{Deed, Turn, asked_by}
 use Rattle.sysv_objects.specs.Objects.{Objects}
@@ -15,8 +16,8 @@ use Rattle.sysv_core.specs.Standing.{stands_at}
 use Rattle.sysv_core.specs.Held.{text_in}
 use Rattle.sysv_core.specs.World.{value_of}
 
--- the code's call goes on where the definitions' call stands, or is over and tells its ending, and answers
--- with its body or not; a spare body is told to nobody
+-- The code's call continues in the state in which the definitions' call is, or both are over and
+-- the code reports the ending, with the body or without it. A spare body is not reported.
 abbrev pub LeadsTo : Bool → State → Led → Type 0
 LeadsTo back state (led.To doing) = state ≡ stands_at doing.standing (text_in doing.body)
 LeadsTo back (Over ending) (led.Over ended) = TellsEnding back ending ended.result ended.body
@@ -24,7 +25,7 @@ LeadsTo back (Goes phase) (led.Over ended) = ⊥
 LeadsTo back (Waits wait) (led.Over ended) = ⊥
 LeadsTo back state (led.Stays doing) = ⊥
 
--- one turn of the call in that phase at its object, and what it led to
+-- One turn of the call in that phase at its object, and its result.
 pub record TurnLeads (old : Objects) (phase : Phase) (now : ℕ) (result : Led) (new : Objects) : Type 0 where
   pub deed : Deed
   pub state : State
@@ -33,19 +34,20 @@ pub record TurnLeads (old : Objects) (phase : Phase) (now : ℕ) (result : Led) 
   pub goes : next phase deed ≡ Some state
   pub leads : LeadsTo (gives_back (phase_kind phase)) state result
 
--- the call stands where it stood
+-- The call still is in the state in which it was.
 abbrev pub Stays : State → Led → Type 0
 Stays state (led.Stays doing) = state ≡ stands_at doing.standing (text_in doing.body)
 Stays state (led.To doing) = ⊥
 Stays state (led.Over ended) = ⊥
 
--- the call's look at the count for which it waits: it goes on where its goal is reached, and else it stays
+-- The call's look at the count for which it waits: it continues if its goal is reached, else it
+-- still waits.
 abbrev pub LookLeads : Objects → Wait → Led → Type 0
 LookLeads objects wait result = (generation : ℕ) (turns : List Turn) → StandsFor generation turns objects →
     ((goal_of wait ≤ value_of turns (awaited wait)) × LeadsTo (gives_back (wait_kind wait)) (Goes (resume wait (value_of turns (awaited wait)))) result)
     ⊎ ((value_of turns (awaited wait) < goal_of wait) × Stays (Waits wait) result)
 
--- one step of a call that stands there
+-- One step of a call in this state.
 abbrev pub StepLeads : Objects → State → ℕ → Led → Objects → Type 0
 StepLeads old (Goes phase) now result new = TurnLeads old phase now result new
 StepLeads old (Waits wait) now result new = LookLeads old wait result × (new ≡ old)

@@ -1,6 +1,6 @@
--- An event in a world, and a preset, leads to one world at most, and gives one result. So a list of
--- happenings leads from a world to one world at most, with one list of endings: what a world does is
--- decided by what happens in it (this profile's).
+-- An event, and a preset, leads from a world to at most one world, with one result. So a list of
+-- happenings leads from a world to at most one world, with one list of endings: what happens in a
+-- world decides what the world does (this project's profile).
 use Rattle.std.specs.Prelude.{◌≡◌, Bool, List}
 use Rattle.sysv_core.specs.declared.event.Event.{Event}
 use Rattle.sysv_core.specs.declared.event.Stepped.{Stepped}
@@ -9,13 +9,16 @@ use Rattle.sysv_core.specs.Run.{Leads}
 use Rattle.sysv_core.specs.Sound.{IsSound}
 use Rattle.sysv_core.specs.Seen.{Steps}
 
+-- An event leads from a sound world to at most one world, with one result.
 abbrev pub OneStep : Type 0
 OneStep = (w after other : World) (event : Event) (result given : Stepped) → IsSound w →
     Steps w event result after → Steps w event given other → (result ≡ given) × (after ≡ other)
 
+-- A preset leads from a world to at most one world, with one result.
 abbrev pub OnePreset : Type 0
 OnePreset = (w after other : World) (made did : Bool) → Presets w made after → Presets w did other → (made ≡ did) × (after ≡ other)
 
+-- A list of happenings leads from a sound world to at most one world, with one list of endings.
 abbrev pub OneRun : Type 0
 OneRun = (w after other : World) (list : List Happening) (given told : List Given) → IsSound w →
     Leads w list given after → Leads w list told other → (given ≡ told) × (after ≡ other)

@@ -1,11 +1,13 @@
--- Parked rightly: each call that waits has a reason to (POSIX.1-2017, msgsnd and msgrcv, DESCRIPTION, where the caller is
--- suspended; the counts are this profile's). A receive that waits below its goal has nothing to take: its
--- queue is live, it may read, and no message that waits there is named by its selector. A send that waits
--- for room below its goal has none: its queue is live, it may write, and its text does not fit. A get that
--- waits below its goal finds its key bound to a row that another call has still to settle or to forget. A
--- send that waits for blocks below its goal finds too few free for its text; and its queue is live and it may
--- write, or a set or a removal of that queue has still to come to its giveback, which ends the wait. So nobody
--- sleeps past what it waits for, or for good on a queue that was removed or closed to it.
+-- Parked rightly: each call that waits has a reason to (POSIX.1-2017, msgsnd and msgrcv,
+-- DESCRIPTION, where the caller is suspended; the counts are this project's profile).
+--
+-- A receive that waits below its goal has nothing to take: its queue is live, it may read, and its
+-- selector names no queued message. A send that waits for room below its goal has none: its queue
+-- is live, it may write, and its body does not fit. A get that waits below its goal finds its key
+-- bound to a row that another call still has to settle or forget. A send that waits for blocks
+-- below its goal finds too few free for its body; and its queue is live and it may write, or a set
+-- or a removal of that queue is still before its giveback, which ends the wait. So no call keeps
+-- waiting after its reason is gone, or for good on a queue that was removed or closed to it.
 use Rattle.std.specs.Prelude.{◌≡◌, ◌<◌, ◌⊎◌, ℕ, ℤ, Some, length, slice_get}
 use Rattle.sysv_model.specs.declared.attributes.Attributes.{Attributes}
 use Rattle.sysv_model.specs.declared.cred.Cred.{Cred}
@@ -29,53 +31,57 @@ use Rattle.sysv_steps.specs.Resume.{awaited, goal_of}
 use Rattle.sysv_core.specs.World.{World, Doing, value_of}
 use Rattle.sysv_core.specs.Tending.{IsTended}
 
--- of the queue of this identifier, in the slot with this history
+-- The queue of this identifier, in the slot with this history, is live, may be read, and has no
+-- message that the selector names.
 pub record HasNothingToTake (h : History) (id : ℤ) (cred : Cred) (selector : Selector) : Type 0 where
   pub lives : IsLive h id
   pub may_read : MayRead cred (live h)
   pub unnamed : (place : ℕ) → ¬ IsNamed selector (waiting id h) place
 
--- a text of that many bytes
+-- The queue is live, may be written, and has no room for a body of this size.
 pub record HasNoRoom (h : History) (id : ℤ) (cred : Cred) (size : ℕ) : Type 0 where
   pub lives : IsLive h id
   pub may_write : MayWrite cred (live h)
   pub crowded : (a : Attributes) → live h ≡ Some a → ¬ Fits a.qbytes (waiting id h) size
 
--- a row has the key, and some actor's call has still to settle it or to forget it
+-- A row has the key, and some actor's call still has to settle or to forget it.
 pub record IsBeingChanged (w : World) (key : ℤ) : Type 0 where
   pub row : KeyRow
   pub bound : IsRow (registry_history w.turns) row
   pub of_key : row.key ≡ key
   pub tended : IsTended w row.id
 
--- for a text of that many bytes
+-- Fewer blocks are free than a body of this size needs.
 abbrev pub HasTooFewBlocks : World → ℕ → Type 0
 HasTooFewBlocks w size = free_after w.blocks (pool_history w.turns) < blocks_for size
 
--- the queue of this identifier is live, and these credentials may write to it
+-- The queue of this identifier is live, and these credentials may write to it.
 pub record IsOpenTo (h : History) (id : ℤ) (cred : Cred) : Type 0 where
   pub lives : IsLive h id
   pub may_write : MayWrite cred (live h)
 
--- a set of that queue that was done, or a removal of it, has still to come to its giveback
+-- A set of that queue was done, or a removal of it, and the call is still before its giveback, or
+-- before the forget that precedes it.
 abbrev pub HasToGiveBack : SystemCall → State → ℤ → Type 0
 HasToGiveBack (MsgctlSet at to) (Goes AtSetGiveback) id = at ≡ id
 HasToGiveBack (MsgctlRmid at) (Goes (AtForget removed blocks)) id = at ≡ id
 HasToGiveBack (MsgctlRmid at) (Goes (AtRemoveGiveback blocks)) id = at ≡ id
 HasToGiveBack asked state id = ⊥
 
--- and some actor's call is such a one
+-- Some actor's call is such a set or removal.
 pub record HasChangeToTell (w : World) (id : ℤ) : Type 0 where
   pub place : ℕ
   pub doing : Doing
   pub there : slice_get w.actors place ≡ Some (Some doing)
   pub gives : HasToGiveBack doing.call.asked doing.state id
 
--- it is open still, or its change is still to be told
+-- The queue is still open to these credentials, or a change of it is still to be reported to the
+-- pool.
 abbrev pub IsToBeWoken : World → ℤ → Cred → Type 0
 IsToBeWoken w id cred = IsOpenTo (slot_history (slot_of_id id) w.turns) id cred ⊎ HasChangeToTell w id
 
--- the reason of a call with these credentials that was asked so; no other call waits so
+-- The reason for which a call with these credentials and arguments waits. No other call is in such
+-- a wait.
 abbrev pub HasReason : World → Cred → SystemCall → Wait → Type 0
 HasReason w cred (Msgrcv id size mtype flags) (OnArrived goal receive) = HasNothingToTake (slot_history (slot_of_id id) w.turns) id cred (selector_for mtype flags)
 HasReason w cred (Msgsnd id mtype flags text) (OnFreed goal send) = HasNoRoom (slot_history (slot_of_id id) w.turns) id cred (length text)
@@ -83,11 +89,12 @@ HasReason w cred (Msgsnd id mtype flags text) (OnReleased goal send) = HasTooFew
 HasReason w cred (Msgget key flags) (OnSettled goal get) = IsBeingChanged w key
 HasReason w cred asked wait = ⊥
 
--- the actor's call waits below its goal
+-- The actor's call waits below its goal.
 pub record IsParked (w : World) (place : ℕ) (d : Doing) (wait : Wait) : Type 0 where
   pub there : slice_get w.actors place ≡ Some (Some d)
   pub waits : d.state ≡ Waits wait
   pub below : value_of w.turns (awaited wait) < goal_of wait
 
+-- Each call that waits below its goal has its reason.
 abbrev pub AreParkedRightly : World → Type 0
 AreParkedRightly w = (place : ℕ) (d : Doing) (wait : Wait) → IsParked w place d wait → HasReason w d.call.cred d.call.asked wait

@@ -1,7 +1,8 @@
--- A removal is for good (this profile's: POSIX.1-2017, msgctl, IPC_RMID has the removal, and leaves open
--- whether an identifier comes back). A queue is installed in the slot that its identifier tells, and each
--- identifier is installed once at most. So once a queue was removed, its slot accepts and delivers nothing
--- more under that identifier, and each later turn that names it is told that it is not live.
+-- A removal is for good (this project's profile: POSIX.1-2017, msgctl, IPC_RMID has the removal,
+-- and leaves open whether an identifier is used again). A queue is installed in the slot of its
+-- identifier, and each identifier is installed at most once. So after a queue was removed, its slot
+-- accepts and delivers nothing more under that identifier, and each later turn with that identifier
+-- finds that it is not live.
 use Rattle.std.specs.Prelude.{◌≡◌, ℕ, ℤ, true, List, ◌∷◌, ◌++◌, All}
 use Rattle.sysv_model.specs.History.{Install, Entry, History}
 use Rattle.sysv_model.specs.Turn.{Deed, AtSlot, Turn, slot_history}
@@ -9,11 +10,12 @@ use Rattle.sysv_queue.specs.QueueLaw.{removes}
 use Rattle.sysv_queue.specs.ForGood.{IsInstalledOnce, IsGoneSince}
 use Rattle.sysv_keys.specs.Identifier.{slot_of_id}
 
--- where it installs a queue
+-- If the deed is an install, it is at the slot of the identifier.
 abbrev pub IsInItsSlot : Deed → Type 0
 IsInItsSlot (AtSlot slot (Install id key cred mode now) reply) = slot ≡ slot_of_id id
 IsInItsSlot deed = Unit {0}
 
+-- In these turns each removal is for good.
 pub record AreRemovedForGood (turns : List Turn) : Type 0 where
   pub at_home : All (λ (t : Turn). IsInItsSlot t.deed) turns
   pub once : (slot : ℕ) (id : ℤ) → IsInstalledOnce id (slot_history slot turns)

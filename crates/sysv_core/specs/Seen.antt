@@ -1,5 +1,5 @@
--- The code's data as the definitions': its events, its answers, and what a world of the code is seen as
--- (this profile's).
+-- The code's data as the definitions': its events, its answers, and what a world of the code is
+-- seen as (this project's profile).
 use Rattle.std.specs.Prelude.{◌≡◌, ℕ, ◌<◌, ◌≤◌, Bool, List, [], ◌∷◌, Option, Some, option_map, map}
 use Rattle.sysv_model.specs.declared.limits.TheConstants.{WORN}
 use Rattle.sysv_objects.specs.Objects.{Objects}
@@ -20,45 +20,49 @@ use Rattle.sysv_core.specs.Sound.{IsToCaller, IsSound}
 
 -- ---- events
 
+-- The happening of an event.
 abbrev pub happening_of : Event → Happening
 happening_of (event.Start actor cred asked) = Start actor cred (asked_of asked)
 happening_of (event.Step actor now) = Step actor now
 
 -- ---- answers
 
+-- The answer is that of this ending, to the actor of the call.
 pub record Tells (g : Given) (a : Answer) : Type 0 where
   pub caller : IsToCaller g.call.who a.actor
   pub ending : TellsEnding (gives_back (Some (kind_of g.call.asked))) g.ending a.result a.body
 
--- the answers tell the endings, in order
+-- The answers are those of the endings, in order.
 abbrev pub TellAll : List Given → List Answer → Type 0
 TellAll [] [] = Unit {0}
 TellAll [] (a ∷ answers) = ⊥
 TellAll (g ∷ given) [] = ⊥
 TellAll (g ∷ given) (a ∷ answers) = Tells g a × TellAll given answers
 
--- what a step of the code gave: nothing, an answer, or that the world is worn out
+-- The result of a step of the code: nothing, an answer, or that the world is worn out.
 abbrev pub Gives : World → List Given → Stepped → Type 0
 Gives w given stepped.Nothing = (w.steps < WORN) × (given ≡ [])
 Gives w given stepped.Worn = (WORN ≤ w.steps) × (given ≡ [])
 Gives w given (stepped.Answer answer) = (w.steps < WORN) × ((g : Given) × (given ≡ g ∷ []) × Tells g answer)
 
--- one event in a world
+-- One event in a world, with its result.
 abbrev pub Steps : World → Event → Stepped → World → Type 0
 Steps w event result after = (given : List Given) × Makes w (happening_of event) given after × Gives w given result
 
 -- ---- worlds
 
+-- What a world of the code is seen as.
 pub record Seen : Type 0 where
   pub objects : Objects
   pub states : List (Option State)
   pub steps : ℕ
   pub tally : Tallied  -- the messages that were answered, as written
 
--- where the call under way stands
+-- The state of the call under way, if there is one.
 abbrev pub state_in : Option Doing → Option State
 state_in doing = option_map (λ (d : Doing). d.state) doing
 
+-- This world of the definitions is what the world of the code is seen as.
 pub record IsSeenAs (w : World) (seen : Seen) : Type 0 where
   pub objects : ObjectsStandFor w.generation w.turns seen.objects
   pub states : map state_in w.actors ≡ seen.states
@@ -66,24 +70,26 @@ pub record IsSeenAs (w : World) (seen : Seen) : Type 0 where
   pub steps : w.steps ≡ seen.steps
   pub blocks : w.blocks ≡ seen.objects.pool.size
 
--- some world is seen so
+-- The world of the code is seen as some world.
 abbrev pub IsSeen : Seen → Type 0
 IsSeen seen = (w : World) × IsSeenAs w seen
 
--- what a preset, and an event, makes of each world as which the code's world is seen
+-- What a preset makes of each world as which the code's world is seen.
 abbrev pub PresetsSeen : Seen → Bool → Seen → Type 0
 PresetsSeen old made new = (w : World) → IsSeenAs w old → (after : World) × Presets w made after × IsSeenAs after new
 
+-- What an event makes of each world as which the code's world is seen.
 abbrev pub StepsSeen : Seen → Event → Stepped → Seen → Type 0
 StepsSeen old event result new = (w : World) → IsSeenAs w old → (after : World) × Steps w event result after × IsSeenAs after new
 
--- a world that was opened so stands for the list, which gave these endings
+-- The list leads from this opening, with these endings, to a world as which the code's world is
+-- seen.
 pub record StandsFor (o : Opening) (list : List Happening) (given : List Given) (seen : Seen) : Type 0 where
   pub world : World
   pub led : Leads (opening o) list given world
   pub sight : IsSeenAs world seen
 
--- so many blocks are free once the world is ended: all that it was opened with, for every list of happenings
--- for which it stands
+-- This is the number of blocks with which the world was opened, for every list of happenings for
+-- which it stands.
 abbrev pub AreAllFree : Seen → ℕ → Type 0
 AreAllFree seen blocks = (o : Opening) (list : List Happening) (given : List Given) → StandsFor o list given seen → blocks ≡ o.blocks

@@ -1,5 +1,5 @@
--- The tally of a world (this profile's): the messages that its answers gave are those written, and none is
--- lost.
+-- The tally of a world (this project's profile): the messages that its answers returned are counted
+-- as written, and none as lost.
 use Rattle.std.specs.Prelude.{ℕ, Bool, true, false, List, cond, count_by}
 use Rattle.sysv_queue.specs.Tally.{Tallied}
 use Rattle.sysv_core.specs.declared.event.Outcome.{Outcome}
@@ -8,11 +8,11 @@ use Rattle.sysv_core.specs.declared.event.Answer.{Answer}
 use Rattle.sysv_core.specs.declared.event.Stepped.{Stepped}
 use Rattle.sysv_core.specs.declared.event.Stepped.TheVariants as stepped
 
--- that of no messages
+-- The tally of no messages.
 abbrev pub none_taken : Tallied
 none_taken = record { written = 0; lost = 0 }
 
--- a receive succeeded
+-- A receive succeeded.
 abbrev pub is_got : Outcome → Bool
 is_got (outcome.Id id) = false
 is_got outcome.Zero = false
@@ -20,12 +20,12 @@ is_got (outcome.Got mtype len) = true
 is_got (outcome.Stat stat) = false
 is_got (outcome.Refused why) = false
 
--- the messages that an event gave: one where it answered a receive that succeeded, else none
+-- The number of messages that an event returned: 1 if it ended a receive that succeeded, else 0.
 abbrev pub messages_given : Stepped → ℕ
 messages_given stepped.Nothing = 0
 messages_given (stepped.Answer answer) = cond (is_got answer.result) 1 0
 messages_given stepped.Worn = 0
 
--- and those that a list of answers gave
+-- The number of messages that a list of answers returned.
 abbrev pub messages_in : List Answer → ℕ
 messages_in answers = count_by (λ (a : Answer). is_got a.result) answers

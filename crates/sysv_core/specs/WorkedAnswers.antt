@@ -1,5 +1,5 @@
--- What the answer law admits and refuses, at the send of hello in the worked run: it started at step number
--- 2, looked, got a block, placed its text and was answered zero.
+-- What the answer law admits and refuses, at the send of "hello" in the worked run: the send
+-- started at step number 2, looked, got a block, placed its body and returned 0.
 use Rattle.std.specs.Prelude.{ℕ, pos, [], ◌∷◌, ◌++◌, true, Some}
 use Rattle.sysv_model.specs.declared.errno.Errno.TheVariants.{EAGAIN}
 use Rattle.sysv_model.specs.History.{Actor, Fits, Accepted, Full}
@@ -11,21 +11,23 @@ use Rattle.sysv_core.specs.World.{World, Started, opening, with_actor, begun, wi
 use Rattle.sysv_core.specs.AnswerLaw.{Fate, IsMade}
 use Rattle.sysv_core.specs.WorkedRun.{hello, send_hello, place_hello, look_for, one_calls, one_ends, the_calls, the_turns, the_answers, of_16}
 
+-- The call.
 abbrev pub the_send : Started
 the_send = one_calls 2 send_hello
 
--- the world after the run: every actor is idle
+-- The world after the run: every actor is idle.
 abbrev pub the_end : World
 the_end = record { turns = the_turns; calls = the_calls; actors = (opening of_16).actors; steps = 19; blocks = 128; generation = 0 }
 
--- the same, but actor 1 is in that call still, where it stood after its look
+-- The state of the call after its look.
 abbrev pub still_reserving : State
 still_reserving = Goes (AtReserve record { cred = the_send.cred; id = pos 0; mtype = pos 5; text = hello; nowait = true; released = 0; seen = true })
 
+-- The same world, but actor 1 is still in that call, in that state.
 abbrev pub going_on : World
 going_on = record the_end { actors = with_actor (opening of_16).actors 1 (Some record { call = the_send; state = still_reserving }) }
 
--- the send under way after one look for that many bytes
+-- A world in which the send is under way after one look for this number of bytes.
 abbrev pub looking : ℕ → World
 looking size = record {
   turns = with_preset_turns [] ++ record { who = the_send.who; deed = AtSlot 0 (look_for size) Fits } ∷ [];
@@ -36,6 +38,7 @@ looking size = record {
   generation = 0;
 }
 
+-- The look of the send; its reservation and its place follow.
 abbrev pub look_fits : Deed
 look_fits = AtSlot 0 (look_for 5) Fits
 
@@ -45,19 +48,20 @@ gets_a_block = AtPool (Reserve 5) (Reserved 1)
 abbrev pub accepts : ℕ → Deed
 accepts number = AtSlot 0 place_hello (Accepted number)
 
+-- What the law admits and refuses.
 pub record WorkedAnswers : Type 0 where
-  -- the call plays its own turns to the answer that it was given
+  -- The call plays its own turns to the ending that it has.
   pub plays : Plays (begun the_send) (look_fits ∷ gets_a_block ∷ accepts 0 ∷ []) (Over Zero)
   pub admitted : Fate the_end the_answers the_send
-  -- a full queue is not answered zero
+  -- A send that found the queue full does not return 0.
   pub full_sent : ¬ Plays (begun the_send) (AtSlot 0 (look_for 5) (Full 0) ∷ []) (Over Zero)
-  -- a call that was answered has one answer, that one, and its actor is not in it
+  -- A call that is over has one ending, the one of its turns, and its actor is not in it.
   pub unanswered : ¬ Fate the_end [] the_send
   pub answered_wrongly : ¬ Fate the_end (one_ends 2 send_hello (Refused EAGAIN) ∷ []) the_send
   pub answered_twice : ¬ Fate the_end (the_answers ++ one_ends 2 send_hello Zero ∷ []) the_send
   pub goes_on : ¬ Fate going_on the_answers the_send
-  -- a call under way asks for the size of its own text, and for no other
+  -- A call under way requests room for the size of its own body, and for no other size.
   pub looks : Fate (looking 5) [] the_send
   pub looks_otherwise : ¬ Fate (looking 6) [] the_send
-  -- a turn of nobody's call
+  -- A turn that no call made is refused.
   pub by_nobody : (deed : Deed) → ¬ IsMade the_calls (record { who = Actor 3 0; deed = deed })

@@ -1,11 +1,11 @@
 -- The worked run: one run of a world of 16 actors from its opening, with each answer in its place.
--- Actor 1 asks for a message where none is, sends one of type 5 with the text hello and one of type 2
--- with no text; actor 2 then receives three times; at last actor 1 sends one of type 0, which is
--- refused at its start. Every call has IPC_NOWAIT. It shows that the definitions of a world, its steps
--- and its legal replies have a run, and which one.
+-- Actor 1 requests a message when there is none, then sends a message of type 5 with the body
+-- "hello" and one of type 2 with an empty body. Actor 2 then receives three times. At last actor 1
+-- sends a message of type 0, which is refused at its start. Every call has IPC_NOWAIT. This shows
+-- that the definitions of a world, its steps and its legal replies have a run, and which one.
 --
--- Below it stand replies that are no legal ones at its turns, and the sums of two messages that fill
--- a queue to the byte.
+-- It is followed by replies that are not legal at its turns, and by two messages that fill a queue
+-- to the byte.
 use Rattle.std.specs.Prelude.{◌≡◌, ◌≢◌, ℕ, pos, List, [], ◌∷◌, ◌++◌, true, false, length, take, codes}
 use Rattle.sysv_model.specs.declared.cred.Cred.{Cred}
 use Rattle.sysv_model.specs.declared.errno.Errno.TheVariants.{EINVAL, ENOMSG}
@@ -36,7 +36,7 @@ nowait = IPC_NOWAIT
 abbrev pub hello : List ℕ
 hello = codes "hello"
 
--- the calls
+-- The calls.
 abbrev pub receive_up_to_100 : SystemCall
 receive_up_to_100 = Msgrcv (pos 0) 100 (pos 0) nowait
 
@@ -49,8 +49,8 @@ send_nothing = Msgsnd (pos 0) (pos 2) nowait []
 abbrev pub send_typeless : SystemCall
 send_typeless = Msgsnd (pos 0) (pos 0) nowait hello
 
--- what happens: each call is its start and its steps, a receive one, or two where it is given a message, and
--- a send three
+-- What happens: each call has its start and its steps. A receive has one step, or two if it takes a
+-- message; a send has three.
 abbrev pub one_starts : SystemCall → Happening
 one_starts call = Start 1 sender call
 
@@ -71,7 +71,7 @@ the_happenings =
     ∷ two_starts receive_up_to_100 ∷ steps 2
     ∷ one_starts send_typeless ∷ []
 
--- the calls, each with the step number at which it was started, and the released count at its start
+-- The calls, each with the step number at which it was started and the released count at its start.
 abbrev pub one_calls : (start : ℕ) → SystemCall → Started
 one_calls start call = record { who = Actor 1 start; cred = sender; asked = call; released = 0 }
 
@@ -91,7 +91,7 @@ the_calls =
     ∷ two_calls 16 2 receive_up_to_100
     ∷ last_call ∷ []
 
--- how they end, in order
+-- The endings, in order.
 abbrev pub one_ends : (start : ℕ) → SystemCall → Ending → Given
 one_ends start call ending = record { call = one_calls start call; ending = ending }
 
@@ -111,7 +111,7 @@ the_answers =
     ∷ two_ends 16 2 receive_up_to_100 (Refused ENOMSG)
     ∷ last_ends (Refused EINVAL) ∷ []
 
--- the two messages, and the turns at the slot with their replies
+-- The two messages, and the requests at the slot with their replies.
 abbrev pub hello_message : Message
 hello_message = record { number = 0; sender = 101; mtype = pos 5; bytes = hello }
 
@@ -136,7 +136,7 @@ place_nothing = Place (pos 0) sender (pos 2) [] 0
 abbrev pub preset_call : Call
 preset_call = Install (pos 0) IPC_PRIVATE preset_cred preset_flags.0 0
 
--- those of the calls, and before them that of the preset
+-- The turns of the calls at the slot; the turn of the preset precedes them.
 abbrev pub the_later_entries : History
 the_later_entries =
     turn_of 1 0 (take_by sender) (NoMatch 0)
@@ -151,14 +151,15 @@ the_later_entries =
 abbrev pub the_entries : History
 the_entries = turn_of 0 0 preset_call (Installed true) ∷ the_later_entries
 
--- a turn at the slot, and one at the pool
+-- A turn at the slot, and one at the pool.
 abbrev pub slot_turn : (actor start : ℕ) → Call → Reply → Turn
 slot_turn actor start call reply = record { who = Actor actor start; deed = AtSlot 0 call reply }
 
 abbrev pub pool_turn : (actor start : ℕ) → PoolCall → PoolReply → Turn
 pool_turn actor start call reply = record { who = Actor actor start; deed = AtPool call reply }
 
--- all turns: the preset's three, and those of the calls; hello takes one block, and no text takes none
+-- All turns: the three of the preset, and those of the calls. "hello" needs one block, and an empty
+-- body needs none.
 abbrev pub the_later_turns : List Turn
 the_later_turns =
     slot_turn 1 0 (take_by sender) (NoMatch 0)
@@ -177,41 +178,43 @@ the_later_turns =
 abbrev pub the_turns : List Turn
 the_turns = with_preset_turns [] ++ the_later_turns
 
--- a world of 16 actors
+-- A world of 16 actors.
 abbrev pub of_16 : Opening
 of_16 = record { actors = 16; blocks = 128; first = 0; generation = 0 }
 
--- The happenings lead from the opening world, by these calls and turns, and give these answers.
+-- The happenings lead from the opening world to a world with these calls and turns, with these
+-- endings.
 abbrev pub WorkedRun : Type 0
 WorkedRun = (w : World) × Leads (opening of_16) the_happenings the_answers w × (w.calls ≡ the_calls) × (w.turns ≡ the_turns)
 
--- the slot's history after that many turns of the run at the slot
+-- The slot's history after this number of turns of the run at the slot.
 abbrev pub after_turns : ℕ → History
 after_turns count = take count the_entries
 
--- the replies that each turn of the run may not have, by the turn before which they would come
+-- The replies that are not legal at a turn of the run, by the number of turns at the slot before
+-- it.
 pub record NoWrongReply : Type 0 where
-  -- the identifier is live from the preset on: no call is told that it is gone
+  -- The identifier is live from the preset on: no call finds it gone.
   pub first_take_gone : ¬ IsLegalReply (after_turns 1) (take_by sender) Gone
   pub look_gone : ¬ IsLegalReply (after_turns 2) (look_for 5) Gone
   pub place_gone : ¬ IsLegalReply (after_turns 3) place_hello Gone
   pub take_gone : ¬ IsLegalReply (after_turns 6) (take_by receiver) Gone
-  -- before anything was sent no message is taken, and there is room
+  -- Before anything was sent, no message is taken, and there is room.
   pub taken_early : (m : Message) → ¬ IsLegalReply (after_turns 1) (take_by sender) (Taken m)
   pub look_full : (freed : ℕ) → ¬ IsLegalReply (after_turns 2) (look_for 5) (Full freed)
   pub place_full : (freed : ℕ) → ¬ IsLegalReply (after_turns 3) place_hello (Full freed)
-  -- an accepted message has the number of those accepted before it, and no other
+  -- The number of an accepted message is the number of messages accepted before it, and no other.
   pub place_numbered : (number : ℕ) → number ≢ 1 → ¬ IsLegalReply (after_turns 5) place_nothing (Accepted number)
-  -- the first receive after the sends finds a message, and it is the first one, as it was sent
+  -- The first receive after the sends takes a message: the first one, as it was sent.
   pub take_none : (arrived : ℕ) → ¬ IsLegalReply (after_turns 6) (take_by receiver) (NoMatch arrived)
   pub take_another : (m : Message) → m ≢ hello_message → ¬ IsLegalReply (after_turns 6) (take_by receiver) (Taken m)
-  -- the second gives the other one, the third none
+  -- The second receive does not take it again, and the third takes none.
   pub take_again : ¬ IsLegalReply (after_turns 7) (take_by receiver) (Taken hello_message)
   pub take_third : (m : Message) → ¬ IsLegalReply (after_turns 8) (take_by receiver) (Taken m)
 
--- A text of 8,192 bytes is sent, and one of a byte more is refused. Two such texts fill the queue's
--- 16,384 bytes to the byte: after the first the second fits, and after both one byte more does not,
--- while a message of no bytes still does.
+-- A body of 8,192 bytes is sent, and one of 8,193 bytes is refused. Two bodies of 8,192 bytes fill
+-- the 16,384 bytes of the queue: after the first the second fits, and after both a body of one byte
+-- does not fit, while an empty one still does.
 abbrev pub send_of : List ℕ → Call
 send_of text = Place (pos 0) sender (pos 1) text 0
 

@@ -1,5 +1,6 @@
--- What the laws of waits and of removals admit and refuse: a receive of any message on the queue that a preset
--- made, a removal of it while that receive waits, and an identifier that is installed twice.
+-- What the laws of waits and of removals admit and refuse: a receive of any message on the queue
+-- that a preset made, a removal of that queue while the receive waits, and an identifier that is
+-- installed twice.
 use Rattle.std.specs.Prelude.{pos, List, [], ◌∷◌, ◌++◌, true}
 use Rattle.sysv_model.specs.declared.errno.Errno.TheVariants.{EIDRM, EINVAL}
 use Rattle.sysv_model.specs.declared.selector.Selector.TheVariants.{Any}
@@ -12,34 +13,42 @@ use Rattle.sysv_core.specs.Removed.{AreRemovedForGood}
 use Rattle.sysv_core.specs.LastWords.{IsToldSo}
 use Rattle.sysv_core.specs.WorkedRun.{sender, place_hello}
 
+-- A turn that no actor made.
 abbrev pub by_preset : Deed → Turn
 by_preset deed = record { who = preset_who; deed = deed }
 
 abbrev pub slot_0 : List Turn → History
 slot_0 turns = slot_history 0 turns
 
+-- The turns of the preset, and then one that puts a message on the queue.
 abbrev pub after_hello : List Turn
 after_hello = with_preset_turns [] ++ by_preset (AtSlot 0 place_hello (Accepted 0)) ∷ []
 
+-- The turns of the preset, and then one that removes the queue.
 abbrev pub after_removal : List Turn
 after_removal = with_preset_turns [] ++ by_preset (AtSlot 0 (Remove (pos 0) sender) (Discarded [])) ∷ []
 
+-- A turn of the receive that finds no message.
 abbrev pub finds_none : Deed
 finds_none = AtSlot 0 (Take (pos 0) sender Any 9 true 0) (NoMatch 0)
 
+-- A turn of the receive that finds the identifier gone.
 abbrev pub finds_it_gone : Deed
 finds_it_gone = AtSlot 0 (Take (pos 0) sender Any 9 true 0) Gone
 
+-- What the laws admit and refuse.
 pub record WorkedWaits : Type 0 where
-  -- it waits on the empty queue rightly, and not once a message is there or the queue has gone
+  -- The receive waits rightly on the empty queue, but not after a message is queued or the queue is
+  -- removed.
   pub waits : HasNothingToTake (slot_0 (with_preset_turns [])) (pos 0) sender Any
   pub sleeps_on : ¬ HasNothingToTake (slot_0 after_hello) (pos 0) sender Any
   pub sleeps_for_ever : ¬ HasNothingToTake (slot_0 after_removal) (pos 0) sender Any
-  -- it had come to the queue, and is told that it was removed
+  -- A receive that had come to the queue reports that it was removed; one that comes only
+  -- afterwards reports that there is none.
   pub told : IsToldSo (finds_none ∷ []) (finds_it_gone ∷ []) (Refused EIDRM ∷ [])
   pub told_never : ¬ IsToldSo (finds_none ∷ []) (finds_it_gone ∷ []) (Refused EINVAL ∷ [])
   pub told_to_a_later_one : IsToldSo [] (finds_it_gone ∷ []) (Refused EINVAL ∷ [])
-  -- after the removal the queue is not empty but gone
+  -- After the removal the queue is not empty but gone.
   pub found_again : ¬ IsToldSo (finds_none ∷ []) (finds_none ∷ []) []
-  -- an identifier does not come back
+  -- An identifier is not installed again.
   pub comes_back : ¬ AreRemovedForGood (after_removal ++ by_preset preset_install ∷ [])

@@ -1,7 +1,7 @@
--- A world: the turns that were made in it, the calls that were started, what each actor does, and the
--- number of counted events so far; and what one happening makes of it. A happening is a preset, the start
--- of an actor's call, or one step of it: one turn at one object, which has a legal reply, or a look at the
--- count for which the call waits (this profile's).
+-- A world: the turns that were made in it, the calls that were started, what each actor does, and
+-- the number of counted events so far; and the worlds to which a happening leads. A happening is a
+-- preset, the start of an actor's call, or one step of it: one turn at one object, which has a
+-- legal reply, or a look at the count for which the call waits (this project's profile).
 use Rattle.std.specs.Prelude.{◌≡◌, ℕ, zero, suc, pos, ◌+◌, ◌<◌, ◌≤◌, ◌⊎◌, Bool, true, false, List, [], ◌∷◌, ◌++◌, Option, Some, None, replicate, slice_get, slice_set}
 use Rattle.sysv_model.specs.declared.flags.Flags.{Flags}
 use Rattle.sysv_model.specs.declared.cred.Cred.{Cred}
@@ -20,27 +20,28 @@ use Rattle.sysv_steps.specs.Asks.{asks}
 use Rattle.sysv_steps.specs.Next.{next}
 use Rattle.sysv_steps.specs.Resume.{Count, ArrivedOf, FreedOf, Settled, Released, awaited, goal_of, resume}
 
--- what a world is opened with: its actors, the blocks of its pool, its first step number, and the
--- generation of its identifiers
+-- What a world is opened with: the number of its actors, the number of blocks of its pool, its
+-- first step number, and the generation of its identifiers.
 pub record Opening : Type 0 where
   pub actors : ℕ
   pub blocks : ℕ
   pub first : ℕ
   pub generation : ℕ
 
--- a call that was started: by which actor at which step number, with which credentials, what it is, and
--- the released count at its start
+-- A call that was started: by which actor at which step number, with which credentials, with which
+-- arguments, and the released count at its start.
 pub record Started : Type 0 where
   pub who : Who
   pub cred : Cred
   pub asked : SystemCall
   pub released : ℕ
 
--- a call under way, and where it stands
+-- A call under way and its state.
 pub record Doing : Type 0 where
   pub call : Started
   pub state : State
 
+-- A world, with everything that has happened in it.
 pub record World : Type 0 where
   pub turns : List Turn  -- all that were made, in order
   pub calls : List Started  -- all that were started, in order
@@ -49,86 +50,94 @@ pub record World : Type 0 where
   pub blocks : ℕ  -- those of the pool that it was opened with
   pub generation : ℕ  -- that with which its identifiers began
 
--- the world in which nothing has happened
+-- The world in which nothing has happened.
 abbrev pub opening : Opening → World
 opening o = record { turns = []; calls = []; actors = replicate o.actors None; steps = o.first; blocks = o.blocks; generation = o.generation }
 
--- a call that is over, and how it ended
+-- A call that is over, and how it ended.
 pub record Given : Type 0 where
   pub call : Started
   pub ending : Ending
 
--- what the actor does, if there is such an actor; actors count from 1
+-- What the actor does, if there is such an actor. Actors count from 1.
 abbrev pub actor_at : List (Option Doing) → ℕ → Option (Option Doing)
 actor_at actors zero = None
 actor_at actors (suc place) = slice_get actors place
 
--- the actor's call from then on, or none where it is idle
+-- The actors, after this one is in this call, or is idle.
 abbrev pub with_actor : List (Option Doing) → ℕ → Option Doing → List (Option Doing)
 with_actor actors zero doing = actors
 with_actor actors (suc place) doing = slice_set actors place doing
 
 -- ---- where a call goes
 
--- a call that stands there, as its actor's and as one that is over
+-- The call under way of an actor whose call is in this state: none if the call is over.
 abbrev pub doing_in : Started → State → Option Doing
 doing_in call (Goes phase) = Some record { call = call; state = Goes phase }
 doing_in call (Waits wait) = Some record { call = call; state = Waits wait }
 doing_in call (Over ending) = None
 
+-- The ending of a call in this state: none if the call is under way.
 abbrev pub given_in : Started → State → List Given
 given_in call (Goes phase) = []
 given_in call (Waits wait) = []
 given_in call (Over ending) = record { call = call; ending = ending } ∷ []
 
--- the world once the actor's call stands there, by one more counted event
+-- The world after the actor's call came to this state by one more counted event.
 abbrev pub in_state : World → ℕ → Started → State → World
 in_state w actor call state = record w { actors = with_actor w.actors actor (doing_in call state); steps = w.steps + 1 }
 
+-- The world with one more call that was started.
 abbrev pub with_call : World → Started → World
 with_call w call = record w { calls = w.calls ++ call ∷ [] }
 
+-- The world with one more turn that was made.
 abbrev pub with_turn : World → Who → Deed → World
 with_turn w who deed = record w { turns = w.turns ++ record { who = who; deed = deed } ∷ [] }
 
--- the world stays as it was, and gives nothing
+-- The world stays as it was, and no call ends.
 abbrev pub StaysWith : World → List Given → World → Type 0
 StaysWith w given after = (given ≡ []) × (after ≡ w)
 
 -- ---- the start of a call
 
--- the call that the actor starts now
+-- The call that the actor starts now.
 abbrev pub starting : World → ℕ → Cred → SystemCall → Started
 starting w actor cred asked = record { who = Actor actor w.steps; cred = cred; asked = asked; released = released (pool_history w.turns) }
 
+-- The state of the call at its start.
 abbrev pub begun : Started → State
 begun call = begin call.cred call.asked call.released
 
+-- The world after the start of this call, with its ending if it is over at once.
 abbrev pub Begins : World → ℕ → Started → List Given → World → Type 0
 Begins w actor call given after = (given ≡ given_in call (begun call)) × (after ≡ in_state (with_call w call) actor call (begun call))
 
 -- ---- a step of a call
 
--- one turn of the call, which asks what it asks in that phase and goes where the reply leads
+-- One turn of the call: it makes the request of that phase, has a legal reply, and leads to the
+-- next state in the step table.
 abbrev pub Turns : World → ℕ → Started → Phase → ℕ → List Given → World → Type 0
 Turns w actor call phase now given after =
     (deed : Deed) × (state : State) × (asked_by deed ≡ asks phase now) × IsLegalDeed w.generation w.blocks w.turns deed × (next phase deed ≡ Some state)
     × (given ≡ given_in call state) × (after ≡ in_state (with_turn w call.who deed) actor call state)
 
+-- The value of a count after these turns.
 abbrev pub value_of : List Turn → Count → ℕ
 value_of turns (ArrivedOf slot) = arrived (slot_history slot turns)
 value_of turns (FreedOf slot) = freed (slot_history slot turns)
 value_of turns Settled = settled (registry_history turns)
 value_of turns Released = released (pool_history turns)
 
--- the call looks at the count for which it waits: it goes on where its goal is reached, and else the world
--- stays
+-- The call looks at the count for which it waits. It continues if its goal is reached; else the
+-- world stays as it was.
 abbrev pub Looks : World → ℕ → Started → Wait → List Given → World → Type 0
 Looks w actor call wait given after =
     ((goal_of wait ≤ value_of w.turns (awaited wait)) × (given ≡ [])
     × (after ≡ in_state w actor call (Goes (resume wait (value_of w.turns (awaited wait))))))
     ⊎ ((value_of w.turns (awaited wait) < goal_of wait) × StaysWith w given after)
 
+-- One step of a call in this state.
 abbrev pub Continues : World → ℕ → ℕ → Started → State → List Given → World → Type 0
 Continues w actor now call (Goes phase) given after = Turns w actor call phase now given after
 Continues w actor now call (Waits wait) given after = Looks w actor call wait given after
@@ -136,58 +145,67 @@ Continues w actor now call (Over ending) given after = StaysWith w given after
 
 -- ---- what can happen
 
+-- What can happen in a world: a preset, the start of a call, or one step of a call.
 pub data Happening : Type 0 where
   Preset : Happening
   Start : (actor : ℕ) (cred : Cred) (asked : SystemCall) → Happening
   Step : (actor now : ℕ) → Happening
 
--- A start for an actor in a call, a step for an idle one and an actor that is not there leave the
--- world as it was.
+-- The start of a call. The world stays as it was if the actor is in a call or does not exist.
 abbrev pub StartsAt : World → ℕ → Cred → SystemCall → Option (Option Doing) → List Given → World → Type 0
 StartsAt w actor cred asked None given after = StaysWith w given after
 StartsAt w actor cred asked (Some (Some doing)) given after = StaysWith w given after
 StartsAt w actor cred asked (Some None) given after = Begins w actor (starting w actor cred asked) given after
 
+-- One step of a call. The world stays as it was if the actor is idle or does not exist.
 abbrev pub StepsAt : World → ℕ → ℕ → Option (Option Doing) → List Given → World → Type 0
 StepsAt w actor now None given after = StaysWith w given after
 StepsAt w actor now (Some None) given after = StaysWith w given after
 StepsAt w actor now (Some (Some doing)) given after = Continues w actor now doing.call doing.state given after
 
--- the preset queue: what msgget makes of the private key for user and group 1000, readable and writable by
--- its user, at moment 0. No actor makes it.
+-- The caller of the preset queue: no actor. The preset queue is what msgget makes of the private
+-- key for user and group 1000, readable and writable by its user, at time 0.
 abbrev pub preset_who : Who
 preset_who = Actor 0 0
 
+-- The credentials with which it is made.
 abbrev pub preset_cred : Cred
 preset_cred = record { uid = 1000; gid = 1000; pid = 0 }
 
+-- Its mode: readable and writable by its user.
 abbrev pub preset_flags : Flags
 preset_flags = record { 0 = USER_READ.0 + USER_WRITE.0 }
 
+-- The turn that makes its identifier.
 abbrev pub preset_begin : Deed
 preset_begin = AtRegistry (Begin IPC_PRIVATE preset_flags) (Made (pos 0))
 
+-- The turn that installs it.
 abbrev pub preset_install : Deed
 preset_install = AtSlot 0 (Install (pos 0) IPC_PRIVATE preset_cred preset_flags.0 0) (Installed true)
 
+-- The turn that settles its identifier.
 abbrev pub preset_settle : Deed
 preset_settle = AtRegistry (Settle (pos 0)) (Changed true)
 
+-- These turns, and then the three of a preset.
 abbrev pub with_preset_turns : List Turn → List Turn
 with_preset_turns turns =
     ((turns ++ record { who = preset_who; deed = preset_begin } ∷ []) ++ record { who = preset_who; deed = preset_install } ∷ []) ++ record { who = preset_who; deed = preset_settle } ∷ []
 
+-- The world after a preset that made the queue.
 abbrev pub with_preset : World → World
 with_preset w = record w { turns = with_preset_turns w.turns }
 
--- a preset makes it in three turns where slot 0 has no row and its generation is 0, and else changes
--- nothing; it is not counted
+-- A preset makes the queue in three turns if slot 0 has no row and generation 0. Else it changes
+-- nothing. It is not counted.
 abbrev pub Presets : World → Bool → World → Type 0
 Presets w made after =
     (IsUnused w.generation (registry_history w.turns) 0 × (made ≡ true) × (after ≡ with_preset w))
     ⊎ (¬ IsUnused w.generation (registry_history w.turns) 0 × (made ≡ false) × (after ≡ w))
 
--- from step number 2^62 on a start or a step finds the world worn out and changes nothing
+-- What a happening makes of a world. From step number 2^62 on, a start or a step finds the world
+-- worn out and changes nothing.
 abbrev pub Makes : World → Happening → List Given → World → Type 0
 Makes w Preset given after = (given ≡ []) × ((made : Bool) × Presets w made after)
 Makes w (Start actor cred asked) given after =

@@ -1,4 +1,4 @@
-//! A call under way, and what a start or a step of one leads to.
+//! A call under way, and the result of its start or of one of its steps.
 
 ghost use Rattle.std.specs.Prelude.{◌≡◌, is_some};
 ghost use Rattle.sysv_core.specs.Held.{IsHeld};
@@ -8,26 +8,29 @@ use crate::event::{Outcome, Standing};
 use sysv_model::Body;
 use sysv_queue::Delivery;
 
-/// A call under way: where it stands, and the body of a send or a receive. It can't be dropped, since it
-/// may hold blocks of the pool: it ends by `chain_in`.
+/// A call under way: the step before which it is or the wait that it is in, and the body of a send
+/// or a receive.
+///
+/// A `Doing` cannot be dropped, because it may hold blocks of the pool; end it with `chain_in`.
 pub struct Doing {
     pub standing: Standing,
     pub body: Option<Body>,
     pub ghost held: { IsHeld standing body },
 }
 
-/// What a start or a step of a call led to.
+/// The result of a start or a step of a call.
 pub enum Led {
-    /// The call goes on.
+    /// The call continues.
     To(Doing),
-    /// The call waits on, since its count is not above.
+    /// The call still waits, because its count is not above the value of the wait.
     Stays(Doing),
     /// The call is over.
     Over(Ended),
 }
 
-/// The end of a call. A receive answers with its body; that of a send is spare. Where it gives a message the
-/// delivery is here, which is spent as the answer is made.
+/// The end of a call. `body` is the body that a receive returns; `spare` is the body of a send.
+/// `delivery` is the delivery of the message that a receive returns, which is spent when the answer
+/// is made.
 pub struct Ended {
     pub result: Outcome,
     pub body: Option<Body>,

@@ -1,4 +1,4 @@
-//! A start and a step of an actor's call at the objects, and what it leads to.
+//! The start and the steps of an actor's call at the objects.
 
 ghost use Rattle.std.specs.Prelude.{◌≡◌, ◌≤◌, ℕ, ◌^◌, List, [], length, Option, None, Some, is_some, true};
 ghost use Rattle.sysv_model.specs.declared.limits.TheConstants.{MESSAGE_BYTES as most_bytes};
@@ -32,7 +32,7 @@ use sysv_steps::{
     Ending, Getting, Phase, Receiving, Sending, State, Wait, begin_remove, begin_set, begin_stat,
 };
 
-/// The start of a call, where the released count is `released`.
+/// Starts a call. `released` is the released count at that time.
 pub fn begin(cred: Cred, call: Call, released: u64) -> Led
     ensures { LeadsTo (gives_back (Some (kind_of (asked_of call))))
         (begins cred (asked_of call) released) result }
@@ -65,8 +65,8 @@ pub fn begin(cred: Cred, call: Call, released: u64) -> Led
     }
 }
 
-/// One step of a call, at the moment `now`: a turn at its object, or a look at the count for which it
-/// waits.
+/// Makes one step of a call at the time `now`: a turn at its object, or a look at the count for
+/// which it waits.
 pub fn advance(objects: &mut Objects, doing: Doing, now: u64) -> Led
     requires { CountsUpTo (2 ^ 62) objects.old }
     ensures { StepLeads objects.old
@@ -79,7 +79,7 @@ pub fn advance(objects: &mut Objects, doing: Doing, now: u64) -> Led
     }
 }
 
-/// How many steps it counts: none where the call waits on, else one.
+/// Returns how many steps are counted: 0 if the call still has to wait, else 1.
 pub fn counted(led: &Led) -> u64
     ensures counted { result ≡ counted_led led.now }
     ensures least { result ≤ 1 }
@@ -90,8 +90,8 @@ pub fn counted(led: &Led) -> u64
     }
 }
 
-/// One turn of a call that has this body. A chain that the pool refuses as that of another is freed, since it is
-/// given back once.
+/// Makes one turn of a call that has this body. A chain that the pool refuses as foreign ends here,
+/// because a chain is released only once.
 fn turn(objects: &mut Objects, phase: Phase, body: Option<Body>, now: u64) -> Led
     requires counts { CountsUpTo (2 ^ 62) objects.old }
     requires held { IsHeldBy (Goes (phase_of phase (text_in body))) body }
@@ -109,7 +109,7 @@ fn turn(objects: &mut Objects, phase: Phase, body: Option<Body>, now: u64) -> Le
     }
 }
 
-/// The moment of a step, at which the clock stands still.
+/// The time of a step, as a clock that always returns it.
 #[derive(Clone, Copy)]
 struct Moment {
     at: u64,
@@ -125,7 +125,7 @@ impl Clock for Moment {
     }
 }
 
-/// One turn of a call without a body.
+/// Makes one turn of a call without a body.
 fn bare_turn(objects: &mut Objects, moment: &Moment, phase: Phase) -> Led
     requires counts { CountsUpTo (2 ^ 62) objects.old }
     requires held { IsHeldBy (Goes (phase_of phase [])) None }
@@ -137,7 +137,7 @@ fn bare_turn(objects: &mut Objects, moment: &Moment, phase: Phase) -> Led
     lead(state, None, false)
 }
 
-/// The step of the call's kind.
+/// Makes the step, by the kind of the call.
 fn bare_step(objects: &mut Objects, kept: &mut Chain, moment: &Moment, phase: Phase) -> State
     requires counts { CountsUpTo (2 ^ 62) objects.old }
     requires held { IsHeldBy (Goes (phase_of phase [])) None }
@@ -158,7 +158,7 @@ fn bare_step(objects: &mut Objects, kept: &mut Chain, moment: &Moment, phase: Ph
     }
 }
 
-/// One turn of a send that has this text.
+/// Makes one turn of a send whose body is `body`.
 fn send_turn(objects: &mut Objects, moment: &Moment, body: Body, phase: Phase) -> Led
     requires counts { CountsUpTo (2 ^ 62) objects.old }
     requires short { length body ≤ most_bytes }
@@ -171,7 +171,7 @@ fn send_turn(objects: &mut Objects, moment: &Moment, body: Body, phase: Phase) -
     lead(state, Some(body), false)
 }
 
-/// One turn of a receive that fills this body.
+/// Makes one turn of a receive that fills `body`.
 fn receive_turn(objects: &mut Objects, moment: &Moment, mut body: Body, phase: Phase) -> Led
     requires counts { CountsUpTo (2 ^ 62) objects.old }
     requires receives { Receives (Goes (phase_of phase body)) }
@@ -183,7 +183,8 @@ fn receive_turn(objects: &mut Objects, moment: &Moment, mut body: Body, phase: P
     lead(state, Some(body), true)
 }
 
-/// A step of a call that waits: it goes on where its count is above, and else it stays.
+/// Makes a step of a call that waits: it continues if its count is above the value of the wait,
+/// else it still waits.
 fn look_again(objects: &Objects, wait: Wait, body: Option<Body>) -> Led
     requires { IsHeldBy (Waits (wait_of wait (text_in body))) body }
     ensures { LookLeads objects.now (wait_of wait (text_in body)) result }
@@ -202,7 +203,7 @@ fn look_again(objects: &Objects, wait: Wait, body: Option<Body>) -> Led
     }
 }
 
-/// The count for which a call waits.
+/// Returns the value of the count for which a call waits.
 fn count_of(objects: &Objects, wait: &Wait) -> u64
     ensures { (text : List ℕ) (generation : ℕ) (turns : List Turn) →
         StandsFor generation turns objects.now →
@@ -216,8 +217,8 @@ fn count_of(objects: &Objects, wait: &Wait) -> u64
     }
 }
 
-/// What a call that stands there leads to, with the body that its driver holds; only a receive answers
-/// with it.
+/// Returns the result of a call in this state. `back` is whether the call returns its body, as only
+/// a receive does.
 fn lead(state: State, body: Option<Body>, back: bool) -> Led
     requires held { IsHeldOrOver (state_of state (text_in body)) body }
     requires back { back ≡ true → is_some body ≡ true }
@@ -236,8 +237,8 @@ fn lead(state: State, body: Option<Body>, back: bool) -> Led
     }
 }
 
-/// The end of a call. A body that was given no text is empty where the call answers with it, and one with
-/// which it does not answer is spare.
+/// Returns the result of a call that is over. A body that the call returns is empty if no message
+/// was written to it. A body that the call does not return is spare.
 fn over(ending: Ending, body: Option<Body>, back: bool) -> Led
     requires { back ≡ true → is_some body ≡ true }
     ensures { LeadsTo back (state_of (State.Over ending) (text_in body)) result }
@@ -269,8 +270,8 @@ fn over(ending: Ending, body: Option<Body>, back: bool) -> Led
     }
 }
 
-/// The result of a call that was given a text of so many bytes, if it was given one, and the delivery of
-/// the message that it gives.
+/// Returns the outcome of a call, and the delivery of the message that it returns. `len` is the
+/// number of bytes of that message.
 fn outcome(ending: Ending, len: usize) -> (Outcome, Option<Delivery>)
     ensures told { (text : List ℕ) → length text ≡ len →
         result.0 ≡ outcome_of (ending_of ending text) }

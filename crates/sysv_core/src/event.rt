@@ -1,118 +1,124 @@
 use sysv_model::{Body, Cred, Errno, Flags, SetTo, Stat};
 use sysv_steps::{Phase, Wait};
 
-/// A call that an actor can start. Where one of its own arguments is refused it answers EINVAL at its
-/// start, and nothing else has changed. Flags that a call does not use are ignored.
+/// A call that an actor can start.
+///
+/// If one of its own arguments is invalid, the call fails with EINVAL at its start and changes
+/// nothing else. Flags that a call does not use are ignored.
 #[derive(Drop)]
 pub enum Call {
-    /// `msgget`: the identifier of `key`, or that of a new queue (POSIX.1-2017, `msgget`).
+    /// `msgget`: finds the queue of `key` or makes a new one, and returns its identifier
+    /// (POSIX.1-2017, `msgget`).
     Get {
-        /// The key; IPC_PRIVATE always makes a new queue.
+        /// The key. IPC_PRIVATE always makes a new queue.
         key: i32,
-        /// IPC_CREAT, IPC_EXCL and the mode, whose low nine bits are those of a new queue; of a queue
-        /// that is there they say which permissions are asked.
+        /// IPC_CREAT, IPC_EXCL and a mode. The low nine bits of the mode are the permissions of a
+        /// new queue, or those that are requested of an existing queue.
         flags: Flags,
     },
-    /// `msgsnd`: the text in `body` as a message of type `mtype` (POSIX.1-2017, `msgsnd`). Its answer does
-    /// not have the body, which `World::spare` gives back.
+    /// `msgsnd`: sends `body` as a message of type `mtype` (POSIX.1-2017, `msgsnd`). The answer
+    /// does not contain the body; `World::spare` returns it.
     Send {
-        /// The queue, from 0; a negative one is refused.
+        /// The identifier of the queue. A negative one is refused.
         id: i32,
-        /// The message's type, from 1; a lower one is refused.
+        /// The type of the message, at least 1. A lower type is refused.
         mtype: i64,
-        /// With IPC_NOWAIT the call does not wait for room.
+        /// With IPC_NOWAIT, the call does not wait for room.
         flags: Flags,
-        /// The text, at most 8,192 bytes; a longer one is refused.
+        /// The body of the message, at most 8,192 bytes. A longer body is refused.
         body: Body,
     },
-    /// `msgrcv`: at most `size` bytes of the message that `mtype` selects, put into `body`
-    /// (POSIX.1-2017, `msgrcv`).
+    /// `msgrcv`: takes the message that `mtype` selects and writes at most `size` bytes of it to
+    /// `body` (POSIX.1-2017, `msgrcv`).
     Receive {
-        /// The queue, from 0; a negative one is refused.
+        /// The identifier of the queue. A negative one is refused.
         id: i32,
-        /// The most bytes that are given.
+        /// The maximum number of bytes to return.
         size: u32,
-        /// 0 for the first message, a positive type for the first of it, a negative one for the first
-        /// of the lowest type that is at most its absolute value.
+        /// 0 selects the first message. A positive type selects the first message of that type. A
+        /// negative type selects the first message of the lowest type that is at most its absolute
+        /// value.
         mtype: i64,
-        /// With MSG_NOERROR a longer text is cut, with IPC_NOWAIT the call does not wait for a
-        /// message, and with MSG_EXCEPT a positive type asks for the first message of any other.
+        /// With MSG_NOERROR, a longer body is cut. With IPC_NOWAIT, the call does not wait for a
+        /// message. With MSG_EXCEPT, a positive type selects the first message of any other type.
         flags: Flags,
-        /// What it holds is dropped at the start.
+        /// The body to fill. Its previous bytes are discarded.
         body: Body,
     },
-    /// `msgctl` with IPC_STAT: the attributes of the queue (POSIX.1-2017, `msgctl`).
+    /// `msgctl` with IPC_STAT: returns the attributes of the queue (POSIX.1-2017, `msgctl`).
     Stat {
-        /// The queue, from 0; a negative one is refused.
+        /// The identifier of the queue. A negative one is refused.
         id: i32,
     },
-    /// `msgctl` with IPC_SET: gives the queue this owner, this mode and this limit (POSIX.1-2017,
+    /// `msgctl` with IPC_SET: changes the owner, the mode and the limit of the queue (POSIX.1-2017,
     /// `msgctl`).
     Set {
-        /// The queue, from 0; a negative one is refused.
+        /// The identifier of the queue. A negative one is refused.
         id: i32,
-        /// What it is given.
+        /// The new values.
         to: SetTo,
     },
-    /// `msgctl` with IPC_RMID: removes the queue with all that waits on it (POSIX.1-2017, `msgctl`).
+    /// `msgctl` with IPC_RMID: removes the queue and discards its queued messages (POSIX.1-2017,
+    /// `msgctl`).
     Remove {
-        /// The queue, from 0; a negative one is refused.
+        /// The identifier of the queue. A negative one is refused.
         id: i32,
     },
 }
 
-/// What can happen in a world: an actor starts a call, or makes one step of the call it is in.
-/// Actors count from 1.
+/// An event of a world: an actor starts a call, or makes one step of the call that it is in. Actors
+/// count from 1.
 #[derive(Drop)]
 pub enum Event {
     /// The actor starts a call with these credentials.
     Start { actor: u32, cred: Cred, call: Call },
-    /// The actor makes one step at the moment `now`, in seconds.
+    /// The actor makes one step at the time `now`, in seconds.
     Step { actor: u32, now: u64 },
 }
 
 /// How a call ended.
 #[derive(Clone, Copy, PartialEq, Eq, Debug)]
 pub enum Outcome {
-    /// A get succeeded: the identifier of the queue.
+    /// A get succeeded. The value is the identifier of the queue.
     Id(i32),
-    /// The call succeeded and has nothing to tell.
+    /// The call succeeded and returns no value.
     Zero,
-    /// A receive succeeded: the message's type and the number of bytes given.
+    /// A receive succeeded. `mtype` is the type of the message, and `len` is the number of bytes
+    /// that were returned.
     Got { mtype: i64, len: usize },
     /// The attributes of the queue.
     Stat(Stat),
-    /// The call was refused.
+    /// The call failed with this error.
     Refused(Errno),
 }
 
-/// Where a call under way stands. What it holds there can be neither dropped nor copied.
+/// The position of a call under way. What the call holds there can be neither dropped nor copied.
 pub enum Standing {
-    /// Before this step.
+    /// The call is before this step.
     At(Phase),
-    /// In this wait, until a step of its actor finds the count above.
+    /// The call is in this wait, until a step of its actor finds the count above the value.
     Waits(Wait),
 }
 
 /// The answer to an actor's call.
 #[derive(Drop)]
 pub struct Answer {
-    /// Whose call it is.
+    /// The actor that made the call.
     pub actor: u32,
-    /// How it ended.
+    /// How the call ended.
     pub result: Outcome,
-    /// The body that a receive brought, with the text that it was given, or empty after a refusal;
-    /// `None` for every other call.
+    /// The body that a receive brought: with the bytes of the message, or empty if the receive
+    /// failed. `None` for every other call.
     pub body: Option<Body>,
 }
 
-/// What one event gave.
+/// The result of one event.
 #[derive(Drop)]
 pub enum Stepped {
-    /// No answer yet, or the event was not possible.
+    /// There is no answer yet, or the event was not possible.
     Nothing,
-    /// The actor's call was answered.
+    /// The call of the actor is over.
     Answer(Answer),
-    /// The world is worn out after 2^62 steps; nothing has changed.
+    /// The step number has reached 2^62, so the world is worn out. Nothing has changed.
     Worn,
 }

@@ -1,4 +1,4 @@
-//! What calls that are under way hold, given back.
+//! Ends calls under way and returns the blocks that they hold.
 
 ghost use Rattle.std.specs.Prelude.{◌≡◌, List, ℕ};
 ghost use Rattle.sysv_steps.specs.HeldBlocks.{held};
@@ -14,7 +14,8 @@ use sysv_pool::Chain;
 use sysv_queue::Tally;
 use sysv_steps::Phase;
 
-/// Ends the call where it stands, and gives the blocks that it holds. A message that it was given is lost.
+/// Ends the call at its position and returns the blocks that it holds. A message that a receive has
+/// taken is lost.
 pub fn chain_in(doing: Doing) -> Chain
     ensures { result.blocks ≡ held (stands_at doing.standing (text_in doing.body)) }
 {
@@ -28,7 +29,7 @@ pub fn chain_in(doing: Doing) -> Chain
     }
 }
 
-/// The chain that a call holds before this step, or an empty one.
+/// Returns the chain that a call holds before this step, or an empty chain.
 fn chain_of(phase: Phase) -> Chain
     ensures { (text : List ℕ) → result.blocks ≡ held (Goes (phase_of phase text)) }
 {
@@ -73,7 +74,7 @@ fn chain_of(phase: Phase) -> Chain
     }
 }
 
-/// Ends the calls under way, and gives the blocks that they hold as one chain.
+/// Ends the calls under way and returns the blocks that they hold as one chain.
 pub fn end_all(mut actors: Vec<Option<Doing>>) -> Chain
     ensures { result.blocks ≡ blocks_kept actors.items }
 {

@@ -1,4 +1,4 @@
-//! Laws over the definitions alone.
+//! Laws that are statements over definitions alone.
 
 ghost use Rattle.sysv_core.specs.Headline.{EveryRunObeys};
 ghost use Rattle.sysv_core.specs.Sound.{OpensSound, StaysSound};
@@ -18,7 +18,8 @@ use sysv_steps::{
     each_holds_what_it_was_asked, waits_for_its_refusal,
 };
 
-/// The headline: every list of happenings leads from every opening only to worlds that obey the laws.
+/// States the headline: every list of happenings leads from every opening only to worlds that obey
+/// the laws.
 pub fn every_run_obeys()
     ensures { EveryRunObeys }
 {
@@ -36,7 +37,8 @@ pub fn every_run_obeys()
     after_removal();
 }
 
-/// A world in which nothing has happened is sound, and whatever happens in a sound world leaves a sound world.
+/// States that a world in which nothing has happened is sound, and that each happening in a sound
+/// world leads to a sound world.
 pub fn each_world_is_sound()
     ensures opens { OpensSound }
     ensures stays { StaysSound }
@@ -48,7 +50,8 @@ pub fn each_world_is_sound()
     each_holds_its_blocks();
 }
 
-/// An event, and a preset, makes one world at most of a sound world, and gives one result.
+/// States that an event leads from a sound world to at most one world, with one result, and that a
+/// preset leads from a world to at most one world, with one result.
 pub fn one_step()
     ensures step { OneStep }
     ensures preset { OnePreset }
@@ -57,7 +60,7 @@ pub fn one_step()
     one_legal_deed();
 }
 
-/// Each event, and each preset, leads somewhere from a sound world.
+/// States that each event and each preset leads from a sound world to a sound world.
 pub fn some_step()
     ensures step { SomeStep }
     ensures preset { SomePreset }
@@ -67,7 +70,7 @@ pub fn some_step()
     unused_slots();
 }
 
-/// Each list of happenings leads somewhere from an opening.
+/// States that each list of happenings leads from each opening to a world.
 pub fn some_run()
     ensures { SomeRun }
 {
@@ -77,7 +80,8 @@ pub fn some_run()
     unused_slots();
 }
 
-/// A list of happenings leads from a sound world to one world at most, with one list of endings.
+/// States that a list of happenings leads from a sound world to at most one world, with one list of
+/// endings.
 pub fn one_run()
     ensures { OneRun }
 {
@@ -85,23 +89,24 @@ pub fn one_run()
     one_legal_deed();
 }
 
-/// The worked run is a run of the definitions, with its endings in their places.
+/// States that the worked run is a run of the definitions, with its endings in their places.
 pub fn worked_run()
     ensures { WorkedRun }
 {}
 
-/// At the turns of the worked run a wrong reply is no legal one.
+/// States that wrong replies are not legal at the turns of the worked run.
 pub fn no_wrong_reply()
     ensures { NoWrongReply }
 {}
 
-/// The replies that selection by type, MSG_NOERROR and permission give at one point of the worked run
-/// are the legal ones, and those that a wrong rule would give are not.
+/// States which replies are legal at one point of the worked run, by selection by type, MSG_NOERROR
+/// and permission, and that the replies of wrong rules are not.
 pub fn worked_selection()
     ensures { WorkedSelection }
 {}
 
-/// At a send of the worked run the answer law admits what happened, and refuses what did not.
+/// States that at a send of the worked run the answer law admits what happened and refuses what did
+/// not.
 pub fn worked_answers()
     ensures { WorkedAnswers }
 {
@@ -109,13 +114,14 @@ pub fn worked_answers()
     each_answer_is_right();
 }
 
-/// The laws of waits and of removals admit a receive that waits rightly and is told of a removal, and refuse
-/// one that sleeps on, one that is told something else and an identifier that comes back.
+/// States that the laws of waits and removals admit a receive that waits rightly and then reports a
+/// removal. They refuse a receive that keeps waiting, one that reports something else, and an
+/// identifier that is installed again.
 pub fn worked_waits()
     ensures { WorkedWaits }
 {}
 
-/// Two messages of 8,192 bytes fill the queue to the byte.
+/// States that two messages of 8,192 bytes fill a queue to the byte.
 pub fn exact_fit()
     ensures { ExactFit }
 {}

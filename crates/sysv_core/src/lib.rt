@@ -1,5 +1,5 @@
-//! A world of queues and actors in which every call is made of atomic steps: one turn at one object
-//! each, or one look at the count for which it waits.
+//! A world of queues and actors in which every call is made of atomic steps. A step is one turn at
+//! one object, or one look at the count for which the call waits.
 //!
 //! ```rust
 //! let mut world = World::open(rt.alloc(), 2, 128)?;

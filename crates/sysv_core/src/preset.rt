@@ -25,7 +25,8 @@ const PRESET: Cred = Cred {
     pid: 0,
 };
 
-/// Makes it, where slot 0 is unused: three turns, as a get of a private key would make them.
+/// Makes the preset queue, if slot 0 is unused, by the three turns that a get of a private key
+/// would make. Returns whether the queue was made.
 pub fn preset_queue(objects: &mut Objects) -> bool
     ensures { MakesPreset objects.old result objects.new }
 {
@@ -40,6 +41,7 @@ pub fn preset_queue(objects: &mut Objects) -> bool
     installed && settled
 }
 
+/// Requests an identifier for a private queue.
 fn begin(objects: &mut Objects, flags: Flags) -> Begun
     ensures { MakesTurn objects.old (AtRegistry (Begin private flags) (begun_reply result))
         objects.new }
@@ -51,6 +53,7 @@ fn begin(objects: &mut Objects, flags: Flags) -> Begun
     }
 }
 
+/// Installs the queue, and returns whether the slot was vacant.
 fn install(objects: &mut Objects, id: i32, mode: u32) -> bool
     ensures { MakesTurn objects.old (AtSlot (slot_of_id id)
         (Install id private preset_cred mode 0) (Installed result)) objects.new }
@@ -68,6 +71,7 @@ fn install(objects: &mut Objects, id: i32, mode: u32) -> bool
     }
 }
 
+/// Settles the identifier, and returns whether a row changed.
 fn settle(objects: &mut Objects, id: i32) -> bool
     ensures { MakesTurn objects.old (AtRegistry (Settle id) (Changed result)) objects.new }
 {

@@ -23,27 +23,28 @@ use sysv_objects::{Objects, legal_turns};
 use sysv_queue::Tally;
 use thiserror::Error;
 
-/// Why a world is not opened.
+/// The reason why a world cannot be opened.
 #[derive(Clone, Copy, PartialEq, Eq, Debug, Error)]
 pub enum OpenRefused {
     /// Memory was refused.
     #[error("no memory")]
     NoMemory,
-    /// The number of actors is not 1 to 1,024, that of blocks not 128 to 65,536, the first step number
-    /// above 2^62, or the generation above the last one.
+    /// A size is out of its range: 1 to 1,024 actors, 128 to 65,536 blocks, a first step number of
+    /// at most 2^62, and a generation up to the last one.
     #[error("a size out of range")]
     BadSize,
 }
 
-/// Queues and their actors, which make their calls step by step. Actors count from 1. A world can't be
-/// dropped: it ends by `end`.
+/// A world of queues and actors that make their calls step by step. Actors count from 1.
+///
+/// A `World` cannot be dropped; end it with `end`.
 pub struct World {
     objects: Objects,
     actors: Vec<Option<Doing>>,
     steps: u64,
-    /// The body of the last send that was answered, until it is asked for.
+    /// The body of the last send that is over, until `spare` returns it.
     spare: Option<Body>,
-    /// The messages that answers gave.
+    /// The messages that the answers returned.
     tally: Tally,
 }
 
@@ -67,9 +68,13 @@ impl Model for World {
 }
 
 impl World {
-    /// A world of 1 to 1,024 idle actors, vacant slots, a registry without rows, and a pool of `blocks`
-    /// blocks, 128 to 65,536. `BadSize` where one of them is out of its range,
-    /// `NoMemory` where memory was refused.
+    /// Opens a world of `actors` idle actors (1 to 1,024), vacant slots, a registry without rows,
+    /// and a pool of `blocks` blocks (128 to 65,536).
+    ///
+    /// # Errors
+    ///
+    /// - `BadSize` if and only if `actors` or `blocks` is out of its range.
+    /// - `NoMemory` if memory is refused.
     pub fn open(alloc: Global, actors: u32, blocks: u32) -> Result<World, OpenRefused>
         ensures opened { IfOk result (λ world.
             StandsFor record { actors = actors; blocks = blocks; first = 0; generation = 0 } [] [] world) }
@@ -81,9 +86,14 @@ impl World {
         World::open_at(alloc, actors, blocks, 0, 0)
     }
 
-    /// As `open`, with another first step number, 0 to 2^62, and another generation with which the
-    /// identifiers of all slots begin, up to the last one. `BadSize` where one of the four is out of its
-    /// range, `NoMemory` where memory was refused.
+    /// Opens a world like `open`, but with `first_step` (0 to 2^62) as its first step number, and
+    /// with `generation` (up to 8,388,607) as the generation with which the identifiers of all
+    /// slots begin.
+    ///
+    /// # Errors
+    ///
+    /// - `BadSize` if and only if one of the four arguments is out of its range.
+    /// - `NoMemory` if memory is refused.
     pub fn open_at(
         alloc: Global,
         actors: u32,
@@ -122,13 +132,17 @@ impl World {
         }
     }
 
-    /// Makes a live private queue 0 of user and group 1000 and mode 0600 at moment 0, as `msgget` does
-    /// for IPC_PRIVATE (POSIX.1-2017, `msgget`), by process 0. `false`, with nothing changed, where slot
-    /// 0 has a row or a generation other than 0. It is not counted, and takes no memory.
+    /// Makes queue 0, a private queue of user and group 1000 with mode 0600, and returns whether it
+    /// was made.
+    ///
+    /// The queue is made at time 0 by process 0, as `msgget` makes one for IPC_PRIVATE
+    /// (POSIX.1-2017, `msgget`). If slot 0 has a row, or a generation other than 0, the result is
+    /// `false` and nothing has changed. A preset is not counted as a step, and allocates nothing.
     pub fn preset(&mut self) -> bool
-        // For every list of happenings that the world stands for, it then stands for that list and a preset.
+        // For every list of happenings for which the world stands, it then stands for that list and
+        // a preset.
         ensures stands { StandsWithPreset self.old self.new }
-        // What the preset makes of each world as which it is seen.
+        // States what the preset makes of each world as which this world is seen.
         ensures single { PresetsSeen self.old result self.new }
         ensures refused { result ≡ false → self.new ≡ self.old }
         ensures tally { self.new.tally ≡ self.old.tally }
@@ -142,20 +156,23 @@ impl World {
         preset_queue(&mut self.objects)
     }
 
-    /// Lets one event happen, and says what it gave: the start of a call, one turn of it at its object, or
-    /// one look at the count for which it waits (POSIX.1-2017, `msgget`, `msgsnd`, `msgrcv` and `msgctl`;
-    /// the steps are this profile's). An event that is not possible in its actor's phase, and the step of
-    /// an actor that waits on, gives nothing and changes nothing. Once 2^62 events were counted the world
-    /// is worn, and nothing changes any more. It takes no memory.
+    /// Makes one event happen and returns its result.
+    ///
+    /// An event is the start of a call or one step of it: one turn at its object, or one look at
+    /// the count for which it waits (POSIX.1-2017, `msgget`, `msgsnd`, `msgrcv` and `msgctl`; the
+    /// steps are this project's profile). The result is `Answer` if the call is over, else
+    /// `Nothing`. An event that is not possible changes nothing, and its result is `Nothing`: its
+    /// actor does not exist, is in a call at a start, is idle at a step, or still has to wait.
+    /// From step number 2^62 on, the result is `Worn` and nothing changes. Allocates nothing.
     pub fn step(&mut self, event: Event) -> Stepped
-        // For every list of happenings that the world stands for, it then stands for that list and the
-        // event, and gives what the run gives.
+        // For every list of happenings for which the world stands, it then stands for that list and
+        // the event, and the result is that of the run.
         ensures stands { StandsWithEvent self.old event result self.new }
-        // What the event makes of each world as which it is seen.
+        // States what the event makes of each world as which this world is seen.
         ensures single { StepsSeen self.old event result self.new }
         ensures worn { (result ≡ Stepped.Worn) ↔ (worn ≤ self.old.steps) }
         ensures unchanged { result ≡ Stepped.Worn → self.new ≡ self.old }
-        // A message that it answers is counted as written, and none as lost.
+        // A message that the result returns is counted as written, and no message as lost.
         ensures written { self.new.tally.written ≡ self.old.tally.written + messages_given result }
         ensures lost { self.new.tally.lost ≡ self.old.tally.lost }
     {
@@ -168,17 +185,21 @@ impl World {
         }
     }
 
-    /// Lets the events happen in order, and answers what they gave, up to the end or to the first
-    /// that finds the world worn; those after it are dropped. Where there is no room for all answers
-    /// the events come back, and nothing has happened.
+    /// Makes the events happen in order and returns their answers, in order. The run ends after the
+    /// last event, or before the first event that finds the world worn out; the remaining events
+    /// are dropped.
+    ///
+    /// # Errors
+    ///
+    /// If there is no memory for the answers, the events are returned, and nothing has happened.
     pub fn run(&mut self, alloc: Global, events: Vec<Event>) -> Result<Vec<Answer>, Vec<Event>>
-        // For every list of happenings that the world stands for, it then stands for that list and the
-        // events done, and the answers are those of that run.
+        // For every list of happenings for which the world stands, it then stands for that list and
+        // the events that happened, and the answers are those of that run.
         ensures stands { IfOk result (λ answers.
             StandsWithEvents self.old events.items answers.items self.new) }
-        // Each world of a list obeys the laws.
+        // The world of each list obeys the laws.
         ensures law { LawsHold self.new }
-        // Each message that it answers is counted as written, and none as lost.
+        // Each message that the answers return is counted as written, and no message as lost.
         ensures written { IfOk result (λ answers.
             self.new.tally.written ≡ self.old.tally.written + messages_in answers.items) }
         ensures lost { self.new.tally.lost ≡ self.old.tally.lost }
@@ -199,8 +220,8 @@ impl World {
         Ok(answers)
     }
 
-    /// The body of the last send that was answered, emptied, for another call; an answer never has it.
-    /// `None` once it was given here. It takes no memory.
+    /// Returns an empty body that can be used for another call: that of the last send that is over.
+    /// Returns `None` if no send has ended, or if that body was returned before. Allocates nothing.
     pub fn spare(&mut self) -> Option<Body>
         ensures empty { IfSome result (λ body. body ≡ []) }
         ensures kept { self.new ≡ self.old }
@@ -210,15 +231,16 @@ impl World {
         Some(body)
     }
 
-    /// The messages that the answers of the world gave, each counted as written. It takes no memory.
+    /// Returns the counts of the messages that the answers of the world returned: each is counted
+    /// as written. Allocates nothing.
     pub fn tally(&self) -> Tally
         ensures { result ≡ self.now.tally }
     {
         self.tally
     }
 
-    /// Where the call of `actor` stands: before a step, or in a wait. `None` where the actor is idle, and
-    /// for a number that no actor has. Actors count from 1.
+    /// Returns the position of the call of `actor`: before a step, or in a wait. Returns `None` if
+    /// the actor is idle or does not exist. Actors count from 1.
     pub fn standing(&self, actor: u32) -> Option<&Standing>
         ensures { MatchOption result (StandsNowhere (state_at self.now.states actor)) (λ standing.
             StandsThere (state_at self.now.states actor) standing.now) }
@@ -230,11 +252,13 @@ impl World {
         }
     }
 
-    /// Ends the world: puts the blocks of all that waits, and those that calls under way hold, back into the
-    /// pool, and answers how many blocks are free then, which are all that the world was opened with. A message
-    /// that a receive under way was given is lost. It takes no memory.
+    /// Ends the world and returns the number of blocks that are then free: all blocks with which
+    /// the world was opened.
+    ///
+    /// The blocks of queued messages, and those that calls under way hold, are returned to the pool
+    /// first. A message that a receive under way has taken is lost. Allocates nothing.
     pub fn end(self) -> u32
-        // For every list of happenings that the world stands for.
+        // This holds for every list of happenings for which the world stands.
         ensures { AreAllFree self result }
     {
         let World {
@@ -275,7 +299,7 @@ impl World {
         )
     }
 
-    /// Makes one step of the actor's call, which is counted unless the call waits on.
+    /// Makes one step of the actor's call. The step is counted unless the call still has to wait.
     fn turn(&mut self, actor: u32, now: u64) -> Stepped
         requires { self.old.steps < worn }
         ensures single { StepsSeen self.old (Step actor now) result self.new }
@@ -302,7 +326,7 @@ impl World {
         )
     }
 
-    /// Where the actor stands in the list, if there is such an actor.
+    /// Returns the place of the actor in the list, if the actor exists.
     fn place_of(&self, actor: u32) -> Option<usize>
         ensures { MatchOption result ((actor ≡ 0) ⊎ (length self.now.states < actor))
             (λ place. (actor ≡ place + 1) × (place < length self.now.states)) }
@@ -312,9 +336,9 @@ impl World {
     }
 }
 
-/// The actor at that place, which is in no call, goes on with its call, or is idle and its answer is given.
-/// A body that is spare is kept in the place of the one before, and a message that the answer gives is
-/// counted as written.
+/// Stores the result of a start or a step for the actor at that place. Either the actor continues
+/// with its call, or it is idle and its answer is returned. A spare body replaces the one that was
+/// kept before, and a message that the answer returns is counted as written.
 #[inline(always)]
 fn settle(
     actors: &mut Vec<Option<Doing>>,
@@ -360,7 +384,7 @@ fn settle(
     }
 }
 
-/// That many idle actors.
+/// Returns a list of `actors` idle actors.
 fn idle(alloc: Global, actors: usize) -> Result<Vec<Option<Doing>>, OpenRefused>
     ensures { MatchResult result (λ made. made.items ≡ replicate actors None) (λ e.
         e ≡ OpenRefused.NoMemory) }

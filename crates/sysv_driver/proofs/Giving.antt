@@ -1,4 +1,4 @@
--- A receive gives what it took, at one step.
+-- At each step, a receive returns what it took.
 use Rattle.std.proofs.Common.{ℕ, inl, inr, List, [], ◌∷◌, ◌++◌}
 use Rattle.sysv_model.specs.Turn.{Ask, Deed}
 use Rattle.sysv_queue.specs.Delivery.{Given}
@@ -24,16 +24,16 @@ module _ {P : Type 0} (takes : P → Deed → P → Type 0) (misses : P → Ask 
   gives_on still (inl step) = inl (step, λ deeds has. still deeds (step.deed ∷ []) has)
   gives_on still (inr step) = inr (step, λ deeds has. still deeds step.deeds has)
 
-  -- it has nothing to give
+  -- The receive has nothing to return.
   pub gives_nothing : GivesNothing (state_of stands out) → StepsOn takes misses may (phase_of there text) before kept (state_of stands out) after keeps → StepsGiving takes misses may there text before kept stands out after keeps
   gives_nothing none = gives_on (λ deeds more has. nothing_to_have stands out (deeds ++ more) none)
 
-  -- it has just taken what it gives
+  -- The receive has just taken what it returns.
   pub took : (step : Steps takes misses may (phase_of there text) before kept (state_of stands out) after keeps) → (given : Given) → ((deeds : List Deed) → HaveTaken given deeds → HasWhatItGives stands deeds) → TakesGiven given step.deed →
       StepsGiving takes misses may there text before kept stands out after keeps
   took step given gives takes_it = inl (step, λ deeds has. gives (deeds ++ step.deed ∷ []) (has_last given deeds step.deed takes_it))
 
-  -- it gives what it had taken before
+  -- The receive returns what it had taken before.
   pub gives_still : (given : Given) → ((deeds : List Deed) → HasWhatItGives (state.Goes there) deeds → HaveTaken given deeds) → ((deeds : List Deed) → HaveTaken given deeds → HasWhatItGives stands deeds) →
       StepsOn takes misses may (phase_of there text) before kept (state_of stands out) after keeps → StepsGiving takes misses may there text before kept stands out after keeps
   gives_still given had gives = gives_on (λ deeds more has. gives (deeds ++ more) (has_more given deeds more (had deeds has)))

@@ -1,4 +1,4 @@
--- A call of each kind stays one at each of its steps.
+-- A call of each kind remains one at each of its steps.
 use Rattle.std.specs.Prelude.{⊤}
 use Rattle.std.proofs.Common.{◌≡◌, ℕ, ℤ, Bool, true, false, List, Some, Result, Ok, Err, subst}
 use Rattle.sysv_model.specs.declared.errno.Errno.{Errno}
@@ -16,7 +16,7 @@ use Rattle.sysv_queue.specs.Replies.{untaken_reply}
 use Rattle.sysv_driver.specs.Kinds.{Gets, IsShort, SendsAfterwards, Sends, Removes}
 use Rattle.sysv_driver.specs.Giving.{GivesNothing}
 
--- where a state is told, it is this one
+-- If the state is known, it is this one.
 lands : (P : State → Type 0) (a s : State) → Some a ≡ Some s → P a → P s
 lands P a s e p = let is : a ≡ s = cc in subst P is p
 

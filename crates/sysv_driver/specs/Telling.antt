@@ -1,4 +1,4 @@
--- What the reply of a kind tells of the turn.
+-- What a reply of some kind states about its turn.
 use Rattle.std.proofs.Common.{◌≡◌, ap, subst, ◌∙◌}
 use Rattle.sysv_model.specs.Turn.{Deed, AtSlot, AtRegistry}
 use Rattle.sysv_queue.specs.Slot.{Slot}

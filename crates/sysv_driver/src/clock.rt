@@ -1,13 +1,13 @@
-//! Where a service reads the moment.
+//! The source of the time of a step.
 
 ghost use Rattle.std.specs.Prelude.{ℕ};
 
-/// A clock, in seconds. It need not rise.
+/// A clock that returns the time in seconds. Successive times need not rise.
 pub trait Clock {
-    /// Which moments it may answer.
+    /// The times that the clock may return.
     ghost may: { Self → ℕ → Type 0 };
 
-    /// The moment now.
+    /// Returns the current time in seconds.
     fn now(&self) -> u64
         ensures { may self.now result };
 }

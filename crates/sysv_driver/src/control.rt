@@ -1,4 +1,4 @@
-//! The steps of `msgctl`, one group for each of its three commands.
+//! The steps of `msgctl`, in one group for each of its three commands.
 
 ghost use Rattle.std.specs.Prelude.{◌≡◌, ℕ, []};
 ghost use Rattle.sysv_steps.specs.State.{AtStat, AtSet, AtRemove, AtForget, Goes};
@@ -13,7 +13,14 @@ use sysv_pool::Chain;
 use sysv_steps::{Phase, State, forgotten, given_back, removed, set_done, stat_told};
 use sysv_turns::{ObjectCall, ObjectReply, SlotAsk, SlotCall, SlotReply, Turns};
 
-/// One step of an IPC_STAT.
+/// Makes one step of an IPC_STAT and returns the state that follows.
+///
+/// If the gate of the step's turn is worn out, the call is over with EOVERFLOW.
+///
+/// # Conditions
+///
+/// - `turns` must be ready for a turn at `at`.
+/// - `phase` must be a step of an IPC_STAT.
 pub fn stat_step<T: Turns>(turns: &T, at: &mut T::At, phase: Phase) -> State
     requires ready { T.ready turns.now at.old }
     requires stats { Stats (Goes (phase_of phase [])) }
@@ -33,7 +40,15 @@ pub fn stat_step<T: Turns>(turns: &T, at: &mut T::At, phase: Phase) -> State
     }
 }
 
-/// One step of an IPC_SET.
+/// Makes one step of an IPC_SET and returns the state that follows.
+///
+/// If the gate of the slot is worn out, the call is over with EOVERFLOW; if that of the pool is
+/// worn out, the call succeeds.
+///
+/// # Conditions
+///
+/// - `turns` must be ready for a turn at `at`.
+/// - `phase` must be a step of an IPC_SET.
 pub fn set_step<T: Turns, C: Clock>(
     turns: &T,
     at: &mut T::At,
@@ -58,6 +73,7 @@ pub fn set_step<T: Turns, C: Clock>(
     }
 }
 
+/// Makes the step that changes the queue.
 fn set<T: Turns, C: Clock>(
     turns: &T,
     at: &mut T::At,
@@ -81,7 +97,16 @@ fn set<T: Turns, C: Clock>(
     }
 }
 
-/// One step of an IPC_RMID. Where the gate of the registry is worn out the answer stays.
+/// Makes one step of an IPC_RMID and returns the state that follows.
+///
+/// A chain that cannot be released is added to `kept`. If the gate of the slot is worn out, the
+/// call is over with EOVERFLOW. If that of the registry or of the pool is worn out, the call
+/// continues as if the turn had been made.
+///
+/// # Conditions
+///
+/// - `turns` must be ready for a turn at `at`.
+/// - `phase` must be a step of an IPC_RMID.
 pub fn remove_step<T: Turns>(turns: &T, at: &mut T::At, kept: &mut Chain, phase: Phase) -> State
     requires ready { T.ready turns.now at.old }
     requires removes { Removes (Goes (phase_of phase [])) }
@@ -104,6 +129,7 @@ pub fn remove_step<T: Turns>(turns: &T, at: &mut T::At, kept: &mut Chain, phase:
     }
 }
 
+/// Makes the step that removes the queue.
 fn remove<T: Turns>(turns: &T, at: &mut T::At, cred: Cred, id: i32) -> State
     requires { T.ready turns.now at.old }
     ensures stays { T.stays turns.now at.new }

@@ -14,7 +14,17 @@ use sysv_turns::{
     ObjectCall, ObjectReply, RegistryCall, RegistryReply, SlotAsk, SlotCall, SlotReply, Turns,
 };
 
-/// One step of a get.
+/// Makes one step of a msgget and returns the state that follows.
+///
+/// If the gate of the step's turn is worn out, the call is over with EOVERFLOW. If that happens at
+/// the install, the identifier is also forgotten, unless the gate of the registry is worn out too.
+/// If it happens while the identifier of an occupied slot is given up, the call is over with
+/// ENOSPC.
+///
+/// # Conditions
+///
+/// - `turns` must be ready for a turn at `at`.
+/// - `phase` must be a step of a msgget.
 pub fn get_step<T: Turns, C: Clock>(turns: &T, at: &mut T::At, clock: &C, phase: Phase) -> State
     requires ready { T.ready turns.now at.old }
     requires gets { Gets (Goes (phase_of phase [])) }
@@ -33,6 +43,7 @@ pub fn get_step<T: Turns, C: Clock>(turns: &T, at: &mut T::At, clock: &C, phase:
     }
 }
 
+/// Makes the step that finds the queue of the key or makes an identifier.
 fn begin<T: Turns>(turns: &T, at: &mut T::At, get: Getting) -> State
     requires { T.ready turns.now at.old }
     ensures stays { T.stays turns.now at.new }
@@ -49,7 +60,8 @@ fn begin<T: Turns>(turns: &T, at: &mut T::At, get: Getting) -> State
     }
 }
 
-/// Where the gate is worn out the identifier is forgotten, if that gate is not.
+/// Makes the step that installs the queue. If the gate of the slot is worn out, the identifier is
+/// forgotten, unless the gate of the registry is worn out too.
 fn install<T: Turns, C: Clock>(turns: &T, at: &mut T::At, clock: &C, get: Getting, id: i32) -> State
     requires { T.ready turns.now at.old }
     ensures stays { T.stays turns.now at.new }
@@ -74,6 +86,7 @@ fn install<T: Turns, C: Clock>(turns: &T, at: &mut T::At, clock: &C, get: Gettin
     }
 }
 
+/// Makes the step that settles the identifier.
 fn settle<T: Turns>(turns: &T, at: &mut T::At, id: i32) -> State
     requires { T.ready turns.now at.old }
     ensures stays { T.stays turns.now at.new }
@@ -88,6 +101,7 @@ fn settle<T: Turns>(turns: &T, at: &mut T::At, id: i32) -> State
     }
 }
 
+/// Makes the step that probes the queue that was found.
 fn probe<T: Turns>(turns: &T, at: &mut T::At, get: Getting, id: i32, settled: u64) -> State
     requires { T.ready turns.now at.old }
     ensures stays { T.stays turns.now at.new }
@@ -104,7 +118,8 @@ fn probe<T: Turns>(turns: &T, at: &mut T::At, get: Getting, id: i32, settled: u6
     }
 }
 
-/// Where the gate is worn out the answer stays.
+/// Makes the step that gives the identifier up. If the gate of the registry is worn out, the result
+/// is the same.
 fn unmake<T: Turns>(turns: &T, at: &mut T::At, id: i32) -> State
     requires { T.ready turns.now at.old }
     ensures stays { T.stays turns.now at.new }

@@ -1,5 +1,5 @@
-//! The driver of the steps of calls: at each step it asks for one turn whatever makes turns, and goes on as the step table
-//! says.
+//! The driver of the steps of calls. At each step it has one turn made, by whatever makes turns,
+//! and then continues as the step table states.
 #![tactic(auto)]
 
 mod clock;

@@ -13,7 +13,17 @@ use sysv_pool::Chain;
 use sysv_steps::{Phase, Receiving, State};
 use sysv_turns::{ObjectCall, ObjectReply, SlotAsk, SlotCall, SlotReply, Turns};
 
-/// One step of a receive that fills this body.
+/// Makes one step of a receive and returns the state that follows. The bytes of the message that it
+/// takes are written to `out`.
+///
+/// A chain that cannot be released is added to `kept`. If the gate of the slot is worn out, the
+/// call is over with EOVERFLOW; if that of the pool is worn out, the call still returns the
+/// message.
+///
+/// # Conditions
+///
+/// - `turns` must be ready for a turn at `at`.
+/// - `phase` must be a step of a receive.
 pub fn receive_step<T: Turns, C: Clock>(
     turns: &T,
     at: &mut T::At,
@@ -40,7 +50,7 @@ pub fn receive_step<T: Turns, C: Clock>(
     }
 }
 
-/// The text that is given is copied out once the message is taken.
+/// Makes the step that takes a message. After the message is taken, its bytes are copied to `out`.
 fn take<T: Turns, C: Clock>(
     turns: &T,
     at: &mut T::At,

@@ -18,7 +18,18 @@ use sysv_turns::{
     Turns,
 };
 
-/// One step of a send that has this text.
+/// Makes one step of a send whose body is `text` and returns the state that follows.
+///
+/// A chain that cannot be released is added to `kept`. If the gate of a look or a reserve is worn
+/// out, the call is over with EOVERFLOW. If that of the place is worn out, the call first releases
+/// its chain, and then fails with EOVERFLOW. If that of the release is worn out, the call ends or
+/// waits as it would after the release.
+///
+/// # Conditions
+///
+/// - `turns` must be ready for a turn at `at`.
+/// - `phase` must be a step of a send, with a body of at most 8,192 bytes and, before its place, a
+///   chain of the number of blocks that the body needs.
 pub fn send_step<T: Turns, C: Clock>(
     turns: &T,
     at: &mut T::At,
@@ -46,6 +57,7 @@ pub fn send_step<T: Turns, C: Clock>(
     }
 }
 
+/// Makes the step that checks whether the message fits.
 fn look<T: Turns>(turns: &T, at: &mut T::At, text: &Body, send: Sending) -> State
     requires ready { T.ready turns.now at.old }
     requires sends { IsShort (sending send text.now) }
@@ -64,6 +76,7 @@ fn look<T: Turns>(turns: &T, at: &mut T::At, text: &Body, send: Sending) -> Stat
     }
 }
 
+/// Makes the step that reserves blocks for the body.
 fn reserve<T: Turns>(turns: &T, at: &mut T::At, text: &Body, send: Sending) -> State
     requires ready { T.ready turns.now at.old }
     requires sends { IsShort (sending send text.now) }
@@ -80,7 +93,8 @@ fn reserve<T: Turns>(turns: &T, at: &mut T::At, text: &Body, send: Sending) -> S
     }
 }
 
-/// The text is copied into the chain just before its place. Where the gate is worn out the chain is to be given back.
+/// Makes the step that puts the message on the queue. The body is copied into the chain just
+/// before. If the gate of the slot is worn out, the call still has to release the chain.
 fn place<T: Turns, C: Clock>(
     turns: &T,
     at: &mut T::At,

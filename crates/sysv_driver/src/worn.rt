@@ -1,4 +1,5 @@
-//! What all calls share: identifiers that are forgotten, chains that go back, and gates that are worn out.
+//! What all calls share: identifiers that are forgotten, chains that are released, and gates that
+//! are worn out.
 
 ghost use Rattle.std.specs.Prelude.{◌≡◌, ◌+◌};
 ghost use Rattle.sysv_driver.specs.Stepping.{AsksToForget, GivesBack};
@@ -9,7 +10,7 @@ use sysv_pool::Chain;
 use sysv_steps::{Ending, State};
 use sysv_turns::{ObjectCall, ObjectReply, PoolCall, PoolReply, RegistryCall, Turns};
 
-/// The end of a call whose turn was due at a gate that is worn out.
+/// Returns the state of a call whose turn was due at a worn-out gate: over with EOVERFLOW.
 pub(crate) fn overflow(back: ObjectCall) -> State
     ensures { result ≡ State.Over (Ending.Refused Errno.EOVERFLOW) }
 {
@@ -17,7 +18,8 @@ pub(crate) fn overflow(back: ObjectCall) -> State
     State::Over(Ending::Refused(Errno::EOVERFLOW))
 }
 
-/// Has the registry forget the identifier, where its gate is not worn out.
+/// Requests the registry to forget the identifier. If the gate of the registry is worn out, no turn
+/// is made.
 pub(crate) fn forget<T: Turns>(turns: &T, at: &mut T::At, id: i32)
     requires { T.ready turns.now at.old }
     ensures stays { T.stays turns.now at.new }
@@ -32,7 +34,8 @@ pub(crate) fn forget<T: Turns>(turns: &T, at: &mut T::At, id: i32)
     }
 }
 
-/// Gives the chain back to the pool. One that the pool refuses as that of another, or whose gate is worn out, is kept.
+/// Releases the chain at the pool. If the pool refuses the chain as foreign, or its gate is worn
+/// out, the chain is added to `kept`.
 #[inline(always)]
 pub(crate) fn give_back<T: Turns>(turns: &T, at: &mut T::At, kept: &mut Chain, chain: Chain)
     requires { T.ready turns.now at.old }
@@ -48,7 +51,7 @@ pub(crate) fn give_back<T: Turns>(turns: &T, at: &mut T::At, kept: &mut Chain, c
     }
 }
 
-/// Keeps a chain that could not be given back.
+/// Adds a chain that could not be released to `kept`.
 fn keep(kept: &mut Chain, chain: Chain)
     ensures { kept.new.blocks ≡ kept.old.blocks + chain.blocks }
 {

@@ -1,5 +1,5 @@
--- A call that has an identifier to forget finds its row. No two calls have the same one to forget, since a removal
--- finds the queue live, and what was removed does not live.
+-- A call that has an identifier to forget finds its row. No two calls have the same identifier to
+-- forget, because a removal finds the queue live, and a queue that was removed is not live.
 use Rattle.std.proofs.Common.{◌≡◌, ◌≢◌, inl, inr, ℕ, ℤ, ◌||◌, Bool, true, false, cond, List, [], ◌∷◌, ◌++◌, Option, None, Some, refl, sym, ap, subst, ◌∙◌, slice_get, slice_set}
 use Rattle.std.specs.List.{list_any}
 use Rattle.std.proofs.lemmas.Bool.Decides.{Decides-int_eq}
@@ -38,11 +38,11 @@ use Rattle.sysv_core.proofs.Tending.{BeforeForget}
 use Rattle.sysv_core.proofs.Vacating.{was_removed, WasMade, Facts, Fits, AllFit}
 use Rattle.sysv_free.specs.Forgotten.{TakesItsRow, AllTakeTheirRows}
 
--- the registry has a row of the identifier
+-- The registry has a row of the identifier.
 abbrev HasRow : ℤ → List Turn → Type 0
 HasRow id turns = WasMade id turns × (is_forgotten id (registry_history turns) ≡ false)
 
--- what holds of the calls that have an identifier to forget, and of the forgets so far
+-- What holds of the calls that have an identifier to forget, and of the forgets so far.
 pub record Owed (turns : List Turn) (actors : List (Option Doing)) : Type 0 where
   pub rows : (place : ℕ) (d : Doing) (id : ℤ) → slice_get actors place ≡ Some (Some d) → BeforeForget id d.state → HasRow id turns
   pub alone : (place at : ℕ) (d e : Doing) (id : ℤ) → slice_get actors place ≡ Some (Some d) → slice_get actors at ≡ Some (Some e) → BeforeForget id d.state → BeforeForget id e.state → place ≡ at
@@ -71,7 +71,7 @@ stands actors place was call state at d there got = elim (same_place place at) [
   | inr apart ↦ away apart (sym (get_set_other actors place at (doing_in call state) apart) ∙ got)
 ]
 
--- no other actor has it to forget
+-- No other actor has this identifier to forget.
 abbrev NoOther : List (Option Doing) → ℕ → ℤ → Type 0
 NoOther actors place id = (at : ℕ) (e : Doing) → place ≢ at → slice_get actors at ≡ Some (Some e) → ¬ BeforeForget id e.state
 
@@ -96,7 +96,7 @@ owed_moved turns then actors place was call state there o still new all = record
   taken = all;
 }
 
--- a call that starts or goes on after a wait has nothing to forget
+-- A call that starts, or continues after a wait, has nothing to forget.
 pub owed_idle : (turns : List Turn) (actors : List (Option Doing)) (place : ℕ) (was : Option Doing) (call : Started) (state : State) → slice_get actors place ≡ Some was → ((id : ℤ) → ¬ BeforeForget id state) → Owed turns actors →
     Owed turns (slice_set actors place (doing_in call state))
 owed_idle turns actors place was call state there none o = owed_moved turns turns actors place was call state there o (λ at e id apart old b. o.rows at e id old b) (λ id b. absurd (none id b)) o.taken
@@ -141,7 +141,7 @@ owed_read turns actors who slot call reply o = record {
 
 -- ---- where a turn leads
 
--- not before a forget
+-- The state is not before a forget.
 abbrev Quiet : Option State → Type 0
 Quiet (Some (Goes (AtForget id blocks))) = ⊥
 Quiet state = Unit {0}
@@ -196,7 +196,7 @@ quiet_none state id q b = absurd b
 removed_then : (by : Cred) (at : ℤ) (slot : ℕ) (call : Call) (messages : List Message) (state : State) (id : ℤ) → next (AtRemove by at) (AtSlot slot call (Discarded messages)) ≡ Some state → BeforeForget id state → at ≡ id
 removed_then by at slot call messages state id e b = subst (BeforeForget id) (sym (some_is e)) b
 
--- a forget is that of a call which has it to do
+-- A forget belongs to a call that has that identifier to forget.
 forget_asked : (turns : List Turn) (phase : Phase) (now : ℕ) (at : ℤ) → OfRegistry (Forget at) ≡ asks phase now → Fits turns (Goes phase) → BeforeForget at (Goes phase)
 forget_asked turns (AtForget id blocks) now at e fits = let same : id ≡ at = cc in same
 forget_asked turns (AtUnmake id) now at e fits = absurd fits
@@ -210,7 +210,7 @@ was_so : (turns : List Turn) (state : State) (id : ℤ) → BeforeForget id stat
 was_so turns (Goes (AtForget at blocks)) id b fits = subst (λ i. was_removed i turns ≡ true) b fits
 was_so turns state id b fits = absurd b
 
--- where some entry passes a test
+-- Some entry passes a test.
 abbrev At : (Entry → Bool) → History → Type 0
 At p h = (before after : History) × (e : Entry) × (h ≡ before ++ e ∷ after) × (p e ≡ true)
 
@@ -225,13 +225,13 @@ any_at p (x ∷ h) e = at_first p x h (p x) refl (any_at p h) e
 -- ---- a turn of a call
 
 module _ (for_good : RemovedForGood) (w : World) (s : IsSound w) (law : RegistryLaw w.generation (registry_history w.turns)) (c : Counted w.turns w.actors) (f : Facts w.turns) (fit : AllFit w.turns w.actors) (o : Owed w.turns w.actors) where
-  -- an identifier that was removed does not live
+  -- The queue of an identifier that was removed is not live.
   not_live : (id : ℤ) → was_removed id w.turns ≡ true → ¬ IsLive (slot_history (slot_of_id id) w.turns) id
   not_live id e =
       let at = any_at (λ (x : Entry). removes id x.call x.reply) (slot_history (slot_of_id id) w.turns) e in
       ((good_of for_good w.generation w.turns w.actors c law s.legal.slots).gone (slot_of_id id) id at.0 at.1 at.2 at.3 at.4).not_live
 
-  -- one that lives has a row
+  -- The identifier of a live queue has a row.
   live_row : (id : ℤ) → IsLive (slot_history (slot_of_id id) w.turns) id → HasRow id w.turns
   live_row id lives = (made (live (slot_history (slot_of_id id) w.turns)) refl lives, kept (is_forgotten id (registry_history w.turns)) refl)
     where
@@ -254,7 +254,7 @@ module _ (for_good : RemovedForGood) (w : World) (s : IsSound w) (law : Registry
         absurd (legal (record { id = at; key = has.0.0; live = is_settled at (registry_history w.turns) }) (record { made = has.0.1; kept = has.1; stage = refl }) refl)
     takes deed asked legal = tt
 
-    -- the rows that other calls have to forget stay
+    -- The rows that other calls have to forget remain.
     stays : (deed : Deed) → asked_by deed ≡ asks phase now → (at : ℕ) (e : Doing) (id : ℤ) → place ≢ at → slice_get w.actors at ≡ Some (Some e) → BeforeForget id e.state → HasRow id (w.turns ++ turn_of call.who deed ∷ [])
     stays deed asked at e id apart old b = same_row id w.turns call.who deed (spared (is_forgotten id (registry_entry call.who deed)) refl) (o.rows at e id old b)
       where
@@ -262,7 +262,7 @@ module _ (for_good : RemovedForGood) (w : World) (s : IsSound w) (law : Registry
         spared true is = absurd (apart (o.alone place at d e id there old (forgets_asked w.turns call.who phase now deed id asked (fit place d there) is) b))
         spared false is = is
 
-    -- a removal found its queue live
+    -- A removal found its queue live.
     removal : (by : Cred) (id : ℤ) (slot : ℕ) (c : Call) (messages : List Message) → OfSlot slot c ≡ asks (AtRemove by id) now → IsLegalDeed w.generation w.blocks w.turns (AtSlot slot c (Discarded messages)) →
         IsLive (slot_history (slot_of_id id) w.turns) id
     removal by id slot c messages asked legal =

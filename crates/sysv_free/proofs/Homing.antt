@@ -1,4 +1,5 @@
--- What each pass did in calls, as far as its own order tells, is what its calls did, since no number is two passes'.
+-- What each pass did in calls, as far as its own order shows, is what its calls did, because no
+-- number belongs to two passes.
 use Rattle.std.proofs.Common.{◌≡◌, ◌≢◌, inl, inr, ℕ, ◌+◌, ◌≤◌, ◌==◌, ◌&&◌, Bool, true, false, cond, not, List, [], ◌∷◌, ◌++◌, map, slice_index_or, refl, sym, ap, subst, ◌∙◌, arith, append_assoc}
 use Rattle.std.specs.List.{All, filter, flat_map}
 use Rattle.std.proofs.lemmas.Grind.{flat_map-append}
@@ -20,7 +21,7 @@ use Rattle.sysv_free.proofs.Sharing.{all_have_the_whole}
 
 -- ---- turns in calls
 
--- those that read no row
+-- The deed reads no row.
 abbrev is_quiet : Deed → Bool
 is_quiet deed = not (shows_row deed)
 
@@ -41,7 +42,7 @@ deeds_by-append : (x : ℕ) (xs ys : List Numbered) → deeds_by x (xs ++ ys) �
 deeds_by-append x xs ys =
     ap (map deed_in) (filter-append (is_in_call_of x) xs ys) ∙ map-append deed_in (filter (is_in_call_of x) xs) (filter (is_in_call_of x) ys)
 
--- one turn
+-- One turn.
 kept_if : (t : Numbered) (a b : Bool) → map deed_in (cond (a && b) (t ∷ []) []) ≡ cond a (cond b (t.deed ∷ []) []) []
 kept_if t true true = refl
 kept_if t true false = refl
@@ -50,7 +51,7 @@ kept_if t false b = refl
 deeds_by-one : (x number : ℕ) (deed : Deed) → deeds_by x (record { by = number; deed = deed } ∷ []) ≡ cond (number == x) (quiet (deed ∷ [])) []
 deeds_by-one x number deed = kept_if (record { by = number; deed = deed }) (number == x) (is_quiet deed)
 
--- the turns under a number are enough to tell what it did in calls
+-- The turns made under a number are enough to know what was done under it in calls.
 skipped : (t : Numbered) (a : Bool) (ts : List Numbered) → filter (λ (s : Numbered). is_quiet s.deed) (cond a (t ∷ ts) ts) ≡ cond a (cond (is_quiet t.deed) (t ∷ filter (λ (s : Numbered). is_quiet s.deed) ts) (filter (λ (s : Numbered). is_quiet s.deed) ts)) (filter (λ (s : Numbered). is_quiet s.deed) ts)
 skipped t true ts = refl
 skipped t false ts = refl
@@ -70,7 +71,7 @@ same_under : (x : ℕ) (xs ys : List Numbered) → under x xs ≡ under x ys →
 same_under x xs ys e =
     ap (map deed_in) (in_calls_under x xs ∙ (ap (filter (λ (s : Numbered). is_quiet s.deed)) e ∙ sym (in_calls_under x ys)))
 
--- a number under which none of the turns was made
+-- No turn was made under this number.
 none_of_them : (x : ℕ) (order : List Numbered) → All (λ (t : Numbered). t.by ≢ x) order → deeds_by x order ≡ []
 none_of_them x [] a = refl
 none_of_them x (t ∷ ts) a =
@@ -101,7 +102,7 @@ cond_append : (b : Bool) (xs ys : List Deed) → cond b xs [] ++ cond b ys [] �
 cond_append true xs ys = refl
 cond_append false xs ys = refl
 
--- it has its number and its numbers still, and did these turns under it
+-- The pass still has its number and its numbers, and made these turns under its number.
 pub record Did (before : Member) (deeds : List Deed) (after : Member) : Type 0 where
   pub number : after.number ≡ before.number
   pub numbers : after.numbers ≡ before.numbers
@@ -148,7 +149,7 @@ did {before = before} (makes {deeds = deeds} {mid = mid} deed after done m) =
 abbrev numbers_of : List Member → List ℕ
 numbers_of passes = flat_map (λ (p : Member). p.numbers) passes
 
--- a pass has its number, and its order has the turns of the calls that were made under its numbers
+-- A pass has its number, and its order has the turns of the calls that were made under its numbers.
 pub record Knows (made : List Called) (p : Member) : Type 0 where
   pub named : 1 ≤ times p.number p.numbers
   pub own : (x : ℕ) → 1 ≤ times x p.numbers → deeds_by x p.order ≡ deeds_in x made
@@ -182,7 +183,7 @@ numbers-append x ps qs = ap (times x) (flat_map-append (λ (p : Member). p.numbe
 
 -- ---- a step of the first pass
 
--- the calls that were made have these turns of that number more
+-- The calls that were made have these additional turns of that number.
 abbrev HaveMore : ℕ → List Deed → List Called → List Called → Type 0
 HaveMore number deeds made then_made = (x : ℕ) → deeds_in x then_made ≡ deeds_in x made ++ cond (number == x) (quiet deeds) []
 
@@ -231,19 +232,20 @@ first_step one after rest deeds made then_made d more played apart s =
       played = played;
     }
 
--- a call has just its turns more
+-- One more call adds just its turns.
 more_by_call : (call : Called) (made : List Called) (number : ℕ) → call.by ≡ number → quiet call.deeds ≡ call.deeds → HaveMore number call.deeds made (made ++ call ∷ [])
 more_by_call call made number by all x =
     flat_map-append (λ (c : Called). cond (c.by == x) c.deeds []) made (call ∷ [])
     ∙ ap (λ es. deeds_in x made ++ es)
     (append-nil (cond (call.by == x) call.deeds []) ∙ (ap (λ n. cond (n == x) call.deeds []) by ∙ ap (λ es. cond (number == x) es []) (sym all)))
 
--- turns that are no call's are none
+-- Turns that belong to no call add nothing.
 more_by_none : (number : ℕ) (deeds : List Deed) (made : List Called) → quiet deeds ≡ [] → HaveMore number deeds made made
 more_by_none number deeds made none x =
     sym (ap (λ es. deeds_in x made ++ cond (number == x) es []) none ∙ (ap (λ es. deeds_in x made ++ es) (nothing (number == x)) ∙ append-nil (deeds_in x made)))
 
--- the number of each pass that was there is one of those that are there
+-- If the pass has the same numbers as before and no number is given to two passes afterwards, none
+-- was given to two passes before.
 same_numbers : (one after : Member) (rest : List Member) → after.numbers ≡ one.numbers → NoneTwice (numbers_of (after ∷ rest)) → NoneTwice (numbers_of (one ∷ rest))
 same_numbers one after rest e apart = subst (λ ns. NoneTwice (ns ++ numbers_of rest)) e apart
 

@@ -1,4 +1,4 @@
--- From a world in which a beginning of the order was made, the rest of the order leads on.
+-- From a world in which a first part of the order was made, the rest of the order leads on.
 use Rattle.std.proofs.Common.{◌≡◌, ◌≢◌, inl, inr, ℕ, zero, suc, ◌==◌, ◌&&◌, Bool, true, false, cond, not, List, [], ◌∷◌, ◌++◌, Some, refl, sym, ap, subst, ◌∙◌, arith, map, append_assoc, slice_get, slice_set}
 use Rattle.std.specs.List.{All, filter}
 use Rattle.std.specs.Option.{option_map}
@@ -93,7 +93,7 @@ pub record Holds (gen size : ℕ) (before rest : List Numbered) (w : World) (us 
 abbrev pub IsNobodys : Renamed → Type 0
 IsNobodys r = shows_row r.turn.deed ≡ true → r.name ≡ nobody
 
--- the rest of the order was made
+-- The rest of the order was made.
 pub record Went (rest : List Numbered) (w : World) (us : List Underway) : Type 0 where
   pub moments : List Moment
   pub given : List Given
@@ -112,7 +112,7 @@ same_all : (us : List Underway) → ((place : ℕ) (u : Underway) → slice_get 
 same_all [] same = refl
 same_all (u ∷ us) same = ap (λ d. d ∷ map doing_of us) (same zero u refl) ∙ ap (λ ds. done_of u ∷ ds) (same_all us (λ place v there. same (suc place) v there))
 
--- the deeds of a call, where one more turn is before the others
+-- The deeds of a call, if one more turn precedes the other ones.
 module _ (who other : Who) (deed : Deed) (ts : List Turn) where
   own_first : is_same who other ≡ true → deeds_of who (turn_as other deed ∷ ts) ≡ deed ∷ deeds_of who ts
   own_first e = ap (λ b. deeds (cond b (turn_as other deed ∷ filter (λ (x : Turn). is_same who x.who) ts) (filter (λ (x : Turn). is_same who x.who) ts))) e
@@ -128,7 +128,7 @@ module _ (gen size : ℕ) where
   abbrev Goes : List Numbered → List Numbered → Type 0
   Goes before rest = (w : World) (us : List Underway) → Holds gen size before rest w us → Went rest w us
 
-  -- the order has come to its end
+  -- The order has come to its end.
   at_end : (place : ℕ) (u : Underway) → IsRight place u → u.rest ≡ [] → doing_of u ≡ done_of u
   at_end place u r none =
       ap (doing_in u.call) (is_at_its_end (subst (PlaysOn u.to u.state) none r.plays) (subst (IsSettled u.to u.state) none r.settled))
@@ -174,7 +174,7 @@ module _ (gen size : ℕ) where
           ∙ (ap (λ ds. ds ++ t.deed ∷ []) h.acts
           ∙ sym (ap deeds (map-append turn_of before (t ∷ [])) ∙ map-append (λ (x : Turn). x.deed) (turns_of before) (turn_of t ∷ [])))
 
-      -- a row is read
+      -- A row is read.
       module _ (shows : shows_row t.deed ≡ true) (again : Goes more_before rest) where
         form : (slot : ℕ) × (reply : Reply) × (t.deed ≡ AtSlot slot ReadRow reply)
         form = row_form t.deed shows
@@ -211,7 +211,7 @@ module _ (gen size : ℕ) where
               calls = r.calls;
             }
 
-      -- a call makes its turn
+      -- A call makes its turn.
       module _ (quiet : shows_row t.deed ≡ false) (again : Goes more_before rest) (p : Picked t.by t.deed us) where
         abbrev u : Underway
         u = p.u

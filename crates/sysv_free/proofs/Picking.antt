@@ -1,5 +1,5 @@
--- The calls under way, with what each has still to do, and which of them makes the next turn of its pass: the first
--- that has any.
+-- The calls under way, with what each still has to do, and which of them makes the next turn of its
+-- pass: the first one that has a turn left.
 use Rattle.std.proofs.Common.{◌≡◌, ◌≢◌, inl, inr, ℕ, zero, suc, ◌==◌, cond, List, [], ◌∷◌, ◌++◌, Option, Some, refl, sym, ap, ◌∙◌, map, slice_get, slice_set}
 use Rattle.std.specs.List.{flat_map}
 use Rattle.std.proofs.lemmas.Bool.Decides.{eqb_tells}
@@ -11,7 +11,8 @@ use Rattle.sysv_free.specs.OrderIsRun.{turn_as, name_at}
 use Rattle.sysv_free.proofs.Places.{number_same, number_other}
 use Rattle.sysv_free.proofs.Playing.{PlaysOn, IsSettled}
 
--- a call of a pass in the world: where it stands, what turns it has still to make, and where it will stand then
+-- A call of a pass in the world: its state, the turns that it still has to make, and the state that
+-- it then reaches.
 pub record Underway : Type 0 where
   pub by : ℕ
   pub call : Started
@@ -30,7 +31,7 @@ pub record IsRight (place : ℕ) (u : Underway) : Type 0 where
   pub plays : PlaysOn u.to u.state u.rest
   pub settled : IsSettled u.to u.state u.rest
 
--- the turns that the pass has still to make in calls
+-- The turns that the pass still has to make in this call.
 abbrev pub left_of : ℕ → Underway → List Turn
 left_of number u = cond (u.by == number) (map (turn_as u.call.who) u.rest) []
 
@@ -40,7 +41,7 @@ left_in number us = flat_map (left_of number) us
 abbrev pub deeds : List Turn → List Deed
 deeds turns = map (λ (t : Turn). t.deed) turns
 
--- the call at a place makes the next turn of its pass
+-- The call at a place makes the next turn of its pass.
 pub record Picked (number : ℕ) (deed : Deed) (us : List Underway) : Type 0 where
   pub place : ℕ
   pub u : Underway
@@ -52,7 +53,7 @@ pub record Picked (number : ℕ) (deed : Deed) (us : List Underway) : Type 0 whe
   pub others : (v : Underway) → v.by ≡ number → (other : ℕ) → other ≢ number → left_in other (slice_set us place v) ≡ left_in other us
 
 module _ (number : ℕ) (deed : Deed) where
-  -- what is left of one call
+  -- What is left of one call.
   of_its_pass : (u : Underway) → u.by ≡ number → left_of number u ≡ map (turn_as u.call.who) u.rest
   of_its_pass u by = ap (λ b. cond b (map (turn_as u.call.who) u.rest) []) (ap (λ n. n == number) by ∙ number_same number)
 
@@ -91,7 +92,7 @@ module _ (number : ℕ) (deed : Deed) where
     others = λ v its other apart. ap (λ ts. left_of other u ++ ts) (p.others v its other apart);
   }
 
-  -- by what is left of the first call
+  -- The two cases of what is left of the first call.
   by_rest : (u : Underway) (us : List Underway) (ds : List Deed) (remains : List Deed) → u.by ≡ number → u.rest ≡ remains → deeds (left_in number (u ∷ us)) ≡ deed ∷ ds →
       (deeds (left_in number us) ≡ deed ∷ ds → Picked number deed us) → Picked number deed (u ∷ us)
   by_rest u us ds [] by none more again =
@@ -122,7 +123,7 @@ nothing_mapped : (who : Who) (ds : List Deed) → map (turn_as who) ds ≡ [] �
 nothing_mapped who [] none = refl
 nothing_mapped who (d ∷ ds) none = absurd cc
 
--- where no pass has a turn left to make in calls, no call has
+-- If no pass has a turn left to make in calls, no call has one.
 pub none_left : (us : List Underway) → ((number : ℕ) → deeds (left_in number us) ≡ []) → (place : ℕ) (u : Underway) → slice_get us place ≡ Some u → u.rest ≡ []
 none_left [] none place u there = absurd cc
 none_left (v ∷ us) none zero u there =

@@ -1,4 +1,5 @@
--- A call that is played along its turns can make the next of them in a world, whatever other calls do between.
+-- A call that is played along its turns can make the next of them in a world, whatever other calls
+-- do in between.
 use Rattle.std.proofs.Common.{◌≡◌, ℕ, suc, ◌≤◌, List, [], ◌∷◌, ◌++◌, Some, refl, sym, ap, subst, ◌∙◌, append_assoc, slice_get, slice_set}
 use Rattle.std.proofs.lemmas.List.{append-nil, set-set}
 use Rattle.sysv_model.specs.Turn.{Deed, asked_by}
@@ -23,7 +24,7 @@ leads_more (x ∷ xs) ys w mid after given more (then_w, one, rest, brings, lead
 
 -- ---- what a call has still to do
 
--- from where it stands the step table leads along these turns to there
+-- From this state the step table, taken along these turns, leads to `to`.
 pub data PlaysOn (to : State) : State → List Deed → Type 0 where
   is_there : PlaysOn to to []
   turns : {phase : Phase} {rest : List Deed} (deed : Deed) (now : ℕ) (after : State) →
@@ -37,7 +38,8 @@ plays_on {from} to rest (steps {deeds = deeds} deed now after plays asked goes) 
     subst (PlaysOn to from) (sym (append_assoc deeds (deed ∷ []) rest)) (plays_on to (deed ∷ rest) plays (turns deed now after asked goes on))
 plays_on to rest (resumes value plays reached) on = plays_on to rest plays (wakes value reached on)
 
--- a call that waits with nothing more to do stands there for good; one that goes on is woken at once
+-- A call that waits with nothing more to do remains there for good. A call that has more to do is
+-- woken at once.
 abbrev pub IsSettled : State → State → List Deed → Type 0
 IsSettled to (Goes phase) rest = Unit {0}
 IsSettled to (Waits wait) rest = (to ≡ Waits wait) × (rest ≡ [])
@@ -48,7 +50,7 @@ settled_there (Goes phase) = tt
 settled_there (Waits wait) = (refl, refl)
 settled_there (Over ending) = tt
 
--- it stands still, or it is to be woken
+-- The call is settled, or it is to be woken.
 data Standing (to : State) : State → List Deed → Type 0 where
   stays : {state : State} {rest : List Deed} → PlaysOn to state rest → IsSettled to state rest → Standing to state rest
   is_woken : {wait : Wait} {rest : List Deed} (value : ℕ) → goal_of wait ≤ value → PlaysOn to (Goes (resume wait value)) rest → Standing to (Waits wait) rest
@@ -58,14 +60,14 @@ standing_so {to} is_there = stays is_there (settled_there to)
 standing_so (turns deed now after asked goes on) = stays (turns deed now after asked goes on) tt
 standing_so (wakes value reached on) = is_woken value reached on
 
--- where nothing is left to do, it stands there
+-- A call that has nothing left to do is in the state `to`.
 pub is_at_its_end : {to state : State} → PlaysOn to state [] → IsSettled to state [] → state ≡ to
 is_at_its_end is_there s = refl
 is_at_its_end (wakes value reached on) s = sym s.0
 
 -- ---- its next turn in the world
 
--- the call has made the turn, and stands where it can go on
+-- The call has made the turn, and is in a state from which it can continue.
 pub record Makes (w : World) (place : ℕ) (call : Started) (to : State) (deed : Deed) (rest : List Deed) : Type 0 where
   pub moments : List Moment
   pub given : List Given

@@ -1,4 +1,4 @@
--- The turn that reads a row moves no block, installs and removes nothing, and is no call's.
+-- The turn that reads a row moves no block, installs and removes nothing, and belongs to no call.
 use Rattle.std.proofs.Common.{◌≡◌, ◌≢◌, inl, inr, ℕ, suc, ℤ, ◌+◌, Bool, true, false, cond, List, [], ◌∷◌, ◌++◌, Option, refl, sym, ap, subst, ◌∙◌, arith}
 use Rattle.std.specs.List.{All, Contains}
 use Rattle.std.proofs.Math.Dec.{eqb}
@@ -47,7 +47,7 @@ module _ (turns : List Turn) (slot : ℕ) (reply : Reply) where
   same_pool : pool_history with_row ≡ pool_history turns
   same_pool = pool_stays turns nobody row_deed refl
 
-  -- no block moves in a slot
+  -- No block moves in a slot.
   module _ (kept : TurnKeepsBlocks) (slots : (other : ℕ) → IsLegalHistory (slot_history other turns)) (legal : Legal (slot_of (slot_history slot turns)) ReadRow reply) where
     abbrev entry : Entry
     entry = record { who = nobody; call = ReadRow; reply = reply }
@@ -74,7 +74,7 @@ module _ (turns : List Turn) (slot : ℕ) (reply : Reply) where
       taken_back = subst (All (λ (e : PoolEntry). e.reply ≢ Foreign)) (sym same_pool) all.taken_back;
     }
 
-  -- it is no install
+  -- The turn is no install.
   pub row_counts : (actors : List (Option Doing)) → Counted turns actors → Counted with_row actors
   row_counts actors c = record {
     count = λ id.
@@ -87,7 +87,7 @@ module _ (turns : List Turn) (slot : ℕ) (reply : Reply) where
     home = All-push (λ (t : Turn). IsInItsSlot t.deed) turns (turn_of nobody row_deed) c.home tt;
   }
 
-  -- and no removal
+  -- The turn is no removal.
   no_removal : {A : Type 0} (id : ℤ) → IsRemovedBy id ReadRow reply → A
   no_removal id gone = let bad = gone.3 in absurd cc
 
@@ -134,7 +134,7 @@ module _ (more : (generation blocks : ℕ) (turns : List Turn) (who : Who) (deed
       still : (at : ℕ) → IsMadeIn w.turns at → IsMadeIn (with_row w.turns slot reply) at
       still at m = still_made w.turns (turn_of nobody (AtSlot slot ReadRow reply)) at m
 
-  -- the calls stand where they stood
+  -- The calls remain in their states.
   pub row_keeps : (given : List Given) → Inv w given → Inv read given
   row_keeps given i = record {
     sound = row_sound i.sound;

@@ -1,4 +1,4 @@
--- Which replies are legal is decided by what was done, whoever did it.
+-- Which replies are legal is decided by what was done, not by the callers.
 use Rattle.std.proofs.Common.{◌≡◌, inl, inr, ℕ, ℤ, ◌+◌, ◌-◌, ◌≤◌, ◌==◌, Bool, true, false, cond, not, List, [], ◌∷◌, ◌++◌, Option, None, Some, refl, sym, ap, subst, ◌∙◌, arith, map}
 use Rattle.std.specs.List.{filter, flat_map, fold, list_any, sum_by}
 use Rattle.std.proofs.lemmas.List.{map-append}
@@ -87,7 +87,7 @@ pool_entry_alike who other (AtSlot at call reply) = refl
 pool_entry_alike who other (AtRegistry call reply) = refl
 pool_entry_alike who other (AtPool call reply) = refl
 
--- of the entries of all turns
+-- The entries of all turns.
 module _ {E A : Type 0} (part : E → A) (entry : Who → Deed → List E) (alike : (who other : Who) (deed : Deed) → map part (entry who deed) ≡ map part (entry other deed)) where
   entries_alike : (turns others : List Turn) → Acts turns others → map part (flat_map (λ (t : Turn). entry t.who t.deed) turns) ≡ map part (flat_map (λ (t : Turn). entry t.who t.deed) others)
   entries_alike [] [] same = refl

@@ -1,4 +1,4 @@
--- Where no call is under way, none holds a block or tends a row.
+-- If no call is under way, no call holds a block or has a row to settle or to forget.
 use Rattle.std.proofs.Common.{◌≡◌, ◌⊎◌, inl, inr, ℕ, ℤ, zero, suc, ◌+◌, Bool, true, false, List, [], ◌∷◌, Option, None, Some, refl, sym, ap, subst, ◌∙◌, arith, map, slice_get}
 use Rattle.std.specs.List.{range_with_len}
 use Rattle.std.specs.Ordering.{int_eq}

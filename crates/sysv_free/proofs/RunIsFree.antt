@@ -1,4 +1,4 @@
--- Each happening but a preset is a moment, or leaves the world as it was.
+-- Each happening except a preset is a moment, or leaves the world as it was.
 use Rattle.std.proofs.Common.{◌≡◌, ◌⊎◌, inl, inr, ℕ, suc, List, [], ◌∷◌, ◌++◌, Option, None, Some, refl, sym, ap, subst, ◌∙◌, arith}
 use Rattle.sysv_model.specs.declared.cred.Cred.{Cred}
 use Rattle.sysv_model.specs.Pool.{released}

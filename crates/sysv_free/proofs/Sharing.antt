@@ -1,4 +1,4 @@
--- The shares of all passes together are the whole, at all times.
+-- The shares of all passes together are always the whole.
 use Rattle.std.proofs.Common.{◌≡◌, ℕ, suc, List, ◌∷◌, ◌++◌, map, sym, ap, subst, append_assoc}
 use Rattle.std.specs.List.{flat_map}
 use Rattle.std.proofs.lemmas.Grind.{flat_map-append}

@@ -1,4 +1,5 @@
--- All calls are started before the first turn, each by an actor of its own; then the order leads to its end.
+-- All calls are started before the first turn, each by an actor of its own. Then the order leads to
+-- its end.
 use Rattle.std.proofs.Common.{◌≡◌, ℕ, zero, suc, ◌+◌, ◌==◌, Bool, true, false, cond, List, [], ◌∷◌, ◌++◌, Option, None, Some, refl, sym, ap, subst, ◌∙◌, arith, length, length-append, map, append_assoc, slice_get, slice_set, replicate}
 use Rattle.std.proofs.lemmas.List.{append-nil, map-append}
 use Rattle.std.proofs.lemmas.Option.{slice_get_within, get_or_from_slice_get}
@@ -52,7 +53,7 @@ all_right start (c ∷ cs) played zero u there =
 all_right start (c ∷ cs) played (suc place) u there =
     subst (λ n. IsRight n u) (omega arith) (all_right (suc start) cs (λ p d at. played (suc p) d at) place u there)
 
--- what is left is all of it
+-- At the start, all turns of a pass in calls are left.
 left_at_start : (number start : ℕ) (cs : List Called) → left_in number (all_underway start cs) ≡ turns_in number start cs
 left_at_start number start [] = refl
 left_at_start number start (c ∷ cs) = ap (λ ts. left_of number (underway_at start c) ++ ts) (left_at_start number (suc start) cs)
@@ -133,7 +134,7 @@ all_start (c ∷ cs) w done steps actors =
 
 -- ---- where a call stands, and what it answered
 
--- its actor is in it where it stands, or idle if it is over
+-- The actor of a call is in it, in its state, or is idle if the call is over.
 standing_at : (start : ℕ) (cs : List Called) (place : ℕ) (c : Called) → slice_get cs place ≡ Some c → slice_get (all_standing start cs) place ≡ Some (doing_in (started_at (start + place) c) c.state)
 standing_at start [] place c there = absurd cc
 standing_at start (d ∷ cs) zero c there =
@@ -161,7 +162,7 @@ in_its_place call (Goes phase) same = ap (λ b. cond b (Some (Goes phase)) None)
 in_its_place call (Waits wait) same = ap (λ b. cond b (Some (Waits wait)) None) same
 in_its_place call (Over ending) same = refl
 
--- a play that leads where a call stands has its answer
+-- Two plays along the same turns that leave the actor in the same state have the same endings.
 module _ (one : OneAnswer) (cred : Cred) (asked : SystemCall) (released : ℕ) (ds : List Deed) where
   one_ending : (state other : State) → Plays (begin cred asked released) ds state → Plays (begin cred asked released) ds other → standing state ≡ standing other → ended state ≡ ended other
   one_ending (Goes phase) (Goes another) p q same = refl
@@ -214,7 +215,7 @@ module _ (obeys : EveryThreadedRunObeys) (one : OneAnswer) (gen size : ℕ) (ord
       actors_are : r.world.actors ≡ all_standing 0 calls
       actors_are = r.actors ∙ done_at_start 0 calls
 
-      -- the call at a place of the list
+      -- The call at a place of the list.
       module _ (place : ℕ) (c : Called) (there : slice_get calls place ≡ Some c) where
         abbrev call : Started
         call = started_at place c

@@ -43,11 +43,11 @@ use Rattle.sysv_free.specs.Forgotten.{AllTakeTheirRows}
 use Rattle.sysv_free.proofs.Forgetting.{Owed, owed_idle, owed_read, owed_turn, begun_none, resumed_none}
 use Rattle.sysv_free.proofs.Reading.{row_counts, row_tends, row_facts, row_fits, row_keeps}
 
--- a turn of nobody reads a row
+-- A turn that belongs to no call reads a row.
 abbrev ReadsIfNobody : Turn → Type 0
 ReadsIfNobody t = t.who ≡ nobody → IsRowRead t
 
--- what holds of each world of a free run
+-- What holds of each world of a free run.
 record IsHeld (w : World) (given : List Given) : Type 0 where
   inv : Inv w given
   tends : Tends w
@@ -59,7 +59,7 @@ made_so : (calls : List Started) (t : Turn) → IsMade calls t → ReadsIfNobody
 made_so calls t (inl nobody_did) reads = inl (reads nobody_did)
 made_so calls t (inr by) reads = inr by
 
--- where all hold of one world, they hold of the same
+-- What holds of one world holds of an equal one.
 same_held : (w after : World) (given : List Given) → after ≡ w → IsHeld w given → IsHeld after given
 same_held w after given e h = subst (λ (v : World). IsHeld v given) (sym e) h
 
@@ -106,7 +106,7 @@ module _ (sound : StaysSound) (more : (generation blocks : ℕ) (turns : List Tu
   -- ---- a turn
 
   module _ (w : World) (given : List Given) (h : IsHeld w given) (place now : ℕ) (call : Started) (phase : Phase) (there : slice_get w.actors place ≡ Some (Some record { call = call; state = Goes phase })) where
-    -- it is no turn of nobody
+    -- The turn belongs to a call.
     own_turn : (deed : Deed) → ReadsIfNobody (turn_of call.who deed)
     own_turn deed nobody_did =
         let name = (h.inv.doing place (record { call = call; state = Goes phase }) there).1 in

@@ -90,7 +90,7 @@ splits_one = record { apart = of_others (1 ∷ []) [] tt; parent = refl; child =
 splits_two : Splits (seen 0 1 0) (seen 0 2 0) (seen 2 2 0)
 splits_two = record { apart = of_others (2 ∷ []) [] tt; parent = refl; child = refl }
 
--- what is so of the two numbers of the list is so of each number in it
+-- What holds of the two numbers of the list holds of each number in it.
 of_two : (P : ℕ → Type 0) (m n : ℕ) → P m → P n → (x : ℕ) → 1 ≤ times x (m ∷ n ∷ []) → P x
 of_two P m n pm pn x has =
     let both : times x (m ∷ n ∷ []) ≡ times x (m ∷ []) + times x (n ∷ []) = times-append x (m ∷ []) (n ∷ []) in
@@ -167,7 +167,7 @@ own_all =
 closes_all : Closes with_all the_order
 closes_all = record { longer = ([], refl); apart = apart_all; all = λ w. (refl, own_all) }
 
--- half of a half is not the whole
+-- Half of a half is not the whole.
 not_whole : ¬ AreWhole (2 ∷ [])
 not_whole w = let whole : ◌≡◌ {A = ℕ} 1 4 = whole_in_any (2 ∷ []) w 2 (All-cons (AtMost 2) 2 [] (omega arith) (All-nil (AtMost 2))) in omega arith
 

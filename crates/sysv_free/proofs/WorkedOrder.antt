@@ -157,7 +157,7 @@ all_rest =
     (All-cons Rested with_answer (the_send ∷ the_left ∷ the_removal ∷ the_refused ∷ []) tt
     (All-cons Rested the_send (the_left ∷ the_removal ∷ the_refused ∷ []) tt (All-cons Rested the_left (the_removal ∷ the_refused ∷ []) tt (All-cons Rested the_removal (the_refused ∷ []) tt (All-cons Rested the_refused [] tt (All-nil Rested))))))
 
--- only the passes 0, 1 and 2 have made turns
+-- Only the passes 0, 1 and 2 have made turns.
 low : ℕ → Bool
 low zero = true
 low (suc zero) = true

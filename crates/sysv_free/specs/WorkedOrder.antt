@@ -1,8 +1,9 @@
--- A worked order: three passes, whose turns interleave. Pass 0 makes a queue. Pass 1 receives, finds no message and
--- waits; pass 0 sends one, and pass 1, whose wait is over, takes it. Between them pass 2 lists the queue. Then pass 0
--- receives and is left at its wait, and at last stops: it reads the row, and removes the queue as user 0. A last send of
--- pass 1 is refused at its start and makes no turn. Below are calls that are not those of the order, and an order that
--- is not legal.
+-- A worked order of three passes whose turns interleave. Pass 0 makes a queue. Pass 1 receives,
+-- finds no message and waits. Pass 0 sends a message, and pass 1, whose wait is over, takes it. In
+-- between, pass 2 lists the queue. Then pass 0 receives and is left at its wait, and at last stops
+-- the service: it reads the row, and removes the queue as user 0. A last send of pass 1 is refused
+-- at its start and makes no turn. At the end are calls that are not those of the order, and an
+-- order that is not legal.
 use Rattle.std.specs.Prelude.{ℕ, pos, true, false, List, [], ◌∷◌, ◌++◌, Some, take, codes}
 use Rattle.sysv_model.specs.declared.attributes.Row.{Row}
 use Rattle.sysv_model.specs.declared.cred.Cred.{Cred}
@@ -39,7 +40,7 @@ hello = codes "hello"
 abbrev pub hello_message : Message
 hello_message = record { number = 0; sender = 101; mtype = pos 5; bytes = hello }
 
--- IPC_CREAT, and mode 0600
+-- IPC_CREAT and mode 0600.
 abbrev pub creating : Flags
 creating = record { 0 = 896 }
 
@@ -90,9 +91,11 @@ forgets = AtRegistry (Forget (pos 0)) (Changed true)
 abbrev pub gives_back_none : Deed
 gives_back_none = AtPool (Release 0) Released
 
+-- A turn made under this number.
 abbrev pub by : ℕ → Deed → Numbered
 by number deed = record { by = number; deed = deed }
 
+-- The order of all turns.
 abbrev pub the_order : List Numbered
 the_order =
     by 0 makes ∷ by 0 installs ∷ by 0 settles
@@ -113,7 +116,7 @@ the_get = record { by = 0; cred = sender; asked = Msgget IPC_PRIVATE creating; r
 abbrev pub the_send : Called
 the_send = record { by = 0; cred = sender; asked = Msgsnd (pos 0) (pos 5) IPC_NOWAIT hello; released = 0; deeds = looks ∷ reserves ∷ places ∷ []; state = Over Zero }
 
--- that of pass 1, which has ended so
+-- The receive of pass 1, in this state.
 abbrev pub the_receive : State → Called
 the_receive state = record {
   by = 1;
@@ -124,11 +127,11 @@ the_receive state = record {
   state = state;
 }
 
--- its type is 0
+-- A send that is refused because its type is 0.
 abbrev pub the_refused : Called
 the_refused = record { by = 1; cred = receiver; asked = Msgsnd (pos 0) (pos 0) IPC_NOWAIT hello; released = 0; deeds = []; state = Over (Refused EINVAL) }
 
--- it was left, and would have taken a second message
+-- A receive that was left at its wait for a second message.
 abbrev pub left_at : Receiving
 left_at = record { cred = sender; id = pos 0; selector = Any; size = 100; noerror = true; nowait = false; seen = true }
 
@@ -145,25 +148,27 @@ the_left = record {
 abbrev pub the_removal : Called
 the_removal = record { by = 0; cred = superuser; asked = MsgctlRmid (pos 0); released = 0; deeds = discards ∷ forgets ∷ gives_back_none ∷ []; state = Over Zero }
 
+-- All calls, with this state of the receive of pass 1.
 abbrev pub calls_with : State → List Called
 calls_with state = the_get ∷ the_receive state ∷ the_send ∷ the_left ∷ the_removal ∷ the_refused ∷ []
 
+-- All calls of the order.
 abbrev pub the_calls : List Called
 the_calls = calls_with (Over (Got (pos 5) hello))
 
 -- ---- what is so of them
 
 pub record WorkedOrder : Type 0 where
-  -- the order is legal, the calls are all that its passes made, and they are a run
+  -- The order is legal, the calls are all that its passes made, and the order is a run with them.
   pub legal : AreLegal 0 128 (turns_of the_order)
   pub all : AreAll the_order the_calls
   pub run : IsRunWith 0 128 the_order the_calls
-  -- at the end all blocks are back
+  -- At the end no call holds a block, and each row is settled and its queue is live.
   pub at_rest : AreAtRest 128 (turns_of the_order)
-  -- the receive has no other answer
+  -- The receive has no other result.
   pub answered_otherwise : ¬ AreAll the_order (calls_with (Over (Refused ENOMSG)))
-  -- no call is left out, and none stands before one that its pass made earlier
+  -- No call is left out, and no call precedes one that its pass made earlier.
   pub left_out : ¬ AreAll the_order (the_get ∷ the_receive (Over (Got (pos 5) hello)) ∷ the_left ∷ the_removal ∷ the_refused ∷ [])
   pub out_of_turn : ¬ AreAll the_order (the_send ∷ the_get ∷ the_receive (Over (Got (pos 5) hello)) ∷ the_left ∷ the_removal ∷ the_refused ∷ [])
-  -- no message is taken before it was sent
+  -- No message is taken before it was sent.
   pub taken_early : ¬ AreLegal 0 128 (turns_of (take 4 the_order ++ by 1 takes ∷ []))

@@ -19,9 +19,9 @@ use sysv_steps::{
     after_removal, each_answer_is_right, each_deed_is_asked_for, each_holds_its_blocks, one_answer,
 };
 
-/// The headline of threads: every list of moments leads from every opening only to worlds that obey the laws of
-/// the headline, except that a call that waits may do so without a reason. A call may be told any released count
-/// at its start, and any value that is at least the goal may end a wait.
+/// States the headline of threads: every list of moments leads from every opening only to worlds
+/// that obey the laws of the headline, except that a call may wait without a reason. A call may
+/// read any released count at its start, and any value that is at least the goal may end a wait.
 pub fn every_threaded_run_obeys()
     ensures { EveryThreadedRunObeys }
 {
@@ -38,8 +38,8 @@ pub fn every_threaded_run_obeys()
     after_removal();
 }
 
-/// No forget of a free run is answered false: each removal forgets the row of its identifier, which is there until
-/// then.
+/// States that each forget in a free run takes a row away: each removal forgets the row of its
+/// identifier, which exists until then.
 pub fn each_forget_takes_its_row()
     ensures { EachForgetTakesItsRow }
 {
@@ -52,13 +52,14 @@ pub fn each_forget_takes_its_row()
     removed_for_good();
 }
 
-/// Each run of a world in which nothing is preset is a free run.
+/// States that each run of a world without a preset is a free run.
 pub fn each_run_is_free()
     ensures { EachRunIsFree }
 {}
 
-/// Every order of turns with legal replies, with the calls that its passes made, is a free run: a list of moments
-/// leads to a world that has the turns of the order and the calls with their answers, and obeys the laws.
+/// States that every order of turns with legal replies, with the calls that its passes made, is a
+/// free run: a list of moments leads to a world that has the turns of the order and the calls with
+/// their results, and that obeys the laws.
 pub fn every_order_is_a_run()
     ensures { EveryOrderIsARun }
 {
@@ -66,21 +67,22 @@ pub fn every_order_is_a_run()
     one_answer();
 }
 
-/// No call reads a row, so a turn that does belongs to no call.
+/// States that no call reads a row, so a turn that reads one belongs to no call.
 pub fn no_call_reads_a_row()
     ensures { NoCallReadsARow }
 {}
 
-/// Once no call of an order is under way, each block is free or under a queued message, and each key is bound to a
-/// queue that lives.
+/// States that, when no call of an order is under way, each block is free or under a queued
+/// message, and each row is settled and its queue is live.
 pub fn orders_at_rest()
     ensures { OrdersAtRest }
 {
     every_order_is_a_run();
 }
 
-/// Once all passes of a service have been joined into one, the order of all turns that its closing finds is a run,
-/// with all calls that its passes made, if each reply in it is legal and no call found a gate worn out.
+/// States that, after all passes of a service were joined into one, the order of all turns that its
+/// close finds is a run with all calls that its passes made, if each reply in it is legal and no
+/// call found a gate worn out.
 pub fn every_service_that_came_home_is_a_run()
     ensures { EveryServiceIsARun }
 {
@@ -88,8 +90,9 @@ pub fn every_service_that_came_home_is_a_run()
     orders_at_rest();
 }
 
-/// An order in which the turns of three passes interleave, with a receive that waited and one that was left, is
-/// legal, and it is a run with the calls that made it. Calls that do not belong to it are refused.
+/// States that an order in which the turns of three passes interleave, with a receive that waited
+/// and one that was left, is legal and is a run with the calls that made it. Calls that do not
+/// belong to the order are refused.
 pub fn worked_order()
     ensures { WorkedOrder }
 {
@@ -99,8 +102,8 @@ pub fn worked_order()
     orders_at_rest();
 }
 
-/// The worked order is that of a service of three passes: it is opened, two passes are split off, calls are made, and
-/// all passes come home. It does not come home without one of the calls.
+/// States that the worked order is that of a service of three passes: it is opened, two passes are
+/// split off, calls are made, and all passes come home. Without one of the calls, they do not.
 pub fn worked_crew()
     ensures { WorkedCrew }
 {

@@ -1,6 +1,6 @@
-//! Free runs: what threads can make of a world. The turns are those of a world, and what a call reads between
-//! its turns may be anything that the step table admits. One order of all turns, with the calls that made them, is
-//! such a run. The crate contains only laws.
+//! Free runs: what threads can make of a world. The turns are those of a world, and what a call
+//! reads between its turns may be anything that the step table admits. One order of all turns, with
+//! the calls that made them, is such a run. The crate contains only laws.
 #![tactic(auto)]
 
 mod laws;

@@ -14,7 +14,7 @@ use Rattle.sysv_lines.specs.declared.line.Line.{Line}
 use Rattle.sysv_lines.specs.SaidBy.{said_of}
 use Rattle.sysv_lines.proofs.Naming.{named_order, order_named}
 
--- what is said, as a number
+-- The kind of a meaning, as a number.
 abbrev pub kind : Said → ℕ
 kind Nothing = 0
 kind MakesPreset = 1
@@ -27,7 +27,7 @@ kind (Continues who) = 6
 kind (Starts who asked false) = 7
 kind (Starts who asked true) = 8
 
--- the kind of a line, by its first two bytes
+-- The kind of a line, by its first two bytes.
 abbrev pub kind_by : ℕ → ℕ → ℕ
 kind_by a b =
     cond (nat_eq a 0) 0 (cond (nat_eq a 35) 0 (cond (nat_eq a 112) (cond (nat_eq b 114) 1 9) (cond (nat_eq a 97) (cond (nat_eq b 115) 2 3)
@@ -36,7 +36,7 @@ kind_by a b =
 abbrev pub kind_in : List ℕ → ℕ
 kind_in line = kind_by (get_or line 0 0) (get_or line 1 0)
 
--- a numeral begins with a digit or a minus
+-- A numeral begins with a digit or a minus.
 starts_number : (a b : ℕ) → (a ≡ 45) → kind_by a b ≡ 8
 starts_number a b e = ap (λ x. kind_by x b) e
 
@@ -84,7 +84,7 @@ skipped_kind line (inr (comment, e)) = ap kind_in e
 order_said : (line : List ℕ) (said : Said) (k : ℕ) → 2 ≤ length (order_name said) → kind_in (order_name said) ≡ k → SaysOrder line said → kind_in line ≡ k
 order_said line said k long e h = ap kind_in h.split.whole ∙ (order_kind (order_name said) h.rest long ∙ e)
 
--- a line is of the kind of what it says
+-- A line is of the kind of its meaning.
 pub kind_said : (line : List ℕ) (said : Said) → Tells line said → kind_in line ≡ kind said
 kind_said line Nothing h = skipped_kind line h
 kind_said line MakesPreset h = ap kind_in h
@@ -97,7 +97,7 @@ kind_said line (GivesMoment moment) h = order_said line (GivesMoment moment) 4 (
 kind_said line (StepsOnce who) h = order_said line (StepsOnce who) 5 (omega arith) (λ i. 5) h
 kind_said line (Continues who) h = order_said line (Continues who) 6 (omega arith) (λ i. 6) h
 
--- what is said in words is said
+-- A line whose words have a meaning has that meaning.
 pub in_words : (line : List ℕ) (said : Said) → TellsInWords line said → Tells line said
 in_words line Nothing h = elim h [ ]
 in_words line (Starts who asked false) h = elim h [ ]
@@ -135,13 +135,13 @@ words_alone line (GivesMoment moment) plain h = absurd (plain (SplitsAt-marked 3
 words_alone line (StepsOnce who) plain h = absurd (plain (SplitsAt-marked 32 line _ h.rest h.split))
 words_alone line (Continues who) plain h = absurd (plain (SplitsAt-marked 32 line _ h.rest h.split))
 
--- a line without a space
+-- A line without a space.
 pub one_word : (line : List ℕ) (r : Option Line) → ¬ Contains line 32 → MatchOption r ((said : Said) → ¬ TellsAlone line said) (λ u. TellsAlone line (said_of u)) →
     MatchOption r ((said : Said) → ¬ TellsInWords line said) (λ u. TellsInWords line (said_of u))
 one_word line None plain none = λ said h. none said (words_alone line said plain h)
 one_word line (Some u) plain says = alone_in_words line (said_of u) says
 
--- an order
+-- A line of a name and its arguments.
 pub order_in_words : (line name rest : List ℕ) (said : Said) → SplitsAt 32 line name rest → OrderNamed name rest said → TellsInWords line said
 order_in_words line name rest (GivesCred who cred) split h = named_order line name rest (GivesCred who cred) split h
 order_in_words line name rest (GivesBlocks blocks) split h = named_order line name rest (GivesBlocks blocks) split h
@@ -168,7 +168,7 @@ unspaced_all (suc zero, h, e) = omega (arith, e)
 unspaced_all (suc (suc zero), h, e) = omega (arith, e)
 unspaced_all (suc (suc (suc k)), h, e) = omega arith
 
--- a line that gives no order and starts no call
+-- A line that is no name with arguments and starts no call.
 pub nothing_in_words : (line name rest : List ℕ) → SplitsAt 32 line name rest → ((said : Said) → ¬ OrderNamed name rest said) →
     ((who : ℕ) (asked : SystemCall) → ¬ SaysStart line who asked) → (said : Said) → ¬ TellsInWords line said
 nothing_in_words line name rest split orders starts Nothing h = elim h [ ]
@@ -187,13 +187,13 @@ nothing_in_words line name rest split orders starts (Continues who) h = orders _
 pub tail_same : (x : ℕ) (line a b : List ℕ) → line ≡ x ∷ a → line ≡ x ∷ b → a ≡ b
 tail_same x line a b h k = cc
 
--- a line after whose `+` no call is started says nothing
+-- A line whose `+` is not followed by the start of a call has no meaning.
 pub nothing_behind_plus : (line words : List ℕ) → line ≡ 43 ∷ words → ((who : ℕ) (asked : SystemCall) → ¬ SaysStart words who asked) → (said : Said) → ¬ Says line said
 nothing_behind_plus line words e none (Starts who asked false) h =
     none who asked (subst (λ (l : List ℕ). SaysStart l who asked) (tail_same 43 line h.1.0 words h.1.1 e) h.1.2)
 nothing_behind_plus line words e none said h = let k = sym (ap kind_in e) ∙ kind_said line said h.1 in omega (arith, k)
 
--- a line that is none to skip, and before which no plus stands
+-- A line that is not skipped and has no `+` before it.
 kept_line : (line : List ℕ) → 1 ≤ length line → get_or line 0 0 ≢ 35 → get_or line 0 0 ≢ 43 → (¬ IsSkipped line) × ((words : List ℕ) → ¬ (line ≡ 43 ∷ words))
 kept_line line long hash plus = (
   λ skipped. elim skipped [ inl e ↦ let short : length line ≡ 0 = ap length e in omega (arith, long, short) | inr h ↦ hash (ap (λ (l : List ℕ). get_or l 0 0) h.1) ],

@@ -1,4 +1,5 @@
--- A call and an order are known by their names, and the words after a name are its arguments.
+-- A call, and a line of a name and arguments, is recognized by its name, and the words after the
+-- name are its arguments.
 use Rattle.std.proofs.Common.{◌≡◌, ◌≤◌, ◌+◌, ◌-◌, ◌*◌, ℕ, ℤ, pos, List, [], ◌∷◌, take, drop, take_all, Option, Some, None, MatchOption, length, get_or, codes, inl, inr, sym, ap, subst, ◌∙◌, arith}
 use Rattle.std.specs.Prelude.{Contains}
 use Rattle.sysv_model.specs.declared.flags.Flags.{Flags}
@@ -13,7 +14,7 @@ use Rattle.sysv_lines.specs.Lines.{IsActor, actor, IsBlocks, of_blocks, SaysText
 use Rattle.sysv_lines.specs.declared.request.Request.{Request}
 use Rattle.sysv_lines.specs.SaidBy.{call_asked}
 
--- a name's first bytes, as one number
+-- The first two bytes of a name, as one number.
 abbrev pub first_bytes : List ℕ → ℕ
 first_bytes name = 256 * get_or name 0 0 + get_or name 1 0
 

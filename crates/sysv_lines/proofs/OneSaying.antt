@@ -1,4 +1,4 @@
--- A line says one thing, and whether it says something is decided.
+-- A line has at most one meaning, and it is decided whether it has one.
 use Rattle.std.proofs.Common.{◌≡◌, ◌⊎◌, ℕ, List, [], ◌∷◌, length, codes, inl, inr, true, false, sym, ap, subst, ◌∙◌, arith}
 use Rattle.std.proofs.lemmas.Bool.{cases_eq}
 use Rattle.sysv_words.specs.Words.{Pair, IsNat32, IsNat64}
@@ -44,7 +44,7 @@ pool_made b = GivesBlocks b.0
 abbrev go_made : Actor → Said
 go_made a = Continues a.0
 
--- the arguments of an order under one name are those of the other
+-- If two meanings of a line have the same name, the arguments of one are those of the other.
 arguments_of : (line : List ℕ) (a b : Said) → (h : SaysOrder line a) (k : SaysOrder line b) → SaysOrderArguments k.rest a
 arguments_of line a b h k =
     let same = splits_once 32 line (order_name a) h.rest (order_name b) k.rest h.split k.split in
@@ -74,7 +74,7 @@ tells_once w line a (Starts other called true) e h k = absurd (omega (arith, e))
 tells_once w line a (Starts other called false) e h k = absurd (omega (arith, e))
 tells_once w line a b e h k = absurd (omega (arith, e))
 
--- a line says one thing
+-- A line has at most one meaning.
 pub says_once : WordsAreRead → (line : List ℕ) (a b : Said) → Says line a → Says line b → a ≡ b
 says_once w line a b h k = tells_once w line a b (sym (kind_said line a h.1) ∙ kind_said line b k.1) h.1 k.1
 
@@ -118,7 +118,7 @@ step_or_not w words = elim ((actor_read w).decided words) [ inl v ↦ inl (step_
 go_or_not : WordsAreRead → (words : List ℕ) → Orders (codes "go") words
 go_or_not w words = elim ((actor_read w).decided words) [ inl v ↦ inl (go_made v.0, record { is = λ i. codes "go"; arguments = v.1 }) | inr none ↦ inr (no_go words none) ]
 
--- a name that is none of the five
+-- The name is none of the five.
 record IsNoOrder (name : List ℕ) : Type 0 where
   pool_name : ¬ (name ≡ codes "pool")
   as_name : ¬ (name ≡ codes "as")
@@ -229,7 +229,7 @@ tells_or_not w (x ∷ rest) = elim (cases_eq x 35) [
   ]
 ]
 
--- a line says something, or nothing
+-- A line has a meaning, or it has none.
 pub says_or_not : WordsAreRead → (line : List ℕ) → ((said : Said) × Says line said) ⊎ ((said : Said) → ¬ Says line said)
 says_or_not w line = elim (at_most_or_not (length line) 9000) [
   | inl short ↦ elim (tells_or_not w line) [

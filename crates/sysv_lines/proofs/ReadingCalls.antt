@@ -1,4 +1,5 @@
--- An actor, a text and a call are read in one way, and whether words say one is decided.
+-- An actor, a body and a call are read in at most one way, and it is decided whether the words are
+-- one.
 use Rattle.std.proofs.Common.{◌≡◌, ◌≤◌, ◌⊎◌, ℕ, ℤ, pos, List, [], ◌∷◌, length, replicate, get_or, codes, inl, inr, sym, ap, subst, ◌∙◌, arith}
 use Rattle.std.proofs.lemmas.List.{length-replicate}
 use Rattle.sysv_model.specs.declared.flags.Flags.{Flags}
@@ -88,7 +89,7 @@ text_once body a b (_, inr h) (_, inr k) =
     let long : length a ≡ length b = count_same h.word k.word (length a) (length b) word h.number k.number in
     h.letters ∙ (ap (λ n. replicate n 120) long ∙ sym k.letters)
 
--- a word gives a number of letters
+-- The word is a number of letters.
 abbrev Counts : List ℕ → Type 0
 Counts word = (count : ℕ) × IsNumeralOf word (pos count) × (count ≤ 8256)
 
@@ -219,7 +220,7 @@ set_or_not w words = elim ((set_read w).decided words) [ inl v ↦ inl (set_made
 remove_or_not : WordsAreRead → (words : List ℕ) → NamesSome (codes "rm") words
 remove_or_not w words = elim (w.int32.decided words) [ inl v ↦ inl (MsgctlRmid v.0, record { is = λ i. codes "rm"; arguments = v.1 }) | inr none ↦ inr (no_remove words none) ]
 
--- a name that is none of the six
+-- The name is none of the six.
 record IsNoName (name : List ℕ) : Type 0 where
   get : ¬ (name ≡ codes "get")
   snd : ¬ (name ≡ codes "snd")

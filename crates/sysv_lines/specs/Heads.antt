@@ -1,4 +1,4 @@
--- The lines that a script prints, up to the bytes of a message (this project's script language).
+-- The lines that a script prints, without the bytes of a message (this project's script language).
 use Rattle.std.specs.Prelude.{ℕ, ◌/◌, ◌%◌, List, ◌++◌, codes}
 use Rattle.std.specs.Fmt.{decimal, signed_decimal}
 use Rattle.sysv_model.specs.Errors.{name_of}
@@ -13,7 +13,7 @@ use Rattle.sysv_lines.specs.declared.told.Told.TheVariants.{Id, Zero, Got, Stat 
 use Rattle.sysv_lines.specs.declared.head.Head.{Head}
 use Rattle.sysv_lines.specs.declared.head.Head.TheVariants.{Answers, At, Waits, Busy, Idle, Worn, Bad}
 
--- what a script calls the six calls
+-- The names of the six calls in a script.
 abbrev pub operation_name : Operation → List ℕ
 operation_name Get = codes "get"
 operation_name Send = codes "snd"
@@ -22,7 +22,7 @@ operation_name OfStat = codes "stat"
 operation_name OfSet = codes "set"
 operation_name OfRemove = codes "rm"
 
--- the steps by their names
+-- The names of the steps.
 abbrev pub step_name : Step → List ℕ
 step_name Begin = codes "begin"
 step_name Install = codes "install"
@@ -38,28 +38,31 @@ step_name AtStat = codes "stat"
 step_name AtSet = codes "set"
 step_name AtRemove = codes "remove"
 
--- the attributes of a queue, in three parts: owner, creator and the three octal digits of the mode; what
--- waits, the limit and the processes; the moments
+-- The mode of a queue as three octal digits.
 abbrev pub mode_text : ℕ → List ℕ
 mode_text mode = decimal (mode / 64 % 8) ++ decimal (mode / 8 % 8) ++ decimal (mode % 8)
 
+-- The owner, the creator and the mode of a queue.
 unfoldable pub perm_text : Perm → List ℕ
 perm_text p =
     codes "uid " ++ decimal p.uid ++ codes " gid " ++ decimal p.gid ++ codes " cuid " ++ decimal p.cuid ++ codes " cgid " ++ decimal p.cgid
     ++ codes " mode " ++ mode_text p.mode
 
+-- The queued bytes and messages, the limit and the process numbers of a queue.
 unfoldable pub counts_text : Stat → List ℕ
 counts_text s =
     codes "bytes " ++ decimal s.cbytes ++ codes " num " ++ decimal s.qnum ++ codes " qbytes " ++ decimal s.qbytes
     ++ codes " lspid " ++ decimal s.lspid ++ codes " lrpid " ++ decimal s.lrpid
 
+-- The times of a queue.
 unfoldable pub times_text : Stat → List ℕ
 times_text s = codes "stime " ++ decimal s.stime ++ codes " rtime " ++ decimal s.rtime ++ codes " ctime " ++ decimal s.ctime
 
+-- All attributes of a queue.
 abbrev pub stat_text : Stat → List ℕ
 stat_text s = codes "key " ++ signed_decimal s.key ++ codes " " ++ perm_text s.perm ++ codes " " ++ counts_text s ++ codes " " ++ times_text s
 
--- how a call was answered
+-- The result of a call.
 abbrev pub told_text : Told → List ℕ
 told_text (Id id) = codes "= " ++ signed_decimal id
 told_text Zero = codes "= 0"
@@ -67,6 +70,7 @@ told_text (Got len mtype) = codes "= " ++ decimal len ++ codes " type " ++ signe
 told_text (IsStat stat) = codes "= " ++ stat_text stat
 told_text (Refused why) = codes "! " ++ name_of why
 
+-- A line, without the bytes of a message.
 abbrev pub head_text : Head → List ℕ
 head_text (Answers actor operation told) = decimal actor ++ codes " " ++ operation_name operation ++ codes " " ++ told_text told
 head_text (At actor operation step) = decimal actor ++ codes " " ++ operation_name operation ++ codes " at " ++ step_name step

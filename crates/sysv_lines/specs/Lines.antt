@@ -1,5 +1,5 @@
--- What a line of a script says (this project's script language): its words stand one space apart,
--- and the text of a message is the rest of the line.
+-- The meaning of a line of a script (this project's script language). Its words are separated by
+-- one space, and the body of a message is the rest of the line.
 use Rattle.std.specs.Prelude.{◌≡◌, ◌≤◌, ◌⊎◌, ℕ, pos, true, false, List, [], ◌∷◌, length, codes, replicate}
 use Rattle.sysv_model.specs.declared.limits.TheConstants.{BODY_ROOM, MIN_BLOCKS, MAX_BLOCKS}
 use Rattle.sysv_words.specs.Words.{Pair, After, IsNumeralOf, IsInt32, IsInt64, IsNat32, IsNat64}
@@ -13,38 +13,40 @@ use Rattle.sysv_lines.specs.declared.actor.TheConstants.{SCRIPT_ACTORS}
 use Rattle.sysv_lines.specs.declared.line.TheConstants.{LINE_BYTES}
 use Rattle.sysv_lines.specs.Said.{Said, Nothing, MakesPreset, GivesCred, GivesMoment, Starts, StepsOnce, Continues, AllContinue, GivesBlocks}
 
--- the number of an actor, 1 to 16
+-- The word is the number of an actor, 1 to 16.
 pub record IsActor (word : List ℕ) (actor : Actor) : Type 0 where
   pub number : IsNumeralOf word (pos actor.0)
   pub least : 1 ≤ actor.0
   pub most : actor.0 ≤ SCRIPT_ACTORS
 
+-- The actor of this number.
 abbrev pub actor : ℕ → Actor
 actor number = record { 0 = number }
 
--- a number of blocks that a pool can have
+-- The word is a number of blocks that a pool can have.
 pub record IsBlocks (word : List ℕ) (blocks : Blocks) : Type 0 where
   pub number : IsNumeralOf word (pos blocks.0)
   pub least : MIN_BLOCKS ≤ blocks.0
   pub most : blocks.0 ≤ MAX_BLOCKS
 
+-- This number of blocks.
 abbrev pub of_blocks : ℕ → Blocks
 of_blocks number = record { 0 = number }
 
--- a body that gives a number of letters x
+-- The word is `*` and a number N, and the text is N letters x.
 pub record GivesLetters (body text : List ℕ) : Type 0 where
   pub word : List ℕ
   pub whole : body ≡ 42 ∷ word
   pub number : IsNumeralOf word (pos (length text))
   pub letters : text ≡ replicate (length text) 120
 
--- `=` and the text itself, or `*` and a number of letters; a text has at most 8,256 bytes
+-- The word is `=` and the text, or `*` and a number of letters. The text has at most 8,256 bytes.
 abbrev pub SaysText : List ℕ → List ℕ → Type 0
 SaysText body text = (length text ≤ BODY_ROOM) × ((body ≡ 61 ∷ text) ⊎ GivesLetters body text)
 
 -- ---- calls
 
--- how a script names a call
+-- The name of a call in a script.
 abbrev pub call_name : SystemCall → List ℕ
 call_name (Msgget key flags) = codes "get"
 call_name (Msgsnd id mtype flags text) = codes "snd"
@@ -53,11 +55,12 @@ call_name (MsgctlStat id) = codes "stat"
 call_name (MsgctlSet id to) = codes "set"
 call_name (MsgctlRmid id) = codes "rm"
 
+-- These permission bits.
 abbrev pub octal : ℕ → Octal
 octal mode = record { 0 = mode }
 
--- the words after the name: `KEY FLAGS`, `ID MTYPE FLAGS BODY`, `ID SIZE MTYPE FLAGS`, `ID`,
--- `ID UID GID MODE QBYTES`, `ID`
+-- The words after the name: `KEY FLAGS`, `ID MTYPE FLAGS BODY`, `ID SIZE MTYPE FLAGS`, `ID`, `ID
+-- UID GID MODE QBYTES`, `ID`.
 abbrev pub SaysArguments : List ℕ → SystemCall → Type 0
 SaysArguments words (Msgget key flags) = Pair IsInt32 IsFlagList words (key, flags)
 SaysArguments words (Msgsnd id mtype flags text) = Pair IsInt32 (Pair IsInt64 (Pair IsFlagList SaysText)) words (id, (mtype, (flags, text)))
@@ -67,24 +70,24 @@ SaysArguments words (MsgctlSet id to) =
     Pair IsInt32 (Pair IsNat32 (Pair IsNat32 (Pair IsOctal IsNat32))) words (id, (to.uid, (to.gid, (octal to.mode, to.qbytes))))
 SaysArguments words (MsgctlRmid id) = IsInt32 words id
 
--- the call of this name with these arguments
+-- The call has this name and these arguments.
 pub record SaysNamed (name words : List ℕ) (asked : SystemCall) : Type 0 where
   pub is : call_name asked ≡ name
   pub arguments : SaysArguments words asked
 
--- the name of the call, and its arguments
+-- The words are the name of the call and its arguments.
 abbrev pub SaysCall : List ℕ → SystemCall → Type 0
 SaysCall words asked = After (call_name asked) SaysArguments words asked
 
 -- ---- lines
 
--- a line that is skipped is empty, or a comment
+-- The line is skipped: it is empty or a comment.
 abbrev pub IsSkipped : List ℕ → Type 0
 IsSkipped line = (line ≡ []) ⊎ ((comment : List ℕ) × (line ≡ 35 ∷ comment))
 
 -- ---- a line of a name and its arguments
 
--- the name, where there is one
+-- The name with which the line begins, if it has one.
 abbrev pub order_name : Said → List ℕ
 order_name (GivesBlocks blocks) = codes "pool"
 order_name (GivesCred who cred) = codes "as"
@@ -96,7 +99,7 @@ order_name MakesPreset = []
 order_name (Starts who asked goes) = []
 order_name AllContinue = []
 
--- the words after it: `N`, `ACTOR UID GID PID`, `T`, `ACTOR`, `ACTOR`
+-- The words after the name: `N`, `ACTOR UID GID PID`, `T`, `ACTOR`, `ACTOR`.
 abbrev pub SaysOrderArguments : List ℕ → Said → Type 0
 SaysOrderArguments words (GivesBlocks blocks) = IsBlocks words (of_blocks blocks)
 SaysOrderArguments words (GivesCred who cred) = Pair IsActor (Pair IsNat32 (Pair IsNat32 IsNat32)) words (actor who, (cred.uid, (cred.gid, cred.pid)))
@@ -108,33 +111,34 @@ SaysOrderArguments words MakesPreset = ⊥
 SaysOrderArguments words (Starts who asked goes) = ⊥
 SaysOrderArguments words AllContinue = ⊥
 
--- the order of this name with these arguments
+-- The line has this name and these arguments.
 pub record OrderNamed (name words : List ℕ) (said : Said) : Type 0 where
   pub is : order_name said ≡ name
   pub arguments : SaysOrderArguments words said
 
+-- The line is the name and its arguments.
 abbrev pub SaysOrder : List ℕ → Said → Type 0
 SaysOrder line said = After (order_name said) SaysOrderArguments line said
 
 -- ---- a line that starts a call
 
--- an actor and a call
+-- The words are an actor and a call.
 abbrev pub SaysStart : List ℕ → ℕ → SystemCall → Type 0
 SaysStart words who asked = Pair IsActor SaysCall words (actor who, asked)
 
--- a `+` before them
+-- The line is a `+`, an actor and a call.
 abbrev pub SaysStartOnly : List ℕ → ℕ → SystemCall → Type 0
 SaysStartOnly line who asked = (words : List ℕ) × (line ≡ 43 ∷ words) × SaysStart words who asked
 
 -- ---- all of them
 
--- a line of one word
+-- The meaning of a line of one word.
 abbrev pub TellsAlone : List ℕ → Said → Type 0
 TellsAlone line MakesPreset = line ≡ codes "preset"
 TellsAlone line AllContinue = line ≡ codes "all"
 TellsAlone line said = ⊥
 
--- a line of one word or several, before which no `+` stands
+-- The meaning of a line of one or more words that has no `+` before it.
 abbrev pub TellsInWords : List ℕ → Said → Type 0
 TellsInWords line MakesPreset = TellsAlone line MakesPreset
 TellsInWords line AllContinue = TellsAlone line AllContinue
@@ -147,11 +151,12 @@ TellsInWords line (StepsOnce who) = SaysOrder line (StepsOnce who)
 TellsInWords line (Continues who) = SaysOrder line (Continues who)
 TellsInWords line Nothing = ⊥
 
+-- The meaning of a line, without regard to its length.
 abbrev pub Tells : List ℕ → Said → Type 0
 Tells line Nothing = IsSkipped line
 Tells line (Starts who asked false) = SaysStartOnly line who asked
 Tells line said = TellsInWords line said
 
--- a line has at most 9,000 bytes
+-- The meaning of a line. The line has at most 9,000 bytes.
 abbrev pub Says : List ℕ → Said → Type 0
 Says line said = (length line ≤ LINE_BYTES) × Tells line said

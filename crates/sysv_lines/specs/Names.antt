@@ -1,4 +1,5 @@
--- How a script names a call, and the step before which a call stands (this project's script language).
+-- The names of calls, and of the steps before which they are, in a script (this project's script
+-- language).
 use Rattle.std.specs.Prelude.{ℕ, List, ◌++◌, codes}
 use Rattle.std.specs.Fmt.{decimal}
 use Rattle.sysv_lines.specs.declared.names.Operation.{Operation}
@@ -6,6 +7,7 @@ use Rattle.sysv_lines.specs.declared.names.Operation.TheVariants.{Get, Send, Rec
 use Rattle.sysv_lines.specs.Heads.{operation_name}
 use Rattle.sysv_steps.specs.State.{Wait, OnSettled, OnFreed, OnReleased, OnArrived, Phase, AtBegin, AtInstall, AtSettle, AtProbe, AtUnmake, AtLook, AtReserve, AtPlace, AtSendGiveback, AtTake, AtReceiveGiveback, AtStat, AtSet, AtSetGiveback, AtRemove, AtForget, AtRemoveGiveback, State, Goes, Waits, Over}
 
+-- The kind of the call that is before this step.
 abbrev pub operation_at : Phase → Operation
 operation_at (AtBegin get) = Get
 operation_at (AtInstall get id) = Get
@@ -25,6 +27,7 @@ operation_at (AtRemove cred id) = OfRemove
 operation_at (AtForget id blocks) = OfRemove
 operation_at (AtRemoveGiveback blocks) = OfRemove
 
+-- The name of the step.
 abbrev pub step_in : Phase → List ℕ
 step_in (AtBegin get) = codes "begin"
 step_in (AtInstall get id) = codes "install"
@@ -44,13 +47,14 @@ step_in (AtRemove cred id) = codes "remove"
 step_in (AtForget id blocks) = codes "forget"
 step_in (AtRemoveGiveback blocks) = codes "giveback"
 
+-- The kind of the call that is in this wait.
 abbrev pub operation_of_wait : Wait → Operation
 operation_of_wait (OnSettled goal get) = Get
 operation_of_wait (OnFreed goal send) = Send
 operation_of_wait (OnReleased goal send) = Send
 operation_of_wait (OnArrived goal receive) = Receive
 
--- what is printed of an actor's call under way, up to the end of the line
+-- The line for an actor whose call is in this state.
 abbrev pub standing_text : ℕ → State → List ℕ
 standing_text actor (Goes phase) = decimal actor ++ codes " " ++ operation_name (operation_at phase) ++ codes " at " ++ step_in phase
 standing_text actor (Waits wait) = decimal actor ++ codes " " ++ operation_name (operation_of_wait wait) ++ codes " waits"

@@ -1,6 +1,6 @@
--- What a line of a script says (this project's script language): nothing, the size of the pool, the preset queue, the
--- credentials of an actor's later calls, the moment of later steps, a call that an actor starts, or steps of
--- calls under way.
+-- The meanings of the lines of a script (this project's script language): nothing, the size of the
+-- pool, the preset queue, the credentials of an actor's later calls, the time of later steps, a
+-- call that an actor starts, or steps of calls under way.
 use Rattle.std.specs.Prelude.{ℕ, Bool}
 use Rattle.sysv_model.specs.declared.cred.Cred.{Cred}
 use Rattle.sysv_steps.specs.Call.{SystemCall}
@@ -8,15 +8,15 @@ use Rattle.sysv_steps.specs.Call.{SystemCall}
 pub data Said : Type 0 where
   Nothing : Said
   MakesPreset : Said
-  -- how many blocks the pool has
+  -- The number of blocks of the pool.
   GivesBlocks : (blocks : ℕ) → Said
   GivesCred : (actor : ℕ) (cred : Cred) → Said
   GivesMoment : (moment : ℕ) → Said
-  -- a call that goes on from its start, or is started only
+  -- A call that continues after its start, or is only started.
   Starts : (actor : ℕ) (asked : SystemCall) (goes : Bool) → Said
-  -- one step of an actor
+  -- One step of an actor.
   StepsOnce : (actor : ℕ) → Said
-  -- an actor's call goes on
+  -- An actor continues its call.
   Continues : (actor : ℕ) → Said
-  -- each call under way goes on
+  -- Each call under way continues.
   AllContinue : Said

@@ -3,7 +3,7 @@ ghost use Rattle.sysv_lines.specs.Lines.{IsActor};
 
 use sysv_words::Reads;
 
-/// The actors of a script count from 1 to this.
+/// The number of actors of a script. They count from 1.
 pub const SCRIPT_ACTORS: u32 = 16;
 
 /// The number of an actor, 1 to 16.

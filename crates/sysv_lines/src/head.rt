@@ -10,27 +10,27 @@ use crate::told::Told;
 use std::fmt;
 use sysv_steps::{Phase, Wait};
 
-/// What a line of the output says, up to the bytes of a message.
+/// A line of the output, without the bytes of a message that may follow.
 #[derive(Clone, Copy)]
 pub enum Head {
-    /// An actor's call was answered.
+    /// A call of the actor is over.
     Answers {
         actor: u32,
         operation: Operation,
         told: Told,
     },
-    /// An actor's call stands before this step.
+    /// A call of the actor is before this step.
     At {
         actor: u32,
         operation: Operation,
         step: Step,
     },
-    /// An actor's call waits for a count.
+    /// A call of the actor waits for a count.
     Waits {
         actor: u32,
         operation: Operation,
     },
-    /// The actor is in a call, and starts no other.
+    /// The actor is in a call, and cannot start another one.
     Busy {
         actor: u32,
     },
@@ -49,7 +49,7 @@ pub enum Head {
 }
 
 impl Head {
-    /// What a line says of an actor whose call stands before the step of `phase`.
+    /// Returns the line for an actor whose call is before the step of `phase`.
     pub fn at(actor: u32, phase: &Phase) -> Head
         ensures { (text : List ℕ) → head_text result
             ≡ standing_text actor (Goes (phase_of phase.now text)) }
@@ -61,7 +61,7 @@ impl Head {
         }
     }
 
-    /// What a line says of an actor whose call waits.
+    /// Returns the line for an actor whose call waits.
     pub fn waits(actor: u32, wait: Wait) -> Head
         ensures { (text : List ℕ) → head_text result
             ≡ standing_text actor (Waits (wait_of wait text)) }

@@ -1,17 +1,17 @@
-//! Laws over the definitions alone.
+//! Laws that are statements over definitions alone.
 
 ghost use Rattle.sysv_lines.specs.OneLine.{OneSaying, EachLineIsDecided};
 
 use sysv_words::words_are_read;
 
-/// A line says one thing only.
+/// States that a line has at most one meaning.
 pub fn one_saying()
     ensures { OneSaying }
 {
     words_are_read();
 }
 
-/// A line says something, or nothing that is understood.
+/// States that a line has a meaning or has none.
 pub fn each_line_is_decided()
     ensures { EachLineIsDecided }
 {

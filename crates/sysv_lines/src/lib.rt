@@ -1,4 +1,5 @@
-//! The lines of a script: what one says, and the lines that a script prints. `specs/` has the language.
+//! The lines of a script: what a line means, and the lines that a script prints. `specs/` defines
+//! the language.
 #![tactic(auto)]
 
 mod actor;

@@ -1,4 +1,4 @@
-//! What a line of a script says.
+//! The meaning of a line of a script.
 ghost use Rattle.std.specs.Prelude.{ℕ, codes, IfSome, MatchOption};
 ghost use Rattle.sysv_steps.specs.Call.{SystemCall};
 ghost use Rattle.sysv_lines.specs.Said.{Said};
@@ -11,28 +11,29 @@ use crate::request::{Request, request_of};
 use sysv_model::Cred;
 use sysv_words::{Reads, first, split_at_mark};
 
-/// The most bytes that a line may have, its LF not counted.
+/// The maximum length of a line in bytes, without its LF.
 pub const LINE_BYTES: usize = 9000;
 
 /// A line that is understood.
 #[derive(Clone, Copy)]
 pub enum Line<'a> {
-    /// A comment, or nothing.
+    /// A comment or an empty line.
     Skipped,
-    /// `pool`: how many blocks the pool has.
+    /// `pool`: sets the number of blocks of the pool.
     Pool {
         blocks: u32,
     },
     /// `preset`: makes the private queue 0.
     Preset,
-    /// `as`: the credentials of the calls that an actor starts from then on.
+    /// `as`: sets the credentials of the calls that an actor starts from then on.
     Cred {
         actor: u32,
         cred: Cred,
     },
-    /// `now`: the moment of later steps, in seconds.
+    /// `now`: sets the time of later steps, in seconds.
     Moment(u64),
-    /// An actor starts a call, which goes on at once or, after a `+`, stays before its first step.
+    /// An actor starts a call. Without a `+` the call then continues; with a `+` it stays before
+    /// its first step.
     Start {
         actor: u32,
         request: Request<'a>,
@@ -42,15 +43,15 @@ pub enum Line<'a> {
     Step {
         actor: u32,
     },
-    /// `go`: an actor's call goes on.
+    /// `go`: an actor continues its call.
     Go {
         actor: u32,
     },
-    /// `all`: each call under way goes on.
+    /// `all`: each call under way continues.
     All,
 }
 
-/// What a line says; `None` where it is none of the language's.
+/// Returns the meaning of a line, or `None` if the line is bad.
 pub fn line_of(line: &[u8]) -> Option<Line<'_>>
     ensures says { MatchOption result ((said : Said) →
         ¬ Says line.now said) (λ understood. Says line.now (said_of understood)) }
@@ -73,7 +74,7 @@ pub fn line_of(line: &[u8]) -> Option<Line<'_>>
     }
 }
 
-/// What a line says that is none to skip, and before which no `+` stands.
+/// Returns the meaning of a line that is not skipped and has no `+` before it.
 fn words_of(line: &[u8]) -> Option<Line<'_>>
     ensures says { MatchOption result ((said : Said) →
         ¬ TellsInWords line.now said) (λ understood. TellsInWords line.now (said_of understood)) }
@@ -93,7 +94,7 @@ fn words_of(line: &[u8]) -> Option<Line<'_>>
     })
 }
 
-/// A line of one word.
+/// Returns the meaning of a line of one word.
 fn alone(word: &[u8]) -> Option<Line<'_>>
     ensures says { MatchOption result ((said : Said) →
         ¬ TellsAlone word.now said) (λ understood. TellsAlone word.now (said_of understood)) }
@@ -108,7 +109,7 @@ fn alone(word: &[u8]) -> Option<Line<'_>>
     }
 }
 
-/// The order of this name that the arguments give.
+/// Returns the meaning of a line with this name and these arguments.
 fn order_of<'a>(name: &[u8], arguments: &'a [u8]) -> Option<Line<'a>>
     ensures says { MatchOption result ((said : Said) →
         ¬ OrderNamed name.now arguments.now said) (λ order.
@@ -130,7 +131,7 @@ fn order_of<'a>(name: &[u8], arguments: &'a [u8]) -> Option<Line<'a>>
     }
 }
 
-/// `N`, the blocks of the pool.
+/// Reads `N`, the number of blocks of the pool.
 fn pool_of(arguments: &[u8]) -> Option<Line<'_>>
     ensures says { MatchOption result ((said : Said) →
         ¬ OrderNamed (codes "pool") arguments.now said) (λ order.
@@ -141,7 +142,7 @@ fn pool_of(arguments: &[u8]) -> Option<Line<'_>>
     Some(Line::Pool { blocks })
 }
 
-/// `ACTOR UID GID PID`.
+/// Reads `ACTOR UID GID PID`.
 fn cred_of(arguments: &[u8]) -> Option<Line<'_>>
     ensures says { MatchOption result ((said : Said) →
         ¬ OrderNamed (codes "as") arguments.now said) (λ order.
@@ -155,7 +156,7 @@ fn cred_of(arguments: &[u8]) -> Option<Line<'_>>
     })
 }
 
-/// `T`.
+/// Reads `T`, the time.
 fn moment_of(arguments: &[u8]) -> Option<Line<'_>>
     ensures says { MatchOption result ((said : Said) →
         ¬ OrderNamed (codes "now") arguments.now said) (λ order.
@@ -166,7 +167,7 @@ fn moment_of(arguments: &[u8]) -> Option<Line<'_>>
     Some(Line::Moment(moment))
 }
 
-/// `ACTOR`, of which one step is asked.
+/// Reads `ACTOR`, the actor that makes one step.
 fn step_of(arguments: &[u8]) -> Option<Line<'_>>
     ensures says { MatchOption result ((said : Said) →
         ¬ OrderNamed (codes "step") arguments.now said) (λ order.
@@ -177,7 +178,7 @@ fn step_of(arguments: &[u8]) -> Option<Line<'_>>
     Some(Line::Step { actor })
 }
 
-/// `ACTOR`, whose call is to go on.
+/// Reads `ACTOR`, the actor that continues its call.
 fn go_of(arguments: &[u8]) -> Option<Line<'_>>
     ensures says { MatchOption result ((said : Said) →
         ¬ OrderNamed (codes "go") arguments.now said) (λ order.
@@ -188,7 +189,7 @@ fn go_of(arguments: &[u8]) -> Option<Line<'_>>
     Some(Line::Go { actor })
 }
 
-/// An actor, and the call that it starts.
+/// Reads an actor and the call that it starts.
 fn start_of(words: &[u8]) -> Option<(u32, Request<'_>)>
     ensures says { MatchOption result ((who : ℕ) (asked : SystemCall) →
         ¬ SaysStart words.now who asked) (λ start.

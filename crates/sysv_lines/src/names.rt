@@ -1,4 +1,4 @@
-//! How a script names the calls and their steps.
+//! The names of calls and their steps in a script.
 ghost use Rattle.std.specs.Prelude.{◌≡◌, ℕ, List, Some};
 ghost use Rattle.sysv_steps.specs.Seen.{phase_of, wait_of};
 ghost use Rattle.sysv_lines.specs.Names.{operation_at, operation_of_wait, step_in};
@@ -25,7 +25,7 @@ pub enum Operation {
 }
 
 impl Operation {
-    /// The kind of the call that stands before this step.
+    /// Returns the kind of the call that is before this step.
     pub fn of_phase(phase: &Phase) -> Operation
         ensures { (text : List ℕ) → result ≡ operation_at (phase_of phase.now text) }
     {
@@ -46,7 +46,7 @@ impl Operation {
         }
     }
 
-    /// The kind of the call that waits so.
+    /// Returns the kind of the call that is in this wait.
     pub fn of_wait(wait: Wait) -> Operation
         ensures { (text : List ℕ) → result ≡ operation_of_wait (wait_of wait text) }
     {
@@ -73,39 +73,39 @@ impl fmt::Display for Operation {
     }
 }
 
-/// The step before which a call stands.
+/// The step before which a call is.
 #[derive(Clone, Copy)]
 pub enum Step {
-    /// The registry looks for a key, or makes an identifier.
+    /// The registry finds the queue of a key, or makes an identifier.
     Begin,
     /// A new queue is installed.
     Install,
-    /// The registry hears that it was.
+    /// The registry records that the queue was installed.
     Settle,
-    /// Whether the queue that was found lives and may be used.
+    /// The slot reports whether the queue that was found is live and may be used.
     Probe,
     /// The registry forgets an identifier.
     Forget,
-    /// A send looks whether its text would fit.
+    /// The slot reports whether the body of a send would fit.
     Look,
-    /// A send asks the pool for blocks.
+    /// The pool reserves blocks for a send.
     Reserve,
-    /// A send puts its text on the queue.
+    /// The body of a send is put on the queue.
     Place,
-    /// A chain of blocks goes back to the pool.
+    /// A chain of blocks is released at the pool.
     Giveback,
     /// A receive takes a message.
     Take,
     /// The attributes of a queue are read.
     Stat,
-    /// Owner, mode and limit of a queue are changed.
+    /// The owner, mode and limit of a queue are changed.
     Set,
     /// A queue is removed.
     Remove,
 }
 
 impl Step {
-    /// The step that a call in this phase makes next.
+    /// Returns the next step of a call in this phase.
     pub(crate) fn of_phase(phase: &Phase) -> Step
         ensures { (text : List ℕ) → step_name result ≡ step_in (phase_of phase.now text) }
     {

@@ -45,16 +45,16 @@ pub enum Request<'a> {
     },
 }
 
-/// The text of a message, at most 8,256 bytes.
+/// The body of a message, at most 8,256 bytes.
 #[derive(Clone, Copy)]
 pub enum Text<'a> {
     /// These bytes.
     Given(&'a [u8]),
-    /// That many letters x.
+    /// This number of letters x.
     Letters(usize),
 }
 
-/// The call that a name and the words after it ask for; `None` where they ask for none.
+/// Returns the call with this name and these arguments, or `None` if the words are not a call.
 pub(crate) fn request_of(words: &[u8]) -> Option<Request<'_>>
     ensures says { MatchOption result ((asked : SystemCall) →
         ¬ SaysCall words.now asked) (λ request. SaysCall words.now (call_asked request)) }
@@ -64,7 +64,7 @@ pub(crate) fn request_of(words: &[u8]) -> Option<Request<'_>>
     named(name, arguments)
 }
 
-/// The call of this name that the arguments ask for.
+/// Returns the call of this name with these arguments.
 fn named<'a>(name: &[u8], arguments: &'a [u8]) -> Option<Request<'a>>
     ensures says { MatchOption result ((asked : SystemCall) →
         ¬ SaysNamed name.now arguments.now asked) (λ request.
@@ -88,7 +88,7 @@ fn named<'a>(name: &[u8], arguments: &'a [u8]) -> Option<Request<'a>>
     }
 }
 
-/// `KEY FLAGS`.
+/// Reads `KEY FLAGS`.
 fn get_of(arguments: &[u8]) -> Option<Request<'_>>
     ensures says { MatchOption result ((asked : SystemCall) →
         ¬ SaysNamed (codes "get") arguments.now asked) (λ request.
@@ -99,7 +99,7 @@ fn get_of(arguments: &[u8]) -> Option<Request<'_>>
     Some(Request::Get { key, flags })
 }
 
-/// `ID MTYPE FLAGS BODY`.
+/// Reads `ID MTYPE FLAGS BODY`.
 fn send_of(arguments: &[u8]) -> Option<Request<'_>>
     ensures says { MatchOption result ((asked : SystemCall) →
         ¬ SaysNamed (codes "snd") arguments.now asked) (λ request.
@@ -118,7 +118,7 @@ fn send_of(arguments: &[u8]) -> Option<Request<'_>>
     })
 }
 
-/// `ID SIZE MTYPE FLAGS`.
+/// Reads `ID SIZE MTYPE FLAGS`.
 fn receive_of(arguments: &[u8]) -> Option<Request<'_>>
     ensures says { MatchOption result ((asked : SystemCall) →
         ¬ SaysNamed (codes "rcv") arguments.now asked) (λ request.
@@ -134,7 +134,7 @@ fn receive_of(arguments: &[u8]) -> Option<Request<'_>>
     })
 }
 
-/// `ID`.
+/// Reads `ID`.
 fn stat_of(arguments: &[u8]) -> Option<Request<'_>>
     ensures says { MatchOption result ((asked : SystemCall) →
         ¬ SaysNamed (codes "stat") arguments.now asked) (λ request.
@@ -145,7 +145,7 @@ fn stat_of(arguments: &[u8]) -> Option<Request<'_>>
     Some(Request::Stat { id })
 }
 
-/// `ID UID GID MODE QBYTES`.
+/// Reads `ID UID GID MODE QBYTES`.
 fn set_of(arguments: &[u8]) -> Option<Request<'_>>
     ensures says { MatchOption result ((asked : SystemCall) →
         ¬ SaysNamed (codes "set") arguments.now asked) (λ request.
@@ -166,7 +166,7 @@ fn set_of(arguments: &[u8]) -> Option<Request<'_>>
     })
 }
 
-/// `ID`.
+/// Reads `ID`.
 fn remove_of(arguments: &[u8]) -> Option<Request<'_>>
     ensures says { MatchOption result ((asked : SystemCall) →
         ¬ SaysNamed (codes "rm") arguments.now asked) (λ request.
@@ -177,7 +177,7 @@ fn remove_of(arguments: &[u8]) -> Option<Request<'_>>
     Some(Request::Remove { id })
 }
 
-/// `=` and the text itself, or `*N` for N letters x.
+/// Reads `=` and the bytes of the body, or `*N` for N letters x.
 fn text_of(body: &[u8]) -> Option<Text<'_>>
     ensures says { MatchOption result ((text : List ℕ) → SaysText body.now text →
         ⊥) (λ said. SaysText body.now (text_bytes said)) }
@@ -190,7 +190,7 @@ fn text_of(body: &[u8]) -> Option<Text<'_>>
     }
 }
 
-/// The number of letters, 0 to 8,256.
+/// Reads the number of letters, 0 to 8,256.
 fn letters_of(word: &[u8]) -> Option<usize>
     ensures { MatchOption result ((count : ℕ) →
         ¬ (IsNumeralOf word.now (pos count) × (count ≤ BODY_ROOM))) (λ count.

@@ -1,22 +1,22 @@
-//! How a script prints an answer.
+//! How a script prints the result of a call.
 ghost use Rattle.std.specs.Prelude.{Some};
 ghost use Rattle.sysv_lines.specs.Heads.{told_text, stat_text, perm_text, mode_text, counts_text, times_text};
 
 use std::fmt;
 use sysv_model::{Errno, Perm, Stat};
 
-/// How a call was answered.
+/// The result of a call.
 #[derive(Clone, Copy)]
 pub enum Told {
-    /// A get succeeded: the identifier of its queue.
+    /// A get succeeded, with this identifier.
     Id(i32),
-    /// It succeeded and has nothing to tell.
+    /// The call succeeded and returns no value.
     Zero,
-    /// A receive succeeded; its message's text, which has this length, follows.
+    /// A receive succeeded. The body of its message, which has this length, follows.
     Got { len: usize, mtype: i64 },
     /// The attributes of a queue.
     Stat(Stat),
-    /// It was refused.
+    /// The call failed with this error.
     Refused(Errno),
 }
 
@@ -50,7 +50,7 @@ impl fmt::Display for Shown {
     }
 }
 
-/// Owner, creator and mode of a queue, as they are printed.
+/// The owner, creator and mode of a queue, as they are printed.
 #[derive(Clone, Copy)]
 struct Owner(Perm);
 
@@ -71,7 +71,7 @@ impl fmt::Display for Owner {
     }
 }
 
-/// The permission bits of a queue as three octal digits.
+/// The permission bits of a queue, printed as three octal digits.
 #[derive(Clone, Copy)]
 struct Mode(u16);
 
@@ -85,7 +85,8 @@ impl fmt::Display for Mode {
     }
 }
 
-/// What waits, the limit and the processes, as they are printed.
+/// The queued bytes and messages, the limit and the process numbers of a queue, as they are
+/// printed.
 #[derive(Clone, Copy)]
 struct Counts(Stat);
 
@@ -109,7 +110,7 @@ impl fmt::Display for Counts {
     }
 }
 
-/// The moments of a queue, as they are printed.
+/// The times of a queue, as they are printed.
 #[derive(Clone, Copy)]
 struct Times(Stat);
 

@@ -1,4 +1,4 @@
--- A text prints something in whole: line by line, each of which does something or is bad.
+-- A text prints something as a whole: each of its lines does something or is bad.
 use Rattle.std.proofs.Common.{◌≡◌, ◌+◌, ◌-◌, ◌≤◌, ◌<◌, ◌⊎◌, ℕ, zero, suc, inl, inr, Bool, true, false, List, [], ◌∷◌, ◌++◌, Option, Some, None, length, get_or, refl, ap, ◌∙◌, arith}
 use Rattle.std.proofs.Common.{subst, if◌then◌else◌}
 use Rattle.std.proofs.lemmas.List.{length-set}
@@ -27,17 +27,16 @@ use Rattle.sysv_script.proofs.Opening.{opening_sound}
 use Rattle.sysv_words.specs.OneSplit.{OneSplit}
 use Rattle.sysv_lines.specs.OneLine.{EachLineIsDecided}
 
--- a number is at most another, or above it
 -- ---- the first line of a text
 
--- the text begins with a line, and less is left after it
+-- The text begins with a line, and a shorter text is left after it.
 record FirstLine (text : List ℕ) : Type 0 where
   line : List ℕ
   rest : List ℕ
   begins : BeginsWith text line rest
   shorter : length rest < length text
 
--- a text that is not empty begins with a line
+-- A text that is not empty begins with a line.
 first_line : OneSplit → (text : List ℕ) → 0 < length text → FirstLine text
 first_line split text some = elim (split.either 10 text) [
   | inl s ↦ record { line = s.0; rest = s.1; begins = inl s.2; shorter = split.shorter 10 text s.0 s.1 s.2 }
@@ -46,47 +45,48 @@ first_line split text some = elim (split.either 10 text) [
 
 -- ---- a line
 
--- each of the 16 actors has credentials, and the world is as runs leave it
+-- Each of the 16 actors has credentials, and the world is sound.
 abbrev IsManned : Scene → Type 0
 IsManned s = (length s.creds ≡ 16) × IsSound s.world
 
--- the line does something, and leaves a scene of 16 actors
+-- The line does something and leaves a scene of 16 actors.
 record LineDone (s : Scene) (line : List ℕ) : Type 0 where
   out : List ℕ
   after : Scene
   does : LineDoes s line out after
   manned : IsManned after
 
--- a preset makes the queue, or comes too late
+-- A preset makes the queue, or comes too late.
 presets_or_not : (s : Scene) (line : List ℕ) (made : Bool) (after : World) → Presets s.world made after → IsSound after → IsManned s → Says line MakesPreset → LineDone s line ⊎ IsBad s line
 presets_or_not s line true after p there manned says =
     inl (record { out = []; after = in_world (begun_scene s) after; does = (MakesPreset, says, (p, refl, refl)); manned = (manned.0, there) })
 presets_or_not s line false after p there manned says = inr (inr (MakesPreset, [], in_world (begun_scene s) after, says, (p, refl, refl)))
 
--- the text prints something in whole
+-- The text prints something as a whole.
 abbrev PrintsWhole : Scene → ℕ → List ℕ → Type 0
 PrintsWhole s n text = (out : List ℕ) × (ending : Ending) × Prints s n text out ending
 
--- a text goes over a first line that does something, and then as what is left
+-- If the first line of a text does something and the rest prints something as a whole, so does the
+-- text.
 goes_first : (s : Scene) (n : ℕ) (text : List ℕ) (first : FirstLine text) → n ≤ 1000000 → (does : LineDone s first.line) → PrintsWhole does.after (n + 1) first.rest → PrintsWhole s n text
 goes_first s n text first few does more =
     (does.out ++ more.0, more.1, Goes s n text first.line first.rest does.out does.after more.0 more.1 few first.begins does.does more.2)
 
 module _ (split : OneSplit) (decided : EachLineIsDecided) (some : SomeStep) (preset : SomePreset) (opens : OpensSound) where
-  -- what is left after has the credentials as they were, and a sound world
+  -- The scene afterwards has the credentials of the scene before, and a sound world.
   abbrev IsKept : Scene → Scene → Type 0
   IsKept s after = (after.creds ≡ s.creds) × IsSound after.world
 
   manned_after : (s after : Scene) → IsManned s → IsKept s after → IsManned after
   manned_after s after manned kept = (ap length kept.0 ∙ manned.0, kept.1)
 
-  -- an event leaves such a scene
+  -- An event leaves such a scene.
   advances : (s : Scene) (event : Event) → IsSound s.world → (given : Stepped) × (after : Scene) × Advances s event given after × IsKept s after
   advances s event sound =
       let step = some s.world event sound in
       (step.0, in_world s step.1, (step.2, refl), (refl, step.3))
 
-  -- a call goes on for at most that many steps
+  -- A call continues for at most `n` steps.
   goes_on : (n : ℕ) (s : Scene) (actor : ℕ) (first : Stepped) → IsSound s.world → (given : Stepped) × (after : Scene) × GoesOn n s actor first given after × IsKept s after
   goes_on zero s actor stepped.Nothing sound = (stepped.Nothing, s, (refl, refl), (refl, sound))
   goes_on zero s actor (stepped.Answer answer) sound = (stepped.Answer answer, s, (refl, refl), (refl, sound))
@@ -98,7 +98,7 @@ module _ (split : OneSplit) (decided : EachLineIsDecided) (some : SomeStep) (pre
   goes_on (suc n) s actor (stepped.Answer answer) sound = (stepped.Answer answer, s, (refl, refl), (refl, sound))
   goes_on (suc n) s actor stepped.Worn sound = (stepped.Worn, s, (refl, refl), (refl, sound))
 
-  -- a call of an actor that has credentials runs
+  -- A call of an actor that has credentials runs.
   call_runs : (s : Scene) (actor : ℕ) (asked : SystemCall) (goes : Bool) (cred : Cred) → IsSound s.world → cred_at s.creds actor ≡ Some cred →
       (given : Stepped) × (after : Scene) × CallRuns s actor asked goes given after × IsKept s after
   call_runs s actor asked goes cred sound held =
@@ -106,11 +106,11 @@ module _ (split : OneSplit) (decided : EachLineIsDecided) (some : SomeStep) (pre
       let more = goes_on (most_steps goes) start.1 actor start.0 start.3.1 in
       (more.0, more.1, (start.1, start.0, (cred, held, start.2), more.2), (more.3.0 ∙ start.3.0, more.3.1))
 
-  -- what a line of calls prints and leaves
+  -- What a line of calls prints and leaves.
   abbrev Done : (Scene → List ℕ → Scene → Type 0) → Scene → Type 0
   Done Runs s = (out : List ℕ) × (after : Scene) × Runs s out after × IsKept s after
 
-  -- a line starts a call, or finds the actor in one
+  -- A line starts a call, or finds the actor in one.
   start_runs : (s : Scene) (actor : ℕ) (asked : SystemCall) (goes : Bool) (o : Option Operation) → IsManned s → 1 ≤ actor → actor ≤ 16 → Done (λ m out after. StartRuns m actor asked goes o out after) s
   start_runs s actor asked goes (Some operation) manned least most = (head_text (head.Busy actor) ++ 10 ∷ [], s, (refl, refl), (refl, manned.1))
   start_runs s actor asked goes None manned least most =
@@ -139,7 +139,7 @@ module _ (split : OneSplit) (decided : EachLineIsDecided) (some : SomeStep) (pre
   line_done : (s : Scene) (line : List ℕ) (said : Said) (out : List ℕ) (after : Scene) → IsManned s → Says line said → LineRuns s said true out after → IsKept s after → LineDone s line ⊎ IsBad s line
   line_done s line said out after manned says runs kept = inl (record { out = out; after = after; does = (said, says, runs); manned = manned_after s after manned kept })
 
-  -- the size of the pool is given, or it comes too late
+  -- The size of the pool is set, or comes too late.
   pool_goes : (s : Scene) (line : List ℕ) (blocks : ℕ) (fresh : Bool) → fresh ≡ s.fresh → IsManned s → Says line (GivesBlocks blocks) → LineDone s line ⊎ IsBad s line
   pool_goes s line blocks true e manned says =
       let after = in_world (begun_scene s) (opening_world blocks) in
@@ -153,7 +153,7 @@ module _ (split : OneSplit) (decided : EachLineIsDecided) (some : SomeStep) (pre
       let opened = in_world (begun_scene s) (opening_world blocks) in
       inr (inr (GivesBlocks blocks, [], s, says, (refl, (e, subst (λ b. s ≡ (if b then opened else s)) e refl))))
 
-  -- a line that says something does it, or it is a preset, or a size of the pool, that comes too late
+  -- A line with a meaning does it, or is a preset or a size of the pool that comes too late.
   line_goes : (s : Scene) (line : List ℕ) (said : Said) → IsManned s → Says line said → LineDone s line ⊎ IsBad s line
   line_goes s line Nothing manned says = inl (record { out = []; after = s; does = (Nothing, says, (refl, refl, refl)); manned = manned })
   line_goes s line MakesPreset manned says = let made = preset s.world manned.1 in presets_or_not s line made.0 made.1 made.2 made.3 manned says
@@ -183,7 +183,7 @@ module _ (split : OneSplit) (decided : EachLineIsDecided) (some : SomeStep) (pre
       let run = all_run (range_with_len 1 16) (begun_scene s) manned.1 in
       line_done s line AllContinue run.0 run.1 manned says (refl, run.2) run.3
 
-  -- a line does something, or it is bad
+  -- A line does something, or it is bad.
   does_or_bad : (s : Scene) (line : List ℕ) → IsManned s → LineDone s line ⊎ IsBad s line
   does_or_bad s line manned = elim (decided line) [
     | inl says ↦ line_goes s line says.0 manned says.1
@@ -192,7 +192,7 @@ module _ (split : OneSplit) (decided : EachLineIsDecided) (some : SomeStep) (pre
 
   -- ---- a text
 
-  -- a text of at most that many bytes prints something in whole
+  -- A text of at most `bound` bytes prints something as a whole.
   prints_bounded : (bound n : ℕ) (s : Scene) (text : List ℕ) → length text ≤ bound → IsManned s → PrintsWhole s n text
   prints_bounded bound n s [] short manned = ([], Whole, Ends s n)
   prints_bounded zero n s (x ∷ xs) short manned = absurd (omega (arith, short))

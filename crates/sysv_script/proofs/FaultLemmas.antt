@@ -1,4 +1,4 @@
--- What a fault that is passed on leaves.
+-- What a fault leaves when it is passed on.
 use Rattle.std.proofs.Common.{◌≡◌, ℕ, true, false, List, [], ◌++◌, Result, Ok, Err, Option, ap, sym, subst, ◌∙◌, append_assoc}
 use Rattle.std.specs.Prelude.{IfErr, IsOk, OnOk, OnErr, IsErrAnd, ⊤}
 use Rattle.std.specs.Result.{result_and}
@@ -11,7 +11,7 @@ use Rattle.sysv_model.specs.Writing.{AppendsPrefix}
 use Rattle.sysv_script.proofs.StreamLemmas.{Grows-trans, Grows-part}
 use Rattle.sysv_streams.specs.Faults.{Grows, IsStreamFault, LeavesBadLine, TellsBadLine, bad_line_text, is_read_fault, is_write_fault}
 
--- a fault of a stream says nothing of a line
+-- A fault of a stream states nothing about a line.
 pub LeavesBadLine-stream : (fault : ScriptFault) (composed : List ℕ) → IsStreamFault fault → LeavesBadLine fault composed
 LeavesBadLine-stream Read composed h = tt
 LeavesBadLine-stream Write composed h = tt
@@ -23,7 +23,7 @@ pub IfErr-stream : {T : Type 0} (r : Result T ScriptFault) (fault : ScriptFault)
 IfErr-stream (Ok x) fault composed e h = tt
 IfErr-stream (Err y) fault composed e h = LeavesBadLine-stream y composed (subst IsStreamFault (sym e) h)
 
--- what was composed is written last
+-- What was composed is written last.
 TellsBadLine-handed : (fault : ScriptFault) (a b c : Option (List ℕ)) (composed : List ℕ) → Grows a b → Appends b c composed → LeavesBadLine fault composed → TellsBadLine fault a c
 TellsBadLine-handed (Line n) a b c composed grown all left =
     let last = left.2 in
@@ -48,7 +48,7 @@ pub grows_end : (handed : Result ⊤ ScriptFault) (a b c : Option (List ℕ)) (c
 grows_end (Ok x) a b c composed grown all part = Grows-trans a b c grown (composed, all)
 grows_end (Err y) a b c composed grown all part = Grows-trans a b c grown (Grows-part b c composed part)
 
--- where a stream failed nothing is composed, so no later fault of the writer hides it
+-- After a fault of a stream nothing is composed, so no later fault of the writer hides it.
 pub reader_ended : (handed ended : Result ⊤ ScriptFault) (was now : ℕ) (composed : List ℕ) → IfErr handed (λ f. f ≡ Write) → (composed ≡ [] → IsOk handed) →
     IfErr ended (λ f. IsStreamFault f → composed ≡ []) → now ≡ failures_after (is_read_fault ended) was → now ≡ failures_after (is_read_fault (result_and handed ended)) was
 reader_ended (Ok x) ended was now composed fault empty left is = is
@@ -59,7 +59,7 @@ reader_ended (Err y) (Err (Line n)) was now composed fault empty left is = subst
 reader_ended (Err y) (Err NoMemory) was now composed fault empty left is = subst (λ f. now ≡ failures_after (is_read_fault {T = ⊤} (Err f)) was) (sym fault) is
 reader_ended (Err y) (Err Bound) was now composed fault empty left is = subst (λ f. now ≡ failures_after (is_read_fault {T = ⊤} (Err f)) was) (sym fault) is
 
--- the writer failed in the run or at its end, and not in both
+-- The writer failed in the run or at its end, but not in both.
 pub writer_ended : (handed ended : Result ⊤ ScriptFault) (was mid now : ℕ) (composed : List ℕ) → (composed ≡ [] → IsOk handed) → IfErr ended (λ f. IsStreamFault f → composed ≡ []) →
     mid ≡ failures_after (is_write_fault ended) was → now ≡ failures_after (is_write_fault handed) mid → now ≡ failures_after (is_write_fault (result_and handed ended)) was
 writer_ended (Ok x) ended was mid now composed empty left first second = second ∙ first

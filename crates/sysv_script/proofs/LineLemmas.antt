@@ -1,4 +1,4 @@
--- A line that was found lies within the bytes that wait.
+-- A line that was found is within the pending bytes.
 use Rattle.std.proofs.Common.{◌≡◌, ◌<◌, ℕ, List, length, arith}
 use Rattle.std.proofs.lemmas.Option.{slice_get_within}
 use Rattle.std.specs.Prelude.{refl}

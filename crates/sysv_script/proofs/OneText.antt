@@ -1,4 +1,4 @@
--- A text prints one thing: line by line, and so in all.
+-- A text prints one thing only: each of its lines does, and so does the whole.
 use Rattle.std.proofs.Common.{◌≡◌, ℕ, zero, suc, ◌+◌, ◌<◌, ◌≤◌, ◌⊎◌, inl, inr, true, false, Option, None, Some, List, [], ◌∷◌, ◌++◌, length, length-append, refl, sym, ap, subst, ◌∙◌, append_assoc, arith}
 use Rattle.std.specs.List.{range_with_len}
 use Rattle.std.proofs.Common.{Bool, if◌then◌else◌}
@@ -26,7 +26,7 @@ use Rattle.sysv_lines.specs.OneLine.{OneSaying}
 use Rattle.sysv_core.specs.OneRun.{OneStep, OnePreset}
 
 module _ (split : OneSplit) (saying : OneSaying) where
-  -- a text begins with one line
+  -- A text begins with one line.
   begins_once : (text line other rest behind : List ℕ) → BeginsWith text line rest → BeginsWith text other behind → (line ≡ other) × (rest ≡ behind)
   begins_once text line other rest behind (inl h) (inl k) = split.once 10 text line rest other behind h k
   begins_once text line other rest behind (inl h) (inr k) = absurd (k.0 (split.marked 10 text line rest h))
@@ -45,7 +45,7 @@ module _ (split : OneSplit) (saying : OneSaying) where
   presets_apart w a b (inl h) (inr k) = k.0 h.0
   presets_apart w a b (inr h) k = let never : true ≡ false = h.1 in cc
 
-  -- what is said runs, or it is bad
+  -- A meaning cannot both be done and be bad.
   acts_apart : (s : Scene) (said : Said) (out other : List ℕ) (a b : Scene) → LineActs s said true out a → LineActs s said false other b → ⊥
   acts_apart s Nothing out other a b h k = let never : false ≡ true = k.0 in cc
   acts_apart s (GivesBlocks blocks) out other a b h k = let never : true ≡ false = h.0 in cc
@@ -68,14 +68,14 @@ module _ (split : OneSplit) (saying : OneSaying) where
   runs_apart s (Continues actor) out other a b h k = acts_apart (begun_scene s) (Continues actor) out other a b h k
   runs_apart s AllContinue out other a b h k = acts_apart (begun_scene s) AllContinue out other a b h k
 
-  -- a bad line does nothing
+  -- A bad line does nothing.
   bad_idle : (s : Scene) (line out : List ℕ) (after : Scene) → IsBad s line → LineDoes s line out after → ⊥
   bad_idle s line out after (inl none) d = none d.0 d.1
   bad_idle s line out after (inr late) d =
       let same : d.0 ≡ late.0 = saying line d.0 late.0 d.1 late.3 in
       runs_apart s late.0 out late.1 after late.2 (subst (λ said. LineRuns s said true out after) same d.2) late.4
 
-  -- the text begins with a bad line
+  -- The text begins with a bad line.
   abbrev HasBadLine : Scene → List ℕ → Type 0
   HasBadLine s text = (line : List ℕ) × (rest : List ℕ) × BeginsWith text line rest × IsBad s line
 
@@ -87,7 +87,7 @@ module _ (split : OneSplit) (saying : OneSaying) where
       let same = begins_once text h.0 line h.1 rest h.2 b in
       bad_idle s line out after (subst (λ l. IsBad s l) same.0 h.3) d
 
-  -- the run goes over a line
+  -- The run passes over a line.
   record OnLine (s : Scene) (n : ℕ) (text out : List ℕ) (ending : Ending) : Type 0 where
     line : List ℕ
     rest : List ℕ
@@ -100,7 +100,7 @@ module _ (split : OneSplit) (saying : OneSaying) where
     prints : Prints after (n + 1) rest more ending
     whole : out ≡ first ++ more
 
-  -- what a run that is not stopped here does first
+  -- What a run does first if it does not stop.
   abbrev Opens : Scene → ℕ → List ℕ → List ℕ → Ending → Type 0
   Opens s n text out ending =
       ((text ≡ []) × (out ≡ []) × (ending ≡ Whole))
@@ -115,21 +115,21 @@ module _ (split : OneSplit) (saying : OneSaying) where
   opens s n text out ending (Goes _ _ _ line rest first after more _ few begins does p) =
       inr (inr (inr (record { line = line; rest = rest; first = first; after = after; more = more; few = few; begins = begins; does = does; prints = p; whole = refl })))
 
-  -- at the end of the text
+  -- The run is at the end of the text.
   end_agrees : (s : Scene) (n : ℕ) (text other : List ℕ) (end : Ending) → text ≡ [] → Opens s n text other end → ([] ≡ other) × (Whole ≡ end)
   end_agrees s n text other end e (inl k) = (sym k.1, sym k.2)
   end_agrees s n text other end e (inr (inl k)) = let some = k.1 in absurd (omega (arith, some, ap length e))
   end_agrees s n text other end e (inr (inr (inl k))) = absurd (omega (arith, bad_filled s text k.1, ap length e))
   end_agrees s n text other end e (inr (inr (inr k))) = absurd (omega (arith, begins_filled text k.line k.rest k.begins, ap length e))
 
-  -- after the millionth line
+  -- The run is after line 1,000,000.
   over_agrees : (s : Scene) (n : ℕ) (text other : List ℕ) (end : Ending) → 1000000 < n → 0 < length text → Opens s n text other end → ([] ≡ other) × (TooMany ≡ end)
   over_agrees s n text other end many some (inl k) = absurd (omega (arith, some, ap length k.0))
   over_agrees s n text other end many some (inr (inl k)) = (sym k.2, sym k.3)
   over_agrees s n text other end many some (inr (inr (inl k))) = let few = k.0 in absurd (omega (arith, many, few))
   over_agrees s n text other end many some (inr (inr (inr k))) = let few = k.few in absurd (omega (arith, many, few))
 
-  -- at a bad line
+  -- The run is at a bad line.
   bad_agrees : (s : Scene) (n : ℕ) (text other : List ℕ) (end : Ending) → n ≤ 1000000 → HasBadLine s text → Opens s n text other end → (bad_line_text n ≡ other) × (BadLine n ≡ end)
   bad_agrees s n text other end few bad (inl k) = absurd (omega (arith, bad_filled s text bad, ap length k.0))
   bad_agrees s n text other end few bad (inr (inl k)) = let many = k.0 in absurd (omega (arith, many, few))
@@ -286,7 +286,7 @@ module _ (split : OneSplit) (saying : OneSaying) where
     does_sound : (s : Scene) (line out : List ℕ) (a : Scene) → IsSound s.world → LineDoes s line out a → IsSound a.world
     does_sound s line out a sound h = line_sound s h.0 out a sound h.2
 
-    -- another run goes over the same line, and then from the same scene on
+    -- Another run passes over the same line, and continues from the same scene.
     record OnSame (after : Scene) (n : ℕ) (rest out other : List ℕ) (end : Ending) : Type 0 where
       behind : List ℕ
       prints : Prints after (n + 1) rest behind end
@@ -315,7 +315,7 @@ module _ (split : OneSplit) (saying : OneSaying) where
         let same = agrees after (n + 1) rest more on.behind ending end (does_sound s line first after sound does) p on.prints in
         (ap (λ l. first ++ l) same.0 ∙ sym on.whole, same.1)
 
-    -- what was printed before a line stands before what is printed in all
+    -- What was printed before a line is a prefix of all that is printed.
     prefix_of : (s : Scene) (n : ℕ) (text out other : List ℕ) (end : Ending) → IsSound s.world → PrintsSofar s n text out → Prints s n text other end → IsPrefixOf out other
     prefix_of s n text out other end sound (Here _ _ _) k = (other, refl)
     prefix_of s n text out other end sound (Past _ _ _ line rest first after more few begins does p) k =

@@ -1,4 +1,4 @@
--- The world in which nothing has happened is as runs leave it.
+-- The world in which nothing has happened is sound.
 use Rattle.std.proofs.Common.{ℕ}
 use Rattle.sysv_core.specs.Sound.{IsSound, OpensSound}
 use Rattle.sysv_lines.specs.declared.actor.TheConstants.{SCRIPT_ACTORS}

@@ -1,4 +1,4 @@
--- What a line that was understood does, and that one which was not is bad.
+-- What a line that is understood does; a line that is not understood is bad.
 use Rattle.std.proofs.Common.{◌≡◌, ◌+◌, ℕ, inr, Bool, true, false, List, [], ◌∷◌, ◌++◌, length, length-append, sym, ap, ◌∙◌, arith, refl}
 use Rattle.std.specs.Prelude.{Result, Ok, Err, IfOk}
 use Rattle.sysv_model.specs.declared.no_memory.NoMemory.{NoMemory}

@@ -24,7 +24,7 @@ use Rattle.sysv_streams.specs.declared.fault.ScriptFault.{ScriptFault}
 use Rattle.sysv_streams.specs.declared.fault.ScriptFault.TheVariants.{Line, Read, Write, NoMemory, Bound}
 use Rattle.sysv_script.proofs.Scripting.{fails_at, stops_front}
 
--- a fault of a stream
+-- A fault of a stream.
 pub at_stream_fault : (fault : ScriptFault) (s : Scene) (text : List ℕ) (old new : Option (List ℕ)) (composed : List ℕ) → IsStreamFault fault → LeavesPrefix s text old new composed → LeavesAtFault fault s text old new composed
 at_stream_fault Read s text old new composed h part = part
 at_stream_fault Write s text old new composed h part = part
@@ -32,7 +32,7 @@ at_stream_fault (Line n) s text old new composed h part = absurd h
 at_stream_fault NoMemory s text old new composed h part = absurd h
 at_stream_fault Bound s text old new composed h part = absurd h
 
--- a fault at a line
+-- A fault at a line.
 pub at_line_fault : OneSplit → (fault : ScriptFault) (s : Scene) (text : List ℕ) (old : Option (List ℕ)) (n : ℕ) (now : Stage) (waiting : List ℕ) (left new : Option (List ℕ)) (composed told : List ℕ) (found : Found) →
     EndsAtLine fault n composed told → (IsLineFault fault → (m : Scene) → IsSceneOf m now → IsBad m (take found.len waiting)) → n ≤ 1000000 → IsNextLine found waiting left →
     RunsOn s text old n now waiting left new composed → LeavesAtFault fault s text old new told
@@ -49,7 +49,7 @@ pub RunsNext-passed : (r : Result Bool ScriptFault) (fault : ScriptFault) (s : S
 RunsNext-passed (Ok x) fault s text old n now waiting left new composed e at = absurd e
 RunsNext-passed (Err y) fault s text old n now waiting left new composed e at = subst (λ f. LeavesAtFault f s text old new composed) (sym e) at
 
--- a line was run, and perhaps it was the last
+-- A line was run, and may have been the last one.
 pub RunsNext-line : (last : Bool) (s : Scene) (text : List ℕ) (old : Option (List ℕ)) (n : ℕ) (now : Stage) (waiting : List ℕ) (left new : Option (List ℕ)) (composed : List ℕ) →
     (last ≡ false → RunsOn s text old (n + 1) now waiting left new composed) → (last ≡ true → LeavesAll s text Whole old new composed) → RunsNext (Ok (not last)) s text old n now waiting left new composed
 RunsNext-line false s text old n now waiting left new composed on ends = on refl
@@ -69,7 +69,7 @@ WritesSome text old new = (halt : Halt) × (out : List ℕ) × Runs opening_scen
 
 -- ---- what is composed at the end is written
 
--- the whole run of a script, from the stage and the input that were opened
+-- The whole run of a script, from the stage and the input that were opened.
 pub script_runs : (r : Result ⊤ ScriptFault) (stage : Stage) (input text : List ℕ) (left old new : Option (List ℕ)) (composed : List ℕ) → IsSceneOf opening_scene stage → input ≡ [] → left ≡ Some text →
     ((s : Scene) → IsSceneOf s stage → (t : List ℕ) → IsText input left t → Leaves r s t old new composed) → Leaves r opening_scene text old new composed
 script_runs r stage input text left old new composed opened none known runs = runs opening_scene opened text (text, known, sym (ap (λ l. l ++ text) none))
@@ -135,7 +135,7 @@ module _ (one : OneText) (each : EachTextPrints) where
   writes_out (Ok done) text old mid new composed left all = all_out Whole text old mid new composed left all
   writes_out (Err fault) text old mid new composed left all = fault_out fault text old mid new composed left all
 
-  -- what is composed at the end is written, or a prefix of it
+  -- What is composed at the end is written, or a prefix of it is.
   pub writes_end : (handed ended : Result ⊤ ScriptFault) (text : List ℕ) (old mid new : Option (List ℕ)) (composed : List ℕ) →
       OnOk handed (Appends mid new composed) → OnErr handed (AppendsPrefix mid new composed) → IfErr handed (λ y. y ≡ Write) →
       Leaves ended opening_scene text old mid composed → WritesScript (result_and handed ended) text old new
@@ -143,6 +143,6 @@ module _ (one : OneText) (each : EachTextPrints) where
   writes_end (Err y) ended text old mid new composed all part fault left =
       subst (λ f. WritesAtFault f text old new) (sym fault) (in_whole text old new (any_cut ended text old mid new composed left part))
 
-  -- nothing was run
+  -- Nothing was run.
   pub writes_none : (text : List ℕ) (old : Option (List ℕ)) → WritesPrefix text old old
   writes_none text old = let all = each text in (all.1, all.0, all.2, ([], (all.0, refl), Appends-nil old))

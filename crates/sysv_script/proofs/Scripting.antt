@@ -1,5 +1,5 @@
--- The run of a script under way: what was written and composed so far, and what the text that is left
--- adds to it.
+-- The run of a script under way: what was written and composed so far, and what the rest of the
+-- text adds to it.
 use Rattle.std.proofs.Common.{◌≡◌, ◌+◌, ◌<◌, ◌≤◌, ℕ, suc, Bool, true, false, List, [], ◌∷◌, ◌++◌, Option, Some, None, length, length-append, take, drop, refl, sym, ap, subst, ◌∙◌, append_assoc, append-nil, arith, inl, inr, take_all}
 use Rattle.std.proofs.Math.Seq.{drop-cons}
 use Rattle.std.proofs.lemmas.List.{take-append-drop}
@@ -88,7 +88,7 @@ splits len waiting behind first =
 joined_more : (handed composed out more : List ℕ) → (handed ++ composed) ++ (out ++ more) ≡ (handed ++ (composed ++ out)) ++ more
 joined_more handed composed out more = sym (append_assoc (handed ++ composed) out more) ∙ ap (λ l. l ++ more) (append_assoc handed composed out)
 
--- a run goes over a line that does something
+-- A run passes over a line that does something.
 past_line : (s : Scene) (n : ℕ) (text line rest out : List ℕ) (after : Scene) (more : List ℕ) (halt : Halt) → n ≤ 1000000 → BeginsWith text line rest → LineDoes s line out after →
     Runs after (n + 1) rest more halt → Runs s n text (out ++ more) halt
 past_line s n text line rest out after more (AtEnd ending) few begins does p = Goes s n text line rest out after more ending few begins does p
@@ -169,7 +169,7 @@ stops_front s text old n now waiting left new composed fewer front on = (
   (on.handed, on.grown, prefix_after on.handed fewer composed front),
 )
 
--- a line that is too long is bad as soon as it is, whatever follows
+-- A line that is too long is bad as soon as that is known, whatever follows.
 overruns : OneSplit → (m : Scene) (n : ℕ) (front rest : List ℕ) → n ≤ 1000000 → 9000 < length front → HasNoEnd front → Prints m n (front ++ rest) (bad_line_text n) (BadLine n)
 overruns split m n front rest few long endless = elim (split.either 10 rest) [
   | inl found ↦

@@ -1,4 +1,4 @@
--- What two reads take in, and two writes hand on, one after the other.
+-- What two reads return, and what two writes take, one after the other.
 use Rattle.std.proofs.Common.{ℕ, List, [], ◌++◌, Option}
 use Rattle.std.proofs.KnownBytes.{Appends-nil, Appends-trans}
 use Rattle.sysv_streams.specs.Faults.{Grows}

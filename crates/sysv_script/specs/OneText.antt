@@ -1,6 +1,6 @@
--- From a scene, whose world is as runs leave it, and from a line on, a text prints one thing only: two runs
--- of it print the same and end in the same way, and what it has printed before one of its lines is a prefix
--- of that (this project's script language).
+-- From a scene whose world is sound, and from a line on, a text prints one thing only: two runs of
+-- it print the same and end in the same way, and what it has printed before one of its lines is a
+-- prefix of that (this project's script language).
 use Rattle.std.specs.Prelude.{◌≡◌, ℕ, List}
 use Rattle.sysv_core.specs.Sound.{IsSound}
 use Rattle.sysv_lists.specs.Prefix.{IsPrefixOf}
@@ -9,7 +9,7 @@ use Rattle.sysv_script.specs.ScriptText.{Ending, Prints}
 use Rattle.sysv_script.specs.Sofar.{PrintsSofar}
 
 pub record OneText : Type 0 where
-  -- the opening scene is such a scene
+  -- The opening scene is such a scene.
   pub sound : IsSound opening_scene.world
   pub once : (s : Scene) (n : ℕ) (text out other : List ℕ) (ending end : Ending) → IsSound s.world → Prints s n text out ending → Prints s n text other end → (out ≡ other) × (ending ≡ end)
   pub sofar : (s : Scene) (n : ℕ) (text out other : List ℕ) (end : Ending) → IsSound s.world → PrintsSofar s n text out → Prints s n text other end → IsPrefixOf out other

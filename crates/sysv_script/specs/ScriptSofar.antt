@@ -1,5 +1,5 @@
--- The run of a script that is under way: the text that is left, and what is written and composed (this
--- project's script language).
+-- The run of a script that is under way: the text that is left, and what is written and composed
+-- (this project's script language).
 use Rattle.std.specs.Prelude.{◌≡◌, ◌+◌, ℕ, Bool, true, false, List, [], ◌++◌, Option, Some, Result, Ok, Err, ⊤}
 use Rattle.std.specs.Io.KnownBytes.{Appends}
 use Rattle.sysv_stage.specs.Scene.{Scene}
@@ -11,25 +11,26 @@ use Rattle.sysv_script.specs.Sofar.{PrintsSofar}
 use Rattle.sysv_streams.specs.declared.fault.ScriptFault.{ScriptFault}
 use Rattle.sysv_streams.specs.declared.fault.ScriptFault.TheVariants.{Line, Read, Write, NoMemory, Bound}
 
--- the text is what waits, and then what the reader has left
+-- The text is the pending bytes, followed by what the reader has left.
 abbrev pub IsText : List ℕ → Option (List ℕ) → List ℕ → Type 0
 IsText waiting left text = (behind : List ℕ) × (left ≡ Some behind) × (text ≡ waiting ++ behind)
 
--- how far a run has come: to an ending, or before a line
+-- How far a run has come: to an ending, or before a line.
 pub data Halt : Type 0 where
   AtEnd : (ending : Ending) → Halt
   Before : Halt
 
+-- The text prints this up to there.
 abbrev pub Runs : Scene → ℕ → List ℕ → List ℕ → Halt → Type 0
 Runs s n text out (AtEnd ending) = Prints s n text out ending
 Runs s n text out Before = PrintsSofar s n text out
 
--- a line does what it says, or is bad
+-- A line does what it means, or is bad.
 abbrev pub LineEnds : Scene → List ℕ → Bool → List ℕ → Scene → Type 0
 LineEnds s line true out after = LineDoes s line out after
 LineEnds s line false out after = IsBad s line × (out ≡ [])
 
--- the run from a scene over a text, now before the line of this number
+-- The run from a scene over a text, now before the line of this number.
 pub record RunsOn (s : Scene) (text : List ℕ) (old : Option (List ℕ)) (n : ℕ) (now : Stage) (waiting : List ℕ) (left new : Option (List ℕ)) (composed : List ℕ) : Type 0 where
   pub mid : Scene
   pub rest : List ℕ
@@ -44,11 +45,12 @@ abbrev pub LeavesAll : Scene → List ℕ → Ending → Option (List ℕ) → O
 LeavesAll s text ending old new composed =
     (out : List ℕ) × Prints s 1 text out ending × ((handed : List ℕ) × Appends old new handed × (out ≡ handed ++ composed))
 
--- What was written, and what is composed after it, is a prefix of what the text has printed so far.
+-- What was written, followed by what is composed, is a prefix of what the text has printed so far.
 abbrev pub LeavesPrefix : Scene → List ℕ → Option (List ℕ) → Option (List ℕ) → List ℕ → Type 0
 LeavesPrefix s text old new composed =
     (out : List ℕ) × PrintsSofar s 1 text out × ((handed : List ℕ) × Appends old new handed × IsPrefixOf (handed ++ composed) out)
 
+-- What was written and is composed after this fault.
 abbrev pub LeavesAtFault : ScriptFault → Scene → List ℕ → Option (List ℕ) → Option (List ℕ) → List ℕ → Type 0
 LeavesAtFault (Line n) s text old new composed = LeavesAll s text (BadLine n) old new composed
 LeavesAtFault Bound s text old new composed = LeavesAll s text TooMany old new composed
@@ -56,11 +58,12 @@ LeavesAtFault NoMemory s text old new composed = LeavesPrefix s text old new com
 LeavesAtFault Read s text old new composed = LeavesPrefix s text old new composed
 LeavesAtFault Write s text old new composed = LeavesPrefix s text old new composed
 
+-- What was written and is composed after this result of a run.
 abbrev pub Leaves : Result ⊤ ScriptFault → Scene → List ℕ → Option (List ℕ) → Option (List ℕ) → List ℕ → Type 0
 Leaves (Ok done) s text old new composed = LeavesAll s text Whole old new composed
 Leaves (Err fault) s text old new composed = LeavesAtFault fault s text old new composed
 
--- One more line leaves the run before the line after it, or at its end.
+-- After one more line, the run is before the line that follows, or at its end.
 abbrev pub RunsNext : Result Bool ScriptFault → Scene → List ℕ → Option (List ℕ) → ℕ → Stage → List ℕ → Option (List ℕ) → Option (List ℕ) → List ℕ → Type 0
 RunsNext (Ok true) s text old n now waiting left new composed = RunsOn s text old (n + 1) now waiting left new composed
 RunsNext (Ok false) s text old n now waiting left new composed = LeavesAll s text Whole old new composed

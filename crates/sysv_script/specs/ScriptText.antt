@@ -1,5 +1,5 @@
 -- What the text of a script prints (this project's script language): its lines are run one by one,
--- each on the scene that the lines before it left, and what they print stands in their order.
+-- each on the scene that the lines before it left, and what they print follows in their order.
 use Rattle.std.specs.Prelude.{◌≡◌, ◌<◌, ◌≤◌, ◌+◌, ◌⊎◌, ℕ, true, false, List, [], ◌++◌, length}
 use Rattle.sysv_lines.specs.Said.{Said}
 use Rattle.sysv_stage.specs.Scene.{Scene, opening_scene, LineRuns}
@@ -9,25 +9,25 @@ use Rattle.sysv_streams.specs.Found.{HasNoEnd}
 use Rattle.sysv_streams.specs.Faults.{bad_line_text}
 use Rattle.sysv_streams.specs.declared.fault.TheConstants.{SCRIPT_LINES}
 
--- how the run of a text ends: with the text, at a bad line, or after the millionth line
+-- How the run of a text ends: with the text, at a bad line, or after line 1,000,000.
 pub data Ending : Type 0 where
   Whole : Ending
   BadLine : (number : ℕ) → Ending
   TooMany : Ending
 
--- the first line of a text, which ends with LF or is all of the text, and what stands after it
+-- The first line of a text, which ends with LF or is the whole text, and what follows it.
 abbrev pub BeginsWith : List ℕ → List ℕ → List ℕ → Type 0
 BeginsWith text line rest = SplitsAt 10 text line rest ⊎ (HasNoEnd text × (0 < length text) × (line ≡ text) × (rest ≡ []))
 
--- a line that says something does it, and prints what comes of it
+-- A line with a meaning does it, and prints this.
 abbrev pub LineDoes : Scene → List ℕ → List ℕ → Scene → Type 0
 LineDoes s line out after = (said : Said) × Says line said × LineRuns s said true out after
 
--- a line is bad where it says nothing, or something that cannot be done
+-- A line is bad if it has no meaning, or one that cannot be done.
 abbrev pub IsBad : Scene → List ℕ → Type 0
 IsBad s line = ((said : Said) → ¬ Says line said) ⊎ ((said : Said) × (out : List ℕ) × (after : Scene) × Says line said × LineRuns s said false out after)
 
--- From this scene, and from the line of this number on, the text prints this and ends so.
+-- From this scene, and from the line of this number on, the text prints this and ends in this way.
 pub data Prints : Scene → ℕ → List ℕ → List ℕ → Ending → Type 0 where
   Ends : (s : Scene) (n : ℕ) → Prints s n [] [] Whole
   Exceeds : (s : Scene) (n : ℕ) (text : List ℕ) → SCRIPT_LINES < n → 0 < length text → Prints s n text [] TooMany
@@ -35,6 +35,6 @@ pub data Prints : Scene → ℕ → List ℕ → List ℕ → Ending → Type 0 
   Goes : (s : Scene) (n : ℕ) (text line rest out : List ℕ) (after : Scene) (more : List ℕ) (ending : Ending) →
       n ≤ SCRIPT_LINES → BeginsWith text line rest → LineDoes s line out after → Prints after (n + 1) rest more ending → Prints s n text (out ++ more) ending
 
--- what a script prints: its text on the opening scene, from line 1 on
+-- What a script prints: its text on the opening scene, from line 1 on.
 abbrev pub ScriptPrints : List ℕ → List ℕ → Ending → Type 0
 ScriptPrints text out ending = Prints opening_scene 1 text out ending

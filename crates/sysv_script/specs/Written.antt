@@ -1,4 +1,5 @@
--- What a writer took of what a script prints, by how its run ended (this project's script language).
+-- What a writer took of what a script prints, by the way in which its run ended (this project's
+-- script language).
 use Rattle.std.specs.Prelude.{ℕ, List, Option, Result, Ok, Err, ⊤}
 use Rattle.std.specs.Io.KnownBytes.{Appends}
 use Rattle.sysv_model.specs.Writing.{AppendsPrefix}
@@ -6,7 +7,7 @@ use Rattle.sysv_streams.specs.declared.fault.ScriptFault.{ScriptFault}
 use Rattle.sysv_streams.specs.declared.fault.ScriptFault.TheVariants.{Line, Read, Write, NoMemory, Bound}
 use Rattle.sysv_script.specs.ScriptText.{Ending, Whole, BadLine, TooMany, ScriptPrints}
 
--- Ends so, and the writer took all that the script prints.
+-- The script ends in this way, and the writer took all that it prints.
 abbrev pub WritesAll : List ℕ → Ending → Option (List ℕ) → Option (List ℕ) → Type 0
 WritesAll text ending old new = (out : List ℕ) × ScriptPrints text out ending × Appends old new out
 
@@ -14,7 +15,7 @@ WritesAll text ending old new = (out : List ℕ) × ScriptPrints text out ending
 abbrev pub WritesPrefix : List ℕ → Option (List ℕ) → Option (List ℕ) → Type 0
 WritesPrefix text old new = (ending : Ending) × (out : List ℕ) × ScriptPrints text out ending × AppendsPrefix old new out
 
--- what the writer took, by how the run of the text ended
+-- What the writer took, if the run of the text ended with this fault.
 abbrev pub WritesAtFault : ScriptFault → List ℕ → Option (List ℕ) → Option (List ℕ) → Type 0
 WritesAtFault (Line n) text old new = WritesAll text (BadLine n) old new
 WritesAtFault Bound text old new = WritesAll text TooMany old new
@@ -22,6 +23,7 @@ WritesAtFault Read text old new = WritesPrefix text old new
 WritesAtFault Write text old new = WritesPrefix text old new
 WritesAtFault NoMemory text old new = WritesPrefix text old new
 
+-- What the writer took, by the result of the run.
 abbrev pub WritesScript : Result ⊤ ScriptFault → List ℕ → Option (List ℕ) → Option (List ℕ) → Type 0
 WritesScript (Ok done) text old new = WritesAll text Whole old new
 WritesScript (Err fault) text old new = WritesAtFault fault text old new

@@ -1,4 +1,4 @@
-//! Laws on what a text prints.
+//! Laws about what a text prints.
 
 ghost use Rattle.sysv_script.specs.EachText.{EachTextPrints};
 ghost use Rattle.sysv_script.specs.OneText.{OneText};
@@ -7,8 +7,9 @@ use sysv_core::{each_world_is_sound, one_step, some_step};
 use sysv_lines::{each_line_is_decided, one_saying};
 use sysv_words::one_split;
 
-/// From a scene, which is a world and its actors' credentials, a text prints one thing only and ends in
-/// one way, and what it has printed before a line is a prefix of that.
+/// States that a text prints one thing only from a scene, which is a world with its actors'
+/// credentials, and ends in one way, and that what it has printed before a line is a prefix of
+/// that.
 pub fn one_text()
     ensures { OneText }
 {
@@ -18,7 +19,8 @@ pub fn one_text()
     one_split();
 }
 
-/// Each text prints something: it runs to its end, to a bad line, or to the line after the millionth.
+/// States that each text prints something: it runs to its end, to a bad line, or to a line after
+/// line 1,000,000.
 pub fn each_text_prints()
     ensures { EachTextPrints }
 {

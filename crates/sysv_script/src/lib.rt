@@ -1,6 +1,6 @@
-//! The script language: a text of calls, one per line, that a world of queues and actors runs line by
-//! line, from a reader to a writer. `specs/` says what a text prints; the laws say that each text prints
-//! something, and one thing only.
+//! The script language: a text of calls, one per line, which is run line by line on a world of
+//! queues and actors, from a reader to a writer. `specs/` defines what a text prints. The laws
+//! state that each text prints something, and one thing only.
 //!
 //! ```rust
 //! let mut script = b"preset\n1 snd 0 5 - =hello\n2 rcv 0 9 0 -\n".as_slice();

@@ -22,35 +22,44 @@ use sysv_stage::Stage;
 use sysv_streams::{Found, Input, Output, SCRIPT_LINES, ScriptFault, next_line, read_on};
 use sysv_words::one_split;
 
-/// Runs the script that `reader` gives on a world of 16 actors, and writes to `writer` a line for
-/// each call that it starts. What was read is run and its lines are written before more is read.
-/// Only `write` is called on `writer`; if it has a buffer, the caller flushes it.
+/// Runs the script that `reader` returns on a world of 16 actors, and writes what it prints to
+/// `writer`.
+///
+/// What was read is run, and its results are written, before more is read. Only `write` is called
+/// on `writer`; if it has a buffer, the caller must flush it.
 ///
 /// # Errors
 ///
 /// - `Line(n)` if line `n` is bad; `line N: bad` is then the last line written. A bad line is not
-///   understood, or is longer than 9,000 bytes, or is a `preset` when slot 0 has or had a queue, or
-///   a `pool` after any other line that is not skipped.
-/// - `Bound` if a line begins after the millionth.
-/// - `Read` if the reader fails, `Write` if the writer fails or takes no byte, and `NoMemory` if
-///   memory is refused. What was written is then a prefix of what the script prints.
+///   understood, or is longer than 9,000 bytes, or is a `preset` when slot 0 is in use or was used
+///   before, or is a `pool` after any other line that is not skipped.
+/// - `Bound` if a line begins after line 1,000,000.
+/// - `Read` if the reader fails.
+/// - `Write` if the writer fails or takes no byte.
+/// - `NoMemory` if memory is refused.
+///
+/// After `Line(n)` and `Bound`, all that the script prints was written. After `Read`, `Write` and
+/// `NoMemory`, a prefix of what the script prints was written.
 pub fn run_script<R: Read, W: Write>(
     alloc: Global,
     reader: &mut Watched<'_, R>,
     writer: &mut Watched<'_, W>,
 ) -> Result<(), ScriptFault>
-    // What the writer took is what the text prints; after a fault of a stream or of memory, a prefix of it.
+    // What the writer took is what the text prints. After a fault of a stream or of memory, it is a
+    // prefix of that.
     ensures prints { (text : List ℕ) → R.remaining (stream_of reader.old) ≡ Some text →
         WritesScript result text (W.contents (stream_of writer.old))
         (W.contents (stream_of writer.new)) }
     // A script that ends well was read to its end.
     ensures whole { OnOk result (IsAtEnd (R.remaining (stream_of reader.new))) }
-    // What the writer took stays, and if a line is bad, the last line says which.
+    // What the writer had taken before stays. If a line is bad, the last line that it took states
+    // which.
     ensures grows { Grows (W.contents (stream_of writer.old)) (W.contents (stream_of writer.new)) }
     ensures bad { IfErr result (λ fault.
         TellsBadLine fault (W.contents (stream_of writer.old))
         (W.contents (stream_of writer.new))) }
-    // The streams are the same ones, and each has failed in this call if and only if the fault says so.
+    // The streams are the same ones, and each has failed in this call if and only if the fault says
+    // so.
     ensures same_reader { stream_name reader.new ≡ stream_name reader.old }
     ensures same_writer { stream_name writer.new ≡ stream_name writer.old }
     ensures reader_failed { failures_of reader.new
@@ -67,7 +76,7 @@ pub fn run_script<R: Read, W: Write>(
     run.end(writer).and(ended)
 }
 
-/// A script under way: what it runs on, the bytes that wait, and the lines that are composed.
+/// A script under way: the stage on which it runs, the pending bytes, and the composed lines.
 struct Run {
     stage: Stage,
     input: Input,
@@ -90,8 +99,8 @@ impl Run {
         })
     }
 
-    /// Runs the lines one by one, up to the end, the first fault or the bound. The last lines that it
-    /// prints may still have to be written.
+    /// Runs the lines one by one, up to the end, the first fault or the bound. The last lines that
+    /// it prints may still have to be written.
     fn run_lines<R: Read, W: Write>(
         &mut self,
         alloc: Global,
@@ -164,7 +173,7 @@ impl Run {
         Ok(!found.is_last)
     }
 
-    /// Runs the line that was found, which has this number, and passes over it.
+    /// Runs the line that was found, which has this number, and drops it from the pending bytes.
     fn run_found(&mut self, alloc: Global, found: Found, number: u32) -> Result<(), ScriptFault>
         requires front { found.len ≤ length self.old.input }
         requires behind { found.is_last ≡ false → found.len < length self.old.input }
@@ -192,7 +201,7 @@ impl Run {
         Ok(())
     }
 
-    /// Checks that no line begins after the last that a script may have.
+    /// Checks that no line begins after the last one that a script may have.
     fn expect_end<R: Read, W: Write>(
         &mut self,
         reader: &mut Watched<'_, R>,
@@ -226,7 +235,7 @@ impl Run {
         }
     }
 
-    /// Writes the last lines, and ends the world.
+    /// Writes the last lines and ends the world.
     fn end<W: Write>(self, writer: &mut Watched<'_, W>) -> Result<(), ScriptFault>
         ensures ok { OnOk result (Appends (W.contents (stream_of writer.old))
             (W.contents (stream_of writer.new)) self.output) }
@@ -269,7 +278,7 @@ fn run_line(
     }
 }
 
-/// Composes what is said of a bad line.
+/// Composes the line that states that line `number` is bad, and returns the fault.
 fn bad_line(output: &mut Output, number: u32) -> ScriptFault
     ensures { EndsAtLine result number output.old output.new }
 {

@@ -1,4 +1,4 @@
--- What a line that was understood does on the scene.
+-- What a line that is understood does on the scene.
 use Rattle.std.proofs.Common.{◌≡◌, ℕ, Bool, List, ◌++◌, refl}
 use Rattle.std.specs.Prelude.{Result, Ok, Err, IfOk, false}
 use Rattle.sysv_model.specs.declared.no_memory.NoMemory.{NoMemory}
@@ -9,7 +9,7 @@ use Rattle.sysv_stage.specs.Scene.{Scene, begun_scene, LineActs, LineRuns}
 use Rattle.sysv_stage.specs.Staged.{IsSceneOf}
 use Rattle.sysv_stage.specs.declared.stage.Stage.{Stage}
 
--- a line that is neither skipped nor the size of the pool acts on the scene once begun
+-- A line that is neither skipped nor the size of the pool acts on the scene that has begun.
 as_run : (l : Line) (s after : Scene) (understood : Bool) (out : List ℕ) → (l ≡ line.Skipped → ⊥) → ((blocks : ℕ) → l ≡ line.Pool blocks → ⊥) →
     LineActs (begun_scene s) (said_of l) understood out after → LineRuns s (said_of l) understood out after
 as_run line.Skipped s after understood out kept other h = absurd (kept refl)

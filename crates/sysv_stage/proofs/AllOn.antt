@@ -1,4 +1,5 @@
--- The calls of all actors in turn: those taken on so far, and what is left to show.
+-- The calls of all actors, one after the other: those that were continued so far, and what is still
+-- to be shown.
 use Rattle.std.proofs.Common.{◌≡◌, ◌+◌, ◌-◌, ◌≤◌, ◌<◌, ℕ, suc, List, [], ◌∷◌, ◌++◌, sym, ap, subst, ◌∙◌, append_assoc, refl, arith}
 use Rattle.std.proofs.lemmas.List.{append-nil}
 use Rattle.std.specs.List.{range_with_len}
@@ -7,7 +8,7 @@ use Rattle.sysv_stage.specs.Scene.{Scene, OneRuns, AllRun, under_way}
 use Rattle.sysv_stage.specs.Staged.{IsSceneOf}
 use Rattle.sysv_stage.specs.declared.stage.Stage.{Stage}
 
--- from one scene, with its output, to another whose actors from this one on are left
+-- From one scene, with its output, to another one in which the actors from this one on are left.
 pub record AllSofar (start now : Stage) (before composed : List ℕ) (actor : ℕ) : Type 0 where
   pub least : 1 ≤ actor
   pub most : actor ≤ 17
@@ -42,7 +43,7 @@ one_on start now new before composed more actor few old runs = record {
       );
 }
 
--- once no actor is left
+-- No actor is left.
 pub all_on : (start now : Stage) (before composed : List ℕ) (actor : ℕ) → actor ≡ 17 → AllSofar start now before composed actor →
     (s : Scene) → IsSceneOf s start → (after : Scene) × (out : List ℕ) × AllRun (range_with_len 1 16) s out after × IsSceneOf after now × (composed ≡ before ++ out)
 all_on start now before composed actor e old s seen =

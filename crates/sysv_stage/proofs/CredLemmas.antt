@@ -7,7 +7,7 @@ use Rattle.std.proofs.lemmas.List.FromFn.{fill_by_all}
 use Rattle.sysv_model.specs.declared.cred.Cred.{Cred}
 use Rattle.sysv_stage.specs.Scene.{first_cred}
 
--- the places before this one are those of actors as they are at first
+-- The places below this one have the first credentials of their actors.
 abbrev pub AreFirst : List Cred → ℕ → Type 0
 AreFirst creds place = (k : ℕ) → k < place → get_or creds k (first_cred 0) ≡ first_cred (k + 1)
 

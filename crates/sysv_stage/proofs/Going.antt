@@ -1,4 +1,4 @@
--- The steps of an actor's call so far, and what is left to show.
+-- The steps of an actor's call so far, and what is still to be shown.
 use Rattle.std.proofs.Common.{◌≡◌, ℕ, zero, suc, refl, sym, subst}
 use Rattle.sysv_core.specs.declared.event.Event.TheVariants.{Step}
 use Rattle.sysv_core.specs.declared.event.Stepped.{Stepped}
@@ -7,7 +7,8 @@ use Rattle.sysv_stage.specs.Scene.{Scene, Advances, GoesOn}
 use Rattle.sysv_stage.specs.declared.stage.Stage.{Stage}
 use Rattle.sysv_stage.specs.Staged.{IsSceneOf}
 
--- from what it gave first, with all its steps before it, to what it gave last, with those that are left
+-- From the first result of the call, before all its steps, to its last one, with the steps that are
+-- left.
 pub record GoingOn (start now : Stage) (actor all : ℕ) (first last : Stepped) (left : ℕ) : Type 0 where
   pub going : (s : Scene) → IsSceneOf s start → (m : Scene) × IsSceneOf m now × ((given : Stepped) (after : Scene) → GoesOn left m actor last given after → GoesOn all s actor first given after)
 

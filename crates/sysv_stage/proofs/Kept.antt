@@ -1,4 +1,4 @@
--- What a stage keeps of its scene, and what follows of a result that was told or mapped.
+-- What a stage keeps of its scene, and what follows of a result that was examined or mapped.
 use Rattle.std.proofs.Common.{◌≡◌, ◌∙◌, true, false, sym, ap, subst}
 use Rattle.std.specs.Prelude.{⊤, Result, Ok, Err, OnOk, OnErr, IfOk, MatchResult, is_ok}
 use Rattle.sysv_model.specs.declared.no_memory.NoMemory.{NoMemory}
@@ -6,7 +6,7 @@ use Rattle.sysv_stage.specs.Scene.{Scene}
 use Rattle.sysv_stage.specs.Staged.{IsSceneOf}
 use Rattle.sysv_stage.specs.declared.stage.Stage.{Stage}
 
--- a stage whose spare bodies alone have changed is seen as before
+-- A stage in which only the spare bodies have changed is seen as before.
 pub kept : (s : Scene) (old new : Stage) → new ≡ record old { spares = new.spares } → IsSceneOf s old → IsSceneOf s new
 kept s old new e seen = subst (IsSceneOf s) (sym e) (record { world = seen.world; creds = seen.creds; moment = seen.moment; fresh = seen.fresh })
 
@@ -21,7 +21,7 @@ on_err (Err e) p = p
 Ok-once : {T D : Type 0} (y x : T) → ◌≡◌ {A = Result T D} (Ok y) (Ok x) → y ≡ x
 Ok-once y x e = cc
 
--- what a call promised of its `Ok` holds of it after `map_err` too
+-- What a call promises of its `Ok` also holds after `map_err`.
 pub IfOk-mapped : {T E D : Type 0} (P : T → Type 0) (Q : E → Type 0) (r : Result T E) (mapped : Result T D) (x : T) →
     IfOk r P → MatchResult r (λ y. mapped ≡ Ok y) Q → is_ok mapped ≡ is_ok r → mapped ≡ Ok x → P x
 IfOk-mapped {D = D} P Q (Ok y) mapped x p same variant is = let inner : y ≡ x = Ok-once {D = D} y x (sym same ∙ is) in subst P inner p

@@ -1,4 +1,4 @@
--- Where the actor's call stands, as the stage's world tells it, is where it stands in the scene.
+-- The position of the actor's call that the stage's world reports is that in the scene.
 use Rattle.std.proofs.Common.{◌≡◌, ℕ, zero, suc, List, [], ◌∷◌, ◌++◌, Option, Some, None, option_map, map, slice_get, refl, sym, ap, subst, ◌∙◌}
 use Rattle.std.proofs.lemmas.Option.{slice_get-map}
 use Rattle.sysv_core.specs.declared.event.Standing.{Standing as StandingKept}
@@ -17,7 +17,7 @@ seen_at : (actors : List (Option Doing)) (states : List (Option State)) (actor :
 seen_at actors states zero e = refl
 seen_at actors states (suc place) e = ap (λ ss. slice_get ss place) (sym e) ∙ slice_get-map state_in actors place
 
--- what the world tells is of what the actor does in each world as which it is seen
+-- What the world reports is the state of the actor's call in each world as which it is seen.
 pub told_there : (w : World) (seen : Seen) (actor : ℕ) (told : StandingKept) → IsSeenAs w seen → StandsThere (state_at seen.states actor) told → StandsThere (option_map state_in (actor_at w.actors actor)) told
 told_there w seen actor told sight stands = subst (λ o. StandsThere o told) (seen_at w.actors seen.states actor sight.states) stands
 

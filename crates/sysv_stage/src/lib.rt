@@ -1,5 +1,5 @@
-//! The stage of a script: a world of queues and actors, on which the lines of a script are run one by
-//! one. `specs/` has what a line does there and what it prints.
+//! The stage of a script: a world of queues and actors on which the lines of a script are run one
+//! by one. `specs/` defines what a line does there and what it prints.
 #![tactic(auto)]
 
 mod stage;

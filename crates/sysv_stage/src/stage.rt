@@ -17,30 +17,35 @@ use sysv_lines::{Head, Line, Operation, Request, SCRIPT_ACTORS, Text, Told};
 use sysv_model::{BLOCK_BYTES, Body, Cred, NoMemory};
 use sysv_streams::Output;
 
-/// The blocks of a script's world.
+/// The number of blocks of a script's world.
 const SCRIPT_BLOCKS: u32 = 1024;
 
-/// A block of the letter that stands for every byte of a message body given by its length.
+/// A block of letters, for a message body that is given by its length.
 const LETTERS: [u8; BLOCK_BYTES] = [b'x'; BLOCK_BYTES];
 
-/// The most steps that a call of a script makes before the next line.
+/// The maximum number of steps of a call at one line.
 const MAX_STEPS: u32 = 16;
 
-/// The world of a script, its actors' credentials, the moment of each step, and the bodies that no call
-/// under way has.
+/// The world of a script, the credentials of its actors, the time of each step, and the bodies that
+/// no call under way has.
 pub struct Stage {
     world: World,
-    /// The credentials of actor A stand at place A - 1.
+    /// The credentials of actor A are at place A - 1.
     creds: [Cred; SCRIPT_ACTORS as usize],
     moment: u64,
-    /// Every line so far was one that is skipped.
+    /// Whether every line so far was skipped.
     fresh: bool,
-    /// At most one for each actor, since a body is opened only where there is none.
+    /// At most one body for each actor, because a body is opened only if there is no spare one.
     spares: Vec<Body>,
 }
 
 impl Stage {
-    /// A world of 16 actors with nothing in it, and the credentials that they have at first.
+    /// Opens a world of 16 actors in which nothing has happened, with the first credentials of each
+    /// actor.
+    ///
+    /// # Errors
+    ///
+    /// `NoMemory` if memory is refused.
     pub fn open(alloc: Global) -> Result<Stage, NoMemory>
         ensures { IfOk result (λ stage. IsSceneOf opening_scene stage) }
     {
@@ -55,7 +60,7 @@ impl Stage {
         })
     }
 
-    /// Ends the script's world.
+    /// Ends the world of the script.
     pub fn end(self) {
         let Stage {
             world,
@@ -67,8 +72,17 @@ impl Stage {
         let _blocks = world.end();
     }
 
-    /// Does what a line says, and composes what it prints. `false` for a `preset`, or a size of the pool, that
-    /// comes too late.
+    /// Does what a line means, and composes what it prints. Returns `false` if the line is bad: a
+    /// `preset` or a `pool` that comes too late. A bad line composes nothing.
+    ///
+    /// # Errors
+    ///
+    /// `NoMemory` if memory is refused. A prefix of what was composed before is left.
+    ///
+    /// # Conditions
+    ///
+    /// An actor of the line must be 1 to 16, a body must have at most 8,256 bytes, and a number of
+    /// blocks must be one that a pool can have, as in each line that `line_of` returns.
     pub fn run(
         &mut self,
         alloc: Global,
@@ -93,7 +107,7 @@ impl Stage {
         }
     }
 
-    /// Opens the world anew with that many blocks, where every line so far was one that is skipped.
+    /// Opens a new world with `blocks` blocks, if every line so far was skipped.
     fn size_pool(&mut self, alloc: Global, blocks: u32) -> Result<bool, NoMemory>
         requires { IsPoolSize blocks }
         ensures { IfOk result (λ understood. (s : Scene) → IsSceneOf s self.old →
@@ -108,7 +122,8 @@ impl Stage {
         Ok(true)
     }
 
-    /// Does what a line says that comes once another was run, and composes what it prints.
+    /// Does what a line means, if it is not the first one that sizes the pool, and composes what it
+    /// prints.
     fn act(&mut self, alloc: Global, line: Line<'_>, output: &mut Output) -> Result<bool, NoMemory>
         requires { LineFits line }
         ensures runs { IfOk result (λ understood. (s : Scene) → IsSceneOf s self.old →
@@ -135,8 +150,8 @@ impl Stage {
         Ok(true)
     }
 
-    /// Starts a call of an actor, makes its steps if it is to go on, and composes the line that it prints.
-    /// An actor in a call starts no other.
+    /// Starts a call of an actor, makes its steps if it continues, and composes the line that it
+    /// prints. An actor that is in a call starts no other one.
     fn start(
         &mut self,
         alloc: Global,
@@ -164,7 +179,7 @@ impl Stage {
         self.tell(actor, operation, given, output)
     }
 
-    /// Makes at most that many steps of an actor's call, and composes the line that it prints.
+    /// Makes at most `steps` steps of an actor's call, and composes the line that it prints.
     fn take_on(&mut self, actor: u32, steps: u32, output: &mut Output) -> Result<(), NoMemory>
         ensures runs { OnOk result ((s : Scene) → IsSceneOf s self.old → (after : Scene)
             × (out : List ℕ)
@@ -178,7 +193,7 @@ impl Stage {
         }
     }
 
-    /// Takes each call under way on, in the order of the actors.
+    /// Continues each call under way, in the order of the actors.
     fn take_all_on(&mut self, output: &mut Output) -> Result<(), NoMemory>
         ensures runs { OnOk result ((s : Scene) → IsSceneOf s self.old → (after : Scene)
             × (out : List ℕ)
@@ -192,7 +207,7 @@ impl Stage {
         Ok(())
     }
 
-    /// Takes the call of an actor on, if it is in one.
+    /// Continues the call of an actor, if it is in one.
     fn take_one_on(&mut self, actor: u32, output: &mut Output) -> Result<(), NoMemory>
         ensures runs { OnOk result ((s : Scene) → IsSceneOf s self.old → (after : Scene)
             × (out : List ℕ)
@@ -206,8 +221,8 @@ impl Stage {
         }
     }
 
-    /// Makes at most that many steps of an actor's call, which is of this kind, and composes the line that
-    /// it prints.
+    /// Makes at most `steps` steps of an actor's call, which is of the kind `operation`, and
+    /// composes the line that it prints.
     fn go_on(
         &mut self,
         actor: u32,
@@ -225,7 +240,7 @@ impl Stage {
         self.tell(actor, operation, given, output)
     }
 
-    /// The kind of the call that an actor is in, if it is in one.
+    /// Returns the kind of the call that an actor is in, if it is in one.
     fn under_way(&self, actor: u32) -> Option<Operation>
         ensures { (s : Scene) → IsSceneOf s self.now →
             result ≡ doing_at (actor_at s.world.actors actor) }
@@ -236,7 +251,7 @@ impl Stage {
         }
     }
 
-    /// The call that a request asks for, with a body of its own.
+    /// Returns the call of a request, with a body of its own.
     fn call_of(&mut self, alloc: Global, request: Request<'_>) -> Result<Call, NoMemory>
         requires { RequestFits request }
         ensures call { IfOk result (λ call. call ≡ call_for (call_asked request.entry)) }
@@ -280,7 +295,7 @@ impl Stage {
         }
     }
 
-    /// A spare body, or a new one where there is none.
+    /// Returns a spare body, or a new one if there is none.
     fn spare_body(&mut self, alloc: Global) -> Result<Body, NoMemory>
         ensures empty { IfOk result (λ body. body ≡ []) }
         ensures kept { self.new ≡ record self.old { spares = self.new.spares } }
@@ -294,7 +309,7 @@ impl Stage {
         }
     }
 
-    /// Starts a call with the credentials that the actor has now.
+    /// Starts a call with the present credentials of the actor.
     fn begin(&mut self, actor: u32, call: Call) -> Stepped
         requires { IsOfActors actor }
         ensures { (s : Scene) → IsSceneOf s self.old →
@@ -304,7 +319,7 @@ impl Stage {
         self.step(Event::Start { actor, cred, call })
     }
 
-    /// Makes at most that many steps of a call, after what it gave last, up to its answer.
+    /// Makes at most `steps` steps of a call whose last result was `last`, until the call is over.
     fn go(&mut self, actor: u32, last: Stepped, steps: u32) -> Stepped
         ensures { (s : Scene) → IsSceneOf s self.old →
             (after : Scene) × GoesOn steps s actor last result after × IsSceneOf after self.new }
@@ -322,7 +337,7 @@ impl Stage {
         given
     }
 
-    /// Lets one event happen in the world.
+    /// Makes one event happen in the world.
     fn step(&mut self, event: Event) -> Stepped
         ensures { (s : Scene) → IsSceneOf s self.old →
             (after : Scene) × Advances s event result after × IsSceneOf after self.new }
@@ -330,7 +345,7 @@ impl Stage {
         self.world.step(event)
     }
 
-    /// Composes the line of an answer, and keeps the body of a send or a receive that was answered.
+    /// Composes the line of a result, and keeps the body of a send or a receive that is over.
     fn tell(
         &mut self,
         actor: u32,
@@ -368,7 +383,7 @@ impl Stage {
         }
     }
 
-    /// The line that says where an actor's call stands.
+    /// Returns the line for the present state of an actor's call.
     fn stands(&self, actor: u32) -> Head
         ensures { (s : Scene) → IsSceneOf s self.now →
             head_text result ++ 10 ∷ [] ≡ standing_line actor (actor_at s.world.actors actor) }
@@ -380,6 +395,7 @@ impl Stage {
         }
     }
 
+    /// Composes the line of a receive that is over, and keeps its body.
     fn tell_body(&mut self, head: Head, body: Body, output: &mut Output) -> Result<(), NoMemory>
         ensures told { OnOk result (output.new ≡ output.old
             ++ (head_text head ++ (body ++ 10 ∷ []))) }
@@ -391,7 +407,7 @@ impl Stage {
         told
     }
 
-    /// Keeps the body of a send that was answered.
+    /// Keeps the body of a send that is over.
     fn keep_spare(&mut self)
         ensures { self.new ≡ record self.old { spares = self.new.spares } }
     {
@@ -401,7 +417,7 @@ impl Stage {
     }
 }
 
-/// Puts a text into an empty body.
+/// Puts the bytes of a request into an empty body.
 fn fill(body: &mut Body, text: Text<'_>)
     requires empty { body.old ≡ [] }
     requires fits { FitsBody text }
@@ -422,7 +438,7 @@ fn fill(body: &mut Body, text: Text<'_>)
     }
 }
 
-/// Appends at most a block of letters to a body.
+/// Appends at most one block of letters to a body.
 fn push_letters(body: &mut Body, count: usize)
     requires block { count ≤ BLOCK_BYTES }
     requires room { length body.old + count ≤ BODY_ROOM }
@@ -431,7 +447,7 @@ fn push_letters(body: &mut Body, count: usize)
     let _fits = body.push_piece(&LETTERS[..count]);
 }
 
-/// The credentials that the actors 1 to 16 have at first.
+/// Returns the first credentials of the actors 1 to 16.
 fn first_creds() -> [Cred; SCRIPT_ACTORS as usize]
     ensures { result ≡ map script_cred (range_with_len 1 SCRIPT_ACTORS) }
 {
@@ -442,7 +458,7 @@ fn first_creds() -> [Cred; SCRIPT_ACTORS as usize]
     creds
 }
 
-/// The credentials that an actor has at first: user and group 1000, and a process of its own.
+/// Returns the first credentials of an actor: user and group 1000, and a process of its own.
 fn first_cred(actor: u32) -> Cred
     requires { actor ≤ SCRIPT_ACTORS }
     ensures { result ≡ script_cred actor }
@@ -454,13 +470,14 @@ fn first_cred(actor: u32) -> Cred
     }
 }
 
-/// How many steps a call makes at the line that starts it.
+/// Returns the maximum number of steps of a call at the line that starts it.
 fn most_steps(goes: bool) -> u32
     ensures { result ≡ steps_at_start goes }
 {
     if goes { MAX_STEPS } else { 0 }
 }
 
+/// Returns the kind of the call of a request.
 fn operation_of(request: Request<'_>) -> Operation
     ensures { result ≡ call_operation (call_asked request.entry) }
 {
@@ -474,6 +491,7 @@ fn operation_of(request: Request<'_>) -> Operation
     }
 }
 
+/// Returns how a script prints an outcome.
 fn told_of(outcome: Outcome) -> Told
     ensures { result ≡ outcome_told outcome }
 {

@@ -1,4 +1,4 @@
--- Each deed of a play is what the call asked for.
+-- Each deed of a play requests what the arguments of the call name.
 use Rattle.std.proofs.Common.{◌≡◌, ℕ, ℤ, ◌+◌, inl, inr, Bool, true, false, List, [], ◌∷◌, ◌++◌, Option, Some, None, cond, length, refl, sym, ap, subst, arith}
 use Rattle.std.proofs.lemmas.List.Elements.{All-push}
 use Rattle.sysv_model.specs.declared.cred.Cred.{Cred}
@@ -39,7 +39,7 @@ begun_of cred (MsgctlSet id to) released false = (refl, refl, refl)
 begun_of cred (MsgctlRmid id) released false = (refl, refl)
 
 module _ (cred : Cred) where
-  -- a call that waits holds what it held, at once or once it has given back its chain
+  -- A call that waits holds what it held, at once or after it has released its chain.
   after_keeps : (asked : SystemCall) (nowait : Bool) (wait : Wait) (why : Errno) → WaitHolds cred asked wait → AfterwardsHolds cred asked (waits_or nowait wait why)
   after_keeps asked true wait why h = tt
   after_keeps asked false wait why h = h

@@ -1,5 +1,6 @@
--- The three commands of msgctl that play to their end are answered right: each has one deed at its queue, a
--- removal then one at the registry, and a set that was done and a removal one at the pool.
+-- Each of the three commands of msgctl that plays to its end has a right result. Each has one deed
+-- at its slot; a removal then has one at the registry; and a set that was done and a removal have
+-- one at the pool.
 use Rattle.std.proofs.Common.{◌≡◌, ℕ, ℤ, inl, inr, Bool, true, false, List, [], ◌∷◌, ◌++◌, Some, cond, refl, sym, ap, subst, ◌∙◌, arith}
 use Rattle.std.specs.List.{flat_map}
 use Rattle.sysv_model.specs.declared.cred.Cred.{Cred}

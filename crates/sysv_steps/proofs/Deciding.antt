@@ -1,5 +1,5 @@
--- Two plays of the same deeds stand at the same place but for the released count that a send has read, and
--- for a wait that one of them has left: so they end alike.
+-- Two plays of the same deeds lead to the same state, except for the released count that a send has
+-- read, and for a wait that one of them has ended. So they end alike.
 use Rattle.std.proofs.Common.{◌≡◌, ℕ, ◌+◌, Bool, true, false, List, [], ◌∷◌, ◌++◌, Option, Some, None, cond, refl, sym, ap, ◌∙◌}
 use Rattle.sysv_model.specs.declared.cred.Cred.{Cred}
 use Rattle.sysv_model.specs.declared.errno.Errno.{Errno}
@@ -37,7 +37,7 @@ bare_phase (AtPlace send blocks) = AtPlace (bare send) blocks
 bare_phase (AtSendGiveback blocks afterwards) = AtSendGiveback blocks (bare_after afterwards)
 bare_phase phase = phase
 
--- a call that waits stands where it goes on
+-- A call that waits counts as one at the step at which it continues.
 abbrev core : State → State
 core (Goes phase) = Goes (bare_phase phase)
 core (Waits wait) = Goes (bare_phase (resume wait 0))

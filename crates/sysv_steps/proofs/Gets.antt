@@ -1,5 +1,5 @@
--- A msgget that plays to its end is answered right. Until its last deed it was granted nothing and refused
--- nothing, and what it installs and settles is what the registry made for it.
+-- A msgget that plays to its end has a right result. Until its last deed it was granted nothing and
+-- refused nothing, and it installs and settles what the registry made for it.
 use Rattle.std.proofs.Common.{◌≡◌, ℕ, ℤ, inl, inr, ◌||◌, Bool, true, false, List, [], ◌∷◌, ◌++◌, Option, Some, None, cond, refl, sym, ap, subst, ◌∙◌}
 use Rattle.std.specs.List.{list_any, flat_map}
 use Rattle.std.proofs.lemmas.Grind.{flat_map-append}
@@ -22,7 +22,7 @@ use Rattle.sysv_steps.specs.Played.{Plays, begins, steps, resumes}
 use Rattle.sysv_steps.specs.Answers.{was_denied, made_by, installed_by, settled_by, was_occupied, granted_by, found_the_key, unbound_by, IsItsOwn, IsNotGiven, IsRightGet}
 use Rattle.sysv_steps.proofs.Among.{apart}
 
--- what the deeds so far installed, were granted, were refused by the registry with, and found
+-- What the deeds so far installed, were granted, were refused by the registry with, and found.
 pub record Were (i g : List ℤ) (u : List Errno) (o d k : Bool) (deeds : List Deed) : Type 0 where
   pub installed : flat_map installed_by deeds ≡ i
   pub granted : flat_map granted_by deeds ≡ g
@@ -31,7 +31,7 @@ pub record Were (i g : List ℤ) (u : List Errno) (o d k : Bool) (deeds : List D
   pub denied : list_any was_denied deeds ≡ d
   pub known : list_any found_the_key deeds ≡ k
 
--- what the registry made for the deeds so far, and what they settled
+-- What the registry made for the deeds so far, and what they settled.
 abbrev Told : (m s : List ℤ) → List Deed → Type 0
 Told m s deeds = (flat_map made_by deeds ≡ m) × (flat_map settled_by deeds ≡ s)
 
@@ -132,7 +132,7 @@ module _ (flags : Flags) (deeds : List Deed) where
   denied_back w new x (inr (inr (inl t))) = ap Refused (sym t.0)
   denied_back w new x (inr (inr (inr t))) = apart _ t.1 x.occupied
 
-  -- a probe that was denied, and one that was granted
+  -- A probe that was denied, and one that was granted.
   denied_right : (b : Bool) → wants_new flags ≡ b → Were [] [] [] false true true deeds → IsRightGet flags deeds (Refused (cond b EEXIST EACCES))
   denied_right true new x = exists_right [] true new x
   denied_right false new x = record {
@@ -161,12 +161,12 @@ module _ (flags : Flags) (deeds : List Deed) where
 
 -- ---- along a play
 
--- nothing was made, granted or refused
+-- Nothing was made, granted or refused.
 abbrev Nothing : List Deed → Type 0
 Nothing deeds = Were [] [] [] false false false deeds × Told [] [] deeds
 
 module _ (key : ℤ) (flags : Flags) where
-  -- where a call stands after these deeds
+  -- What is known of a call in this state after these deeds.
   abbrev GetAt : List Deed → State → Type 0
   GetAt deeds (Goes (AtBegin get)) = (get.flags ≡ flags) × Nothing deeds
   GetAt deeds (Goes (AtInstall get id)) = Were [] [] [] false false false deeds × Told (id ∷ []) [] deeds
@@ -227,7 +227,7 @@ module _ (key : ℤ) (flags : Flags) where
       granted_right flags (deeds ++ AtSlot slot (Probe id cred by) Granted ∷ []) id (wants_new get.flags) (ap wants_new (sym f)) (nothing_more deeds (AtSlot slot (Probe id cred by) Granted) h).0
   probe_step deeds get id settled cred by slot reply f h = tt
 
-  -- the deed, by what the call asks there
+  -- The deed, by the request of the call at its step.
   at_slot : (phase : Phase) (deeds : List Deed) (slot : ℕ) (call : Call) (reply : Reply) (now : ℕ) → GetAt deeds (Goes phase) → OfSlot slot call ≡ asks phase now →
       GetIf (deeds ++ AtSlot slot call reply ∷ []) (next_of_slot phase reply)
   at_slot (AtInstall get id) deeds slot call reply now h is =

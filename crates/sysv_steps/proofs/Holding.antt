@@ -1,4 +1,5 @@
--- What a call holds after one more deed is what it held, with what it was given and without what left it.
+-- What a call holds after one more deed is what it held, with what it received and without what
+-- left it.
 use Rattle.std.proofs.Common.{◌≡◌, ℕ, ℤ, ◌+◌, Bool, true, false, List, [], ◌∷◌, ◌++◌, Option, Some, None, cond, length, refl, sym, subst, arith}
 use Rattle.std.specs.List.{Contains}
 use Rattle.std.proofs.lemmas.List.Elements.{Contains-append_left, Contains-push}
@@ -28,7 +29,7 @@ abbrev IsKeptIf : ℕ → Deed → Option State → Type 0
 IsKeptIf had deed None = Unit {0}
 IsKeptIf had deed (Some after) = IsKept had deed after
 
--- nothing is held by a call that waits or is over
+-- A call that waits or is over holds nothing.
 holds_none : (had : ℕ) (deed : Deed) (afterwards : Afterwards) → left_by deed ≡ had + given_by deed → IsKept had deed (goes_on afterwards)
 holds_none had deed (IsRefused why) e = record { balance = omega (arith, e); at_place = tt }
 holds_none had deed (WaitsOn wait) e = record { balance = omega (arith, e); at_place = tt }
@@ -124,7 +125,7 @@ at_registry (AtUnmake id) deed reply e z = unmake_row deed reply e
 at_registry (AtForget id blocks) deed reply e z = forget_row blocks deed reply e z
 at_registry phase deed reply e z = tt
 
--- the pool gave what was asked
+-- The pool granted what was requested.
 abbrev GivesIt : PoolCall → PoolReply → Type 0
 GivesIt call reply = (size blocks : ℕ) → call ≡ Reserve size → reply ≡ Reserved blocks → blocks ≡ blocks_for size
 

@@ -1,5 +1,5 @@
--- A send or a receive that waits was refused, which one that does not wait never was as long as it is under
--- way.
+-- A send or a receive that waits was refused. One that does not wait was never refused for want of
+-- room or of a message while it is under way.
 use Rattle.std.proofs.Common.{◌≡◌, ℕ, ℤ, inl, inr, Bool, true, false, List, [], refl, ap, ◌∙◌}
 use Rattle.std.specs.List.{list_any}
 use Rattle.sysv_model.specs.declared.cred.Cred.{Cred}
@@ -18,7 +18,7 @@ use Rattle.sysv_steps.proofs.Receives.{ReceiveAt, receive_at}
 use Rattle.sysv_steps.proofs.Controls.{stat_at, set_at, removal_at}
 use Rattle.sysv_steps.proofs.Waiting.{each_waits}
 
--- what is not so where it would lead to a contradiction
+-- A test that would lead to a contradiction fails.
 denies : (b c : Bool) → b ≡ c → (b ≡ true → ⊥) → c ≡ false
 denies b true e h = absurd (h e)
 denies b false e h = refl

@@ -1,4 +1,4 @@
--- A send keeps the released count as it read it last, from its start on.
+-- From its start on, a send keeps the released count that it read last.
 use Rattle.std.proofs.Common.{◌≡◌, ℕ, ℤ, ◌+◌, Bool, true, false, List, Option, Some, None, cond, refl, subst}
 use Rattle.sysv_model.specs.declared.cred.Cred.{Cred}
 use Rattle.sysv_model.specs.declared.errno.Errno.{Errno}

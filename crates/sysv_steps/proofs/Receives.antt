@@ -1,6 +1,6 @@
--- A receive that plays to its end is answered right. As long as it is under way, no message was taken for
--- it, its identifier was not found gone, and it remembers whether it was found live; one that does not wait
--- has met no want of a message.
+-- A receive that plays to its end has a right result. While it is under way, it has taken no
+-- message, its identifier was not found gone, and it remembers whether the identifier was found
+-- live; one that does not wait has met no want of a message.
 use Rattle.std.proofs.Common.{◌≡◌, ℕ, ℤ, ◌+◌, ◌≤◌, inl, inr, Bool, true, false, List, [], ◌∷◌, ◌++◌, Some, cond, refl, sym, ap, subst, ◌∙◌, arith, take, length}
 use Rattle.std.specs.List.{list_any, flat_map}
 use Rattle.std.proofs.lemmas.Grind.{flat_map-append}
@@ -49,7 +49,7 @@ module _ (id : ℤ) (size : ℕ) (mtype : ℤ) (flags : Flags) where
     pub gone : list_any found_gone deeds ≡ false
     pub live : list_any found_live deeds ≡ receive.seen
 
-  -- where a receive stands after these deeds
+  -- What is known of a receive in this state after these deeds.
   abbrev pub ReceiveAt : List Deed → State → Type 0
   ReceiveAt deeds (Goes (AtTake receive)) = UnderWay receive deeds
   ReceiveAt deeds (Goes (AtReceiveGiveback blocks type text)) = IsRight deeds (Got type text)
@@ -203,7 +203,7 @@ module _ (id : ℤ) (size : ℕ) (mtype : ℤ) (flags : Flags) where
           only = inl (m.mtype, take size m.bytes, refl);
         }
 
-    -- one more deed at a take
+    -- One more deed at a take.
     take_step : (reply : Reply) (after : State) → next (AtTake receive) (AtSlot slot call reply) ≡ Some after → ReceiveAt (with reply) after
     take_step Gone after n = let e : Over (Refused (gone receive.seen)) ≡ after = cc in subst (ReceiveAt (with Gone)) e (gone_right receive.seen u.live)
     take_step Denied after n = let e : Over (Refused EACCES) ≡ after = cc in subst (ReceiveAt (with Denied)) e denied_right
@@ -272,7 +272,7 @@ module _ (id : ℤ) (size : ℕ) (mtype : ℤ) (flags : Flags) where
   none_gone deeds (AtReceiveGiveback blocks type text) reply after at n = absurd cc
   none_gone deeds phase reply after at n = absurd at
 
-  -- a receive that comes to a slot did not find its queue gone before
+  -- A receive that comes to a slot has not found its identifier gone before.
   pub receive_goes_on : (cred : Cred) (released : ℕ) (deeds : List Deed) (phase : Phase) (reply : Reply) (after : State) → Plays (begin cred (Msgrcv id size mtype flags) released) deeds (Goes phase) →
       next_of_slot phase reply ≡ Some after → list_any found_gone deeds ≡ false
   receive_goes_on cred released deeds phase reply after p n = none_gone deeds phase reply after (receive_at cred released deeds (Goes phase) p) n

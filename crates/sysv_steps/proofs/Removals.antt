@@ -1,5 +1,5 @@
--- A send or a receive that found its queue gone came to no slot after that, and none before it found the queue
--- gone.
+-- A send or a receive that found its identifier gone comes to no slot after that, and had not found
+-- it gone before.
 use Rattle.std.proofs.Common.{◌≡◌, ℕ, ◌⊎◌, inl, inr, ◌||◌, Bool, true, false, List, [], ◌∷◌, ◌++◌, Some, refl, sym, ap, ◌∙◌, append_assoc}
 use Rattle.std.specs.List.{list_any}
 use Rattle.std.proofs.lemmas.List.Folds.{list_any-append}
@@ -37,8 +37,8 @@ record AreLast (front rest before after : List Deed) : Type 0 where
   same : before ≡ front
   others : after ≡ rest
 
--- where the queue was not found gone before a deed, and none after that is at a slot, the deed that found it
--- gone is this one
+-- If no deed before this one found the identifier gone, and no deed after it is at a slot, it is
+-- the deed that found it gone.
 only_last : (front rest before after : List Deed) (last deed : Deed) → front ++ last ∷ rest ≡ before ++ deed ∷ after → found_gone deed ≡ true → list_any found_gone front ≡ false → list_any is_at_slot rest ≡ false →
     AreLast front rest before after
 only_last [] rest [] after last deed e t f q = let h : rest ≡ after = cc in record { same = refl; others = sym h }
@@ -57,14 +57,14 @@ live_there (AtSlot slot call reply) e = refl
 live_there (AtRegistry call reply) e = refl
 live_there (AtPool call reply) e = refl
 
--- deeds at a slot that did not find the queue gone found it live
+-- Deeds at a slot that did not find the identifier gone found it live.
 all_live : (deeds : List Deed) → list_any found_gone deeds ≡ false → list_any found_live deeds ≡ list_any is_at_slot deeds
 all_live [] e = refl
 all_live (d ∷ deeds) e =
     let both = neither (found_gone d) (list_any found_gone deeds) e in
     ap (λ (b : Bool). b || list_any found_live deeds) (live_there d both.0) ∙ ap (λ (b : Bool). is_at_slot d || b) (all_live deeds both.1)
 
--- and those that are at no slot did not
+-- Deeds that are at no slot did not find it live.
 none_live : (deeds : List Deed) → list_any is_at_slot deeds ≡ false → list_any found_live deeds ≡ false
 none_live [] e = refl
 none_live (AtSlot slot call reply ∷ deeds) e = absurd cc
@@ -73,7 +73,7 @@ none_live (AtPool call reply ∷ deeds) e = none_live deeds e
 
 -- ---- along a play
 
--- the queue was not found gone, or it was by a deed that was the last at a slot, if at all
+-- The identifier was not found gone, or the deed that found it gone was the last one at a slot.
 abbrev Ends : List Deed → Type 0
 Ends deeds =
     (list_any found_gone deeds ≡ false)
@@ -91,7 +91,7 @@ ends_still deeds deed g s (inr h) = inr (
 )
 
 module _ (cred : Cred) (asked : SystemCall) (released : ℕ) where
-  -- one that comes to a slot did not find its queue gone before
+  -- A call that comes to a slot has not found its identifier gone before.
   abbrev ComesUngone : Type 0
   ComesUngone = (deeds : List Deed) (phase : Phase) (reply : Reply) (after : State) → Plays (begin cred asked released) deeds (Goes phase) → next_of_slot phase reply ≡ Some after → list_any found_gone deeds ≡ false
 

@@ -1,6 +1,6 @@
--- A send that plays to its end is answered right. As long as it is under way, nothing of it was accepted,
--- its identifier was not found gone, and it remembers whether it was found live; one that does not wait has
--- met no want of room.
+-- A send that plays to its end has a right result. While it is under way, its body was not
+-- accepted, its identifier was not found gone, and it remembers whether the identifier was found
+-- live; one that does not wait has met no want of room.
 use Rattle.std.proofs.Common.{◌≡◌, ℕ, ℤ, ◌+◌, inl, inr, Bool, true, false, List, [], ◌∷◌, ◌++◌, Some, cond, refl, sym, subst, ◌∙◌, arith}
 use Rattle.std.specs.List.{list_any}
 use Rattle.sysv_model.specs.declared.cred.Cred.{Cred}
@@ -33,13 +33,13 @@ module _ (id mtype : ℤ) (flags : Flags) (text : List ℕ) where
     pub gone : list_any found_gone deeds ≡ false
     pub live : list_any found_live deeds ≡ send.seen
 
-  -- what it does once it has given back its chain
+  -- What is known of a send that has yet to release its chain.
   abbrev pub AfterAt : List Deed → Afterwards → Type 0
   AfterAt deeds (IsRefused why) = IsRight deeds (Refused why)
   AfterAt deeds (WaitsOn (OnFreed goal send)) = UnderWay send deeds
   AfterAt deeds (WaitsOn wait) = ⊥
 
-  -- where a send stands after these deeds
+  -- What is known of a send in this state after these deeds.
   abbrev pub SendAt : List Deed → State → Type 0
   SendAt deeds (Goes (AtLook send)) = UnderWay send deeds
   SendAt deeds (Goes (AtReserve send)) = UnderWay send deeds
@@ -65,7 +65,7 @@ module _ (id mtype : ℤ) (flags : Flags) (text : List ℕ) where
   started cred released true r = refused_at_once r
   started cred released false r = record { allowed = r; nowait = refl; accepted = refl; full = λ n. refl; denied = refl; gone = refl; live = refl }
 
-  -- a deed of which no sentence speaks
+  -- A deed about which no line of the law says anything.
   record IsQuiet (deed : Deed) : Type 0 where
     accepted : was_accepted deed ≡ false
     full : was_full deed ≡ false
@@ -281,7 +281,7 @@ module _ (id mtype : ℤ) (flags : Flags) (text : List ℕ) where
           only = inl refl;
         }
 
-    -- one more deed at a look, and at a place
+    -- One more deed at a look, and at a place.
     look_step : (reply : Reply) (after : State) → next (AtLook send) (AtSlot slot call reply) ≡ Some after → SendAt (with reply) after
     look_step Gone after n = let e : Over (Refused (gone send.seen)) ≡ after = cc in subst (SendAt (with Gone)) e (gone_right send.seen u.live)
     look_step Denied after n = let e : Over (Refused EACCES) ≡ after = cc in subst (SendAt (with Denied)) e denied_right
@@ -330,7 +330,7 @@ module _ (id mtype : ℤ) (flags : Flags) (text : List ℕ) where
   none_gone deeds (AtSendGiveback blocks afterwards) reply after at n = absurd cc
   none_gone deeds phase reply after at n = absurd at
 
-  -- a send that comes to a slot did not find its queue gone before
+  -- A send that comes to a slot has not found its identifier gone before.
   pub send_goes_on : (cred : Cred) (released : ℕ) (deeds : List Deed) (phase : Phase) (reply : Reply) (after : State) → Plays (begin cred (Msgsnd id mtype flags text) released) deeds (Goes phase) →
       next_of_slot phase reply ≡ Some after → list_any found_gone deeds ≡ false
   send_goes_on cred released deeds phase reply after p n = none_gone deeds phase reply after (send_at cred released deeds (Goes phase) p) n

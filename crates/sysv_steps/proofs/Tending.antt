@@ -1,4 +1,4 @@
--- What a call has still to settle or to forget, step by step.
+-- What a call still has to settle or to forget, step by step.
 use Rattle.std.proofs.Common.{◌≡◌, ℕ, ℤ, ◌⊎◌, inl, inr, true, false, List, [], ◌∷◌, ◌++◌, Option, Some, None, refl, sym, ap, subst, ◌∙◌}
 use Rattle.std.specs.List.{Contains}
 use Rattle.std.proofs.lemmas.List.Elements.{Contains-append_left, Contains-push}
@@ -62,7 +62,7 @@ abbrev ForgetIf : Option State → ℤ → Type 0
 ForgetIf None id = Unit {0}
 ForgetIf (Some state) id = HasToForget state id
 
--- what the registry made is to be settled
+-- An identifier that the registry made is to be settled.
 made_now : (phase : Phase) (id : ℤ) → SettleIf (next_of_registry phase (Made id)) id
 made_now (AtBegin get) id = refl
 made_now phase id = tt
@@ -71,7 +71,7 @@ removed_now : (phase : Phase) (slot : ℕ) (id : ℤ) (cred : Cred) (messages : 
 removed_now (AtRemove by at) slot id cred messages now is = let e : at ≡ id = cc in e
 removed_now phase slot id cred messages now is = tt
 
--- what was to be settled is so still, or was settled or given up by the deed
+-- An identifier that was to be settled still is, or the deed settled it or gave it up.
 abbrev SettledBy : Option State → Deed → ℤ → Type 0
 SettledBy after deed id = SettleIf after id ⊎ ((reply : RegistryReply) × (deed ≡ AtRegistry (Settle id) reply)) ⊎ ((reply : RegistryReply) × (deed ≡ AtRegistry (Forget id) reply))
 
@@ -142,7 +142,7 @@ module _ (deeds : List Deed) (phase : Phase) (deed : Deed) (now : ℕ) (next_sta
         removed_more before after slot cred messages id (split_more deeds deed before (AtSlot slot (Remove id cred) (Discarded messages)) after e);
   }
 
--- nothing is to be done at the registry where a wait has just ended, nor was in the wait
+-- A call whose wait has just ended has nothing to do at the registry, nor had it in the wait.
 after_wait : (deeds : List Deed) (wait : Wait) (state : State) → IsTended deeds (Waits wait) → IsTended deeds state
 after_wait deeds wait state t = record {
   made = λ before after call id e. elim (t.made before after call id e) [ inl h ↦ absurd h | inr d ↦ inr d ];

@@ -1,4 +1,4 @@
--- A call comes to wait by a refusal alone: by its last deed, or at a probe by its last two.
+-- A call comes to wait only by a refusal: by its last deed, or after a probe by its last two.
 use Rattle.std.proofs.Common.{◌≡◌, ℕ, ℤ, ◌+◌, inl, inr, Bool, true, false, List, [], ◌∷◌, ◌++◌, Option, Some, None, cond, length, refl, ap, subst, ◌∙◌, append_assoc}
 use Rattle.sysv_model.specs.declared.cred.Cred.{Cred}
 use Rattle.sysv_model.specs.declared.errno.Errno.{Errno}
@@ -19,13 +19,13 @@ use Rattle.sysv_steps.specs.WaitsFor.{EndsWith, IsLastAtSlot, WasFull, WaitsFor}
 use Rattle.sysv_steps.specs.Answers.{is_at_slot}
 use Rattle.sysv_steps.proofs.Among.{kept}
 
--- a send that gives back its chain waits for room then, if at all
+-- A send that releases its chain waits for room after that, if it waits at all.
 abbrev LatelyAfter : List Deed → Afterwards → Type 0
 LatelyAfter deeds (IsRefused why) = Unit {0}
 LatelyAfter deeds (WaitsOn (OnFreed goal send)) = WaitsFor (OnFreed goal send) deeds
 LatelyAfter deeds (WaitsOn wait) = ⊥
 
--- what the last deeds were where a call waits, and where it probes
+-- The last deeds of a call that waits or is before a probe.
 abbrev Lately : List Deed → State → Type 0
 Lately deeds (Goes (AtProbe get id settled)) = EndsWith (AtRegistry (Begin get.key get.flags) (Found id settled) ∷ []) deeds
 Lately deeds (Goes (AtSendGiveback blocks afterwards)) = LatelyAfter deeds afterwards
@@ -94,7 +94,7 @@ reserve_step deeds send TooFew =
     waits_so (deeds ++ AtPool (Reserve (length send.text)) TooFew ∷ []) send.nowait (OnReleased (send.released + 1) send) EAGAIN (refl, (deeds, refl))
 reserve_step deeds send reply = tt
 
--- what was the last deed at a slot is so still after a deed at the pool
+-- The last deed at a slot still is the last one at a slot after a deed at the pool.
 last_still : (deed : Deed) (deeds : List Deed) (call : PoolCall) (reply : PoolReply) → IsLastAtSlot deed deeds → IsLastAtSlot deed (deeds ++ AtPool call reply ∷ [])
 last_still deed deeds call reply h = (
   h.0,
@@ -144,7 +144,7 @@ forget_step : (deeds : List Deed) (blocks : ℕ) (reply : RegistryReply) → Lat
 forget_step deeds blocks (Changed done) = tt
 forget_step deeds blocks reply = tt
 
--- the deed, by what the call asks there
+-- The deed, by the request of the call at its step.
 at_slot : (phase : Phase) (deeds : List Deed) (slot : ℕ) (call : Call) (reply : Reply) (now : ℕ) → Lately deeds (Goes phase) → OfSlot slot call ≡ asks phase now →
     LatelyIf (deeds ++ AtSlot slot call reply ∷ []) (next_of_slot phase reply)
 at_slot (AtInstall get id) deeds slot call reply now h is = install_step (deeds ++ AtSlot slot call reply ∷ []) id reply

@@ -1,4 +1,5 @@
--- What a call asks at a step, and of which object (this profile's). The moment is that of the step.
+-- What a call requests at a step, and of which object (this project's profile). The time in a
+-- request is that of the step.
 use Rattle.std.specs.Prelude.{ℕ, length}
 use Rattle.sysv_model.specs.History.{Install, Probe, Look, Place, Take, ReadStat, Set, Remove}
 use Rattle.sysv_model.specs.Registry.{Begin, Settle, Forget}
@@ -7,6 +8,7 @@ use Rattle.sysv_model.specs.Turn.{Ask, OfSlot, OfRegistry, OfPool}
 use Rattle.sysv_keys.specs.Identifier.{slot_of_id}
 use Rattle.sysv_steps.specs.State.{Phase, AtBegin, AtInstall, AtSettle, AtProbe, AtUnmake, AtLook, AtReserve, AtPlace, AtSendGiveback, AtTake, AtReceiveGiveback, AtStat, AtSet, AtSetGiveback, AtRemove, AtForget, AtRemoveGiveback}
 
+-- The request of a call at this step, made at the time `now`.
 abbrev pub asks : Phase → ℕ → Ask
 asks (AtBegin get) now = OfRegistry (Begin get.key get.flags)
 asks (AtInstall get id) now = OfSlot (slot_of_id id) (Install id get.key get.cred get.flags.0 now)

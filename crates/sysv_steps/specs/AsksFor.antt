@@ -1,6 +1,7 @@
--- What a call asks of the objects (this profile's): what its arguments name, under its credentials, and
--- nothing else. The moment of a turn is that of the step, and the identifier that a msgget made or found,
--- and the blocks of a chain that comes back, are what an earlier reply gave.
+-- What a call may request of the objects (this project's profile): what its arguments name, under
+-- its credentials, and nothing else. Three parts of a request are not arguments: the time of the
+-- turn, the identifier that a msgget made or found, and the number of blocks of a chain that is
+-- released.
 use Rattle.std.specs.Prelude.{◌≡◌, ℕ, ℤ, ◌⊎◌, List, length, All}
 use Rattle.sysv_model.specs.declared.cred.Cred.{Cred}
 use Rattle.sysv_model.specs.declared.flags.TheConstants.Flags.{MSG_NOERROR}
@@ -16,10 +17,11 @@ use Rattle.sysv_steps.specs.State.{State}
 use Rattle.sysv_steps.specs.Begin.{begin}
 use Rattle.sysv_steps.specs.Played.{Plays}
 
--- blocks come back to the pool
+-- The request returns a chain of any number of blocks to the pool.
 abbrev pub GivesBack : Ask → Type 0
 GivesBack ask = (blocks : ℕ) × (ask ≡ OfPool (Release blocks))
 
+-- The call, under these credentials, may make this request.
 abbrev pub AsksFor : Cred → SystemCall → Ask → Type 0
 AsksFor cred (Msgget key flags) ask =
     (ask ≡ OfRegistry (Begin key flags))
@@ -39,11 +41,11 @@ AsksFor cred (MsgctlStat id) ask = ask ≡ OfSlot (slot_of_id id) (ReadStat id c
 AsksFor cred (MsgctlSet id to) ask = ((now : ℕ) × (ask ≡ OfSlot (slot_of_id id) (Set id cred to now))) ⊎ GivesBack ask
 AsksFor cred (MsgctlRmid id) ask = (ask ≡ OfSlot (slot_of_id id) (Remove id cred)) ⊎ (ask ≡ OfRegistry (Forget id)) ⊎ GivesBack ask
 
--- each deed of the call asks for that
+-- The call may make the request of each of these deeds.
 abbrev pub AllAskFor : Cred → SystemCall → List Deed → Type 0
 AllAskFor cred asked deeds = All (λ (deed : Deed). AsksFor cred asked (asked_by deed)) deeds
 
--- a call asks for nothing else, however far it has come
+-- Each deed of a call makes such a request, in every state of the call.
 abbrev pub EachDeedIsAskedFor : Type 0
 EachDeedIsAskedFor = (cred : Cred) (asked : SystemCall) (released : ℕ) (deeds : List Deed) (state : State) →
     Plays (begin cred asked released) deeds state → AllAskFor cred asked deeds

@@ -1,6 +1,6 @@
--- The start of a call. One whose own arguments are refused ends at once with EINVAL (POSIX.1-2017,
--- msgsnd and msgrcv, ERRORS), and any other goes to its first step. A send reads the released count at
--- its start.
+-- The start of a call. A call whose own arguments are refused fails at once with EINVAL
+-- (POSIX.1-2017, msgsnd and msgrcv, ERRORS). Any other call goes to its first step. A send reads
+-- the released count at its start.
 use Rattle.std.specs.Prelude.{ℕ, pos, ◌||◌, Bool, false, length, int_lt, nat_lt, if◌then◌else◌}
 use Rattle.sysv_model.specs.declared.cred.Cred.{Cred}
 use Rattle.sysv_model.specs.declared.errno.Errno.TheVariants.{EINVAL}
@@ -11,7 +11,8 @@ use Rattle.sysv_model.specs.Selector.{selector_for}
 use Rattle.sysv_steps.specs.Call.{SystemCall, Msgget, Msgsnd, Msgrcv, MsgctlStat, MsgctlSet, MsgctlRmid}
 use Rattle.sysv_steps.specs.State.{Phase, AtBegin, AtLook, AtTake, AtStat, AtSet, AtRemove, State, Goes, Over, Refused}
 
--- a type below 1, a text of more than 8,192 bytes, an identifier below 0
+-- The call's own arguments are refused: a type below 1, a body of more than 8,192 bytes, or an
+-- identifier below 0. Those of a msgget never are.
 abbrev pub is_refused : SystemCall → Bool
 is_refused (Msgget key flags) = false
 is_refused (Msgsnd id mtype flags text) = int_lt mtype (pos 1) || nat_lt MESSAGE_BYTES (length text) || int_lt id (pos 0)
@@ -20,7 +21,7 @@ is_refused (MsgctlStat id) = int_lt id (pos 0)
 is_refused (MsgctlSet id to) = int_lt id (pos 0)
 is_refused (MsgctlRmid id) = int_lt id (pos 0)
 
--- the first step
+-- The first step of a call.
 abbrev pub first : Cred → SystemCall → ℕ → Phase
 first cred (Msgget key flags) released = AtBegin record { cred = cred; key = key; flags = flags }
 first cred (Msgsnd id mtype flags text) released =
@@ -39,6 +40,6 @@ first cred (MsgctlStat id) released = AtStat cred id
 first cred (MsgctlSet id to) released = AtSet cred id to
 first cred (MsgctlRmid id) released = AtRemove cred id
 
--- where a call stands once it was started
+-- The state of a call at its start.
 abbrev pub begin : Cred → SystemCall → ℕ → State
 begin cred call released = if is_refused call then Over (Refused EINVAL) else Goes (first cred call released)

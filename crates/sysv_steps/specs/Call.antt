@@ -1,5 +1,5 @@
--- The calls of System V message queues, with their arguments (POSIX.1-2017, msgget, msgsnd, msgrcv and
--- msgctl; the last with its three commands).
+-- The System V message queue calls, with their arguments (POSIX.1-2017, msgget, msgsnd, msgrcv and
+-- msgctl; msgctl has its three commands).
 use Rattle.std.specs.Prelude.{ℕ, ℤ, List}
 use Rattle.sysv_model.specs.declared.flags.Flags.{Flags}
 use Rattle.sysv_model.specs.declared.attributes.SetTo.{SetTo}

@@ -1,6 +1,7 @@
--- The blocks that a call holds (this profile's): it neither makes nor loses one. Those that it was given, by
--- the pool or with what it took from a queue or removed with it, went onto a queue or back to the pool, or it
--- holds them still. A send that comes to its place holds as many as its text takes.
+-- The blocks that a call holds (this project's profile). A call neither makes nor loses a block:
+-- each block that it received, from the pool, with a message that it took or with messages that it
+-- removed, is on a queue, is back at the pool, or is still held. A send before its place holds the
+-- number of blocks that its body needs.
 use Rattle.std.specs.Prelude.{◌≡◌, ℕ, ◌+◌, List, [], ◌∷◌, Some, length, sum_by, Contains}
 use Rattle.sysv_model.specs.declared.cred.Cred.{Cred}
 use Rattle.sysv_model.specs.History.{Call, Place, Accepted, Taken, Discarded}
@@ -14,7 +15,7 @@ use Rattle.sysv_steps.specs.Asks.{asks}
 use Rattle.sysv_steps.specs.Next.{next}
 use Rattle.sysv_steps.specs.Played.{Plays}
 
--- the blocks that a call holds where it stands
+-- The number of blocks that a call holds in this state.
 abbrev pub held : State → ℕ
 held (Goes (AtPlace send blocks)) = blocks
 held (Goes (AtSendGiveback blocks afterwards)) = blocks
@@ -23,47 +24,53 @@ held (Goes (AtForget id blocks)) = blocks
 held (Goes (AtRemoveGiveback blocks)) = blocks
 held state = 0
 
--- the blocks that a deed gave the call
+-- The number of blocks that the call received by this deed.
 abbrev pub given_by : Deed → ℕ
 given_by (AtPool call (Reserved blocks)) = blocks
 given_by (AtSlot slot call (Taken message)) = blocks_for (length message.bytes)
 given_by (AtSlot slot call (Discarded messages)) = blocks_of messages
 given_by deed = 0
 
--- the blocks of the text that was to be placed, and of the chain that was to be released
+-- The number of blocks of the body that the request places.
 abbrev pub placed_by : Call → ℕ
 placed_by (Place id cred mtype text now) = blocks_for (length text)
 placed_by call = 0
 
+-- The number of blocks of the chain that the request releases.
 abbrev pub released_by : PoolCall → ℕ
 released_by (Release blocks) = blocks
 released_by (Reserve size) = 0
 
--- the blocks that left the call by a deed
+-- The number of blocks that left the call by this deed.
 abbrev pub left_by : Deed → ℕ
 left_by (AtSlot slot call (Accepted number)) = placed_by call
 left_by (AtPool call Released) = released_by call
 left_by (AtPool call Foreign) = released_by call
 left_by deed = 0
 
--- a send before its place holds the blocks that its text takes
+-- A send before its place holds the number of blocks that its body needs.
 abbrev pub HasItsBlocks : State → Type 0
 HasItsBlocks (Goes (AtPlace send blocks)) = blocks ≡ blocks_for (length send.text)
 HasItsBlocks state = Unit {0}
 
--- the pool gives as many blocks as a text takes, where it gives any
+-- Each reservation that the pool grants has the number of blocks that a body of the requested size
+-- needs.
 abbrev pub GivesWhatIsAsked : List Deed → Type 0
 GivesWhatIsAsked deeds = (size blocks : ℕ) → Contains deeds (AtPool (Reserve size) (Reserved blocks)) → blocks ≡ blocks_for size
 
+-- What the call holds and what left it are what it received, and a send before its place has its
+-- blocks.
 pub record HoldsItsBlocks (deeds : List Deed) (state : State) : Type 0 where
   pub balance : held state + sum_by left_by deeds ≡ sum_by given_by deeds
   pub at_place : HasItsBlocks state
 
+-- This holds in each state to which a call plays, if the pool grants what is requested.
 abbrev pub EachHoldsItsBlocks : Type 0
 EachHoldsItsBlocks = (cred : Cred) (asked : SystemCall) (released : ℕ) (deeds : List Deed) (state : State) →
     Plays (begin cred asked released) deeds state → GivesWhatIsAsked deeds → HoldsItsBlocks deeds state
 
--- and at each step: what it held and was given is what left it and what it holds then
+-- It also holds at each step: what the call held before and received is what left it and what it
+-- holds afterwards.
 abbrev pub EachStepKeepsItsBlocks : Type 0
 EachStepKeepsItsBlocks = (phase : Phase) (deed : Deed) (now : ℕ) (after : State) → HasItsBlocks (Goes phase) → GivesWhatIsAsked (deed ∷ []) →
     asked_by deed ≡ asks phase now → next phase deed ≡ Some after → held after + left_by deed ≡ held (Goes phase) + given_by deed

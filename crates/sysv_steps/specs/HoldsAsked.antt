@@ -1,5 +1,5 @@
--- What a call holds of what it was asked (this profile's): wherever it stands it has the credentials and the
--- arguments that it began with. Nothing that it did since has changed them.
+-- What a call holds of its arguments (this project's profile): before each step and in each wait,
+-- the credentials and arguments that it holds are those with which it began.
 use Rattle.std.specs.Prelude.{◌≡◌, ℕ, ℤ, List}
 use Rattle.sysv_model.specs.declared.cred.Cred.{Cred}
 use Rattle.sysv_model.specs.declared.flags.Flags.{Flags}
@@ -12,15 +12,18 @@ use Rattle.sysv_steps.specs.State.{Getting, Sending, Receiving, Wait, OnSettled,
 use Rattle.sysv_steps.specs.Begin.{begin}
 use Rattle.sysv_steps.specs.Played.{Plays}
 
+-- The msgget holds these credentials, this key and these flags.
 pub record IsGet (cred : Cred) (key : ℤ) (flags : Flags) (get : Getting) : Type 0 where
   pub is : get ≡ record { cred = cred; key = key; flags = flags }
 
+-- The send holds these credentials, this identifier, this type and this body.
 pub record IsSend (by : Cred) (at type : ℤ) (bytes : List ℕ) (send : Sending) : Type 0 where
   pub cred : send.cred ≡ by
   pub id : send.id ≡ at
   pub mtype : send.mtype ≡ type
   pub text : send.text ≡ bytes
 
+-- The receive holds these credentials and this identifier, selector, size and MSG_NOERROR.
 pub record IsReceive (by : Cred) (at : ℤ) (wanted : ℕ) (type : ℤ) (flags : Flags) (receive : Receiving) : Type 0 where
   pub cred : receive.cred ≡ by
   pub id : receive.id ≡ at
@@ -28,7 +31,7 @@ pub record IsReceive (by : Cred) (at : ℤ) (wanted : ℕ) (type : ℤ) (flags :
   pub size : receive.size ≡ wanted
   pub noerror : receive.noerror ≡ has_flag MSG_NOERROR flags
 
--- in a wait; no call but these waits, nor for another count
+-- What a call holds in a wait. No other call is in such a wait.
 abbrev pub WaitHolds : Cred → SystemCall → Wait → Type 0
 WaitHolds cred (Msgget key flags) (OnSettled goal get) = IsGet cred key flags get
 WaitHolds cred (Msgsnd id mtype flags text) (OnFreed goal send) = IsSend cred id mtype text send
@@ -36,11 +39,12 @@ WaitHolds cred (Msgsnd id mtype flags text) (OnReleased goal send) = IsSend cred
 WaitHolds cred (Msgrcv id size mtype flags) (OnArrived goal receive) = IsReceive cred id size mtype flags receive
 WaitHolds cred asked wait = ⊥
 
+-- What a send holds for the time after it has released its chain.
 abbrev pub AfterwardsHolds : Cred → SystemCall → Afterwards → Type 0
 AfterwardsHolds cred asked (IsRefused why) = Unit {0}
 AfterwardsHolds cred asked (WaitsOn wait) = WaitHolds cred asked wait
 
--- before a step; no call but this one comes to it
+-- What a call holds before a step. No other call is before such a step.
 abbrev pub PhaseHolds : Cred → SystemCall → Phase → Type 0
 PhaseHolds cred (Msgget key flags) (AtBegin get) = IsGet cred key flags get
 PhaseHolds cred (Msgget key flags) (AtInstall get id) = IsGet cred key flags get
@@ -61,11 +65,13 @@ PhaseHolds cred (MsgctlRmid id) (AtForget at blocks) = at ≡ id
 PhaseHolds cred (MsgctlRmid id) (AtRemoveGiveback blocks) = Unit {0}
 PhaseHolds cred asked phase = ⊥
 
+-- What a call holds in this state. A call that is over holds nothing.
 abbrev pub Holds : Cred → SystemCall → State → Type 0
 Holds cred asked (Goes phase) = PhaseHolds cred asked phase
 Holds cred asked (Waits wait) = WaitHolds cred asked wait
 Holds cred asked (Over ending) = Unit {0}
 
+-- This holds in each state to which a call plays.
 abbrev pub EachHoldsWhatItWasAsked : Type 0
 EachHoldsWhatItWasAsked = (cred : Cred) (asked : SystemCall) (released : ℕ) (deeds : List Deed) (state : State) →
     Plays (begin cred asked released) deeds state → Holds cred asked state

@@ -1,6 +1,6 @@
--- Which calls wait (POSIX.1-2017, msgsnd and msgrcv, DESCRIPTION, of IPC_NOWAIT; that a msgget waits while
--- another makes the queue of its key is this profile's): a send or a receive that does not say IPC_NOWAIT, and
--- a msgget. A msgctl never does.
+-- Which calls may wait: a send or a receive without IPC_NOWAIT (POSIX.1-2017, msgsnd and msgrcv,
+-- DESCRIPTION), and a msgget, which waits while another call makes the queue of its key (this
+-- project's profile). A msgctl never waits.
 use Rattle.std.specs.Prelude.{◌≡◌, ℕ, false, List}
 use Rattle.sysv_model.specs.declared.cred.Cred.{Cred}
 use Rattle.sysv_model.specs.Turn.{Deed}
@@ -10,6 +10,7 @@ use Rattle.sysv_steps.specs.Begin.{begin}
 use Rattle.sysv_steps.specs.Played.{Plays}
 use Rattle.sysv_steps.specs.Answers.{does_not_wait}
 
+-- The call may wait.
 abbrev pub MayWait : SystemCall → Type 0
 MayWait (Msgget key flags) = Unit {0}
 MayWait (Msgsnd id mtype flags text) = does_not_wait flags ≡ false
@@ -18,6 +19,7 @@ MayWait (MsgctlStat id) = ⊥
 MayWait (MsgctlSet id to) = ⊥
 MayWait (MsgctlRmid id) = ⊥
 
+-- Each call that plays to a wait may wait.
 abbrev pub EachWaitsWhereItMay : Type 0
 EachWaitsWhereItMay = (cred : Cred) (asked : SystemCall) (released : ℕ) (deeds : List Deed) (wait : Wait) →
     Plays (begin cred asked released) deeds (Waits wait) → MayWait asked

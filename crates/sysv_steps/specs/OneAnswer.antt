@@ -1,5 +1,6 @@
--- A call's answer is decided by what it asked, under which credentials, and by its own deeds: when it
--- started, and how long it waited for a count, change nothing (this profile's).
+-- A call's result is decided by its arguments, its credentials and its own deeds. The time at which
+-- it started and the values of the counts that ended its waits change nothing (this project's
+-- profile).
 use Rattle.std.specs.Prelude.{◌≡◌, ℕ, List}
 use Rattle.sysv_model.specs.declared.cred.Cred.{Cred}
 use Rattle.sysv_model.specs.Turn.{Deed}

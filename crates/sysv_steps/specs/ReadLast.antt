@@ -1,6 +1,6 @@
--- Above which value of the released count a send waits for blocks (this profile's): above the one that it read
--- last, at its start or at the end of a wait for blocks. So what was released since, while it looked or waited
--- for room, ends the wait.
+-- The value of the released count above which a send waits for blocks (this project's profile): the
+-- one that it read last, at its start or at the end of a wait for blocks. So a release in the
+-- meantime, while the send looked or waited for room, ends the wait.
 use Rattle.std.specs.Prelude.{◌≡◌, ℕ, ◌+◌, List}
 use Rattle.sysv_model.specs.declared.cred.Cred.{Cred}
 use Rattle.sysv_model.specs.Turn.{Deed}
@@ -9,17 +9,18 @@ use Rattle.sysv_steps.specs.State.{Sending, Wait, OnReleased, State, Goes, Waits
 use Rattle.sysv_steps.specs.Begin.{begin}
 use Rattle.sysv_steps.specs.Played.{Plays, begins, steps, resumes}
 
--- the end of a wait for blocks reads the count, and that of no other wait does
+-- The end of a wait for blocks reads the count. The end of any other wait does not.
 abbrev pub read_then : Wait → ℕ → ℕ → ℕ
 read_then (OnReleased goal send) value before = value
 read_then wait value before = before
 
--- the value that was read last along a play, which began with this one
+-- The value that was read last along a play, if the call read `began` at its start.
 abbrev pub read_last : (began : ℕ) (from : State) (deeds : List Deed) (state : State) → Plays from deeds state → ℕ
 read_last began from _ _ begins = began
 read_last began from _ _ (steps {deeds} {phase} deed now after play asked row) = read_last began from deeds (Goes phase) play
 read_last began from _ _ (resumes {deeds} {wait} value play least) = read_then wait value (read_last began from deeds (Waits wait) play)
 
+-- The goal of each wait for blocks is one more than that value.
 abbrev pub EachWaitsAboveWhatItRead : Type 0
 EachWaitsAboveWhatItRead = (cred : Cred) (asked : SystemCall) (released : ℕ) (deeds : List Deed) (goal : ℕ) (send : Sending) →
     (play : Plays (begin cred asked released) deeds (Waits (OnReleased goal send))) →

@@ -1,6 +1,7 @@
--- What the laws of a call admit and refuse, at five calls by one caller: a msgget that waits for another to
--- settle its key and then makes the queue, one that wants a new queue and finds one, a receive whose queue is
--- removed while it waits, a send to a full queue that does not wait and one that does, and a removal.
+-- What the laws of a call admit and refuse, at six calls by one caller: a msgget that waits until
+-- another call has settled its key and then makes the queue; a msgget that requires a new queue and
+-- finds one; a receive whose queue is removed while it waits; two sends to a full queue, one of
+-- which waits; and a removal.
 use Rattle.std.specs.Prelude.{pos, true, false, List, [], ◌∷◌}
 use Rattle.sysv_model.specs.declared.cred.Cred.{Cred}
 use Rattle.sysv_model.specs.declared.errno.Errno.TheVariants.{EACCES, EAGAIN, EEXIST, EIDRM, EINVAL, ENOSPC}
@@ -22,15 +23,16 @@ use Rattle.sysv_steps.specs.Tended.{IsTended}
 abbrev pub caller : Cred
 caller = record { uid = 1000; gid = 1000; pid = 101 }
 
--- the call of the caller plays these deeds to there, and to this end
+-- The call of this caller plays these deeds to this state.
 abbrev pub PlaysTo : SystemCall → List Deed → State → Type 0
 PlaysTo asked deeds state = Plays (begin caller asked 0) deeds state
 
+-- The call of this caller plays these deeds to this end.
 abbrev pub EndsIn : SystemCall → List Deed → Ending → Type 0
 EndsIn asked deeds ending = PlaysTo asked deeds (Over ending)
 
--- another call is making the queue of key 7; once four changes have become five, identifier 259 is made for
--- this one, in slot 3
+-- Another call is making the queue of key 7, and the settled count is 4. Later the registry makes
+-- identifier 259 for this call, in slot 3.
 abbrev pub makes : SystemCall
 makes = Msgget (pos 7) IPC_CREAT
 
@@ -52,7 +54,7 @@ is_made = finds_it_busy ∷ is_given_one ∷ installs ∷ settles ∷ []
 abbrev pub making : Getting
 making = record { cred = caller; key = pos 7; flags = IPC_CREAT }
 
--- with IPC_CREAT and IPC_EXCL, and the caller may not use the queue that is there
+-- The flags are IPC_CREAT and IPC_EXCL, and the caller has no permission for the queue that exists.
 abbrev pub new_alone : Flags
 new_alone = record { 0 = 1536 }
 
@@ -68,7 +70,7 @@ is_denied = AtSlot 3 (Probe (pos 259) caller new_alone) Denied
 abbrev pub is_there : List Deed
 is_there = finds_one ∷ is_denied ∷ []
 
--- no message waits, two have arrived, and the queue is removed
+-- No message is queued, two have arrived, and then the queue is removed.
 abbrev pub receives : SystemCall
 receives = Msgrcv (pos 259) 9 (pos 0) MSG_NOERROR
 
@@ -81,14 +83,15 @@ finds_it_gone = AtSlot 3 (Take (pos 259) caller Any 9 true 91) Gone
 abbrev pub waiting : Receiving
 waiting = record { cred = caller; id = pos 259; selector = Any; size = 9; noerror = true; nowait = false; seen = true }
 
--- a text of one byte, and no room
+-- A body of one byte, and no room for it.
 abbrev pub sends : Flags → SystemCall
 sends flags = Msgsnd (pos 259) (pos 5) flags (104 ∷ [])
 
 abbrev pub finds_it_full : Deed
 finds_it_full = AtSlot 3 (Look (pos 259) caller 1) (Full 6)
 
--- one message of one byte is discarded, then the identifier goes, and then its block comes back
+-- One message of one byte is discarded, then the identifier is forgotten, and then its block is
+-- released.
 abbrev pub removes : SystemCall
 removes = MsgctlRmid (pos 259)
 
@@ -101,27 +104,29 @@ forgets = AtRegistry (Forget (pos 259)) (Changed true)
 abbrev pub releases : Deed
 releases = AtPool (Release 1) Released
 
+-- What these calls can end with, and what they cannot.
 pub record WorkedPlays : Type 0 where
-  -- the identifier that was made, no other, and no error
+  -- The msgget returns the identifier that was made, no other one, and no error.
   pub made : EndsIn makes is_made (Id (pos 259))
   pub made_another : ¬ EndsIn makes is_made (Id (pos 3))
   pub made_none : ¬ EndsIn makes is_made (Refused ENOSPC)
-  -- a queue that is there is not new, whoever may use it
+  -- A queue that exists is not new, whether or not permission is granted.
   pub exists : EndsIn wants_a_new_one is_there (Refused EEXIST)
   pub exists_denied : ¬ EndsIn wants_a_new_one is_there (Refused EACCES)
-  -- a retry after the removal says so
+  -- A retry after the removal reports it.
   pub removed : EndsIn receives (finds_none ∷ finds_it_gone ∷ []) (Refused EIDRM)
   pub removed_invalid : ¬ EndsIn receives (finds_none ∷ finds_it_gone ∷ []) (Refused EINVAL)
   pub removed_told : IsToldOfRemoval (finds_none ∷ []) [] (Refused EIDRM)
   pub removed_untold : ¬ IsToldOfRemoval (finds_none ∷ []) [] (Refused EINVAL)
-  -- it waited for the third arrival, and for no later one
+  -- The receive waits for the third arrival, and for no later one.
   pub waits : PlaysTo receives (finds_none ∷ []) (Waits (OnArrived 3 waiting))
   pub waits_longer : ¬ WaitsFor (OnArrived 4 waiting) (finds_none ∷ [])
-  -- a full queue is EAGAIN for a send that does not wait, and for no other
+  -- A full queue means EAGAIN for a send that does not wait, and for no other send.
   pub full : EndsIn (sends IPC_NOWAIT) (finds_it_full ∷ []) (Refused EAGAIN)
   pub full_sent : ¬ EndsIn (sends IPC_NOWAIT) (finds_it_full ∷ []) Zero
   pub full_waits : ¬ EndsIn (sends IPC_CREAT) (finds_it_full ∷ []) (Refused EAGAIN)
-  -- a removal is over once its identifier has gone and its block is back, and not before
+  -- A removal is over after its identifier was forgotten and its block was released, and not
+  -- before.
   pub gone : EndsIn removes (discards ∷ forgets ∷ releases ∷ []) Zero
   pub gone_early : ¬ EndsIn removes (discards ∷ []) Zero
   pub tended : IsTended (discards ∷ []) (Goes (AtForget (pos 259) 1))

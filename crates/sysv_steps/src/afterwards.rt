@@ -8,17 +8,18 @@ use crate::state::State;
 use crate::wait::Wait;
 use sysv_model::Errno;
 
-/// What a send does that could not go on, once it has given back what it holds.
+/// What a refused send does after it has released its chain.
 #[derive(Clone, Copy, PartialEq, Eq)]
 pub enum Afterwards {
-    /// It is refused with this error.
+    /// It fails with this error.
     Refused(Errno),
     /// It waits.
     Waits(Wait),
 }
 
 impl Afterwards {
-    /// Where the send stands after its chain was released, or was refused by the pool as that of another.
+    /// Returns the state of the send after its chain was released, or was refused by the pool as
+    /// foreign.
     pub fn given_back(self) -> State
         ensures { (text : List ℕ) (done : Result ⊤ Chained) →
             follows_giveback (goes_on (afterwards_of self text)) (release_reply done)
@@ -27,7 +28,7 @@ impl Afterwards {
         self.goes_on()
     }
 
-    /// Where a send stands that holds nothing.
+    /// Returns the state of a send that holds no chain.
     pub(crate) fn goes_on(self) -> State
         ensures { (text : List ℕ) → goes_on (afterwards_of self text) ≡ state_of result text }
     {

@@ -1,4 +1,4 @@
-//! The steps of `msgctl` (POSIX.1-2017), one group for each of its three commands.
+//! The steps of `msgctl` (POSIX.1-2017), in one group for each of its three commands.
 
 ghost use Rattle.std.specs.Prelude.{◌≡◌, ℕ, Bool, List, Some, Result, IfOk, ⊤};
 ghost use Rattle.sysv_model.specs.Message.{Message};
@@ -19,8 +19,8 @@ use sysv_model::{Cred, Errno, SetTo, Stat};
 use sysv_pool::Chain;
 use sysv_queue::Discarded;
 
-/// The start of IPC_STAT. It is refused with EINVAL where the identifier is negative (POSIX.1-2017,
-/// `msgctl`, ERRORS), and else goes to its step.
+/// Returns the state of an IPC_STAT at its start. It fails with EINVAL if `id` is negative
+/// (POSIX.1-2017, `msgctl`, ERRORS). Otherwise it is before the read of the attributes.
 pub fn begin_stat(cred: Cred, id: i32) -> State
     ensures { (text : List ℕ) (released : ℕ) →
         begins cred (MsgctlStat id) released ≡ state_of result text }
@@ -31,8 +31,8 @@ pub fn begin_stat(cred: Cred, id: i32) -> State
     State::Goes(Phase::Stat { cred, id })
 }
 
-/// The start of IPC_SET to these values. It is refused with EINVAL where the identifier is negative
-/// (POSIX.1-2017, `msgctl`, ERRORS), and else goes to its step.
+/// Returns the state of an IPC_SET to the values `to` at its start. It fails with EINVAL if `id` is
+/// negative (POSIX.1-2017, `msgctl`, ERRORS). Otherwise it is before the change of the queue.
 pub fn begin_set(cred: Cred, id: i32, to: SetTo) -> State
     ensures { (text : List ℕ) (released : ℕ) →
         begins cred (MsgctlSet id to) released ≡ state_of result text }
@@ -43,8 +43,8 @@ pub fn begin_set(cred: Cred, id: i32, to: SetTo) -> State
     State::Goes(Phase::Set { cred, id, to })
 }
 
-/// The start of IPC_RMID. It is refused with EINVAL where the identifier is negative (POSIX.1-2017,
-/// `msgctl`, ERRORS), and else goes to its removal.
+/// Returns the state of an IPC_RMID at its start. It fails with EINVAL if `id` is negative
+/// (POSIX.1-2017, `msgctl`, ERRORS). Otherwise it is before the removal.
 pub fn begin_remove(cred: Cred, id: i32) -> State
     ensures { (text : List ℕ) (released : ℕ) →
         begins cred (MsgctlRmid id) released ≡ state_of result text }
@@ -55,8 +55,8 @@ pub fn begin_remove(cred: Cred, id: i32) -> State
     State::Goes(Phase::Remove { cred, id })
 }
 
-/// Where IPC_STAT stands after the queue told its attributes, or refused with EINVAL or EACCES: at its end
-/// with what it was told (POSIX.1-2017, `msgctl`, ERRORS).
+/// Returns the state of an IPC_STAT after the slot replied: over, with the attributes or with the
+/// error that the slot reported (EINVAL or EACCES; POSIX.1-2017, `msgctl`, ERRORS).
 pub fn stat_told(told: Result<Stat, Errno>) -> State
     ensures { (text : List ℕ) → follows_stat (stat_reply told) ≡ Some (state_of result text) }
 {
@@ -66,8 +66,9 @@ pub fn stat_told(told: Result<Stat, Errno>) -> State
     }
 }
 
-/// Where IPC_SET stands after the queue was changed: it goes on to release a chain of no blocks. Where the
-/// queue refused with EINVAL or EPERM it is at its end (POSIX.1-2017, `msgctl`, ERRORS).
+/// Returns the state of an IPC_SET after the slot replied. If the queue was changed, the call then
+/// releases a chain of no blocks. If the slot refused with EINVAL or EPERM, the call is over with
+/// that error (POSIX.1-2017, `msgctl`, ERRORS).
 pub fn set_done(done: Result<(), Errno>) -> State
     ensures { (text : List ℕ) → follows_set (set_reply done) ≡ Some (state_of result text) }
 {
@@ -77,9 +78,10 @@ pub fn set_done(done: Result<(), Errno>) -> State
     }
 }
 
-/// Where IPC_RMID stands after the queue under this identifier, from 0, was removed with whatever waited
-/// on it: it goes on to forget the identifier, and holds the blocks of what was discarded. Where the queue
-/// refused with EINVAL or EPERM it is at its end (POSIX.1-2017, `msgctl`, ERRORS).
+/// Returns the state of an IPC_RMID after the slot replied. If the queue of `id` was removed with
+/// its queued messages, the call then forgets the identifier, and holds the blocks of the discarded
+/// messages. If the slot refused with EINVAL or EPERM, the call is over with that error
+/// (POSIX.1-2017, `msgctl`, ERRORS).
 pub fn removed(id: i32, done: Result<Discarded, Errno>) -> State
     ensures { (text : List ℕ) (messages : List Message) →
         IfOk done (λ discarded. discarded ≡ blocks_of messages) →
@@ -94,8 +96,8 @@ pub fn removed(id: i32, done: Result<Discarded, Errno>) -> State
     }
 }
 
-/// Where IPC_RMID stands after its identifier was forgotten: it goes on to release the chain of what was
-/// discarded.
+/// Returns the state of an IPC_RMID after its identifier was forgotten: before the release of the
+/// chain of the discarded messages.
 pub fn forgotten(chain: Chain) -> State
     ensures { (text : List ℕ) (done : Bool) →
         follows_forget chain.blocks (Changed done) ≡ Some (state_of result text) }
@@ -103,8 +105,8 @@ pub fn forgotten(chain: Chain) -> State
     State::Goes(Phase::RemoveGiveback { chain })
 }
 
-/// Where IPC_SET or IPC_RMID stands after its chain was released, or was refused by the pool as that of
-/// another: at its end.
+/// Returns the state of an IPC_SET or IPC_RMID after its chain was released, or was refused by the
+/// pool as foreign: over, with success.
 pub fn given_back() -> State
     ensures { (text : List ℕ) (done : Result ⊤ Chained) →
         follows_giveback (Over Zero) (release_reply done) ≡ Some (state_of result text) }

@@ -1,17 +1,17 @@
 use sysv_model::{Errno, Stat};
 use sysv_queue::Delivery;
 
-/// How a call ended. The text that a receive was given is with its driver, who spends the delivery once it
-/// has answered.
+/// How a call ended. The driver keeps the body that a receive returned, and spends the delivery
+/// after it has passed the body on.
 pub enum Ending {
-    /// The identifier of a queue.
+    /// The call returns the identifier of a queue.
     Id(i32),
-    /// It succeeded and has nothing to tell.
+    /// The call succeeds and returns no value.
     Zero,
-    /// A receive was given a message.
+    /// The receive returns a message.
     Got { delivery: Delivery },
-    /// The attributes of a queue, and what waits on it.
+    /// The call returns the attributes of a queue and of its queued messages.
     Told(Stat),
-    /// It was refused.
+    /// The call fails with this error.
     Refused(Errno),
 }

@@ -16,19 +16,19 @@ use sysv_keys::Begun;
 use sysv_model::{Cred, Errno, Flags};
 use sysv_queue::Probe;
 
-/// A call that looks for the queue of a key, or makes one (POSIX.1-2017, `msgget`).
+/// A call that finds the queue of a key or makes one (POSIX.1-2017, `msgget`).
 #[derive(Clone, Copy, PartialEq, Eq, Debug)]
 pub struct Getting {
-    /// Who asks.
+    /// The caller's credentials.
     pub cred: Cred,
-    /// The key, 0 for a private queue.
+    /// The key, or 0 for a private queue.
     pub key: i32,
-    /// What is asked: IPC_CREAT, IPC_EXCL and the mode.
+    /// The flags: IPC_CREAT, IPC_EXCL and the mode of a new queue.
     pub flags: Flags,
 }
 
 impl Getting {
-    /// The start of a call: it goes to its begin, whatever its arguments are.
+    /// Returns the state of a call at its start: before its begin, with any arguments.
     pub fn begin(cred: Cred, key: i32, flags: Flags) -> State
         ensures { (text : List ℕ) (released : ℕ) →
             begins cred (Msgget key flags) released ≡ state_of result text }
@@ -36,9 +36,14 @@ impl Getting {
         State::Goes(Phase::Begin(Getting { cred, key, flags }))
     }
 
-    /// Where the call stands after its begin. It waits where another call is making the queue of the key,
-    /// until the settled count has risen, and is refused where the key has no queue and none is made:
-    /// with ENOENT or ENOSPC, as the registry says (POSIX.1-2017, `msgget`, ERRORS).
+    /// Returns the state of the call after its begin.
+    ///
+    /// - If the key has a queue, the call is before the probe of its identifier.
+    /// - If an identifier was made, the call is before its install.
+    /// - If another call is making the queue of the key, the call waits until the settled count
+    ///   rises above the reported value.
+    /// - Otherwise the call is over with the error that the registry reported: ENOENT or ENOSPC
+    ///   (POSIX.1-2017, `msgget`, ERRORS).
     pub fn begun(self, begun: Begun) -> State
         ensures { (text : List ℕ) → follows_begin (getting self) (begun_reply begun)
             ≡ Some (state_of result text) }
@@ -58,8 +63,9 @@ impl Getting {
         }
     }
 
-    /// Where the call stands after the install of its identifier, from 0, which made the queue or found
-    /// another live in the slot. No run of a world meets the second; the identifier is then given up.
+    /// Returns the state of the call after the install of its identifier `id`. If `made` is false,
+    /// another queue was live in the slot: the call then gives the identifier up. No run of a world
+    /// reaches that case.
     pub fn installed(id: i32, made: bool) -> State
         ensures { (text : List ℕ) → follows_install id (Installed made)
             ≡ Some (state_of result text) }
@@ -71,8 +77,8 @@ impl Getting {
         }
     }
 
-    /// Where the call stands after its settle: at its end with the identifier, also where a removal
-    /// overtook it and no row was changed.
+    /// Returns the state of the call after its settle: over, with the identifier. The result is the
+    /// same if a removal came first and the settle changed no row.
     pub fn settled(id: i32) -> State
         ensures { (text : List ℕ) (done : Bool) →
             follows_settle id (Changed done) ≡ Some (state_of result text) }
@@ -80,11 +86,15 @@ impl Getting {
         State::Over(Ending::Id(id))
     }
 
-    /// Where the call stands after the probe of the identifier that its begin found, when the settled
-    /// count was `settled`. A live queue is refused with EEXIST where the flags have IPC_CREAT and
-    /// IPC_EXCL, whoever may use it, and else with EACCES where permission is denied (POSIX.1-2017,
-    /// `msgget`, ERRORS). Where the queue is gone or not yet there, the call waits until the settled
-    /// count is above that value.
+    /// Returns the state of the call after the probe of the identifier `id` that its begin found.
+    /// `settled` is the settled count that the begin reported.
+    ///
+    /// - If the queue is gone or not yet installed, the call waits until the settled count is above
+    ///   `settled`.
+    /// - If the queue is live and the flags have both IPC_CREAT and IPC_EXCL, the call fails with
+    ///   EEXIST, whether or not permission is granted (POSIX.1-2017, `msgget`, ERRORS).
+    /// - Otherwise the call fails with EACCES if permission is denied, and returns the identifier
+    ///   if it is granted.
     pub fn probed(self, id: i32, settled: u64, found: Probe) -> State
         ensures { (text : List ℕ) → follows_probe (getting self) id settled (probe_reply found)
             ≡ Some (state_of result text) }
@@ -100,8 +110,8 @@ impl Getting {
         }
     }
 
-    /// Where the call stands after it gave up an identifier whose slot was occupied: it is refused with
-    /// ENOSPC (this profile's).
+    /// Returns the state of the call after it gave up an identifier whose slot was occupied: it
+    /// fails with ENOSPC (this project's profile).
     pub fn unmade() -> State
         ensures { (text : List ℕ) (done : Bool) →
             follows_unmake (Changed done) ≡ Some (state_of result text) }
@@ -109,7 +119,8 @@ impl Getting {
         State::refused(Errno::ENOSPC)
     }
 
-    /// The flags want a queue that this very call makes.
+    /// Returns whether the flags request a queue that did not exist before: both IPC_CREAT and
+    /// IPC_EXCL.
     fn wants_new(&self) -> bool
         ensures { result ≡ is_new_wanted self.now.flags }
     {

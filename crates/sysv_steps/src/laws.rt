@@ -1,4 +1,4 @@
-//! Laws over the definitions alone.
+//! Laws that are statements over definitions alone.
 
 ghost use Rattle.sysv_steps.specs.AfterRemoval.{EachIsToldOfRemoval};
 ghost use Rattle.sysv_steps.specs.Answers.{EachAnswerIsRight};
@@ -12,61 +12,67 @@ ghost use Rattle.sysv_steps.specs.Tended.{EachIsTended};
 ghost use Rattle.sysv_steps.specs.WaitsFor.{EachWaitsForItsRefusal};
 ghost use Rattle.sysv_steps.specs.WorkedPlays.{WorkedPlays};
 
-/// A call that plays to its end answers as a user of System V queues expects, by its own turns alone.
+/// States that the result of a call that plays to its end is right for its arguments and its own
+/// turns.
 pub fn each_answer_is_right()
     ensures { EachAnswerIsRight }
 {}
 
-/// A send or a receive that finds its queue gone says that it was removed where it had come to the queue
-/// before, and else that there is none.
+/// States what a send or a receive reports after it found its identifier gone: EIDRM if it had come
+/// to the queue before, else EINVAL. It makes no further turn at a slot.
 pub fn after_removal()
     ensures { EachIsToldOfRemoval }
 {}
 
-/// A call that waits was just refused, and waits until the count has passed the value that it was told then.
+/// States that a call that waits was refused for want of what it waits for, and that its goal is
+/// one more than the count that was reported to it. The goal of a send that waits for blocks is one
+/// more than the released count that it read last.
 pub fn waits_for_its_refusal()
     ensures { EachWaitsForItsRefusal }
 {}
 
-/// A send waits for blocks until the released count is above the value that it read last: at its start, or at
-/// the end of a wait for blocks.
+/// States that a send waits for blocks until the released count is above the value that it read
+/// last: at its start, or at the end of a wait for blocks.
 pub fn waits_above_what_it_read()
     ensures { EachWaitsAboveWhatItRead }
 {}
 
-/// A send or a receive that says IPC_NOWAIT never waits, nor does a msgctl.
+/// States that a send or a receive with IPC_NOWAIT never waits, and that no `msgctl` call waits.
 pub fn waits_where_it_may()
     ensures { EachWaitsWhereItMay }
 {}
 
-/// A call settles or gives up what the registry made for it, and forgets what it removed, or has still to.
+/// States that a call settles or gives up each identifier that the registry made for it, and
+/// forgets each identifier whose queue it removed, or is still before that step.
 pub fn each_is_tended()
     ensures { EachIsTended }
 {}
 
-/// A call neither makes nor loses a block of the pool, at any of its steps and along its play, and a send that
-/// comes to its place holds as many as its text takes.
+/// States that a call neither makes nor loses a block of the pool, along its play and at each step,
+/// and that a send before its place holds the number of blocks that its body needs.
 pub fn each_holds_its_blocks()
     ensures play { EachHoldsItsBlocks }
     ensures step { EachStepKeepsItsBlocks }
 {}
 
-/// Wherever a call stands it holds the credentials and the arguments that it began with.
+/// States that the credentials and arguments that a call holds are those with which it began,
+/// before each step and in each wait.
 pub fn each_holds_what_it_was_asked()
     ensures { EachHoldsWhatItWasAsked }
 {}
 
-/// A call asks the objects for what it was asked, and for nothing else, however far it has come.
+/// States that each turn of a call requests what the arguments of the call name, and nothing else.
 pub fn each_deed_is_asked_for()
     ensures { EachDeedIsAskedFor }
 {}
 
-/// The same call with the same turns of its own has one answer.
+/// States that the same call with the same turns has one result, whatever the released count was at
+/// its start.
 pub fn one_answer()
     ensures { OneAnswer }
 {}
 
-/// What the laws of a call admit and refuse, at worked calls.
+/// States what the laws of a call admit and refuse, at worked calls.
 pub fn worked_plays()
     ensures { WorkedPlays }
 {

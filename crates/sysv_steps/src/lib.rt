@@ -1,5 +1,7 @@
-//! The steps of the calls of System V message queues: a machine that asks and is told, and touches no
-//! object itself. Who drives it makes the turns and keeps the texts. `specs/` has the table of steps.
+//! The steps of the System V message queue calls, as a state machine that touches no object.
+//!
+//! The machine names the next step of a call and is told the reply. Its driver makes the turns and
+//! keeps the message bodies. `specs/` has the table of steps.
 #![tactic(auto)]
 
 mod afterwards;

@@ -20,28 +20,28 @@ use sysv_model::{Cred, Errno, Flags, Selector};
 use sysv_pool::Chain;
 use sysv_queue::{Delivery, TakeRefused};
 
-/// A receive under way (POSIX.1-2017, `msgrcv`). The body that it fills is with its driver.
+/// A receive under way (POSIX.1-2017, `msgrcv`). Its driver keeps the body that it fills.
 #[derive(Clone, Copy, PartialEq, Eq, Debug)]
 pub struct Receiving {
-    /// Who receives.
+    /// The receiver's credentials.
     pub cred: Cred,
-    /// The queue, from 0.
+    /// The identifier of the queue. `begin` admits only identifiers from 0.
     pub id: i32,
-    /// Which message is asked for.
+    /// Which message is requested.
     pub selector: Selector,
-    /// The most bytes that are given.
+    /// The maximum number of bytes to return.
     pub size: u32,
-    /// A longer text may be cut.
+    /// Whether MSG_NOERROR is set, so that a longer body is cut.
     pub noerror: bool,
-    /// The receive said IPC_NOWAIT.
+    /// Whether IPC_NOWAIT is set, so that the receive does not wait.
     pub nowait: bool,
-    /// An earlier turn of the receive found the identifier live.
+    /// Whether an earlier turn of the receive found the identifier live.
     pub live_seen: bool,
 }
 
 impl Receiving {
-    /// The start of a receive. It is refused with EINVAL where the identifier is negative
-    /// (POSIX.1-2017, `msgrcv`, ERRORS), and else goes to its take.
+    /// Returns the state of a receive at its start. It fails with EINVAL if `id` is negative
+    /// (POSIX.1-2017, `msgrcv`, ERRORS). Otherwise it is before its take.
     pub fn begin(cred: Cred, id: i32, size: u32, mtype: i64, flags: Flags) -> State
         ensures { (text : List ℕ) (released : ℕ) →
             begins cred (Msgrcv id size mtype flags) released ≡ state_of result text }
@@ -60,8 +60,8 @@ impl Receiving {
         }))
     }
 
-    /// Where the receive stands after it took a message, and its driver copied as much of the text as is
-    /// wanted: it gives the message's chain back.
+    /// Returns the state of the receive after it took a message and its driver copied at most
+    /// `size` bytes of the body. The receive then releases the message's chain.
     pub fn given(self, delivery: Delivery, chain: Chain) -> State
         ensures next { (m : Message) (text : List ℕ) → Gives delivery m self.size text →
             chain.blocks ≡ blocks_for (length m.bytes) →
@@ -71,8 +71,8 @@ impl Receiving {
         State::Goes(Phase::ReceiveGiveback { chain, delivery })
     }
 
-    /// Where a receive stands after the chain of its message was released, or was refused by the pool as
-    /// that of another: at its end with the message.
+    /// Returns the state of a receive after the chain of its message was released, or was refused
+    /// by the pool as foreign: over, with the message.
     pub fn given_back(delivery: Delivery) -> State
         ensures next { (text : List ℕ) (done : Result ⊤ Chained) →
             follows_giveback (Over (Got delivery.mtype text)) (release_reply done)
@@ -82,8 +82,14 @@ impl Receiving {
         State::Over(Ending::Got { delivery })
     }
 
-    /// Where the receive stands after no message was given: it waits for one where it may; else it is
-    /// refused with EINVAL or EIDRM, EACCES, ENOMSG, or E2BIG (POSIX.1-2017, `msgrcv`, ERRORS).
+    /// Returns the state of the receive after no message was taken.
+    ///
+    /// - If no queued message is named, the receive waits for one, or fails with ENOMSG if
+    ///   IPC_NOWAIT is set.
+    /// - If the named message is too long and MSG_NOERROR is not set, it fails with E2BIG.
+    /// - If permission is denied, it fails with EACCES.
+    /// - If the identifier is not live, it fails with EIDRM if an earlier turn found it live, else
+    ///   with EINVAL (POSIX.1-2017, `msgrcv`, ERRORS).
     pub fn untaken(self, why: TakeRefused) -> State
         ensures { (text : List ℕ) → follows_take (receiving self) (untaken_reply why)
             ≡ Some (state_of result text) }
@@ -96,9 +102,9 @@ impl Receiving {
         }
     }
 
-    /// Where the receive stands after its queue, live, had no message that it names, when the arrived
-    /// count was `arrived`: it waits until the count is above that, or is refused with ENOMSG where it
-    /// does not wait.
+    /// Returns the state of the receive after its live queue had no named message and the arrived
+    /// count was `arrived`: it waits until the count is above `arrived`, or fails with ENOMSG if
+    /// IPC_NOWAIT is set.
     fn finds_none(self, arrived: u64) -> State
         ensures { (text : List ℕ) → follows_take (receiving self) (NoMatch arrived)
             ≡ Some (state_of result text) }

@@ -17,27 +17,29 @@ use sysv_model::{Cred, Errno, Flags, MESSAGE_BYTES};
 use sysv_pool::Chain;
 use sysv_queue::{Look, Unplaced};
 
-/// A send under way (POSIX.1-2017, `msgsnd`). Its text is with its driver.
+/// A send under way (POSIX.1-2017, `msgsnd`). Its driver keeps the body.
 #[derive(Clone, Copy, PartialEq, Eq, Debug)]
 pub struct Sending {
-    /// Who sends.
+    /// The sender's credentials.
     pub cred: Cred,
-    /// The queue, from 0.
+    /// The identifier of the queue. `begin` admits only identifiers from 0.
     pub id: i32,
-    /// The type of the message, from 1.
+    /// The type of the message. `begin` admits only types from 1.
     pub mtype: i64,
-    /// The send said IPC_NOWAIT.
+    /// Whether IPC_NOWAIT is set, so that the send does not wait.
     pub nowait: bool,
-    /// The released count, as the send read it last.
+    /// The released count that the send read last.
     pub released: u64,
-    /// An earlier turn of the send found the identifier live.
+    /// Whether an earlier turn of the send found the identifier live.
     pub live_seen: bool,
 }
 
 impl Sending {
-    /// The start of a send of `size` bytes, where the released count is `released`. It is refused with
-    /// EINVAL where the type is below 1, the size above 8,192 or the identifier negative
-    /// (POSIX.1-2017, `msgsnd`, ERRORS), and else goes to its look.
+    /// Returns the state of a send of `size` bytes at its start. `released` is the released count
+    /// at that time.
+    ///
+    /// The send fails with EINVAL if `mtype` is below 1, `size` is above 8,192, or `id` is negative
+    /// (POSIX.1-2017, `msgsnd`, ERRORS). Otherwise it is before its look.
     pub fn begin(cred: Cred, id: i32, mtype: i64, flags: Flags, size: usize, released: u64) -> State
         ensures { (text : List ℕ) → length text ≡ size →
             begins cred (Msgsnd id mtype flags text) released ≡ state_of result text }
@@ -55,9 +57,13 @@ impl Sending {
         }))
     }
 
-    /// Where the send stands after its look found this. It goes to its reserve where the text fits; it
-    /// waits for room where it may; else it is refused with EINVAL or EIDRM, EACCES, or EAGAIN
-    /// (POSIX.1-2017, `msgsnd`, ERRORS).
+    /// Returns the state of the send after its look.
+    ///
+    /// - If the message fits, the send is before its reserve.
+    /// - If the queue is full, the send waits for room, or fails with EAGAIN if IPC_NOWAIT is set.
+    /// - If permission is denied, it fails with EACCES.
+    /// - If the identifier is not live, it fails with EIDRM if an earlier turn found it live, else
+    ///   with EINVAL (POSIX.1-2017, `msgsnd`, ERRORS).
     pub fn looked(self, found: Look) -> State
         ensures { (text : List ℕ) → follows_look (sending self text) (look_reply found)
             ≡ Some (state_of result text) }
@@ -73,9 +79,10 @@ impl Sending {
         }
     }
 
-    /// Where the send stands after it asked for blocks. It goes to its place with the chain that it got.
-    /// Where too few were free it waits until the released count is above the value that it read last, or
-    /// is refused with EAGAIN where it does not wait (this profile's).
+    /// Returns the state of the send after its reserve. With a chain, the send is before its place.
+    ///
+    /// If too few blocks were free, the send waits until the released count is above the value that
+    /// it read last, or fails with EAGAIN if IPC_NOWAIT is set (this project's profile).
     pub fn reserved(self, chain: Option<Chain>) -> State
         ensures { (text : List ℕ) → follows_reserve (sending self text) (reserve_reply chain)
             ≡ Some (state_of result text) }
@@ -90,7 +97,7 @@ impl Sending {
         }
     }
 
-    /// Where a send stands after its text was accepted: at its end.
+    /// Returns the state of a send after its message was accepted: over, with success.
     pub fn placed() -> State
         ensures { (send : Send) (blocks number : ℕ) (text : List ℕ) →
             follows_place send blocks (Accepted number) ≡ Some (state_of result text) }
@@ -98,8 +105,9 @@ impl Sending {
         State::Over(Ending::Zero)
     }
 
-    /// Where the send stands after its text was refused and its chain came back: it gives the chain back,
-    /// and goes on then as its look would have led it.
+    /// Returns the state of the send after its place was refused and its chain was handed back. The
+    /// send first releases the chain. Then it fails or waits, as it would after the same reply to
+    /// its look.
     pub fn unplaced(self, why: Unplaced, chain: Chain) -> State
         ensures { (text : List ℕ) → follows_place (sending self text) chain.blocks
             (unplaced_reply why) ≡ Some (state_of result text) }
@@ -112,8 +120,8 @@ impl Sending {
         State::Goes(Phase::SendGiveback { chain, afterwards })
     }
 
-    /// What the send does after its queue, live, had no room, when the freed count was `freed`: it
-    /// waits until the count is above that, or is refused with EAGAIN where it does not wait.
+    /// Returns what the send does after its live queue had no room and the freed count was `freed`:
+    /// it waits until the count is above `freed`, or fails with EAGAIN if IPC_NOWAIT is set.
     fn is_full(self, freed: u64) -> Afterwards
         ensures { (text : List ℕ) → finds_full (sending self text) freed
             ≡ afterwards_of result text }

@@ -11,22 +11,24 @@ use sysv_model::{Cred, Errno, SetTo};
 use sysv_pool::Chain;
 use sysv_queue::Delivery;
 
-/// The step before which a call stands: one turn at the registry, at the slot of its queue or at the pool.
-/// What the call holds there can be neither dropped nor copied.
+/// The step before which a call is. A step is one turn at the registry, at the slot of the call's
+/// queue or at the pool.
+///
+/// What the call holds at that step can be neither dropped nor copied.
 pub enum Phase {
-    /// The registry finds the queue of a key, or makes an identifier for one.
+    /// The registry finds the queue of a key, or makes an identifier for it.
     Begin(Getting),
-    /// The queue of a new identifier is installed.
+    /// The queue of a new identifier is installed in its slot.
     Install {
         get: Getting,
         id: i32,
     },
-    /// The registry hears that it was.
+    /// The registry records that the queue of the new identifier was installed.
     Settle {
         id: i32,
     },
-    /// Whether the queue that was found lives and may be used. The settled count was `settled` when it
-    /// was found.
+    /// The slot reports whether the queue that was found is live and may be used. `settled` is the
+    /// settled count that the registry reported with the identifier.
     Probe {
         get: Getting,
         id: i32,
@@ -36,23 +38,23 @@ pub enum Phase {
     Unmake {
         id: i32,
     },
-    /// Whether the text of a send would fit.
+    /// The slot reports whether the body of a send would fit.
     Look(Sending),
-    /// Blocks are reserved for the text of a send.
+    /// The pool reserves blocks for the body of a send.
     Reserve(Sending),
-    /// The text of a send, which lies in the chain by then, is put on the queue.
+    /// The body of a send, which is in the chain by then, is put on the queue.
     Place {
         send: Sending,
         chain: Chain,
     },
-    /// The chain of a send that was refused at its place is released.
+    /// The pool takes back the chain of a send that was refused at its place.
     SendGiveback {
         chain: Chain,
         afterwards: Afterwards,
     },
     /// A message is taken for a receive.
     Take(Receiving),
-    /// The chain of a message that was taken is released, once its text was copied.
+    /// The pool takes back the chain of a message that was taken, after its body was copied.
     ReceiveGiveback {
         chain: Chain,
         delivery: Delivery,
@@ -62,7 +64,7 @@ pub enum Phase {
         cred: Cred,
         id: i32,
     },
-    /// Owner, mode and limit of a queue are changed.
+    /// The owner, mode and limit of a queue are changed.
     Set {
         cred: Cred,
         id: i32,
@@ -75,37 +77,38 @@ pub enum Phase {
         cred: Cred,
         id: i32,
     },
-    /// The registry forgets the identifier of a queue that was removed. The chain holds the blocks of what
-    /// was discarded.
+    /// The registry forgets the identifier of a queue that was removed. The chain holds the blocks
+    /// of the discarded messages.
     Forget {
         id: i32,
         chain: Chain,
     },
-    /// The chain of what was discarded is released.
+    /// The pool takes back the chain of the discarded messages.
     RemoveGiveback {
         chain: Chain,
     },
 }
 
-/// Where a call stands after its start or after a step.
+/// The state of a call after its start or after a step.
 pub enum State {
-    /// It goes on.
+    /// The call is before this step.
     Goes(Phase),
-    /// It waits for a count.
+    /// The call waits for a count.
     Waits(Wait),
-    /// It is over.
+    /// The call is over.
     Over(Ending),
 }
 
 impl State {
-    /// The call is over, refused with this error.
+    /// Returns the state of a call that was refused with `errno`.
     pub(crate) fn refused(errno: Errno) -> State
         ensures { result ≡ State.Over (Ending.Refused errno) }
     {
         State::Over(Ending::Refused(errno))
     }
 
-    /// The call is over, since its identifier is not live (POSIX.1-2017, `msgsnd` and `msgrcv`, ERRORS).
+    /// Returns the state of a call that is over because its identifier is not live (POSIX.1-2017,
+    /// `msgsnd` and `msgrcv`, ERRORS).
     pub(crate) fn refused_as_gone(live_seen: bool) -> State
         ensures { result ≡ State.Over (Ending.Refused (finds_gone live_seen)) }
     {
@@ -113,8 +116,8 @@ impl State {
     }
 }
 
-/// The error of a call whose identifier is not live: a call that had found it live says that it was
-/// removed since (POSIX.1-2017, `msgsnd` and `msgrcv`, ERRORS).
+/// Returns the error of a call whose identifier is not live: EIDRM if the call had found it live
+/// before, because it was removed since, else EINVAL (POSIX.1-2017, `msgsnd` and `msgrcv`, ERRORS).
 pub(crate) fn gone(live_seen: bool) -> Errno
     ensures { result ≡ finds_gone live_seen }
 {

@@ -7,22 +7,23 @@ use crate::receive::Receiving;
 use crate::send::Sending;
 use crate::state::Phase;
 
-/// A wait until a count is above a value, with the call that then goes on (this profile's). A count is
-/// of the registry, of the slot in which the call's queue lies, or of the pool.
+/// A wait until a count is above a value, with the call that then continues (this project's
+/// profile). The count belongs to the registry, to the slot of the call's queue or to the pool.
 #[derive(Clone, Copy, PartialEq, Eq)]
 pub enum Wait {
-    /// Until the settled count of the registry is above this value.
+    /// Waits until the settled count of the registry is above `above`.
     Settled { above: u64, get: Getting },
-    /// Until the freed count of the slot is above this value.
+    /// Waits until the freed count of the slot is above `above`.
     Freed { above: u64, send: Sending },
-    /// Until the released count of the pool is above this value.
+    /// Waits until the released count of the pool is above `above`.
     Released { above: u64, send: Sending },
-    /// Until the arrived count of the slot is above this value.
+    /// Waits until the arrived count of the slot is above `above`.
     Arrived { above: u64, receive: Receiving },
 }
 
 impl Wait {
-    /// Whether the wait ends where its count has this value: the goal is one above `above`.
+    /// Returns whether the value `value` of the count ends the wait: `value` is at least the goal,
+    /// which is one more than `above`.
     pub fn is_over(&self, value: u64) -> bool
         ensures { (text : List ℕ) → IsTrue result ↔ goal_of (wait_of self.now text) ≤ value }
     {
@@ -33,8 +34,8 @@ impl Wait {
         value > above
     }
 
-    /// Where the call goes on once this value of its count ended the wait. A send that waited for blocks
-    /// keeps the value: it is the released count as the send read it last.
+    /// Returns the step at which the call continues after the value `value` of its count ended the
+    /// wait. A send that waited for blocks keeps `value` as the released count that it read last.
     pub fn resume(self, value: u64) -> Phase
         ensures { (text : List ℕ) → resumes (wait_of self text) value ≡ phase_of result text }
     {

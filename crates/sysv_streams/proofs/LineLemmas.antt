@@ -1,4 +1,4 @@
--- Where the first line of a text ends, if its front has no LF.
+-- The end of the first line of a text whose front contains no LF.
 use Rattle.std.proofs.Common.{◌≡◌, ◌+◌, ◌<◌, ℕ, List, ◌++◌, length, take, drop, get_or, sym, ◌∙◌, subst, arith, length-drop, inl, inr}
 use Rattle.std.proofs.Math.Seq.{take-add}
 use Rattle.std.proofs.lemmas.List.{take-append-drop, get_or-drop}

@@ -1,4 +1,4 @@
--- What two reads take in, and two writes hand on, one after the other.
+-- What two reads return, and what two writes take, one after the other.
 use Rattle.std.proofs.Common.{◌≡◌, ℕ, List, [], ◌++◌, Option, Result, Ok, Err, sym, ap, subst, ◌∙◌, append_assoc, append-nil}
 use Rattle.std.specs.Prelude.{OnErr}
 use Rattle.std.specs.Io.KnownBytes.{Appends}
@@ -11,7 +11,7 @@ use Rattle.sysv_streams.specs.Streams.{HandsOn, TakesIn}
 pub prefix_none : (none text : List ℕ) → none ≡ [] → IsPrefixOf none text
 prefix_none none text e = (text, ap (λ l. l ++ text) (sym e))
 
--- a prefix of what stands after the same bytes
+-- A prefix, after the same bytes in front of both.
 pub prefix_after : (front part whole : List ℕ) → IsPrefixOf part whole → IsPrefixOf (front ++ part) (front ++ whole)
 prefix_after front part whole b = (b.0, ap (λ l. front ++ l) b.1 ∙ sym (append_assoc front part b.0))
 

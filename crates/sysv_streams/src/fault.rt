@@ -1,16 +1,16 @@
-//! How a script ends before its end.
+//! The faults of a script.
 
 use thiserror::Error;
 
-/// The most lines that a script may have.
+/// The maximum number of lines of a script.
 pub const SCRIPT_LINES: u32 = 1_000_000;
 
-/// Why a script ends before its end.
+/// The reason why a script ends before its end.
 #[derive(Clone, Copy, PartialEq, Eq, Debug, Error)]
 pub enum ScriptFault {
-    /// The line with this number, counted from 1, is bad: it is not understood, or longer than 9,000
-    /// bytes, or a `preset` where slot 0 has or had a queue, or a `pool` after any other line that is
-    /// not skipped.
+    /// The line with this number is bad. Lines count from 1. A bad line is not understood, or is
+    /// longer than 9,000 bytes, or is a `preset` when slot 0 is in use or was used before, or is a
+    /// `pool` after any other line that is not skipped.
     #[error("line {0} is bad")]
     Line(u32),
     /// The reader failed.
@@ -22,7 +22,7 @@ pub enum ScriptFault {
     /// Memory was refused.
     #[error("no memory")]
     NoMemory,
-    /// A line begins after the millionth.
+    /// A line begins after line 1,000,000.
     #[error("more than 1000000 lines")]
     Bound,
 }

@@ -1,4 +1,4 @@
-//! The bytes of a script that were read and wait to be run.
+//! The bytes of a script that were read and not yet run.
 ghost use Rattle.std.specs.Prelude.{◌≡◌, ◌+◌, ◌<◌, ◌≤◌, [], ◌++◌, length, take, drop, slice_range, vec_len, IfOk, IfErr, OnOk};
 ghost use Rattle.std.specs.Io.KnownBytes.{Consumes, IsAtEnd};
 ghost use Rattle.sysv_model.specs.Watched.{failures_of, failures_after, stream_name, stream_of};
@@ -13,18 +13,19 @@ use std::marker::Model;
 use sysv_lines::LINE_BYTES;
 use sysv_model::{NoMemory, Watched};
 
-/// The bytes for which the input has room: one line of the greatest length and its LF. So of a line
-/// that has no end no more than these are read.
+/// The capacity of the input in bytes: one line of the maximum length and its LF. So of a line
+/// without an end, at most this many bytes are read.
 pub const INPUT_ROOM: usize = LINE_BYTES + 1;
 
-/// The bytes that wait: they were read, and belong to lines that have not been run. They stand in one
-/// buffer of fixed length, and reads go into the room after them.
+/// The pending bytes of a script: they were read, and belong to lines that have not been run.
+///
+/// The bytes are in one buffer of fixed length. A read appends to them.
 #[derive(Drop)]
 pub struct Input {
     buffer: Vec<u8>,
-    /// The place of the first byte that waits.
+    /// The place of the first pending byte.
     start: usize,
-    /// The place after the last.
+    /// The place after the last pending byte.
     end: usize,
 }
 
@@ -41,7 +42,11 @@ impl Model for Input {
 }
 
 impl Input {
-    /// Nothing waits.
+    /// Opens an input without pending bytes.
+    ///
+    /// # Errors
+    ///
+    /// `NoMemory` if memory is refused.
     pub fn open(alloc: Global) -> Result<Input, NoMemory>
         ensures { IfOk result (λ input. input ≡ []) }
     {
@@ -55,7 +60,7 @@ impl Input {
         })
     }
 
-    /// The bytes that wait.
+    /// Returns the pending bytes, at most `INPUT_ROOM`.
     pub fn waiting(&self) -> &[u8]
         ensures bytes { result.now ≡ self.now }
         ensures room { length result.now ≤ INPUT_ROOM }
@@ -63,7 +68,11 @@ impl Input {
         &self.buffer[self.start..self.end]
     }
 
-    /// Passes over a line of `len` bytes and the LF after it.
+    /// Drops a line of `len` bytes and the LF after it from the pending bytes.
+    ///
+    /// # Conditions
+    ///
+    /// `len` must be less than the number of pending bytes.
     pub fn pass_line(&mut self, len: usize)
         requires { len < length self.old }
         ensures { self.new ≡ drop (len + 1) self.old }
@@ -72,7 +81,16 @@ impl Input {
         self.start = passed + 1;
     }
 
-    /// Reads once, after what waits; the number of bytes that came, 0 at the end.
+    /// Reads once, appends the bytes to the pending ones, and returns their number: 0 at the end of
+    /// the reader.
+    ///
+    /// # Errors
+    ///
+    /// `Read` if the reader fails.
+    ///
+    /// # Conditions
+    ///
+    /// Fewer than `INPUT_ROOM` bytes must be pending.
     pub fn read_from<R: Read>(&mut self, reader: &mut Watched<'_, R>) -> Result<usize, ScriptFault>
         requires { length self.old < INPUT_ROOM }
         ensures text { OnOk result (TakesIn (R.remaining (stream_of reader.old)) self.old

@@ -1,4 +1,4 @@
-//! The streams of a script: the lines that are read, and the answers that are written.
+//! The streams of a script: the lines that are read, and the results that are written.
 #![tactic(auto)]
 
 mod fault;

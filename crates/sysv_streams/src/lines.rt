@@ -1,4 +1,4 @@
-//! Finds the next line of a script, and reads on if its end is not there yet.
+//! Finds the next line of a script, and reads more if its end is not there yet.
 ghost use Rattle.std.specs.Prelude.{false, true, ◌≡◌, ◌+◌, ◌<◌, ◌≤◌, [], length, take, MatchOption, IfOk, IfErr, OnOk, OnErr, IfSome};
 ghost use Rattle.std.specs.Io.KnownBytes.{Appends, IsAtEnd};
 ghost use Rattle.sysv_model.specs.Watched.{failures_of, failures_after, stream_name, stream_of};
@@ -17,17 +17,24 @@ use std::io::{Read, Write};
 use sysv_lines::LINE_BYTES;
 use sysv_model::Watched;
 
-/// The next line: the first bytes that wait.
+/// The next line: the first pending bytes.
 #[derive(Clone, Copy)]
 pub struct Found {
-    /// The number of its bytes, its LF not counted.
+    /// The length of the line in bytes, without its LF.
     pub len: usize,
-    /// Whether no LF follows it: it is the last line, or longer than a line may be.
+    /// Whether no LF follows the line: it is the last line, or is longer than a line may be.
     pub is_last: bool,
 }
 
-/// Finds the next line, and reads on if its end is not there yet. Returns `None` if there is no
-/// line.
+/// Finds the next line, and reads more if its end is not there yet. Before each read the composed
+/// lines are written. Returns `None` if there is no line.
+///
+/// # Errors
+///
+/// - `Read` if the reader fails.
+/// - `Write` if the writer fails or takes no byte.
+///
+/// After an error no line is composed, and the writer took a prefix of the composed lines.
 pub fn next_line<R: Read, W: Write>(
     input: &mut Input,
     output: &mut Output,
@@ -66,8 +73,8 @@ pub fn next_line<R: Read, W: Write>(
     }
 }
 
-/// Returns the next line if the waiting bytes hold its end, or show that it is too long. The first
-/// `seen` bytes hold no LF.
+/// Returns the next line if the pending bytes contain its end, or show that it is too long. The
+/// first `seen` bytes contain no LF.
 fn line_within(waiting: &[u8], seen: usize) -> Option<Found>
     requires within { seen ≤ length waiting.now }
     requires before { HasNoEnd (take seen waiting.now) }
@@ -89,7 +96,7 @@ fn line_within(waiting: &[u8], seen: usize) -> Option<Found>
     }
 }
 
-/// Returns the last line, which is these bytes, or `None` if there are none.
+/// Returns the last line, which has `len` bytes, or `None` if `len` is 0.
 fn line_at_end(len: usize) -> Option<Found>
     ensures { MatchOption result (len ≡ 0) (λ found. (found.len ≡ len) × (found.is_last ≡ true)
         × (0 < len)) }
@@ -100,7 +107,7 @@ fn line_at_end(len: usize) -> Option<Found>
     }
 }
 
-/// Returns the place of the first LF. The first `seen` bytes hold none.
+/// Returns the place of the first LF. The first `seen` bytes contain none.
 fn line_end(waiting: &[u8], seen: usize) -> Option<usize>
     requires within { seen ≤ length waiting.now }
     requires before { HasNoEnd (take seen waiting.now) }
@@ -119,8 +126,19 @@ fn first_end(text: &[u8]) -> Option<usize>
     memchr(b'\n', text)
 }
 
-/// Writes the answers and reads once. Returns the number of bytes that came, 0 at the end of the
-/// input.
+/// Writes the composed lines and reads once. Returns the number of bytes that were read: 0 at the
+/// end of the input.
+///
+/// # Errors
+///
+/// - `Write` if the writer fails or takes no byte.
+/// - `Read` if the reader fails.
+///
+/// No line is composed afterwards, also after an error.
+///
+/// # Conditions
+///
+/// Fewer than `INPUT_ROOM` bytes must be pending.
 pub fn read_on<R: Read, W: Write>(
     input: &mut Input,
     output: &mut Output,

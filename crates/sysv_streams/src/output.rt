@@ -1,4 +1,4 @@
-//! The answers that are composed and wait to be written.
+//! The lines that are composed and not yet written.
 ghost use Rattle.std.specs.Prelude.{◌≡◌, [], ◌∷◌, ◌++◌, IfOk, IfErr, IsOk, OnOk, OnErr};
 ghost use Rattle.std.specs.Io.KnownBytes.{Appends};
 ghost use Rattle.sysv_lines.specs.Heads.{head_text};
@@ -14,10 +14,10 @@ use std::marker::Model;
 use sysv_lines::Head;
 use sysv_model::{BLOCK_BYTES, Body, NoMemory, Watched, WriteFault};
 
-/// The bytes for which the output has room.
+/// The capacity of the output in bytes.
 const OUTPUT_ROOM: usize = 65536;
 
-/// The length of the longest line: a head of at most 64 bytes, a message body and an LF.
+/// An upper bound of the length of a line: a head, a message body and an LF.
 const LONGEST: usize = 8400;
 
 /// Lines that are composed and not yet written.
@@ -37,7 +37,11 @@ impl Model for Output {
 }
 
 impl Output {
-    /// Opens an output with room for 65,536 bytes and nothing composed.
+    /// Opens an output that can hold 65,536 bytes, without composed lines.
+    ///
+    /// # Errors
+    ///
+    /// `NoMemory` if memory is refused.
     pub fn open(alloc: Global) -> Result<Output, NoMemory>
         ensures { IfOk result (λ output. output ≡ []) }
     {
@@ -47,7 +51,11 @@ impl Output {
         }
     }
 
-    /// Composes a line that is only a head. If memory is refused, nothing is left composed.
+    /// Composes a line that consists of a head.
+    ///
+    /// # Errors
+    ///
+    /// `NoMemory` if memory is refused. No line is then left composed.
     pub fn tell(&mut self, head: Head) -> Result<(), NoMemory>
         ensures ok { OnOk result (self.new ≡ self.old ++ (head_text head ++ 10 ∷ [])) }
         ensures err { OnErr result (self.new ≡ []) }
@@ -61,8 +69,11 @@ impl Output {
         }
     }
 
-    /// Composes a line of a head and the bytes of a message body. If memory is refused, nothing is
-    /// left composed.
+    /// Composes a line that consists of a head and the bytes of a message body.
+    ///
+    /// # Errors
+    ///
+    /// `NoMemory` if memory is refused. No line is then left composed.
     pub fn tell_text(&mut self, head: Head, text: &Body) -> Result<(), NoMemory>
         ensures ok { OnOk result (self.new ≡ self.old
             ++ (head_text head ++ (text.now ++ 10 ∷ []))) }
@@ -77,8 +88,12 @@ impl Output {
         }
     }
 
-    /// Writes what was composed if there might be no room for one more line. If that fails, nothing
-    /// is left composed.
+    /// Writes the composed lines if there might be no room for one more.
+    ///
+    /// # Errors
+    ///
+    /// `Write` if the writer fails or takes no byte. The writer took a prefix of the composed
+    /// lines, and no line is left composed.
     pub fn make_room<W: Write>(&mut self, writer: &mut Watched<'_, W>) -> Result<(), ScriptFault>
         ensures ok { OnOk result (HandsOn (W.contents (stream_of writer.old)) self.old
             (W.contents (stream_of writer.new)) self.new) }
@@ -96,8 +111,13 @@ impl Output {
         self.write_to(writer)
     }
 
-    /// Writes all that was composed. Nothing is left composed, also if that fails. With nothing
-    /// composed it succeeds.
+    /// Writes all composed lines. No line is left composed, also after an error. Without composed
+    /// lines it succeeds.
+    ///
+    /// # Errors
+    ///
+    /// `Write` if the writer fails or takes no byte. The writer took a prefix of the composed
+    /// lines.
     pub fn write_to<W: Write>(&mut self, writer: &mut Watched<'_, W>) -> Result<(), ScriptFault>
         ensures ok { OnOk result (Appends (W.contents (stream_of writer.old))
             (W.contents (stream_of writer.new)) self.old) }

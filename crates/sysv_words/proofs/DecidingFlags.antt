@@ -1,4 +1,4 @@
--- A word stands for flags, or it does not.
+-- A word means flags, or it does not.
 use Rattle.std.proofs.Common.{◌≡◌, ◌≤◌, ◌⊎◌, ℕ, zero, suc, inl, inr, List, [], ◌∷◌, length, refl, sym, subst, arith, bit_or}
 use Rattle.std.specs.Prelude.{Contains, codes}
 use Rattle.std.specs.Str.Parse.{digits_value}
@@ -8,11 +8,11 @@ use Rattle.sysv_words.proofs.FlagLists.{AddsFlags-split, AddsFlags-last, NamesFl
 use Rattle.sysv_words.specs.Deciding.{Decided, decided_as, two, either, at_most_or_not, same_or_not, behind_or_not, splits_or_not, splits_shorter}
 use Rattle.sysv_words.proofs.DecidingWords.{digits_or_not}
 
--- a text is at most three octal digits, or it is not
+-- A text is at most three octal digits, or it is not.
 mode_or_not : (digits : List ℕ) → Decided (IsMode digits)
 mode_or_not digits = two (at_most_or_not (length digits) 3) (digits_or_not 8 digits)
 
--- the name stands for the bits of some mode
+-- The name is an octal mode.
 abbrev NamesSomeMode : List ℕ → Type 0
 NamesSomeMode name = (bits : ℕ) × NamesMode name bits
 
@@ -21,19 +21,19 @@ some_mode_or_not name =
     decided_as (λ h. (digits_value 8 h.0, (h.0, h.1, h.2, refl))) (λ h. (h.1.0, h.1.1, h.1.2))
     (behind_or_not (48 ∷ []) IsMode mode_or_not name)
 
--- the name is one that stands for bits
+-- The name is an octal mode or the name of a flag.
 abbrev IsName : List ℕ → Type 0
 IsName name =
     NamesSomeMode name ⊎ (name ≡ codes "CREAT") ⊎ (name ≡ codes "EXCL") ⊎ (name ≡ codes "NOWAIT")
     ⊎ (name ≡ codes "NOERROR") ⊎ (name ≡ codes "EXCEPT")
 
--- a name is one, or it is none
+-- A text is such a name, or it is not.
 name_or_not : (name : List ℕ) → Decided (IsName name)
 name_or_not name =
     either (some_mode_or_not name) (either (same_or_not name (codes "CREAT")) (either (same_or_not name (codes "EXCL")) (either (same_or_not name (codes "NOWAIT"))
     (either (same_or_not name (codes "NOERROR")) (same_or_not name (codes "EXCEPT"))))))
 
--- a name is one exactly where it stands for some bits
+-- A text is such a name if and only if it has some bits.
 name_stands : (name : List ℕ) → IsName name → (bits : ℕ) × NamesFlag name bits
 name_stands name (inl mode) = (mode.0, inl mode.1)
 name_stands name (inr (inl e)) = (512, inr (inl (e, refl)))
@@ -50,24 +50,24 @@ stands_name name bits (inr (inr (inr (inl h)))) = inr (inr (inr (inl h.0)))
 stands_name name bits (inr (inr (inr (inr (inl h))))) = inr (inr (inr (inr (inl h.0))))
 stands_name name bits (inr (inr (inr (inr (inr h))))) = inr (inr (inr (inr (inr h.0))))
 
--- the name stands for some bits
+-- The name has some bits.
 abbrev NamesSome : List ℕ → Type 0
 NamesSome name = (bits : ℕ) × NamesFlag name bits
 
--- a name stands for bits, or for none
+-- A name has bits, or it has none.
 some_or_not : (name : List ℕ) → Decided (NamesSome name)
 some_or_not name = decided_as (name_stands name) (λ h. stands_name name h.0 h.1) (name_or_not name)
 
--- the list stands for some bits, beside those before it
+-- The list has some bits, combined with those before it.
 abbrev AddsSome : ℕ → List ℕ → Type 0
 AddsSome before list = (all : ℕ) × AddsFlags before list all
 
--- a list without `+` stands for bits where its one name does
+-- A list without `+` has bits if its only name has.
 adds_one_or_not : (before : ℕ) (list : List ℕ) → ¬ Contains list 43 → Decided (AddsSome before list)
 adds_one_or_not before list plain =
     decided_as (λ h. (bit_or before h.0, One before list h.0 h.1)) (λ h. AddsFlags-last before list h.0 plain h.1) (some_or_not list)
 
--- a list that splits stands for bits exactly where what is after its first name does
+-- A list that splits after a name has bits if and only if the rest has.
 adds_more : (before : ℕ) (list name rest : List ℕ) (bits : ℕ) → SplitsAt 43 list name rest → NamesFlag name bits → AddsSome (bit_or before bits) rest → AddsSome before list
 adds_more before list name rest bits s named more =
     (more.0, subst (λ (l : List ℕ). AddsFlags before l more.0) (sym s.whole) (More before name rest bits more.0 named more.1))
@@ -78,7 +78,7 @@ adds_behind before list name rest bits s named h =
     let same : behind.0 ≡ bits = NamesFlag-once name behind.0 bits behind.1 named in
     (h.0, subst (λ x. AddsFlags (bit_or before x) rest h.0) same behind.2)
 
--- a list of at most that many bytes stands for bits, or it does not
+-- A list of at most `bound` bytes has bits, or it has none.
 adds_or_not : (bound before : ℕ) (list : List ℕ) → length list ≤ bound → Decided (AddsSome before list)
 adds_or_not zero before list short = elim (splits_or_not 43 list) [
   | inl s ↦ let shorter = splits_shorter 43 list s.0 s.1 s.2 in absurd (omega (arith, short, shorter))
@@ -95,11 +95,11 @@ adds_or_not (suc bound) before list short = elim (splits_or_not 43 list) [
   | inr plain ↦ adds_one_or_not before list plain
 ]
 
--- the word stands for some flags
+-- The word means some flags.
 abbrev pub IsSomeFlags : List ℕ → Type 0
 IsSomeFlags word = (bits : ℕ) × IsFlags word bits
 
--- a word stands for flags exactly where it is `-` or a list that does
+-- A word means flags if and only if it is `-` or a list that has bits.
 flags_stand : (word : List ℕ) → (word ≡ codes "-") ⊎ AddsSome 0 word → IsSomeFlags word
 flags_stand word (inl e) = (0, inl (e, refl))
 flags_stand word (inr h) = (h.0, inr h.1)
@@ -108,7 +108,7 @@ stand_flags : (word : List ℕ) (bits : ℕ) → IsFlags word bits → (word ≡
 stand_flags word bits (inl h) = inl h.0
 stand_flags word bits (inr h) = inr (bits, h)
 
--- a word stands for flags, or it does not
+-- A word means flags, or it does not.
 pub flags_or_not : (word : List ℕ) → Decided (IsSomeFlags word)
 flags_or_not word =
     decided_as (flags_stand word) (λ h. stand_flags word h.0 h.1)

@@ -10,7 +10,7 @@ use Rattle.sysv_words.specs.Words.{IsNumber, digits_in, number_in}
 use Rattle.sysv_words.specs.Words.{IsNumeralOf}
 use Rattle.sysv_words.specs.Deciding.{Decided, decided_as, two, at_most_or_not, below_or_not}
 
--- all bytes are digits, or some is not
+-- All bytes are digits, or one of them is not.
 pub digits_or_not : (radix : ℕ) (ds : List ℕ) → Decided (AllDigits radix ds)
 digits_or_not radix [] = inl tt
 digits_or_not radix (d ∷ ds) = two (below_or_not (digit_value d) radix) (digits_or_not radix ds)
@@ -18,35 +18,35 @@ digits_or_not radix (d ∷ ds) = two (below_or_not (digit_value d) radix) (digit
 numeral_or_not : (ds : List ℕ) → Decided (IsNumeral 10 ds)
 numeral_or_not ds = two (below_or_not 0 (length ds)) (digits_or_not 10 ds)
 
--- the word is a numeral, with a minus before it or not, or it is none
+-- The word is a numeral, with or without a minus before it, or it is not.
 number_or_not : (word : List ℕ) → Decided (IsNumber word)
 number_or_not word = numeral_or_not (digits_in word)
 
--- a number fits a width, or it does not
+-- A number fits a width, or it does not.
 fits_or_not : (w : Width) (z : ℤ) → Decided (FitsSigned w z)
 fits_or_not w z = decided_as (λ below. record { sfits = below }) (λ fits. fits.sfits) (below_or_not (mag z) (2 ^ hbits w))
 
--- the word is a numeral whose number fits this width, or it is not
+-- The word is a numeral whose number fits this width, or it is not.
 pub signed_or_not : (w : Width) (word : List ℕ) → Decided (IsNumber word × FitsSigned w (number_in word))
 signed_or_not w word = two (number_or_not word) (fits_or_not w (number_in word))
 
--- the number lies between these two
+-- The number is between these two, or one of them.
 abbrev pub IsBetween : ℕ → ℕ → ℤ → Type 0
 IsBetween least most z = (pos least ≤ℤ z) × (z ≤ℤ pos most)
 
 le_or_not : (a b : ℕ) → Decided (pos a ≤ℤ pos b)
 le_or_not a b = decided_as (λ h. record { le = le→leb a b h }) (λ h. leb→le a b h.le) (at_most_or_not a b)
 
--- a number lies between two, or it does not
+-- A number is between two, or it is not.
 between_or_not : (least most : ℕ) (z : ℤ) → Decided (IsBetween least most z)
 between_or_not least most (pos n) = two (le_or_not least n) (le_or_not n most)
 between_or_not least most (negsuc n) = inr (λ h. h.0.le)
 
--- the word is a numeral of a number between these two
+-- The word is a numeral of a number between these two.
 abbrev pub IsNumberBetween : ℕ → ℕ → List ℕ → Type 0
 IsNumberBetween least most word = IsNumber word × IsBetween least most (number_in word)
 
--- a word is such a numeral, or it is not
+-- A word is such a numeral, or it is not.
 pub number_between_or_not : (least most : ℕ) (word : List ℕ) → Decided (IsNumberBetween least most word)
 number_between_or_not least most word = two (number_or_not word) (between_or_not least most (number_in word))
 
@@ -54,13 +54,13 @@ natural_between : (least most : ℕ) (z : ℤ) → IsBetween least most z → (n
 natural_between least most (pos n) h = (n, refl, leb→le least n h.0.le, leb→le n most h.1.le)
 natural_between least most (negsuc n) h = absurd h.0.le
 
--- the number of such a numeral is a natural one
+-- The number of such a numeral is a natural number.
 pub number_between : (least most : ℕ) (word : List ℕ) → IsNumberBetween least most word → (n : ℕ) × IsNumeralOf word (pos n) × (least ≤ n) × (n ≤ most)
 number_between least most word h =
     let found = natural_between least most (number_in word) h.1 in
     (found.0, (h.0, found.1), found.2, found.3)
 
--- a numeral of a number between these two is one
+-- A numeral of a natural number between these two is such a numeral.
 pub numeral_between : (least most : ℕ) (word : List ℕ) (n : ℕ) → IsNumeralOf word (pos n) → least ≤ n → n ≤ most → IsNumberBetween least most word
 numeral_between least most word n h low high =
     let between : IsBetween least most (pos n) = (record { le = le→leb least n low }, record { le = le→leb n most high }) in

@@ -1,4 +1,4 @@
--- What a list of flags stands for is one number.
+-- A list of flags has at most one value.
 use Rattle.std.proofs.Common.{◌≡◌, ℕ, ◌<◌, List, [], ◌∷◌, ◌++◌, refl, sym, ap, subst, ◌∙◌, arith, inl, inr, Bool, true, false, cond, nat_eq, bit_or, zero, suc, get_or, drop}
 use Rattle.std.specs.Prelude.{Contains, codes}
 use Rattle.std.specs.Char.{digit_value}
@@ -10,7 +10,7 @@ use Rattle.sysv_words.specs.Words.{SplitsAt}
 use Rattle.sysv_words.specs.FlagNames.{NamesFlag, AddsFlags, ListsFlags, IsFlags, IsFlagList, One, More}
 use Rattle.sysv_words.specs.Splitting.{Contains-first, splits_once, SplitsAt-marked}
 
--- the bits that a name stands for, if it stands for any
+-- The bits of a name, if it has any.
 abbrev name_bits : List ℕ → ℕ
 name_bits name =
     cond (nat_eq (get_or name 0 0) 48) (digits_value 8 (drop 1 name))
@@ -25,11 +25,11 @@ NamesFlag-bits name bits (inr (inr (inr (inl h)))) = h.1 ∙ sym (ap name_bits h
 NamesFlag-bits name bits (inr (inr (inr (inr (inl h))))) = h.1 ∙ sym (ap name_bits h.0)
 NamesFlag-bits name bits (inr (inr (inr (inr (inr h))))) = h.1 ∙ sym (ap name_bits h.0)
 
--- a name stands for one number
+-- A name has at most one value.
 pub NamesFlag-once : (name : List ℕ) (a b : ℕ) → NamesFlag name a → NamesFlag name b → a ≡ b
 NamesFlag-once name a b h k = NamesFlag-bits name a h ∙ sym (NamesFlag-bits name b k)
 
--- a byte of the list is a `+`
+-- One of the bytes is a `+`.
 abbrev has_plus : List ℕ → Bool
 has_plus [] = false
 has_plus (x ∷ xs) = cond (nat_eq x 43) true (has_plus xs)
@@ -67,23 +67,23 @@ has_plus-none (x ∷ xs) e c = elim (Contains-append_cases (x ∷ []) xs 43 c) [
   | inr h ↦ has_plus-none xs (rest_plain (nat_eq x 43) (has_plus xs) e) h
 ]
 
--- a name has no `+`
+-- A name contains no `+`.
 pub NamesFlag-unmarked : (name : List ℕ) (bits : ℕ) → NamesFlag name bits → Contains name 43 → ⊥
 NamesFlag-unmarked name bits h = has_plus-none name (NamesFlag-plain name bits h)
 
--- a list that splits names a flag and goes on
+-- A list that splits begins with a name and continues with a list.
 pub AddsFlags-split : (before : ℕ) (list : List ℕ) (all : ℕ) (p r : List ℕ) → SplitsAt 43 list p r → AddsFlags before list all → (bits : ℕ) × NamesFlag p bits × AddsFlags (bit_or before bits) r all
 AddsFlags-split before list all p r s (One _ name bits h) = absurd (NamesFlag-unmarked name bits h (SplitsAt-marked 43 name p r s))
 AddsFlags-split before list all p r s (More _ name rest bits _ h more) =
     let e = splits_once 43 (name ++ 43 ∷ rest) name rest p r (record { whole = refl; unmarked = NamesFlag-unmarked name bits h }) s in
     (bits, subst (λ (n : List ℕ). NamesFlag n bits) e.0 h, subst (λ (l : List ℕ). AddsFlags (bit_or before bits) l all) e.1 more)
 
--- a list that does not split names one flag
+-- A list that does not split is one name.
 pub AddsFlags-last : (before : ℕ) (list : List ℕ) (all : ℕ) → (Contains list 43 → ⊥) → AddsFlags before list all → (bits : ℕ) × NamesFlag list bits
 AddsFlags-last before list all s (One _ name bits h) = (bits, h)
 AddsFlags-last before list all s (More _ name rest bits _ h more) = absurd (s (Contains-append_right name (43 ∷ rest) 43 (Contains-first 43 43 rest refl)))
 
--- a list without `+` names one flag
+-- A list without `+` is one name, and has its bits combined with those before it.
 adds_last : (before : ℕ) (list : List ℕ) (all : ℕ) → (Contains list 43 → ⊥) → AddsFlags before list all → (bits : ℕ) × NamesFlag list bits × (all ≡ bit_or before bits)
 adds_last before list all s (One _ name bits h) = (bits, h, refl)
 adds_last before list all s (More _ name rest bits _ h more) = absurd (s (Contains-append_right name (43 ∷ rest) 43 (0, omega arith, refl)))
@@ -123,6 +123,6 @@ flags_once word a b (inr h) (inr k) = adds_once 0 word a b h k
 abbrev flags_made : ℕ → Flags
 flags_made bits = record { 0 = bits }
 
--- a word stands for one set of flags
+-- A word means at most one set of flags.
 pub flag_list_once : (word : List ℕ) (a b : Flags) → IsFlagList word a → IsFlagList word b → a ≡ b
 flag_list_once word a b h k = ap flags_made (flags_once word a.0 b.0 h k)

@@ -1,4 +1,4 @@
--- A numeral is text.
+-- A numeral is valid UTF-8.
 use Rattle.std.proofs.Common.{◌≡◌, ◌<◌, ◌≤◌, ◌^◌, length, ℕ, List, [], ◌∷◌, Bool, true, false, nat_eq, cond, refl, arith}
 use Rattle.std.proofs.lemmas.Bool.Decides.{nat_tests}
 use Rattle.std.proofs.lemmas.Fmt.{IsAscii-from_digits}
@@ -29,11 +29,11 @@ AllDigits-decimal : (radix : ℕ) (ds : List ℕ) → radix ≤ 10 → AllDigits
 AllDigits-decimal radix [] few h = h
 AllDigits-decimal radix (d ∷ ds) few h = (digits_below d radix few h.0, AllDigits-decimal radix ds few h.1)
 
--- digits alone are text
+-- A text of digits alone is valid UTF-8.
 pub IsUtf8-digits : (radix : ℕ) (word : List ℕ) → radix ≤ 10 → IsNumeral radix word → IsUtf8 word
 IsUtf8-digits radix word few h = IsUtf8-from_ascii word (IsAscii-from_digits word (AllDigits-decimal radix word few h.1))
 
--- four octal digits stand for a small number
+-- The number of at most four octal digits is small.
 pub octal_small : (ds : List ℕ) → AllDigits 8 ds → length ds ≤ 4 → digits_value 8 ds < 2 ^ 32
 octal_small [] h few = omega arith
 octal_small (a ∷ []) h few = let small : digits_value 8 (a ∷ []) < 8 = digits_value-lt 8 (a ∷ []) h in omega (arith, small)

@@ -1,4 +1,4 @@
--- A word says one value of each kind, and whether it says one is decided.
+-- A word has at most one value of each kind, and it is decided whether it has one.
 use Rattle.std.proofs.Common.{◌≡◌, ◌≤◌, ℕ, ℤ, pos, inl, inr, List, length, arith, refl, sym, ap, subst, ◌∙◌, w32, w64}
 use Rattle.std.specs.Str.Parse.{AllDigits, digits_value}
 use Rattle.std.specs.Int.RustNames.{FitsSigned}

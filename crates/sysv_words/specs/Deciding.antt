@@ -1,5 +1,5 @@
--- What holds of numbers and texts, or does not: which number is the greater, whether two texts are one,
--- whether a text begins with another, and where it splits.
+-- Questions about numbers and texts that are decided: which number is greater, whether two texts
+-- are equal, whether a text begins with another one, and where it splits.
 use Rattle.std.proofs.Common.{◌≡◌, ◌≤◌, ◌<◌, ◌+◌, ◌⊎◌, ℕ, zero, suc, inl, inr, List, [], ◌∷◌, ◌++◌, length, length-append, refl, sym, ap, subst, ◌∙◌, arith}
 use Rattle.std.specs.Prelude.{Contains}
 use Rattle.std.proofs.lemmas.Bool.{cases_eq}
@@ -8,16 +8,17 @@ use Rattle.sysv_lists.specs.Prefix.{IsPrefixOf}
 use Rattle.sysv_lists.proofs.Orders.{at_most}
 use Rattle.sysv_words.specs.Words.{SplitsAt}
 
--- it holds, or it does not
+-- The statement holds, or it does not.
 abbrev pub Decided : Type 0 → Type 0
 Decided P = P ⊎ ¬ P
 
--- what holds exactly where something decided holds is decided
+-- A statement is decided if it is equivalent to one that is decided.
 pub decided_as : {P Q : Type 0} → (P → Q) → (Q → P) → Decided P → Decided Q
 decided_as to from (inl p) = inl (to p)
 decided_as to from (inr not) = inr (λ q. not (from q))
 
--- facts are decided together where each is: two of them, four of them, and one of two
+-- If several statements are decided, so is their conjunction (of two and of four), and the
+-- disjunction of two.
 pub two : {P Q : Type 0} → Decided P → Decided Q → Decided (P × Q)
 two (inl p) (inl q) = inl (p, q)
 two (inl p) (inr not) = inr (λ h. not h.1)
@@ -44,7 +45,7 @@ at_most_or_not a b = elim (at_most a b) [ inl h ↦ inl h | inr over ↦ inr (λ
 pub below_or_not : (a b : ℕ) → Decided (a < b)
 below_or_not a b = elim (at_most b a) [ inl over ↦ inr (λ h. not_both b a over h) | inr below ↦ inl below ]
 
--- two texts are one, or they are not
+-- Two texts are equal, or they are not.
 pub same_or_not : (a b : List ℕ) → Decided (a ≡ b)
 same_or_not [] [] = inl refl
 same_or_not [] (y ∷ ys) = inr (λ e. cc)
@@ -57,7 +58,7 @@ same_or_not (x ∷ xs) (y ∷ ys) = elim (cases_eq x y) [
 begun_behind : (x y : ℕ) (front text : List ℕ) → IsPrefixOf (x ∷ front) (y ∷ text) → (y ≡ x) × IsPrefixOf front text
 begun_behind x y front text (rest, e) = (cc, (rest, cc))
 
--- a text begins with a front, or it does not
+-- A text begins with `front`, or it does not.
 pub begun_or_not : (front text : List ℕ) → Decided (IsPrefixOf front text)
 begun_or_not [] text = inl (text, refl)
 begun_or_not (x ∷ front) [] = inr (λ h. let e = h.1 in cc)
@@ -69,12 +70,12 @@ begun_or_not (x ∷ front) (y ∷ text) = elim (cases_eq y x) [
   | inr other ↦ inr (λ h. other (begun_behind x y front text h).0)
 ]
 
--- what stands after a front is one text
+-- At most one text follows `front` in a text.
 rest_same : (front a b : List ℕ) → front ++ a ≡ front ++ b → a ≡ b
 rest_same [] a b e = e
 rest_same (x ∷ front) a b e = let behind : front ++ a ≡ front ++ b = cc in rest_same front a b behind
 
--- a text begins with a front after which P holds of the rest, or it does not
+-- A text begins with `front` and P holds of the rest, or this is not so.
 pub behind_or_not : (front : List ℕ) (P : List ℕ → Type 0) → ((rest : List ℕ) → Decided (P rest)) → (text : List ℕ) → Decided ((rest : List ℕ) × (text ≡ front ++ rest) × P rest)
 behind_or_not front P decided text = elim (begun_or_not front text) [
   | inl b ↦ decided_as (λ p. (b.0, b.1, p)) (λ h. subst P (rest_same front h.0 b.0 (sym h.1 ∙ b.1)) h.2) (decided b.0)
@@ -94,11 +95,11 @@ Contains-more x mark xs other none h = elim (Contains-append_cases (x ∷ []) xs
   | inr behind ↦ none behind
 ]
 
--- the text splits at the mark
+-- The text splits at the mark.
 abbrev pub Splits : ℕ → List ℕ → Type 0
 Splits mark text = (part : List ℕ) × (rest : List ℕ) × SplitsAt mark text part rest
 
--- a text splits at a mark, or does not contain it
+-- A text splits at a mark, or does not contain it.
 pub splits_or_not : (mark : ℕ) (text : List ℕ) → Splits mark text ⊎ ¬ Contains text mark
 splits_or_not mark [] = inr (Contains-none mark)
 splits_or_not mark (x ∷ xs) = elim (cases_eq x mark) [
@@ -109,7 +110,7 @@ splits_or_not mark (x ∷ xs) = elim (cases_eq x mark) [
   ]
 ]
 
--- what stands after the mark is shorter than the text
+-- The rest after the mark is shorter than the text.
 pub splits_shorter : (mark : ℕ) (text part rest : List ℕ) → SplitsAt mark text part rest → length rest < length text
 splits_shorter mark text part rest s =
     let whole : length text ≡ length part + length (mark ∷ rest) = ap length s.whole ∙ length-append part (mark ∷ rest) in

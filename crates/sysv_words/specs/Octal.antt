@@ -1,5 +1,5 @@
--- The permission bits of a queue as a script writes them (this project's script language): one to four
--- octal digits, 0777 at most.
+-- The permission bits of a queue as a script writes them (this project's script language): one to
+-- four octal digits, at most 0777.
 use Rattle.std.specs.Prelude.{◌≡◌, ◌≤◌, ℕ, List, length}
 use Rattle.std.specs.Str.Parse.{AllDigits, digits_value}
 use Rattle.sysv_words.specs.declared.octal.Octal.{Octal}

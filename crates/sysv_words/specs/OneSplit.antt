@@ -1,4 +1,5 @@
--- A text splits at a mark in one way, where it holds the mark, and in none else (this project's words).
+-- A text splits at a mark in exactly one way if it contains the mark, and in no way if it does not
+-- (this project's script language).
 use Rattle.std.specs.Prelude.{◌≡◌, ◌<◌, ◌⊎◌, ℕ, List, length, Contains}
 use Rattle.sysv_words.specs.Words.{SplitsAt}
 
@@ -6,5 +7,5 @@ pub record OneSplit : Type 0 where
   pub once : (mark : ℕ) (text part rest front behind : List ℕ) → SplitsAt mark text part rest → SplitsAt mark text front behind → (part ≡ front) × (rest ≡ behind)
   pub either : (mark : ℕ) (text : List ℕ) → ((part : List ℕ) × (rest : List ℕ) × SplitsAt mark text part rest) ⊎ ¬ Contains text mark
   pub marked : (mark : ℕ) (text part rest : List ℕ) → SplitsAt mark text part rest → Contains text mark
-  -- what stands after the mark is shorter than the text
+  -- The rest after the mark is shorter than the text.
   pub shorter : (mark : ℕ) (text part rest : List ℕ) → SplitsAt mark text part rest → length rest < length text

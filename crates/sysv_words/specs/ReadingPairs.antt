@@ -1,4 +1,5 @@
--- Several words are read in one way where each is, and whether they say something is decided.
+-- If each of several words is read in one way, so are all of them together, and it is decided
+-- whether they have a value (this project's script language).
 use Rattle.std.proofs.Common.{◌≡◌, ℕ, inl, inr, List, subst}
 use Rattle.sysv_words.specs.Words.{SplitsAt, Pair, After}
 use Rattle.sysv_words.specs.Readings.{SaysOnce, IsDecided, IsReading}

@@ -1,4 +1,5 @@
--- What a text says is one thing: where it splits, and what its words say.
+-- A text splits at a mark in at most one way, and what follows for its first word and the words
+-- after it.
 use Rattle.std.proofs.Common.{◌≡◌, ℕ, List, [], ◌∷◌, ◌++◌, refl, sym, ap, subst, ◌∙◌, arith}
 use Rattle.std.specs.Prelude.{Contains}
 use Rattle.std.proofs.lemmas.List.Elements.{Contains-append_right}
@@ -18,17 +19,17 @@ splits_apart m (x ∷ p) r (y ∷ q) s hp hq e =
     let same : x ∷ p ≡ y ∷ q = ap (λ z. z ∷ p) first ∙ ap (λ l. y ∷ l) tails.0 in
     (same, tails.1)
 
--- a text splits in one way
+-- A text splits at a mark in at most one way.
 pub splits_once : (m : ℕ) (t p r q s : List ℕ) → SplitsAt m t p r → SplitsAt m t q s → (p ≡ q) × (r ≡ s)
 splits_once m t p r q s a b = splits_apart m p r q s a.unmarked b.unmarked (sym a.whole ∙ b.whole)
 
--- a text that splits has the mark
+-- A text that splits at a mark contains it.
 pub SplitsAt-marked : (m : ℕ) (t p r : List ℕ) → SplitsAt m t p r → Contains t m
 SplitsAt-marked m t p r a = subst (λ (l : List ℕ). Contains l m) (sym a.whole) (Contains-append_right p (m ∷ r) m (Contains-first m m r refl))
 
 -- ---- a word, and words after it
 
--- a text without a space has no first word, nor has one whose first word says nothing
+-- A text without a space has no first word with a value, nor has a text whose first word has none.
 pub first-unsplit : {A : Type 0} (Says : List ℕ → A → Type 0) (text : List ℕ) → ¬ Contains text 32 → SaysNoFirst Says text
 first-unsplit Says text plain = λ word rest value split h. plain (SplitsAt-marked 32 text word rest split)
 
@@ -37,7 +38,7 @@ first-no_one Says text word rest split none = λ other more value splits h.
     let same = splits_once 32 text other more word rest splits split in
     none value (subst (λ (w : List ℕ). Says w value) same.0 h)
 
--- no pair is said where the first word says nothing, or the words after it do not
+-- A text has no pair of values if its first word has no value, or if the words after it have none.
 pub Pair-no_one : {A B : Type 0} (One : List ℕ → A → Type 0) (Other : List ℕ → B → Type 0) (text : List ℕ) → SaysNoFirst One text → (both : A × B) → ¬ Pair One Other text both
 Pair-no_one One Other text none both h = none h.word h.rest both.0 h.split h.one
 

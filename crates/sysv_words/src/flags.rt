@@ -1,4 +1,4 @@
-//! The flags of a call, as a script names them.
+//! The flags of a call, as a script writes them.
 ghost use Rattle.std.specs.Prelude.{ℕ, MatchOption};
 ghost use Rattle.sysv_words.specs.FlagNames.{HasName, NamesMode, NamesFlag, ListsFlags, IsFlagList};
 
@@ -8,7 +8,7 @@ use crate::word::split_at_mark;
 use bitflags::Flags as _;
 use sysv_model::Flags;
 
-/// `-` for none, or names and octal modes with `+` between them.
+/// Reads `-` as no flags, or a list of names and octal modes separated by `+`.
 impl Reads for Flags {
     ghost says = { IsFlagList };
 
@@ -21,7 +21,8 @@ impl Reads for Flags {
     }
 }
 
-/// The flags that names and octal modes with `+` between them stand for.
+/// Returns the flags of a list of names and octal modes separated by `+`, or `None` if `list` is
+/// not such a list.
 fn listed_flags(list: &[u8]) -> Option<Flags>
     ensures { MatchOption result ((bits : ℕ) → ListsFlags list.now bits →
         ⊥) (λ flags. ListsFlags list.now flags.0) }
@@ -35,7 +36,7 @@ fn listed_flags(list: &[u8]) -> Option<Flags>
     Some(flags.union(flag_of(rest)?))
 }
 
-/// The flag that a name stands for, or the bits of an octal mode. `None` for any other name.
+/// Returns the flag of a name, or the bits of an octal mode. Returns `None` for any other name.
 fn flag_of(name: &[u8]) -> Option<Flags>
     ensures { MatchOption result ((bits : ℕ) → NamesFlag name.now bits →
         ⊥) (λ flags. NamesFlag name.now flags.0) }
@@ -46,7 +47,8 @@ fn flag_of(name: &[u8]) -> Option<Flags>
     }
 }
 
-/// The bits of an octal mode, which is a `0` and up to three octal digits after it.
+/// Returns the bits of an octal mode: a `0` and up to three more octal digits. Returns `None` for
+/// any other name.
 fn mode_bits(name: &[u8]) -> Option<Flags>
     ensures { MatchOption result ((bits : ℕ) →
         ¬ NamesMode name.now bits) (λ mode. NamesMode name.now mode.0) }
@@ -57,7 +59,7 @@ fn mode_bits(name: &[u8]) -> Option<Flags>
     octal_number(name).map(Flags::from_bits_retain)
 }
 
-/// The flag that has this name.
+/// Returns the flag that has this name, if there is one.
 fn named_flag(name: &[u8]) -> Option<Flags>
     ensures { MatchOption result ((bits : ℕ) →
         ¬ HasName name.now bits) (λ flag. HasName name.now flag.0) }

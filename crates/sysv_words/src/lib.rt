@@ -1,4 +1,5 @@
-//! The words of a line of a script, one space apart, and what they say. `specs/` has their grammar.
+//! The words of a line of a script, separated by one space, and their values. `specs/` has their
+//! grammar.
 #![tactic(auto)]
 
 mod flags;

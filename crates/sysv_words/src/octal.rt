@@ -7,7 +7,7 @@ ghost use Rattle.sysv_words.specs.Octal.{IsOctal};
 use crate::reads::Reads;
 use std::str;
 
-/// The permission bits of a queue, 0 to 0777.
+/// The permission bits of a queue, 0 to 0777, written as one to four octal digits.
 #[derive(Clone, Copy)]
 pub struct Octal(pub u32);
 
@@ -22,7 +22,7 @@ impl Reads for Octal {
     }
 }
 
-/// The number that one to four octal digits stand for. `None` for anything else.
+/// Returns the number of one to four octal digits. Returns `None` for anything else.
 pub(crate) fn octal_number(digits: &[u8]) -> Option<u32>
     ensures { SomeIff result (IsNumeral 8 digits.now
         × (length digits.now ≤ 4)) (digits_value 8 digits.now) }

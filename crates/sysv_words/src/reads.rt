@@ -1,20 +1,20 @@
-//! What words say.
+//! The values of words.
 ghost use Rattle.std.specs.Prelude.{ℕ, List, MatchOption};
 ghost use Rattle.sysv_words.specs.Words.{Pair, SaysFirst, SaysNoFirst, IsInt32, IsInt64, IsNat32, IsNat64};
 
 use crate::word::{natural, number, split_at_mark};
 
-/// A kind of value that words say, one space apart where there are several.
+/// A kind of value that a word, or several words separated by one space, can have.
 pub trait Reads: Sized {
-    /// Which words say which value.
+    /// Which words have which value.
     ghost says: { List ℕ → Self → Type 0 };
 
-    /// The value that the words say; `None` where they say none of its kind.
+    /// Returns the value of the words, or `None` if they have no value of this kind.
     fn read(words: &[u8]) -> Option<Self>
         ensures { MatchOption result ((value : Self) → ¬ says words.now value) (says words.now) };
 }
 
-/// A word that says one value, a space, and words that say another.
+/// Reads a word with one value, a space, and words with another value.
 impl<A: Reads + Drop, B: Reads + Drop> Reads for (A, B) {
     ghost says = { Pair A.says B.says };
 
@@ -25,8 +25,8 @@ impl<A: Reads + Drop, B: Reads + Drop> Reads for (A, B) {
     }
 }
 
-/// What the first word says, and the words after it; `None` where there is one word alone, and where
-/// the first says none of this kind.
+/// Returns the value of the first word and the words after its space. Returns `None` if there is
+/// only one word, or if the first word has no value of this kind.
 pub fn first<T: Reads + Drop>(words: &[u8]) -> Option<(T, &[u8])>
     ensures { MatchOption result (SaysNoFirst T.says words.now) (λ found.
         SaysFirst T.says words.now found.0 found.1.now) }

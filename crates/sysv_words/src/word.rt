@@ -8,7 +8,8 @@ ghost use Rattle.sysv_words.specs.Words.{SplitsAt, IsNumber, number_in};
 
 use std::str;
 
-/// What stands before the first such byte, and what stands after it; `None` where there is none.
+/// Returns the bytes before the first `mark` and the bytes after it, or `None` if `text` does not
+/// contain `mark`.
 pub fn split_at_mark(text: &[u8], mark: u8) -> Option<(&[u8], &[u8])>
     ensures { MatchOption result (¬ (Contains text.now mark)) (λ split.
         SplitsAt mark text.now split.0.now split.1.now) }
@@ -17,8 +18,8 @@ pub fn split_at_mark(text: &[u8], mark: u8) -> Option<(&[u8], &[u8])>
     Some((&text[..place], &text[place + 1..]))
 }
 
-/// The number that a numeral stands for: decimal digits, with a minus before them or not. `None`
-/// for any other word and for a number below -2^63 or from 2^63 on.
+/// Returns the number of a numeral: decimal digits, with or without a minus before them. Returns
+/// `None` for any other word, and for a number below -2^63 or above 2^63 - 1.
 pub(crate) fn number(word: &[u8]) -> Option<i64>
     ensures { SomeIff result (IsNumber word.now
         × FitsSigned w64 (number_in word.now)) (number_in word.now) }
@@ -32,7 +33,8 @@ pub(crate) fn number(word: &[u8]) -> Option<i64>
     }
 }
 
-/// The number that decimal digits stand for. `None` for any other word and for a number from 2^64 on.
+/// Returns the number of decimal digits. Returns `None` for any other word, and for a number above
+/// 2^64 - 1.
 pub(crate) fn natural(word: &[u8]) -> Option<u64>
     ensures { SomeIff result (IsNumeral 10 word.now
         × (digits_value 10 word.now < 2 ^ 64)) (digits_value 10 word.now) }

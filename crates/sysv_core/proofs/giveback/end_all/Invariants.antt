@@ -2,7 +2,7 @@ use Rattle.std.proofs.Common.{◌≡◌, ◌+◌}
 use Rattle.sysv_core.specs.Kept.{blocks_kept}
 use Rattle.sysv_core.proofs.giveback.end_all.Given as goal
 
--- the blocks of the calls that were ended are in the chain
+-- The blocks of the calls that were ended are in the chain.
 abbrev pub invariant-loop-actor : goal.invariant-loop-actor
 invariant-loop-actor l = record { all : l.chain.blocks + blocks_kept l.actors.items ≡ blocks_kept l.initial.actors.items }
 

@@ -19,7 +19,7 @@ use Rattle.sysv_driver.proofs.Stepping.{stepped}
 use Rattle.sysv_driver.specs.Telling.{slot_told}
 use Rattle.sysv_driver.proofs.control.remove.Goals as goal
 
--- what was discarded was waiting in the slot
+-- The discarded messages were queued in the slot.
 of_slot : (slot : Slot) (cred : _) (id : _) (done : Result _ Errno) → FitsAsk slot (asked.Remove id cred) (told.Removed done) → IfOk done (λ discarded. discarded ≡ blocks_of slot.messages)
 of_slot slot cred id (Ok discarded) fits = fits
 of_slot slot cred id (Err why) fits = tt

@@ -5,7 +5,7 @@ use Rattle.sysv_stage.proofs.stage.fill.Goals as goal
 abbrev letters : ℕ → List ℕ
 letters n = replicate n 120
 
--- some of the letters that are left come into the body
+-- Some of the letters that are left are appended to the body.
 letters_moved : (body : List ℕ) (p left count : ℕ) → p ≤ left → body ++ letters left ≡ letters count → (body ++ letters p) ++ letters (left - p) ≡ letters count
 letters_moved body p left count within all =
     let sum : p + (left - p) ≡ left = omega arith in

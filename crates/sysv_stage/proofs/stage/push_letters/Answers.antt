@@ -3,7 +3,7 @@ use Rattle.std.proofs.lemmas.List.{take-replicate, length-replicate}
 use Rattle.sysv_model.specs.declared.limits.TheConstants.{BLOCK_BYTES, BODY_ROOM}
 use Rattle.sysv_stage.proofs.stage.push_letters.Goals as goal
 
--- what comes in, where there is room
+-- What is appended, if there is room.
 came_in : (fits : Bool) (old new piece : List ℕ) (count : ℕ) → count ≤ BLOCK_BYTES → length old + count ≤ BODY_ROOM → piece ≡ take count (replicate BLOCK_BYTES 120) →
     (length old + length piece ≤ BODY_ROOM → fits ≡ true) → new ≡ (if fits then old ++ piece else old) → new ≡ old ++ replicate count 120
 came_in fits old new piece count block room is told after =

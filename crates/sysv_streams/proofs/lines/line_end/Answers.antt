@@ -3,7 +3,7 @@ use Rattle.sysv_streams.specs.Found.{HasNoEnd, IsFirstLine}
 use Rattle.sysv_streams.proofs.LineLemmas.{HasNoEnd-parts, IsFirstLine-behind}
 use Rattle.sysv_streams.proofs.lines.line_end.Goals as goal
 
--- a slice from here on
+-- A slice from this place to the end.
 from_here : (text : List ℕ) (seen : ℕ) → take (length text - seen) (drop seen text) ≡ drop seen text
 from_here text seen = take_all (length text - seen) (drop seen text) (omega (arith, length-drop seen text))
 

@@ -2,7 +2,7 @@ use Rattle.std.proofs.Common.{◌≡◌, ◌+◌, ◌*◌, ◌++◌, ℕ, List, 
 use lib.Seq.{take-add}
 use Rattle.sysv_streams.proofs.output.append_text.Goals as goal
 
--- the blocks so far and the next one
+-- The blocks so far and the next one.
 block_more : (k : ℕ) (text : List ℕ) → take (k * 64) text ++ take 64 (drop (k * 64) text) ≡ take ((k + 1) * 64) text
 block_more k text = let more : k * 64 + 64 ≡ (k + 1) * 64 = omega arith in sym (take-add (k * 64) 64 text) ∙ ap (λ n. take n text) more
 

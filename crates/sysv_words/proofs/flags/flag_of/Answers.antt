@@ -3,7 +3,7 @@ use Rattle.sysv_model.specs.declared.flags.Flags.{Flags}
 use Rattle.sysv_words.specs.FlagNames.{HasName, NamesMode, NamesFlag}
 use Rattle.sysv_words.proofs.flags.flag_of.Goals as goal
 
--- a name that is no flag's stands for what the mode says
+-- A name that is not that of a flag has the bits of the mode, if it is one.
 or_mode : (name : List ℕ) (mode : Option Flags) → ((bits : ℕ) → ¬ HasName name bits) →
     MatchOption mode ((bits : ℕ) → ¬ NamesMode name bits) (λ bits. NamesMode name bits.0) →
     MatchOption mode ((bits : ℕ) → NamesFlag name bits → ⊥) (λ flags. NamesFlag name flags.0)

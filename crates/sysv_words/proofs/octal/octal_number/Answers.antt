@@ -8,7 +8,7 @@ use Rattle.std.specs.Str.Parse.{without_leading_plus}
 use Rattle.sysv_words.proofs.Numerals.{IsUtf8-digits, octal_small}
 use Rattle.sysv_words.proofs.octal.octal_number.Goals as goal
 
--- what is read of at most four digits, before which no plus stands
+-- What is read of at most four digits without a plus before them.
 octal_read : {E : Type 0} (digits : List ℕ) (r : Result ℕ E) → get_or digits 0 0 ≢ 43 → length digits ≤ 4 → ParsesUnsigned 32 8 digits r →
     SomeIff (result_ok r) (IsNumeral 8 digits × (length digits ≤ 4)) (digits_value 8 digits)
 octal_read {E} digits (Ok x) plain few h =

@@ -3,7 +3,7 @@ use Rattle.sysv_core.specs.Tallying.{messages_in}
 use Rattle.sysv_core.proofs.Runs.{UnderWay}
 use Rattle.sysv_core.proofs.world.World.run.Given as goal
 
--- the events so far are done, and there is room for the answers to those that are left
+-- The events so far have happened, and there is room for the answers to those that are left.
 abbrev pub invariant-loop-event : goal.invariant-loop-event
 invariant-loop-event l = record {
   split : l.fn.events.items ≡ l.yielded ++ l.event-iterator.rest.items;

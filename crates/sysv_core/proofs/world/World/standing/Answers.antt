@@ -9,7 +9,7 @@ use Rattle.sysv_core.specs.Held.{text_in}
 use Rattle.sysv_core.specs.Seen.{Seen}
 use Rattle.sysv_core.proofs.world.World.standing.Goals as goal
 
--- what is seen at an actor's place is what is kept there
+-- What is seen at an actor's place is what is kept there.
 seen_there : (actors : List (Option Doing)) (states : List (Option State)) (actor place : ℕ) (doing : Option Doing) → states_kept actors ≡ states → actor ≡ suc place → slice_get actors place ≡ Some doing →
     state_at states actor ≡ Some (state_kept doing)
 seen_there actors states actor place doing view is at =
@@ -21,7 +21,7 @@ seen_there actors states actor place doing view is at =
     option_map_kept None = None
     option_map_kept (Some d) = Some (state_kept d)
 
--- a place of the list has something
+-- Each place of the list has an element.
 kept_at : (actors : List (Option Doing)) (states : List (Option State)) (place : ℕ) (doing : Option Doing) → states_kept actors ≡ states → place < length states →
     doing ≡ get_or actors place doing → slice_get actors place ≡ Some doing
 kept_at actors states place doing view low is =
