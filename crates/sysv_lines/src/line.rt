@@ -51,7 +51,7 @@ pub enum Line<'a> {
     All,
 }
 
-/// Returns the meaning of a line, or `None` if the line is bad.
+/// Returns the meaning of a line, or `None` if the line is not understood.
 pub fn line_of(line: &[u8]) -> Option<Line<'_>>
     ensures says { MatchOption result ((said : Said) →
         ¬ Says line.now said) (λ understood. Says line.now (said_of understood)) }
