@@ -1,7 +1,7 @@
-//! What the calls refuse.
+//! The errors of this crate.
 use thiserror::Error;
 
-/// Why an eventcount or a sequencer was not opened.
+/// The reasons why an eventcount or a sequencer was not opened.
 #[derive(Clone, Copy, Debug, PartialEq, Eq, Error)]
 pub enum OpenRefused {
     #[error("out of memory")]
@@ -10,12 +10,12 @@ pub enum OpenRefused {
     BadStart,
 }
 
-/// The seat's allowance is too small to be split.
+/// The seat's allowance is below 64, so it cannot be split.
 #[derive(Clone, Copy, Debug, PartialEq, Eq, Error)]
 #[error("the allowance is too small to be split")]
 pub struct TooMany;
 
-/// The word has reached 2^62. Nothing was added.
+/// The word has reached 2^62, and nothing was added.
 #[derive(Clone, Copy, Debug, PartialEq, Eq, Error)]
 #[error("the count is worn out")]
 pub struct Worn;
