@@ -1,5 +1,5 @@
--- The slots, the registry and the pool as objects of one bank: what their turns are, and how each kind is seen by itself
--- (this profile's).
+-- The slots, the registry and the pool as objects of one bank: what their turns are, and how
+-- contracts see each kind by itself. This project's profile.
 use Rattle.std.specs.Prelude.{ℕ, ◌+◌, pos, true, None, [], ⊤}
 use Rattle.sysv_queue.specs.Slot.{Slot}
 use Rattle.sysv_keys.specs.StandsFor.{Registry}
@@ -31,7 +31,7 @@ use Rattle.sysv_turns.specs.PoolTurns.{PoolMoves}
 use Rattle.sysv_gated.specs.Counts.{pool_counts}
 use Rattle.sysv_gated.specs.Kinds.{Kind}
 
--- ---- of which kind something is
+-- ---- the kind of an object
 
 abbrev pub IsSlot : Gated → Type 0
 IsSlot (gated.Slot slot) = ⊤
@@ -48,7 +48,8 @@ IsPool (gated.Slot slot) = ⊥
 IsPool (gated.Registry registry) = ⊥
 IsPool (gated.Pool pool) = ⊤
 
--- ---- one kind by itself. What is of another kind is seen as something of this one, of which nothing is said
+-- ---- one kind by itself. Anything of another kind is seen as a value of this kind of which
+-- nothing is stated
 
 abbrev pub slot_in : Gated → Slot
 slot_in (gated.Slot slot) = slot
@@ -106,28 +107,31 @@ as_pool = record { object = pool_in; call = pool_call_in; reply = pool_reply_in 
 
 -- ---- turns
 
--- an object is asked what its kind is asked
+-- An object accepts the calls of its own kind.
 abbrev pub Accepts : Gated → ObjectCall → Type 0
 Accepts object (asked.Slot call) = IsSlot object
 Accepts object (asked.Registry call) = IsRegistry object
 Accepts object (asked.Pool call) = IsPool object
 
--- the call and the reply are of one kind, and an object of this kind makes the turn and stays of the kind
+-- The call and the reply are of one kind, and an object of that kind makes the turn and stays of
+-- that kind.
 abbrev pub makes : ObjectCall → ObjectReply → Gated → Gated → Type 0
 makes (asked.Slot call) (told.Slot reply) before after = IsSlot before × IsSlot after × SlotMoves (slot_in before) call reply (slot_in after)
 makes (asked.Registry call) (told.Registry reply) before after = IsRegistry before × IsRegistry after × RegistryMoves (registry_in before) call reply (registry_in after)
 makes (asked.Pool call) (told.Pool reply) before after = IsPool before × IsPool after × PoolMoves (pool_in before) call reply (pool_in after)
 makes call reply before after = ⊥
 
+-- The meaning of the objects' calls.
 abbrev pub GatedMoves : Gated → ObjectCall → ObjectReply → Gated → Type 0
 GatedMoves before call reply after = makes call reply before after
 
+-- The two counts of an object, by its kind.
 abbrev pub gated_counts : Gated → ℕ × ℕ
 gated_counts (gated.Slot slot) = slot_counts slot
 gated_counts (gated.Registry registry) = registry_counts registry
 gated_counts (gated.Pool pool) = pool_counts pool
 
--- the place in the bank of the object that is asked
+-- The place in the bank of the object that is called.
 abbrev pub place_of : ObjectCall → ℕ
 place_of (asked.Slot call) = slot_asked call + 2
 place_of (asked.Registry call) = 0

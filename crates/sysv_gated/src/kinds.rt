@@ -8,7 +8,8 @@ use crate::slot::GatedSlot;
 use sysv_gate::Object;
 use sysv_turns::{ObjectCall, ObjectReply};
 
-/// An object behind a gate, of one of three kinds. It stays of its kind, and is asked only what its kind is asked.
+/// An object behind a gate, of one of three kinds. It stays of its kind, and accepts only the calls
+/// of its kind.
 pub enum Gated {
     Slot(GatedSlot),
     Registry(GatedRegistry),
