@@ -24,6 +24,7 @@ pub enum PutRefused<T> {
 /// 2^62 items were put. The error holds the item that was not put.
 #[derive(Drop)]
 pub struct PutWorn<T> {
+    /// The item that was not put.
     pub item: T,
 }
 

@@ -4,8 +4,10 @@ use thiserror::Error;
 /// The reasons why an eventcount or a sequencer was not opened.
 #[derive(Clone, Copy, Debug, PartialEq, Eq, Error)]
 pub enum OpenRefused {
+    /// The word could not be allocated.
     #[error("out of memory")]
     NoMemory,
+    /// The first value is above 2^62.
     #[error("the first value is above 2^62")]
     BadStart,
 }

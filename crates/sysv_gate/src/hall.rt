@@ -19,7 +19,9 @@ pub type HallToken<O> = atomic_table::Seat<Spot<O>, Knows<O>>;
 
 /// What is fixed when the table is laid: the objects, for proofs only, and the first ticket.
 pub struct HallKey<O> {
+    /// The objects that were at the places when the table was laid.
     pub openings: Snapshot<Vec<O, Global>>,
+    /// The first ticket of each place.
     pub first: u64,
 }
 

@@ -6,7 +6,9 @@ use std::snapshot::Snapshot;
 
 /// A call that was served, with its reply. It has no bytes at run time.
 pub struct Done<C, R> {
+    /// The call.
     pub call: Snapshot<C>,
+    /// The reply to the call.
     pub reply: Snapshot<R>,
 }
 
@@ -60,6 +62,8 @@ impl<C, R> Beside<C, R> {
 /// The object, together with the call that was served last. It lets the step that ends a turn know
 /// which turn ends.
 pub struct Place<O, C, R> {
+    /// The object.
     pub object: O,
+    /// The call that was served last, if there was one.
     pub last: Beside<C, R>,
 }

@@ -12,6 +12,7 @@ pub enum OpenRefused<O> {
 /// The tickets have reached 2^62, so no ticket was drawn. The error holds the call.
 #[derive(Debug, Drop)]
 pub struct Worn<C> {
+    /// The call that was not made.
     pub call: C,
 }
 

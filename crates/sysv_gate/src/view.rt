@@ -5,7 +5,9 @@ use std::collections::LinkedList;
 pub struct Turn<O, C, R> {
     /// The number of the seat that made the turn.
     pub by: u64,
+    /// The call.
     pub call: C,
+    /// The reply of the object.
     pub reply: R,
     /// The object after the turn.
     pub after: O,
@@ -43,7 +45,9 @@ pub struct View<O, C, R> {
 
 /// One turn at one of several places.
 pub struct Placed<O, C, R> {
+    /// The place of the turn.
     pub place: u64,
+    /// The turn.
     pub turn: Turn<O, C, R>,
 }
 

@@ -36,8 +36,11 @@ pub enum OpenRefused {
 
 /// What the gates return when they are closed. The slots are in the order of their numbers.
 pub struct GatesClosed {
+    /// What the gates of the slots returned, in the order of the slots' numbers.
     pub slots: Vec<Closing<GatedSlot>>,
+    /// What the gate of the registry returned.
     pub registry: Closing<GatedRegistry>,
+    /// What the gate of the pool returned.
     pub pool: Closing<GatedPool>,
 }
 

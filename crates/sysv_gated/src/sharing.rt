@@ -25,7 +25,8 @@ impl Gates {
     ///
     /// # Errors
     ///
-    /// - `NoMemory` leaves `seats` unchanged.
+    /// - `NoMemory` is never returned by this implementation, which allocates nothing here. If it
+    ///   were, `seats` would be unchanged.
     ///
     /// # Conditions
     ///

@@ -24,6 +24,8 @@ pub enum WorkersFault {
 
 /// The states that a failed run hands back, and the cause of the failure.
 pub struct WorkersRefused<W> {
+    /// The cause of the failure.
     pub why: WorkersFault,
+    /// All states, in their order.
     pub states: Vec<W>,
 }
