@@ -1,4 +1,4 @@
--- What a bank returns when it is closed.
+-- What a bank returns when it is closed. This project's profile.
 use Rattle.std.specs.Prelude.{◌≡◌, ℕ, List, length}
 use mathlib.Core.Option.{some}
 use lib.ListN.{get_elem?}

@@ -1,4 +1,4 @@
--- A consequence of the rule of a bank for all its passes together.
+-- A consequence of the rule of a bank for all its passes together. This project's profile.
 use Rattle.std.specs.Prelude.{◌≡◌, ◌⊎◌, ℕ, List}
 use mathlib.Core.Option.{some}
 use lib.ListN.{get_elem?}

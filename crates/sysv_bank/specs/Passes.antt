@@ -1,4 +1,5 @@
--- What contracts see of a bank's seat, and how the order that it has seen grows.
+-- What contracts see of a bank's seat, and how the order that it has seen grows. This project's
+-- profile.
 use Rattle.std.specs.Prelude.{◌≡◌, ℕ, ◌≤◌, List, [], ◌∷◌, ◌++◌}
 use mathlib.Core.Option.{some}
 use lib.ListN.{get_elem?}

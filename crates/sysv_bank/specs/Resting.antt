@@ -1,4 +1,4 @@
--- How a bank and its seats are stored between two calls.
+-- How a bank and its seats are stored between two calls. This project's profile.
 use Rattle.std.specs.Prelude.{◌≡◌, ℕ, ◌*◌, ◌^◌, ◌<◌, ◌≤◌, List, [], length, map, vec_capacity}
 use mathlib.Core.Option.{some}
 use lib.ListN.{get_elem?}

@@ -1,4 +1,4 @@
--- How an end is stored between two calls: it holds no cell.
+-- How an end is stored between two calls: it holds no cell. This project's profile.
 use Rattle.std.specs.Prelude.{◌≡◌, ◌≤◌, false, [], take, length}
 use Rattle.sysv_buffer.specs.declared.ends.Producer.TheInside.{Inside as InProducer}
 use Rattle.sysv_buffer.specs.declared.ends.Consumer.TheInside.{Inside as InConsumer}

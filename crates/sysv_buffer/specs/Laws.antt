@@ -1,4 +1,4 @@
--- A consequence of the rule of a `OneBuffer` for its two ends together.
+-- A consequence of the rule of a `OneBuffer` for its two ends together. This project's profile.
 use Rattle.std.specs.Prelude.{◌≡◌, ℕ, ◌≤◌, List, ◌++◌, length, take, Option}
 use mathlib.Core.Option.{some}
 use lib.ListN.{get_elem?}

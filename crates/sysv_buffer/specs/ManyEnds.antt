@@ -1,4 +1,5 @@
--- What contracts see of a seat of a `ManyBuffer`, and what the calls do to it.
+-- What contracts see of a seat of a `ManyBuffer`, and what the calls do to it. This project's
+-- profile.
 use Rattle.std.specs.Prelude.{◌≡◌, ℕ, ◌+◌, ◌<◌, ◌≤◌, ◌^◌, List, [], ◌∷◌, ◌++◌, length}
 use mathlib.Core.Option.{some}
 use lib.ListN.{get_elem?}

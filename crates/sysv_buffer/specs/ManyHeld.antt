@@ -1,4 +1,5 @@
--- How a seat of a `ManyBuffer` is stored between two calls: it holds no ticket and no cell.
+-- How a seat of a `ManyBuffer` is stored between two calls: it holds no ticket and no cell. This
+-- project's profile.
 use Rattle.std.specs.Prelude.{◌≡◌, [], Option}
 use Rattle.atomic_table.specs.declared.shared.Seat.{Seat}
 use Rattle.sysv_buffer.specs.declared.many_view.Sight.{Sight}

@@ -1,4 +1,4 @@
--- Consequences of the rule of a `ManyBuffer` for all its seats together.
+-- Consequences of the rule of a `ManyBuffer` for all its seats together. This project's profile.
 use Rattle.std.specs.Prelude.{◌≡◌, ℕ, ◌+◌, ◌<◌, ◌≤◌, List, length, Option}
 use mathlib.Core.Option.{some}
 use lib.ListN.{get_elem?}

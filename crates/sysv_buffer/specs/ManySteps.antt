@@ -1,4 +1,5 @@
--- What a seat of a `ManyBuffer` learns from each kind of step that it makes.
+-- What a seat of a `ManyBuffer` learns from each kind of step that it makes. This project's
+-- profile.
 use Rattle.std.specs.Prelude.{◌≡◌, ℕ, ◌+◌, ◌%◌, ◌^◌, ◌<◌, ◌≤◌, true, false, List, [], ◌∷◌, ◌++◌, length, max, Option, Some, None}
 use mathlib.Core.Option.{some}
 use lib.ListN.{get_elem?}

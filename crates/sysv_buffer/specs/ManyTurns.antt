@@ -1,4 +1,5 @@
--- What the parts of a call require of a seat of a `ManyBuffer`, and what they leave.
+-- What the parts of a call require of a seat of a `ManyBuffer`, and what they leave. This project's
+-- profile.
 use Rattle.std.specs.Prelude.{◌≡◌, ℕ, ◌+◌, ◌%◌, ◌<◌, ◌≤◌, ◌^◌, true, false, List, [], ◌∷◌, ◌++◌, length, Option, None, Some}
 use mathlib.Core.Option.{some}
 use lib.ListN.{get_elem?}

@@ -1,5 +1,5 @@
 -- What the refusals of a put and of a take mean at a `OneBuffer`. They describe the buffer by the
--- counts that were loaded.
+-- counts that were loaded. This project's profile.
 use Rattle.std.specs.Prelude.{◌≡◌, ◌+◌, ◌^◌, ◌<◌, ◌≤◌, length}
 use Rattle.sysv_buffer.specs.Ends.{Putting, Taking}
 use Rattle.sysv_buffer.specs.declared.refusals.PutRefused.{PutRefused}

@@ -1,4 +1,4 @@
--- What an end of a `OneBuffer` learns from each kind of step that it makes.
+-- What an end of a `OneBuffer` learns from each kind of step that it makes. This project's profile.
 use Rattle.std.specs.Prelude.{◌≡◌, ℕ, ◌+◌, ◌%◌, ◌<◌, ◌≤◌, true, false, List, [], ◌∷◌, ◌++◌, length, Option, Some, None}
 use mathlib.Core.Option.{some}
 use lib.ListN.{get_elem?}

@@ -1,4 +1,5 @@
--- What the parts of a call require of an end of a `OneBuffer`, and what they leave.
+-- What the parts of a call require of an end of a `OneBuffer`, and what they leave. This project's
+-- profile.
 use Rattle.std.specs.Prelude.{Option, ◌≡◌, ℕ, ◌+◌, ◌%◌, ◌<◌, ◌≤◌, ◌^◌, true, false, List, [], ◌∷◌, length, None}
 use Rattle.atomic_table.specs.declared.shared.Seat.{Seat}
 use Rattle.sysv_buffer.specs.declared.view.View.{View}

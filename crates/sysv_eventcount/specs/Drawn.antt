@@ -1,5 +1,5 @@
 -- The numbers that seats have drawn, compared with the lists of returned tickets. The tests with
--- threads use these definitions.
+-- threads use these definitions. This project's profile.
 use Rattle.std.specs.Prelude.{◌≡◌, ◌+◌, ℕ, List, ◌++◌}
 use Rattle.sysv_eventcount.specs.Counter.{Holding}
 

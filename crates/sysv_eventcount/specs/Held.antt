@@ -1,5 +1,6 @@
 -- How a seat is stored between two calls: it holds no slot of the table, it is cleared for no
 -- addition, and the number stored in it is its allowance, which is positive and at most the whole.
+-- This project's profile.
 use Rattle.std.specs.Prelude.{◌≡◌, ◌^◌, ◌<◌, ◌≤◌, false, []}
 use Rattle.sysv_eventcount.specs.declared.seat.Seat.TheInside.{Inside}
 use Rattle.sysv_eventcount.specs.Counter.{Holding}

@@ -1,4 +1,4 @@
--- Two consequences of the rule of the word, for all seats together.
+-- Two consequences of the rule of the word, for all seats together. This project's profile.
 use Rattle.std.specs.Prelude.{◌≡◌, ℕ, ◌+◌, ◌≤◌, List}
 use mathlib.Core.Option.{some}
 use lib.ListN.{get_elem?}

@@ -1,7 +1,7 @@
 -- The rule of the one word of an eventcount or a sequencer, and of the views of its seats. Only a
 -- seat that found the word below 2^62 may add past it: such a seat is cleared for one addition. The
 -- allowances bound the number of seats that can be cleared at once, so the word never exceeds 2^62
--- + 2^61.
+-- + 2^61. This project's profile.
 use Rattle.std.specs.Prelude.{◌≡◌, ℕ, ◌+◌, ◌^◌, ◌<◌, ◌≤◌, cond, false, List, [], length, slice_index, sum_by}
 use mathlib.Core.Option.{some}
 use lib.ListN.{get_elem?}

@@ -1,4 +1,5 @@
--- What each step on the word does to a view, and what the seat learns from it.
+-- What each step on the word does to a view, and what the seat learns from it. This project's
+-- profile.
 use Rattle.std.specs.Prelude.{◌≡◌, ℕ, ◌+◌, ◌-◌, ◌/◌, ◌^◌, ◌≤◌, max, false, [], ◌∷◌, ◌++◌, nat_lt}
 use Rattle.atomic_table.specs.Table.{Me, Step}
 use Rattle.sysv_eventcount.specs.declared.view.View.{View}

@@ -1,4 +1,4 @@
--- The result of a bounded wait.
+-- The result of a bounded wait. This project's profile.
 use Rattle.std.specs.Prelude.{ℕ, ◌<◌, ◌≤◌}
 use Rattle.sysv_eventcount.specs.declared.awaited.Awaited.{Awaited}
 use Rattle.sysv_eventcount.specs.declared.awaited.Awaited.TheVariants.{Reached, Short}

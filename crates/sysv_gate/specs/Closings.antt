@@ -1,4 +1,4 @@
--- What a gate returns when it is closed.
+-- What a gate returns when it is closed. This project's profile.
 use Rattle.std.specs.Prelude.{◌≡◌, ℕ, ◌+◌, ◌≤◌, true, List, length, Option, Some, None, IfSome, IfNone}
 use mathlib.Core.Option.{some}
 use lib.ListN.{get_elem?}

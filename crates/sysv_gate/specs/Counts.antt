@@ -1,4 +1,4 @@
--- The two counts of an object, and the words where they are announced.
+-- The two counts of an object, and the words where they are announced. This project's profile.
 use Rattle.std.specs.Prelude.{ℕ, max}
 use Rattle.sysv_gate.specs.declared.count.Count.{Count}
 use Rattle.sysv_gate.specs.declared.count.Count.TheVariants.{Arrived, Freed}

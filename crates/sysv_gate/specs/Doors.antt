@@ -1,4 +1,5 @@
--- A place of a table, and what the parts of a call there require of a pass and leave of it.
+-- A place of a table, and what the parts of a call there require of a pass and leave of it. This
+-- project's profile.
 use Rattle.std.specs.Prelude.{◌≡◌, ℕ, ◌+◌, ◌*◌, ◌<◌, ◌≤◌, List, [], ◌∷◌, ◌++◌, false, length, slice_set, Some}
 use mathlib.Core.Option.{some}
 use lib.ListN.{get_elem?}

@@ -1,4 +1,4 @@
--- What is read of one place of a table that was closed.
+-- What is read of one place of a table that was closed. This project's profile.
 use Rattle.std.specs.Prelude.{◌≡◌, ◌≢◌, ℕ, ◌+◌, ◌-◌, ◌*◌, List, None}
 use mathlib.Core.Option.{some}
 use lib.ListN.{get_elem?}

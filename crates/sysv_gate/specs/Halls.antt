@@ -1,7 +1,7 @@
 -- The rule of a table with one place, as a gate has it, or several places. Place p has the words
 -- from 80 p on and slot p. A pass has a view of each place, and has seen a prefix of the one order
 -- of all turns. At each place the rule of a gate holds for the turns of the order that were made
--- there.
+-- there. This project's profile.
 use Rattle.std.specs.Prelude.{◌≡◌, ◌⊎◌, ℕ, ◌*◌, ◌^◌, ◌<◌, List, [], ◌∷◌, map, take, drop, length, slice_index_or, sum_by}
 use mathlib.Core.Option.{none, some}
 use lib.ListN.{get_elem?}

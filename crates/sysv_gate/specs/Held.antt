@@ -1,4 +1,4 @@
--- How a seat is stored between two calls.
+-- How a seat is stored between two calls. This project's profile.
 use Rattle.std.specs.Prelude.{◌≡◌, ℕ, ◌≤◌, false, [], length, Some}
 use Rattle.atomic_table.specs.Seated.{TableId}
 use Rattle.atomic_table.specs.declared.shared.Seat.{Seat}

@@ -1,4 +1,5 @@
 -- Consequences of the rule of a gate for all seats together. They hold at each place of a table.
+-- This project's profile.
 use Rattle.std.specs.Prelude.{◌≡◌, ◌⊎◌, ℕ, ◌+◌, ◌≤◌, List, length, slice_index, true, false}
 use mathlib.Core.Option.{some}
 use lib.ListN.{get_elem?}

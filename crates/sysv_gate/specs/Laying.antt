@@ -1,4 +1,4 @@
--- How a table with several places is laid.
+-- How a table with several places is laid. This project's profile.
 use Rattle.std.specs.Prelude.{◌≡◌, ℕ, ◌*◌, ◌<◌, List, [], ◌∷◌, length, map, slice_index, None}
 use mathlib.Core.Option.{some}
 use lib.ListN.{get_elem?}

@@ -1,4 +1,4 @@
--- A gate is a table with one place, and the door of that place.
+-- A gate is a table with one place, and the door of that place. This project's profile.
 use Rattle.sysv_gate.specs.declared.gate.Gate.TheInside.{Inside}
 use Rattle.sysv_gate.specs.Gates.{Gateway}
 use Rattle.sysv_gate.specs.Laying.{IsOneDoor}

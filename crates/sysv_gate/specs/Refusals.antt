@@ -1,4 +1,4 @@
--- What the refusals mean. Each hands back what was handed in.
+-- What the refusals mean. Each hands back what was handed in. This project's profile.
 use Rattle.std.specs.Prelude.{◌≡◌, ℕ, ◌^◌, ◌<◌, ◌≤◌}
 use Rattle.sysv_gate.specs.declared.refusals.OpenRefused.{OpenRefused}
 use Rattle.sysv_gate.specs.declared.refusals.OpenRefused.TheVariants.{NoMemory, BadStart}

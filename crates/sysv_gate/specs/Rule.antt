@@ -2,7 +2,7 @@
 -- more. Word 16 of the place is the ticket that is served, and word 32 is the ticket that is drawn
 -- next. Words 48 and 64 announce the object's two counts, and the slot of the place has the object.
 -- The words are 128 bytes apart, so that no two share a cache line. The log is the history of all
--- turns there.
+-- turns there. This project's profile.
 use Rattle.std.specs.Prelude.{◌≡◌, ℕ, ◌+◌, ◌^◌, ◌≤◌, true, false, List, [], ◌∷◌, length, slice_index, sum_by, Option, Some}
 use mathlib.Core.Option.{some}
 use mathlib.Core.Option as maybe

@@ -1,5 +1,5 @@
 -- The share that a pass has of its table, as a list of depths. Depth d is the part 2^-d, so depth 0
--- alone is the whole.
+-- alone is the whole. This project's profile.
 use Rattle.std.specs.Prelude.{◌≡◌, ℕ, suc, ◌-◌, ◌^◌, ◌≤◌, List, [], ◌∷◌, map, sum_by}
 
 -- Each depth of the share is at most this one.

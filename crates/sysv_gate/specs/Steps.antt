@@ -1,4 +1,5 @@
--- What the steps on the words do to a view, and what the seat learns from them.
+-- What the steps on the words do to a view, and what the seat learns from them. This project's
+-- profile.
 use Rattle.std.specs.Prelude.{◌≡◌, ℕ, ◌+◌, ◌^◌, ◌≤◌, ◌||◌, true, false, List, [], ◌∷◌, ◌++◌, length, nat_le, nat_lt, Option, Some, None}
 use Rattle.atomic_table.specs.Table.{Me, Step, rest}
 use Rattle.sysv_gate.specs.declared.view.View.{View}

@@ -1,4 +1,4 @@
--- What the parts of a call require of a seat, and what they leave.
+-- What the parts of a call require of a seat, and what they leave. This project's profile.
 use Rattle.std.specs.Prelude.{◌≡◌, ℕ, ◌+◌, ◌<◌, ◌≤◌, ◌^◌, cond, true, false, List, [], ◌∷◌, length, Option, Some, None}
 use Rattle.sysv_gate.specs.declared.view.View.{View}
 use Rattle.sysv_gate.specs.declared.view.Turn as view

@@ -1,4 +1,4 @@
--- The result of a wait for a count.
+-- The result of a wait for a count. This project's profile.
 use Rattle.std.specs.Prelude.{◌≡◌, ℕ, ◌<◌, ◌≤◌, Option, Some, None}
 use Rattle.sysv_gate.specs.declared.count.Count.{Count}
 use Rattle.sysv_gate.specs.declared.awaited.Awaited.{Awaited}

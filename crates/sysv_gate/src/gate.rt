@@ -173,7 +173,7 @@ impl<O: Object> Gate<O> {
 
     /// Wakes the next thread that sleeps in `arrived_within`, if there is one. A rise of the first
     /// count wakes only one of these threads. A thread that was woken there and does not use what
-    /// arrived must call `pass_on`, or the others do not see the rise until their second is over.
+    /// arrived should call `pass_on`, or the others do not see the rise until their second is over.
     pub fn pass_on(&self) {
         self.door.pass_on();
     }

@@ -77,7 +77,7 @@ impl<O: Object> Gate<O> {
     /// most. Returns `None` only if the count that was read last is below `goal`.
     ///
     /// A rise wakes only one of the threads that sleep in this wait. A thread that was woken here
-    /// and does not use what arrived must call `pass_on`.
+    /// and does not use what arrived should call `pass_on`.
     ///
     /// # Conditions
     ///

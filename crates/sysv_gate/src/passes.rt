@@ -14,6 +14,7 @@ use crate::words::SERVING;
 ///
 /// # Conditions
 ///
+/// - The table has at least one place.
 /// - `token` is a pass of this table, and is at rest at every place.
 pub fn split_pass<O: Object>(hall: &Hall<O>, token: &mut HallToken<O>) -> HallToken<O>
     requires table { (token.old.table_id ≡ hall.now.shared.table_id)
@@ -32,6 +33,7 @@ pub fn split_pass<O: Object>(hall: &Hall<O>, token: &mut HallToken<O>) -> HallTo
 ///
 /// # Conditions
 ///
+/// - The table has at least one place.
 /// - `token` and `other` are passes of this table, and both are at rest at every place.
 pub fn join_pass<O: Object>(hall: &Hall<O>, token: &mut HallToken<O>, other: HallToken<O>)
     requires table { (token.old.table_id ≡ hall.now.shared.table_id)

@@ -160,7 +160,7 @@ impl<O: Object> Door<O> {
     }
 
     // Sleeps until the ticket may be served, unless it is served already. Returns the ticket that
-    // was served before the sleep.
+    // it found served.
     fn doze_until(
         &self,
         rt: &impl Wait,

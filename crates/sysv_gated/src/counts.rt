@@ -138,7 +138,7 @@ impl Gates {
     /// `goal`.
     ///
     /// A rise wakes only one of the threads that sleep in this wait. A thread that was woken here
-    /// and does not use what arrived must call `pass_arrived_on`.
+    /// and does not use what arrived should call `pass_arrived_on`.
     ///
     /// # Conditions
     ///

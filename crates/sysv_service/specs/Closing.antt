@@ -30,8 +30,8 @@ abbrev pub all_held : List (Closing Slot) → ℕ
 all_held [] = 0
 all_held (c ∷ cs) = is_held c.object + all_held cs
 
--- The pool takes a chain back only if its free blocks and the chain's are together at most its
--- size, and its released count can rise. Otherwise the pool is unchanged.
+-- The pool takes a chain back if its free blocks and the chain's are together at most its size, and
+-- its released count is below 2^63. Otherwise the pool is unchanged.
 abbrev pub takes_back : State → ℕ → State
 takes_back pool blocks =
     if nat_le (pool.free + blocks) pool.size && nat_lt pool.released (2 ^ 63) then record pool { free = pool.free + blocks; released = pool.released + 1 } else pool

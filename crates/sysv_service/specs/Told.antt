@@ -39,8 +39,8 @@ TellsGot (Refused why) (Err told) out = (told ≡ why) × (out ≡ [])
 TellsGot ending result out = ⊥
 
 -- The result of a read of a slot's row. The row is returned in a turn at the slot. A slot that does
--- not exist is refused, and nothing is done. Otherwise an error means that the slot's gate is worn
--- out. The pass keeps the same chains after an error.
+-- not exist is refused with EINVAL, and nothing is done. Any other refusal is EOVERFLOW, and the
+-- slot's gate is worn out. The pass keeps the same chains in every case.
 abbrev pub TellsRow : ℕ → Pass → Result (Option Row) Errno → Pass → Type 0
 TellsRow slot before (Ok row) after = (slot < SLOTS) × Makes before (AtSlot slot ReadRow (Shown row)) after
 TellsRow slot before (Err why) after =

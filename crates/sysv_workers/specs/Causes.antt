@@ -1,5 +1,6 @@
 -- The causes of a refused run. The seat is the one that fed the workers, after all of them were
--- joined. It has seen all that was put into the buffer, each item and each end mark.
+-- joined. It has seen all that was put into the buffer, each item and each end mark. This project's
+-- profile.
 use Rattle.std.specs.Prelude.{◌≡◌, ◌≢◌, ◌⊎◌, ℕ, ◌+◌, ◌^◌, ◌≤◌, Bool, false, List, length, Option, Some, None}
 use Rattle.std.specs.List.{flat_map}
 use Rattle.sysv_buffer.specs.ManyEnds.{Holding}

@@ -1,4 +1,4 @@
--- The threads that run, by the states on which they were started.
+-- The threads that run, by the states on which they were started. This project's profile.
 use Rattle.std.specs.Prelude.{◌≡◌, List, map, reverse}
 use Rattle.std.specs.declared.thread.PromisedHandle.{PromisedHandle}
 use Rattle.sysv_buffer.specs.Ends.{Buffered}

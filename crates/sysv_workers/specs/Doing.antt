@@ -1,4 +1,4 @@
--- What one worker does, and what is known after some workers have ended.
+-- What one worker does, and what is known after some workers have ended. This project's profile.
 use Rattle.std.specs.Prelude.{◌≡◌, ℕ, ◌+◌, ◌^◌, ◌≤◌, Bool, true, false, List, ◌++◌, length, map}
 use Rattle.std.specs.List.{All, FoldsTo, flat_map}
 use Rattle.sysv_buffer.specs.Ends.{Buffered}

@@ -1,5 +1,5 @@
 -- What is in the buffer that feeds the workers: the items of the source, and then one end mark per
--- worker.
+-- worker. This project's profile.
 use Rattle.std.specs.Prelude.{◌≡◌, ℕ, ◌+◌, ◌-◌, ◌^◌, ◌≤◌, min, Bool, true, false, List, [], ◌∷◌, ◌++◌, length, map, replicate}
 use mathlib.Core.Option.{some}
 use lib.ListN.{get_elem?}

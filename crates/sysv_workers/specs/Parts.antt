@@ -1,5 +1,5 @@
 -- What worker threads do together. Each worker has a part: it begins with a state, runs a job over
--- items, one after the other, and leaves a state.
+-- items, one after the other, and leaves a state. This project's profile.
 use Rattle.std.specs.Prelude.{◌≡◌, List, map}
 use Rattle.std.specs.List.{All, FoldsTo, flat_map}
 use Rattle.std.specs.List.Sorted.{IsPermutation}

@@ -1,4 +1,4 @@
--- What a run of workers does, and what is handed back if it is refused.
+-- What a run of workers does, and what is handed back if it is refused. This project's profile.
 use Rattle.std.specs.Prelude.{◌≡◌, ◌≢◌, List, Option}
 use Rattle.std.specs.List.{All}
 use Rattle.sysv_workers.specs.Parts.{Part, Leads, AreDealt}

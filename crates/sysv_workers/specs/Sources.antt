@@ -1,4 +1,4 @@
--- The items that a source returns.
+-- The items that a source returns. This project's profile.
 use Rattle.std.specs.Prelude.{◌≡◌, ◌⊎◌, List, [], Option, Some, None}
 use Rattle.std.specs.List.{FoldsTo}
 

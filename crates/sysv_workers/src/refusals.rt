@@ -17,7 +17,8 @@ pub enum WorkersFault {
     /// been put into it.
     #[error("the buffer is worn out")]
     Worn,
-    /// The number of items that were run differs from the number of items that were put.
+    /// The number of items that were run, or the number of items and end marks that were put, is
+    /// not what the source requires.
     #[error("items were missed")]
     Missed,
 }

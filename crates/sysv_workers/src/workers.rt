@@ -44,8 +44,10 @@ pub const MAX_CROWD: usize = 256;
 /// - `BadCount` if and only if there are not 1 to 16 states.
 /// - `NoMemory` if memory is refused.
 /// - `Thread` if a thread cannot be started and no item was run.
-/// - `Worn` if 2^62 items and end marks were put into the buffer.
-/// - `Missed` if the number of items that were run differs from the number of items that were put.
+/// - `Worn` only if 2^62 items and end marks were put into the buffer.
+/// - `Missed` only if the number of items that were run differs from the number of items of the
+///   source, or the number of items and end marks that were put differs from the number that was to
+///   be put.
 ///
 /// After `BadCount`, `NoMemory` and `Thread` the states are unchanged, and the source was not read.
 /// After `Worn` and `Missed` each state is one to which runs over some items lead. After `Missed`
