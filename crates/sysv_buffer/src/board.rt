@@ -20,8 +20,10 @@ pub(crate) const OUT: usize = 16;
 /// The number of words in the table. It is large enough that no other memory is near OUT.
 const WORDS: usize = 32;
 
+/// The table of a `OneBuffer`: two counts, and the cells.
 pub(crate) type Board<T> = Table<Option<T>, View<T>, (), Buffering<T>, Global>;
 
+/// The right to make steps on the table.
 pub(crate) type Token<T> = atomic_table::Seat<Option<T>, View<T>>;
 
 // Allocates a row of `cells` empty cells.

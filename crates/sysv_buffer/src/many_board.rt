@@ -18,8 +18,10 @@ pub(crate) const TAKE_TICKET: usize = 48;
 /// in use.
 const WORDS: usize = 64;
 
+/// The table of a `ManyBuffer`: two counts, two sequencers, and the cells.
 pub(crate) type Board<T> = Table<Option<T>, Sight<T>, (), Crowding<T>, Global>;
 
+/// The right to make steps on the table.
 pub(crate) type Token<T> = atomic_table::Seat<Option<T>, Sight<T>>;
 
 // Makes the table with its first seat.

@@ -3,6 +3,7 @@ use crate::many_view::Sight;
 use atomic_table::{Join, Play, Split, TableRule};
 use std::marker::PhantomData;
 
+/// The rule of the table.
 pub(crate) struct Crowding<T> {
     item: PhantomData<T>,
 }

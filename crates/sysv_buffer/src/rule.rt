@@ -3,6 +3,7 @@ use crate::view::View;
 use atomic_table::{Play, Split, TableRule};
 use std::marker::PhantomData;
 
+/// The rule of the table.
 pub(crate) struct Buffering<T> {
     item: PhantomData<T>,
 }

@@ -2,6 +2,7 @@
 use crate::view::View;
 use atomic_table::{Join, Play, Split, TableRule};
 
+/// The rule of the word.
 pub(crate) struct Counting;
 
 impl TableRule<(), View, u64> for Counting {

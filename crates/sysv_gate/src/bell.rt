@@ -63,6 +63,7 @@ impl Bell {
         }
     }
 
+    // Leaves again after an `enter`.
     pub(crate) fn leave(&self) {
         self.sleepers.fetch_sub(1, SeqCst);
     }

@@ -7,8 +7,10 @@ use std::alloc::Global;
 use std::marker::PhantomData;
 use std::snapshot::Snapshot;
 
+/// A slot of the table.
 pub(crate) type Spot<O> = Option<Place<O, <O as Object>::Call, <O as Object>::Reply>>;
 
+/// What a pass knows of the table.
 type Knows<O> = Sight<O, <O as Object>::Call, <O as Object>::Reply>;
 
 /// The table of several places.

@@ -33,16 +33,19 @@ use Rattle.sysv_gated.specs.Kinds.{Kind}
 
 -- ---- the kind of an object
 
+-- The object is a slot.
 abbrev pub IsSlot : Gated → Type 0
 IsSlot (gated.Slot slot) = ⊤
 IsSlot (gated.Registry registry) = ⊥
 IsSlot (gated.Pool pool) = ⊥
 
+-- The object is the registry.
 abbrev pub IsRegistry : Gated → Type 0
 IsRegistry (gated.Slot slot) = ⊥
 IsRegistry (gated.Registry registry) = ⊤
 IsRegistry (gated.Pool pool) = ⊥
 
+-- The object is the pool.
 abbrev pub IsPool : Gated → Type 0
 IsPool (gated.Slot slot) = ⊥
 IsPool (gated.Registry registry) = ⊥
@@ -51,57 +54,69 @@ IsPool (gated.Pool pool) = ⊤
 -- ---- one kind by itself. Anything of another kind is seen as a value of this kind of which
 -- nothing is stated
 
+-- The object, as a slot.
 abbrev pub slot_in : Gated → Slot
 slot_in (gated.Slot slot) = slot
 slot_in (gated.Registry registry) = record { live = None; messages = []; arrived = 0; freed = 0 }
 slot_in (gated.Pool pool) = record { live = None; messages = []; arrived = 0; freed = 0 }
 
+-- The call, as one of a slot.
 abbrev pub slot_call_in : ObjectCall → SlotCall
 slot_call_in (asked.Slot call) = call
 slot_call_in (asked.Registry call) = Ask (Row 0)
 slot_call_in (asked.Pool call) = Ask (Row 0)
 
+-- The reply, as one of a slot.
 abbrev pub slot_reply_in : ObjectReply → SlotReply
 slot_reply_in (told.Slot reply) = reply
 slot_reply_in (told.Registry reply) = Shown None
 slot_reply_in (told.Pool reply) = Shown None
 
+-- The object, as the registry.
 abbrev pub registry_in : Gated → Registry
 registry_in (gated.Slot slot) = record { places = []; settled = 0 }
 registry_in (gated.Registry registry) = registry
 registry_in (gated.Pool pool) = record { places = []; settled = 0 }
 
+-- The call, as one of the registry.
 abbrev pub registry_call_in : ObjectCall → RegistryCall
 registry_call_in (asked.Slot call) = Settle (pos 0)
 registry_call_in (asked.Registry call) = call
 registry_call_in (asked.Pool call) = Settle (pos 0)
 
+-- The reply, as one of the registry.
 abbrev pub registry_reply_in : ObjectReply → RegistryReply
 registry_reply_in (told.Slot reply) = Changed true
 registry_reply_in (told.Registry reply) = reply
 registry_reply_in (told.Pool reply) = Changed true
 
+-- The object, as the pool.
 abbrev pub pool_in : Gated → State
 pool_in (gated.Slot slot) = record { size = 0; free = 0; released = 0 }
 pool_in (gated.Registry registry) = record { size = 0; free = 0; released = 0 }
 pool_in (gated.Pool pool) = pool
 
+-- The call, as one of the pool.
 abbrev pub pool_call_in : ObjectCall → PoolCall
 pool_call_in (asked.Slot call) = Reserve 0
 pool_call_in (asked.Registry call) = Reserve 0
 pool_call_in (asked.Pool call) = call
 
+-- The reply, as one of the pool.
 abbrev pub pool_reply_in : ObjectReply → PoolReply
 pool_reply_in (told.Slot reply) = Reserved None
 pool_reply_in (told.Registry reply) = Reserved None
 pool_reply_in (told.Pool reply) = reply
 
+-- The slots, as a kind.
 abbrev pub as_slot : Kind Gated ObjectCall ObjectReply Slot SlotCall SlotReply
 as_slot = record { object = slot_in; call = slot_call_in; reply = slot_reply_in }
 
+-- The registry, as a kind.
 abbrev pub as_registry : Kind Gated ObjectCall ObjectReply Registry RegistryCall RegistryReply
 as_registry = record { object = registry_in; call = registry_call_in; reply = registry_reply_in }
 
+-- The pool, as a kind.
 abbrev pub as_pool : Kind Gated ObjectCall ObjectReply State PoolCall PoolReply
 as_pool = record { object = pool_in; call = pool_call_in; reply = pool_reply_in }
 

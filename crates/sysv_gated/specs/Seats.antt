@@ -28,12 +28,15 @@ use Rattle.sysv_gated.specs.Counts.{pool_counts}
 
 -- ---- the seats
 
+-- What contracts see of a seat at a slot.
 abbrev pub SlotSeat : Type 0
 SlotSeat = Holding Slot SlotCall SlotReply
 
+-- What contracts see of a seat at the registry.
 abbrev pub RegistrySeat : Type 0
 RegistrySeat = Holding Registry RegistryCall RegistryReply
 
+-- What contracts see of a seat at the pool.
 abbrev pub PoolSeat : Type 0
 PoolSeat = Holding State PoolCall PoolReply
 

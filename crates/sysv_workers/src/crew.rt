@@ -19,6 +19,7 @@ use std::sync::Wait;
 use std::thread::{PromisedHandle, Scope, Threads};
 use sysv_buffer::{ManyBuffer, Seat};
 
+/// The handle of a worker's thread.
 pub(crate) type Handle<W, T, J> = PromisedHandle<Done<W, T>, Working<W, T, J>>;
 
 /// What the workers that have been joined did.
