@@ -23,7 +23,7 @@ impl Gates {
     /// # Conditions
     ///
     /// - `seats` are seats of these gates.
-    /// - If `call` is one of a slot, the number of that slot is below 256.
+    /// - If `call` reads the row of a slot, the number of that slot is below 256.
     #[inline(always)]
     pub fn make(
         &self,
