@@ -34,9 +34,9 @@ module _ {T : Type 0} where
   abbrev pub HasItsOwn : Holding T → Type 0
   HasItsOwn h = AreOnce h.seen h.puts × AreOnce h.seen h.takes
 
-  -- One seat was joined into another. The seat has seen all items put so far. They begin with what
-  -- either seat had seen, and are at least as many as either had seen taken. The seat has the
-  -- places of both.
+  -- One seat was joined into another. The items that the seat has then seen begin with what either
+  -- seat had seen, and are at least as many as either had seen taken. The seat has the places of
+  -- both.
   pub record Joins (one two after : Holding T) : Type 0 where
     pub begins_one : IsPrefixOf one.seen after.seen
     pub begins_two : IsPrefixOf two.seen after.seen

@@ -80,8 +80,8 @@ impl<T: Drop> ManyBuffer<T> {
         Seat { token }
     }
 
-    /// Merges `other` into `seat`: the items that both have seen, and the places that both put into
-    /// and took from.
+    /// Merges `other` into `seat`. Afterwards `seat` has seen at least the items that either seat
+    /// had seen, and has the places that both put into and took from.
     ///
     /// # Conditions
     ///

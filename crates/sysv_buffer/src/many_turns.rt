@@ -15,9 +15,9 @@ use crate::many_rule::{
 pub(crate) enum Room {
     /// The seat holds this cell.
     Cell(usize),
-    /// Every cell has an item, and this number of items were taken.
+    /// Every cell has an item. It holds the number of items taken.
     Full(u64),
-    /// Another seat has the ticket for the next put, and this number of items were put.
+    /// Another seat has the ticket for the next put. It holds the number of items put.
     Busy(u64),
     /// 2^62 items were put.
     Worn,
@@ -28,9 +28,9 @@ pub(crate) enum Room {
 pub(crate) enum Next {
     /// The seat holds this cell, which has the next item.
     Cell(usize),
-    /// No item is in the buffer, and this number of items were put.
+    /// No item is in the buffer. It holds the number of items put.
     Empty(u64),
-    /// Another seat has the ticket for the next take, and this number of items were taken.
+    /// Another seat has the ticket for the next take. It holds the number of items taken.
     Busy(u64),
     /// 2^62 items were taken.
     Worn,

@@ -22,7 +22,7 @@ pub(crate) const LOW_BITS: u64 = 0xffff_ffff;
 pub(crate) enum Reach {
     /// The producer holds this cell.
     Room(usize),
-    /// Every cell has an item, and this number of items were taken.
+    /// Every cell has an item. It holds the number of items taken.
     Full(u64),
     /// 2^62 items were put.
     WornOut,
@@ -33,7 +33,7 @@ pub(crate) enum Reach {
 pub(crate) enum Found {
     /// The consumer holds this cell, which has the next item.
     Item(usize),
-    /// No item is in the buffer, and this number of items were put.
+    /// No item is in the buffer. It holds the number of items put.
     Empty(u64),
     /// 2^62 items were taken.
     Spent,

@@ -23,7 +23,8 @@ pub type Eventcount = Word<Advances>;
 
 impl Word<Advances> {
     /// Returns the current value. The value is at least the greatest value that the seat has seen,
-    /// and it counts every addition made with the seat.
+    /// and it counts every addition made with the seat. An addition of another seat that is in
+    /// progress may or may not be counted.
     ///
     /// # Conditions
     ///

@@ -51,8 +51,9 @@ IsPool (gated.Slot slot) = ⊥
 IsPool (gated.Registry registry) = ⊥
 IsPool (gated.Pool pool) = ⊤
 
--- ---- one kind by itself. Anything of another kind is seen as a value of this kind of which
--- nothing is stated
+-- ---- one kind by itself
+--
+-- A value of another kind is seen as some value of this kind. Nothing is stated of it.
 
 -- The object, as a slot.
 abbrev pub slot_in : Gated → Slot

@@ -25,15 +25,15 @@ use Rattle.sysv_gated.specs.Counts.{pool_counts}
 use Rattle.sysv_gated.specs.Opened.{AreOpen}
 use Rattle.sysv_gated.specs.Seats.{SlotSeat, RegistrySeat, PoolSeat, Gates, Seats, AreOf, slot_entry, registry_entry, pool_entry, slot_seen, registry_seen, pool_seen, object_of, TakesTurn}
 
--- What the seats have seen is a history that the object stands for.
+-- A legal history that a seat has seen of an object is one that the object stands for, if nothing
+-- had happened at the object when its gate was opened.
 pub record SeenHistories : Type 0 where
   pub slots : (seat : SlotSeat) → SlotStandsFor [] seat.gate.opening → IsLegal (Moves SlotMoves slot_counts) seat.gate.opening seat.seen → SlotStandsFor (slot_seen seat) (object_of seat)
   pub registry : (generation : ℕ) (seat : RegistrySeat) → RegistryStandsFor generation [] seat.gate.opening → IsLegal (Moves RegistryMoves registry_counts) seat.gate.opening seat.seen →
       RegistryStandsFor generation (registry_seen seat) (object_of seat)
   pub pool : (seat : PoolSeat) → PoolStandsFor [] seat.gate.opening → IsLegal (Moves PoolMoves pool_counts) seat.gate.opening seat.seen → PoolStandsFor (pool_seen seat) (object_of seat)
 
--- Each history that was seen obeys the law of its object, if nothing had happened at the object
--- when its gate was opened.
+-- Such a history obeys the law of its object.
 pub record SeenHistoriesObey : Type 0 where
   pub slots : (seat : SlotSeat) → SlotStandsFor [] seat.gate.opening → IsLegal (Moves SlotMoves slot_counts) seat.gate.opening seat.seen → QueueLaw (slot_seen seat)
   pub registry : (generation : ℕ) (seat : RegistrySeat) → RegistryStandsFor generation [] seat.gate.opening → IsLegal (Moves RegistryMoves registry_counts) seat.gate.opening seat.seen →

@@ -19,7 +19,7 @@ pub(crate) const FIRST_SLOT: usize = 2;
 /// The slots of the queues, the registry and the pool, each behind a gate of its own. All turns at
 /// all of them have one order. Threads share the gates by reference, and each thread takes turns
 /// with seats of its own. A call on an identifier goes to the slot of that identifier, whether a
-/// queue lives under it or not. Each call waits for its turn.
+/// queue is live under it or not. Each call waits for its turn.
 pub struct Gates {
     pub(crate) bank: Bank<Gated>,
     /// Space for the result of `close`, so that `close` allocates nothing.

@@ -9,14 +9,16 @@ use sysv_keys::registry_law;
 use sysv_pool::pool_law;
 use sysv_queue::queue_law;
 
-/// States that what a seat has seen of an object is a history that the object stands for, so each
-/// reply in it is legal.
+/// States that a legal history that a seat has seen of an object is one that the object stands for,
+/// if nothing had happened at the object when its gate was opened. So each reply in it is the legal
+/// one.
 pub fn seen_histories()
     ensures { SeenHistories }
 {}
 
-/// States that what a seat has seen of a slot obeys the queue law, what it has seen of the registry
-/// obeys the registry law, and what it has seen of the pool obeys the pool law.
+/// States that a legal history that a seat has seen of an object obeys the law of that object (the
+/// queue law, the registry law or the pool law), if nothing had happened at the object when its
+/// gate was opened.
 pub fn seen_histories_obey()
     ensures { SeenHistoriesObey }
 {
