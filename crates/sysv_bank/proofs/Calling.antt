@@ -1,4 +1,4 @@
--- What the calls at a place leave of the names of a pass and of its own turns.
+-- What the calls at a place leave of the numbers of a pass and of its own turns.
 use Rattle.std.proofs.Common.{◌≡◌, ℕ, ◌+◌, List, [], ◌∷◌, ◌++◌, length, ap, ◌∙◌, length-append}
 use Rattle.std.specs.Prelude.{Option, Some, None, Result, Ok, Err, IfOk, IfErr}
 use Rattle.sysv_gate.specs.declared.view.View.{View}
@@ -15,12 +15,12 @@ use Rattle.sysv_gate.specs.Turns.{HasWorn, HasRead, HasWaited, HasWaitedWithin}
 use Rattle.sysv_gate.specs.Doors.{HasCalled, HasTried}
 use Rattle.sysv_bank.specs.Resting.{IsNamedAs}
 
--- the pass has the same names there, and no turn more
+-- The pass has the same numbers there, and no more turns.
 pub record Stays {O C R : Type 0} (v w : View O C R) : Type 0 where
   pub names : IsNamedAs v w
   pub own : w.own ≡ v.own
 
--- the pass has the same names there, and one turn more, which is the last that it has seen
+-- The pass has the same numbers there, and one more turn, which is the last that it has seen.
 pub record Adds {O C R : Type 0} (v w : View O C R) : Type 0 where
   pub names : IsNamedAs v w
   pub last : ℕ
@@ -60,7 +60,7 @@ module _ {O C R : Type 0} (moves : O → C → R → O → Type 0) (counted : O 
   stays_within m m' count goal (Some a) told = stays_waited m m' count goal a told
   stays_within m m' count goal None told = stays_read m m' count told.0 told.2
 
-  -- whatever comes of a call, the names stay
+  -- The numbers stay, whatever the result of a call is.
   pub call_names : (m m' : Mine O C R) (call : C) (r : Result R (WornCall C)) → IfOk r (λ x. HasCalled moves counted o m call x m') → IfErr r (λ w. (w.call ≡ call) × HasWorn m m') → IsNamedAs m.0 m'.0
   call_names m m' call (Ok x) ok err = (adds m m' call x ok).names
   call_names m m' call (Err w) ok err = (stays_worn m m' err.1).names

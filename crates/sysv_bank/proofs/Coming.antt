@@ -1,4 +1,4 @@
--- How seats of a bank come, and how one takes in another.
+-- How seats of a bank are made, split and joined.
 use Rattle.std.proofs.Common.{◌≡◌, ℕ, zero, suc, ◌+◌, ◌<◌, ◌≤◌, List, [], ◌∷◌, ◌++◌, map, length, get_or, refl, sym, ap, ◌∙◌, subst, arith}
 use Rattle.std.proofs.lemmas.List.{length-map, get_or-map}
 use mathlib.Core.Option.{some}
@@ -78,7 +78,7 @@ module _ {O C R : Type 0} where
     };
   }
 
-  -- and what it makes its turns under
+  -- The number of the first seat.
   pub first_named : (s : Inside O C R) → 1 ≤ length s.key.value.openings.value.items → s.token.me ≡ (outset s.key.value.openings.value.items s.key.value.first, []) → ((pass_of s).number ≡ 0) × ((pass_of s).numbers ≡ 0 ∷ [])
   first_named s some_place is =
       let zero_there = there s.key.value.openings.value.items 0 (omega arith) in
@@ -201,7 +201,7 @@ module _ {O C R : Type 0} (moves : O → C → R → O → Type 0) where
               };
         }
 
-    -- the order that the two have seen, and their numbers
+    -- The order that the two seats have seen, and their numbers.
     pub split_order : (key : Snapshot (HallKey O)) (parent : Seat (Spot O C R) (Sight O C R)) → 1 ≤ length Os → parent.me ≡ (halved s.token.me.0, s.token.me.1) → IsNewcomer s.token.me.0 token.me
         → SplitsOff (pass_of s) (pass_of (record { token = parent; key = s.key })) (pass_of (record { token = token; key = key }))
     split_order key parent some_place is new =
@@ -225,7 +225,7 @@ module _ {O C R : Type 0} (moves : O → C → R → O → Type 0) where
           no_turn = subst (λ (l : List ℕ). NoneMadeUnder l token.me.0.seen) (sym numbers) (subst (NoneMadeUnder (n ∷ [])) (sym order) none);
         }
 
--- ---- a seat that takes in another
+-- ---- a seat into which another is joined
 
 module _ {O C R : Type 0} (moves : O → C → R → O → Type 0) where
   joined_seats : (table table' : TableId) (first first' : ℕ) (order : List (Placed O C R)) (os os' : List O) (vs ws : List (View O C R)) (from : ℕ) → length vs ≡ length os → length ws ≡ length vs → length os' ≡ length os
@@ -243,7 +243,7 @@ module _ {O C R : Type 0} (moves : O → C → R → O → Type 0) where
             (λ place p at. let there : from + suc place ≡ suc from + place = omega arith in subst (λ (k : ℕ). Told moves order p (get_or vs place spent) (get_or ws place spent) k) there (each (suc place) p at)),
       )
 
-  -- a seat is the same under another spelling of its key
+  -- A seat at rest stays so if its key is replaced by an equal one.
   pub rests_key : (s : Inside O C R) (key : Snapshot (HallKey O)) → key.value.first ≡ s.key.value.first → key.value.openings.value.items ≡ s.key.value.openings.value.items → Rests moves s → Rests moves record { token = s.token; key = key }
   rests_key s key first os rest = record {
     no_slot = rest.no_slot;

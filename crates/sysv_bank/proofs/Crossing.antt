@@ -1,4 +1,5 @@
--- A seat of a bank may go to another thread, and threads may share a bank, where its objects may cross threads.
+-- A seat of a bank may move to another thread, and threads may share a bank, if its objects may
+-- cross threads.
 use denote.RattleType.{RattleType}
 use denote.Param.Send.{IsSend, IsSync, sendable, view_send, view_sync}
 use denote.Param.SendFields.{declared_send, declared_sync, as_row_send, as_row_sync}

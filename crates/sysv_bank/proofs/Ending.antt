@@ -29,14 +29,14 @@ use Rattle.sysv_bank.specs.Closing.{ClosesInOrder}
 use Rattle.sysv_bank.proofs.Owning.{goes_without, all_made, ends_there}
 use Rattle.sysv_bank.proofs.Passes.{from_view, own_named}
 
--- as many of both, and the fact at each place
+-- Two lists of one length, and the fact at each place.
 pub each2_of : {A B : Type 0} (fact : A → B → Type 0) (xs : List A) (ys : List B) → length xs ≡ length ys → ((k : ℕ) (x : A) (y : B) → get_elem? xs k ≡ some x → get_elem? ys k ≡ some y → fact x y) → Each2 fact xs ys
 each2_of fact [] [] same each = tt
 each2_of fact [] (y ∷ ys) same each = absurd (omega arith)
 each2_of fact (x ∷ xs) [] same each = absurd (omega arith)
 each2_of fact (x ∷ xs) (y ∷ ys) same each = (each 0 x y refl refl, each2_of fact xs ys (omega arith) (λ k a b at there. each (suc k) a b at there))
 
--- a place that was taken is empty, wherever it lies
+-- A slot that was taken is empty, wherever it is.
 pub emptied : (fs : List Bool) (i : ℕ) → get_or (set fs i false) i false ≡ false
 emptied [] i = refl
 emptied (f ∷ fs) zero = refl
@@ -61,7 +61,7 @@ module _ {O C R : Type 0} (moves : O → C → R → O → Type 0) (counted : O 
   Order = final.1.0.0
 
   module _ (u : Inside O C R) (rest : Rests moves u) (same_first : u.key.value.first ≡ first) (same_os : u.key.value.openings.value.items ≡ openings) (is_id : u.token.id ≡ id) (is_view : u.token.me.0 ≡ v) where
-    -- what one place gives back
+    -- What one place returns.
     pub closes_at : (place : ℕ) (h : Holding O C R) (c : Closing O) → get_elem? (pass_of u).seats place ≡ some h → IsReadAt first words slots place c → (closes : Closes moves h c) × (closes.log ≡ turns_at place Order)
     closes_at place h c at read =
         let from = from_view moves u rest place h at in
@@ -92,7 +92,7 @@ module _ {O C R : Type 0} (moves : O → C → R → O → Type 0) (counted : O 
         let named = ap (λ (l : List ℕ). made_at l (turns_at q Order) p) (rest.named q (omega arith)).1 in
         omega arith)
 
-    -- where all passes have come home, all turns are this one's
+    -- If no other pass is left, all turns are those of this pass.
     all_end : IsWhole (pass_of u).shares → AllMadeUnder (pass_of u).numbers Order
     all_end whole =
         all_made (pass_of u).numbers (length openings) Order final.1.0.1.below

@@ -1,4 +1,4 @@
--- Which turns of an order were made under the numbers of a pass.
+-- The turns of an order that were made under the numbers of a pass.
 use Rattle.std.proofs.Common.{◌≡◌, ◌≢◌, ℕ, zero, suc, ◌+◌, ◌<◌, ◌≤◌, ◌==◌, cond, false, List, [], ◌∷◌, ◌++◌, length, refl, sym, ap, ◌∙◌, subst, arith, lt_of_not-le}
 use Rattle.std.specs.List.{filter}
 use Rattle.std.proofs.lemmas.Bool.Decides.{nat_tests}
@@ -42,7 +42,7 @@ module _ {O C R : Type 0} (numbers : List ℕ) where
   made_at-longer (t ∷ ts) us zero = omega arith
   made_at-longer (t ∷ ts) us (suc p) = made_at-longer ts us p
 
-  -- who had all its turns before has none later
+  -- A pass that had all its turns before has none later.
   none_more : (own : List ℕ) (ts us : List (Turn O C R)) → ((p : ℕ) → made_at numbers (ts ++ us) p ≤ times p own) → ((p : ℕ) → times p own ≡ made_at numbers ts p) → (j : ℕ) → made_at numbers us j ≡ 0
   none_more own ts us most is j =
       let p : ℕ = length ts + j in
@@ -52,7 +52,7 @@ module _ {O C R : Type 0} (numbers : List ℕ) where
       let d = made_at-beyond ts p (omega arith) in
       omega arith
 
-  -- before a new last turn there are no more than before
+  -- Before a new last turn, the pass has the same turns as before.
   pub before_last : (own : List ℕ) (ts : List (Turn O C R)) (t : Turn O C R) (k : ℕ) → k ≡ length ts → ((p : ℕ) → times p (own ++ k ∷ []) ≡ made_at numbers (ts ++ t ∷ []) p) → (p : ℕ) → made_at numbers ts p ≤ times p own
   before_last own ts t k last is p =
       dite (dec_le (length ts) p)
@@ -67,7 +67,7 @@ module _ {O C R : Type 0} (numbers : List ℕ) where
 
   -- ---- in an order
 
-  -- where none was made at any place, none was made
+  -- If none was made at any place, none was made at all.
   pub none_made : (count : ℕ) (order : List (Placed O C R)) → AreBelow count order → ((q j : ℕ) → q < count → made_at numbers (turns_at q order) j ≡ 0) → NoneMadeUnder numbers order
   none_made count [] below each = tt
   none_made count (t ∷ ts) below each =
@@ -80,14 +80,14 @@ module _ {O C R : Type 0} (numbers : List ℕ) where
             (λ ne. ap (λ (l : List (Turn O C R)). made_at numbers l j) (sym (turns_append q (t ∷ []) ts ∙ ap (λ (l : List (Turn O C R)). l ++ turns_at q ts) (turns_else t.place q ne (t.turn ∷ [])))) ∙ each q j less)),
       )
 
-  -- where all that were made were seen before, an order goes on without them
+  -- If all that were made had been seen, the order goes on without them.
   pub goes_without : (count : ℕ) (own : ℕ → List ℕ) (xs ys : List (Placed O C R)) (longer : IsPrefixOf xs ys) → AreBelow count ys
       → ((q p : ℕ) → q < count → times p (own q) ≡ made_at numbers (turns_at q xs) p) → ((q p : ℕ) → q < count → made_at numbers (turns_at q ys) p ≤ times p (own q)) → NoneMadeUnder numbers longer.0
   goes_without count own xs ys longer below is most =
       none_made count longer.0 (below_back count xs longer.0 (subst (AreBelow count) longer.1 below))
       (λ q j less. none_more (own q) (turns_at q xs) (turns_at q longer.0) (λ p. subst (λ (l : List (Turn O C R)). made_at numbers l p ≤ times p (own q)) (ap (turns_at q) longer.1 ∙ turns_append q xs longer.0) (most q p less)) (λ p. is q p less) j)
 
-  -- where each turn at each place was made under them, all were
+  -- If each turn at each place was made under the numbers, all were.
   pub all_made : (count : ℕ) (order : List (Placed O C R)) → AreBelow count order → ((q j : ℕ) → q < count → j < length (turns_at q order) → 1 ≤ made_at numbers (turns_at q order) j) → AllMadeUnder numbers order
   all_made count [] below each = tt
   all_made count (t ∷ ts) below each =
@@ -109,7 +109,7 @@ module _ {O C R : Type 0} (numbers : List ℕ) where
   all_back [] ys all = all
   all_back (x ∷ xs) ys all = all_back xs ys all.1
 
-  -- an order does not go on where each turn was made under the numbers, and none after it was
+  -- An order does not grow if each of its turns was made under the numbers, and no later turn was.
   pub ends_there : (xs ys : List (Placed O C R)) (longer : IsPrefixOf xs ys) → NoneMadeUnder numbers longer.0 → AllMadeUnder numbers ys → ys ≡ xs
   ends_there xs ys longer none all = longer.1 ∙ ap (λ (l : List (Placed O C R)). xs ++ l) (nothing longer.0 none (all_back xs longer.0 (subst (AllMadeUnder numbers) longer.1 all))) ∙ append-nil xs
     where
@@ -117,7 +117,7 @@ module _ {O C R : Type 0} (numbers : List ℕ) where
       nothing [] none' all' = refl
       nothing (z ∷ zs) none' all' = let a = none'.0 in let b = all'.0 in absurd (omega arith)
 
-  -- the turns under each of the numbers are the same, after an order has gone on without them
+  -- The turns under each of the numbers are the same after an order has grown without them.
   pub same_under : (x : ℕ) → 1 ≤ times x numbers → (xs ys : List (Placed O C R)) (longer : IsPrefixOf xs ys) → NoneMadeUnder numbers longer.0
       → filter (λ (t : Placed O C R). t.turn.by == x) ys ≡ filter (λ (t : Placed O C R). t.turn.by == x) xs
   same_under x some_number xs ys longer none =

@@ -57,7 +57,7 @@ module _ {O C R : Type 0} (table : TableId) (first : ℕ) where
   gates_there (o ∷ os) [] same = absurd (omega arith)
   gates_there (o ∷ os) (v ∷ vs) same = ap (λ l. record { table = table; opening = o; first = first } ∷ l) (gates_there os vs (omega arith))
 
--- gates tell the table, the first ticket and the objects
+-- The gates determine the table, the first ticket and the objects.
 pub same_gates : {O : Type 0} (t t' : TableId) (f f' : ℕ) (os os' : List O) → 1 ≤ length os' → gateways t f os ≡ gateways t' f' os' → (t ≡ t') × (f ≡ f') × (os ≡ os')
 same_gates t t' f f' [] [] some_place is = absurd (omega arith)
 same_gates t t' f f' (o ∷ os) [] some_place is = absurd (omega arith)
@@ -76,14 +76,14 @@ same_gates {O} t t' f f' (o ∷ os) (o' ∷ os') some_place is =
     objects : (ps qs : List O) → gateways t f ps ≡ gateways t' f' qs → ps ≡ qs
     objects ps qs is = sym (back t f ps) ∙ ap (map (λ (g : Gateway O). g.opening)) is ∙ back t' f' qs
 
--- each place has a door
+-- Each place has a door.
 pub door_there : {O C R : Type 0} (counted : O → ℕ × ℕ) (b : BankInside O C R) (gates : List (Gateway O)) (place : ℕ) → IsOpen counted b → gateways b.hall.shared.table_id b.key.first b.key.openings.value.items ≡ gates → place < length gates → place < length b.doors.items
 door_there {O} counted b gates place opened viewed inside =
     let same : length gates ≡ length b.key.openings.value.items = ap length (sym viewed) ∙ length-map b.key.openings.value.items _ in
     let many = opened.doors.0 in
     omega arith
 
--- what a pass has of the turns of the order that it has seen, under the numbers that it has everywhere
+-- The own turns of a pass in the order that it has seen, under the numbers that it has everywhere.
 pub own_named : {O C R : Type 0} (moves : O → C → R → O → Type 0) (s : Inside O C R) (rest : Rests moves s) (q p : ℕ) → q < length s.token.me.0.views
     → times p (view_at q s.token.me.0).own ≡ made_at (pass_of s).numbers (turns_at q s.token.me.0.seen) p
 own_named moves s rest q p less = rest.owns.own q p less ∙ ap (λ (l : List ℕ). made_at l (turns_at q s.token.me.0.seen) p) (rest.named q less).1
@@ -147,7 +147,7 @@ module _ {O C R : Type 0} (moves : O → C → R → O → Type 0) (counted : O 
     pub idles : Idles (me_at door.place s.token.me)
     idles = record { no_slot = ap (map (λ (x : ℕ × Spot O C R). (0, x.1))) rest.no_slot; no_ticket = rests_there.no_ticket; no_turn = rests_there.no_turn; named = rests_there.named }
 
-    -- after steps at the place
+    -- After steps at the place.
     module _ (token : Seat (Spot O C R) (Sight O C R)) (went : IsSame door.place s.token token) where
       abbrev Now : Inside O C R
       Now = record { token = token; key = s.key }
@@ -183,7 +183,7 @@ module _ {O C R : Type 0} (moves : O → C → R → O → Type 0) (counted : O 
       view_else other ne = ap (λ (vs : List (View O C R)). get_or vs other spent) went.2.others ∙ get_or-set_other s.token.me.0.views door.place other (view_at door.place token.me.0) spent ne
 
       module _ (names : IsNamedAs (view_at door.place s.token.me.0) (view_at door.place token.me.0)) where
-        -- at each place the names stay
+        -- The numbers stay at each place.
         pub names_at : (other : ℕ) → IsNamedAs (view_at other s.token.me.0) (view_at other token.me.0)
         names_at other =
             dite (ℕ_discrete other door.place)
@@ -198,7 +198,7 @@ module _ {O C R : Type 0} (moves : O → C → R → O → Type 0) (counted : O 
             let zero_here = names_at 0 in
             (here.0 ∙ old.0 ∙ sym zero_here.0, here.1 ∙ old.1 ∙ sym zero_here.1)
 
-      -- where no turn was made, the order goes on by turns of others
+      -- If no turn was made, the order grows by turns of others only.
       pub goes_on : Stays (view_at door.place s.token.me.0) (view_at door.place token.me.0) → GoesOn pass (pass_of Now)
       goes_on stays =
           let many = went.2.many in
@@ -282,7 +282,7 @@ module _ {O C R : Type 0} (moves : O → C → R → O → Type 0) (counted : O 
           }
 
 module _ {O C R : Type 0} (moves : O → C → R → O → Type 0) (s : Inside O C R) (rest : Rests moves s) where
-  -- what is seen of a place comes from the view there
+  -- What contracts see of a place comes from the view there.
   pub from_view : (place : ℕ) (h : Holding O C R) → get_elem? (pass_of s).seats place ≡ some h
       → (o : O) × (get_elem? s.key.value.openings.value.items place ≡ some o) × (holding s.token.table_id s.key.value.first o (view_at place s.token.me.0) ≡ h)
   from_view place h at =
@@ -320,7 +320,7 @@ module _ {O C R : Type 0} (moves : O → C → R → O → Type 0) (s : Inside O
         own = ((λ p. own_named moves s rest place p few), r.own.1);
       })
 
--- two states of one seat are of the same gates
+-- Two states of one seat belong to the same gates.
 pub gates_same : {O C R : Type 0} (moves : O → C → R → O → Type 0) (s : Inside O C R) (token : Seat (Spot O C R) (Sight O C R)) → Rests moves s → Rests moves record { token = token; key = s.key } → token.table_id ≡ s.token.table_id
     → gates_of (pass_of (record { token = token; key = s.key })).seats ≡ gates_of (pass_of s).seats
 gates_same moves s token rest rest' same =

@@ -1,4 +1,4 @@
--- Answers by their case.
+-- Results, by their case.
 use Rattle.std.specs.Prelude.{Result, Ok, Err, IfOk, IfErr, OnOk, OnErr}
 
 pub if_ok : {T E : Type 0} (r : Result T E) (P Q : T → Type 0) → IfOk r P → ((x : T) → P x → Q x) → IfOk r Q
@@ -13,7 +13,7 @@ pub on_ok : {T E : Type 0} (r : Result T E) (P Q : Type 0) → OnOk r P → (P �
 on_ok (Ok x) P Q is goes = goes is
 on_ok (Err e) P Q is goes = tt
 
--- what is so of an answer, and of each good one
+-- What holds of a result, and of each successful one.
 pub both_ok : {T E : Type 0} (r : Result T E) (P : T → Type 0) (Q S : Type 0) → IfOk r P → OnOk r Q → ((x : T) → P x → Q → S) → OnOk r S
 both_ok (Ok x) P Q S is on goes = goes x is on
 both_ok (Err e) P Q S is on goes = tt

@@ -1,4 +1,4 @@
--- What a bank gives back when it is closed.
+-- What a bank returns when it is closed. This project's profile.
 use Rattle.std.specs.Prelude.{◌≡◌, ℕ, List, length}
 use mathlib.Core.Option.{some}
 use lib.ListN.{get_elem?}
@@ -12,10 +12,10 @@ use Rattle.sysv_gate.specs.Shares.{IsWhole}
 use Rattle.sysv_gate.specs.Orders.{turns_at, AreBelow, NoneMadeUnder, AllMadeUnder}
 use Rattle.sysv_bank.specs.Passes.{Pass}
 
--- There is one order of all turns at the places. It begins with all that the pass had seen of it, goes on without a turn of
--- the pass, and its part at each place is the history that `Closes` speaks of there. No number of the pass stands twice.
--- Where the pass has the whole of the bank, so that all others have come home, it had seen all of the order, and each turn
--- was made under a number of its own
+-- There is one order of all turns at the places. It begins with all that the pass had seen of it,
+-- goes on without a turn of the pass, and its part at each place is the history in `Closes` there.
+-- No number of the pass occurs twice. If the pass has the whole bank as its share, so that no other
+-- pass is left, it had seen the whole order, and each turn was made under one of its numbers.
 pub record ClosesInOrder {O C R : Type 0} (moves : O → C → R → O → Type 0) (pass : Pass O C R) (closings : List (Closing O)) : Type 0 where
   pub order : List (Placed O C R)
   pub longer : IsPrefixOf pass.order order

@@ -1,4 +1,4 @@
--- What the rule of a bank means for all its passes together.
+-- A consequence of the rule of a bank for all its passes together. This project's profile.
 use Rattle.std.specs.Prelude.{◌≡◌, ◌⊎◌, ℕ, List}
 use mathlib.Core.Option.{some}
 use lib.ListN.{get_elem?}
@@ -8,7 +8,7 @@ use Rattle.sysv_gate.specs.declared.view.Sight.{Sight}
 use Rattle.sysv_gate.specs.Rule.{Spot}
 use Rattle.sysv_gate.specs.Halls.{InOrder}
 
--- what one pass has seen of the order begins what the other has seen, or the other way round
+-- The orders that two passes have seen begin one another: one is a prefix of the other.
 abbrev pub OneOrder : {O C R : Type 0} → (O → C → R → O → Type 0) → (O → ℕ × ℕ) → Type 0
 OneOrder {O} {C} {R} moves counted =
     (openings : List O) (first : ℕ) (s : State (Spot O C R) (Sight O C R)) → InOrder moves counted openings first s

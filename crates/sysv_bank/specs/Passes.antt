@@ -1,4 +1,5 @@
--- What contracts see of a bank's seat, and how the order that it has seen goes on.
+-- What contracts see of a bank's seat, and how the order that it has seen grows. This project's
+-- profile.
 use Rattle.std.specs.Prelude.{◌≡◌, ℕ, ◌≤◌, List, [], ◌∷◌, ◌++◌}
 use mathlib.Core.Option.{some}
 use lib.ListN.{get_elem?}
@@ -14,8 +15,9 @@ use Rattle.sysv_gate.specs.History.{HasItsOwn}
 use Rattle.sysv_gate.specs.Shares.{half}
 use Rattle.sysv_gate.specs.Orders.{turns_at, NoneMadeUnder, GoesOnWithout}
 
--- A seat at each place, the order of the turns at all places, as far as it was seen, the number under which the pass makes
--- its turns, this number with those of the passes that were joined into it, and its share of the bank
+-- A pass: a seat at each place, the order of the turns at all places, as far as the pass has seen
+-- it, the number under which the pass makes its turns, that number with those of the passes that
+-- were joined into it, and its share of the bank.
 pub record Pass (O C R : Type 0) : Type 0 where
   pub seats : List (Holding O C R)
   pub order : List (Placed O C R)
@@ -24,22 +26,23 @@ pub record Pass (O C R : Type 0) : Type 0 where
   pub shares : List ℕ
 
 module _ {O C R : Type 0} where
-  -- what is seen of the views, place by place
+  -- What contracts see of the views, place by place.
   abbrev pub holdings : TableId → ℕ → List O → List (View O C R) → List (Holding O C R)
   holdings table first [] views = []
   holdings table first (o ∷ os) [] = []
   holdings table first (o ∷ os) (v ∷ vs) = holding table first o v ∷ holdings table first os vs
 
-  -- The order that was seen goes on with turns of others. The pass makes its turns under the same numbers, and has the same
-  -- share
+  -- The order that was seen has grown by turns of others only. The pass makes its turns under the
+  -- same numbers, and has the same share.
   pub record GoesOn (before after : Pass O C R) : Type 0 where
     pub order : GoesOnWithout before.numbers before.order after.order
     pub number : after.number ≡ before.number
     pub numbers : after.numbers ≡ before.numbers
     pub shares : after.shares ≡ before.shares
 
-  -- The order that was seen goes on with turns of others, and ends with a turn of this place, made under the pass's number.
-  -- All turns there that are in it are those that were seen there, so that the last of these is the last of the order
+  -- The order that was seen has grown by turns of others, and ends with a turn at this place, made
+  -- under the pass's number. All turns there that are in the order were seen there, so the last of
+  -- them is the last of the order.
   pub record AddsToOrder (place : ℕ) (before after : Pass O C R) : Type 0 where
     pub others : List (Placed O C R)
     pub turn : Turn O C R
@@ -51,8 +54,8 @@ module _ {O C R : Type 0} where
     pub numbers : after.numbers ≡ before.numbers
     pub shares : after.shares ≡ before.shares
 
-  -- Another pass was split off. It has seen as much of the order, and has a number of its own, under which none of these
-  -- turns was made. Each of the two has half of the share
+  -- Another pass was split off. It has seen the same order, and has a number of its own, under
+  -- which none of these turns was made. Each of the two has half of the share.
   pub record SplitsOff (before after new : Pass O C R) : Type 0 where
     pub order : after.order ≡ before.order
     pub number : after.number ≡ before.number
@@ -63,8 +66,9 @@ module _ {O C R : Type 0} where
     pub new_numbers : new.numbers ≡ new.number ∷ []
     pub no_turn : NoneMadeUnder new.numbers new.order
 
-  -- One pass has taken in another, and has the numbers and the shares of both. The order that it has seen begins with that
-  -- of either, and goes on from there without a turn of that one
+  -- One pass was joined into another, which has the numbers and the shares of both. The order that
+  -- it has seen begins with that of either pass, and goes on from there without a turn of that
+  -- pass.
   pub record JoinsOrders (one two after : Pass O C R) : Type 0 where
     pub begins_one : GoesOnWithout one.numbers one.order after.order
     pub begins_two : GoesOnWithout two.numbers two.order after.order
@@ -72,18 +76,18 @@ module _ {O C R : Type 0} where
     pub numbers : after.numbers ≡ one.numbers ++ two.numbers
     pub shares : after.shares ≡ one.shares ++ two.shares
 
-  -- what was seen at each place is a beginning of its part of the order
+  -- What was seen at each place is a prefix of that place's part of the order.
   abbrev pub SeenInOrder : Pass O C R → Type 0
   SeenInOrder pass = (place : ℕ) (h : Holding O C R) → get_elem? pass.seats place ≡ some h → IsPrefixOf h.seen (turns_at place pass.order)
 
-  -- The seat at the place makes its turns under the pass's number, which is one of the pass's numbers. Its own turns are
-  -- those of the order there that were made under these
+  -- The seat at the place makes its turns under the pass's number, which is one of the pass's
+  -- numbers. Its own turns are exactly those of the order there that were made under these numbers.
   pub record IsOfPass (pass : Pass O C R) (place : ℕ) (h : Holding O C R) : Type 0 where
     pub number : h.number ≡ pass.number
     pub numbers : h.numbers ≡ pass.numbers
     pub named : 1 ≤ times pass.number pass.numbers
     pub own : HasItsOwn pass.numbers h.own (turns_at place pass.order)
 
-  -- so at each place
+  -- This holds at each place.
   abbrev pub KnowsItsTurns : Pass O C R → Type 0
   KnowsItsTurns pass = (place : ℕ) (h : Holding O C R) → get_elem? pass.seats place ≡ some h → IsOfPass pass place h

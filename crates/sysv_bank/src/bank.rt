@@ -17,16 +17,17 @@ use sysv_gate::{
     Closing, Door, Hall, HallKey, Object, OpenRefused, close_place, join_pass, lay_hall, split_pass,
 };
 
-/// First tickets are at most this.
+/// The largest first ticket.
 const LIMIT: u64 = 1 << 62;
 
-/// Objects at places from 0 on, each of which threads call one turn at a time. All turns have one order. Threads share the
-/// bank by reference.
+/// Several objects at places from 0 on, each of which threads call one turn at a time. All turns
+/// have one order, whatever places they are made at. Threads share the bank by reference, and each
+/// thread uses a seat of its own.
 pub struct Bank<O: Object> {
     pub(crate) hall: Hall<O>,
     key: HallKey<O>,
     pub(crate) doors: Vec<Door<O>, Global>,
-    /// Room for what `close` answers.
+    /// Space for the result of `close`, so that `close` allocates nothing.
     closings: Vec<Closing<O>, Global>,
 }
 
@@ -43,9 +44,20 @@ impl<O: Object> Model for Bank<O> {
 }
 
 impl<O: Object> Bank<O> {
-    /// A bank of the objects, whose tickets begin at `first` at each place, and its first seat. The share of this seat is the
-    /// whole bank. `BadStart` comes where `first` is above 2^62, and `NoMemory` where there is no memory. The objects come
-    /// back in either.
+    /// Opens a bank of `objects`, in their order, with tickets from `first` on at each place.
+    /// Returns it with its first seat, whose share is the whole bank.
+    ///
+    /// # Errors
+    ///
+    /// The error holds the objects in their order.
+    ///
+    /// - `BadStart` if and only if `first` is above 2^62.
+    /// - `NoMemory` if memory is refused.
+    ///
+    /// # Conditions
+    ///
+    /// - There is at least one object.
+    /// - Both counts of each object are at most 2^61.
     pub fn open(
         alloc: Global,
         mut objects: Vec<O, Global>,
@@ -94,9 +106,18 @@ impl<O: Object> Bank<O> {
         }
     }
 
-    /// Gives a new seat, which has seen at each place what this seat has seen there, and as much of the order. It has made no
-    /// turn: none that it has seen was made under its number, at any place. Each of the two seats has half of the share that
-    /// this seat had. It takes no memory.
+    /// Returns a new seat. The new seat has seen the same as `seat` at each place and of the order.
+    /// It has a number of its own, under which none of the turns that it has seen was made. Each of
+    /// the two seats has half of the share that `seat` had.
+    ///
+    /// # Errors
+    ///
+    /// - `NoMemory` is never returned by this implementation, which allocates nothing. If it were,
+    ///   `seat` would be unchanged.
+    ///
+    /// # Conditions
+    ///
+    /// - `seat` is a seat of this bank.
     pub fn split(&self, _alloc: Global, seat: &mut BankSeat<O>) -> Result<BankSeat<O>, NoMemory>
         requires { gates_of seat.old.seats ≡ self.now }
         ensures gates { gates_of seat.new.seats ≡ self.now }
@@ -112,8 +133,12 @@ impl<O: Object> Bank<O> {
         })
     }
 
-    /// Takes in another seat of this bank: what it has seen at each place and of the order, its turns, its numbers and its
-    /// share.
+    /// Merges `other` into `seat`: what both have seen at each place and of the order, their turns,
+    /// their numbers and their shares.
+    ///
+    /// # Conditions
+    ///
+    /// - `seat` and `other` are seats of this bank.
     pub fn join(&self, seat: &mut BankSeat<O>, other: BankSeat<O>)
         requires seat { gates_of seat.old.seats ≡ self.now }
         requires other { gates_of other.seats ≡ self.now }
@@ -125,10 +150,17 @@ impl<O: Object> Bank<O> {
         join_pass(&self.hall, &mut seat.token, other.into_token());
     }
 
-    /// Gives back what is at each place, in their order. There is one order of all turns, which begins with all that the seat
-    /// had seen of it, and whose part at each place is the history there. All turns of the seat were seen by it. If the seat
-    /// has the whole of the bank as its share, all seats have come home: it has seen all turns, and each belongs to it or to
-    /// a seat that was joined into it. It takes no memory.
+    /// Closes the bank. Returns, for each place in order, what `Gate::close` returns: the object
+    /// and the number of its turns. It allocates nothing.
+    ///
+    /// There is one order of all turns. It begins with all that the seat had seen of it, has no
+    /// later turn of the seat, and its part at each place is the history there. If the seat's share
+    /// is the whole bank, no other seat is left: the seat had seen all turns, and each was made by
+    /// it or by a seat that was joined into it.
+    ///
+    /// # Conditions
+    ///
+    /// - `seat` is a seat of this bank.
     pub fn close(self, seat: BankSeat<O>) -> Vec<Closing<O>, Global>
         requires { gates_of seat.seats ≡ self }
         ensures closed { Each2 (Closes (Moves O.meaning O.counted)) seat.seats result.items }

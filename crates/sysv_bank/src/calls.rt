@@ -14,8 +14,18 @@ use std::sync::Wait;
 use sysv_gate::{Awaited, Count, Object, TryRefused, Worn};
 
 impl<O: Object> Bank<O> {
-    /// Makes the call at the place in a turn of the seat's own, as `Gate::call`. This turn is the last of the order that the
-    /// seat has seen then.
+    /// Makes the call at `place` in a turn of the seat's own, like `Gate::call`. Afterwards the
+    /// turn is the last one in the order that the seat has seen.
+    ///
+    /// # Errors
+    ///
+    /// - `Worn` only if the tickets of the place have reached 2^62. The error holds the call, and
+    ///   every later call at this place with this seat fails with `Worn` too.
+    ///
+    /// # Conditions
+    ///
+    /// - `seat` is a seat of this bank, and `place` is below the number of its objects.
+    /// - Every object to which legal turns lead from the first one at the place accepts the call.
     pub fn call(
         &self,
         rt: &impl Wait,
@@ -39,7 +49,20 @@ impl<O: Object> Bank<O> {
         self.doors[place].call(rt, &self.hall, &mut seat.token, call)
     }
 
-    /// Makes the call at the place where no other seat has the turn there or waits for it, as `Gate::try_call`.
+    /// Makes the call at `place` if no other seat holds a ticket there, like `Gate::try_call`. It
+    /// never waits and wakes no thread.
+    ///
+    /// # Errors
+    ///
+    /// The error holds the call, and no turn is made.
+    ///
+    /// - `Busy` if another seat holds a ticket of the place or draws one first.
+    /// - `Worn` only if the tickets of the place have reached 2^62.
+    ///
+    /// # Conditions
+    ///
+    /// - `seat` is a seat of this bank, and `place` is below the number of its objects.
+    /// - Every object to which legal turns lead from the first one at the place accepts the call.
     pub fn try_call(
         &self,
         place: usize,
@@ -61,21 +84,33 @@ impl<O: Object> Bank<O> {
         self.doors[place].try_call(&self.hall, &mut seat.token, call)
     }
 
-    /// Ends the sleep of each thread that waits at the place, as `Gate::wake`.
+    /// Wakes every thread that waits at `place`, like `Gate::wake`.
+    ///
+    /// # Conditions
+    ///
+    /// - `place` is below the number of the bank's objects.
     pub fn wake(&self, rt: &impl Wait, place: usize)
         requires { place < length self.now }
     {
         self.doors[place].wake(rt);
     }
 
-    /// Wakes the next thread that sleeps in a bounded wait for the first count at the place, as `Gate::pass_on`.
+    /// Wakes the next thread that sleeps in `arrived_within` at `place`, like `Gate::pass_on`.
+    ///
+    /// # Conditions
+    ///
+    /// - `place` is below the number of the bank's objects.
     pub fn pass_on(&self, place: usize)
         requires { place < length self.now }
     {
         self.doors[place].pass_on();
     }
 
-    /// The first count of the object at the place, as `Gate::arrived`.
+    /// Returns the first count of the object at `place`, like `Gate::arrived`.
+    ///
+    /// # Conditions
+    ///
+    /// - `seat` is a seat of this bank, and `place` is below the number of its objects.
     pub fn arrived(&self, place: usize, seat: &mut BankSeat<O>) -> u64
         requires seat { gates_of seat.old.seats ≡ self.now }
         requires place { place < length self.now }
@@ -88,7 +123,11 @@ impl<O: Object> Bank<O> {
         self.doors[place].count(&self.hall, &mut seat.token, Count::Arrived)
     }
 
-    /// The second count of the object at the place, as `Gate::freed`.
+    /// Returns the second count of the object at `place`, like `Gate::freed`.
+    ///
+    /// # Conditions
+    ///
+    /// - `seat` is a seat of this bank, and `place` is below the number of its objects.
     pub fn freed(&self, place: usize, seat: &mut BankSeat<O>) -> u64
         requires seat { gates_of seat.old.seats ≡ self.now }
         requires place { place < length self.now }
@@ -101,7 +140,11 @@ impl<O: Object> Bank<O> {
         self.doors[place].count(&self.hall, &mut seat.token, Count::Freed)
     }
 
-    /// Waits until the first count at the place is at least `goal`, as `Gate::await_arrived`.
+    /// Waits until the first count at `place` is at least `goal`, like `Gate::await_arrived`.
+    ///
+    /// # Conditions
+    ///
+    /// - `seat` is a seat of this bank, and `place` is below the number of its objects.
     pub fn await_arrived(
         &self,
         rt: &impl Wait,
@@ -119,7 +162,11 @@ impl<O: Object> Bank<O> {
         self.doors[place].await_count(rt, &self.hall, &mut seat.token, Count::Arrived, goal)
     }
 
-    /// Waits until the second count at the place is at least `goal`, as `Gate::await_freed`.
+    /// Waits until the second count at `place` is at least `goal`, like `Gate::await_freed`.
+    ///
+    /// # Conditions
+    ///
+    /// - `seat` is a seat of this bank, and `place` is below the number of its objects.
     pub fn await_freed(
         &self,
         rt: &impl Wait,
@@ -137,7 +184,12 @@ impl<O: Object> Bank<O> {
         self.doors[place].await_count(rt, &self.hall, &mut seat.token, Count::Freed, goal)
     }
 
-    /// Waits for the first count at the place, and sleeps for a second at most, as `Gate::arrived_within`.
+    /// Waits for the first count at `place`, but sleeps only once, and for a second at most, like
+    /// `Gate::arrived_within`.
+    ///
+    /// # Conditions
+    ///
+    /// - `seat` is a seat of this bank, and `place` is below the number of its objects.
     pub fn arrived_within(
         &self,
         rt: &impl Wait,
@@ -155,7 +207,12 @@ impl<O: Object> Bank<O> {
         self.doors[place].await_within(rt, &self.hall, &mut seat.token, Count::Arrived, goal)
     }
 
-    /// Waits for the second count at the place, and sleeps for a second at most, as `Gate::freed_within`.
+    /// Waits for the second count at `place`, but sleeps only once, and for a second at most, like
+    /// `Gate::freed_within`.
+    ///
+    /// # Conditions
+    ///
+    /// - `seat` is a seat of this bank, and `place` is below the number of its objects.
     pub fn freed_within(
         &self,
         rt: &impl Wait,

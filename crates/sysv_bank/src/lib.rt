@@ -1,5 +1,5 @@
-//! A bank: several objects at places of one table, so that calls at different places do not wait for one another, and all
-//! turns have one order.
+//! Banks: several objects at the places of one table. Calls at different places do not wait for one
+//! another, and all turns have one order.
 #![tactic(auto)]
 
 mod bank;

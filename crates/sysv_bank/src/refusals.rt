@@ -1,4 +1,4 @@
-//! What a bank refuses for want of memory alone.
+//! The error of a call that fails only if memory is refused.
 
 /// There is no memory for another seat.
 #[derive(Debug, Clone, Copy, PartialEq, Eq)]

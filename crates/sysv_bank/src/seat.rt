@@ -6,8 +6,9 @@ use std::marker::Model;
 use std::snapshot::Snapshot;
 use sysv_gate::{HallKey, HallToken, Object};
 
-/// The right to take turns at each place of a bank, and what its holder knows of the history there and of the order of all
-/// turns. It is used only with the bank that gave it. It may go to another thread.
+/// The right of one thread to take turns at each place of a bank, and what that thread knows of the
+/// histories there and of the order of all turns. It works only with the bank that it came from. It
+/// may move to another thread.
 pub struct BankSeat<O: Object> {
     pub(crate) token: HallToken<O>,
     pub(crate) key: Snapshot<HallKey<O>>,

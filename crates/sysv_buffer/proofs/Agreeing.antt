@@ -1,4 +1,4 @@
--- What was taken begins what was put.
+-- Proves that the items taken are a prefix of the items put.
 use Rattle.std.proofs.Common.{◌≡◌, ◌++◌, take, drop, sym, ap, ◌∙◌, arith, length-drop}
 use Rattle.std.proofs.lemmas.List.{take-append-drop, take-append-le}
 use mathlib.Core.Option.{some, some-injective}

@@ -1,4 +1,4 @@
--- All seats of a buffer of many agree.
+-- Proves that all seats of a `ManyBuffer` agree.
 use Rattle.std.proofs.Common.{arith}
 use Rattle.sysv_buffer.specs.ManyRing.{put_at, taken_at}
 use Rattle.sysv_buffer.specs.ManyLaws.{OneList, NoPlaceTwice}

@@ -1,4 +1,4 @@
--- How the seats of a buffer of many come, and how one is joined into another.
+-- Proves that splits and joins of seats keep the rule of a `ManyBuffer`.
 use Rattle.std.proofs.Common.{◌≡◌, ℕ, ◌%◌, ◌<◌, false, List, [], ◌∷◌, ◌++◌, ⊎_elim, length, set, get_or, map, replicate, refl, sym, ap, ◌∙◌, subst, arith, Option, None}
 use Rattle.std.specs.Prelude.{sum_by, cond}
 use mathlib.Core.Bool.{true≢false}
@@ -22,7 +22,7 @@ use Rattle.sysv_lists.proofs.Counting.{times-append, none_of}
 use Rattle.sysv_lists.proofs.Sums.{sum_by-set_at}
 
 module _ {T : Type 0} where
-  -- a sight of nothing is so
+  -- A seat that knows nothing knows only what is true.
   nothing_known : (put : List T) (taken : ℕ) (p c : View T) → Knows put taken p c first_sight
   nothing_known put taken p c = record {
     seen = (put, refl);
@@ -127,7 +127,7 @@ module _ {T : Type 0} where
         seats = subst (λ vs. Seated g.put g.taken g.p g.c np nt (vs ++ beside v ∷ [])) (sym (set_again s.views id v at)) seats;
       }
 
-  -- two seats in one
+  -- A join of two seats.
   pub many_joins : (id other : ℕ) (v w : Sight T) → v.fills ≡ false → v.empties ≡ false → w.fills ≡ false → w.empties ≡ false → w.put_ticket ≡ [] → w.take_ticket ≡ [] → Joins Crowded id v other w (both_of v w) first_sight
   many_joins id other v w idle idle' quiet quiet' bare bare' s g at apart still =
       let np : ℕ = get_or s.words 32 0 in

@@ -1,4 +1,4 @@
--- How all seats of a buffer of many go on when one of them makes a step.
+-- Proves how a step of one seat of a `ManyBuffer` affects all seats together.
 use Rattle.std.proofs.Common.{◌≡◌, ◌≢◌, ℕ, ◌+◌, ◌^◌, ◌<◌, ◌≤◌, true, List, ◌⊎◌, inl, inr, ⊎_elim, length, set, arith, lt_of_not-le}
 use Rattle.std.specs.Prelude.{sum_by}
 use mathlib.Core.Logic.{dite}
@@ -12,7 +12,7 @@ use Rattle.sysv_buffer.specs.ManyRing.{put_at, taken_at, filling, emptying, Know
 use Rattle.sysv_lists.proofs.Places.{each_set}
 use Rattle.sysv_lists.proofs.Sums.{sum_by-set_at, at-le-sum_by, two-le-sum_by}
 
--- the places from one number on, below another, each once at most
+-- The places from one number on and below another, each at most once.
 abbrev pub News : ℕ → ℕ → (ℕ → ℕ) → Type 0
 News from to e = (k : ℕ) → (e k ≤ 1) × (1 ≤ e k → (from ≤ k) × (k < to))
 
@@ -38,7 +38,7 @@ module _ {T : Type 0} where
       let part = at-le-sum_by f views id v at in
       ⊎_elim (λ one. omega arith) (λ t. let some = t.0 in let le = t.1 in omega arith) way
 
-  -- one seat's sight is another after a step
+  -- The knowledge of one seat changes by a step.
   pub record Turned (put : List T) (taken : ℕ) (p c : View T) (put' : List T) (taken' : ℕ) (p' c' : View T) (np nt np' nt' : ℕ) (id : ℕ) (views : List (Sight T)) (v w : Sight T) : Type 0 where
     pub at : get_elem? views id ≡ some v
     pub others : (k : ℕ) (u : Sight T) → k ≢ id → get_elem? views k ≡ some u → Knows put taken p c u → Knows put' taken' p' c' u
@@ -73,14 +73,14 @@ module _ {T : Type 0} where
   }
 
   module _ (put : List T) (taken : ℕ) (p c : View T) (np nt : ℕ) (views : List (Sight T)) (s : Seated put taken p c np nt views) where
-    -- a ticket is one seat's
+    -- A ticket is held by at most one seat.
     pub other_put : (id i k : ℕ) (v u : Sight T) → get_elem? views id ≡ some v → i ≢ id → get_elem? views i ≡ some u → 1 ≤ times k v.put_ticket → 1 ≤ times k u.put_ticket → ⊥
     other_put id i k v u at apart there one two = let sum = two-le-sum_by (put_at k) views id i v u apart at there in let most = s.put_once k in omega arith
 
     pub other_taken : (id i k : ℕ) (v u : Sight T) → get_elem? views id ≡ some v → i ≢ id → get_elem? views i ≡ some u → 1 ≤ times k v.take_ticket → 1 ≤ times k u.take_ticket → ⊥
     other_taken id i k v u at apart there one two = let sum = two-le-sum_by (taken_at k) views id i v u apart at there in let most = s.taken_once k in omega arith
 
-    -- a ticket was drawn
+    -- Every ticket that a seat holds was drawn.
     pub drawn_put : (id k : ℕ) (v : Sight T) → get_elem? views id ≡ some v → 1 ≤ times k v.put_ticket → k < np
     drawn_put id k v at one = dite (dec_le np k) (λ far. let sum = at-le-sum_by (put_at k) views id v at in let none = s.put_later k far in absurd (omega arith)) (λ near. lt_of_not-le near)
 

@@ -1,4 +1,4 @@
--- Each kind of step keeps the rule of a buffer of many.
+-- Proves that each kind of step keeps the rule of a `ManyBuffer`.
 use Rattle.std.proofs.Common.{◌≡◌, ℕ, ◌+◌, ◌%◌, ◌^◌, ◌<◌, ◌≤◌, eqb, cond, Bool, true, false, List, [], ◌∷◌, ◌++◌, inl, inr, ⊎_elim, length, set, get_or, refl, sym, ap, ◌∙◌, subst, arith, length-set, length-append, get_or-set_same, get_or-set_other, Option, Some, None}
 use mathlib.Core.Bool.{true≢false}
 use mathlib.Core.Logic.{dite}
@@ -35,11 +35,11 @@ not_true true h = absurd (h refl)
 not_true false h = refl
 
 module _ {T : Type 0} where
-  -- what a step owes at one state
+  -- What a step must keep at one state.
   abbrev Goes : State (Option T) (Sight T) → ℕ → ℕ → Own T → (ℕ → Own T → Type 0) → ℕ → Type 0
   Goes s i id me then m = (w : Sight T) × (a : Act (Option T)) × Valid s.homes me.1 a × Crowded (stepped s i m id me.1 w a) × then (get_or s.words i 0) (w, carried_after me.1 a)
 
-  -- steps on the four words
+  -- Steps on the four words.
   on_in : (s : State (Option T) (Sight T)) (g : Crowded s) (m : ℕ) (put : List T) (homes : Homes T) (p c : View T) (views : List (Sight T)) → m ≡ length put → Runs (length s.homes) put g.taken homes p c
       → Seated put g.taken p c (get_or s.words 32 0) (get_or s.words 48 0) views → Crowded record { words = set s.words 0 m; homes = homes; views = views }
   on_in s g m put homes p c views is r seats = record {
@@ -98,7 +98,7 @@ module _ {T : Type 0} where
         (subst (λ n. Seated g.put g.taken g.p g.c n m views) (sym (get_or-set_other s.words 48 32 m 0 (λ e. omega arith))) seats);
   }
 
-  -- the seats where the sight is the same
+  -- The seats after a step that leaves the seat's knowledge unchanged.
   same_seats : (put : List T) (taken : ℕ) (p c : View T) (np nt id : ℕ) (views : List (Sight T)) (v : Sight T) → get_elem? views id ≡ some v → Seated put taken p c np nt views → Seated put taken p c np nt (set views id v)
   same_seats put taken p c np nt id views v at seats = subst (λ vs. Seated put taken p c np nt vs) (sym (set_again views id v at)) seats
 
@@ -198,7 +198,7 @@ module _ {T : Type 0} where
       ))
       (λ ne. (v, keeps, tt, on_take s g n (set s.views id v) (same_seats g.put g.taken g.p g.c np n id s.views v at g.seats), ((λ e. absurd (ne e)), λ _. refl)))
 
-  -- a seat that has no cell out sees more
+  -- A seat that holds no cell sees more.
   looked : (put : List T) (taken : ℕ) (p c : View T) (np nt id : ℕ) (views : List (Sight T)) (v w : Sight T) → Seated put taken p c np nt views → get_elem? views id ≡ some v
       → IsPrefixOf w.seen put → IsPrefixOf w.told put → w.gone ≤ taken → w.puts ≡ v.puts → w.takes ≡ v.takes → w.put_ticket ≡ v.put_ticket → w.take_ticket ≡ v.take_ticket
       → v.fills ≡ false → v.empties ≡ false → w.fills ≡ false → w.empties ≡ false → Seated put taken p c np nt (set views id w)
@@ -273,7 +273,7 @@ module _ {T : Type 0} where
         (refl, omega (arith, g.out_word, g.runs.order, g.runs.limit)),
       )
 
-  -- where a seat has the next ticket and no cell out, no cell is out for a put
+  -- If a seat has the next ticket and holds no cell, no cell is out of the table for a put.
   none_fills : (put : List T) (taken : ℕ) (p c : View T) (np nt id : ℕ) (views : List (Sight T)) (v : Sight T) → Seated put taken p c np nt views → get_elem? views id ≡ some v → v.put_ticket ≡ length put ∷ [] → v.fills ≡ false → p.holds ≡ false
   none_fills put taken p c np nt id views v s at next idle = not_true p.holds (λ h.
       let one = some_part filling views (s.filler h) in

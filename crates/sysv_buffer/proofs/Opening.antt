@@ -1,4 +1,4 @@
--- The rule holds when a buffer is opened, and when its two ends are made.
+-- Proves that the rule holds when a buffer is opened and when its two ends are made.
 use Rattle.std.proofs.Common.{◌≡◌, ℕ, zero, suc, ◌%◌, ◌<◌, List, [], ◌∷◌, ◌++◌, inl, inr, ⊎_elim, length, set, get_or, map, replicate, refl, sym, ap, ◌∙◌, subst, arith, Option, None}
 use mathlib.Core.Bool.{true≢false}
 use mathlib.Core.Option.{some, some-ne-none}

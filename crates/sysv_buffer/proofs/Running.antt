@@ -1,4 +1,4 @@
--- How cells go out and come home while the rule holds.
+-- Proves how cells leave the table and return to it while the rule holds.
 use Rattle.std.proofs.Common.{◌≡◌, ◌≢◌, ℕ, ◌+◌, ◌%◌, ◌^◌, ◌<◌, ◌≤◌, true, false, List, [], ◌∷◌, ◌++◌, ⊎_elim, length, set, refl, sym, ap, ◌∙◌, arith, length-set, length-append, Some, None}
 use mathlib.Core.Bool.{true≢false}
 use mathlib.Core.Logic.{dite}
@@ -13,7 +13,7 @@ use Rattle.sysv_buffer.specs.Steps.{holding, seeing}
 use Rattle.sysv_lists.proofs.Places.{at_below, there, at_snoc_place}
 use Rattle.sysv_lists.proofs.Prefixes.{prefix_self, prefix_snoc}
 
--- two places of one window have cells of their own
+-- Two places of one window have different cells.
 other_cell : (i k n : ℕ) → i < k → k < i + n → (i % n) ≢ (k % n)
 other_cell i k n less near same = let e = one_turn i k n (omega arith) near same in omega arith
 
@@ -21,7 +21,7 @@ module _ {T : Type 0} (n : ℕ) (put : List T) (taken : ℕ) (homes : Homes T) (
   cell : (i : ℕ) → (i % n) < length homes
   cell i = let low = mod-lt i {m = n} r.room in let size = r.size in omega arith
 
-  -- the producer has seen so many taken
+  -- The producer has seen that n items were taken.
   pub saw : (m : ℕ) → m ≤ taken → Runs n put taken homes (seeing m p) c
   saw m low = record {
     room = r.room;
@@ -42,7 +42,7 @@ module _ {T : Type 0} (n : ℕ) (put : List T) (taken : ℕ) (homes : Homes T) (
     free = r.free;
   }
 
-  -- there is room, and the producer takes the next cell out
+  -- A cell is empty, and the producer takes the next cell out of the table.
   pub reached : p.holds ≡ false → length put < taken + n → length put < 2 ^ 62
       → (get_elem? homes (length put % n) ≡ some (some None)) × Runs n put taken (set homes (length put % n) none) (holding p) c
   reached idle more less =
@@ -68,7 +68,7 @@ module _ {T : Type 0} (n : ℕ) (put : List T) (taken : ℕ) (homes : Homes T) (
         },
       )
 
-  -- the producer gives the cell home with an item
+  -- The producer returns the cell to the table with an item.
   pub put_in : (x : T) → p.holds ≡ true → Runs n (put ++ x ∷ []) taken (set homes (length put % n) (some (Some x))) (record p { put = p.put ++ x ∷ []; holds = false }) c
   put_in x busy =
       let k : ℕ = length put in
@@ -97,7 +97,7 @@ module _ {T : Type 0} (n : ℕ) (put : List T) (taken : ℕ) (homes : Homes T) (
         free = λ i from to _. set_else homes (k % n) (i % n) (some (Some x)) (λ e. other_cell k i n (omega arith) (omega (arith, r.order)) (sym e)) ∙ r.free i (omega arith) to (λ _. λ e. omega arith);
       }
 
-  -- an item waits, and the consumer takes its cell out
+  -- There is an item, and the consumer takes its cell out of the table.
   pub grabbed : c.holds ≡ false → taken < length put
       → (x : T) × (get_elem? put taken ≡ some x) × (get_elem? homes (taken % n) ≡ some (some (Some x))) × Runs n put taken (set homes (taken % n) none) p (record c { put = put; holds = true })
   grabbed idle waits =
@@ -129,7 +129,7 @@ module _ {T : Type 0} (n : ℕ) (put : List T) (taken : ℕ) (homes : Homes T) (
         },
       )
 
-  -- the consumer gives the cell home, empty
+  -- The consumer returns the empty cell to the table.
   pub emptied : c.holds ≡ true → Runs n put (taken + 1) (set homes (taken % n) (some None)) p (record c { taken = c.taken + 1; holds = false })
   emptied busy =
       let known = r.may_take busy in

@@ -1,4 +1,4 @@
--- Each kind of step keeps the rule.
+-- Proves that each kind of step keeps the rule of a `OneBuffer`.
 use Rattle.std.proofs.Common.{◌≡◌, ℕ, zero, suc, ◌+◌, ◌%◌, ◌^◌, ◌<◌, ◌≤◌, true, false, List, [], ◌∷◌, ◌++◌, ◌⊎◌, inl, inr, ⊎_elim, length, set, get_or, refl, sym, ap, ◌∙◌, subst, arith, length-set, length-append, get_or-set_same, get_or-set_other, Option, Some, None}
 use mathlib.Core.Option.{none, some, some-injective, some-ne-none}
 use lib.ListN.{get_elem?}
@@ -22,7 +22,7 @@ pub both_producer : (a : Role) → a ≡ Both → a ≡ Producer → ⊥
 both_producer a x y = cc
 
 module _ {T : Type 0} where
-  -- which end a view is
+  -- The end that a view belongs to.
   pub which : (p c v : View T) (id : ℕ) → get_elem? (p ∷ c ∷ []) id ≡ some v → ((id ≡ 0) × (p ≡ v)) ⊎ ((id ≡ 1) × (c ≡ v))
   which p c v zero at = inl (refl, some-injective p v at)
   which p c v (suc zero) at = inr (refl, some-injective c v at)
@@ -46,7 +46,7 @@ module _ {T : Type 0} where
       (which g.p g.c v id (ap (λ l. get_elem? l id) (sym g.ends) ∙ at)))
       held
 
-  -- a step on IN, and one on OUT
+  -- A step on IN, and a step on OUT.
   on_in : (s : State (Option T) (View T)) (g : Going s) (m : ℕ) (put : List T) (homes : Homes T) (views : List (View T)) (p c : View T) → m ≡ length put → views ≡ p ∷ c ∷ []
       → Runs (length s.homes) put g.taken homes p c → Kept record { words = set s.words 0 m; homes = homes; views = views }
   on_in s g m put homes views p c counts ends r = inr (record {

@@ -1,4 +1,4 @@
--- What a take leaves of the consumer's end.
+-- Proves what a take leaves of the consumer's end.
 use Rattle.std.proofs.Common.{Option, ◌%◌, ◌≡◌, ℕ, zero, suc, ◌+◌, ◌≤◌, false, List, [], ◌∷◌, ◌++◌, length, take, refl, sym, ap, ◌∙◌, arith, add-one, None, Some}
 use mathlib.Core.Option.{some, some-injective, some-ne-none}
 use lib.ListN.{get_elem?}
@@ -13,7 +13,7 @@ module _ {T : Type 0} where
   take_next (y ∷ xs) zero x at = ap (λ z. z ∷ []) (some-injective y x at)
   take_next (y ∷ xs) (suc t) x at = ap (λ l. y ∷ l) (take_next xs t x at)
 
-  -- the item in the first cell
+  -- The item in the first cell.
   first_item : T → List (ℕ × Option T) → T
   first_item d [] = d
   first_item d ((i, None) ∷ xs) = d

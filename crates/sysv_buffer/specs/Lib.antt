@@ -1,3 +1,5 @@
+-- The definitions of bounded buffers, after Reed and Kanodia. They are this project's profile, and
+-- no part of POSIX.1-2017.
 pub mod Ring
 pub mod Steps
 pub mod Ends

@@ -1,4 +1,5 @@
--- What contracts see of a seat of a buffer of many, and what the calls do to it.
+-- What contracts see of a seat of a `ManyBuffer`, and what the calls do to it. This project's
+-- profile.
 use Rattle.std.specs.Prelude.{◌≡◌, ℕ, ◌+◌, ◌<◌, ◌≤◌, ◌^◌, List, [], ◌∷◌, ◌++◌, length}
 use mathlib.Core.Option.{some}
 use lib.ListN.{get_elem?}
@@ -10,8 +11,8 @@ use Rattle.sysv_buffer.specs.declared.refusals.ManyTakeRefused.{ManyTakeRefused}
 use Rattle.sysv_buffer.specs.declared.refusals.ManyTakeRefused.TheVariants as missed
 use Rattle.sysv_lists.specs.Prefix.{IsPrefixOf}
 
--- A seat: whose seat it is, what was put, as far as it has seen, how many items it has seen taken, and the places of its
--- own items, and of those that it took, in the list of what was put
+-- A seat: its buffer, the items put, as far as it has seen them, the number of items that it has
+-- seen taken, and the places of its own items and of those that it took, in the list of items put.
 pub record Holding (T : Type 0) : Type 0 where
   pub buffer : Buffered
   pub seen : List T
@@ -20,20 +21,22 @@ pub record Holding (T : Type 0) : Type 0 where
   pub takes : List ℕ
 
 module _ {T : Type 0} where
-  -- the first seat has seen nothing yet
+  -- The first seat, which has seen nothing yet.
   abbrev pub opened : Buffered → Holding T
   opened b = record { buffer = b; seen = []; gone = 0; puts = []; takes = [] }
 
-  -- the seat that was split off has seen as much, and has put and taken nothing
+  -- The seat that was split off. It has seen the same as its origin, and has put and taken nothing.
   abbrev pub split_off : Holding T → Holding T
   split_off h = record h { puts = []; takes = [] }
 
-  -- No place is twice among those of the seat's own items, nor among those that it took from, and it has seen each
+  -- No place occurs twice among those of the seat's own items, or among those that it took from,
+  -- and the seat has seen the item at each of these places.
   abbrev pub HasItsOwn : Holding T → Type 0
   HasItsOwn h = AreOnce h.seen h.puts × AreOnce h.seen h.takes
 
-  -- One seat has taken in another. It has seen what was put by now, which begins with what either had seen and has at least
-  -- as many items as either had seen taken. It has the places of both
+  -- One seat was joined into another. The items that the seat has then seen begin with what either
+  -- seat had seen, and are at least as many as either had seen taken. The seat has the places of
+  -- both.
   pub record Joins (one two after : Holding T) : Type 0 where
     pub begins_one : IsPrefixOf one.seen after.seen
     pub begins_two : IsPrefixOf two.seen after.seen
@@ -43,21 +46,23 @@ module _ {T : Type 0} where
     pub takes : after.takes ≡ one.takes ++ two.takes
     pub own : HasItsOwn after
 
-  -- the seat may have seen more, and has put and taken nothing
+  -- The seat may have seen more, and has put and taken nothing.
   pub record Looks (before after : Holding T) : Type 0 where
     pub more : List T
     pub seen : after.seen ≡ before.seen ++ more
     pub puts : after.puts ≡ before.puts
     pub takes : after.takes ≡ before.takes
 
-  -- The item is the last of what was put that the seat has now seen, and that place is the last of its own
+  -- The item is the last one put that the seat has now seen, and its place is the last of the
+  -- seat's own.
   pub record Puts (item : T) (before after : Holding T) : Type 0 where
     pub others : List T
     pub seen : after.seen ≡ (before.seen ++ others) ++ item ∷ []
     pub puts : after.puts ≡ before.puts ++ length (before.seen ++ others) ∷ []
     pub takes : after.takes ≡ before.takes
 
-  -- The item is the one at a place of what was put, and that place is the last that the seat took from
+  -- The item is at a place in the list of items put, and that place is the last that the seat took
+  -- from.
   pub record Takes (item : T) (before after : Holding T) : Type 0 where
     pub more : List T
     pub seen : after.seen ≡ before.seen ++ more
@@ -66,15 +71,16 @@ module _ {T : Type 0} where
     pub takes : after.takes ≡ before.takes ++ place ∷ []
     pub at : get_elem? after.seen place ≡ some item
 
-  -- The item comes back. `Full` comes only if every cell had an item when the counts were loaded, below the limit, and `Worn`
-  -- only if the count that was loaded has reached it
+  -- The refusal holds the item. It is `Full` only if, by the counts that were loaded, every cell
+  -- had an item and fewer than 2^62 items were put, and `Worn` only if the count that was loaded
+  -- had reached 2^62.
   abbrev pub GivesBack : T → Holding T → ManyPutRefused T → Type 0
   GivesBack item after (refused.Full back) = (back ≡ item) × (after.gone + after.buffer.room ≤ length after.seen) × (length after.seen < 2 ^ 62)
   GivesBack item after (refused.Busy back) = back ≡ item
   GivesBack item after (refused.Worn back) = (back ≡ item) × (2 ^ 62 ≤ length after.seen)
 
-  -- `Empty` comes only if all that was put was taken, below the limit, and `Worn` only if the count that was loaded has
-  -- reached it
+  -- The refusal is `Empty` only if, by the counts that were loaded, all items put were taken and
+  -- fewer than 2^62 were taken, and `Worn` only if the count that was loaded had reached 2^62.
   abbrev pub Misses : Holding T → ManyTakeRefused → Type 0
   Misses after missed.Empty = (length after.seen ≤ after.gone) × (after.gone < 2 ^ 62)
   Misses after missed.Busy = Unit {0}

@@ -1,4 +1,5 @@
--- How a seat of a buffer of many is kept between two calls: it holds no ticket, and no cell is out with it.
+-- How a seat of a `ManyBuffer` is stored between two calls: it holds no ticket and no cell. This
+-- project's profile.
 use Rattle.std.specs.Prelude.{◌≡◌, [], Option}
 use Rattle.atomic_table.specs.declared.shared.Seat.{Seat}
 use Rattle.sysv_buffer.specs.declared.many_view.Sight.{Sight}
@@ -7,6 +8,7 @@ use Rattle.sysv_buffer.specs.ManyEnds.{Holding}
 use Rattle.sysv_buffer.specs.ManyTurns.{Waits}
 
 module _ {T : Type 0} where
+  -- What contracts see of a stored seat.
   abbrev pub held : Inside T → Holding T
   held s = record {
     buffer = record { table = s.token.table_id; room = s.token.table_id.slots };
@@ -16,10 +18,11 @@ module _ {T : Type 0} where
     takes = s.token.me.0.takes;
   }
 
+  -- The condition of a seat between two calls.
   abbrev pub IsAtRest : Inside T → Type 0
   IsAtRest s = Waits [] [] s.token.me
 
-  -- the token of a seat between two calls
+  -- The token of the seat h between two calls.
   pub record Rests (h : Holding T) (token : Seat (Option T) (Sight T)) : Type 0 where
     pub table : token.table_id ≡ h.buffer.table
     pub seen : token.me.0.seen ≡ h.seen

@@ -1,4 +1,4 @@
--- What the rule of a buffer of many means for all its seats together.
+-- Consequences of the rule of a `ManyBuffer` for all its seats together. This project's profile.
 use Rattle.std.specs.Prelude.{◌≡◌, ℕ, ◌+◌, ◌<◌, ◌≤◌, List, length, Option}
 use mathlib.Core.Option.{some}
 use lib.ListN.{get_elem?}
@@ -8,16 +8,16 @@ use Rattle.sysv_lists.specs.Numbers.{times}
 use Rattle.sysv_buffer.specs.ManyRing.{Crowded}
 use Rattle.sysv_lists.specs.Prefix.{IsPrefixOf}
 
--- There is one list of what was put. What was taken is a prefix of it, shorter by at most the number of cells. Each
--- seat has seen a prefix of it, the places of its own items are in it, and those that it took from are in the prefix
--- that was taken
+-- There is one list of items put. The items taken are a prefix of it, shorter by at most the number
+-- of cells. Each seat has seen a prefix of the list, the places of the seat's own items are in the
+-- list, and the places that it took from are in the prefix that was taken.
 abbrev pub OneList : Type 0 → Type 0
 OneList T =
     (s : State (Option T) (Sight T)) → Crowded s
     → (put : List T) × (taken : ℕ) × (taken ≤ length put) × (length put ≤ taken + length s.homes)
     × ((i : ℕ) (v : Sight T) → get_elem? s.views i ≡ some v → IsPrefixOf v.seen put × ((k : ℕ) → 1 ≤ times k v.puts → k < length put) × ((k : ℕ) → 1 ≤ times k v.takes → k < taken))
 
--- no place is put into twice, and none is taken from twice, by one seat or by two
+-- No place is put into twice, and none is taken from twice, by one seat or by two.
 abbrev pub NoPlaceTwice : Type 0 → Type 0
 NoPlaceTwice T =
     (s : State (Option T) (Sight T)) → Crowded s

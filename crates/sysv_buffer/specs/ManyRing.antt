@@ -1,7 +1,8 @@
--- The rule of a buffer of many producers and consumers, after Reed and Kanodia ("Synchronization with Eventcounts and
--- Sequencers", Communications of the ACM, 1979). Words 0 and 16 are IN and OUT, as in a buffer of one. Word 32 is the
--- sequencer of the puts and word 48 that of the takes. Each is the next ticket, and a ticket is the place of one item.
--- The cells are kept as those of a buffer whose one producer and one consumer make all puts and takes.
+-- The rule of a buffer of many producers and consumers, after Reed and Kanodia ("Synchronization
+-- with Eventcounts and Sequencers", Communications of the ACM, 1979). Words 0 and 16 are IN and
+-- OUT, as in a `OneBuffer`. Word 32 is the sequencer of the puts, and word 48 is the sequencer of
+-- the takes. Each is the next ticket, and a ticket is the place of one item. The cells keep the
+-- rule of a `OneBuffer` whose one producer and one consumer make all puts and takes.
 use Rattle.std.specs.Prelude.{◌≡◌, ℕ, ◌+◌, ◌^◌, ◌<◌, ◌≤◌, true, false, cond, List, [], ◌∷◌, length, slice_index, sum_by, Option}
 use mathlib.Core.Option.{some}
 use lib.ListN.{get_elem?}
@@ -13,21 +14,24 @@ use Rattle.sysv_lists.specs.Prefix.{IsPrefixOf}
 use Rattle.sysv_lists.specs.Numbers.{times}
 
 module _ {T : Type 0} where
-  -- how often a seat has the place k among its puts or as its ticket, and the same of its takes
+  -- The number of times that a seat has the place k among its puts or as its ticket for a put.
   abbrev pub put_at : ℕ → Sight T → ℕ
   put_at k v = times k v.puts + times k v.put_ticket
 
+  -- The same among its takes and as its ticket for a take.
   abbrev pub taken_at : ℕ → Sight T → ℕ
   taken_at k v = times k v.takes + times k v.take_ticket
 
+  -- 1 if the seat holds an empty cell to fill, else 0.
   abbrev pub filling : Sight T → ℕ
   filling v = cond v.fills 1 0
 
+  -- 1 if the seat holds the cell of an item, else 0.
   abbrev pub emptying : Sight T → ℕ
   emptying v = cond v.empties 1 0
 
-  -- What one seat knows is so. A ticket is for a place that was not reached yet, and a cell is out with the seat only
-  -- where it holds the very next ticket
+  -- What one seat knows is true. A ticket is for a place that was not reached yet, and the seat
+  -- holds a cell only if it holds the next ticket.
   pub record Knows (put : List T) (taken : ℕ) (p c : View T) (v : Sight T) : Type 0 where
     pub seen : IsPrefixOf v.seen put
     pub told : IsPrefixOf v.told put
@@ -39,7 +43,7 @@ module _ {T : Type 0} where
     pub fills : v.fills ≡ true → (v.put_ticket ≡ length put ∷ []) × (v.seen ≡ put) × (p.holds ≡ true)
     pub empties : v.empties ≡ true → (v.take_ticket ≡ taken ∷ []) × (c.holds ≡ true) × (taken < length v.seen)
 
-  -- All seats together. No place is given twice, and none before its ticket is drawn
+  -- All seats together. No place is used twice, and none before its ticket is drawn.
   pub record Seated (put : List T) (taken : ℕ) (p c : View T) (next_put next_take : ℕ) (views : List (Sight T)) : Type 0 where
     pub each : (i : ℕ) (v : Sight T) → get_elem? views i ≡ some v → Knows put taken p c v
     pub put_once : (k : ℕ) → sum_by (put_at k) views ≤ 1
@@ -52,7 +56,7 @@ module _ {T : Type 0} where
     pub filler : p.holds ≡ true → 1 ≤ sum_by filling views
     pub emptier : c.holds ≡ true → 1 ≤ sum_by emptying views
 
-  -- the words, the cells and the seats fit what was put, and how many of it were taken
+  -- The words, the cells and the seats fit the items put and the number of them that were taken.
   pub record Crowded (s : State (Option T) (Sight T)) : Type 0 where
     pub put : List T
     pub taken : ℕ
@@ -64,6 +68,6 @@ module _ {T : Type 0} where
     pub runs : Runs (length s.homes) put taken s.homes p c
     pub seats : Seated put taken p c (slice_index s.words 32) (slice_index s.words 48) s.views
 
-  -- the sight of the first seat
+  -- What the first seat knows.
   abbrev pub first_sight : Sight T
   first_sight = record { seen = []; told = []; gone = 0; puts = []; takes = []; put_ticket = []; take_ticket = []; fills = false; empties = false }

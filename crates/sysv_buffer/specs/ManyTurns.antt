@@ -1,4 +1,5 @@
--- What the parts of a call ask of a seat of a buffer of many, and what they leave.
+-- What the parts of a call require of a seat of a `ManyBuffer`, and what they leave. This project's
+-- profile.
 use Rattle.std.specs.Prelude.{◌≡◌, ℕ, ◌+◌, ◌%◌, ◌<◌, ◌≤◌, ◌^◌, true, false, List, [], ◌∷◌, ◌++◌, length, Option, None, Some}
 use mathlib.Core.Option.{some}
 use lib.ListN.{get_elem?}
@@ -12,15 +13,15 @@ use Rattle.sysv_buffer.specs.Ends.{Buffered}
 use Rattle.sysv_buffer.specs.ManySteps.{Own}
 
 module _ {T : Type 0} where
-  -- the token is one of this buffer
+  -- The token belongs to this buffer.
   abbrev pub IsOf : Buffered → Seat (Option T) (Sight T) → Type 0
   IsOf b token = (token.table_id ≡ b.table) × (b.table.slots ≡ b.room)
 
-  -- it is the same token after a step
+  -- It is the same token after a step.
   abbrev pub IsSame : Seat (Option T) (Sight T) → Seat (Option T) (Sight T) → Type 0
   IsSame before after = (after.table_id ≡ before.table_id) × (after.id ≡ before.id)
 
-  -- no cell is out with the seat, and it holds these tickets
+  -- The seat holds no cell, and holds these tickets.
   pub record Waits (puts takes : List ℕ) (m : Own T) : Type 0 where
     pub no_cell : m.1 ≡ []
     pub fills : m.0.fills ≡ false
@@ -28,14 +29,14 @@ module _ {T : Type 0} where
     pub put_ticket : m.0.put_ticket ≡ puts
     pub take_ticket : m.0.take_ticket ≡ takes
 
-  -- it has put and taken nothing since, and may have seen more
+  -- The seat has put and taken nothing since, and may have seen more.
   pub record Keeps (v w : Sight T) : Type 0 where
     pub more : List T
     pub seen : w.seen ≡ v.seen ++ more
     pub puts : w.puts ≡ v.puts
     pub takes : w.takes ≡ v.takes
 
-  -- the empty cell of the next place is out with the seat
+  -- The seat holds the empty cell of the next place.
   pub record HasRoom (slots cell : ℕ) (m : Own T) : Type 0 where
     pub out : m.1 ≡ (cell, None) ∷ []
     pub place : cell ≡ length m.0.seen % slots
@@ -43,7 +44,7 @@ module _ {T : Type 0} where
     pub empties : m.0.empties ≡ false
     pub take_ticket : m.0.take_ticket ≡ []
 
-  -- the cell of the item at the place is out with the seat
+  -- The seat holds the cell of the item at its place.
   pub record HasItem (slots cell : ℕ) (m : Own T) : Type 0 where
     pub item : T
     pub place : ℕ
@@ -55,28 +56,28 @@ module _ {T : Type 0} where
     pub empties : m.0.empties ≡ true
     pub put_ticket : m.0.put_ticket ≡ []
 
-  -- what a try for room finds
+  -- What a try for an empty cell finds.
   abbrev pub FindsRoom : ℕ → Own T → Room → Own T → Type 0
   FindsRoom slots m (room.Cell cell) m' = HasRoom slots cell m' × Keeps m.0 m'.0
   FindsRoom slots m (room.Full out) m' = Waits [] [] m' × Keeps m.0 m'.0 × (m'.0.gone + slots ≤ length m'.0.seen) × (length m'.0.seen < 2 ^ 62)
   FindsRoom slots m (room.Busy count) m' = Waits [] [] m' × Keeps m.0 m'.0
   FindsRoom slots m room.Worn m' = Waits [] [] m' × Keeps m.0 m'.0 × (2 ^ 62 ≤ length m'.0.seen)
 
-  -- what a try for an item finds
+  -- What a try for an item finds.
   abbrev pub FindsItem : ℕ → Own T → Next → Own T → Type 0
   FindsItem slots m (next.Cell cell) m' = HasItem slots cell m' × Keeps m.0 m'.0
   FindsItem slots m (next.Empty count) m' = Waits [] [] m' × Keeps m.0 m'.0 × (length m'.0.seen ≤ m'.0.gone) × (m'.0.gone < 2 ^ 62)
   FindsItem slots m (next.Busy count) m' = Waits [] [] m' × Keeps m.0 m'.0
   FindsItem slots m next.Worn m' = Waits [] [] m' × Keeps m.0 m'.0 × (2 ^ 62 ≤ m'.0.gone)
 
-  -- the item is in the list, and its cell is home
+  -- The item is in the list of items put, and its cell is back in the table.
   pub record HasPut (item : T) (v : Sight T) (m : Own T) : Type 0 where
     pub waits : Waits [] [] m
     pub seen : m.0.seen ≡ v.seen ++ item ∷ []
     pub puts : m.0.puts ≡ v.puts ++ length v.seen ∷ []
     pub takes : m.0.takes ≡ v.takes
 
-  -- the item was taken, and its cell is home
+  -- The item was taken, and its cell is back in the table.
   pub record HasTaken (item : T) (v : Sight T) (m : Own T) : Type 0 where
     pub waits : Waits [] [] m
     pub seen : m.0.seen ≡ v.seen

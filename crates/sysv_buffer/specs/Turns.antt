@@ -1,4 +1,5 @@
--- What the parts of a call ask of an end, and what they leave.
+-- What the parts of a call require of an end of a `OneBuffer`, and what they leave. This project's
+-- profile.
 use Rattle.std.specs.Prelude.{Option, ◌≡◌, ℕ, ◌+◌, ◌%◌, ◌<◌, ◌≤◌, ◌^◌, true, false, List, [], ◌∷◌, length, None}
 use Rattle.atomic_table.specs.declared.shared.Seat.{Seat}
 use Rattle.sysv_buffer.specs.declared.view.View.{View}
@@ -11,27 +12,28 @@ use Rattle.sysv_buffer.specs.Ends.{Buffered}
 use Rattle.sysv_buffer.specs.Steps.{Mine, Grabs}
 
 module _ {T : Type 0} where
-  -- the token is one of this buffer
+  -- The token belongs to this buffer.
   abbrev pub IsOf : Buffered → Seat (Option T) (View T) → Type 0
   IsOf b token = (token.table_id ≡ b.table) × (b.table.slots ≡ b.room)
 
-  -- it is the same token after a step
+  -- It is the same token after a step.
   abbrev pub IsSame : Seat (Option T) (View T) → Seat (Option T) (View T) → Type 0
   IsSame before after = (after.table_id ≡ before.table_id) × (after.id ≡ before.id)
 
-  -- an end that holds no cell
+  -- A producer's end that holds no cell.
   abbrev pub IsIdleProducer : Mine T → Type 0
   IsIdleProducer m = (m.0.role ≡ Producer) × (m.0.holds ≡ false) × (m.1 ≡ [])
 
+  -- A consumer's end that holds no cell.
   abbrev pub IsIdleConsumer : Mine T → Type 0
   IsIdleConsumer m = (m.0.role ≡ Consumer) × (m.0.holds ≡ false) × (m.1 ≡ [])
 
-  -- the producer holds no cell, and these items were put
+  -- The producer holds no cell, and these items were put.
   pub record HasPut (items : List T) (m : Mine T) : Type 0 where
     pub idle : IsIdleProducer m
     pub put : m.0.put ≡ items
 
-  -- the empty cell of the next item is out with the producer, and these items were put
+  -- The producer holds the empty cell of the next item, and these items were put.
   pub record HasRoom (slots cell : ℕ) (items : List T) (m : Mine T) : Type 0 where
     pub role : m.0.role ≡ Producer
     pub busy : m.0.holds ≡ true
@@ -39,15 +41,15 @@ module _ {T : Type 0} where
     pub place : cell ≡ length m.0.put % slots
     pub put : m.0.put ≡ items
 
-  -- What the producer found: the next cell is out with it; or every cell has an item, as far as it has seen items taken; or
-  -- the buffer is worn out
+  -- What the producer found: it holds the next cell; or every cell has an item, as far as it has
+  -- seen items taken; or the buffer is worn out.
   abbrev pub Reached : ℕ → List T → Reach → Mine T → Type 0
   Reached slots put (Room cell) m = HasRoom slots cell put m
   Reached slots put (Full out) m = HasPut put m × (m.0.taken + slots ≤ length put) × (length put < 2 ^ 62)
   Reached slots put WornOut m = HasPut put m × (2 ^ 62 ≤ length put)
 
-  -- What the consumer found: the next item's cell is out with it; or it has taken all that was put; or the buffer is worn
-  -- out
+  -- What the consumer found: it holds the cell of the next item; or it has taken all items put that
+  -- it has seen; or the buffer is worn out.
   abbrev pub Looked : ℕ → Mine T → Found → Mine T → Type 0
   Looked slots m (Item cell) m' = Grabs slots m m' × (cell ≡ m.0.taken % slots)
   Looked slots m (Empty count) m' = (m' ≡ m) × (length m.0.put ≤ m.0.taken) × (m.0.taken < 2 ^ 62)

@@ -1,4 +1,4 @@
-//! The table of a buffer.
+//! The table of a `OneBuffer`.
 ghost use Rattle.std.specs.Prelude.{◌≡◌, ◌<◌, [], length, slice_index, None, IfSome, replicate};
 ghost use Rattle.sysv_buffer.specs.Ring.{start};
 
@@ -7,23 +7,26 @@ use crate::view::View;
 use atomic_table::Table;
 use std::alloc::Global;
 
-/// From here on nothing is put or taken.
+/// No item is put or taken once the count has reached this value.
 pub(crate) const LIMIT: u64 = 1 << 62;
 
-/// The word that says how many items were put.
+/// The word that counts the items that were put.
 pub(crate) const IN: usize = 0;
 
-/// The word that says how many were taken. It lies 128 bytes from the other.
+/// The word that counts the items that were taken. It is 128 bytes from IN, so that the two share
+/// no cache line.
 pub(crate) const OUT: usize = 16;
 
-/// The words of the table, so many that no other memory lies near the second.
+/// The number of words in the table. It is large enough that no other memory is near OUT.
 const WORDS: usize = 32;
 
+/// The table of a `OneBuffer`: two counts, and the cells.
 pub(crate) type Board<T> = Table<Option<T>, View<T>, (), Buffering<T>, Global>;
 
+/// The right to make steps on the table.
 pub(crate) type Token<T> = atomic_table::Seat<Option<T>, View<T>>;
 
-// That many empty cells.
+// Allocates a row of `cells` empty cells.
 pub(crate) fn empty_cells<T: Drop>(alloc: Global, cells: usize) -> Option<Vec<Option<T>>>
     ensures { IfSome result (λ v. v.items ≡ replicate cells None) }
 {
@@ -36,7 +39,7 @@ pub(crate) fn empty_cells<T: Drop>(alloc: Global, cells: usize) -> Option<Vec<Op
     Some(row)
 }
 
-// The table with its first seat.
+// Makes the table with its first seat.
 pub(crate) fn lay<T: Drop>(alloc: Global, cells: usize) -> Option<(Board<T>, Token<T>)>
     requires { 0 < cells }
     ensures { IfSome result (λ t. (t.1.me ≡ (start, [])) × (t.1.table_id ≡ t.0.shared.table_id)

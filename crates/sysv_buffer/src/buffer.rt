@@ -1,4 +1,4 @@
-//! Buffers of one producer and one consumer.
+//! Buffers for one producer and one consumer.
 ghost use Rattle.std.specs.Prelude.{◌≡◌, ◌^◌, ◌<◌, ◌≤◌, ◌⊎◌, ◌↔◌, [], ◌∷◌, ◌++◌, length, IfOk, IfErr, OnOk, OnErr, IsErrOf};
 ghost use Rattle.sysv_buffer.specs.Refusals.{HandsBack, FindsNone};
 ghost use Rattle.sysv_buffer.specs.declared.buffer.TheConstants.{MAX_CELLS};
@@ -13,10 +13,11 @@ use std::marker::Model;
 use std::sync::Wait;
 use std::sync::atomic::AtomicU64;
 
-/// The most cells of a buffer; it has at least one.
+/// The largest number of cells of a buffer. The smallest is one.
 pub(crate) const MAX_CELLS: usize = 1024;
 
-/// A row of cells through which one thread hands items to another, in order. The ends share it by reference.
+/// A row of cells through which one thread hands items to another, in order, each once. The two
+/// ends share it by reference.
 #[derive(Drop)]
 pub struct OneBuffer<T> {
     pub(crate) table: Board<T>,
@@ -37,7 +38,12 @@ impl<T> Model for OneBuffer<T> {
 }
 
 impl<T: Drop> OneBuffer<T> {
-    /// A buffer of 1 to 1,024 empty cells, and its ends. `BadSize` for another number, `NoMemory` where memory is refused.
+    /// Opens a buffer of `cells` empty cells, 1 to 1,024. Returns it with its two ends.
+    ///
+    /// # Errors
+    ///
+    /// - `BadSize` if and only if `cells` is not 1 to 1,024.
+    /// - `NoMemory` if memory is refused.
     pub fn open(
         alloc: Global,
         cells: usize,
@@ -63,9 +69,19 @@ impl<T: Drop> OneBuffer<T> {
         Ok((buffer, Producer { token }, Consumer { token: other }))
     }
 
-    /// Puts the item into the next cell, where one is empty. It never waits, and wakes the consumer where it sleeps. `Full`
-    /// comes where every cell has an item, `Worn` where 2^62 items were put. The item comes back in both, and nothing
-    /// has changed.
+    /// Puts `item` into the next cell if that cell is empty. It never waits. It wakes the consumer
+    /// if the consumer sleeps.
+    ///
+    /// # Errors
+    ///
+    /// Nothing is put, and the error holds the item.
+    ///
+    /// - `Full` only if every cell had an item when the counts were loaded.
+    /// - `Worn` only if 2^62 items were put.
+    ///
+    /// # Conditions
+    ///
+    /// - `end` is the producer's end of this buffer.
     pub fn try_put(&self, end: &mut Producer<T>, item: T) -> Result<(), PutRefused<T>>
         requires { end.old.buffer ≡ self.now }
         ensures buffer { end.new.buffer ≡ self.now }
@@ -83,7 +99,15 @@ impl<T: Drop> OneBuffer<T> {
         }
     }
 
-    /// Waits until a cell is empty, and puts the item into it. The item comes back where 2^62 items were put.
+    /// Waits until a cell is empty, and puts `item` into it.
+    ///
+    /// # Errors
+    ///
+    /// - `PutWorn` only if 2^62 items were put. Nothing is put, and the error holds the item.
+    ///
+    /// # Conditions
+    ///
+    /// - `end` is the producer's end of this buffer.
     pub fn put(&self, rt: &impl Wait, end: &mut Producer<T>, item: T) -> Result<(), PutWorn<T>>
         requires { end.old.buffer ≡ self.now }
         ensures buffer { end.new.buffer ≡ self.now }
@@ -99,8 +123,19 @@ impl<T: Drop> OneBuffer<T> {
         Ok(())
     }
 
-    /// Takes the item that was put first of those that wait. It never waits, and wakes the producer where it sleeps.
-    /// `Empty` comes where none waits, `Worn` where 2^62 items were taken. Nothing has changed in both.
+    /// Takes the oldest item in the buffer. It never waits. It wakes the producer if the producer
+    /// sleeps.
+    ///
+    /// # Errors
+    ///
+    /// Nothing is taken.
+    ///
+    /// - `Empty` only if no item was in the buffer when the counts were loaded.
+    /// - `Worn` only if 2^62 items were taken.
+    ///
+    /// # Conditions
+    ///
+    /// - `end` is the consumer's end of this buffer.
     pub fn try_take(&self, end: &mut Consumer<T>) -> Result<T, TakeRefused>
         requires { end.old.buffer ≡ self.now }
         ensures buffer { end.new.buffer ≡ self.now }
@@ -118,7 +153,15 @@ impl<T: Drop> OneBuffer<T> {
         }
     }
 
-    /// Waits until an item is there, and takes it. It is refused where 2^62 items were taken.
+    /// Waits until an item is in the buffer, and takes the oldest one.
+    ///
+    /// # Errors
+    ///
+    /// - `TakeWorn` only if 2^62 items were taken. Nothing is taken.
+    ///
+    /// # Conditions
+    ///
+    /// - `end` is the consumer's end of this buffer.
     pub fn take(&self, rt: &impl Wait, end: &mut Consumer<T>) -> Result<T, TakeWorn>
         requires { end.old.buffer ≡ self.now }
         ensures buffer { end.new.buffer ≡ self.now }

@@ -1,8 +1,9 @@
-//! The two ends of a buffer.
+//! The two ends of a `OneBuffer`.
 use crate::board::Token;
 use std::marker::Model;
 
-/// The right to put items into one buffer. It is used only with the buffer that gave it, and may go to another thread.
+/// The right to put items into one buffer. It works only with the buffer that it came from. It may
+/// move to another thread.
 #[derive(Drop)]
 pub struct Producer<T> {
     pub(crate) token: Token<T>,
@@ -20,7 +21,8 @@ impl<T> Model for Producer<T> {
     ghost invariant = { IsProducer };
 }
 
-/// The right to take items from one buffer. It is used only with the buffer that gave it, and may go to another thread.
+/// The right to take items from one buffer. It works only with the buffer that it came from. It may
+/// move to another thread.
 #[derive(Drop)]
 pub struct Consumer<T> {
     pub(crate) token: Token<T>,

@@ -1,19 +1,22 @@
-//! What the rule of a buffer means for its two ends together.
+//! Laws about all ends and seats of a buffer together. Each function does nothing: its contract is
+//! the law.
 ghost use Rattle.sysv_buffer.specs.Laws.{TakenIsABeginning};
 ghost use Rattle.sysv_buffer.specs.ManyLaws.{OneList, NoPlaceTwice};
 
-/// What was taken is a prefix of what was put, shorter by at most the number of cells.
+/// States that the items taken from a `OneBuffer` are a prefix of the items put, shorter by at most
+/// the number of cells.
 pub fn taken_is_a_beginning<T>()
     ensures { TakenIsABeginning T }
 {}
 
-/// In a buffer of many there is one list of what was put, and what was taken is a prefix of it, shorter by at most the
-/// number of cells.
+/// States that a `ManyBuffer` has one list of all items put, and that the items taken are a prefix
+/// of it, shorter by at most the number of cells.
 pub fn one_list_of_many<T>()
     ensures { OneList T }
 {}
 
-/// In a buffer of many no place is put into twice, and none is taken from twice, by one seat or by two.
+/// States that no place of a `ManyBuffer` is put into twice or taken from twice, by one seat or by
+/// two.
 pub fn no_place_twice<T>()
     ensures { NoPlaceTwice T }
 {}

@@ -1,4 +1,7 @@
-//! Bounded buffers, after Reed and Kanodia: items go from one thread to another through a row of cells, in order, each once.
+//! Bounded buffers, after Reed and Kanodia, "Synchronization with Eventcounts and Sequencers".
+//!
+//! Items go from one thread to another through a row of cells, in order, each once. A `OneBuffer`
+//! has one producer and one consumer; a `ManyBuffer` has any number of both.
 //!
 //! ```rust
 //! let (buffer, mut puts, mut takes) = OneBuffer::open(rt.alloc(), 64)?;

@@ -1,4 +1,4 @@
-//! Buffers of many producers and consumers.
+//! Buffers for many producers and consumers.
 ghost use Rattle.std.specs.Prelude.{◌≡◌, ◌<◌, ◌≤◌, ◌⊎◌, ◌↔◌, length, IfOk, IfErr, OnOk, IsErrOf};
 ghost use Rattle.sysv_buffer.specs.ManyEnds.{opened, split_off, Joins, HasItsOwn, Looks, Puts, Takes, GivesBack, Misses};
 ghost use Rattle.sysv_buffer.specs.declared.buffer.TheConstants.{MAX_CELLS};
@@ -15,8 +15,8 @@ use std::marker::Model;
 use std::sync::atomic::AtomicU64;
 use std::sync::atomic::Ordering::SeqCst;
 
-/// A row of cells through which threads hand items to each other, in one order, each once. They share it by reference,
-/// and each has a seat of its own.
+/// A row of cells through which threads hand items to each other, in one order, each once. Threads
+/// share it by reference, and each thread uses a seat of its own.
 #[derive(Drop)]
 pub struct ManyBuffer<T> {
     pub(crate) table: Board<T>,
@@ -39,8 +39,12 @@ impl<T> Model for ManyBuffer<T> {
 }
 
 impl<T: Drop> ManyBuffer<T> {
-    /// A buffer of 1 to 1,024 empty cells, and its first seat. `BadSize` for another number, `NoMemory` where memory is
-    /// refused.
+    /// Opens a buffer of `cells` empty cells, 1 to 1,024. Returns it with its first seat.
+    ///
+    /// # Errors
+    ///
+    /// - `BadSize` if and only if `cells` is not 1 to 1,024.
+    /// - `NoMemory` if memory is refused.
     pub fn open(alloc: Global, cells: usize) -> Result<(ManyBuffer<T>, Seat<T>), OpenRefused>
         ensures ok { IfOk result (λ o. (o.0.room ≡ cells) × (o.1 ≡ opened o.0)) }
         ensures bad_size { IsErrOf result OpenRefused.BadSize
@@ -61,7 +65,12 @@ impl<T: Drop> ManyBuffer<T> {
         Ok((buffer, Seat { token }))
     }
 
-    /// Another seat of this buffer. It has seen what its origin has, and has put and taken nothing.
+    /// Returns a new seat of this buffer. The new seat has seen what `seat` has seen, and has put
+    /// and taken nothing.
+    ///
+    /// # Conditions
+    ///
+    /// - `seat` is a seat of this buffer.
     pub fn split(&self, seat: &mut Seat<T>) -> Seat<T>
         requires { seat.old.buffer ≡ self.now }
         ensures same { seat.new ≡ seat.old }
@@ -71,7 +80,12 @@ impl<T: Drop> ManyBuffer<T> {
         Seat { token }
     }
 
-    /// Takes in another seat of this buffer: what it has seen, and its places.
+    /// Merges `other` into `seat`. Afterwards `seat` has seen at least the items that either seat
+    /// had seen, and has the places that both put into and took from.
+    ///
+    /// # Conditions
+    ///
+    /// - `seat` and `other` are seats of this buffer.
     pub fn join(&self, seat: &mut Seat<T>, other: Seat<T>)
         requires seat { seat.old.buffer ≡ self.now }
         requires other { other.buffer ≡ self.now }
@@ -84,7 +98,11 @@ impl<T: Drop> ManyBuffer<T> {
         shared.load::<CountingPut>(&mut seat.token, IN);
     }
 
-    /// How many items were put by now. The seat has then seen them all.
+    /// Returns the number of items that were put so far. Afterwards the seat has seen all of them.
+    ///
+    /// # Conditions
+    ///
+    /// - `seat` is a seat of this buffer.
     pub fn put_count(&self, seat: &mut Seat<T>) -> u64
         requires { seat.old.buffer ≡ self.now }
         ensures buffer { seat.new.buffer ≡ self.now }
@@ -95,9 +113,20 @@ impl<T: Drop> ManyBuffer<T> {
         self.table.shared.load::<CountingPut>(&mut seat.token, IN)
     }
 
-    /// Puts the item into the next cell, where one is empty and no other seat has the turn. It never waits, and wakes
-    /// those who sleep. `Full` comes where every cell has an item, `Busy` where another seat had the turn, `Worn` where
-    /// 2^62 items were put. The item comes back in each, and nothing was put.
+    /// Puts `item` into the next cell if that cell is empty and no other seat has the turn. It
+    /// never waits. It wakes the threads that sleep until an item arrives or a put is over.
+    ///
+    /// # Errors
+    ///
+    /// Nothing is put, and the error holds the item.
+    ///
+    /// - `Full` only if every cell had an item when the counts were loaded.
+    /// - `Busy` if another seat has the turn.
+    /// - `Worn` only if 2^62 items were put.
+    ///
+    /// # Conditions
+    ///
+    /// - `seat` is a seat of this buffer.
     pub fn try_put(&self, seat: &mut Seat<T>, item: T) -> Result<(), ManyPutRefused<T>>
         requires { seat.old.buffer ≡ self.now }
         ensures buffer { seat.new.buffer ≡ self.now }
@@ -116,9 +145,20 @@ impl<T: Drop> ManyBuffer<T> {
         }
     }
 
-    /// Takes the item that was put first of those that wait, where no other seat has the turn. It never waits, and wakes
-    /// those who sleep. `Empty` comes where none waits, `Busy` where another seat had the turn, `Worn` where 2^62 items
-    /// were taken. Nothing was taken in each.
+    /// Takes the oldest item in the buffer if no other seat has the turn. It never waits. It wakes
+    /// the threads that sleep until a cell is empty or a take is over.
+    ///
+    /// # Errors
+    ///
+    /// Nothing is taken.
+    ///
+    /// - `Empty` only if no item was in the buffer when the counts were loaded.
+    /// - `Busy` if another seat has the turn.
+    /// - `Worn` only if 2^62 items were taken.
+    ///
+    /// # Conditions
+    ///
+    /// - `seat` is a seat of this buffer.
     pub fn try_take(&self, seat: &mut Seat<T>) -> Result<T, ManyTakeRefused>
         requires { seat.old.buffer ≡ self.now }
         ensures buffer { seat.new.buffer ≡ self.now }
@@ -137,7 +177,7 @@ impl<T: Drop> ManyBuffer<T> {
         }
     }
 
-    // Ends the sleep of those who sleep on this word.
+    // Wakes the threads that sleep on this word.
     pub(crate) fn wake(&self, word: usize)
         requires { word ≤ 16 }
     {

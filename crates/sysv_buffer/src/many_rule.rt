@@ -1,8 +1,9 @@
-//! The rule of the table of a buffer of many, and the kinds of step that it allows.
+//! The rule of the table of a `ManyBuffer`, and the kinds of step that it allows.
 use crate::many_view::Sight;
 use atomic_table::{Join, Play, Split, TableRule};
 use std::marker::PhantomData;
 
+/// The rule of the table.
 pub(crate) struct Crowding<T> {
     item: PhantomData<T>,
 }
@@ -33,7 +34,7 @@ impl<T> Play<Option<T>, Sight<T>> for DrawingTake {
     ghost then = { DrawsTake };
 }
 
-/// A load of IN, which shows all that was put.
+/// A load of IN, which shows all items that were put.
 pub(crate) struct CountingPut;
 
 impl<T> Play<Option<T>, Sight<T>> for CountingPut {
@@ -51,7 +52,7 @@ impl<T> Play<Option<T>, Sight<T>> for CountingTaken {
     ghost then = { CountsTaken };
 }
 
-/// A load of OUT by the next producer, which takes the next cell out where there is room.
+/// The next producer's load of OUT, which takes the next cell out of the table if a cell is empty.
 pub(crate) struct ReachingRoom;
 
 impl<T> Play<Option<T>, Sight<T>> for ReachingRoom {
@@ -60,7 +61,8 @@ impl<T> Play<Option<T>, Sight<T>> for ReachingRoom {
     ghost then = { ReachesRoom };
 }
 
-/// A load of IN by the next consumer, which takes the next item's cell out where one waits.
+/// The next consumer's load of IN, which takes the cell of the next item out of the table if there
+/// is an item.
 pub(crate) struct ReachingItem;
 
 impl<T> Play<Option<T>, Sight<T>> for ReachingItem {
@@ -69,7 +71,7 @@ impl<T> Play<Option<T>, Sight<T>> for ReachingItem {
     ghost then = { ReachesItem };
 }
 
-/// The addition to IN, which gives the cell home.
+/// The addition to IN, which returns the cell to the table.
 pub(crate) struct Placing;
 
 impl<T> Play<Option<T>, Sight<T>> for Placing {
@@ -78,7 +80,7 @@ impl<T> Play<Option<T>, Sight<T>> for Placing {
     ghost then = { Places };
 }
 
-/// The addition to OUT, which gives the empty cell home.
+/// The addition to OUT, which returns the empty cell to the table.
 pub(crate) struct Removing;
 
 impl<T> Play<Option<T>, Sight<T>> for Removing {
@@ -87,7 +89,7 @@ impl<T> Play<Option<T>, Sight<T>> for Removing {
     ghost then = { Removes };
 }
 
-/// A new seat comes from another.
+/// A split: a new seat is made from another.
 pub(crate) struct Sharing;
 
 impl<T> Split<Sight<T>> for Sharing {
@@ -98,7 +100,7 @@ impl<T> Split<Sight<T>> for Sharing {
     ghost right = { beside };
 }
 
-/// One seat takes in another.
+/// A join: one seat is merged into another.
 pub(crate) struct Gathering;
 
 impl<T> Join<Sight<T>> for Gathering {

@@ -1,4 +1,4 @@
-//! The parts of a call on a buffer of many, each of which makes some steps on the table.
+//! The parts of a call of a `ManyBuffer`. Each makes some steps on the table.
 ghost use Rattle.std.specs.Prelude.{◌≡◌, [], ◌∷◌, length, Some};
 ghost use Rattle.sysv_buffer.specs.ManyTurns.{IsOf, IsSame, Waits, Keeps, HasRoom, HasItem, FindsRoom, FindsItem, HasPut, HasTaken};
 
@@ -10,34 +10,35 @@ use crate::many_rule::{
     Removing,
 };
 
-/// What a try for room finds.
+/// The result of a try for an empty cell.
 #[derive(Clone, Copy)]
 pub(crate) enum Room {
-    /// This cell is out with the seat.
+    /// The seat holds this cell.
     Cell(usize),
-    /// Every cell has an item, and so many were taken.
+    /// Every cell has an item. It holds the number of items taken.
     Full(u64),
-    /// Another seat has the ticket of the next item, and so many were put.
+    /// Another seat has the ticket for the next put. It holds the number of items put.
     Busy(u64),
     /// 2^62 items were put.
     Worn,
 }
 
-/// What a try for an item finds.
+/// The result of a try for an item.
 #[derive(Clone, Copy)]
 pub(crate) enum Next {
-    /// This cell, which has the next item, is out with the seat.
+    /// The seat holds this cell, which has the next item.
     Cell(usize),
-    /// No item waits, and so many were put.
+    /// No item is in the buffer. It holds the number of items put.
     Empty(u64),
-    /// Another seat has the ticket of the next take, and so many were taken.
+    /// Another seat has the ticket for the next take. It holds the number of items taken.
     Busy(u64),
     /// 2^62 items were taken.
     Worn,
 }
 
 impl<T> ManyBuffer<T> {
-    // Draws the very ticket whose turn it is, where there is room, and takes the next cell out.
+    // If there is an empty cell, draws the ticket whose turn it is and takes the cell out of the
+    // table.
     pub(crate) fn find_room(&self, token: &mut Token<T>) -> Room
         requires table { IsOf self.now token.old }
         requires idle { Waits [] [] token.old.me }
@@ -61,7 +62,8 @@ impl<T> ManyBuffer<T> {
         Room::Cell((count % room) as usize)
     }
 
-    // Draws the very ticket whose turn it is, where an item waits, and takes its cell out.
+    // If there is an item, draws the ticket whose turn it is and takes the item's cell out of the
+    // table.
     pub(crate) fn find_item(&self, token: &mut Token<T>) -> Next
         requires table { IsOf self.now token.old }
         requires idle { Waits [] [] token.old.me }
@@ -84,7 +86,7 @@ impl<T> ManyBuffer<T> {
         Next::Cell((count % self.room as u64) as usize)
     }
 
-    // Puts the item into the cell that is out, and gives the cell home.
+    // Puts the item into the cell that the seat holds, and returns the cell to the table.
     pub(crate) fn place(&self, token: &mut Token<T>, cell: usize, item: T)
         requires table { IsOf self.now token.old }
         requires room { HasRoom self.now.room cell token.old.me }
@@ -97,7 +99,7 @@ impl<T> ManyBuffer<T> {
         shared.fetch_add::<Placing>(token, IN, 1);
     }
 
-    // Takes the item from the cell that is out, and gives the cell home.
+    // Takes the item from the cell that the seat holds, and returns the cell to the table.
     pub(crate) fn remove(&self, token: &mut Token<T>, cell: usize) -> T
         requires table { IsOf self.now token.old }
         requires item { HasItem self.now.room cell token.old.me }

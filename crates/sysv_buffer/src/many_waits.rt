@@ -15,14 +15,22 @@ use std::sync::atomic::AtomicU64;
 use std::sync::atomic::Ordering::SeqCst;
 use std::{hint, thread};
 
-/// How many times a seat looks before it lets other threads run, and how many times it does that before it sleeps.
+/// The number of looks of a seat before it yields to other threads.
 const LOOKS: u32 = 128;
 
+/// The number of looks of a seat, with a yield after each, before it sleeps.
 const YIELDS: u32 = 16;
 
 impl<T: Drop> ManyBuffer<T> {
-    /// Waits for its turn and for an empty cell, and puts the item into it. The item comes back, and nothing was put,
-    /// where 2^62 items were put.
+    /// Waits for its turn and for an empty cell, and puts `item` into that cell.
+    ///
+    /// # Errors
+    ///
+    /// - `PutWorn` only if 2^62 items were put. Nothing is put, and the error holds the item.
+    ///
+    /// # Conditions
+    ///
+    /// - `seat` is a seat of this buffer.
     pub fn put(&self, rt: &impl Wait, seat: &mut Seat<T>, item: T) -> Result<(), PutWorn<T>>
         requires { seat.old.buffer ≡ self.now }
         ensures buffer { seat.new.buffer ≡ self.now }
@@ -39,8 +47,15 @@ impl<T: Drop> ManyBuffer<T> {
         Ok(())
     }
 
-    /// Waits for its turn and for an item, and takes it. It is refused, and nothing was taken, where 2^62 items were
-    /// taken.
+    /// Waits for its turn and for an item, and takes that item.
+    ///
+    /// # Errors
+    ///
+    /// - `TakeWorn` only if 2^62 items were taken. Nothing is taken.
+    ///
+    /// # Conditions
+    ///
+    /// - `seat` is a seat of this buffer.
     pub fn take(&self, rt: &impl Wait, seat: &mut Seat<T>) -> Result<T, TakeWorn>
         requires { seat.old.buffer ≡ self.now }
         ensures buffer { seat.new.buffer ≡ self.now }
@@ -58,8 +73,9 @@ impl<T: Drop> ManyBuffer<T> {
 }
 
 impl<T> ManyBuffer<T> {
-    // Waits until the next ticket for a put is free and there is room, and takes the next cell out. `None` comes where
-    // 2^62 items were put. No ticket is held meanwhile, so that nobody waits for a thread that sleeps.
+    // Waits until the next ticket for a put is free and a cell is empty, and takes that cell out of
+    // the table. Returns `None` only if 2^62 items were put. It holds no ticket while it waits, so
+    // no thread waits for a thread that sleeps.
     fn await_room(&self, rt: &impl Wait, token: &mut Token<T>) -> Option<usize>
         requires table { IsOf self.now token.old }
         requires idle { Waits [] [] token.old.me }
@@ -80,8 +96,8 @@ impl<T> ManyBuffer<T> {
         unreachable!()
     }
 
-    // Waits until the next ticket for a take is free and an item is there, and takes its cell out. `None` comes where 2^62
-    // items were taken.
+    // Waits until the next ticket for a take is free and an item is in the buffer, and takes the
+    // item's cell out of the table. Returns `None` only if 2^62 items were taken.
     fn await_item(&self, rt: &impl Wait, token: &mut Token<T>) -> Option<usize>
         requires table { IsOf self.now token.old }
         requires idle { Waits [] [] token.old.me }
@@ -101,7 +117,7 @@ impl<T> ManyBuffer<T> {
         unreachable!()
     }
 
-    // How many sleep on this word, IN or OUT.
+    // The number of threads that sleep on this word, IN or OUT.
     pub(crate) fn sleepers(&self, word: usize) -> &AtomicU64 {
         if word == IN {
             &self.in_sleepers
@@ -110,8 +126,8 @@ impl<T> ManyBuffer<T> {
         }
     }
 
-    // Looks some times whether the word is another than what was found, and then sleeps until a wake. It says so before,
-    // so that others wake it.
+    // Looks a number of times whether the word has changed from `found`, and then sleeps until a
+    // wake. It registers as a sleeper before it sleeps, so that other threads wake it.
     fn pause(&self, rt: &impl Wait, word: usize, found: u64)
         requires { word ≤ 16 }
     {

@@ -1,7 +1,7 @@
-//! Why calls are refused.
+//! The errors of this crate.
 use thiserror::Error;
 
-/// Why a buffer is not opened.
+/// The reasons why a buffer was not opened.
 #[derive(Clone, Copy, PartialEq, Eq, Debug, Error)]
 pub enum OpenRefused {
     /// Memory was refused.
@@ -12,7 +12,7 @@ pub enum OpenRefused {
     BadSize,
 }
 
-/// Why `try_put` takes no item. It comes back.
+/// The reasons why `OneBuffer::try_put` did not put the item. The error holds the item.
 #[derive(Drop)]
 pub enum PutRefused<T> {
     /// Every cell has an item.
@@ -21,16 +21,17 @@ pub enum PutRefused<T> {
     Worn(T),
 }
 
-/// 2^62 items were put. The item comes back.
+/// 2^62 items were put. The error holds the item that was not put.
 #[derive(Drop)]
 pub struct PutWorn<T> {
+    /// The item that was not put.
     pub item: T,
 }
 
-/// Why `try_take` gives no item.
+/// The reasons why `OneBuffer::try_take` took no item.
 #[derive(Clone, Copy, PartialEq, Eq, Debug, Error)]
 pub enum TakeRefused {
-    /// No item waits.
+    /// No item is in the buffer.
     #[error("no item waits")]
     Empty,
     /// 2^62 items were taken.
@@ -43,24 +44,24 @@ pub enum TakeRefused {
 #[error("the buffer is worn out")]
 pub struct TakeWorn;
 
-/// Why `try_put` of a buffer of many takes no item. It comes back.
+/// The reasons why `ManyBuffer::try_put` did not put the item. The error holds the item.
 #[derive(Drop)]
 pub enum ManyPutRefused<T> {
     /// Every cell has an item.
     Full(T),
-    /// Another seat had the turn.
+    /// Another seat has the turn.
     Busy(T),
     /// 2^62 items were put.
     Worn(T),
 }
 
-/// Why `try_take` of a buffer of many gives no item.
+/// The reasons why `ManyBuffer::try_take` took no item.
 #[derive(Clone, Copy, PartialEq, Eq, Debug, Error)]
 pub enum ManyTakeRefused {
-    /// No item waits.
+    /// No item is in the buffer.
     #[error("no item waits")]
     Empty,
-    /// Another seat had the turn.
+    /// Another seat has the turn.
     #[error("another has the turn")]
     Busy,
     /// 2^62 items were taken.

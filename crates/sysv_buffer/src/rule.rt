@@ -1,8 +1,9 @@
-//! The rule of the table, and the kinds of step that it allows.
+//! The rule of the table of a `OneBuffer`, and the kinds of step that it allows.
 use crate::view::View;
 use atomic_table::{Play, Split, TableRule};
 use std::marker::PhantomData;
 
+/// The rule of the table.
 pub(crate) struct Buffering<T> {
     item: PhantomData<T>,
 }
@@ -24,7 +25,7 @@ impl<T> Play<Option<T>, View<T>> for CountingIn {
     ghost then = { CountsIn };
 }
 
-/// The producer's load of OUT, which takes the next cell out where there is room.
+/// The producer's load of OUT, which takes the next cell out of the table if a cell is empty.
 pub(crate) struct Reaching;
 
 impl<T> Play<Option<T>, View<T>> for Reaching {
@@ -33,7 +34,7 @@ impl<T> Play<Option<T>, View<T>> for Reaching {
     ghost then = { Reaches };
 }
 
-/// The producer's addition to IN, which gives the cell home.
+/// The producer's addition to IN, which returns the cell to the table.
 pub(crate) struct Putting;
 
 impl<T> Play<Option<T>, View<T>> for Putting {
@@ -51,7 +52,8 @@ impl<T> Play<Option<T>, View<T>> for CountingOut {
     ghost then = { CountsOut };
 }
 
-/// The consumer's load of IN, which takes the next item's cell out where one waits.
+/// The consumer's load of IN, which takes the cell of the next item out of the table if there is an
+/// item.
 pub(crate) struct Looking;
 
 impl<T> Play<Option<T>, View<T>> for Looking {
@@ -60,7 +62,7 @@ impl<T> Play<Option<T>, View<T>> for Looking {
     ghost then = { Looks };
 }
 
-/// The consumer's addition to OUT, which gives the empty cell home.
+/// The consumer's addition to OUT, which returns the empty cell to the table.
 pub(crate) struct Taking;
 
 impl<T> Play<Option<T>, View<T>> for Taking {
@@ -69,7 +71,7 @@ impl<T> Play<Option<T>, View<T>> for Taking {
     ghost then = { Takes };
 }
 
-/// The first seat becomes the two ends.
+/// The split of the first seat into the two ends.
 pub(crate) struct Parting;
 
 impl<T> Split<View<T>> for Parting {

@@ -1,11 +1,11 @@
-//! The seats of a buffer of many.
+//! The seats of a `ManyBuffer`.
 ghost use Rattle.sysv_buffer.specs.ManyHeld.{Rests};
 
 use crate::many_board::Token;
 use std::marker::Model;
 
-/// The right to put items into one buffer and to take them. It is used only with the buffer that gave it, and may go to
-/// another thread.
+/// The right to put items into one buffer and to take items from it. It works only with the buffer
+/// that it came from. It may move to another thread.
 #[derive(Drop)]
 pub struct Seat<T> {
     pub(crate) token: Token<T>,

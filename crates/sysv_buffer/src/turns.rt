@@ -1,4 +1,4 @@
-//! The parts of a call, each of which makes some steps on the table.
+//! The parts of a call of a `OneBuffer`. Each makes some steps on the table.
 ghost use Rattle.std.specs.Prelude.{◌≡◌, ℕ, ◌+◌, ◌%◌, ◌^◌, ◌<◌, ◌≤◌, true, false, List, [], ◌∷◌, ◌++◌, length, Some, None, IfSome, IfNone};
 ghost use Rattle.sysv_buffer.specs.Turns.{IsOf, IsSame, HasPut, HasRoom, IsIdleProducer, IsIdleConsumer, Reached, Looked};
 ghost use Rattle.sysv_buffer.specs.declared.turns.Found.TheVariants.{Item, Spent};
@@ -11,18 +11,18 @@ use std::hint;
 use std::sync::Wait;
 use std::sync::atomic::Ordering::SeqCst;
 
-/// How many times an end looks before it sleeps.
+/// The number of looks of an end before it sleeps.
 pub(crate) const SPINS: u64 = 1024;
 
-/// A sleep compares the low 32 bits of the word.
+/// The bits of the word that a sleep compares: the low 32.
 pub(crate) const LOW_BITS: u64 = 0xffff_ffff;
 
 /// What the producer finds.
 #[derive(Clone, Copy)]
 pub(crate) enum Reach {
-    /// This cell is out with it.
+    /// The producer holds this cell.
     Room(usize),
-    /// Every cell has an item, and so many were taken.
+    /// Every cell has an item. It holds the number of items taken.
     Full(u64),
     /// 2^62 items were put.
     WornOut,
@@ -31,16 +31,16 @@ pub(crate) enum Reach {
 /// What the consumer finds.
 #[derive(Clone, Copy)]
 pub(crate) enum Found {
-    /// This cell, which has the next item, is out with it.
+    /// The consumer holds this cell, which has the next item.
     Item(usize),
-    /// No item waits, and so many were put.
+    /// No item is in the buffer. It holds the number of items put.
     Empty(u64),
     /// 2^62 items were taken.
     Spent,
 }
 
 impl<T> OneBuffer<T> {
-    // Takes the next cell out, where there is room.
+    // Takes the next cell out of the table if a cell is empty.
     pub(crate) fn reach(&self, token: &mut Token<T>) -> Reach
         requires table { IsOf self.now token.old }
         requires idle { IsIdleProducer token.old.me }
@@ -59,7 +59,7 @@ impl<T> OneBuffer<T> {
         Reach::Room((count % room) as usize)
     }
 
-    // Puts the item into the cell that is out, and gives the cell home.
+    // Puts the item into the cell that the producer holds, and returns the cell to the table.
     pub(crate) fn fill(&self, token: &mut Token<T>, cell: usize, item: T)
         requires table { IsOf self.now token.old }
         requires producer { token.old.me.0.role ≡ Producer }
@@ -76,7 +76,7 @@ impl<T> OneBuffer<T> {
         shared.fetch_add::<Putting>(token, IN, 1);
     }
 
-    // Takes the next item's cell out, where one waits.
+    // Takes the cell of the next item out of the table if there is an item.
     pub(crate) fn look(&self, token: &mut Token<T>) -> Found
         requires table { IsOf self.now token.old }
         requires idle { IsIdleConsumer token.old.me }
@@ -94,7 +94,7 @@ impl<T> OneBuffer<T> {
         Found::Item((count % self.room as u64) as usize)
     }
 
-    // Takes the item from the cell that is out, and gives the cell home.
+    // Takes the item from the cell that the consumer holds, and returns the cell to the table.
     pub(crate) fn empty(&self, token: &mut Token<T>, cell: usize) -> T
         requires table { IsOf self.now token.old }
         requires consumer { token.old.me.0.role ≡ Consumer }
@@ -114,7 +114,7 @@ impl<T> OneBuffer<T> {
         item
     }
 
-    // Looks some times for room.
+    // Looks a number of times for an empty cell.
     fn spin_room(&self, token: &mut Token<T>) -> Reach
         requires table { IsOf self.now token.old }
         requires idle { IsIdleProducer token.old.me }
@@ -132,7 +132,8 @@ impl<T> OneBuffer<T> {
         found
     }
 
-    // Waits for room, and takes the next cell out. `None` comes where 2^62 items were put.
+    // Waits for an empty cell, and takes it out of the table. Returns `None` only if 2^62 items
+    // were put.
     pub(crate) fn await_room(&self, rt: &impl Wait, token: &mut Token<T>) -> Option<usize>
         requires table { IsOf self.now token.old }
         requires idle { IsIdleProducer token.old.me }
@@ -152,7 +153,7 @@ impl<T> OneBuffer<T> {
         unreachable!()
     }
 
-    // Looks some times for an item.
+    // Looks a number of times for an item.
     fn spin_item(&self, token: &mut Token<T>) -> Found
         requires table { IsOf self.now token.old }
         requires idle { IsIdleConsumer token.old.me }
@@ -170,7 +171,8 @@ impl<T> OneBuffer<T> {
         found
     }
 
-    // Waits for an item, and takes its cell out. `None` comes where 2^62 items were taken.
+    // Waits for an item, and takes its cell out of the table. Returns `None` only if 2^62 items
+    // were taken.
     pub(crate) fn await_item(&self, rt: &impl Wait, token: &mut Token<T>) -> Option<usize>
         requires table { IsOf self.now token.old }
         requires idle { IsIdleConsumer token.old.me }
@@ -189,7 +191,8 @@ impl<T> OneBuffer<T> {
         unreachable!()
     }
 
-    // Sleeps until a wake, where the word is still what was found. It says so before, so that the other end wakes it.
+    // Sleeps until a wake if the word still has the value that was found. It registers as a sleeper
+    // before it sleeps, so that the other end wakes it.
     fn sleep(&self, rt: &impl Wait, word: usize, found: u64)
         requires { word ≤ 16 }
     {
@@ -198,7 +201,7 @@ impl<T> OneBuffer<T> {
         self.sleepers.fetch_sub(1, SeqCst);
     }
 
-    // Ends the sleep of the other end, where it sleeps on this word.
+    // Wakes the other end if it sleeps on this word.
     pub(crate) fn wake(&self, word: usize)
         requires { word ≤ 16 }
     {

@@ -1,23 +1,25 @@
-//! What an end knows. No value of a view is made: views exist in proofs alone.
+//! The knowledge of an end of a `OneBuffer`. It exists only in proofs: no value of it is made.
 use std::collections::LinkedList;
 
-/// Which end a view belongs to.
+/// The end that a view belongs to.
 pub enum Role {
-    /// Both, until the buffer is opened.
+    /// Both ends, until the buffer is opened.
     Both,
-    /// The one who puts.
+    /// The producer's end.
     Producer,
-    /// The one who takes.
+    /// The consumer's end.
     Consumer,
 }
 
 /// What one end knows of its buffer.
 pub struct View<T> {
     pub role: Role,
-    /// What was put, all of it with the producer, and as far as it has seen with the consumer.
+    /// The items put: all of them at the producer's end, and those that it has seen at the
+    /// consumer's end.
     pub put: LinkedList<T>,
-    /// How many items were taken, all of them with the consumer, and as far as it has seen with the producer.
+    /// The number of items taken: all of them at the consumer's end, and those that it has seen
+    /// taken at the producer's end.
     pub taken: u64,
-    /// Whether a cell is out with this end.
+    /// Whether this end holds a cell.
     pub holds: bool,
 }

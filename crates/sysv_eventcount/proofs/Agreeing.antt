@@ -1,4 +1,4 @@
--- The rule's laws.
+-- Proves the two laws from the rule.
 use Rattle.std.proofs.Common.{sym, arith}
 use Rattle.sysv_eventcount.specs.declared.view.View.{View}
 use Rattle.sysv_lists.specs.Numbers.{times}

@@ -1,4 +1,4 @@
--- Each kind of step keeps the rule.
+-- Proves that each kind of step keeps the rule.
 use Rattle.std.proofs.Common.{◌≡◌, ℕ, ◌+◌, ◌%◌, ◌^◌, ◌<◌, ◌≤◌, Bool, true, false, cond, List, [], ◌∷◌, ◌++◌, length, set, get_or, sym, refl, ap, ◌∙◌, subst, arith, length-set, length-append, get_or-set_same}
 use Rattle.std.specs.Prelude.{sum_by, nat_lt}
 use mathlib.Core.Option.{none, some}
@@ -15,14 +15,14 @@ use Rattle.sysv_lists.proofs.Sums.{sum_by-set_at, at-le-sum_by, sum_by-le-each, 
 use Rattle.sysv_lists.proofs.Counting.{times-append, times-snoc, once_between-next, once_between-le}
 
 module _ (first : ℕ) where
-  -- no number is found twice
+  -- A view finds no number twice.
   none_twice : (n id : ℕ) (views : List View) (v : View) → IsKept first n views → get_elem? views id ≡ some v → NoneTwice v.own
   none_twice n id views v kept at x =
       let all = kept.once x in
       let mine = at-le-sum_by (λ (u : View). times x u.own) views id v at in
       omega (arith, once_between-le first n x)
 
-  -- An unspent view is told what the word is
+  -- A view with an allowance learns what it should from the word.
   pub counts_for : (n id : ℕ) (views : List View) (v : View) → IsKept first n views → get_elem? views id ≡ some v → 0 < v.allowance → Informs v n
   counts_for n id views v kept at unspent =
       let fits = kept.each id v at in
@@ -50,7 +50,7 @@ module _ (first : ℕ) where
   grows : (n m : ℕ) → n ≤ m → (v : View) → Fits first n v → Fits first m v
   grows n m le v fits = let seen = fits.seen in record { start = fits.start; seen = omega arith; cleared = fits.cleared; spent = fits.spent }
 
-  -- One view changes, and the word may rise, by as much as the view's own additions do
+  -- One view changes, and the word rises by as many as the view gains additions.
   pub set_keeps : (n m id : ℕ) (views : List View) (v w : View) → IsKept first n views → get_elem? views id ≡ some v
       → n ≤ m
       → n + length w.own ≡ m + length v.own
@@ -76,7 +76,7 @@ module _ (first : ℕ) where
         each = each_set (Fits first n) (Fits first m) views id w kept.each (λ k u away there. grows n m le u) fits;
       }
 
-  -- a load that leaves the view's additions and allowance
+  -- A load keeps the additions and the allowance of the view.
   pub looking_keeps : (n id : ℕ) (views : List View) (v : View) → IsKept first n views → get_elem? views id ≡ some v → IsKept first n (set views id (looked n v))
   looking_keeps n id views v kept at =
       let fits = kept.each id v at in
@@ -84,7 +84,7 @@ module _ (first : ℕ) where
       let cleared = sum_by-set_at cleared_count views id v (looked n v) at in
       set_keeps n n id views v (looked n v) kept at (omega arith) refl (λ x. refl) (omega arith) (omega arith) (record { start = fits.start; seen = omega arith; cleared = fits.cleared; spent = fits.spent })
 
-  -- the view that a clearing load leaves where b says whether the word is below 2^62
+  -- The view that a clearing load leaves, if b says whether the word is below 2^62.
   abbrev cleared_to : Bool → ℕ → View → View
   cleared_to b n v = record v { seen = n; cleared = b }
 
@@ -133,7 +133,7 @@ module _ (first : ℕ) where
       let sums = sum_by-set_at cleared_count views id v v at in
       set_keeps n n id views v v kept at (omega arith) refl (λ x. refl) (omega arith) (omega arith) (kept.each id v at)
 
-  -- a new view without additions, in what the allowances leave
+  -- Adds a new view without additions, if the allowances leave enough for its own.
   snoc_keeps : (n : ℕ) (views : List View) (w : View) → IsKept first n views → w.own ≡ [] → w.cleared ≡ false → sum_by (λ v. v.allowance) views + w.allowance ≤ 2 ^ 61 → Fits first n w
       → IsKept first n (views ++ w ∷ [])
   snoc_keeps n views w kept empty idle part fits =
@@ -205,7 +205,7 @@ module _ (first : ℕ) where
         each = each_set (Fits first n) (Fits first n) middle other spent (each_set (Fits first n) (Fits first n) views id both kept.each (λ k u away there fit. fit) both_fits) (λ k u away there fit. fit) spent_fits;
       }
 
--- the step of a table of one word that changes one view
+-- A step on a table of one word that changes one view.
 placed : (first m id : ℕ) (me : Mine) (w : View) (s : State (Unit {0}) View) → OneWord first s → IsKept first m (set s.views id w) → OneWord first (stepped s 0 m id me.1 w keeps)
 placed first m id me w s kept h =
     let one = kept.0 in
@@ -256,7 +256,7 @@ pub joins : (first id other : ℕ) (v w : View) → v.cleared ≡ false → w.cl
 joins first id other v w idle idle' some_part s kept at apart still =
     (kept.0, joining_keeps first (get_or s.words 0 0) id other s.views v w kept.1 at (sym (set_else s.views id other (both_of v w) apart) ∙ still) still idle idle' some_part)
 
--- what a number tells a view after a clearing load it tells the view before
+-- What a view learns from a number after a clearing load, it also learned before that load.
 pub before_clearing : (v w : View) (found n : ℕ) → w ≡ after_clearing found v → Informs v found → Informs w n → Informs v n
 before_clearing v w found n is looked_at later =
     let told : Informs (after_clearing found v) n = subst (λ (u : View). Informs u n) is later in

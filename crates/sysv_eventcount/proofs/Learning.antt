@@ -1,8 +1,8 @@
--- What a value tells a seat that had seen less.
+-- What a value teaches a seat that had seen less.
 use Rattle.std.proofs.Common.{◌≡◌, ℕ, ◌≤◌, subst, arith}
 use Rattle.sysv_eventcount.specs.Counter.{Holding, saw, Learns}
 
--- what a value tells the seat after it has seen some other value it tells the seat before
+-- What a seat learns from a value after it has seen another value, it also learns before.
 pub learns_before : (h k : Holding) (n : ℕ) → k ≡ saw k.seen h → h.seen ≤ k.seen → Learns k n → Learns h n
 learns_before h k n is le told =
     let same : Learns (saw k.seen h) n = subst (λ (x : Holding). Learns x n) is told in

@@ -1,9 +1,11 @@
--- How a seat is kept between two calls: no slot is out with it, it is cleared for nothing, and the number that it
--- carries is its allowance, which is a part of the whole.
+-- How a seat is stored between two calls: it holds no slot of the table, it is cleared for no
+-- addition, and the number stored in it is its allowance, which is positive and at most the whole.
+-- This project's profile.
 use Rattle.std.specs.Prelude.{◌≡◌, ◌^◌, ◌<◌, ◌≤◌, false, []}
 use Rattle.sysv_eventcount.specs.declared.seat.Seat.TheInside.{Inside}
 use Rattle.sysv_eventcount.specs.Counter.{Holding}
 
+-- What contracts see of a stored seat.
 abbrev pub held : Inside → Holding
 held s = record {
   counter = record { table = s.token.table_id; first = s.token.me.0.first };
@@ -12,6 +14,7 @@ held s = record {
   allowance = s.token.me.0.allowance;
 }
 
+-- The condition of a seat between two calls.
 pub record IsAtRest (s : Inside) : Type 0 where
   pub no_slot : s.token.me.1 ≡ []
   pub not_cleared : s.token.me.0.cleared ≡ false

@@ -10,18 +10,25 @@ use crate::word::Word;
 use std::sync::Wait;
 use std::{hint, thread};
 
-/// How many times a wait looks before it sleeps, and how many turns of a bounded wait spin before the others yield.
-/// That takes some microseconds, in which another running thread can advance the count.
+/// The number of looks before a wait sleeps, and the number of looks of a bounded wait that spin
+/// before it yields to other threads. They take some microseconds, in which another running thread
+/// can advance the count.
 const SPINS: u64 = 256;
 
 /// The kind of a word that is advanced, read and waited for.
 pub struct Advances;
 
-/// A number that only rises. Threads share it by reference, and each steps with a seat of its own.
+/// A number that only rises. Threads share it by reference, and each thread uses a seat of its own.
 pub type Eventcount = Word<Advances>;
 
 impl Word<Advances> {
-    /// Returns the value as it is now. It counts each advance that was finished before, and perhaps some in progress.
+    /// Returns the current value. The value is at least the greatest value that the seat has seen,
+    /// and it counts every addition made with the seat. An addition of another seat that is in
+    /// progress may or may not be counted.
+    ///
+    /// # Conditions
+    ///
+    /// - `seat` is a seat of this eventcount.
     pub fn read(&self, seat: &mut Seat) -> u64
         requires { seat.old.counter ≡ self.now }
         ensures seat { seat.new ≡ saw result seat.old }
@@ -30,9 +37,17 @@ impl Word<Advances> {
         self.look(seat)
     }
 
-    /// Adds one, and returns the value that this addition made. It wakes no thread: call `wake` if threads may sleep.
-    /// It fails with `Worn` only if the value has reached 2^62. Nothing is added then, and each later advance with this
-    /// seat fails too.
+    /// Adds one and returns the value that this addition made. It wakes no thread: call `wake`
+    /// afterwards if threads may sleep on the count.
+    ///
+    /// # Errors
+    ///
+    /// - `Worn` only if the value has reached 2^62. Nothing is added, and every later advance with
+    ///   this seat fails too.
+    ///
+    /// # Conditions
+    ///
+    /// - `seat` is a seat of this eventcount.
     pub fn advance(&self, seat: &mut Seat) -> Result<u64, Worn>
         requires { seat.old.counter ≡ self.now }
         ensures ok { IfOk result (λ n. (seat.old.seen < n) × (seat.new ≡ added (n - 1) seat.old)) }
@@ -45,7 +60,12 @@ impl Word<Advances> {
         Ok(before + 1)
     }
 
-    /// Looks at the value until it is at least `goal`, up to `turns` times and at least once.
+    /// Looks at the value until it is at least `goal`, at least once and at most `turns` times. It
+    /// never sleeps. The result holds the last value seen and reports whether it reached the goal.
+    ///
+    /// # Conditions
+    ///
+    /// - `seat` is a seat of this eventcount.
     pub fn await_turns(&self, seat: &mut Seat, goal: u64, turns: u64) -> Awaited
         requires { seat.old.counter ≡ self.now }
         ensures goal { Tells goal result }
@@ -66,8 +86,12 @@ impl Word<Advances> {
         Awaited::Reached(value)
     }
 
-    /// Waits until the value is at least `goal`, and returns it. After some looks it sleeps until a `wake`, and looks
-    /// again after each one.
+    /// Waits until the value is at least `goal`, and returns that value. After a short spin the
+    /// thread sleeps until a `wake`, and looks again after each one.
+    ///
+    /// # Conditions
+    ///
+    /// - `seat` is a seat of this eventcount.
     pub fn await_at_least(&self, rt: &impl Wait, seat: &mut Seat, goal: u64) -> u64
         requires { seat.old.counter ≡ self.now }
         ensures goal { goal ≤ result }
@@ -83,13 +107,14 @@ impl Word<Advances> {
         unreachable!()
     }
 
-    /// Ends the sleep of each thread that waits for this eventcount. A thread whose goal is not reached sleeps again.
+    /// Wakes every thread that sleeps on this eventcount. A thread whose goal has not been reached
+    /// sleeps again.
     pub fn wake(&self, _rt: &impl Wait) {
         self.wake_all();
     }
 }
 
-/// Passes the time until the next look.
+/// Spends the time until the next look: spins at first, then yields.
 fn pause(turn: u64) {
     if turn < SPINS {
         hint::spin_loop();

@@ -1,6 +1,9 @@
-//! Eventcounts and sequencers, after Reed and Kanodia. An eventcount is a number that only rises: threads advance it,
-//! read it, and wait until it has reached a goal. A sequencer issues the numbers from its first on, each once. Together
-//! they let threads do something one at a time, in the order of the numbers:
+//! Eventcounts and sequencers, after Reed and Kanodia, "Synchronization with Eventcounts and
+//! Sequencers".
+//!
+//! An eventcount is a number that only rises: threads advance it, read it, and wait until it has
+//! reached a goal. A sequencer issues the numbers from its first value on, each once. Together they
+//! let threads do something one at a time, in the order of the tickets:
 //!
 //! ```rust
 //! let turn = turns.ticket(&mut drawing)?;

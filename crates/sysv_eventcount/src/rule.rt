@@ -2,6 +2,7 @@
 use crate::view::View;
 use atomic_table::{Join, Play, Split, TableRule};
 
+/// The rule of the word.
 pub(crate) struct Counting;
 
 impl TableRule<(), View, u64> for Counting {
@@ -21,7 +22,7 @@ impl Play<(), View> for Looking {
     ghost then = { Looks };
 }
 
-/// A load that clears the seat for one addition, where it finds the word below the limit.
+/// A load that clears the seat for one addition if it finds the word below the limit.
 pub(crate) struct Clearing;
 
 impl Play<(), View> for Clearing {
@@ -39,7 +40,7 @@ impl Play<(), View> for Adding {
     ghost then = { Adds };
 }
 
-/// A load that tells how large the allowance can be.
+/// A load that shows that the seat's allowance is at most the whole.
 pub(crate) struct Weighing;
 
 impl Play<(), View> for Weighing {
@@ -48,7 +49,7 @@ impl Play<(), View> for Weighing {
     ghost then = { Weighs };
 }
 
-/// A 64th of the allowance goes to a new seat.
+/// A split: a 64th of the allowance moves to a new seat.
 pub(crate) struct Share;
 
 impl Split<View> for Share {
@@ -59,7 +60,7 @@ impl Split<View> for Share {
     ghost right = { given_of };
 }
 
-/// One seat takes in another.
+/// A join: one seat is merged into another.
 pub(crate) struct Merge;
 
 impl Join<View> for Merge {

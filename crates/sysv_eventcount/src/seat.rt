@@ -2,8 +2,8 @@
 use crate::view::View;
 use std::marker::Model;
 
-/// The right to step with one eventcount or sequencer, and what its holder knows of it. It is used only with the object
-/// that gave it. A seat may go to another thread.
+/// The right of one thread to use an eventcount or a sequencer, and what that thread knows of its
+/// value. A seat works only with the object that it came from. It may move to another thread.
 #[derive(Drop)]
 pub struct Seat {
     pub(crate) token: atomic_table::Seat<(), View>,

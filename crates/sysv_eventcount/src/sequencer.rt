@@ -7,16 +7,25 @@ use crate::refusals::Worn;
 use crate::seat::Seat;
 use crate::word::Word;
 
-/// The kind of a word that gives tickets.
+/// The kind of a word that issues tickets.
 pub struct Tickets;
 
-/// Gives the numbers from its first on, each once. Threads share it by reference, and each draws with a seat of its own.
+/// Issues the numbers from its first value on, each once. Threads share it by reference, and each
+/// thread draws with a seat of its own.
 pub type Sequencer = Word<Tickets>;
 
 impl Word<Tickets> {
-    /// Draws the next ticket: the first value plus the number of tickets before it. No other call returns the same
-    /// ticket. It fails with `Worn` only if 2^62 has been reached. No ticket is drawn then, and each later draw with
-    /// this seat fails too.
+    /// Draws the next ticket: the first value plus the number of tickets drawn before it. No other
+    /// call returns the same ticket.
+    ///
+    /// # Errors
+    ///
+    /// - `Worn` only if the next ticket has reached 2^62. No ticket is drawn, and every later draw
+    ///   with this seat fails too.
+    ///
+    /// # Conditions
+    ///
+    /// - `seat` is a seat of this sequencer.
     pub fn ticket(&self, seat: &mut Seat) -> Result<u64, Worn>
         requires { seat.old.counter ≡ self.now }
         ensures ok { IfOk result (λ n. seat.new ≡ added n seat.old) }

@@ -1,15 +1,16 @@
-//! What a seat knows.
+//! The knowledge of a seat.
 use std::collections::LinkedList;
 
-/// No value of it is made: it exists in proofs alone.
+/// What the rule of the word records of one seat. It exists only in proofs: no value of this type
+/// is made.
 pub struct View {
     /// The first value of the word.
     pub first: u64,
     /// The greatest value that the seat has seen.
     pub seen: u64,
-    /// The numbers that its own additions found.
+    /// The numbers that the seat's own additions found.
     pub own: LinkedList<u64>,
     pub allowance: u64,
-    /// Whether it may add once.
+    /// Whether the seat is cleared for one addition.
     pub cleared: bool,
 }

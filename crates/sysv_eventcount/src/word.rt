@@ -12,20 +12,20 @@ use std::alloc::Global;
 use std::marker::{Model, PhantomData};
 use std::sync::Wait;
 
-/// From here on nothing is added.
+/// No addition begins once the word has reached this value.
 pub(crate) const LIMIT: u64 = 1 << 62;
 
 /// The allowance of the first seat.
 const WHOLE: u64 = 1 << 61;
 
-/// The part of an allowance that a split gives.
+/// A split moves one part in this many of the allowance to the new seat.
 const PART: u64 = 64;
 
-/// A sleep compares the low 32 bits of the word.
+/// The bits of the word that a sleep compares: the low 32.
 const LOW_BITS: u64 = 0xffff_ffff;
 
-/// What eventcounts and sequencers have in common: a number that only rises, and the seats that step with it. `K` is
-/// `Advances` or `Tickets`.
+/// What eventcounts and sequencers have in common: a number that only rises, and the seats that
+/// step with it. `K` is `Advances` or `Tickets`.
 #[derive(Drop)]
 pub struct Word<K> {
     table: Table<(), View, u64, Counting, Global>,
@@ -44,8 +44,13 @@ impl<K> Model for Word<K> {
 }
 
 impl<K> Word<K> {
-    /// Opens a word at `first`, with its first seat, which has the whole allowance of 2^61. It fails with `BadStart` if
-    /// `first` is above 2^62, and with `NoMemory` if the word cannot be allocated.
+    /// Opens a word whose value is `first`. Returns it with its first seat, which has the whole
+    /// allowance of 2^61.
+    ///
+    /// # Errors
+    ///
+    /// - `BadStart` if and only if `first` is above 2^62.
+    /// - `NoMemory` if the word cannot be allocated.
     pub fn open(alloc: Global, first: u64) -> Result<(Word<K>, Seat), OpenRefused>
         ensures ok { IfOk result (λ o. (o.0.first ≡ first) × (o.1 ≡ opened o.0)) }
         ensures bad_start { IsErrOf result OpenRefused.BadStart ↔ (2 ^ 62 < first) }
@@ -69,8 +74,16 @@ impl<K> Word<K> {
         ))
     }
 
-    /// Moves a 64th of the seat's allowance, rounded down, to a new seat, which has seen what this seat has seen. It
-    /// fails, and nothing changes, if the allowance is below 64.
+    /// Splits a new seat off `seat`. The new seat receives a 64th of the allowance, rounded down.
+    /// It has seen the same value and has made no additions.
+    ///
+    /// # Errors
+    ///
+    /// - `TooMany` if and only if the allowance is below 64. Nothing changes.
+    ///
+    /// # Conditions
+    ///
+    /// - `seat` is a seat of this word.
     pub fn split(&self, seat: &mut Seat) -> Result<Seat, TooMany>
         requires { seat.old.counter ≡ self.now }
         ensures ok { IfOk result (λ s. (s ≡ split_off seat.old)
@@ -91,8 +104,12 @@ impl<K> Word<K> {
         })
     }
 
-    /// Takes in another seat of this word: what it has seen, its additions and its allowance. No number is then in the
-    /// list of its additions twice.
+    /// Merges `other` into `seat`: the values seen, the additions and the allowances of both.
+    /// Afterwards no number occurs twice among the additions of `seat`.
+    ///
+    /// # Conditions
+    ///
+    /// - `seat` and `other` are seats of this word.
     pub fn join(&self, seat: &mut Seat, other: Seat)
         requires seat { seat.old.counter ≡ self.now }
         requires other { other.counter ≡ self.now }
@@ -105,7 +122,7 @@ impl<K> Word<K> {
         seat.allowance += allowance;
     }
 
-    /// The word as it is.
+    /// Loads the word.
     pub(crate) fn look(&self, seat: &mut Seat) -> u64
         requires { seat.old.counter ≡ self.now }
         ensures seat { seat.new ≡ saw result seat.old }
@@ -114,7 +131,8 @@ impl<K> Word<K> {
         self.table.shared.load::<Looking>(&mut seat.token, 0)
     }
 
-    /// Adds one, and returns the number that was there.
+    /// Adds one and returns the number found. Fails with `Worn`, and adds nothing, only if the word
+    /// has reached 2^62.
     pub(crate) fn add(&self, seat: &mut Seat) -> Result<u64, Worn>
         requires { seat.old.counter ≡ self.now }
         ensures ok { IfOk result (λ n. seat.new ≡ added n seat.old) }
@@ -131,11 +149,13 @@ impl<K> Word<K> {
         Ok(number)
     }
 
-    /// Sleeps while the word is `value`, until a wake. It may return for no reason.
+    /// Sleeps until a wake if the low 32 bits of the word are still those of `value`. It may also
+    /// return early without a wake.
     pub(crate) fn park(&self, rt: &impl Wait, value: u64) {
         self.table.shared.park(rt, 0, (value & LOW_BITS) as u32);
     }
 
+    /// Wakes every thread that sleeps on the word.
     pub(crate) fn wake_all(&self) {
         self.table.shared.wake_all(0);
     }

@@ -1,4 +1,4 @@
--- The rule's laws.
+-- Proves the laws from the rule.
 use Rattle.std.proofs.Common.{◌≡◌, ◌⊎◌, inl, inr, ⊎_elim, ℕ, zero, suc, ◌+◌, ◌≤◌, List, [], ◌∷◌, ◌++◌, get_or, refl, sym, ◌∙◌, arith}
 use Rattle.sysv_gate.specs.declared.view.View.{View}
 use Rattle.sysv_gate.specs.declared.view.Turn.{Turn}
@@ -12,7 +12,7 @@ use Rattle.sysv_gate.specs.History.{after_all}
 use Rattle.sysv_gate.proofs.Announcing.{exactly}
 use Rattle.sysv_gate.proofs.Keeping.{served_alone}
 
--- of two prefixes of a list, one is a prefix of the other
+-- Of two prefixes of one list, one is a prefix of the other.
 pub prefix_either : {A : Type 0} (xs ys xs' ys' : List A) → xs ++ xs' ≡ ys ++ ys' → IsPrefixOf ys xs ⊎ IsPrefixOf xs ys
 prefix_either [] ys xs' ys' same = inr (ys, refl)
 prefix_either (x ∷ xs) [] xs' ys' same = inl (x ∷ xs, refl)

@@ -36,7 +36,7 @@ read_at (x ∷ xs) zero a at = some-injective x a at
 read_at (x ∷ xs) (suc i) a at = read_at xs i a at
 
 module _ {O C R : Type 0} (moves : O → C → R → O → Type 0) (counted : O → ℕ × ℕ) where
-  -- the view is what the seat has, which holds no ticket
+  -- The view has what the seat has, and holds no ticket.
   record Resembles (h : Holding O C R) (v : View O C R) : Type 0 where
     pub numbers : v.numbers ≡ h.numbers
     pub seen : v.seen ≡ h.seen
@@ -44,7 +44,7 @@ module _ {O C R : Type 0} (moves : O → C → R → O → Type 0) (counted : O 
     pub alone : v.alone ≡ h.alone
     pub no_ticket : v.tickets ≡ []
 
-  -- what the last state, with this history, tells a seat that rests
+  -- What the last state, with this history, shows to a seat at rest.
   record Ended (log : List (Turn O C R)) (h : Holding O C R) (served next : ℕ) (spot : Spot O C R) : Type 0 where
     pub legal : IsLegal moves h.gate.opening log
     pub longer : IsPrefixOf h.seen log
@@ -54,11 +54,11 @@ module _ {O C R : Type 0} (moves : O → C → R → O → Type 0) (counted : O 
     pub due : served ≢ next → ATurnIsDue moves h.gate log
     pub alone : h.alone ≡ true → (log ≡ h.seen) × (served ≡ next)
 
-  -- at one place there are not two views
+  -- A list of one view has no two different views.
   the_only : (views : List (View O C R)) (i k : ℕ) (v u : View O C R) → length views ≡ 1 → get_elem? views i ≡ some v → get_elem? views k ≡ some u → u ≡ v
   the_only views i k v u one at there = let here = at_below views i v at in let beside = at_below views k u there in one_there views i k v u (omega arith) at there
 
-  -- who is alone has seen all, and no ticket is held
+  -- A seat that is alone has seen all turns, and no ticket is held.
   all_served : (o : O) (first : ℕ) (log : List (Turn O C R)) (drawn id : ℕ) (homes : Homes O C R) (views : List (View O C R)) (v : View O C R) → IsKept moves o first log drawn homes views → get_elem? views id ≡ some v
       → length views ≡ 1 → v.tickets ≡ [] → drawn ≤ first + length log
   all_served o first log drawn id homes views v kept at one empty =
@@ -145,18 +145,18 @@ module _ {O C R : Type 0} (moves : O → C → R → O → Type 0) (counted : O 
   abbrev pub Order : List (Placed O C R)
   Order = final.1.0.0
 
-  -- at each place the rule of a gate holds
+  -- At each place the rule of a gate holds.
   pub gated : (place : ℕ) (o : O) → get_elem? openings place ≡ some o → GatedBy moves counted o first (turns_at place Order) (state_at place St)
   gated = final.1.0.1.each
 
-  -- the pass's view there
+  -- What the pass knows of the place.
   pub view_there : (place : ℕ) → get_elem? (state_at place St).views id ≡ some (view_at place v)
   view_there place = at_map (view_at place) St.views id v final.1.1
 
   word_there : (place i n : ℕ) → i < 80 → get_elem? words (80 * place + i) ≡ some n → get_or (block place St.words) i 0 ≡ n
   word_there place i n low at = block_read place i 0 St.words low ∙ ap (λ (l : List ℕ). get_or l (80 * place + i) 0) final.2 ∙ read_at words (80 * place + i) n at
 
-  -- no fewer tickets were served than the first one says
+  -- The served ticket is at least the first one.
   pub served_from : (place served : ℕ) → place < length openings → get_elem? words (80 * place + 16) ≡ some served → first ≤ served
   served_from place served less at =
       let o = there openings place less in
@@ -164,7 +164,7 @@ module _ {O C R : Type 0} (moves : O → C → R → O → Type 0) (counted : O 
       let is = word_there place 16 served (omega arith) at in
       omega arith
 
-  -- what one place gives back to a pass that has no ticket there
+  -- What one place returns to a pass that has no ticket there.
   pub closes_at : (place : ℕ) (o : O) (table : TableId) (c : Closing O) → get_elem? openings place ≡ some o → (view_at place v).tickets ≡ [] → IsReadAt first words slots place c
       → (closes : Closes moves (holding table first o (view_at place v)) c) × (closes.log ≡ turns_at place Order)
   closes_at place o table c opens empty read =

@@ -1,4 +1,4 @@
--- The words of one place among those of all.
+-- The words of one place among the words of all places.
 use Rattle.std.proofs.Common.{◌≡◌, ◌≢◌, ℕ, ◌+◌, ◌*◌, ◌-◌, ◌<◌, List, length, get_or, set, take, drop, ap, ◌∙◌, arith, lt_of_not-le}
 use mathlib.Core.Logic.{dite}
 use native.Mathlib.Decide.{dec_le}

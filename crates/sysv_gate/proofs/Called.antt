@@ -13,7 +13,7 @@ use Rattle.sysv_gate.specs.Halls.{Passing}
 use Rattle.sysv_gate.specs.Doors.{Only, EndsOrder, HasCalled}
 
 module _ {O C R : Type 0} (moves : O → C → R → O → Type 0) (counted : O → ℕ × ℕ) (o : O) where
-  -- the turn came, and was made
+  -- The turn began, and was made.
   pub called : (m : Mine O C R) (ticket : ℕ) (mid : Mine O C R) (call : C) (reply : R) (m' : Mine O C R) → TurnCame moves counted o m.0 ticket mid → HasMade moves o mid.0 call reply m' → m.0.worn ≡ false → HasCalled moves counted o m call reply m'
   called m ticket mid call reply m' came made fresh =
       let others : List (Turn O C R) = came.longer.0 in
@@ -51,7 +51,7 @@ module _ {O C R : Type 0} (moves : O → C → R → O → Type 0) (counted : O 
         fresh = fresh;
       }
 
-  -- the turn came after its ticket was drawn
+  -- The turn began after its ticket was drawn.
   pub came_drawn : (m : Mine O C R) (ticket : ℕ) (mid mid' : Mine O C R) → HasDrawn m ticket mid → TurnCame moves counted o mid.0 ticket mid' → TurnCame moves counted o m.0 ticket mid'
   came_drawn m ticket mid mid' drawn came =
       let view : mid.0 ≡ drew ticket m.0 = ap (λ (x : Mine O C R). x.0) drawn.0 in record {
@@ -62,7 +62,7 @@ module _ {O C R : Type 0} (moves : O → C → R → O → Type 0) (counted : O 
         turn = came.turn;
       }
 
-  -- a turn that came has room in the history, and the seat that has it is named
+  -- When a turn has begun, the history has room for it, and the seat has its own number.
   pub room_for : (v : View O C R) (ticket : ℕ) (mid : Mine O C R) → TurnCame moves counted o v ticket mid → ticket < 2 ^ 62 → length mid.0.seen < 2 ^ 62
   room_for v ticket mid came low =
       let long : length mid.0.seen ≡ length came.log = ap (λ (u : View O C R). length u.seen) came.view in
@@ -72,6 +72,6 @@ module _ {O C R : Type 0} (moves : O → C → R → O → Type 0) (counted : O 
   pub still_named : (v : View O C R) (ticket : ℕ) (mid : Mine O C R) → TurnCame moves counted o v ticket mid → 1 ≤ times v.number v.numbers → 1 ≤ times mid.0.number mid.0.numbers
   still_named v ticket mid came named = subst (λ (u : View O C R). 1 ≤ times u.number u.numbers) (sym came.view) named
 
--- what went before the turn leaves it the last of the order
+-- The turn is still the last of the order if other steps went before it.
 pub order_later : {O C R : Type 0} (place : ℕ) (m mid m' : Passing O C R) → Only place m mid → EndsOrder place mid m' → EndsOrder place m m'
 order_later place m mid m' only order = record { front = order.front; turn = order.turn; longer = prefix_trans m.0.seen mid.0.seen order.front only.order order.longer; order = order.order; seen = order.seen; by = order.by }

@@ -1,4 +1,4 @@
--- What the calls at a place do to what is seen there.
+-- What the calls at a place do to what contracts see there.
 use Rattle.std.proofs.Common.{◌≡◌, ℕ, ◌≤◌, false, List, [], ◌∷◌, map, refl, sym, ap, ◌∙◌, subst}
 use Rattle.std.specs.Prelude.{Option, Some, None, Result, Ok, Err, IfOk, IfErr}
 use Rattle.atomic_table.specs.Seated.{TableId}
@@ -30,7 +30,7 @@ module _ {O C R : Type 0} (moves : O → C → R → O → Type 0) (counted : O 
   abbrev Is : Holding O C R
   Is = holding table' first o m'.0
 
-  -- a change of the view is one of what is seen of it
+  -- A change of the view is a change of what contracts see of it.
   shown : (v : View O C R) → m'.0 ≡ v → Is ≡ holding table first o v
   shown v is = λ i. holding (same i) first o (is i)
 
@@ -114,7 +114,7 @@ module _ {O C R : Type 0} (moves : O → C → R → O → Type 0) (counted : O 
   waited_within count goal (Some a) told = waited count goal a told
   waited_within count goal None told = let r = reads moves counted o first table table' same m m' rest count told.0 told.2 in (told.0, told.1, r.1, r.0)
 
--- no slot is out
+-- The pass holds no slot.
 pub bare : {O C R : Type 0} (place : ℕ) (m : Passing O C R) → (me_at place m).1 ≡ [] → m.1 ≡ []
 bare {O} {C} {R} place m is = none m.1 is
   where

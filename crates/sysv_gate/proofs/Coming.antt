@@ -1,4 +1,4 @@
--- What becomes of a view at rest when its pass is split or takes in another.
+-- What happens to a view at rest when its pass is split or joined.
 use Rattle.std.proofs.Common.{◌≡◌, ℕ, ◌+◌, ◌<◌, List, [], ◌∷◌, ◌++◌, map, length, get_or, refl, sym, ap, ◌∙◌, subst, arith}
 use Rattle.std.proofs.lemmas.List.{length-map, get_or-map}
 use Rattle.atomic_table.specs.Seated.{TableId}
@@ -21,7 +21,7 @@ use Rattle.sysv_gate.specs.Held.{holding, RestsAt, RestsThere}
 use Rattle.sysv_gate.proofs.Passing.{both_there, both_length, merged_there}
 use Rattle.sysv_gate.proofs.Seating.{still_named}
 
--- who has made no turn has none of its own
+-- A seat that has made no turn has no own turn.
 pub none_own : {O C R : Type 0} (n : ℕ) (seen : List (Turn O C R)) → ((k : ℕ) → made_at (n ∷ []) seen k ≡ 0) → HasItsOwn (n ∷ []) [] seen
 none_own n seen none = ((λ p. sym (none p)), λ x. omega arith)
 
@@ -46,10 +46,10 @@ module _ {O C R : Type 0} (moves : O → C → R → O → Type 0) (place : ℕ)
       subst (λ (v : View O C R). RestsAt moves o start v × IsPrefixOf v.seen (turns_at place sight.seen)) (sym (newcomer_view n))
       (record { no_ticket = refl; no_turn = refl; nothing_else = refl; opening = r.opening; first = r.first; named = times-same n; legal = r.legal; own = none_own n (view_at place sight).seen none }, rest.1)
 
--- ---- one pass has taken in another
+-- ---- another pass was joined into one
 
 module _ {O C R : Type 0} (moves : O → C → R → O → Type 0) where
-  -- what is told of one place
+  -- What the join shows of one place.
   abbrev pub Told : List (Placed O C R) → O → View O C R → View O C R → ℕ → Type 0
   Told order o v w place = (c : List (ℕ × Spot O C R)) × Gathers moves o (step.both_of v w, c) (merged (turns_at place order) (step.both_of v w), c)
 

@@ -1,4 +1,4 @@
--- A seat may go to another thread, and threads may share a gate, where its object may cross threads.
+-- A seat may move to another thread, and threads may share a gate, if its object may cross threads.
 use Rattle.std.proofs.Common.{List, [], ◌∷◌}
 use denote.RattleType.{RattleType}
 use denote.Param.Send.{IsSend, IsSync, AllSend, sendable, view_send, view_sync, part_keyless}
@@ -86,7 +86,7 @@ gate_sync O C R g s = view_sync (within.the_row O C R g) _ _ _ _
       (key_sync O, (as_row_sync (door.the_field O C R g) (door_sync O C R g), tt)),
     ))
 
--- what a closure captures goes to another thread where each part may
+-- The captures of a closure may move to another thread if each of them may.
 parts_send : (Ts : List RattleType) → AllSend Ts → FieldsHave IsSend (parts Ts)
 parts_send [] s = tt
 parts_send (T ∷ Ts) s = (as_row_send (row_field T) s.0, parts_send Ts s.1)
@@ -94,5 +94,5 @@ parts_send (T ∷ Ts) s = (as_row_send (row_field T) s.0, parts_send Ts s.1)
 pub captured_send : (Ts : List RattleType) → AllSend Ts → IsSend (TupleAt [] Ts)
 captured_send Ts s = declared_send (type_at [] Ts) (parts_send Ts s)
 
--- `search` finds them
+-- The rules that `search` uses for these facts.
 pub ruleset crossing_gates = (seat_send, gate_sync)

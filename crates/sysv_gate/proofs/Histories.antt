@@ -16,24 +16,24 @@ module _ {O C R : Type 0} where
     legal-snoc o [] t legal move = (move, tt)
     legal-snoc o (u ∷ us) t legal move = (legal.0, legal-snoc u.after us t legal.1 move)
 
-    -- what rises by one at most in each turn rises by the number of turns at most
+    -- A number that rises by at most one in each turn rises by at most the number of turns.
     pub rises : (f : O → ℕ) → ((o : O) (c : C) (r : R) (o' : O) → moves o c r o' → f o' ≤ f o + 1) → (o : O) (ts : List (Turn O C R)) → IsLegal moves o ts → f (after_all o ts) ≤ f o + length ts
     rises f each o [] legal = omega arith
     rises f each o (u ∷ us) legal = let first = each o u.call u.reply u.after legal.0 in let more = rises f each u.after us legal.1 in omega arith
 
-    -- what falls in no turn is no less after more turns
+    -- A number that falls in no turn is at least as great after more turns.
     pub grows_on : (f : O → ℕ) → ((o : O) (c : C) (r : R) (o' : O) → moves o c r o' → f o ≤ f o') → (o : O) (ts us : List (Turn O C R)) → IsLegal moves o (ts ++ us) → f (after_all o ts) ≤ f (after_all o (ts ++ us))
     grows_on f each o [] [] legal = omega arith
     grows_on f each o [] (u ∷ us) legal = let first = each o u.call u.reply u.after legal.0 in let more = grows_on f each u.after [] us legal.1 in omega arith
     grows_on f each o (t ∷ ts) us legal = grows_on f each t.after ts us legal.1
 
-  -- who has no number has made no turn
+  -- A seat without a number has made no turn.
   pub made_at-nobody : (ts : List (Turn O C R)) (p : ℕ) → made_at [] ts p ≡ 0
   made_at-nobody [] p = refl
   made_at-nobody (u ∷ us) zero = refl
   made_at-nobody (u ∷ us) (suc p) = made_at-nobody us p
 
-  -- who made no turn has made none before
+  -- A seat that has made no turn made none in an earlier part.
   pub made_at-front : (numbers : List ℕ) (ts us : List (Turn O C R)) → ((p : ℕ) → made_at numbers (ts ++ us) p ≡ 0) → (p : ℕ) → made_at numbers ts p ≡ 0
   made_at-front numbers [] us none p = refl
   made_at-front numbers (t ∷ ts) us none zero = none zero

@@ -1,4 +1,4 @@
--- The rule is kept when one view changes, and the log stays or grows by one turn.
+-- Proves that the rule is kept if one view changes, and the log stays or grows by one turn.
 use Rattle.std.proofs.Common.{◌≡◌, ◌≢◌, ℕ, ◌+◌, ◌^◌, ◌<◌, ◌≤◌, ◌==◌, cond, true, false, List, [], ◌∷◌, ◌++◌, length, set, sym, ap, ◌∙◌, subst, arith, length-append, length-set, ⊎_elim, Some, refl}
 use Rattle.std.specs.Prelude.{sum_by, Option}
 use mathlib.Core.Bool.{true≢false}
@@ -29,7 +29,7 @@ module _ {O C R : Type 0} (moves : O → C → R → O → Type 0) (opening : O)
   abbrev Log : Type 0
   Log = List (Turn O C R)
 
-  -- who holds the ticket that is served holds it alone
+  -- The view that holds the served ticket is the only one that holds it.
   pub served_alone : (log : Log) (drawn id : ℕ) (homes : Homes O C R) (views : List V) (v : V) → IsKept moves opening first log drawn homes views → get_elem? views id ≡ some v
       → 1 ≤ times (first + length log) v.tickets → (k : ℕ) (u : V) → k ≢ id → get_elem? views k ≡ some u → u.in_turn ≡ false
   served_alone log drawn id homes views v kept at holds k u other there =
@@ -41,13 +41,13 @@ module _ {O C R : Type 0} (moves : O → C → R → O → Type 0) (opening : O)
       let two = two-le-sum_by (λ (w : V). times s w.tickets) views id k v u other at there in
       absurd (omega (arith, once_between-le s drawn s)))
 
-  -- Where a view that is not in turn holds the ticket that is served, nobody is in turn
+  -- If a view that is not in its turn holds the served ticket, no view is in its turn.
   pub nobody_in_turn : (log : Log) (drawn id : ℕ) (homes : Homes O C R) (views : List V) (v : V) → IsKept moves opening first log drawn homes views → get_elem? views id ≡ some v
       → 1 ≤ times (first + length log) v.tickets → v.in_turn ≡ false → (k : ℕ) (u : V) → get_elem? views k ≡ some u → u.in_turn ≡ false
   nobody_in_turn log drawn id homes views v kept at holds idle k u there =
       dite (ℕ_discrete k id) (λ e. ap (λ (w : V). w.in_turn) (one_there views id k v u e at there) ∙ idle) (λ ne. served_alone log drawn id homes views v kept at holds k u ne there)
 
-  -- where no ticket is held, nobody is in turn
+  -- If no ticket is held, no view is in its turn.
   pub no_ticket_no_turn : (log : Log) (drawn : ℕ) (homes : Homes O C R) (views : List V) → IsKept moves opening first log drawn homes views → drawn ≤ first + length log
       → (k : ℕ) (u : V) → get_elem? views k ≡ some u → u.in_turn ≡ false
   no_ticket_no_turn log drawn homes views kept none k u there =
@@ -60,20 +60,20 @@ module _ {O C R : Type 0} (moves : O → C → R → O → Type 0) (opening : O)
       let some_left : s < drawn = first_between s drawn (omega arith) in
       absurd (omega arith))
 
-  -- no number of a view stands twice
+  -- No number occurs twice among those of a view.
   pub numbers_once : (log : Log) (drawn id : ℕ) (homes : Homes O C R) (views : List V) (v : V) → IsKept moves opening first log drawn homes views → get_elem? views id ≡ some v → NoneTwice v.numbers
   numbers_once log drawn id homes views v kept at x =
       let all = kept.apart x in
       let part = at-le-sum_by (λ (w : V). times x w.numbers) views id v at in
       omega arith
 
-  -- what a view has of the whole log
+  -- The own turns of a view in the whole log.
   pub own_turns : (log : Log) (drawn id : ℕ) (homes : Homes O C R) (views : List V) (v : V) → IsKept moves opening first log drawn homes views → get_elem? views id ≡ some v → HasItsOwn v.numbers v.own log
   own_turns log drawn id homes views v kept at =
       let own = (kept.each id v at).own in
       (own, λ p. let is = own p in let le = made_at-le v.numbers (numbers_once log drawn id homes views v kept at) log p in omega arith)
 
-  -- a change of a view that keeps its numbers changes no number of bearers
+  -- A change of a view that keeps its numbers keeps the number of views with each number.
   pub same_bearers : (views : List V) (id : ℕ) (v w : V) → get_elem? views id ≡ some v → w.numbers ≡ v.numbers → (x : ℕ) → bearers x (set views id w) ≡ bearers x views
   same_bearers views id v w at same x =
       let here : times x w.numbers ≡ times x v.numbers = ap (times x) same in
@@ -91,14 +91,14 @@ module _ {O C R : Type 0} (moves : O → C → R → O → Type 0) (opening : O)
       subst (λ (k : ℕ). bearers k views ≡ 0) (sym t.0) old)
       (λ t. before i u t.1 o is empty) (at_set views id i w u there)
 
-  -- being alone is kept
+  -- The facts about a view that is alone are kept.
   pub still_alone : (log : Log) (views : List V) (id : ℕ) (w : V) → ((k : ℕ) (u : V) → get_elem? views k ≡ some u → u.alone ≡ true → (length views ≡ 1) × (u.seen ≡ log)) → (w.alone ≡ true → (length views ≡ 1) × (w.seen ≡ log))
       → (k : ℕ) (u : V) → get_elem? (set views id w) k ≡ some u → u.alone ≡ true → (length (set views id w) ≡ 1) × (u.seen ≡ log)
   still_alone log views id w before lone k u there mark =
       let is = each_set (λ (x : V). x.alone ≡ true → (length views ≡ 1) × (x.seen ≡ log)) (λ (x : V). x.alone ≡ true → (length views ≡ 1) × (x.seen ≡ log)) views id w before (λ _ _ _ _ p. p) lone k u there mark in
       (length-set views id w ∙ is.0, is.1)
 
-  -- beside another view none is alone
+  -- No view is alone beside another view.
   pub not_alone : (log : Log) (views : List V) (id k : ℕ) (v u : V) → ((i : ℕ) (x : V) → get_elem? views i ≡ some x → x.alone ≡ true → (length views ≡ 1) × (x.seen ≡ log)) → get_elem? views id ≡ some v → k ≢ id → get_elem? views k ≡ some u → u.alone ≡ false
   not_alone log views id k v u before at other there =
       not_true u.alone
@@ -111,7 +111,7 @@ module _ {O C R : Type 0} (moves : O → C → R → O → Type 0) (opening : O)
   wider : (log : Log) (drawn drawn' : ℕ) → drawn ≤ drawn' → (v : V) → Fits opening first log drawn v → Fits opening first log drawn' v
   wider log drawn drawn' le v fits = record { start = fits.start; seen = fits.seen; also = fits.also; turn = fits.turn; own = fits.own; worn = λ mark. let limit = fits.worn mark in omega arith }
 
-  -- The log stays: the tickets may be drawn further, by what the view draws, and the slot stays where nobody begins a turn
+  -- The log stays. The view may draw further tickets, and the slot stays unless a turn begins.
   pub stays : (log : Log) (drawn drawn' id : ℕ) (homes homes' : Homes O C R) (views : List V) (v w : V) → IsKept moves opening first log drawn homes views → get_elem? views id ≡ some v
       → drawn ≤ drawn' → drawn' ≤ 2 ^ 62
       → w.numbers ≡ v.numbers
@@ -142,7 +142,7 @@ module _ {O C R : Type 0} (moves : O → C → R → O → Type 0) (opening : O)
         alone = still_alone log views id w kept.alone lone;
       }
 
-  -- the fit of another view after the turn of the view v
+  -- Another view still fits after the turn of the view v.
   others_fit : (log : Log) (drawn id : ℕ) (homes : Homes O C R) (views : List V) (v : V) (call : C) (reply : R) (after : O) → IsKept moves opening first log drawn homes views → get_elem? views id ≡ some v
       → 1 ≤ times (first + length log) v.tickets → 1 ≤ times v.number v.numbers
       → (k : ℕ) (u : V) → k ≢ id → get_elem? views k ≡ some u → Fits opening first log drawn u → Fits opening first (log ++ turn_of v call reply after ∷ []) drawn u
@@ -160,7 +160,7 @@ module _ {O C R : Type 0} (moves : O → C → R → O → Type 0) (opening : O)
         worn = fits.worn;
       }
 
-  -- the fit of the view itself
+  -- The view v itself still fits.
   ended_fits : (log : Log) (drawn : ℕ) (v : V) (call : C) (reply : R) (after : O) → Fits opening first log drawn v → v.seen ≡ log → times v.number v.numbers ≡ 1
       → Fits opening first (log ++ turn_of v call reply after ∷ []) drawn (ended v call reply after)
   ended_fits log drawn v call reply after fits whole mine =
@@ -178,7 +178,7 @@ module _ {O C R : Type 0} (moves : O → C → R → O → Type 0) (opening : O)
         worn = fits.worn;
       }
 
-  -- The log grows by the turn of the view, which ends it and gives the object home
+  -- The log grows by the turn of the view. The turn ends, and the object returns to the table.
   pub grows : (log : Log) (drawn id ticket : ℕ) (homes homes' : Homes O C R) (views : List V) (v : V) (call : C) (reply : R) (after : O) (last : Option (Done C R))
       → IsKept moves opening first log drawn homes views → get_elem? views id ≡ some v
       → v.tickets ≡ ticket ∷ [] → v.in_turn ≡ true → 1 ≤ times v.number v.numbers

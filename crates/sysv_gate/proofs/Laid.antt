@@ -1,4 +1,4 @@
--- The rule holds when a table with several places is laid.
+-- Proves that the rule holds when a table with several places is laid.
 use Rattle.std.proofs.Common.{◌≡◌, inr, ℕ, zero, suc, ◌+◌, ◌*◌, ◌^◌, ◌<◌, ◌≤◌, List, [], ◌∷◌, ◌++◌, map, length, reverse, get_or, take, drop, refl, sym, ap, ◌∙◌, subst, ⊎_elim, arith, length-append, append_assoc}
 use Rattle.std.specs.Prelude.{Some, None}
 use mathlib.Core.Logic.{dite}
@@ -23,7 +23,7 @@ use Rattle.sysv_gate.proofs.Blocks.{block_length}
 use Rattle.sysv_gate.proofs.Opening.{starts}
 use Rattle.sysv_gate.proofs.Sharing.{first_whole}
 
--- the words of another place come behind
+-- The words of another place are appended.
 block_before : (place count : ℕ) (words new : List ℕ) → length words ≡ 80 * count → place < count → block place (words ++ new) ≡ block place words
 block_before place count words new long less =
     let rest = length-drop (80 * place) words in
@@ -49,7 +49,7 @@ module _ {O : Type 0} (counted : O → ℕ × ℕ) (first : ℕ) (objects : List
             (λ ne. subst (IsLaid counted first p) (sym (block_before place count words new laid.0 (omega arith))) (laid.1 place p (omega arith) there)),
       )
 
--- a door more
+-- One more door is made.
 pub one_door : {O : Type 0} (objects : List O) (count : ℕ) (doors doors' : List (Doorway O)) (door : Doorway O) (o : O) → AreDoorsUpTo objects count doors → doors' ≡ doors ++ door ∷ [] → get_elem? objects count ≡ some o → door.place ≡ count → door.opening ≡ o
     → AreDoorsUpTo objects (count + 1) doors'
 one_door {O} objects count doors doors' door o are more at place opening =
@@ -68,7 +68,7 @@ one_door {O} objects count doors doors' door o are more at place opening =
     )
 
 module _ {O C R : Type 0} (moves : O → C → R → O → Type 0) (counted : O → ℕ × ℕ) where
-  -- the table of new places
+  -- The table of new places keeps the rule.
   pub lays : (objects : List O) (first : ℕ) (words : List ℕ) (spots : List (Spot O C R)) → first ≤ 2 ^ 62 → AreLaidUpTo counted first objects (length objects) words → spots ≡ all_put objects
       → InOrder moves counted objects first (opening words spots (outset objects first))
   lays objects first words spots low laid is = (
@@ -99,7 +99,7 @@ module _ {O C R : Type 0} (moves : O → C → R → O → Type 0) (counted : O 
       read_at (x ∷ xs) (suc i) d a at = read_at xs i d a at
 
 module _ {O C R : Type 0} where
-  -- the objects so far are in their slots
+  -- The first objects are in their slots.
   pub record IsFilling (all left : List O) (spots : List (Spot O C R)) : Type 0 where
     pub done : List O
     pub filled : spots ≡ all_put done
@@ -118,7 +118,7 @@ module _ {O C R : Type 0} where
   pub filling_ends : (all left : List O) (spots : List (Spot O C R)) → IsFilling all left spots → left ≡ [] → spots ≡ all_put all
   filling_ends all left spots told bare = told.filled ∙ ap all_put (sym (told.parts ∙ ap (λ (l : List O). told.done ++ reverse l) bare ∙ append-nil told.done))
 
-  -- the objects come back out of their slots, the last one first
+  -- The objects are moved out of their slots, the last one first.
   pub record IsEmptying (was : List (Spot O C R)) (back : List O) (spots : List (Spot O C R)) : Type 0 where
     pub left : List O
     pub filled : spots ≡ all_put left
@@ -144,7 +144,7 @@ module _ {O C R : Type 0} where
       let r = last_put ps fs x rest in
       (p ∷ r.0, r.1, r.2, ap (λ (l : List O). p ∷ l) r.3, λ i. sym here i ∷ r.4 i)
 
-  -- the last slot has an object
+  -- The last slot has an object.
   pub emptying_has : (was : List (Spot O C R)) (back : List O) (spots spots' : List (Spot O C R)) (s : Spot O C R) → IsEmptying was back spots → spots ≡ spots' ++ s ∷ [] → (o : O) × (s ≡ put o None)
   emptying_has was back spots spots' s told split = let cut = last_put told.left spots' s (sym told.filled ∙ split) in (cut.1, cut.2)
 
@@ -164,7 +164,7 @@ module _ {O C R : Type 0} where
   pub emptying_ends : (was : List (Spot O C R)) (back : List O) (spots : List (Spot O C R)) → IsEmptying was back spots → spots ≡ [] → was ≡ all_put (reverse back)
   emptying_ends was back spots told bare = told.parts ∙ ap (λ (l : List O). all_put (l ++ reverse back)) (empty_put told.left (sym told.filled ∙ bare))
 
-  -- the slots tell which objects are in them
+  -- The slots determine the objects in them.
   pub same_put : (xs ys : List O) → all_put {C = C} {R = R} xs ≡ all_put ys → xs ≡ ys
   same_put [] [] is = refl
   same_put [] (y ∷ ys) is = absurd (cc)

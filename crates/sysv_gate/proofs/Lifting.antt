@@ -1,4 +1,4 @@
--- A step of a gate is one at a place of a table with several.
+-- Proves that a step of a gate is a step at a place of a table with several places.
 use Rattle.std.proofs.Common.{◌≡◌, ◌≢◌, inr, ⊎_elim, ℕ, zero, suc, ◌+◌, ◌*◌, ◌<◌, List, [], ◌∷◌, ◌++◌, map, length, set, get_or, sym, refl, ap, ◌∙◌, subst, arith, length-set, get_or-set_same, get_or-set_other}
 use mathlib.Core.Logic.{dite}
 use native.Mathlib.Decide.{ℕ_discrete}
@@ -25,7 +25,7 @@ use Rattle.sysv_gate.proofs.Ordering.{turns_append, turns_here, turns_else, belo
 use Rattle.sysv_gate.proofs.Sharing.{still_whole}
 use Rattle.sysv_gate.proofs.Touching.{Touch, leaves, takes, gives, act_at, AllowsTo}
 
--- what lies at a number, where something does
+-- The element at an index within the list.
 pub read_there : {A : Type 0} (xs : List A) (i : ℕ) (d a : A) → i < length xs → get_or xs i d ≡ a → get_elem? xs i ≡ some a
 read_there [] i d a less is = absurd (omega arith)
 read_there (x ∷ xs) zero d a less is = ap some is
@@ -87,7 +87,7 @@ module _ {O C R : Type 0} (moves : O → C → R → O → Type 0) (counted : O 
   abbrev By : O → Log → State (Spot O C R) (View O C R) → Type 0
   By o log = GatedBy moves counted o first log
 
-  -- a step that adds nothing
+  -- A step that adds no turn.
   pub adds_none : (o : O) (id : ℕ) (me : Mine O C R) (i : ℕ) (f : ℕ → ℕ) (then : ℕ → Mine O C R → Type 0) → ((log : Log) → AllowsTo (By o log) (By o log) 1 id me i f then) → (log : Log) → AllowsTo (By o log) (By o (log ++ [])) 1 id me i f then
   adds_none o id me i f then each log = subst (λ (l : Log). AllowsTo (By o log) (By o l) 1 id me i f then) (sym (append-nil log)) (each log)
 
@@ -185,7 +185,7 @@ module _ {O C R : Type 0} (moves : O → C → R → O → Type 0) (counted : O 
         },
       )
 
-  -- the place is the one whose word it is
+  -- The place is the one whose word it is.
   pub at_its_place : (added : Mine O C R → Log) (play : At O C R → Mine O C R → ℕ → Mine O C R → Type 0) (st : At O C R) (m : Passing O C R) (n : ℕ) (m' : Passing O C R) (place i : ℕ) → st.word ≡ 80 * place + i → i < 80
       → StepsAt place (added (me_at place m)) (play (step 1 i st.first st.second none) (me_at place m) n) m m' → AtAPlace added play st m n m'
   at_its_place added play st m n m' place i is less told place' i' is' less' =
@@ -194,7 +194,7 @@ module _ {O C R : Type 0} (moves : O → C → R → O → Type 0) (counted : O 
       subst (λ (p : ℕ). StepsAt p (added (me_at p m)) (play (step 1 i' st.first st.second none) (me_at p m) n) m m') same
       (subst (λ (w : ℕ). StepsAt place (added (me_at place m)) (play (step 1 w st.first st.second none) (me_at place m) n) m m') word told)
 
-  -- a step on a word that is known by an equation
+  -- A step on a word whose number is known by an equation.
   pub lifted : (place : ℕ) (o : O) (added : Mine O C R → Log) (play : At O C R → Mine O C R → ℕ → Mine O C R → Type 0) (slots id : ℕ) (m : Passing O C R) (i word a b : ℕ) (f : ℕ → ℕ)
       → word ≡ 80 * place + i → get_elem? openings place ≡ some o → i < 80 → place < length m.0.views → Carries place m
       → ((log : Log) → AllowsTo (By o log) (By o (log ++ added (me_at place m))) 1 id (me_at place m) i f (play (step 1 i a b none) (me_at place m)))
@@ -205,7 +205,7 @@ module _ {O C R : Type 0} (moves : O → C → R → O → Type 0) (counted : O 
       let went = lift place o (added (me_at place m)) slots id m i f (play (step 1 i a b none) (me_at place m)) opens inside known all each s held one at low in
       (went.0, went.1, went.2, went.3, at_its_place added play (step slots (80 * place + i) a b none) m _ _ place i refl inside went.4))
 
-  -- the same for a step that adds no turn
+  -- The same for a step that adds no turn.
   pub lifted_none : (place : ℕ) (o : O) (play : At O C R → Mine O C R → ℕ → Mine O C R → Type 0) (slots id : ℕ) (m : Passing O C R) (i word a b : ℕ) (f : ℕ → ℕ)
       → word ≡ 80 * place + i → get_elem? openings place ≡ some o → i < 80 → place < length m.0.views → Carries place m
       → ((log : Log) → AllowsTo (By o log) (By o log) 1 id (me_at place m) i f (play (step 1 i a b none) (me_at place m)))

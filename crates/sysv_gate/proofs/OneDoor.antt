@@ -1,4 +1,4 @@
--- A gate has one door: what its calls ask of a seat, and what they leave of it.
+-- A gate has one door: what its calls require of a seat, and what they leave of it.
 use Rattle.std.proofs.Common.{◌≡◌, ℕ, zero, suc, ◌<◌, ◌≤◌, false, List, [], ◌∷◌, map, length, sym, ap, ◌∙◌, subst, arith}
 use Rattle.std.proofs.lemmas.List.{length-map}
 use Rattle.std.specs.Prelude.{Option, Some, Result, Ok, Err, IfOk, IfErr, OnOk}
@@ -43,7 +43,7 @@ module _ {O C R : Type 0} (moves : O → C → R → O → Type 0) (g : GateInsi
   abbrev Opening : O
   Opening = s.key.value.opening.value
 
-  -- the seat is one of the gate
+  -- The seat is one of the gate.
   pub same_gate : (held s).gate ≡ gateway g
   same_gate = ap (λ (k : Holding O C R). k.gate) shown ∙ fit ∙ sym viewed
 
@@ -83,7 +83,7 @@ module _ {O C R : Type 0} (moves : O → C → R → O → Type 0) (g : GateInsi
   pub accepted : (accepts : O → C → Type 0) (call : C) → IsAccepted moves accepts w.opening call → IsAccepted moves accepts g.door.opening call
   accepted accepts call fits = subst (λ (o : O). IsAccepted moves accepts o call) (ap (λ (x : Gateway O). x.opening) (sym viewed) ∙ ap (λ (d : Doorway O). d.opening) (sym opened.is)) fits
 
-  -- after steps at the door
+  -- After steps at the door.
   module _ (counted : O → ℕ × ℕ) (token : Seat (Spot O C R) (Sight O C R)) (went : IsSame g.door.place s.token token) where
     abbrev Now : Inside O C R
     Now = record { token = token; key = s.key }
@@ -97,7 +97,7 @@ module _ {O C R : Type 0} (moves : O → C → R → O → Type 0) (g : GateInsi
     here : IsSame 0 s.token token
     here = subst (λ (d : Doorway O). IsSame d.place s.token token) door_is went
 
-    -- what is told of the door is so of the seat's place
+    -- What holds at the door holds at the seat's place.
     mine : (fact : O → Mine O C R → Mine O C R → Type 0) → fact g.door.opening (me_at g.door.place s.token.me) (me_at g.door.place token.me) → fact Opening Before After
     mine fact is = subst (λ (d : Doorway O). fact d.opening (me_at d.place s.token.me) (me_at d.place token.me)) door_is is
 
@@ -158,7 +158,7 @@ module _ {O C R : Type 0} (moves : O → C → R → O → Type 0) (g : GateInsi
       let told = closes_at moves counted g.hall.shared.key.openings.value.items g.key.first token.id token.me.0 words slots shut 0 Opening s.token.table_id c (ap (λ (os : List O). get_elem? os 0) openings) (ap (λ (t : Seat (Spot O C R) (Sight O C R)). (view_at 0 t.me.0).tickets) (sym is) ∙ rest.rests.0.no_ticket) read in
       subst (λ (k : Holding O C R). Closes moves k c) ((λ i. holding s.token.table_id (sym (ap (λ (x : Gateway O). x.first) same_gate) i) Opening (view_at 0 (sym is i).me.0)) ∙ shown) told.0
 
-  -- no fewer tickets were served than the first one says
+  -- The served ticket is at least the first one.
   pub served_first : (counted : O → ℕ × ℕ) (token : Seat (Spot O C R) (Sight O C R)) (words : List ℕ) (slots : List (Spot O C R)) (served : ℕ)
       → Final (Seen (InOrder moves counted g.hall.shared.key.openings.value.items g.hall.shared.key.first) token.id token.me.0) words slots → get_elem? words 16 ≡ some served → g.key.first ≤ served
   served_first counted token words slots served final at =
@@ -166,7 +166,7 @@ module _ {O C R : Type 0} (moves : O → C → R → O → Type 0) (g : GateInsi
       let one = ap length openings in
       served_from moves counted g.hall.shared.key.openings.value.items g.key.first token.id token.me.0 words slots shut 0 served (omega arith) at
 
-  -- a seat that was split off
+  -- A seat that was split off.
   module _ (token : Seat (Spot O C R) (Sight O C R)) (new : IsNewcomer s.token.me.0 token.me) (table_is : token.table_id ≡ s.token.table_id) (key : Snapshot (Key O)) (key_is : key.value ≡ g.key) where
     abbrev New : Inside O C R
     New = record { token = token; key = key }
@@ -193,7 +193,7 @@ module _ {O C R : Type 0} (moves : O → C → R → O → Type 0) (g : GateInsi
           (subst (λ (m : Passing O C R). RestsThere moves 0 Opening s.key.value.first m.0) (sym new.1) (newcomer_there moves 0 s.token.me.0 some_view new.0 Opening s.key.value.first (λ k. new.2 0 k some_view) rest.rests));
     }
 
--- another seat was split off
+-- The seat from which another was split off.
 pub parted_rests : {O C R : Type 0} (moves : O → C → R → O → Type 0) (s : Inside O C R) (token : Seat (Spot O C R) (Sight O C R)) → IsAtRest moves s → token.me ≡ (halved s.token.me.0, s.token.me.1) → IsAtRest moves record { token = token; key = s.key }
 parted_rests {O} {C} {R} moves s token rest is = record {
   no_slot = ap (λ (m : Passing O C R). m.1) is ∙ rest.no_slot;
@@ -201,7 +201,7 @@ parted_rests {O} {C} {R} moves s token rest is = record {
   rests = subst (λ (m : Passing O C R). RestsThere moves 0 s.key.value.opening.value s.key.value.first m.0) (sym is) (parted_there moves 0 s.token.me.0 (let one = rest.one in omega arith) s.key.value.opening.value s.key.value.first rest.rests);
 }
 
--- a seat has taken in another
+-- A seat into which another was joined.
 module _ {O C R : Type 0} (moves : O → C → R → O → Type 0) (s : Inside O C R) (h two : Holding O C R) (token other : Seat (Spot O C R) (Sight O C R)) (rest : IsAtRest moves s) (shown : held s ≡ h) (is : IsTokenOf moves two other) (same : token.table_id ≡ s.token.table_id)
     (joined : Merges moves (both_of s.token.me.0 other.me.0, s.token.me.1) token.me) where
   abbrev Joined : Inside O C R

@@ -1,4 +1,4 @@
--- The rule holds when a gate is opened.
+-- Proves that the rule holds when a gate is opened.
 use Rattle.std.proofs.Common.{◌≡◌, ℕ, ◌+◌, ◌^◌, ◌≤◌, List, [], ◌∷◌, ◌++◌, length, get_or, refl, sym, ap, subst, ⊎_elim, arith, length-append, ◌∙◌, map}
 use Rattle.std.specs.Prelude.{Some, None, sum_by}
 use mathlib.Core.Bool.{true≢false}
@@ -16,11 +16,11 @@ use Rattle.sysv_gate.specs.Counts.{of_count}
 use Rattle.sysv_gate.proofs.Announcing.{none_yet}
 use Rattle.sysv_lists.proofs.Counting.{once_between-same, times-one, times-one-le}
 
--- a list of one, which was empty before
+-- An element was appended to an empty list.
 pub pushed : {A : Type 0} (xs ys : List A) (x y : A) → ys ≡ xs ++ x ∷ [] → xs ≡ [] → x ≡ y → ys ≡ y ∷ []
 pushed xs ys x y more empty same = more ∙ ap (λ l. l ++ x ∷ []) empty ∙ ap (λ z. z ∷ []) same
 
--- what is taken from a list of one
+-- An element was removed from a list of one.
 pub popped : {A : Type 0} (xs front : List A) (x a : A) → xs ≡ front ++ x ∷ [] → length xs ≡ 1 → get_elem? xs 0 ≡ some a → x ≡ a
 popped xs [] x a more one at = some-injective x a (ap (λ l. get_elem? l 0) (sym more) ∙ at)
 popped xs (y ∷ front) x a more one at = let long = ap length more ∙ length-append (y ∷ front) (x ∷ []) in absurd (omega arith)
@@ -69,7 +69,7 @@ module _ {O C R : Type 0} (moves : O → C → R → O → Type 0) (counted : O 
   told_at_start o first ws arrived freed Arrived = told_one Arrived o first (get_or ws 48 0) arrived
   told_at_start o first ws arrived freed Freed = told_one Freed o first (get_or ws 64 0) freed
 
-  -- the table of a new gate
+  -- The table of a new gate keeps the rule.
   pub starts : (o : O) (first : ℕ) (ws : List ℕ) (xs : List (Spot O C R)) → length ws ≡ 80 → get_or ws 16 0 ≡ first → get_or ws 32 0 ≡ first → get_or ws 48 0 ≡ (counted o).0 → get_or ws 64 0 ≡ (counted o).1 → xs ≡ put o None ∷ [] → first ≤ 2 ^ 62
       → GatedBy moves counted o first [] (opening ws xs (start o first))
   starts o first ws xs wide serves draws arrived freed is le = (

@@ -33,18 +33,18 @@ module _ {O C R : Type 0} where
       ap (λ b. map (λ (t : Placed O C R). t.turn) (cond b (record { place = place; turn = t } ∷ filter (λ (t : Placed O C R). t.place == other) (placed place ts)) (filter (λ (t : Placed O C R). t.place == other) (placed place ts)))) (other_number place other apart)
       ∙ turns_else place other apart ts
 
-  -- a longer order has no fewer turns at a place
+  -- A longer order has no fewer turns at a place.
   pub turns_longer : (place : ℕ) (xs ys : List (Placed O C R)) → IsPrefixOf xs ys → IsPrefixOf (turns_at place xs) (turns_at place ys)
   turns_longer place xs ys longer = (turns_at place longer.0, ap (turns_at place) longer.1 ∙ turns_append place xs longer.0)
 
-  -- an order has no turns at a place that it does not reach
+  -- An order has no turns at a place beyond its bound.
   pub turns_none : (count place : ℕ) (order : List (Placed O C R)) → AreBelow count order → count ≤ place → turns_at place order ≡ []
   turns_none count place [] below far = refl
   turns_none count place (t ∷ ts) below far =
       let low = below.0 in
       turns_append place (t ∷ []) ts ∙ ap (λ l. l ++ turns_at place ts) (turns_else t.place place (λ e. omega arith) (t.turn ∷ [])) ∙ turns_none count place ts below.1 far
 
-  -- a part of an order reaches no further
+  -- A part of an order has the same bound.
   pub below_front : (count : ℕ) (xs ys : List (Placed O C R)) → AreBelow count (xs ++ ys) → AreBelow count xs
   below_front count [] ys below = tt
   below_front count (x ∷ xs) ys below = (below.0, below_front count xs ys below.1)

@@ -1,4 +1,4 @@
--- How passes come, and how one is joined into another.
+-- Proves that splits and joins of passes keep the rule of a table.
 use Rattle.std.proofs.Common.{◌≡◌, inl, inr, ⊎_elim, ℕ, zero, suc, ◌+◌, ◌<◌, ◌≤◌, false, List, [], ◌∷◌, ◌++◌, map, length, set, get_or, sym, refl, ap, ◌∙◌, subst, arith}
 use Rattle.std.specs.Prelude.{Some}
 use mathlib.Core.Option.{none, some}
@@ -64,7 +64,8 @@ module _ {O C R : Type 0} (moves : O → C → R → O → Type 0) (counted : O 
   abbrev Full : Sight O C R → Type 0
   Full v = IsFull openings v
 
-  -- the rule where the words, the slots and the order stay, and each place has these views
+  -- The rule holds if the words, the slots and the order stay, and the views of each place change
+  -- to these.
   changed : (order : List (Placed O C R)) (s : St) (views : List (Sight O C R)) (there : ℕ → List (View O C R)) → Kept moves counted openings first order s
       → ((place : ℕ) (o : O) → get_elem? openings place ≡ some o → map (view_at place) views ≡ there place)
       → ((place : ℕ) (o : O) → get_elem? openings place ≡ some o → GatedBy moves counted o first (turns_at place order) record { words = block place s.words; homes = (state_at place s).homes; views = there place })
@@ -222,14 +223,14 @@ module _ {O C R : Type 0} (moves : O → C → R → O → Type 0) (counted : O 
       )
 
 module _ {O C R : Type 0} where
-  -- what a split gives has no numbers yet, and knows what its origin knows
+  -- A pass that was split off has no number yet, and knows what its origin knows.
   pub newcomer_at : (sight : Sight O C R) (m : Passing O C R) (o : O) (place : ℕ) → m ≡ (newcomer sight, []) → place < length sight.views → (view_at place sight).opening ≡ Some o
       → ((view_at place m.0).opening ≡ Some o) × ((view_at place m.0).numbers ≡ []) × ((view_at place m.0).in_turn ≡ false)
   newcomer_at sight m o place is less knows =
       let view : view_at place m.0 ≡ gate.newcomer (view_at place sight) = ap (λ (n : Passing O C R). view_at place n.0) is ∙ get_or-map gate.newcomer sight.views place gate.spent gate.spent less in
       (ap (λ (v : View O C R). v.opening) view ∙ knows, ap (λ (v : View O C R). v.numbers) view, ap (λ (v : View O C R). v.in_turn) view)
 
-  -- and then it has one
+  -- The pass that was split off, after it has received its number.
   pub newcomer_named : (sight : Sight O C R) (m m' : Passing O C R) → m ≡ (newcomer sight, []) → Names (step 0 16 0 0 maybe.none) m 0 m' → IsNewcomer sight m'
   newcomer_named sight m m' is told = (
     told.0,
@@ -244,7 +245,7 @@ module _ {O C R : Type 0} where
         ap (λ (l : List (Placed O C R)). made_at (told.0 ∷ []) (turns_at place l) k) (sym seen) ∙ told.3 place k (omega arith),
   )
 
-  -- two views in one have no turn
+  -- After a join, the view of a place has no turn.
   pub both_idle : (one two : Sight O C R) (m : Passing O C R) {c : List (ℕ × Spot O C R)} (place : ℕ) → m ≡ (both_of one two, c) → place < length one.views → length two.views ≡ length one.views → (view_at place one).in_turn ≡ false → (view_at place m.0).in_turn ≡ false
   both_idle one two m place is less same idle =
       ap (λ (n : Passing O C R). (view_at place n.0).in_turn) is ∙ ap (λ (v : View O C R). v.in_turn) (both_there one.views two.views place less same) ∙ idle

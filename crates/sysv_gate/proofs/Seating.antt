@@ -1,4 +1,4 @@
--- How seats come, and how one is joined into another.
+-- Proves that splits and joins of seats keep the rule of a gate.
 use Rattle.std.proofs.Common.{◌≡◌, ◌≢◌, ℕ, ◌+◌, ◌^◌, ◌≤◌, ◌||◌, Bool, true, false, List, [], ◌∷◌, ◌++◌, ⊎_elim, length, set, get_or, refl, sym, ap, ◌∙◌, subst, arith, length-set, length-append, Some, None}
 use mathlib.Core.Bool.{true≢false}
 use mathlib.Core.Logic.{dite}
@@ -44,7 +44,7 @@ module _ {O C R : Type 0} (moves : O → C → R → O → Type 0) (counted : O 
   abbrev Told : Log → List ℕ → List V → Type 0
   Told log words views = AreAnnounced counted (after_all opening log) words views
 
-  -- a number that was none's becomes the seat's
+  -- A number that no seat has becomes that of the seat.
   naming_keeps : (log : Log) (drawn id : ℕ) (homes : Homes O C R) (views : List V) (v : V) (o : O) → IsKept moves opening first log drawn homes views → get_elem? views id ≡ some v → v.opening ≡ Some o → v.numbers ≡ [] → v.in_turn ≡ false
       → IsKept moves opening first log drawn homes (set views id (named id v))
   naming_keeps log drawn id homes views v o kept at knows empty idle =
@@ -106,7 +106,7 @@ module _ {O C R : Type 0} (moves : O → C → R → O → Type 0) (counted : O 
         made_at-front (id ∷ []) v.seen fits.seen.0 (λ p. subst (λ (l : Log). made_at (id ∷ []) l p ≡ 0) fits.seen.1 (kept.known id (kept.nameless id v at o knows empty) p)),
       )
 
-  -- a seat comes that has seen what another has
+  -- A new seat is added that has seen what another seat has.
   coming_keeps : (log : Log) (drawn id : ℕ) (homes : Homes O C R) (views : List V) (v : V) → IsKept moves opening first log drawn homes views → get_elem? views id ≡ some v → ((k : ℕ) (u : V) → get_elem? views k ≡ some u → u.alone ≡ false)
       → IsKept moves opening first log drawn homes (views ++ newcomer v ∷ [])
   coming_keeps log drawn id homes views v kept at beside =
@@ -138,7 +138,7 @@ module _ {O C R : Type 0} (moves : O → C → R → O → Type 0) (counted : O 
         alone = λ k u there mark. absurd (⊎_elim (λ t. true≢false (sym mark ∙ beside k u t)) (λ t. true≢false (sym mark ∙ ap (λ (x : V). x.alone) (sym t))) (at_snoc views w u k there));
       }
 
-  -- a seat is not alone any more
+  -- A seat is no longer alone.
   parting_keeps : (log : Log) (drawn id : ℕ) (homes : Homes O C R) (views : List V) (v : V) → IsKept moves opening first log drawn homes views → get_elem? views id ≡ some v → IsKept moves opening first log drawn homes (set views id (parted v))
   parting_keeps log drawn id homes views v kept at =
       let fits = kept.each id v at in
@@ -164,7 +164,7 @@ module _ {O C R : Type 0} (moves : O → C → R → O → Type 0) (counted : O 
         counts_more counted (after_all opening log) s.words id (set s.views id p) p (newcomer v) told here none_yet refl,
       )
 
-  -- one seat takes in another
+  -- One seat is joined into another.
   joining_keeps : (log : Log) (drawn id other : ℕ) (homes : Homes O C R) (views : List V) (v w : V) → IsKept moves opening first log drawn homes views → get_elem? views id ≡ some v → other ≢ id
       → get_elem? (set views id (both_of v w)) other ≡ some w → 1 ≤ times v.number v.numbers → v.in_turn ≡ false → w.tickets ≡ [] → w.in_turn ≡ false
       → IsKept moves opening first log drawn homes (set (set views id (both_of v w)) other spent)

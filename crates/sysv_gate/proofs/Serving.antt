@@ -24,7 +24,7 @@ use Rattle.sysv_gate.proofs.Touching.{AllowsTo}
 use Rattle.sysv_gate.proofs.Stepping.{ends}
 
 module _ {O C R : Type 0} where
-  -- the only slot that the pass has is that of the place
+  -- The only slot that the pass holds is that of the place.
   pub out_there : (place : ℕ) (m : Passing O C R) (s : Spot O C R) → Carries place m → (me_at place m).1 ≡ (0, s) ∷ [] → m.1 ≡ (place, s) ∷ []
   out_there place m s carries out = from m.1 carries out
     where
@@ -35,21 +35,21 @@ module _ {O C R : Type 0} where
           all ∙ ap (λ (y : ℕ × Spot O C R). (place, y.1) ∷ []) same
       from (x ∷ y ∷ ys) all out = absurd (cc)
 
-  -- what was lent is what was in the slot
+  -- What was lent is what was in the slot.
   pub lent_there : (slot : ℕ) (xs ys : List (ℕ × Spot O C R)) (lent s : Spot O C R) → xs ≡ (slot, lent) ∷ ys → xs ≡ (slot, s) ∷ [] → lent ≡ s
   lent_there slot xs ys lent s had out =
       let pair : (slot, lent) ≡ (slot, s) = cc in
       ap (λ (x : ℕ × Spot O C R). x.1) pair
 
-  -- something else was written into the slot
+  -- Another value was written into the slot.
   pub written_there : (slot : ℕ) (m : Passing O C R) (s x : Spot O C R) → m.1 ≡ (slot, s) ∷ [] → ◌≡◌ {A = Passing O C R} (m.0, (slot, x) ∷ rest m.1) (m.0, (slot, x) ∷ [])
   written_there slot m s x out = ap (λ (xs : List (ℕ × Spot O C R)). (m.0, (slot, x) ∷ rest xs)) out
 
-  -- nothing but what is in the slot has changed
+  -- Only the contents of the slot have changed.
   pub refilled_only : (place : ℕ) (m m' : Passing O C R) (x : Spot O C R) → m' ≡ (m.0, (place, x) ∷ []) → IsPrefixOf (view_at place m.0).seen (turns_at place m.0.seen) → Only place m m'
   refilled_only place m m' x is within = subst (Only place m) (sym is) (record { many = refl; order = prefix_self m.0.seen; also = refl; shares = refl; others = sym (set-get_or m.0.views place spent); carries = refl; within = within; owns = λ o. o })
 
-  -- the turn that the slot tells of is added to the history
+  -- The turn that the slot records is appended to the history.
   pub ends_told : (moves : O → C → R → O → Type 0) (counted : O → ℕ × ℕ) (opening : O) (first : ℕ) (log : List (Turn O C R)) (slots id : ℕ) (me : Mine O C R) (v : View O C R) (o : O) (ticket : ℕ) (after : O) (done : Done C R)
       → me ≡ (v, (0, put after (Some done)) ∷ []) → v.opening ≡ Some o → v.tickets ≡ ticket ∷ [] → v.in_turn ≡ true
       → 1 ≤ times v.number v.numbers → moves (after_all o v.seen) done.call.value done.reply.value after
@@ -59,7 +59,7 @@ module _ {O C R : Type 0} where
       subst (λ (l : List (Turn O C R)). AllowsTo (GatedBy moves counted opening first log) (GatedBy moves counted opening first (log ++ l)) slots id me 16 (λ n. (n + 1) % 2 ^ 64) (Ends (step slots 16 1 0 none) me)) (sym (ap turns_told has))
       (ends moves counted opening first log slots id me v o ticket after done has knows one turn named move announced)
 
-  -- the turn is the last of the order
+  -- The turn is the last of the order.
   pub ends_order : (place : ℕ) (m mid m' : Passing O C R) (told : Mine O C R → Type 0) (v : View O C R) (call : C) (reply : R) (after : O) (rest' : List (ℕ × Spot O C R)) → Only place m mid → StepsAt place (turns_told (me_at place mid)) told mid m'
       → turns_told (me_at place mid) ≡ turn_of v call reply after ∷ [] → view_at place mid.0 ≡ v → v.in_turn ≡ true → me_at place m' ≡ (ended v call reply after, rest') → EndsOrder place m m'
   ends_order place m mid m' told v call reply after rest' only went adds is turn ends =

@@ -24,7 +24,7 @@ use Rattle.sysv_gate.specs.Rule.{Spot, bearers}
 use Rattle.sysv_gate.specs.Steps as gate
 use Rattle.sysv_gate.specs.Halls.{view_at, state_at, AreTheWhole, Kept}
 
--- what a list that was mapped has
+-- An element of a mapped list.
 map_at : {A B : Type 0} (f : A → B) (xs : List A) (i : ℕ) (b : B) → get_elem? (map f xs) i ≡ some b → (a : A) × (get_elem? xs i ≡ some a) × (f a ≡ b)
 map_at f [] i b at = absurd (some-ne-none b (sym at))
 map_at f (x ∷ xs) zero b at = (x, refl, some-injective (f x) b at)
@@ -59,7 +59,7 @@ parts_half depth (x ∷ xs) all =
     let two = sum_by-cons (λ (d : ℕ). 2 ^ (depth - d)) x xs in
     omega arith
 
--- who has a share has a part
+-- A share without parts is empty.
 no_parts : (depth : ℕ) (xs : List ℕ) → parts depth xs ≡ 0 → xs ≡ []
 no_parts depth [] none = refl
 no_parts depth (x ∷ xs) none = let some_left = some_power (depth - x) in let all = sum_by-cons (λ (d : ℕ). 2 ^ (depth - d)) x xs in absurd (omega arith)
@@ -72,7 +72,7 @@ pub front_none : (xs ys : List ℕ) → xs ++ ys ≡ [] → xs ≡ []
 front_none [] ys none = refl
 front_none (x ∷ xs) ys none = absurd (cc)
 
--- who was given the whole has it
+-- The first pass has the whole.
 pub whole_first : IsWhole (0 ∷ [])
 whole_first depth within =
     let only = sum_by-cons (λ (d : ℕ). 2 ^ (depth - d)) 0 [] in
@@ -80,7 +80,7 @@ whole_first depth within =
     let all = ap (λ (n : ℕ). 2 ^ n) low in
     omega arith
 
--- there is a depth that is no less than any
+-- There is a depth that is at least every depth of the share.
 deepest : (xs : List ℕ) → (depth : ℕ) × ((k : ℕ) → depth ≤ k → AreWithin k xs)
 deepest [] = (0, λ k le. tt)
 deepest (x ∷ xs) = let r = deepest xs in let d : ℕ = r.0 in (x + d, λ k le. (omega arith, r.1 k (omega arith)))
@@ -88,7 +88,7 @@ deepest (x ∷ xs) = let r = deepest xs in let d : ℕ = r.0 in (x + d, λ k le.
 -- ---- the shares of all passes
 
 module _ {O C R : Type 0} where
-  -- who has the whole is the first
+  -- The shares of the first pass alone are the whole.
   pub first_whole : (v : Sight O C R) (depth : ℕ) → v.shares ≡ 0 ∷ [] → sum_by (λ (u : Sight O C R). parts depth u.shares) (v ∷ []) ≡ 2 ^ depth
   first_whole v depth is =
       let one = sum_by-cons (λ (u : Sight O C R). parts depth u.shares) v [] in
@@ -96,7 +96,7 @@ module _ {O C R : Type 0} where
       let all = whole_first depth (omega arith, tt) in
       omega arith
 
-  -- a pass changes, and keeps its share
+  -- A pass changes and keeps its share.
   pub still_whole : (sights : List (Sight O C R)) (id : ℕ) (v w : Sight O C R) → get_elem? sights id ≡ some v → w.shares ≡ v.shares → AreTheWhole sights → AreTheWhole (set sights id w)
   still_whole sights id v w at same all depth within =
       let sums = sum_by-set_at (λ (u : Sight O C R). parts depth u.shares) sights id v w at in
@@ -104,7 +104,7 @@ module _ {O C R : Type 0} where
       let old = all depth (each_before (λ (u : Sight O C R). AreWithin depth u.shares) sights id v w at within (subst (AreWithin depth) same (within id w (set_at sights id v w at)))) in
       omega arith
 
-  -- a pass gives half of its share to a new one
+  -- A pass gives half of its share to a new pass.
   pub split_whole : (sights : List (Sight O C R)) (id : ℕ) (v left right : Sight O C R) → get_elem? sights id ≡ some v → left.shares ≡ half v.shares → right.shares ≡ half v.shares → AreTheWhole sights → AreTheWhole (set sights id left ++ right ∷ [])
   split_whole sights id v left right at same same' all depth within =
       let middle : List (Sight O C R) = set sights id left in
@@ -118,7 +118,7 @@ module _ {O C R : Type 0} where
       let halves = parts_half depth v.shares low in
       omega arith
 
-  -- a pass takes in another with its share
+  -- A pass is joined into another, with its share.
   pub joined_whole : (sights : List (Sight O C R)) (id other : ℕ) (v w both none : Sight O C R) → other ≢ id → get_elem? sights id ≡ some v → get_elem? (set sights id both) other ≡ some w → both.shares ≡ v.shares ++ w.shares → none.shares ≡ [] → AreTheWhole sights
       → AreTheWhole (set (set sights id both) other none)
   joined_whole sights id other v w both none apart at there same bare all depth within =
@@ -134,7 +134,7 @@ module _ {O C R : Type 0} where
       let sum = sum_by-append (λ (d : ℕ). 2 ^ (depth - d)) v.shares w.shares in
       omega arith
 
-  -- there is a depth that is no less than any of them
+  -- There is a depth that is at least every depth of any pass.
   deepest_of : (sights : List (Sight O C R)) → (depth : ℕ) × ((k : ℕ) → depth ≤ k → (id : ℕ) (v : Sight O C R) → get_elem? sights id ≡ some v → AreWithin k v.shares)
   deepest_of [] = (0, λ k le id v at. absurd (some-ne-none v (sym at)))
   deepest_of (x ∷ xs) =
@@ -148,9 +148,9 @@ module _ {O C R : Type 0} where
       each k here there zero v at = subst (λ (u : Sight O C R). AreWithin k u.shares) (some-injective x v at) here
       each k here there (suc id) v at = there id v at
 
-  -- ---- where all passes have come home
+  -- ---- all passes have come home
 
-  -- where one pass has the whole, another has no share
+  -- If one pass has the whole, no other pass has a share.
   pub others_shareless : (sights : List (Sight O C R)) (id k : ℕ) (v w : Sight O C R) → AreTheWhole sights → IsWhole v.shares → k ≢ id → get_elem? sights id ≡ some v → get_elem? sights k ≡ some w → w.shares ≡ []
   others_shareless sights id k v w all whole apart at there =
       let deep = deepest_of sights in
@@ -161,13 +161,13 @@ module _ {O C R : Type 0} where
       let two = two-le-sum_by (λ (u : Sight O C R). parts depth u.shares) sights id k v w apart at there in
       no_parts depth w.shares (omega arith)
 
-  -- who made the turn
+  -- The maker of a turn.
   maker : (log : List (Turn O C R)) (j : ℕ) → j < length log → (x : ℕ) × ((numbers : List ℕ) → made_at numbers log j ≡ times x numbers)
   maker [] j less = absurd (omega arith)
   maker (t ∷ ts) zero less = (t.by, λ numbers. refl)
   maker (t ∷ ts) (suc j) less = maker ts j (omega arith)
 
-  -- then each turn was made under a number of this pass
+  -- If a pass has the whole, each turn was made under one of its numbers.
   pub all_mine : (moves : O → C → R → O → Type 0) (counted : O → ℕ × ℕ) (openings : List O) (first : ℕ) (order : List (Placed O C R)) (s : State (Spot O C R) (Sight O C R)) (id : ℕ) (v : Sight O C R) → Kept moves counted openings first order s
       → get_elem? s.views id ≡ some v → IsWhole v.shares → (place : ℕ) (o : O) → get_elem? openings place ≡ some o → (j : ℕ) → j < length (turns_at place order) → 1 ≤ made_at (view_at place v).numbers (turns_at place order) j
   all_mine moves counted openings first order s id v kept at whole place o opens j less =

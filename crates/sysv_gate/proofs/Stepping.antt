@@ -1,4 +1,4 @@
--- Each kind of step keeps the rule.
+-- Proves that each kind of step keeps the rule.
 use Rattle.std.proofs.Common.{◌≡◌, ℕ, ◌+◌, ◌%◌, ◌^◌, ◌<◌, ◌≤◌, eqb, Bool, true, false, List, [], ◌∷◌, ◌++◌, length, set, get_or, sym, refl, ap, ◌∙◌, subst, arith, length-set, length-append, get_or-set_same, get_or-set_other}
 use Rattle.std.specs.Prelude.{Option, Some, nat_lt}
 use mathlib.Core.Bool.{true≢false}
@@ -48,12 +48,12 @@ module _ {O C R : Type 0} (moves : O → C → R → O → Type 0) (counted : O 
   abbrev Told : Log → List ℕ → List V → Type 0
   Told log words views = AreAnnounced counted (after_all opening log) words views
 
-  -- what a step owes at one state
+  -- What a step must keep at one state.
   abbrev Goes : Log → St → ℕ → ℕ → M → (ℕ → M → Type 0) → ℕ → Type 0
   Goes log s i id me then m =
       (w : V) × (a : Touch (Spot O C R)) × Valid s.homes me.1 (act_at 0 a) × Holds log (stepped s i m id me.1 w (act_at 0 a)) × then (get_or s.words i 0) (w, carried_after me.1 (act_at 0 a))
 
-  -- a step on the word with the ticket that is drawn next
+  -- A step on the word with the ticket that is drawn next.
   on_ticket : (s : St) (log : Log) (drawn : ℕ) (homes : Homes O C R) (views : List V) → length s.words ≡ 80 → length homes ≡ 1 → get_or s.words 16 0 ≡ first + length log
       → IsKept moves opening first log drawn homes views → Told log s.words views → Holds log record { words = set s.words 32 drawn; homes = homes; views = views }
   on_ticket s log drawn homes views wide one serves kept told = (
@@ -64,7 +64,7 @@ module _ {O C R : Type 0} (moves : O → C → R → O → Type 0) (counted : O 
     set_aside counted (after_all opening log) s.words 32 drawn views (omega arith) told,
   )
 
-  -- a step on the word with the ticket that is served
+  -- A step on the word with the ticket that is served.
   pub on_serving : (s : St) (log : Log) (served : ℕ) (homes : Homes O C R) (views : List V) → length s.words ≡ 80 → length homes ≡ 1 → served ≡ first + length log
       → IsKept moves opening first log (get_or s.words 32 0) homes views → Told log s.words views → Holds log record { words = set s.words 16 served; homes = homes; views = views }
   on_serving s log served homes views wide one serves kept told = (
@@ -75,7 +75,7 @@ module _ {O C R : Type 0} (moves : O → C → R → O → Type 0) (counted : O 
     set_aside counted (after_all opening log) s.words 16 served views (omega arith) told,
   )
 
-  -- the counts where the view changes without having added anything
+  -- The counts stay announced if the view changes without an addition to them.
   pub told_on : (s : St) (log : Log) (id : ℕ) (v w : V) → Told log s.words s.views → get_elem? s.views id ≡ some v → w.announced ≡ v.announced → (w.in_turn ≡ false → v.in_turn ≡ false) → w.read ≡ v.read → Told log s.words (set s.views id w)
   told_on s log id v w told at = counts_stay counted (after_all opening log) s.words id s.views v w told at
 
@@ -95,11 +95,11 @@ module _ {O C R : Type 0} (moves : O → C → R → O → Type 0) (counted : O 
         (refl, fits.worn),
       )
 
-  -- a view whose tickets reach 2^62 nowhere is not marked
+  -- If the tickets are below 2^62, a view is not marked.
   unmarked : (log : Log) (drawn : ℕ) (v : V) → Fits opening first log drawn v → drawn < 2 ^ 62 → v.worn ≡ false
   unmarked log drawn v fits less = not_true v.worn (λ mark. let limit = fits.worn mark in absurd (omega arith))
 
-  -- what a new ticket does to the held ones
+  -- What a new ticket changes in the tickets held.
   one_more : (s n x : ℕ) (tickets : List ℕ) → s ≤ n → tickets ≡ [] → times x (n ∷ []) + once_between s n x ≡ times x tickets + once_between s (n + 1) x
   one_more s n x tickets le empty = let gone : times x tickets ≡ 0 = ap (times x) empty in omega (arith, times-one x n, once_between-next s n x le)
 
@@ -134,12 +134,12 @@ module _ {O C R : Type 0} (moves : O → C → R → O → Type 0) (counted : O 
         ((λ hit. absurd (miss hit)), λ _. refl),
       ))
 
-  -- the object is at home, and the seat takes it
+  -- The object is in the table, and the seat takes it.
   taken : (s : St) (log : Log) (drawn id : ℕ) (v : V) → IsKept moves opening first log drawn s.homes s.views
       → ((k : ℕ) (u : V) → get_elem? s.views k ≡ some u → u.in_turn ≡ false) → IsHome (after_all opening log) s.homes
   taken s log drawn id v kept nobody = kept.home nobody
 
-  -- what a seat knows of the counts where its turn begins
+  -- What a seat knows of the counts when its turn begins.
   abbrev BeginsTurn : Log → V → Type 0
   BeginsTurn log v = ((count : Count) → of_count count v.read ≤ of_count count (counted (after_all opening log))) × ((count : Count) → of_count count v.announced ≡ 0)
 
@@ -154,7 +154,7 @@ module _ {O C R : Type 0} (moves : O → C → R → O → Type 0) (counted : O 
     λ count. (told count).quiet id v at (nobody id v at),
   )
 
-  -- a look, where b says whether the seat holds the ticket that is served
+  -- A look, where b says whether the seat holds the served ticket.
   looks_as : (b : Bool) (log : Log) (id : ℕ) (me : M) (s : St) → Holds log s → get_elem? s.views id ≡ some me.0 → me.0.in_turn ≡ false → me.1 ≡ []
       → nat_lt 0 (times (get_or s.words 16 0) me.0.tickets) ≡ b
       → (a : Touch (Spot O C R)) × Valid s.homes me.1 (act_at 0 a) × Holds log (stepped s 16 (get_or s.words 16 0) id me.1 (record me.0 { seen = log; in_turn = b }) (act_at 0 a)) × IsPrefixOf me.0.seen log
@@ -300,11 +300,11 @@ module _ {O C R : Type 0} (moves : O → C → R → O → Type 0) (counted : O 
   abbrev Ending : Log → Turn O C R → ℕ → ℕ → M → Type 0
   Ending log t slots id me = AllowsTo (Holds log) (Holds (log ++ t ∷ [])) slots id me 16 (λ n. (n + 1) % 2 ^ 64) (Ends (step slots 16 1 0 none) me)
 
-  -- the counts have risen by what the seat has announced
+  -- The counts have risen by what the seat has announced.
   abbrev Announced : O → V → O → Type 0
   Announced o v after = (count : Count) → of_count count (counted after) ≡ of_count count (counted (after_all o v.seen)) + of_count count v.announced
 
-  -- the counts after the turn
+  -- The counts after the turn.
   told_after : (words : List ℕ) (log : Log) (id : ℕ) (views : List V) (v : V) (call : C) (reply : R) (after : O) → Told log words views → get_elem? views id ≡ some v → v.seen ≡ log → Announced opening v after
       → Told (log ++ turn_of v call reply after ∷ []) words (set views id (ended v call reply after))
   told_after words log id views v call reply after told at whole announced count =
@@ -354,7 +354,7 @@ module _ {O C R : Type 0} (moves : O → C → R → O → Type 0) (counted : O 
       → 1 ≤ times v.number v.numbers → moves (after_all o v.seen) done.call.value done.reply.value after → Announced o v after → Ending log (turn_of v done.call.value done.reply.value after) slots id me
   ends log slots id me v o ticket after done has knows one turn named move announced = subst (Ending log (turn_of v done.call.value done.reply.value after) slots id) (sym has) (ends_at log slots id v o ticket after done knows one turn named move announced)
 
-  -- a step on the word of a count
+  -- A step on the word of a count.
   on_count : (s : St) (log : Log) (count : Count) (n : ℕ) (views : List V) → Holds log s → get_or s.words 16 0 ≡ first + length log → IsKept moves opening first log (get_or s.words 32 0) s.homes views
       → IsAnnounced count (of_count count (counted (after_all opening log))) n views
       → ((other : Count) → ¬ (count ≡ other) → IsAnnounced other (of_count other (counted (after_all opening log))) (get_or s.words (word_of other) 0) views)
@@ -377,7 +377,7 @@ module _ {O C R : Type 0} (moves : O → C → R → O → Type 0) (counted : O 
             (others other (λ is. ne (ap word_of (sym is))))),
       )
 
-  -- a view changes in what it has announced or read of one count
+  -- A view changes in what it has announced or read of one count.
   told_but : (s : St) (log : Log) (count : Count) (id : ℕ) (v w : V) → Told log s.words s.views → get_elem? s.views id ≡ some v → (w.in_turn ≡ false → v.in_turn ≡ false)
       → ((other : Count) → ¬ (count ≡ other) → (of_count other w.announced ≡ of_count other v.announced) × (of_count other w.read ≡ of_count other v.read))
       → (other : Count) → ¬ (count ≡ other) → IsAnnounced other (of_count other (counted (after_all opening log))) (get_or s.words (word_of other) 0) (set s.views id w)

@@ -30,7 +30,7 @@ use Rattle.sysv_gate.proofs.Announcing.{put_in, put_twice, put_same}
 one_held : (n : ℕ) (tickets : List ℕ) → tickets ≡ n ∷ [] → nat_lt 0 (times n tickets) ≡ true
 one_held n tickets is = let e : times n tickets ≡ times n (n ∷ []) = ap (times n) is in grind (arith, nat_tests, times-one n n)
 
--- another ticket is not this one
+-- Another ticket is not the one held.
 pub not_held : (n t : ℕ) (tickets : List ℕ) → tickets ≡ t ∷ [] → n ≢ t → times n tickets ≡ 0
 not_held n t tickets is other = let e : times n tickets ≡ times n (t ∷ []) = ap (times n) is in grind (arith, nat_tests, times-one n t)
 
@@ -62,7 +62,7 @@ module _ {O C R : Type 0} where
               λ i. ((view ∙ (λ j. record m.0 { seen = log; in_turn = stays j })) i, slots i);
         }
 
-    -- a seat without a ticket looks
+    -- A seat without a ticket looks.
     pub idle_look : (m : Mine O C R) (n : ℕ) (m' : Mine O C R) → m.0.tickets ≡ [] → Looked moves counted o m n m' → SawMore m.0 m'
     idle_look m n m' empty look = record { log = look.log; longer = look.longer; is = look.other (ap (times n) empty) }
 
@@ -75,7 +75,7 @@ module _ {O C R : Type 0} where
     pub look_count : (m : Mine O C R) (n : ℕ) (m' : Mine O C R) → m.0.tickets ≡ [] → Looked moves counted o m n m' → n ≡ m'.0.first + length m'.0.seen
     look_count m n m' empty look = subst (λ (x : Mine O C R). n ≡ x.0.first + length x.0.seen) (sym (look.other (ap (times n) empty))) look.count
 
-    -- the ticket that was served is drawn, and the turn has come
+    -- The served ticket is drawn, and the turn has begun.
     pub came_at_once : (m : Mine O C R) (n : ℕ) (m' m'' : Mine O C R) → m.0.tickets ≡ [] → Looked moves counted o m n m' → m''.0 ≡ entered n m'.0 → HasTurn moves counted o m'' → TurnCame moves counted o m.0 n m''
     came_at_once m n m' m'' empty look drew turn = record {
       log = look.log;
@@ -85,7 +85,7 @@ module _ {O C R : Type 0} where
       turn = turn;
     }
 
-    -- a turn that came after more was seen
+    -- A turn that began after more was seen.
     pub turn_later : (v : View O C R) (ticket : ℕ) (m m' : Mine O C R) → SawMore v m → TurnCame moves counted o m.0 ticket m' → TurnCame moves counted o v ticket m'
     turn_later v ticket m m' saw came =
         let log : List (Turn O C R) = saw.log in
@@ -105,15 +105,15 @@ module _ {O C R : Type 0} where
         is = more.is ∙ ap (λ (u : View O C R). (record u { seen = more.log }, [])) is;
       }
 
-  -- a seat that waits has seen no less than it has seen
+  -- A seat that waits has seen at least what it has seen.
   pub saw_nothing : (m : Mine O C R) → m.1 ≡ [] → SawMore m.0 m
   saw_nothing m bare = record { log = m.0.seen; longer = prefix_self m.0.seen; is = λ i. (m.0, bare i) }
 
-  -- a ticket below 2^62 leaves the view
+  -- A ticket below 2^62 leaves the view unchanged.
   pub unweighed : (m m' : Mine O C R) (n : ℕ) → m' ≡ (weighed n m.0, m.1) → n < 2 ^ 62 → m' ≡ m
   unweighed m m' n is low = is ∙ (λ i. (record m.0 { worn = low_mark m.0.worn n low i }, m.1))
 
-  -- the object that is in the slot
+  -- The object in the slot.
   pub same_object : (p : Place O C R) (o : O) (last : Option (Done C R)) (s : Spot O C R) → s ≡ Some p → s ≡ put o last → p.object ≡ o
   same_object p o last s is was =
       let place : p ≡ record { object = o; last = last } = cc in
@@ -130,7 +130,7 @@ module _ {O C R : Type 0} where
         own = own;
       }
 
-  -- the counts of an object that began within 2^61, after fewer than 2^62 turns
+  -- The counts of an object that began within 2^61, after fewer than 2^62 turns.
   pub counts_low : (meaning : O → C → R → O → Type 0) (counted : O → ℕ × ℕ) (o : O) (ts : List (Turn O C R)) → IsLegal (Moves meaning counted) o ts → AreUpTo (2 ^ 61) (counted o) → length ts < 2 ^ 62
       → AreBelow (2 ^ 63) (counted (after_all o ts))
   counts_low meaning counted o ts legal low room =
@@ -138,28 +138,28 @@ module _ {O C R : Type 0} where
       let two = rises (Moves meaning counted) (λ (p : O). (counted p).1) (λ p c r q move. move.1.3) o ts legal in
       (omega arith, omega arith)
 
-  -- a call leaves no count smaller
+  -- No call lowers a count.
   pub never_falls : (meaning : O → C → R → O → Type 0) (counted : O → ℕ × ℕ) (count : Count) (o : O) (c : C) (r : R) (o' : O) → Moves meaning counted o c r o' → of_count count (counted o) ≤ of_count count (counted o')
   never_falls meaning counted Arrived o c r o' move = move.1.0
   never_falls meaning counted Freed o c r o' move = move.1.2
 
-  -- what was announced of both counts
+  -- What was announced of both counts.
   pub announced_both : (v : View O C R) (rose : Rose) (count : Count) → of_count count (announced_by Freed (cond rose.freed 1 0) (announced_by Arrived (cond rose.arrived 1 0) v)).announced ≡ rise count rose
   announced_both v rose Arrived = refl
   announced_both v rose Freed = refl
 
-  -- what the seat hands to the slot has the call that was served beside the object
+  -- The place that the seat leaves has the call that was served beside the object.
   pub handed : (moves : O → C → R → O → Type 0) (counted : O → ℕ × ℕ) (object : O) (call : C) (place : Place O C R) (reply : R) (rose : Rose) (a : Applied moves counted object call place reply rose) → Some place ≡ put place.object (Some a.last)
   handed moves counted object call place reply rose a = λ i. Some (record { object = place.object; last = a.beside i })
 
-  -- the call that lies beside the object is how the object went on
+  -- The call beside the object is how the object changed.
   pub told_move : (moves : O → C → R → O → Type 0) (counted : O → ℕ × ℕ) (before object : O) (call : C) (place : Place O C R) (reply : R) (rose : Rose) (a : Applied moves counted object call place reply rose) → object ≡ before
       → moves before a.last.call.value a.last.reply.value place.object
   told_move moves counted before object call place reply rose a was =
       subst (λ (p : O). moves p a.last.call.value a.last.reply.value place.object) was
       (subst (λ (x : C). moves object x a.last.reply.value place.object) (sym a.asked) (subst (λ (y : R). moves object call y place.object) (sym a.answered) a.move))
 
-  -- the counts have risen by what was announced
+  -- The counts have risen by what was announced.
   pub announced_all : (moves : O → C → R → O → Type 0) (counted : O → ℕ × ℕ) (o : O) (v : View O C R) (object : O) (call : C) (place : Place O C R) (reply : R) (rose : Rose) → Applied moves counted object call place reply rose → object ≡ after_all o v.seen
       → (count : Count) → of_count count (counted place.object) ≡ of_count count (counted (after_all o v.seen)) + of_count count (announced_by Freed (cond rose.freed 1 0) (announced_by Arrived (cond rose.arrived 1 0) v)).announced
   announced_all moves counted o v object call place reply rose a was count =
@@ -168,12 +168,12 @@ module _ {O C R : Type 0} where
       let both = announced_both v rose count in
       omega arith
 
-  -- the count was read
+  -- The count was read.
   pub has_read : (counted : O → ℕ × ℕ) (o : O) (count : Count) (word : ℕ) (m : Mine O C R) (n : ℕ) (m' : Mine O C R) → word ≡ word_of count → m.0.opening ≡ Some o → m.1 ≡ [] → Reads counted (step 0 word 0 0 none) m n m' → HasRead counted o count m n m'
   has_read counted o count word m n m' is knows bare told =
       let now = told count is o knows in record { is = now.0 ∙ (λ i. (read_to count n m.0, bare i)); before = now.1; known = now.2 }
 
-  -- a read after another
+  -- A read after another read.
   pub read_again : (counted : O → ℕ × ℕ) (o : O) (count : Count) (m m' : Mine O C R) (n : ℕ) (m'' : Mine O C R) → ReadMore count m m' → HasRead counted o count m' n m'' → HasRead counted o count m n m''
   read_again counted o count m m' n m'' more now =
       let value : ℕ = more.value in
@@ -192,17 +192,17 @@ module _ {O C R : Type 0} where
   pub read_nothing : (count : Count) (m : Mine O C R) → m.1 ≡ [] → ReadMore count m m
   read_nothing count m bare = record { value = of_count count m.0.read; is = λ i. (record m.0 { read = sym (put_same count (of_count count m.0.read) m.0.read refl) i }, bare i); before = omega arith }
 
-  -- a wait that is over after the count was read before
+  -- A wait that is over, after the count was read before.
   pub waited_later : (counted : O → ℕ × ℕ) (o : O) (count : Count) (goal : ℕ) (m m' : Mine O C R) (a : Awaited) (m'' : Mine O C R) → ReadMore count m m' → HasWaited counted o count goal m' a m'' → HasWaited counted o count goal m a m''
   waited_later counted o count goal m m' (Reached n) m'' more waited = (waited.0, read_again counted o count m m' n m'' more waited.1)
   waited_later counted o count goal m m' awaited.Worn m'' more waited = (waited.0, waited.1, waited.2, read_again counted o count m m' waited.0 waited.1 more waited.3, waited.4)
 
-  -- a wait for a while that comes back after the count was read before
+  -- A bounded wait that returns, after the count was read before.
   pub waited_within_later : (counted : O → ℕ × ℕ) (o : O) (count : Count) (goal : ℕ) (m m' : Mine O C R) (a : Option Awaited) (m'' : Mine O C R) → ReadMore count m m' → HasWaitedWithin counted o count goal m' a m'' → HasWaitedWithin counted o count goal m a m''
   waited_within_later counted o count goal m m' (Some a) m'' more waited = waited_later counted o count goal m m' a m'' more waited
   waited_within_later counted o count goal m m' None m'' more waited = (waited.0, waited.1, read_again counted o count m m' waited.0 m'' more waited.2)
 
-  -- it was read, if at all, once and then again
+  -- The count may have been read twice.
   pub more_again : (count : Count) (m m' m'' : Mine O C R) → ReadMore count m m' → ReadMore count m' m'' → ReadMore count m m''
   more_again count m m' m'' one two =
       let view : m'.0 ≡ read_to count one.value m.0 = ap (λ (x : Mine O C R). x.0) one.is in
@@ -214,7 +214,7 @@ module _ {O C R : Type 0} where
         before = omega arith;
       }
 
-  -- what a look tells is what the wait comes back with
+  -- What a look shows is the result of the wait.
   pub if_within : (counted : O → ℕ × ℕ) (o : O) (count : Count) (goal : ℕ) (m : Mine O C R) (a : Option Awaited) (m' : Mine O C R) → IfSome a (λ w. HasWaited counted o count goal m w m') → IfNone a (HasReadBelow counted o count goal m m') → HasWaitedWithin counted o count goal m a m'
   if_within counted o count goal m (Some a) m' over below = over
   if_within counted o count goal m None m' over below = below

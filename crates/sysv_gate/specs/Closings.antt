@@ -1,4 +1,4 @@
--- What a gate gives back when it is closed.
+-- What a gate returns when it is closed. This project's profile.
 use Rattle.std.specs.Prelude.{◌≡◌, ℕ, ◌+◌, ◌≤◌, true, List, length, Option, Some, None, IfSome, IfNone}
 use mathlib.Core.Option.{some}
 use lib.ListN.{get_elem?}
@@ -11,21 +11,22 @@ use Rattle.sysv_gate.specs.History.{IsLegal, after_all, HasItsOwn}
 use Rattle.sysv_gate.specs.Rule.{Spot, Homes, IsKept}
 use Rattle.sysv_gate.specs.Gates.{Gateway, Holding}
 
--- the object in the slot
+-- The object in the slot, if there is one.
 abbrev pub held_object : {O C R : Type 0} → Spot O C R → Option O
 held_object None = None
 held_object (Some place) = Some place.object
 
 module _ {O C R : Type 0} where
-  -- a seat still holds the ticket that comes after these turns
+  -- The rule has a state with these turns in which some seat holds the ticket that comes next.
   abbrev pub ATurnIsDue : (O → C → R → O → Type 0) → Gateway O → List (Turn O C R) → Type 0
   ATurnIsDue moves gate log =
       (drawn : ℕ) × (homes : Homes O C R) × (views : List (View O C R)) × IsKept moves gate.opening gate.first log drawn homes views
       × ((i : ℕ) × (v : View O C R) × (get_elem? views i ≡ some v) × (1 ≤ times (gate.first + length log) v.tickets))
 
-  -- There is one legal history of all turns, which begins with all that the seat had seen, and has just those turns of
-  -- the seat that it knows of. Their number comes back, and the object after them, but where a turn is still due. Where
-  -- the seat is alone, the history is what it has seen, and no turn is due
+  -- There is one legal history of all turns. It begins with all that the seat had seen, and of the
+  -- seat's own turns it has exactly those that the seat knows of. The number of its turns is
+  -- returned, and the object after them, unless a turn is still due. If the seat is alone, the
+  -- history is what the seat has seen, and the object is returned.
   pub record Closes (moves : O → C → R → O → Type 0) (seat : Holding O C R) (c : Closing O) : Type 0 where
     pub log : List (Turn O C R)
     pub legal : IsLegal moves seat.gate.opening log

@@ -1,4 +1,5 @@
--- A place of a table with several, and what the parts of a call there ask of a pass and leave of it.
+-- A place of a table, and what the parts of a call there require of a pass and leave of it. This
+-- project's profile.
 use Rattle.std.specs.Prelude.{◌≡◌, ℕ, ◌+◌, ◌*◌, ◌<◌, ◌≤◌, List, [], ◌∷◌, ◌++◌, false, length, slice_set, Some}
 use mathlib.Core.Option.{some}
 use lib.ListN.{get_elem?}
@@ -22,25 +23,26 @@ use Rattle.sysv_gate.specs.Orders.{turns_at}
 use Rattle.sysv_gate.specs.Rule.{Spot}
 use Rattle.sysv_gate.specs.Halls.{view_at, OwnsInOrder, Passing, me_at, Carries}
 
--- which place it is, and the object that was there when the table was laid
+-- A place: its number, and the object that was there when the table was laid.
 pub record Doorway (O : Type 0) : Type 0 where
   pub place : ℕ
   pub opening : O
 
--- it is a place of the table
+-- The door is a place of the table, and has the object that was there first.
 abbrev pub IsDoorOf : {O : Type 0} → TableId → List O → Doorway O → Type 0
 IsDoorOf table openings door = (get_elem? openings door.place ≡ some door.opening) × (80 * door.place + 80 ≤ table.words)
 
 module _ {O C R : Type 0} where
-  -- The pass is one of the table, and knows the object that was at the place. It has taken no slot but that of the place, and
-  -- the order that it has seen has all that it has seen of the place
+  -- The pass is one of the table, and knows the object that was first at the place. It holds no
+  -- slot except that of the place, and the order that it has seen contains all turns that it has
+  -- seen at the place.
   abbrev pub IsAt : TableId → Doorway O → Seat (Spot O C R) (Sight O C R) → Type 0
   IsAt table door token =
       (token.table_id ≡ table) × (door.place < length token.me.0.views) × ((me_at door.place token.me).0.opening ≡ Some door.opening)
       × Carries door.place token.me × IsPrefixOf (view_at door.place token.me.0).seen (turns_at door.place token.me.0.seen)
 
-  -- Nothing has changed but what the pass has at the place, and it has seen no less of the order. If it knew just the turns
-  -- of its own in what it had seen, it still does
+  -- Only what the pass has at the place has changed, and the pass has seen no less of the order. If
+  -- it knew exactly its own turns in what it had seen, it still does.
   pub record Only (place : ℕ) (m m' : Passing O C R) : Type 0 where
     pub many : length m'.0.views ≡ length m.0.views
     pub order : IsPrefixOf m.0.seen m'.0.seen
@@ -51,12 +53,12 @@ module _ {O C R : Type 0} where
     pub within : IsPrefixOf (view_at place m'.0).seen (turns_at place m'.0.seen)
     pub owns : OwnsInOrder m.0 → OwnsInOrder m'.0
 
-  -- it is the same pass after steps at the place
+  -- It is the same pass after steps at the place.
   abbrev pub IsSame : ℕ → Seat (Spot O C R) (Sight O C R) → Seat (Spot O C R) (Sight O C R) → Type 0
   IsSame place before after = (after.table_id ≡ before.table_id) × (after.id ≡ before.id) × Only place before.me after.me
 
-  -- The order that the pass has seen goes on, and ends with a turn at the place, made under the pass's number. All turns
-  -- there that are in it are those that the pass has seen there
+  -- The order that the pass has seen has grown, and ends with a turn at the place, made under the
+  -- pass's number. The turns there that are in it are exactly those that the pass has seen there.
   pub record EndsOrder (place : ℕ) (m m' : Passing O C R) : Type 0 where
     pub front : List (Placed O C R)
     pub turn : Turn O C R
@@ -65,19 +67,20 @@ module _ {O C R : Type 0} where
     pub seen : (view_at place m'.0).seen ≡ turns_at place m'.0.seen
     pub by : turn.by ≡ (view_at place m'.0).number
 
-  -- a view holds no ticket and has no turn, and its number is one of its numbers
+  -- A view that holds no ticket and has no turn, and whose number is one of its numbers.
   abbrev pub Idling : View O C R → Type 0
   Idling v = (v.tickets ≡ []) × (v.in_turn ≡ false) × (1 ≤ times v.number v.numbers)
 
-  -- What the pass has at the place is at rest: no slot is out with it, it has no ticket and no turn, and its number is one
-  -- of its numbers
+  -- What the pass has at the place is at rest: it holds no slot, no ticket and no turn, and its
+  -- number is one of its numbers.
   pub record Idles (m : Mine O C R) : Type 0 where
     pub no_slot : m.1 ≡ []
     pub no_ticket : m.0.tickets ≡ []
     pub no_turn : m.0.in_turn ≡ false
     pub named : 1 ≤ times m.0.number m.0.numbers
 
-  -- A call was answered in a turn of the pass's own: it has seen turns of others, and then this one
+  -- A call was made in a turn of the pass's own: the pass has seen turns of others, and then this
+  -- turn.
   pub record HasCalled (moves : O → C → R → O → Type 0) (counted : O → ℕ × ℕ) (opening : O) (m : Mine O C R) (call : C) (reply : R) (m' : Mine O C R) : Type 0 where
     pub others : List (Turn O C R)
     pub object : O
@@ -96,17 +99,18 @@ module _ {O C R : Type 0} where
     pub counts : (count : Count) → of_count count m.0.read ≤ of_count count (counted (after_all opening (m.0.seen ++ others)))
     pub fresh : m.0.worn ≡ false
 
-  -- A try was refused, and the call comes back. The pass has seen more, or has found the tickets worn out
+  -- A try was refused, and the call is handed back. The pass has seen more, or has found the
+  -- tickets worn out.
   abbrev pub HasTried : (O → C → R → O → Type 0) → O → Mine O C R → C → TryRefused C → Mine O C R → Type 0
   HasTried moves opening m call (Busy c) m' = (c ≡ call) × SawMore m.0 m' × IsLegal moves opening m'.0.seen × HasItsOwn m'.0.numbers m'.0.own m'.0.seen
   HasTried moves opening m call (Worn c) m' = (c ≡ call) × HasWorn m m'
 
-  -- What a pass has that was split off: what its origin has seen, a number of its own, and no turn
+  -- What a pass has that was split off: what its origin has seen, a number of its own, and no turn.
   abbrev pub IsNewcomer : Sight O C R → Passing O C R → Type 0
   IsNewcomer sight m =
       (number : ℕ) × (m ≡ (at_each (named number) (newcomer sight), [])) × ((place k : ℕ) → place < length sight.views → made_at (number ∷ []) (view_at place sight).seen k ≡ 0)
       × ((place k : ℕ) → place < length sight.views → made_at (number ∷ []) (turns_at place sight.seen) k ≡ 0)
 
-  -- at each place the pass knows the object that was there
+  -- At each place the pass knows the object that was there first, and is at rest.
   abbrev pub KnowsAll : List O → Sight O C R → Type 0
   KnowsAll openings sight = (length sight.views ≡ length openings) × ((place : ℕ) (o : O) → get_elem? openings place ≡ some o → ((view_at place sight).opening ≡ Some o) × Idling (view_at place sight))

@@ -1,4 +1,4 @@
--- What is read of one place of a table that was closed.
+-- What is read of one place of a table that was closed. This project's profile.
 use Rattle.std.specs.Prelude.{◌≡◌, ◌≢◌, ℕ, ◌+◌, ◌-◌, ◌*◌, List, None}
 use mathlib.Core.Option.{some}
 use lib.ListN.{get_elem?}
@@ -6,8 +6,9 @@ use Rattle.sysv_gate.specs.declared.closing.Closing.{Closing}
 use Rattle.sysv_gate.specs.Rule.{Spot}
 use Rattle.sysv_gate.specs.Closings.{held_object}
 
--- The words and the slot of the place say which ticket was served, which was next, and what object is there. It is given
--- back as the place's own where each drawn ticket was served
+-- The words and the slot of the place show which ticket was served, which was next, and which
+-- object is there. If every drawn ticket was served, the object is returned in `object` and nothing
+-- in `rest`. If not, `object` is `None`.
 pub record IsReadAt {O C R : Type 0} (first : ℕ) (words : List ℕ) (slots : List (Spot O C R)) (place : ℕ) (c : Closing O) : Type 0 where
   pub served : ℕ
   pub next : ℕ

@@ -1,4 +1,5 @@
--- What contracts see of a gate and of a seat of it, and what the calls do to a seat.
+-- What contracts see of a gate and of its seats, and what the calls do to a seat. Gates are this
+-- project's profile, and no part of POSIX.1-2017.
 use Rattle.std.specs.Prelude.{◌≡◌, ℕ, ◌≤◌, ◌||◌, Bool, true, false, List, [], ◌∷◌, ◌++◌, length}
 use Rattle.atomic_table.specs.Seated.{TableId}
 use Rattle.sysv_gate.specs.declared.view.Turn.{Turn}
@@ -7,15 +8,16 @@ use Rattle.sysv_lists.specs.Prefix.{IsPrefixOf}
 use Rattle.sysv_gate.specs.History.{IsLegal, after_all, HasItsOwn}
 use Rattle.sysv_gate.specs.Counts.{of_count, with_count, larger}
 
--- a gate: which it is, the object that it was opened with, and its first ticket
+-- A gate: its identity, the object that it was opened with, and its first ticket.
 pub record Gateway (O : Type 0) : Type 0 where
   pub table : TableId
   pub opening : O
   pub first : ℕ
 
--- What a seat has: whose seat it is, its number, the numbers of the seats that were joined into it with its own, the
--- history that it has seen, the places of its own turns in it, whether it has found the tickets worn out, the greatest
--- values of the two counts that it has read, and whether it is alone: no other seat was ever given
+-- A seat: its gate, its number, that number with those of the seats that were joined into it, the
+-- history that it has seen, the places of its own turns in that history, whether it has found the
+-- tickets worn out, the greatest values of the two counts that it has read, and whether it is
+-- alone, that is, no other seat was ever split off.
 pub record Holding (O C R : Type 0) : Type 0 where
   pub gate : Gateway O
   pub number : ℕ
@@ -27,38 +29,39 @@ pub record Holding (O C R : Type 0) : Type 0 where
   pub alone : Bool
 
 module _ {O C R : Type 0} where
-  -- the first seat has seen nothing yet
+  -- The first seat, which has seen nothing yet.
   abbrev pub opened : Gateway O → Holding O C R
   opened gate = record { gate = gate; number = 0; numbers = 0 ∷ []; seen = []; own = []; worn = false; read = (0, 0); alone = true }
 
-  -- the seat has found that the tickets have reached 2^62
+  -- The seat after it found that the tickets have reached 2^62.
   abbrev pub marked : Holding O C R → Holding O C R
   marked h = record h { worn = true }
 
-  -- the seat after it has read a count
+  -- The seat after it has read a count.
   abbrev pub read_to : Count → ℕ → Holding O C R → Holding O C R
   read_to count n h = record h { read = with_count count n h.read }
 
-  -- The value is no less than what the seat has read of the count before, and no less than the count of the object after
-  -- all that the seat has seen
+  -- What the seat learns from the value of a count: it is at least what the seat has read of that
+  -- count before, and at least the count of the object after all turns that the seat has seen.
   abbrev pub Learns : (O → ℕ × ℕ) → Count → Holding O C R → ℕ → Type 0
   Learns counted count h n = (of_count count h.read ≤ n) × (of_count count (counted (after_all h.gate.opening h.seen)) ≤ n)
 
-  -- the seat after it has seen more turns of others
+  -- The seat after it has seen more turns of others.
   abbrev pub saw : List (Turn O C R) → Holding O C R → Holding O C R
   saw more h = record h { seen = h.seen ++ more }
 
-  -- the seat after a turn of its own, which is the last of the history that it has seen
+  -- The seat after a turn of its own, which is the last of the history that it has seen.
   abbrev pub made : C → R → O → Holding O C R → Holding O C R
   made call reply after h = record h {
     seen = h.seen ++ record { by = h.number; call = call; reply = reply; after = after } ∷ [];
     own = h.own ++ length h.seen ∷ [];
   }
 
-  -- The call was answered in a turn of the seat's own. The history that the seat has seen is legal; it begins with all
-  -- that the seat had seen, goes on with the turns of others, and ends with this call and this reply. Of the seat's own
-  -- turns it has just those that the seat knows of, each once, and the new one is the last. The counts of the object that
-  -- was called are at least what the seat had read of them
+  -- The call was made in a turn of the seat's own. The history that the seat has seen is legal. It
+  -- begins with all that the seat had seen, goes on with turns of others, and ends with this call
+  -- and this reply. Of the seat's own turns it has exactly those that the seat knows of, each once,
+  -- and the new turn is the last. The counts of the object before the call are at least what the
+  -- seat had read of them.
   pub record Answers (moves : O → C → R → O → Type 0) (counted : O → ℕ × ℕ) (before : Holding O C R) (call : C) (reply : R) (after : Holding O C R) : Type 0 where
     pub others : List (Turn O C R)
     pub object : O
@@ -67,26 +70,28 @@ module _ {O C R : Type 0} where
     pub own : HasItsOwn after.numbers after.own after.seen
     pub counts : (count : Count) → of_count count before.read ≤ of_count count (counted (after_all before.gate.opening (before.seen ++ others)))
 
-  -- What is so of every seat: the history that it has seen is legal, and of its own turns it has just those that the seat
-  -- knows of, each once
+  -- What is true of every seat: the history that it has seen is legal, and of the seat's own turns
+  -- it has exactly those that the seat knows of, each once.
   pub record KnowsItsOwn (moves : O → C → R → O → Type 0) (h : Holding O C R) : Type 0 where
     pub legal : IsLegal moves h.gate.opening h.seen
     pub own : HasItsOwn h.numbers h.own h.seen
 
-  -- a seat from which another was split off is not alone
+  -- A seat is not alone after another was split off.
   abbrev pub parted : Holding O C R → Holding O C R
   parted h = record h { alone = false }
 
-  -- the seat that was split off: it has a number of its own, has seen and read what its origin has, and has made no turn
+  -- The seat that was split off. It has a number of its own, has seen and read what its origin has,
+  -- and has made no turn.
   abbrev pub split_off : ℕ → Holding O C R → Holding O C R
   split_off number h = record h { number = number; numbers = number ∷ []; own = []; alone = false }
 
-  -- a seat was split off, and none of the turns that it has seen was made under its number
+  -- A seat was split off, and none of the turns that it has seen was made under its number.
   abbrev pub IsSplit : Holding O C R → Holding O C R → Type 0
   IsSplit h other = (number : ℕ) × (other ≡ split_off number h) × HasItsOwn other.numbers other.own other.seen
 
-  -- One seat has taken in another. It has seen a legal history that begins with what either had seen, and has the turns
-  -- and the numbers of both, and what either had read of the counts
+  -- One seat was joined into another. The seat has seen a legal history that begins with what
+  -- either had seen, and has the turns and the numbers of both, and the greater of what both had
+  -- read of each count.
   pub record Joins (moves : O → C → R → O → Type 0) (one two after : Holding O C R) : Type 0 where
     pub seen : List (Turn O C R)
     pub begins_one : IsPrefixOf one.seen seen
@@ -95,7 +100,8 @@ module _ {O C R : Type 0} where
     pub legal : IsLegal moves one.gate.opening seen
     pub own : HasItsOwn after.numbers after.own seen
 
-  -- the seat has seen more, which is legal and has no more of its own turns, and is else what it was
+  -- The seat has seen more, and is otherwise unchanged. The history is legal and has no more of the
+  -- seat's own turns.
   pub record SeesMore (moves : O → C → R → O → Type 0) (before after : Holding O C R) : Type 0 where
     pub others : List (Turn O C R)
     pub seen : after ≡ saw others before

@@ -1,6 +1,7 @@
--- The rule of a table with one place, as that of a gate, or several. Place p has the words from 80 p on and slot p. A pass
--- has a view of each place, and has seen a beginning of the one order of all turns. At each place the rule of a gate
--- holds, of the turns of the order that were made there.
+-- The rule of a table with one place, as a gate has it, or several places. Place p has the words
+-- from 80 p on and slot p. A pass has a view of each place, and has seen a prefix of the one order
+-- of all turns. At each place the rule of a gate holds for the turns of the order that were made
+-- there. This project's profile.
 use Rattle.std.specs.Prelude.{◌≡◌, ◌⊎◌, ℕ, ◌*◌, ◌^◌, ◌<◌, List, [], ◌∷◌, map, take, drop, length, slice_index_or, sum_by}
 use mathlib.Core.Option.{none, some}
 use lib.ListN.{get_elem?}
@@ -16,36 +17,38 @@ use Rattle.sysv_gate.specs.Shares.{AreWithin, parts}
 use Rattle.sysv_gate.specs.Rule.{Spot, GatedBy, start}
 use Rattle.sysv_gate.specs.Steps.{Mine, spent}
 
--- the words of a place
+-- The words of a place.
 abbrev pub block : ℕ → List ℕ → List ℕ
 block place words = take 80 (drop (80 * place) words)
 
 module _ {O C R : Type 0} where
-  -- the view of the place
+  -- What the pass knows of the place.
   abbrev pub view_at : ℕ → Sight O C R → View O C R
   view_at place sight = slice_index_or sight.views place spent
 
-  -- what a gate with only this place would have
+  -- The state that a gate with only this place would have.
   abbrev pub state_at : ℕ → State (Spot O C R) (Sight O C R) → State (Spot O C R) (View O C R)
   state_at place s = record { words = block place s.words; homes = slice_index_or s.homes place none ∷ []; views = map (view_at place) s.views }
 
-  -- The order that a pass has seen has turns at its places alone. At each place those turns of it are the pass's own that
-  -- were made under its numbers
+  -- All turns in the order that the pass has seen are at its places. At each place, the pass's own
+  -- turns are exactly those of the order that were made under its numbers.
   pub record OwnsInOrder (sight : Sight O C R) : Type 0 where
     pub below : AreBelow (length sight.views) sight.seen
     pub own : (place p : ℕ) → place < length sight.views → times p (view_at place sight).own ≡ made_at (view_at place sight).numbers (turns_at place sight.seen) p
 
-  -- A pass has a view of each place, or it was joined into another and has none. Without a share of the table it has none
+  -- A pass has a view of each place, or it was joined into another and has no view. A pass without
+  -- a share of the table has no view.
   pub record IsFull (openings : List O) (v : Sight O C R) : Type 0 where
     pub views : (v.views ≡ []) ⊎ (length v.views ≡ length openings)
     pub shareless : v.shares ≡ [] → v.views ≡ []
 
-  -- the shares of all passes together are the whole of the table
+  -- The shares of all passes together are the whole table.
   abbrev pub AreTheWhole : List (Sight O C R) → Type 0
   AreTheWhole sights = (depth : ℕ) → ((id : ℕ) (v : Sight O C R) → get_elem? sights id ≡ some v → AreWithin depth v.shares) → sum_by (λ v. parts depth v.shares) sights ≡ 2 ^ depth
 
-  -- There is one order of all turns. Each pass has seen a beginning of it, and at each place the rule of a gate holds of
-  -- the turns that were made there. Together the passes have the whole of the table
+  -- There is one order of all turns. Each pass has seen a prefix of it, and at each place the rule
+  -- of a gate holds for the turns that were made there. The shares of all passes together are the
+  -- whole table.
   pub record Kept (moves : O → C → R → O → Type 0) (counted : O → ℕ × ℕ) (openings : List O) (first : ℕ) (order : List (Placed O C R)) (s : State (Spot O C R) (Sight O C R)) : Type 0 where
     pub words : length s.words ≡ 80 * length openings
     pub homes : length s.homes ≡ length openings
@@ -55,23 +58,24 @@ module _ {O C R : Type 0} where
     pub full : (id : ℕ) (v : Sight O C R) → get_elem? s.views id ≡ some v → IsFull openings v
     pub shared : AreTheWhole s.views
 
+  -- The rule of the table: there is such an order.
   abbrev pub InOrder : (O → C → R → O → Type 0) → (O → ℕ × ℕ) → List O → ℕ → State (Spot O C R) (Sight O C R) → Type 0
   InOrder moves counted openings first s = (order : List (Placed O C R)) × Kept moves counted openings first order s
 
-  -- the sight of the first pass
+  -- What the first pass knows.
   abbrev pub outset : List O → ℕ → Sight O C R
   outset openings first = record { views = map (λ o. start o first) openings; seen = []; also = []; shares = 0 ∷ [] }
 
 module _ (O C R : Type 0) where
-  -- a pass's sight, and the slots that it has taken
+  -- What a pass knows, and the slots that it holds.
   abbrev pub Passing : Type 0
   Passing = Me (Spot O C R) (Sight O C R)
 
 module _ {O C R : Type 0} where
-  -- what the pass has at the place, as if it were the only one
+  -- What the pass has at the place, as if this were the only one.
   abbrev pub me_at : ℕ → Passing O C R → Mine O C R
   me_at place m = (view_at place m.0, map (λ (x : ℕ × Spot O C R). (0, x.1)) m.1)
 
-  -- the pass has taken no slot but that of the place
+  -- The pass holds no slot except that of the place.
   abbrev pub Carries : ℕ → Passing O C R → Type 0
   Carries place m = m.1 ≡ map (λ (x : ℕ × Spot O C R). (place, x.1)) m.1

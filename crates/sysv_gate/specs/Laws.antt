@@ -1,4 +1,5 @@
--- What the rule of a gate means for all seats together. It holds at each place of a table.
+-- Consequences of the rule of a gate for all seats together. They hold at each place of a table.
+-- This project's profile.
 use Rattle.std.specs.Prelude.{◌≡◌, ◌⊎◌, ℕ, ◌+◌, ◌≤◌, List, length, slice_index, true, false}
 use mathlib.Core.Option.{some}
 use lib.ListN.{get_elem?}
@@ -13,25 +14,26 @@ use Rattle.sysv_gate.specs.Counts.{word_of, of_count}
 use Rattle.sysv_gate.specs.Rule.{Spot, Homes, IsKept, Gated}
 
 module _ {O C R : Type 0} (moves : O → C → R → O → Type 0) where
-  -- what is so of any two seats of a gate, whatever its state is
+  -- A fact about any two seats of a gate, in every state.
   abbrev pub OfTwoSeats : (View O C R → View O C R → Type 0) → Type 0
   OfTwoSeats fact =
       (opening : O) (first : ℕ) (log : List (Turn O C R)) (drawn : ℕ) (homes : Homes O C R) (views : List (View O C R)) → IsKept moves opening first log drawn homes views
       → (i k : ℕ) (v w : View O C R) → ¬ (k ≡ i) → get_elem? views i ≡ some v → get_elem? views k ≡ some w → fact v w
 
-  -- where it is one seat's turn, it is not another's
+  -- If one seat is in its turn, another is not.
   abbrev pub OneTurnAtATime : Type 0
   OneTurnAtATime = OfTwoSeats (λ v w. v.in_turn ≡ true → w.in_turn ≡ false)
 
-  -- no turn of the history is two seats' own
+  -- No turn of the history is the own turn of two seats.
   abbrev pub NoTurnOfTwoSeats : Type 0
   NoTurnOfTwoSeats = OfTwoSeats (λ v w. (place : ℕ) → times place v.own + times place w.own ≤ 1)
 
-  -- what one seat has seen begins what the other has seen, or the other way round
+  -- The histories that two seats have seen begin one another: one is a prefix of the other.
   abbrev pub OneHistory : Type 0
   OneHistory = OfTwoSeats (λ v w. IsPrefixOf w.seen v.seen ⊎ IsPrefixOf v.seen w.seen)
 
-  -- where no seat is in turn, the words of the two counts have the counts of the object after the history of all turns
+  -- If no seat is in its turn, there is a legal history of all turns, and the words of the two
+  -- counts have the counts of the object after it.
   abbrev pub CountsOutsideATurn : (O → ℕ × ℕ) → Type 0
   CountsOutsideATurn counted =
       (opening : O) (first : ℕ) (s : State (Spot O C R) (View O C R)) → Gated moves counted opening first s

@@ -1,4 +1,4 @@
--- How a table with several places is laid.
+-- How a table with several places is laid. This project's profile.
 use Rattle.std.specs.Prelude.{◌≡◌, ℕ, ◌*◌, ◌<◌, List, [], ◌∷◌, length, map, slice_index, None}
 use mathlib.Core.Option.{some}
 use lib.ListN.{get_elem?}
@@ -10,26 +10,26 @@ use Rattle.sysv_gate.specs.declared.view.Sight.{Sight}
 use Rattle.sysv_gate.specs.Halls.{block, outset}
 use Rattle.sysv_gate.specs.Doors.{Doorway}
 
--- the words of a place: its tickets begin at the first one, and the counts are the object's
+-- The words of a new place: its tickets begin at `first`, and the counts are those of the object.
 abbrev pub IsLaid : {O : Type 0} → (O → ℕ × ℕ) → ℕ → O → List ℕ → Type 0
 IsLaid counted first o words =
     (slice_index words 16 ≡ first) × (slice_index words 32 ≡ first) × (slice_index words 48 ≡ (counted o).0) × (slice_index words 64 ≡ (counted o).1)
 
--- the words of the first places, so many
+-- The words of the first `count` places.
 abbrev pub AreLaidUpTo : {O : Type 0} → (O → ℕ × ℕ) → ℕ → List O → ℕ → List ℕ → Type 0
 AreLaidUpTo {O} counted first objects count words =
     (length words ≡ 80 * count) × ((place : ℕ) (o : O) → place < count → get_elem? objects place ≡ some o → IsLaid counted first o (block place words))
 
--- the doors of the first places, so many, each with its object
+-- The doors of the first `count` places, each with its object.
 abbrev pub AreDoorsUpTo : {O : Type 0} → List O → ℕ → List (Doorway O) → Type 0
 AreDoorsUpTo {O} objects count doors =
     (length doors ≡ count) × ((place : ℕ) (o : O) → place < count → get_elem? objects place ≡ some o → get_elem? doors place ≡ some (record { place = place; opening = o }))
 
--- each object is in its slot
+-- Each object is in its slot.
 abbrev pub all_put : {O C R : Type 0} → List O → List (Spot O C R)
 all_put objects = map (λ o. put o None) objects
 
--- the table has one place, where this object was, and the door is that of the place
+-- The table has one place, where this object was first, and the door is that of the place.
 pub record IsOneDoor {O : Type 0} (o : O) (start : ℕ) (id : TableId) (key : HallKey O) (door : Doorway O) : Type 0 where
   pub openings : key.openings.value.items ≡ o ∷ []
   pub first : key.first ≡ start
@@ -38,7 +38,7 @@ pub record IsOneDoor {O : Type 0} (o : O) (start : ℕ) (id : TableId) (key : Ha
   pub is : door ≡ record { place = 0; opening = o }
 
 module _ {O C R : Type 0} where
-  -- The table is new, as its first pass is
+  -- The table and its first pass are new.
   pub record IsNew (id : TableId) (known about : HallKey O) (token : Seat (Spot O C R) (Sight O C R)) : Type 0 where
     pub key : known ≡ about
     pub words : id.words ≡ 80 * length about.openings.value.items
@@ -46,6 +46,6 @@ module _ {O C R : Type 0} where
     pub table : token.table_id ≡ id
     pub me : token.me ≡ (outset about.openings.value.items about.first, [])
 
-  -- the table has one place and is new, as its first pass is
+  -- The table has one place, and the table and its first pass are new.
   abbrev pub IsLaidOut : O → ℕ → TableId → HallKey O → Doorway O → Seat (Spot O C R) (Sight O C R) → Type 0
   IsLaidOut o first id key door token = IsOneDoor o first id key door × (token.table_id ≡ id) × (token.me ≡ (outset (o ∷ []) first, []))

@@ -1,3 +1,5 @@
+-- The definitions of gates, after Reed and Kanodia. They are this project's profile, and no part of
+-- POSIX.1-2017.
 pub mod History
 pub mod Counts
 pub mod Rule

@@ -1,4 +1,5 @@
--- What the steps on a table with several places do to a pass, and what they tell it.
+-- What the steps on a table with several places do to a pass, and what the pass learns from them.
+-- This project's profile.
 use Rattle.std.specs.Prelude.{◌≡◌, ℕ, suc, ◌+◌, ◌*◌, ◌<◌, true, List, [], ◌∷◌, ◌++◌, map, length, slice_set, Option, Some, None}
 use mathlib.Core.Option.{none}
 use Rattle.atomic_table.specs.Table.{step}
@@ -16,9 +17,9 @@ use Rattle.sysv_gate.specs.Steps.{Mine, At, turn_of, Gathers}
 use Rattle.sysv_gate.specs.Halls.{view_at, OwnsInOrder, Passing, me_at, Carries}
 
 module _ {O C R : Type 0} where
-  -- The step is one at this place, where it tells `told`. Nothing changes at another place. The pass sees the order as it is
-  -- then, which begins with all that it had seen; these turns at the place are added to it. It knows just the turns of its
-  -- own in what it sees then
+  -- A step at this place, from which the pass learns `told`. Nothing changes at another place. The
+  -- pass sees the order as it is then, which begins with all that it had seen; these turns at the
+  -- place are appended. Afterwards the pass knows exactly its own turns in what it has seen.
   pub record StepsAt (place : ℕ) (added : List (Turn O C R)) (told : Mine O C R → Type 0) (m m' : Passing O C R) : Type 0 where
     pub order : List (Placed O C R)
     pub longer : IsPrefixOf m.0.seen order
@@ -32,62 +33,65 @@ module _ {O C R : Type 0} where
     pub carries : Carries place m'
     pub there : told (me_at place m')
 
-  -- the step of a gate, at the place whose word it is
+  -- The step of a gate, at the place whose word it is.
   abbrev pub AtAPlace : (Mine O C R → List (Turn O C R)) → (At O C R → Mine O C R → ℕ → Mine O C R → Type 0) → At O C R → Passing O C R → ℕ → Passing O C R → Type 0
   AtAPlace added play st m n m' =
       (place word : ℕ) → st.word ≡ 80 * place + word → word < 80 → StepsAt place (added (me_at place m)) (play (step 1 word st.first st.second none) (me_at place m) n) m m'
 
-  -- a step that adds no turn
+  -- A step that adds no turn.
   abbrev pub AddsNone : (At O C R → Mine O C R → ℕ → Mine O C R → Type 0) → At O C R → Passing O C R → ℕ → Passing O C R → Type 0
   AddsNone play = AtAPlace (λ m. []) play
 
-  -- the turn that the slot in hand tells of
+  -- The turn that the slot records as served last.
   abbrev pub turn_told : View O C R → O → Option (Done C R) → List (Turn O C R)
   turn_told v after None = []
   turn_told v after (Some done) = turn_of v done.call.value done.reply.value after ∷ []
 
+  -- The turn that the slot held by the pass records.
   abbrev pub turns_told : Mine O C R → List (Turn O C R)
   turns_told (v, []) = []
   turns_told (v, (k, None) ∷ xs) = []
   turns_told (v, (k, Some place) ∷ xs) = turn_told v place.object place.last
 
-  -- a change of the view of each place
+  -- A change of the view of each place.
   abbrev pub at_each : (View O C R → View O C R) → Sight O C R → Sight O C R
   at_each change sight = record sight { views = map change sight.views }
 
-  -- what a split leaves: half of the share
+  -- What a split leaves: half of the share.
   abbrev pub halved : Sight O C R → Sight O C R
   halved sight = record sight { views = map gate.parted sight.views; shares = half sight.shares }
 
-  -- what it gives: the other half
+  -- What a split makes: a pass with the other half.
   abbrev pub newcomer : Sight O C R → Sight O C R
   newcomer sight = record { views = map gate.newcomer sight.views; seen = sight.seen; also = []; shares = half sight.shares }
 
+  -- The views of two passes, joined place by place.
   abbrev pub both_views : List (View O C R) → List (View O C R) → List (View O C R)
   both_views [] ws = []
   both_views (v ∷ vs) [] = []
   both_views (v ∷ vs) (w ∷ ws) = gate.both_of v w ∷ both_views vs ws
 
-  -- two sights in one
+  -- What a pass knows after another was joined into it.
   abbrev pub both_of : Sight O C R → Sight O C R → Sight O C R
   both_of one two = record { views = both_views one.views two.views; seen = one.seen; also = two.seen; shares = one.shares ++ two.shares }
 
-  -- what is left of a sight that was joined into another
+  -- What is left of a pass that was joined into another.
   abbrev pub spent : Sight O C R
   spent = record { views = []; seen = []; also = []; shares = [] }
 
-  -- what the places from this one on have seen after a look at the whole order
+  -- What the places from this one on have seen after a look at the whole order.
   abbrev pub merged_from : ℕ → List (Placed O C R) → List (View O C R) → List (View O C R)
   merged_from place order [] = []
   merged_from place order (v ∷ vs) = gate.merged (turns_at place order) v ∷ merged_from (suc place) order vs
 
-  -- a load that gives the pass its number at each place: no turn that it has seen was made under it
+  -- A load that assigns the pass its number at each place. No turn that the pass has seen was made
+  -- under it.
   abbrev pub Names : At O C R → Passing O C R → ℕ → Passing O C R → Type 0
   Names st m n m' =
       (number : ℕ) × (m' ≡ (at_each (gate.named number) m.0, m.1)) × ((place k : ℕ) → place < length m.0.views → made_at (number ∷ []) (view_at place m.0).seen k ≡ 0)
       × ((place k : ℕ) → place < length m.0.views → made_at (number ∷ []) (turns_at place m.0.seen) k ≡ 0)
 
-  -- what a look after a join tells
+  -- What a pass learns from a look after a join.
   pub record Merges (moves : O → C → R → O → Type 0) (m m' : Passing O C R) : Type 0 where
     pub order : List (Placed O C R)
     pub one : IsPrefixOf m.0.seen order

@@ -1,4 +1,4 @@
--- What the parts of a call ask of a seat, and what they leave.
+-- What the parts of a call require of a seat, and what they leave. This project's profile.
 use Rattle.std.specs.Prelude.{◌≡◌, ℕ, ◌+◌, ◌<◌, ◌≤◌, ◌^◌, cond, true, false, List, [], ◌∷◌, length, Option, Some, None}
 use Rattle.sysv_gate.specs.declared.view.View.{View}
 use Rattle.sysv_gate.specs.declared.view.Turn as view
@@ -19,25 +19,25 @@ use Rattle.sysv_gate.specs.Counts.{of_count}
 use Rattle.sysv_gate.specs.Steps.{Mine, drew, read_to, ended, HasTurn}
 
 module _ {O C R : Type 0} where
-  -- no slot is out with the seat, and it has these tickets and no turn
+  -- The seat holds no slot, and has these tickets and no turn.
   abbrev pub Waits : List ℕ → Mine O C R → Type 0
   Waits tickets m = (m.1 ≡ []) × (m.0.tickets ≡ tickets) × (m.0.in_turn ≡ false)
 
-  -- the seat has drawn the ticket
+  -- The seat has drawn the ticket.
   abbrev pub HasDrawn : Mine O C R → ℕ → Mine O C R → Type 0
   HasDrawn m ticket m' = (m' ≡ (drew ticket m.0, [])) × (ticket < 2 ^ 62) × (m.0.worn ≡ false)
 
-  -- the seat has found that the tickets have reached 2^62
+  -- The seat has found that the tickets have reached 2^62.
   abbrev pub HasWorn : Mine O C R → Mine O C R → Type 0
   HasWorn m m' = m' ≡ (record m.0 { worn = true }, [])
 
-  -- the seat has seen more, and waits as before
+  -- The seat has seen more, and waits as before.
   pub record SawMore (v : View O C R) (m : Mine O C R) : Type 0 where
     pub log : List (view.Turn O C R)
     pub longer : IsPrefixOf v.seen log
     pub is : m ≡ (record v { seen = log }, [])
 
-  -- the seat's turn has come
+  -- The seat's turn has begun.
   pub record TurnCame (moves : O → C → R → O → Type 0) (counted : O → ℕ × ℕ) (opening : O) (v : View O C R) (ticket : ℕ) (m : Mine O C R) : Type 0 where
     pub log : List (view.Turn O C R)
     pub longer : IsPrefixOf v.seen log
@@ -45,8 +45,8 @@ module _ {O C R : Type 0} where
     pub view : m.0 ≡ record v { seen = log; tickets = ticket ∷ []; in_turn = true }
     pub turn : HasTurn moves counted opening m
 
-  -- The seat has looked which ticket is served, and it is n. Where that is the seat's own, its turn has come, and else it
-  -- waits as before
+  -- The seat has looked which ticket is served, and it is n. If that is the seat's own ticket, its
+  -- turn has begun. If the seat does not hold it, it waits as before.
   pub record Looked (moves : O → C → R → O → Type 0) (counted : O → ℕ × ℕ) (opening : O) (m : Mine O C R) (n : ℕ) (m' : Mine O C R) : Type 0 where
     pub log : List (view.Turn O C R)
     pub longer : IsPrefixOf m.0.seen log
@@ -56,26 +56,28 @@ module _ {O C R : Type 0} where
     pub mine : m.0.tickets ≡ n ∷ [] → TurnCame moves counted opening m.0 n m'
     pub other : times n m.0.tickets ≡ 0 → m' ≡ (record m.0 { seen = log }, [])
 
-  -- What came of a try. The turn has come, or the seat has seen more, or it has found that the tickets have reached 2^62
+  -- The result of a try. The turn has begun, or the seat has seen more, or it has found that the
+  -- tickets have reached 2^62.
   abbrev pub Entered : (O → C → R → O → Type 0) → (O → ℕ × ℕ) → O → Mine O C R → Entry → Mine O C R → Type 0
   Entered moves counted opening m Turn m' = (ticket : ℕ) × TurnCame moves counted opening m.0 ticket m' × (ticket < 2 ^ 62) × (m.0.worn ≡ false)
   Entered moves counted opening m Busy m' = SawMore m.0 m' × IsLegal moves opening m'.0.seen × HasItsOwn m'.0.numbers m'.0.own m'.0.seen
   Entered moves counted opening m Worn m' = HasWorn m m'
 
-  -- the turn was made
+  -- The turn was made.
   pub record HasMade (moves : O → C → R → O → Type 0) (opening : O) (v : View O C R) (call : C) (reply : R) (m : Mine O C R) : Type 0 where
     pub object : O
     pub is : m ≡ (ended v call reply object, [])
     pub legal : IsLegal moves opening m.0.seen
     pub own : HasItsOwn m.0.numbers m.0.own m.0.seen
 
--- what a rise adds to the count
+-- What a rise adds to the count.
 abbrev pub rise : Count → Rose → ℕ
 rise Arrived rose = cond rose.arrived 1 0
 rise Freed rose = cond rose.freed 1 0
 
 module _ {O C R : Type 0} where
-  -- The object was called, and lies beside the call that it served. It is told which counts rose
+  -- The object was called, and is stored beside the call that it served. The result shows which
+  -- counts rose.
   pub record Applied (moves : O → C → R → O → Type 0) (counted : O → ℕ × ℕ) (object : O) (call : C) (place : Place O C R) (reply : R) (rose : Rose) : Type 0 where
     pub move : moves object call reply place.object
     pub last : Done C R
@@ -84,29 +86,30 @@ module _ {O C R : Type 0} where
     pub answered : last.reply.value ≡ reply
     pub rises : (count : Count) → of_count count (counted place.object) ≡ of_count count (counted object) + rise count rose
 
-  -- the seat has read the count
+  -- The seat has read the count.
   pub record HasRead (counted : O → ℕ × ℕ) (opening : O) (count : Count) (m : Mine O C R) (n : ℕ) (m' : Mine O C R) : Type 0 where
     pub is : m' ≡ (read_to count n m.0, [])
     pub before : of_count count m.0.read ≤ n
     pub known : of_count count (counted (after_all opening m.0.seen)) ≤ n
 
-  -- the seat has read it, if at all
+  -- The seat may have read the count.
   pub record ReadMore (count : Count) (m m' : Mine O C R) : Type 0 where
     pub value : ℕ
     pub is : m' ≡ (read_to count value m.0, [])
     pub before : of_count count m.0.read ≤ value
 
-  -- the seat has read the count, and it was below the goal
+  -- The seat has read the count, and it was below the goal.
   abbrev pub HasReadBelow : (O → ℕ × ℕ) → O → Count → ℕ → Mine O C R → Mine O C R → Type 0
   HasReadBelow counted opening count goal m m' = (n : ℕ) × (n < goal) × HasRead counted opening count m n m'
 
-  -- The wait is over: the count is at least the goal, or it is below it, and the seat has found that the tickets have
-  -- reached 2^62
+  -- The wait is over. Either the count is at least the goal, or it is below the goal and the seat
+  -- has found that the tickets have reached 2^62.
   abbrev pub HasWaited : (O → ℕ × ℕ) → O → Count → ℕ → Mine O C R → Awaited → Mine O C R → Type 0
   HasWaited counted opening count goal m (Reached n) m' = (goal ≤ n) × HasRead counted opening count m n m'
   HasWaited counted opening count goal m awaited.Worn m' = (n : ℕ) × (mid : Mine O C R) × (n < goal) × HasRead counted opening count m n mid × HasWorn mid m'
 
-  -- a wait that may come back before it is over: then the count that was read last is below the goal
+  -- A wait that may return before it is over. If it does, the count that was read last is below the
+  -- goal.
   abbrev pub HasWaitedWithin : (O → ℕ × ℕ) → O → Count → ℕ → Mine O C R → Option Awaited → Mine O C R → Type 0
   HasWaitedWithin counted opening count goal m (Some a) m' = HasWaited counted opening count goal m a m'
   HasWaitedWithin counted opening count goal m None m' = HasReadBelow counted opening count goal m m'

@@ -1,28 +1,30 @@
-//! Sleep that costs others nothing where nobody sleeps.
+//! Sleep that costs other threads next to nothing while no thread sleeps.
 use std::array;
 use std::sync::Wait;
 use std::sync::atomic::AtomicU64;
 use std::sync::atomic::Ordering::SeqCst;
 use std::time::Duration;
 
-/// The most seconds that a bounded sleep lasts.
+/// The longest time, in seconds, that a bounded sleep lasts.
 const LONGEST_NAP: u64 = 1;
 
-/// How long a thread sleeps if no other wakes it.
+/// How long a thread sleeps if no other thread wakes it.
 #[derive(Clone, Copy)]
 pub(crate) enum Sleep {
     /// Until the bell is rung.
     UntilRung,
-    /// No longer than `LONGEST_NAP` seconds.
+    /// At most `LONGEST_NAP` seconds.
     Bounded,
 }
 
-/// Threads sleep on it until it is rung. Who is to sleep enters, looks once more at what he waits for, and sleeps only
-/// then. Who brings that about rings afterwards. So either the one sees what came, or the other sees that one entered.
+/// A bell that threads sleep on until it is rung. A thread that is about to sleep enters, looks
+/// once more for what it waits for, and only then sleeps. A thread that brings this about rings
+/// afterwards. So either the first thread sees what happened, or the second thread sees that
+/// another has entered.
 pub(crate) struct Bell {
-    /// How many threads have entered and not left.
+    /// The number of threads that have entered and not left.
     sleepers: AtomicU64,
-    /// How often it was rung.
+    /// The number of times that the bell was rung.
     rung: AtomicU64,
 }
 
@@ -43,13 +45,13 @@ impl Bell {
         }
     }
 
-    // Answers how often it was rung so far.
+    // Enters, and returns the number of times that the bell was rung so far.
     pub(crate) fn enter(&self) -> u64 {
         self.sleepers.fetch_add(1, SeqCst);
         self.rung.load(SeqCst)
     }
 
-    // Sleeps if it was rung that many times and not since.
+    // Sleeps if the bell was rung `rung` times and not since.
     pub(crate) fn sleep(&self, rt: &impl Wait, rung: u64, sleep: Sleep) {
         let expected = (rung & LOW_BITS) as u32;
         match sleep {
@@ -61,11 +63,12 @@ impl Bell {
         }
     }
 
+    // Leaves again after an `enter`.
     pub(crate) fn leave(&self) {
         self.sleepers.fetch_sub(1, SeqCst);
     }
 
-    // Wakes all who sleep. Where nobody has entered, it is one load.
+    // Wakes all threads that sleep. If no thread has entered, this is one load.
     pub(crate) fn ring(&self) {
         if self.sleepers.load(SeqCst) > 0 {
             self.rung.fetch_add(1, SeqCst);
@@ -73,7 +76,7 @@ impl Bell {
         }
     }
 
-    // Wakes one thread that sleeps. Those that have entered and do not sleep yet look once more.
+    // Wakes one thread that sleeps. Threads that have entered and do not sleep yet look once more.
     pub(crate) fn ring_for_one(&self) {
         if self.sleepers.load(SeqCst) > 0 {
             self.rung.fetch_add(1, SeqCst);
@@ -85,8 +88,8 @@ impl Bell {
 /// The number of bells for turns.
 const TURN_BELLS: usize = 32;
 
-/// The bells of threads that wait for their turn. A thread sleeps on the bell of its ticket, so the end of a turn wakes
-/// the next thread and no other, as long as no more than 32 wait.
+/// The bells of the threads that wait for their turn. A thread sleeps on the bell of its ticket. So
+/// the end of a turn wakes only the next thread, as long as at most 32 threads wait.
 #[derive(Drop)]
 pub(crate) struct TurnBells {
     bells: [Bell; TURN_BELLS],
@@ -99,12 +102,12 @@ impl TurnBells {
         }
     }
 
-    // The bell of the ticket.
+    // Returns the bell of the ticket.
     pub(crate) fn of(&self, ticket: u64) -> &Bell {
         &self.bells[(ticket % TURN_BELLS as u64) as usize]
     }
 
-    // Wakes all who sleep, whatever their tickets.
+    // Wakes all threads that sleep, whatever their tickets are.
     pub(crate) fn ring_all(&self) {
         for bell in &self.bells {
             bell.ring();
@@ -112,5 +115,5 @@ impl TurnBells {
     }
 }
 
-/// A sleep compares the low 32 bits.
+/// The bits that a sleep compares: the low 32.
 const LOW_BITS: u64 = 0xffff_ffff;

@@ -13,8 +13,17 @@ use crate::turns::Entry;
 use std::sync::Wait;
 
 impl<O: Object> Door<O> {
-    /// Makes the call in a turn of the pass's own, as `Gate::call`. The turn is the last of the order that the pass has seen
-    /// then.
+    /// Makes the call in a turn of the pass's own, like `Gate::call`. Afterwards the turn is the
+    /// last one in the order that the pass has seen.
+    ///
+    /// # Errors
+    ///
+    /// - `Worn` only if the tickets of the place have reached 2^62. The error holds the call.
+    ///
+    /// # Conditions
+    ///
+    /// - The door belongs to the table, and so does the pass, which is at rest at the place.
+    /// - Every object to which legal turns lead from the first one at the place accepts the call.
     pub fn call(
         &self,
         rt: &impl Wait,
@@ -45,7 +54,19 @@ impl<O: Object> Door<O> {
         Ok(reply)
     }
 
-    /// Makes the call where no other pass has the turn or waits for it, as `Gate::try_call`.
+    /// Makes the call if no other pass holds a ticket, like `Gate::try_call`.
+    ///
+    /// # Errors
+    ///
+    /// The error holds the call.
+    ///
+    /// - `Busy` if another pass holds a ticket or draws one first.
+    /// - `Worn` only if the tickets of the place have reached 2^62.
+    ///
+    /// # Conditions
+    ///
+    /// - The door belongs to the table, and so does the pass, which is at rest at the place.
+    /// - Every object to which legal turns lead from the first one at the place accepts the call.
     pub fn try_call(
         &self,
         hall: &Hall<O>,
@@ -72,13 +93,14 @@ impl<O: Object> Door<O> {
         }
     }
 
-    /// Ends the sleep of each thread that waits at the place, as `Gate::wake`.
+    /// Wakes every thread that waits at the place, like `Gate::wake`.
     pub fn wake(&self, _rt: &impl Wait) {
         self.turns.ring_all();
         self.ring();
     }
 
-    /// Wakes the next thread that sleeps in a bounded wait for the first count, as `Gate::pass_on`.
+    /// Wakes the next thread that sleeps in a bounded wait for the first count, like
+    /// `Gate::pass_on`.
     pub fn pass_on(&self) {
         self.next_arrived.ring_for_one();
     }

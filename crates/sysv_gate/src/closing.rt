@@ -1,11 +1,12 @@
 //! What is left of a gate.
 
-/// What a closed gate gives back.
+/// What a closed gate returns.
 #[derive(Debug, Drop)]
 pub struct Closing<O> {
-    /// The object after all turns. It is `None` only where a seat still holds the ticket whose turn it is.
+    /// The object after all turns. It is `None` if a drawn ticket was not served: a seat still
+    /// holds the ticket whose turn it is.
     pub object: Option<O>,
-    /// Where there is no such object, what the slot had, of which nothing is known.
+    /// What the slot held, if there is no such object. Nothing is known of it.
     pub rest: Option<O>,
     /// The number of all turns.
     pub turns: u64,

@@ -7,14 +7,14 @@ use crate::words::{ARRIVED, FREED};
 /// One of the two counts of an object.
 #[derive(Clone, Copy)]
 pub enum Count {
-    /// The first.
+    /// The first count.
     Arrived,
-    /// The second.
+    /// The second count.
     Freed,
 }
 
 impl Count {
-    // The word where it is announced.
+    // Returns the word where the count is announced.
     pub(crate) fn word(self) -> usize
         ensures { result ≡ word_of self }
     {

@@ -1,4 +1,4 @@
-//! One place of a table with several, and the steps on its words.
+//! One place of a table, and the steps on its words.
 ghost use Rattle.std.specs.Prelude.{◌≡◌, ◌+◌, ◌*◌, ◌^◌, ◌<◌, ◌≤◌, cond, true, [], length};
 ghost use mathlib.Core.Option.{none};
 ghost use Rattle.atomic_table.specs.Table.{step};
@@ -17,19 +17,21 @@ use crate::words::{SERVING, TICKET};
 use std::marker::Model;
 use std::snapshot::Snapshot;
 
-/// One of several places that share a table, with the bells of those who wait there.
+/// One of several places that share a table, with the bells of the threads that wait there.
 #[derive(Drop)]
 pub struct Door<O: Object> {
     pub(crate) place: usize,
-    /// The first of its words.
+    /// The number of the first of the place's words.
     base: usize,
-    /// The object that was there when the table was laid.
+    /// The object that was at the place when the table was laid.
     opening: Snapshot<O>,
     pub(crate) turns: TurnBells,
-    /// The bell of those who wait for the first count, however long it takes.
+    /// The bell of the threads that wait for the first count without a time limit.
     pub(crate) arrived: Bell,
-    /// The bell of those whose waits for the first count are bounded. A rise wakes one of them.
+    /// The bell of the threads whose waits for the first count are bounded. A rise wakes one of
+    /// them.
     pub(crate) next_arrived: Bell,
+    /// The bell of the threads that wait for the second count.
     pub(crate) freed: Bell,
 }
 
@@ -47,7 +49,12 @@ impl<O: Object> Model for Door<O> {
 }
 
 impl<O: Object> Door<O> {
-    /// The door of the place, where this object is.
+    /// Makes the door of the place, where `object` is.
+    ///
+    /// # Conditions
+    ///
+    /// - `80 * place` is at most 2^60.
+    /// - Both counts of `object` are at most 2^61.
     pub fn new(place: usize, object: &O) -> Door<O>
         requires place { 80 * place ≤ 2 ^ 60 }
         requires counts { AreUpTo (2 ^ 61) (O.counted object.now) }
@@ -64,7 +71,7 @@ impl<O: Object> Door<O> {
         }
     }
 
-    // The number of the word of this place among those of the table.
+    // Returns the number of this place's word among the words of the table.
     pub(crate) fn word(&self, word: usize) -> usize
         requires { word < 80 }
         ensures { result ≡ 80 * self.now.place + word }
@@ -72,7 +79,7 @@ impl<O: Object> Door<O> {
         self.base + word
     }
 
-    // Looks which ticket is drawn next.
+    // Loads the ticket that is drawn next.
     pub(crate) fn weigh(&self, hall: &Hall<O>, token: &mut HallToken<O>) -> u64
         requires door { IsDoorOf hall.now.shared.table_id hall.now.shared.key.openings.value.items
             self.now }
@@ -84,7 +91,7 @@ impl<O: Object> Door<O> {
         hall.shared.load::<Weighing>(token, self.word(TICKET))
     }
 
-    // Draws the ticket, where it is the next one, and answers which was.
+    // Draws `ticket` if it is the next one. Returns the next ticket that was found.
     pub(crate) fn draw_next(&self, hall: &Hall<O>, token: &mut HallToken<O>, ticket: u64) -> u64
         requires door { IsDoorOf hall.now.shared.table_id hall.now.shared.key.openings.value.items
             self.now }
@@ -99,7 +106,8 @@ impl<O: Object> Door<O> {
             .compare_exchange::<Drawing>(token, self.word(TICKET), ticket, ticket + 1)
     }
 
-    // Draws the ticket, where it is the next one and is served, and so begins the turn. It answers which was the next one.
+    // Draws `ticket` and begins its turn, if it is the next ticket. It is known to be the served
+    // one. Returns the next ticket that was found.
     pub(crate) fn enter_next(&self, hall: &Hall<O>, token: &mut HallToken<O>, ticket: u64) -> u64
         requires door { IsDoorOf hall.now.shared.table_id hall.now.shared.key.openings.value.items
             self.now }
@@ -117,7 +125,7 @@ impl<O: Object> Door<O> {
             .compare_exchange::<Entering<O>>(token, self.word(TICKET), ticket, ticket + 1)
     }
 
-    // Looks which ticket is served. Where it is the pass's, the turn begins.
+    // Loads the ticket that is served. If the pass holds that ticket, its turn begins.
     pub(crate) fn look(&self, hall: &Hall<O>, token: &mut HallToken<O>) -> u64
         requires door { IsDoorOf hall.now.shared.table_id hall.now.shared.key.openings.value.items
             self.now }
@@ -132,6 +140,10 @@ impl<O: Object> Door<O> {
     }
 
     /// Reads the count as it is announced now.
+    ///
+    /// # Conditions
+    ///
+    /// - The door belongs to the table, and so does the pass, which is at rest at the place.
     pub fn count(&self, hall: &Hall<O>, token: &mut HallToken<O>, count: Count) -> u64
         requires door { IsDoorOf hall.now.shared.table_id hall.now.shared.key.openings.value.items
             self.now }
@@ -145,7 +157,7 @@ impl<O: Object> Door<O> {
             .load::<Reading<O>>(token, self.word(count.word()))
     }
 
-    // Announces a count in the pass's turn, where it has risen.
+    // Announces a count in the pass's turn if it has risen.
     pub(crate) fn announce(
         &self,
         hall: &Hall<O>,

@@ -14,7 +14,7 @@ use crate::words::{SERVING, TICKET};
 use atomic_table::Closed;
 use std::alloc::Global;
 
-// The object that the slot has, if it has one.
+// Returns the object in the slot, if there is one.
 fn object_in<O, C, R>(spot: Option<Place<O, C, R>>) -> Option<O>
     ensures { result ≡ held_object spot }
 {
@@ -24,7 +24,15 @@ fn object_in<O, C, R>(spot: Option<Place<O, C, R>>) -> Option<O>
     }
 }
 
-/// What a closed table gives back of the place.
+/// Returns what a closed table held at the place. The slot of the place is then empty.
+///
+/// The object is returned in `object` if every drawn ticket of the place was served, and in `rest`
+/// if not.
+///
+/// # Conditions
+///
+/// - The place is one of the table, and its slot has not been taken yet.
+/// - The words are those of the closed table, whose tickets began at `first`.
 pub fn close_place<O: Object>(
     closed: &mut Closed<Spot<O>, Global>,
     place: usize,

@@ -21,8 +21,8 @@ use std::marker::Model;
 use std::snapshot::Snapshot;
 use std::sync::Wait;
 
-/// An object that threads call one turn at a time. They share the gate by reference, and each takes turns with a seat of
-/// its own.
+/// An object that threads call one turn at a time. Threads share the gate by reference, and each
+/// thread takes turns with a seat of its own.
 pub struct Gate<O: Object> {
     /// The table, which has one place.
     pub(crate) hall: Hall<O>,
@@ -42,7 +42,15 @@ impl<O: Object> Model for Gate<O> {
 }
 
 impl<O: Object> Gate<O> {
-    /// A gate whose tickets begin at 0, and its first seat. Where there is no memory the object comes back.
+    /// Opens a gate around `object`, with tickets from 0 on. Returns it with its first seat.
+    ///
+    /// # Errors
+    ///
+    /// - `NoMemory` if memory is refused. The error holds the object.
+    ///
+    /// # Conditions
+    ///
+    /// - Both counts of `object` are at most 2^61.
     pub fn open(alloc: Global, object: O) -> Result<(Gate<O>, Seat<O>), OpenRefused<O>>
         requires { AreUpTo (2 ^ 61) (O.counted object) }
         ensures ok { IfOk result (λ o. (o.0.opening ≡ object) × (o.0.first ≡ 0)
@@ -52,8 +60,18 @@ impl<O: Object> Gate<O> {
         Gate::starting_at(alloc, object, 0)
     }
 
-    /// A gate whose tickets begin at `first`, and its first seat. `BadStart` comes where `first` is above 2^62, and
-    /// `NoMemory` where there is no memory. The object comes back in either.
+    /// Opens a gate around `object`, with tickets from `first` on. Returns it with its first seat.
+    ///
+    /// # Errors
+    ///
+    /// The error holds the object.
+    ///
+    /// - `BadStart` if and only if `first` is above 2^62.
+    /// - `NoMemory` if memory is refused.
+    ///
+    /// # Conditions
+    ///
+    /// - Both counts of `object` are at most 2^61.
     pub fn starting_at(
         alloc: Global,
         object: O,
@@ -83,9 +101,20 @@ impl<O: Object> Gate<O> {
         }
     }
 
-    /// Makes the call in a turn of the seat's own, and answers the object's reply. It waits until the seat's ticket is
-    /// served: it looks some times, and then sleeps. `Worn` comes only where the tickets have reached 2^62, and then the
-    /// object is untouched; the seat is answered `Worn` from then on.
+    /// Makes the call in a turn of the seat's own, and returns the object's reply. It waits until
+    /// the seat's ticket is served: it spins first, and then sleeps. Afterwards the turn is the
+    /// last one in the history that the seat has seen.
+    ///
+    /// # Errors
+    ///
+    /// - `Worn` only if the tickets have reached 2^62. This call does not touch the object, the
+    ///   error holds the call, and every later call with this seat fails with `Worn` too.
+    ///
+    /// # Conditions
+    ///
+    /// - `seat` is a seat of this gate.
+    /// - Every object to which legal turns lead from the first one accepts the call
+    ///   (`Object::accepts`).
     pub fn call(
         &self,
         rt: &impl Wait,
@@ -103,9 +132,22 @@ impl<O: Object> Gate<O> {
         self.door.call(rt, &self.hall, &mut seat.token, call)
     }
 
-    /// Makes the call where no other seat has the turn or waits for it, and answers the object's reply. It never waits.
-    /// `Busy` comes where another seat holds a ticket, or draws one first. `Worn` comes as from `call`. In both the
-    /// object is untouched by this call. It wakes nobody: call `wake` afterwards where threads may wait for their turn.
+    /// Makes the call if no other seat holds a ticket, and returns the object's reply. It never
+    /// waits and wakes no thread: call `wake` afterwards if threads may be waiting.
+    ///
+    /// # Errors
+    ///
+    /// This call does not touch the object, and the error holds the call.
+    ///
+    /// - `Busy` if another seat holds a ticket or draws one first.
+    /// - `Worn` only if the tickets have reached 2^62. Every later call with this seat fails with
+    ///   `Worn` too.
+    ///
+    /// # Conditions
+    ///
+    /// - `seat` is a seat of this gate.
+    /// - Every object to which legal turns lead from the first one accepts the call
+    ///   (`Object::accepts`).
     pub fn try_call(
         &self,
         seat: &mut Seat<O>,
@@ -123,20 +165,26 @@ impl<O: Object> Gate<O> {
         self.door.try_call(&self.hall, &mut seat.token, call)
     }
 
-    /// Ends the sleep of each thread that waits for its turn or for a count. Those whose ticket is not served, or whose
-    /// goal is not reached, sleep again.
+    /// Wakes every thread that waits for its turn or for a count. A thread whose ticket is not
+    /// served, or whose goal is not reached, sleeps again.
     pub fn wake(&self, rt: &impl Wait) {
         self.door.wake(rt);
     }
 
-    /// Wakes the next thread that sleeps in a bounded wait for the first count, if there is one. A rise of that count
-    /// wakes only one of these: a thread that was woken and leaves to others what came calls this.
+    /// Wakes the next thread that sleeps in `arrived_within`, if there is one. A rise of the first
+    /// count wakes only one of these threads. A thread that was woken there and does not use what
+    /// arrived should call `pass_on`, or the others do not see the rise until their second is over.
     pub fn pass_on(&self) {
         self.door.pass_on();
     }
 
-    /// Gives a new seat, which has seen what this one has seen, and has made no turn: none that it has seen was made
-    /// under its number. It may go to another thread.
+    /// Returns a new seat, which may move to another thread. It has a number of its own, has seen
+    /// what `seat` has seen, and has made none of the turns in that history. Afterwards neither of
+    /// the two seats is alone.
+    ///
+    /// # Conditions
+    ///
+    /// - `seat` is a seat of this gate.
     pub fn split(&self, seat: &mut Seat<O>) -> Seat<O>
         requires { seat.old.gate ≡ self.now }
         ensures gate { result.gate ≡ self.now }
@@ -150,7 +198,12 @@ impl<O: Object> Gate<O> {
         }
     }
 
-    /// Takes in another seat of this gate: what it has seen, and its turns.
+    /// Merges `other` into `seat`. Afterwards `seat` has seen a history that begins with what
+    /// either seat had seen, and has the turns of both.
+    ///
+    /// # Conditions
+    ///
+    /// - `seat` and `other` are seats of this gate.
     pub fn join(&self, seat: &mut Seat<O>, other: Seat<O>)
         requires seat { seat.old.gate ≡ self.now }
         requires other { other.gate ≡ self.now }
@@ -160,7 +213,14 @@ impl<O: Object> Gate<O> {
         join_pass(&self.hall, &mut seat.token, other.into_token());
     }
 
-    /// Gives the object back, and the number of its turns.
+    /// Closes the gate. Returns the object and the number of all turns.
+    ///
+    /// The object is missing if a thread stopped between the draw of its ticket and the end of its
+    /// turn. If no other seat was ever split off from `seat`, the object is always returned.
+    ///
+    /// # Conditions
+    ///
+    /// - `seat` is a seat of this gate.
     pub fn close(self, seat: Seat<O>) -> Closing<O>
         requires { seat.gate ≡ self }
         ensures { Closes (Moves O.meaning O.counted) seat result }

@@ -12,8 +12,13 @@ use crate::seat::Seat;
 use std::sync::Wait;
 
 impl<O: Object> Gate<O> {
-    /// The first count of the object, as it is announced now. It is no less than what the seat has read before, nor than
-    /// the count after all turns that the seat has seen. It takes no turn and never waits.
+    /// Returns the first count of the object, as announced now. It is at least what the seat has
+    /// read before, and at least the count after all turns that the seat has seen. The call takes
+    /// no turn and never waits.
+    ///
+    /// # Conditions
+    ///
+    /// - `seat` is a seat of this gate.
     pub fn arrived(&self, seat: &mut Seat<O>) -> u64
         requires { seat.old.gate ≡ self.now }
         ensures gate { seat.new.gate ≡ self.now }
@@ -23,7 +28,11 @@ impl<O: Object> Gate<O> {
         self.count(seat, Count::Arrived)
     }
 
-    /// The second count of the object, as `arrived` the first.
+    /// Returns the second count of the object, like `arrived` for the first count.
+    ///
+    /// # Conditions
+    ///
+    /// - `seat` is a seat of this gate.
     pub fn freed(&self, seat: &mut Seat<O>) -> u64
         requires { seat.old.gate ≡ self.now }
         ensures gate { seat.new.gate ≡ self.now }
@@ -33,9 +42,16 @@ impl<O: Object> Gate<O> {
         self.count(seat, Count::Freed)
     }
 
-    /// Waits until the first count is at least `goal`, and answers it. It looks some times, and then sleeps. `Worn` comes
-    /// only where the count was below the goal and the tickets had reached 2^62; it may be raised still by turns that
-    /// were waited for then.
+    /// Waits until the first count is at least `goal`, and returns `Reached` with the count. It
+    /// spins first, and then sleeps.
+    ///
+    /// Returns `Worn` only if the count that was read last is below `goal` and the tickets have
+    /// reached 2^62. The seat is then marked as worn. Turns that hold a ticket at that time can
+    /// still raise the count.
+    ///
+    /// # Conditions
+    ///
+    /// - `seat` is a seat of this gate.
     pub fn await_arrived(&self, rt: &impl Wait, seat: &mut Seat<O>, goal: u64) -> Awaited
         requires { seat.old.gate ≡ self.now }
         ensures gate { seat.new.gate ≡ self.now }
@@ -44,7 +60,11 @@ impl<O: Object> Gate<O> {
         self.await_count(rt, seat, Count::Arrived, goal)
     }
 
-    /// Waits until the second count is at least `goal`, as `await_arrived` for the first.
+    /// Waits until the second count is at least `goal`, like `await_arrived` for the first count.
+    ///
+    /// # Conditions
+    ///
+    /// - `seat` is a seat of this gate.
     pub fn await_freed(&self, rt: &impl Wait, seat: &mut Seat<O>, goal: u64) -> Awaited
         requires { seat.old.gate ≡ self.now }
         ensures gate { seat.new.gate ≡ self.now }
@@ -53,9 +73,15 @@ impl<O: Object> Gate<O> {
         self.await_count(rt, seat, Count::Freed, goal)
     }
 
-    /// Waits for the first count as `await_arrived` does, but sleeps only once, and for a second at most. It returns
-    /// `None` if the count that it read last is still below `goal`. A rise wakes only one of the threads that sleep in this
-    /// wait: a caller that then leaves to others what came calls `pass_on`.
+    /// Waits for the first count like `await_arrived`, but sleeps only once, and for a second at
+    /// most. Returns `None` only if the count that was read last is below `goal`.
+    ///
+    /// A rise wakes only one of the threads that sleep in this wait. A thread that was woken here
+    /// and does not use what arrived should call `pass_on`.
+    ///
+    /// # Conditions
+    ///
+    /// - `seat` is a seat of this gate.
     pub fn arrived_within(&self, rt: &impl Wait, seat: &mut Seat<O>, goal: u64) -> Option<Awaited>
         requires { seat.old.gate ≡ self.now }
         ensures gate { seat.new.gate ≡ self.now }
@@ -64,8 +90,12 @@ impl<O: Object> Gate<O> {
         self.await_within(rt, seat, Count::Arrived, goal)
     }
 
-    /// Waits for the second count, as `arrived_within` does for the first, but a rise wakes all threads that sleep in this
-    /// wait.
+    /// Waits for the second count, like `arrived_within` for the first count, but a rise wakes all
+    /// threads that sleep in this wait.
+    ///
+    /// # Conditions
+    ///
+    /// - `seat` is a seat of this gate.
     pub fn freed_within(&self, rt: &impl Wait, seat: &mut Seat<O>, goal: u64) -> Option<Awaited>
         requires { seat.old.gate ≡ self.now }
         ensures gate { seat.new.gate ≡ self.now }

@@ -7,8 +7,10 @@ use std::alloc::Global;
 use std::marker::PhantomData;
 use std::snapshot::Snapshot;
 
+/// A slot of the table.
 pub(crate) type Spot<O> = Option<Place<O, <O as Object>::Call, <O as Object>::Reply>>;
 
+/// What a pass knows of the table.
 type Knows<O> = Sight<O, <O as Object>::Call, <O as Object>::Reply>;
 
 /// The table of several places.
@@ -17,9 +19,11 @@ pub type Hall<O> = Table<Spot<O>, Knows<O>, HallKey<O>, HallRule<O>, Global>;
 /// The right to take turns at each place of a table.
 pub type HallToken<O> = atomic_table::Seat<Spot<O>, Knows<O>>;
 
-/// What is fixed when the table is laid: the objects, for proofs, and the first ticket.
+/// What is fixed when the table is laid: the objects, for proofs only, and the first ticket.
 pub struct HallKey<O> {
+    /// The objects that were at the places when the table was laid.
     pub openings: Snapshot<Vec<O, Global>>,
+    /// The first ticket of each place.
     pub first: u64,
 }
 
@@ -71,7 +75,7 @@ impl<O, C, R> Play<Option<Place<O, C, R>>, Sight<O, C, R>> for Drawing {
     ghost then = { AddsNone Draws };
 }
 
-/// A load of the ticket that is served, which begins the seat's turn where it holds that ticket.
+/// A load of the ticket that is served. It begins the seat's turn if the seat holds that ticket.
 pub(crate) struct Looking<O> {
     object: PhantomData<O>,
 }
@@ -85,7 +89,7 @@ impl<O: Object> Play<Option<Place<O, O::Call, O::Reply>>, Sight<O, O::Call, O::R
     ghost then = { AddsNone (Turns (Moves O.meaning O.counted) O.counted) };
 }
 
-/// The compare-exchange that draws the very ticket that is served, and begins its turn.
+/// The compare-exchange that draws the ticket that is already served, and begins its turn.
 pub(crate) struct Entering<O> {
     object: PhantomData<O>,
 }
@@ -99,7 +103,7 @@ impl<O: Object> Play<Option<Place<O, O::Call, O::Reply>>, Sight<O, O::Call, O::R
     ghost then = { AddsNone (Enters (Moves O.meaning O.counted) O.counted) };
 }
 
-/// An addition to the word of a count, in a turn in which the count has risen.
+/// The addition to the word of a count, in a turn in which that count has risen.
 pub(crate) struct Announcing;
 
 impl<O, C, R> Play<Option<Place<O, C, R>>, Sight<O, C, R>> for Announcing {
@@ -122,7 +126,8 @@ impl<O: Object> Play<Option<Place<O, O::Call, O::Reply>>, Sight<O, O::Call, O::R
     ghost then = { AddsNone (Reads O.counted) };
 }
 
-/// The addition that ends a turn. It enters the turn into the history, and gives the object home.
+/// The addition that ends a turn. It enters the turn into the history and returns the object to its
+/// slot.
 pub(crate) struct Ending;
 
 impl<O, C, R> Play<Option<Place<O, C, R>>, Sight<O, C, R>> for Ending {
@@ -132,7 +137,7 @@ impl<O, C, R> Play<Option<Place<O, C, R>>, Sight<O, C, R>> for Ending {
     ghost then = { AtAPlace turns_told Ends };
 }
 
-/// A load that gives a new seat its number.
+/// A load that assigns a new seat its number.
 pub(crate) struct Naming;
 
 impl<O, C, R> Play<Option<Place<O, C, R>>, Sight<O, C, R>> for Naming {
@@ -141,7 +146,7 @@ impl<O, C, R> Play<Option<Place<O, C, R>>, Sight<O, C, R>> for Naming {
     ghost then = { Names };
 }
 
-/// A load after a join, which shows a history that both seats had seen a beginning of.
+/// A load after a join. It shows a history that begins with what either seat had seen.
 pub(crate) struct Merging<O> {
     object: PhantomData<O>,
 }
@@ -154,7 +159,7 @@ impl<O: Object> Play<Option<Place<O, O::Call, O::Reply>>, Sight<O, O::Call, O::R
     ghost then = { λ st m n m'. Merges (Moves O.meaning O.counted) m m' };
 }
 
-/// A new seat comes from another.
+/// A split: a new seat is made from another.
 pub(crate) struct Sharing;
 
 impl<O, C, R> Split<Sight<O, C, R>> for Sharing {
@@ -165,7 +170,7 @@ impl<O, C, R> Split<Sight<O, C, R>> for Sharing {
     ghost right = { newcomer };
 }
 
-/// One seat takes in another.
+/// A join: one seat is merged into another.
 pub(crate) struct Gathering;
 
 impl<O, C, R> Join<Sight<O, C, R>> for Gathering {

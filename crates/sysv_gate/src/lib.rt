@@ -1,5 +1,6 @@
-//! A gate around an object, after Reed and Kanodia's mutual exclusion by a sequencer and an eventcount: threads call the
-//! object one turn at a time, in the order of their tickets, and all turns make one history.
+//! Gates, after Reed and Kanodia's mutual exclusion by a sequencer and an eventcount. Threads call
+//! the object behind a gate one turn at a time, in the order of their tickets, and all turns make
+//! one history.
 //!
 //! ```rust
 //! let mut other = gate.split(&mut seat);

@@ -1,4 +1,4 @@
-//! How passes of a table come, and how one is joined into another.
+//! How passes of a table are split and joined.
 ghost use Rattle.std.specs.Prelude.{◌≡◌, ◌≤◌, []};
 ghost use Rattle.sysv_gate.specs.History.{Moves};
 ghost use Rattle.sysv_gate.specs.Plays.{halved, both_of, Merges};
@@ -8,8 +8,14 @@ use crate::hall::{Gathering, Hall, HallToken, Merging, Naming, Sharing};
 use crate::object::Object;
 use crate::words::SERVING;
 
-/// Gives a new pass, which has seen what this one has seen, and has made no turn: none that it has seen was made under its
-/// number. It may go to another thread.
+/// Returns a new pass, which may move to another thread. It has a number of its own and half of the
+/// share, has seen what `token` has seen, and has made none of the turns there. The other half of
+/// the share stays with `token`.
+///
+/// # Conditions
+///
+/// - The table has at least one place.
+/// - `token` is a pass of this table, and is at rest at every place.
 pub fn split_pass<O: Object>(hall: &Hall<O>, token: &mut HallToken<O>) -> HallToken<O>
     requires table { (token.old.table_id ≡ hall.now.shared.table_id)
         × (80 ≤ hall.now.shared.table_id.words) }
@@ -23,7 +29,12 @@ pub fn split_pass<O: Object>(hall: &Hall<O>, token: &mut HallToken<O>) -> HallTo
     other
 }
 
-/// Takes in another pass: what it has seen, and its turns.
+/// Merges `other` into `token`: what both have seen, their turns, their numbers and their shares.
+///
+/// # Conditions
+///
+/// - The table has at least one place.
+/// - `token` and `other` are passes of this table, and both are at rest at every place.
 pub fn join_pass<O: Object>(hall: &Hall<O>, token: &mut HallToken<O>, other: HallToken<O>)
     requires table { (token.old.table_id ≡ hall.now.shared.table_id)
         × (80 ≤ hall.now.shared.table_id.words) }

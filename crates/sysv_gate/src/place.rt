@@ -1,12 +1,14 @@
-//! What the slot of a gate has.
+//! The contents of a gate's slot.
 ghost use Rattle.std.specs.Prelude.{◌≡◌, None, Some};
 
 use std::marker::Model;
 use std::snapshot::Snapshot;
 
-/// A call that was served, with its reply. It has no bytes.
+/// A call that was served, with its reply. It has no bytes at run time.
 pub struct Done<C, R> {
+    /// The call.
     pub call: Snapshot<C>,
+    /// The reply to the call.
     pub reply: Snapshot<R>,
 }
 
@@ -16,8 +18,8 @@ impl<C, R> Drop for Done<C, R> {
     }
 }
 
-/// The call that was served last, if there was one, and room beside it: the objects of a table lie in a row, and no two of
-/// them are to be on one line of a processor's cache.
+/// The call that was served last, if there was one, followed by unused space. The objects of a
+/// table are in a row, and the space keeps any two of them off the same cache line.
 pub struct Beside<C, R> {
     done: Option<Done<C, R>>,
     _room: [u64; 16],
@@ -39,7 +41,7 @@ impl<C, R> Drop for Beside<C, R> {
 }
 
 impl<C, R> Beside<C, R> {
-    // No call was served yet.
+    // Returns the state before any call was served.
     pub(crate) fn none() -> Beside<C, R>
         ensures { result ≡ None }
     {
@@ -49,7 +51,7 @@ impl<C, R> Beside<C, R> {
         }
     }
 
-    // This call was served.
+    // Records that this call was served.
     pub(crate) fn tell(&mut self, done: Done<C, R>)
         ensures { self.new ≡ Some done }
     {
@@ -57,8 +59,11 @@ impl<C, R> Beside<C, R> {
     }
 }
 
-/// The object, beside the call that was served last. So the step that ends a turn can tell which turn it was.
+/// The object, together with the call that was served last. It lets the step that ends a turn know
+/// which turn ends.
 pub struct Place<O, C, R> {
+    /// The object.
     pub object: O,
+    /// The call that was served last, if there was one.
     pub last: Beside<C, R>,
 }

@@ -7,7 +7,7 @@ use crate::object::Object;
 use std::marker::Model;
 use std::snapshot::Snapshot;
 
-/// What is fixed when a gate is opened: the object, for proofs, and the first ticket.
+/// What is fixed when a gate is opened: the object, for proofs only, and the first ticket.
 pub(crate) struct Key<O> {
     pub(crate) opening: Snapshot<O>,
     pub(crate) first: u64,
@@ -22,8 +22,8 @@ impl<O> Drop for Key<O> {
     }
 }
 
-/// The right to take turns at one gate, and what its holder knows of the history there. It is used only with the gate
-/// that gave it. A seat may go to another thread.
+/// The right of one thread to take turns at one gate, and what that thread knows of the history
+/// there. It works only with the gate that it came from. It may move to another thread.
 pub struct Seat<O: Object> {
     pub(crate) token: HallToken<O>,
     pub(crate) key: Snapshot<Key<O>>,

@@ -1,4 +1,4 @@
-//! The parts of a call at a place, each of which makes some steps on the table.
+//! The parts of a call at a place. Each makes some steps on the table.
 ghost use Rattle.std.specs.Prelude.{◌≡◌, ◌≢◌, ℕ, ◌^◌, ◌<◌, ◌≤◌, true, [], ◌∷◌, length, Option, Some, IfSome, IfNone};
 ghost use Rattle.sysv_gate.specs.declared.place.Done.{Done as Served};
 ghost use Rattle.sysv_gate.specs.declared.place.Place.{Place as Filled};
@@ -21,10 +21,10 @@ use std::hint;
 use std::snapshot::Snapshot;
 use std::sync::Wait;
 
-/// How many times a waiter looks whether its ticket is served before it sleeps.
+/// The number of looks for the seat's ticket before the thread sleeps.
 pub(crate) const LOOKS: u64 = 16_384;
 
-// What came of a try to enter.
+// The result of a try to enter.
 pub(crate) enum Entry {
     Turn,
     Busy,
@@ -38,7 +38,7 @@ pub(crate) struct Rose {
     pub(crate) freed: bool,
 }
 
-// Makes the call, and leaves beside the object the call that it served.
+// Makes the call, and records beside the object which call was served.
 pub(crate) fn apply<O: Object>(
     place: &mut Place<O, O::Call, O::Reply>,
     call: O::Call,
@@ -63,7 +63,7 @@ pub(crate) fn apply<O: Object>(
     (reply, rose)
 }
 
-// Makes the call at the object that is in the slot.
+// Makes the call at the object in the slot.
 pub(crate) fn apply_in<O: Object>(spot: &mut Spot<O>, call: O::Call) -> (O::Reply, Rose)
     requires full { (object : O) × (last : Option (Served O.Call O.Reply))
         × (spot.old ≡ put object last) × AreBelow (2 ^ 63) (O.counted object)
@@ -77,7 +77,7 @@ pub(crate) fn apply_in<O: Object>(spot: &mut Spot<O>, call: O::Call) -> (O::Repl
 }
 
 impl<O: Object> Door<O> {
-    // Draws a ticket. `None` comes where the tickets have reached 2^62.
+    // Draws a ticket. Returns `None` only if the tickets have reached 2^62.
     pub(crate) fn draw(
         &self,
         rt: &impl Wait,
@@ -107,7 +107,7 @@ impl<O: Object> Door<O> {
         unreachable!()
     }
 
-    // Draws the ticket that is served, where no other pass holds it, and so begins the turn.
+    // Draws the ticket that is served, if no other pass holds it, and so begins the turn.
     pub(crate) fn enter(&self, hall: &Hall<O>, token: &mut HallToken<O>) -> Entry
         requires door { IsDoorOf hall.now.shared.table_id hall.now.shared.key.openings.value.items
             self.now }
@@ -159,7 +159,8 @@ impl<O: Object> Door<O> {
         unreachable!()
     }
 
-    // Sleeps until the ticket may be served, where it is not served yet, and answers the one that was.
+    // Sleeps until the ticket may be served, unless it is served already. Returns the ticket that
+    // it found served.
     fn doze_until(
         &self,
         rt: &impl Wait,
@@ -188,7 +189,7 @@ impl<O: Object> Door<O> {
         served
     }
 
-    // Looks some times whether the ticket is served, and answers the one that is.
+    // Looks a number of times whether the ticket is served, and returns the ticket that is.
     fn spin(&self, hall: &Hall<O>, token: &mut HallToken<O>, ticket: u64) -> u64
         requires door { IsDoorOf hall.now.shared.table_id hall.now.shared.key.openings.value.items
             self.now }
@@ -212,8 +213,8 @@ impl<O: Object> Door<O> {
         served
     }
 
-    // Makes the turn: takes the object out of the slot, calls it, announces its counts, gives it home, and enters the
-    // turn into the history.
+    // Makes the turn: calls the object in its slot, announces its counts, and enters the turn into
+    // the history.
     pub(crate) fn serve(
         &self,
         hall: &Hall<O>,
@@ -246,8 +247,8 @@ impl<O: Object> Door<O> {
         (reply, rose)
     }
 
-    // Wakes the thread that has the next ticket, and those who wait for what rose: one of those whose waits for the first
-    // count are bounded, and all others.
+    // Wakes the thread with the next ticket, and the threads that wait for a count that rose: one
+    // of those whose waits for the first count are bounded, and all others.
     pub(crate) fn wake_after(&self, ticket: u64, rose: Rose)
         requires { ticket < 2 ^ 62 }
     {
@@ -261,14 +262,14 @@ impl<O: Object> Door<O> {
         }
     }
 
-    // Tells those who wait for a count, where this was the last ticket.
+    // Wakes the threads that wait for a count if this was the last ticket.
     pub(crate) fn tell_worn(&self, ticket: u64) {
         if ticket >= LIMIT - 1 {
             self.ring();
         }
     }
 
-    // Wakes those who wait for a count.
+    // Wakes the threads that wait for a count.
     pub(crate) fn ring(&self) {
         self.arrived.ring();
         self.next_arrived.ring();

@@ -14,11 +14,12 @@ use crate::words::LIMIT;
 use std::hint;
 use std::sync::Wait;
 
-/// How many times a waiter looks at a count before it sleeps.
+/// The number of looks at a count before the thread sleeps.
 pub(crate) const LOOKS: u64 = 256;
 
 impl<O: Object> Door<O> {
-    // Reads the count some times, until it is at least the goal, and answers what it read last.
+    // Reads the count a number of times, until it is at least the goal. Returns the value that it
+    // read last.
     fn count_to(&self, hall: &Hall<O>, token: &mut HallToken<O>, count: Count, goal: u64) -> u64
         requires door { IsDoorOf hall.now.shared.table_id hall.now.shared.key.openings.value.items
             self.now }
@@ -39,7 +40,7 @@ impl<O: Object> Door<O> {
         value
     }
 
-    // Whether the tickets have reached 2^62.
+    // Returns whether the tickets have reached 2^62.
     fn is_worn(&self, hall: &Hall<O>, token: &mut HallToken<O>) -> bool
         requires door { IsDoorOf hall.now.shared.table_id hall.now.shared.key.openings.value.items
             self.now }
@@ -54,7 +55,7 @@ impl<O: Object> Door<O> {
         self.weigh(hall, token) >= LIMIT
     }
 
-    // Looks whether the wait is over. If it is not, the count is below the goal.
+    // Looks whether the wait is over. Returns `None` only if the count is below the goal.
     fn judge(
         &self,
         hall: &Hall<O>,
@@ -83,6 +84,7 @@ impl<O: Object> Door<O> {
         None
     }
 
+    // Returns the bell of this kind of sleep for this count.
     fn bell(&self, count: Count, sleep: Sleep) -> &Bell {
         match (count, sleep) {
             (Count::Arrived, Sleep::UntilRung) => &self.arrived,
@@ -91,7 +93,7 @@ impl<O: Object> Door<O> {
         }
     }
 
-    // Sleeps until the count may have risen, where the wait is not over.
+    // Sleeps until the count may have risen, unless the wait is over already.
     fn doze(
         &self,
         rt: &impl Wait,
@@ -122,7 +124,11 @@ impl<O: Object> Door<O> {
         found
     }
 
-    /// Waits until the count is at least `goal`, as `Gate::await_arrived`.
+    /// Waits until the count is at least `goal`, like `Gate::await_arrived`.
+    ///
+    /// # Conditions
+    ///
+    /// - The door belongs to the table, and so does the pass, which is at rest at the place.
     pub fn await_count(
         &self,
         rt: &impl Wait,
@@ -152,6 +158,11 @@ impl<O: Object> Door<O> {
     }
 
     /// Waits until the count is at least `goal`, but sleeps only once, and for a second at most.
+    /// Returns `None` only if the count that was read last is below `goal`.
+    ///
+    /// # Conditions
+    ///
+    /// - The door belongs to the table, and so does the pass, which is at rest at the place.
     pub fn await_within(
         &self,
         rt: &impl Wait,

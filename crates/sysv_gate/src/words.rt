@@ -1,25 +1,27 @@
 //! The words of a place.
 ghost use Rattle.std.specs.Prelude.{◌≡◌, length, slice_index};
 
-/// From here on no ticket is drawn.
+/// No ticket is drawn once the next one has reached this value.
 pub(crate) const LIMIT: u64 = 1 << 62;
 
-/// The word of a place with the ticket that is served. Each word lies 128 bytes from the next, and the first as far from
-/// what lies before them all, which may be the object of another gate.
+/// The word of a place with the ticket that is served. The words in use are 128 bytes apart. The
+/// first is as far from the memory before the block, which may be the object of another gate.
 pub(crate) const SERVING: usize = 16;
 
 /// The word with the ticket that is drawn next.
 pub(crate) const TICKET: usize = 32;
 
-/// The words where the two counts are announced.
+/// The word where the first count is announced.
 pub(crate) const ARRIVED: usize = 48;
 
+/// The word where the second count is announced.
 pub(crate) const FREED: usize = 64;
 
-/// The words of a place, so many that no other memory lies near the last of these.
+/// The number of words of a place. It is large enough that no other memory is near the last word in
+/// use.
 const WORDS: usize = 80;
 
-// The words of a place whose tickets begin at the first one.
+// Returns the words of a place whose tickets begin at `first`.
 pub(crate) fn words_at(first: u64, counts: (u64, u64)) -> [u64; WORDS]
     ensures tickets { (length result ≡ 80) × (slice_index result 16 ≡ first)
         × (slice_index result 32 ≡ first) }

@@ -1,4 +1,4 @@
--- What a gate answered is a turn of the object.
+-- Proves that a reply of a gate is a turn of the object.
 use Rattle.std.proofs.Common.{◌≡◌, ℕ, List, [], ◌∷◌, ◌++◌, false, Result, Ok, Err, IfOk, refl, sym, subst}
 use Rattle.sysv_model.specs.Turn.{AtSlot, AtRegistry, AtPool}
 use Rattle.sysv_crew.specs.Members.{MakesTurn}
@@ -22,13 +22,14 @@ use Rattle.sysv_turns.specs.declared.object.ObjectReply.TheVariants as told
 use Rattle.sysv_turns.specs.Turns.{Takes}
 use Rattle.sysv_gated.specs.Seats.{Seats, MakesTurnAt}
 
--- the last turn of a legal history is what the object's meaning allows after the turns before it
+-- The last turn of a legal history is allowed by the meaning of the object after the turns before
+-- it.
 pub last_legal : {O C R : Type 0} (moves : O → C → R → O → Type 0) (opening : O) (ts : List (Turn O C R)) (t : Turn O C R) → IsLegal moves opening (ts ++ t ∷ []) → moves (after_all opening ts) t.call t.reply t.after
 last_legal moves opening [] t legal = legal.0
 last_legal moves opening (x ∷ ts) t legal = last_legal moves x.after ts t legal.1
 
 module _ {O C R : Type 0} (meaning : O → C → R → O → Type 0) (counted : O → ℕ × ℕ) (before : Holding O C R) (call : C) (reply : R) (after : Holding O C R) (a : Answers (Moves meaning counted) counted before call reply after) where
-  -- the object just before the turn
+  -- The object just before the turn.
   abbrev pub object_before : O
   object_before = after_all before.gate.opening (before.seen ++ a.others)
 
@@ -43,7 +44,7 @@ pub if_ok : {T E : Type 0} (r : Result T E) (P Q : T → Type 0) → IfOk r P �
 if_ok (Ok x) P Q is goes = goes x is
 if_ok (Err e) P Q is goes = tt
 
--- ---- with the object just before the turn, as it is seen otherwise
+-- ---- with the object just before the turn seen in another way
 
 pub slot_answers : (before : Seats) (call : SlotCall) (reply : SlotReply) (after : Seats) (slot : Slot) →
     ChangesAt (slot_asked call) before.slots after.slots

@@ -1,4 +1,4 @@
--- What a call at a place of the bank tells of the object that was called.
+-- What a call at a place of the bank shows of the object that was called.
 use Rattle.std.proofs.Common.{◌≡◌, ◌+◌, ◌++◌, false, List, map, refl, sym, ap, subst, ◌∙◌}
 use Rattle.std.proofs.lemmas.List.{map-append}
 use Rattle.sysv_model.specs.Turn.{OfSlot, OfRegistry, OfPool, AtSlot, AtRegistry, AtPool}
@@ -36,7 +36,7 @@ use Rattle.sysv_gated.proofs.Placing.{Mark, changes_slot, changes_registry, chan
 use Rattle.sysv_gated.proofs.OrderedTurns.{object_was, slot_made, registry_made, pool_made}
 use Rattle.sysv_gated.proofs.Answering.{object_before, turn_meant, slot_answers, registry_answers, pool_answers}
 
--- what the bank answers
+-- What the bank promises of the call.
 abbrev pub Called : ObjectCall → ObjectReply → Mark → Mark → Type 0
 Called call reply b a = Answers (Moves GatedMoves gated_counts) gated_counts b call reply a × (b.worn ≡ false)
 
@@ -106,7 +106,7 @@ pool_worn bank before after call kinds one two goes c =
 
 -- ---- any object
 
--- what was told is of the kind of what was asked
+-- The reply is of the kind of the call.
 pub called : (bank : List (Gateway Gated)) (before after : GatedPass) (call : ObjectCall) (reply : ObjectReply) → AreByKind (gates_of before.seats) → gates_of before.seats ≡ bank → gates_of after.seats ≡ bank →
     AddsToOrder (place_of call) before after → ChangesAt (place_of call) before.seats after.seats (Called call reply) → Takes MakesTurnAt (seats_seen before) call reply (seats_seen after)
 called bank before after (asked.Slot call) (told.Slot reply) kinds one two adds c = slot_called bank before after call reply kinds one two adds c

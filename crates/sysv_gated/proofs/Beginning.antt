@@ -100,7 +100,7 @@ opened_each : (gs : List (Gateway Gated)) → map (seat_as as_slot) (map opened 
 opened_each [] = refl
 opened_each (g ∷ gs) = ap (λ l. opened (gate_as as_slot g) ∷ l) (opened_each gs)
 
--- what the openings tell
+-- The first objects determine the kinds.
 kinds_of : (generation blocks : ℕ) (gs : List (Gateway Gated)) → AreFresh generation blocks (map (λ (g : Gateway Gated). g.opening) gs) → AreByKind gs
 kinds_of generation blocks [] fresh = absurd fresh
 kinds_of generation blocks (r ∷ []) fresh = absurd fresh

@@ -1,8 +1,8 @@
--- As many slots come back as there are gates.
+-- A closed bank returns as many slots as there are gates.
 use Rattle.std.proofs.Common.{◌≡◌, suc, List, [], ◌∷◌, length, refl, ap}
 use Rattle.sysv_bank.specs.Banks.{Each2}
 
--- two lists of which each has one for each of the other's have one length
+-- Two lists with a fact of each pair of elements have the same length.
 pub as_long : {A B : Type 0} (fact : A → B → Type 0) (xs : List A) (ys : List B) → Each2 fact xs ys → length xs ≡ length ys
 as_long fact [] [] e = refl
 as_long fact [] (y ∷ ys) e = absurd e

@@ -1,4 +1,4 @@
--- What splits, joins and the end of a bank tell of the registry, of the pool and of the slots.
+-- What splits, joins and the end of a bank show of the registry, of the pool and of the slots.
 use Rattle.std.proofs.Common.{◌≡◌, suc, List, [], ◌∷◌, ◌++◌, map, length, IfSome, refl, sym, ap, subst, ◌∙◌, arith}
 use Rattle.std.proofs.lemmas.List.{length-append}
 use Rattle.atomic_table.proofs.Lists.{at_map}
@@ -116,7 +116,7 @@ are_joined bank one other after kinds first second third e how =
 
 -- ---- the end
 
--- what is given back of a slot, where it is one
+-- What is returned of a slot, if it is one.
 abbrev pub GivenBack : Closing Gated → Closing Slot → Type 0
 GivenBack c c' = IfSome c.object IsSlot → IsClosingAs as_slot c c'
 
@@ -150,7 +150,7 @@ all_close (x ∷ y ∷ ss) m order ended lawful closed parts cs done r p kinds e
       parts = parts;
     }
 
--- two are left at the end
+-- Two elements are left at the end.
 pub two_left : {A : Type 0} (cs l m e done : List A) (r p : A) → cs ≡ l ++ done → l ≡ m ++ p ∷ [] → m ≡ e ++ r ∷ [] → length l ≡ 2 → cs ≡ r ∷ p ∷ done
 two_left cs l m [] done r p is last first two = is ∙ ap (λ xs. xs ++ done) (last ∙ ap (λ xs. xs ++ p ∷ []) first)
 two_left cs l m (x ∷ xs) done r p is last first two =

@@ -48,7 +48,7 @@ pool_on h pool (t ∷ ts) st legal =
     subst (λ x. PoolStandsFor x (after_all t.after ts)) (append_assoc h (pool_entry pool t ∷ []) (entries pool_entry t.after ts))
     (pool_on (h ++ pool_entry pool t ∷ []) t.after ts (legal.0.0.turn.stands h (Seat t.by) st) legal.1)
 
--- the pool stays of one size
+-- The pool keeps its size.
 pub pool_sized : (pool : State) (ts : List (Turn State PoolCall PoolReply)) → IsLegal (Moves PoolMoves pool_counts) pool ts → (after_all pool ts).size ≡ pool.size
 pool_sized pool [] legal = refl
 pool_sized pool (t ∷ ts) legal = pool_sized t.after ts legal.1 ∙ legal.0.0.size

@@ -1,4 +1,4 @@
--- The objects of a bank stay of their kinds.
+-- Proves that the objects of a bank stay of their kinds.
 use Rattle.std.proofs.Common.{◌≡◌, ℕ, refl, subst}
 use Rattle.sysv_gate.specs.History.{Moves, RiseByOneAtMost}
 use Rattle.sysv_gated.specs.declared.kinds.Gated.{Gated}
@@ -16,7 +16,7 @@ use Rattle.sysv_gated.specs.Counts.{pool_counts}
 use Rattle.sysv_gated.specs.Gated.{IsSlot, IsRegistry, IsPool, slot_in, slot_call_in, slot_reply_in, registry_in, registry_call_in, registry_reply_in, pool_in, pool_call_in, pool_reply_in, as_slot, as_registry, as_pool, GatedMoves, gated_counts}
 use Rattle.sysv_gated.proofs.Seeing.{Keeps}
 
--- an object is of one kind
+-- An object is of one kind only.
 slot_no_registry : (o : Gated) → IsSlot o → IsRegistry o → ⊥
 slot_no_registry (gated.Slot x) s r = r
 slot_no_registry (gated.Registry x) s r = s
@@ -32,7 +32,7 @@ registry_no_pool (gated.Slot x) r p = r
 registry_no_pool (gated.Registry x) r p = p
 registry_no_pool (gated.Pool x) r p = r
 
--- a turn at an object of a kind is one of the kind
+-- A turn at an object of a kind is one of that kind.
 slot_goes : (o : Gated) (c : ObjectCall) (r : ObjectReply) (o' : Gated) → IsSlot o → GatedMoves o c r o' → SlotMoves (slot_in o) (slot_call_in c) (slot_reply_in r) (slot_in o') × IsSlot o'
 slot_goes o (asked.Slot c) (told.Slot r) o' is m = (m.2, m.1)
 slot_goes o (asked.Slot c) (told.Registry r) o' is m = absurd m
@@ -66,7 +66,7 @@ pool_goes o (asked.Pool c) (told.Slot r) o' is m = absurd m
 pool_goes o (asked.Pool c) (told.Registry r) o' is m = absurd m
 pool_goes o (asked.Pool c) (told.Pool r) o' is m = (m.2, m.1)
 
--- their counts are those of the kind
+-- The counts of an object are those of its kind.
 slot_counted : (o : Gated) → IsSlot o → gated_counts o ≡ slot_counts (slot_in o)
 slot_counted (gated.Slot x) is = refl
 slot_counted (gated.Registry x) is = absurd is

@@ -1,4 +1,4 @@
--- What each seat has seen obeys the law of its object.
+-- Proves that what each seat has seen obeys the law of its object.
 use Rattle.std.proofs.Common.{◌≡◌, ℕ, zero, suc, List, [], ◌∷◌, map, sym, ap, subst, arith}
 use Rattle.std.specs.List.{All}
 use mathlib.Core.Option.{some, some-injective, some-ne-none}
@@ -11,7 +11,7 @@ use Rattle.sysv_gate.specs.Gates.{Gateway}
 use Rattle.sysv_gated.specs.Seats.{SlotSeat, Seats}
 use Rattle.sysv_gated.specs.SeenHistories.{SeenHistoriesObey, EachKnowsItsOwn, ObeysIfOpen}
 
--- a fact of all that a list is taken to holds of what each element is taken to
+-- A fact of all elements of a mapped list holds of the image of each element.
 all_there : {A B : Type 0} (P : B → Type 0) (f : A → B) (xs : List A) (i : ℕ) (x : A) → All P (map f xs) → get_elem? xs i ≡ some x → P (f x)
 all_there P f [] i x all at = absurd (some-ne-none x (sym at))
 all_there P f (y ∷ ys) zero x all at = subst (λ z. P (f z)) (some-injective y x at) (all 0 (f y) (omega arith))

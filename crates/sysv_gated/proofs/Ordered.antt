@@ -1,4 +1,4 @@
--- What a bank says of its passes, in turns of the world.
+-- What a bank promises of its passes, in turns of the world.
 use Rattle.std.proofs.Common.{◌≡◌, ◌≢◌, ℕ, zero, suc, ◌≤◌, ◌==◌, false, cond, List, [], ◌∷◌, ◌++◌, length, refl, sym, ap, subst, ◌∙◌, arith, append_assoc}
 use Rattle.std.proofs.lemmas.Bool.Decides.{nat_tests}
 use Rattle.std.proofs.lemmas.List.{append-nil, length-map}
@@ -38,7 +38,7 @@ IsOther numbers t = times t.by numbers ≡ 0
 abbrev IsOwn : List ℕ → Numbered → Type 0
 IsOwn numbers t = 1 ≤ times t.by numbers
 
--- of the turns of others none was made under a number of one's own
+-- No turn of others was made under a number of one's own.
 under_none : (x : ℕ) (numbers : List ℕ) (ts : List Numbered) → AreOfOthers numbers ts → 1 ≤ times x numbers → under x ts ≡ []
 under_none x numbers [] others has = refl
 under_none x numbers (t ∷ ts) others has =
@@ -84,7 +84,7 @@ module _ (gates : List (Gateway Gated)) where
   abbrev longer_of : (xs ys : List GatedPlaced) → IsPrefixOf xs ys → IsPrefixOf (deeds_of gates xs) (deeds_of gates ys)
   longer_of xs ys longer = (deeds_after gates xs longer.0, ap (deeds_of gates) longer.1 ∙ deeds_of-append xs longer.0)
 
-  -- an order that goes on without a turn under one of the numbers has no more turns under it
+  -- An order that goes on without a turn under one of the numbers has no more turns under it.
   under_of : (numbers : List ℕ) (xs ys : List GatedPlaced) → GoesOnWithout numbers xs ys → (x : ℕ) → 1 ≤ times x numbers → under x (deeds_of gates ys) ≡ under x (deeds_of gates xs)
   under_of numbers xs ys goes x has =
       let more : List Numbered = deeds_after gates xs goes.0.0 in

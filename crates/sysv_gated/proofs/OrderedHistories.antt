@@ -1,4 +1,5 @@
--- The histories of the objects in an order's turns, as the world has them, and that their replies are legal.
+-- The histories of the objects in the turns of an order, as the world has them, and proofs that
+-- their replies are legal.
 use Rattle.std.proofs.Common.{◌≡◌, ◌≢◌, ℕ, zero, suc, ◌==◌, true, false, cond, List, [], ◌∷◌, ◌++◌, map, length, refl, sym, ap, subst, ◌∙◌, arith, lt_of_not-le}
 use Rattle.std.proofs.lemmas.Bool.Decides.{nat_tests}
 use Rattle.std.proofs.lemmas.List.{append-nil}
@@ -92,7 +93,7 @@ module _ (gates : List (Gateway Gated)) where
   -- ---- the history of the object at a place
 
   module _ {O C R E : Type 0} (place : ℕ) (kind : Kind Gated ObjectCall ObjectReply O C R) (entry : O → Turn O C R → E) (in_world : WorldTurn → List E) where
-    -- what the turn adds to the history
+    -- What the turn adds to the history.
     abbrev Adds : Type 0
     Adds = (at : ℕ) (before : Gated) (t : GatedTurn) →
         in_world (turn_of (record { by = t.by; deed = deed_at at before t })) ≡ cond (at == place) (entry (kind.object before) (turn_as kind t) ∷ []) []
@@ -151,7 +152,7 @@ module _ (gates : List (Gateway Gated)) where
 
 -- ---- legal turns
 
--- the slots were vacant
+-- The slots were vacant.
 vacant_at : (ss : List (Gateway Gated)) (k : ℕ) (g : Gateway Gated) → All (SlotStandsFor []) (map (λ (g : Gateway Slot). g.opening) (map (gate_as as_slot) ss)) → AreSlots ss → get_elem? ss k ≡ some g
     → (opening_at ss k ≡ g.opening) × IsSlot g.opening × SlotStandsFor [] (slot_in g.opening)
 vacant_at [] k g vacant slots at = absurd (some-ne-none g (sym at))

@@ -1,4 +1,4 @@
--- The turn that a pass adds to the order is the one that the object at the place has answered.
+-- Proves that the turn that a pass adds to the order is the one that the object at the place made.
 use Rattle.std.proofs.Common.{◌≡◌, ℕ, zero, suc, ◌+◌, List, [], ◌∷◌, ◌++◌, sym, ap, subst, ◌∙◌, arith}
 use Rattle.std.proofs.lemmas.List.{same_from_push}
 use mathlib.Core.Option.{some, some-injective, some-ne-none}
@@ -54,7 +54,7 @@ answered place before after call reply adds c =
 two_more : (n : ℕ) → n + 2 ≡ suc (suc n)
 two_more n = omega arith
 
--- ---- a turn at each object, as the calls say it
+-- ---- a turn at each object, as the calls state it
 
 abbrev pub object_was : (place : ℕ) (before : GatedPass) (call : ObjectCall) (reply : ObjectReply) (after : GatedPass) → AnswersAt place before call reply after → Gated
 object_was place before call reply after c = after_all c.was.gate.opening (c.was.seen ++ c.change.0.others)

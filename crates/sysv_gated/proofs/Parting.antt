@@ -1,4 +1,5 @@
--- Each gate of a closed bank gives back what is there after the order's part at its object.
+-- Proves that each gate of a closed bank returns what is there after the order's part at its
+-- object.
 use Rattle.std.proofs.Common.{◌≡◌, ℕ, zero, suc, List, [], ◌∷◌, map, IfSome, refl, sym, ap, subst, ◌∙◌}
 use mathlib.Core.Option.{some, some-injective, some-ne-none}
 use lib.ListN.{get_elem?}

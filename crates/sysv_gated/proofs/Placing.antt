@@ -1,4 +1,4 @@
--- What the places of a bank tell of the registry, of the pool and of the slots.
+-- What the places of a bank show of the registry, of the pool and of the slots.
 use Rattle.std.proofs.Common.{◌≡◌, ℕ, zero, suc, ◌+◌, List, [], ◌∷◌, map, set, refl, sym, ap, subst, ◌∙◌, arith}
 use mathlib.Core.Option.{some, some-injective, some-ne-none}
 use lib.ListN.{get_elem?}
@@ -41,7 +41,7 @@ use Rattle.sysv_gated.proofs.Keeping.{keeps_slot, keeps_registry, keeps_pool}
 abbrev pub Mark : Type 0
 Mark = Holding Gated ObjectCall ObjectReply
 
--- ---- what is seen tells which gates there are
+-- ---- what is seen determines the gates
 
 slot_back : (a b : Gated) → IsSlot a → IsSlot b → slot_in a ≡ slot_in b → a ≡ b
 slot_back (gated.Slot x) (gated.Slot y) s t e = ap (λ z. gated.Slot z) e
@@ -112,12 +112,12 @@ same_gates a b s r p =
     let at : (slots : List (Gateway Slot)) (registry : Gateway Registry) (pool : Gateway State) → Gates = λ slots registry pool. record { slots = slots; registry = registry; pool = pool } in
     ap (λ x. at x a.registry a.pool) s ∙ (ap (λ x. at b.slots x a.pool) r ∙ ap (λ x. at b.slots b.registry x) p)
 
--- seats that are seen as of the gates are of the bank, and the other way round
+-- Seats that are seen as belonging to the gates belong to the bank, and the other way round.
 pub are_of : (bank : List (Gateway Gated)) (pass : GatedPass) (gates : Gates) (seen : Seats) → gates_seen bank ≡ gates → seats_seen pass ≡ seen → gates_of pass.seats ≡ bank → AreOf gates seen
 are_of bank pass gates seen viewed shown fit =
     subst (λ g. AreOf g seen) viewed (subst (λ s. AreOf (gates_seen bank) s) shown (subst (λ b. AreOf (gates_seen b) (seats_seen pass)) fit (of_its_own pass.seats (member_of (gates_of pass.seats) pass))))
 
--- what the seats are of is what is seen of their gates
+-- The gates of the seats, as they are seen.
 pub gates_known : (pass : GatedPass) (gates : Gates) → AreOf gates (seats_seen pass) → gates_seen (gates_of pass.seats) ≡ gates
 gates_known pass gates fit =
     let mine = of_its_own pass.seats (member_of (gates_of pass.seats) pass) in
@@ -128,7 +128,7 @@ of_bank bank pass gates seen kinds own viewed shown fit =
     let theirs : AreOf (gates_seen bank) (seats_seen pass) = subst (λ g. AreOf g (seats_seen pass)) (sym viewed) (subst (λ s. AreOf gates s) (sym shown) fit) in
     gates_back (gates_of pass.seats) bank own kinds (gates_known pass (gates_seen bank) theirs)
 
--- the order that was seen goes on
+-- The order that was seen has grown.
 pub sees_more : (bank : List (Gateway Gated)) (before after : GatedPass) → gates_of before.seats ≡ bank → gates_of after.seats ≡ bank → GoesOn before after → SeesMore (seats_seen before).member (seats_seen after).member
 sees_more bank before after one two goes =
     subst (λ gs. SeesMore (member_of (gates_of before.seats) before) (member_of gs after)) (one ∙ sym two) (sees (gates_of before.seats) before after goes)
@@ -167,7 +167,7 @@ accepts_registry gs call kinds gate at log legal = is_after as_registry IsRegist
 accepts_pool : (gs : List (Gateway Gated)) (call : PoolCall) → AreByKind gs → AcceptsAt (Moves GatedMoves gated_counts) Accepts 1 gs (asked.Pool call)
 accepts_pool gs call kinds gate at log legal = is_after as_pool IsPool (Moves GatedMoves gated_counts) gated_counts (Moves PoolMoves pool_counts) pool_counts keeps_pool gate.opening log (pool_there gs gate kinds at) legal
 
--- each object is asked what its kind is asked
+-- Each object accepts the calls of its kind.
 pub accepts_call : (gs : List (Gateway Gated)) (call : ObjectCall) → AreByKind gs → AcceptsAt (Moves GatedMoves gated_counts) Accepts (place_of call) gs call
 accepts_call gs (asked.Slot call) = accepts_slot gs (slot_asked call) call
 accepts_call gs (asked.Registry call) = accepts_registry gs call

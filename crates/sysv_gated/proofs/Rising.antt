@@ -1,4 +1,5 @@
--- A turn raises the counts of its object by one at most, and the object then stands for some history.
+-- Proves that a turn raises the counts of its object by at most one, and that the object then
+-- stands for some history.
 use Rattle.std.proofs.Common.{◌≡◌, ◌+◌, ◌≤◌, Bool, true, false, cond, [], ◌∷◌, ◌++◌, ap, arith}
 use Rattle.std.proofs.lemmas.List.Sums.{sum_by-append}
 use Rattle.sysv_model.specs.History.{Actor, Call, Reply, Entry, announces_arrival, announces_room, arrived, freed, then_turn}

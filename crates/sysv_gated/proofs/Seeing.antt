@@ -1,4 +1,4 @@
--- What is so of a gate whose objects stay of one kind is so of it as one of that kind.
+-- What holds of a gate whose objects stay of one kind also holds of it as a gate of that kind.
 use Rattle.std.proofs.Common.{◌≡◌, ℕ, zero, suc, ◌+◌, ◌≤◌, Option, Some, None, IfSome, IfNone, List, [], ◌∷◌, ◌++◌, map, length, sum_by, ap, sym, subst, refl, ◌∙◌}
 use Rattle.std.specs.Prelude.{option_map}
 use Rattle.std.proofs.lemmas.List.{map-append, length-map}
@@ -26,13 +26,13 @@ sum_as : {A B : Type 0} (f : A → B) (g : B → ℕ) (xs : List A) → sum_by g
 sum_as f g [] = refl
 sum_as f g (x ∷ xs) = sum_by-cons g (f x) (map f xs) ∙ ap (λ n. g (f x) + n) (sum_as f g xs) ∙ sym (sum_by-cons (λ y. g (f y)) x xs)
 
--- an element of the list that another is taken to
+-- An element of the list that was mapped.
 pub back_as : {A B : Type 0} (f : A → B) (xs : List A) (i : ℕ) (b : B) → get_elem? (map f xs) i ≡ some b → (a : A) × (get_elem? xs i ≡ some a) × (b ≡ f a)
 back_as f [] i b at = absurd (some-ne-none b (sym at))
 back_as f (x ∷ xs) zero b at = (x, refl, sym (some-injective (f x) b at))
 back_as f (x ∷ xs) (suc i) b at = back_as f xs i b at
 
--- an object comes from one of all kinds
+-- The object that was mapped.
 from_some : {A B : Type 0} (f : A → B) (o : Option A) (b : B) → option_map f o ≡ Some b → (a : A) × (o ≡ Some a) × (b ≡ f a)
 from_some f (Some a) b is = (a, refl, ap (λ x. elim x [ Some y ↦ y | None ↦ b ]) (sym is))
 from_some f None b is = cc
@@ -71,7 +71,7 @@ module _ {O C R O' C' R' : Type 0} (kind : Kind O C R O' C' R') where
   pub split_as : (h other : Holding O C R) → IsSplit h other → IsSplit (seat_as kind h) (seat_as kind other)
   split_as h other split = (split.0, ap (seat_as kind) split.1, own_as other.numbers other.own other.seen split.2)
 
-  -- a turn of the seat's own after others
+  -- A turn of the seat's own, after turns of others.
   pub made_as : (h : Holding O C R) (others : List (Turn O C R)) (call : C) (reply : R) (after : O) →
       seat_as kind (made call reply after (saw others h)) ≡ made (kind.call call) (kind.reply reply) (kind.object after) (saw (map (turn_as kind) others) (seat_as kind h))
   made_as h others call reply after =
@@ -85,7 +85,8 @@ module _ {O C R O' C' R' : Type 0} (kind : Kind O C R O' C' R') where
 
 -- ---- legal turns
 
--- objects of the kind stay so in legal turns, which are legal as turns of the kind, and have the counts of their kind
+-- Objects of the kind stay so in legal turns. These turns are legal as turns of the kind, and the
+-- objects have the counts of their kind.
 pub record Keeps {O C R O' C' R' : Type 0} (kind : Kind O C R O' C' R') (Is : O → Type 0) (moves : O → C → R → O → Type 0) (counted : O → ℕ × ℕ) (moves' : O' → C' → R' → O' → Type 0) (counted' : O' → ℕ × ℕ) : Type 0 where
   pub goes : (o : O) (call : C) (reply : R) (after : O) → Is o → moves o call reply after → moves' (kind.object o) (kind.call call) (kind.reply reply) (kind.object after) × Is after
   pub counts : (o : O) → Is o → counted o ≡ counted' (kind.object o)
@@ -103,7 +104,7 @@ module _ {O C R O' C' R' : Type 0} (kind : Kind O C R O' C' R') (Is : O → Type
   legal_front o [] ys legal = tt
   legal_front o (x ∷ xs) ys legal = (legal.0, legal_front x.after xs ys legal.1)
 
-  -- the counts after legal turns
+  -- The counts after legal turns.
   pub counted_as : (o : O) (log : List (Turn O C R)) → Is o → IsLegal moves o log → counted (after_all o log) ≡ counted' (after_all (kind.object o) (map (turn_as kind) log))
   counted_as o log is legal = keeps.counts (after_all o log) (is_after o log is legal) ∙ ap counted' (after_as kind o log)
 
@@ -131,7 +132,7 @@ module _ {O C R O' C' R' : Type 0} (kind : Kind O C R O' C' R') (Is : O → Type
         counts = λ count. subst (λ k. of_count count before.read ≤ of_count count k) counts (a.counts count);
       }
 
-  -- with the turns of others that came before
+  -- The same with the earlier turns of others.
   pub others_as : (before : Holding O C R) (call : C) (reply : R) (after : Holding O C R) (is : Is before.gate.opening) (a : Answers moves counted before call reply after) →
       (answers_as before call reply after is a).others ≡ map (turn_as kind) a.others
   unfolding answers_as
@@ -239,7 +240,7 @@ module _ {O C R O' C' R' : Type 0} (kind : Kind O C R O' C' R') (Is : O → Type
         (ap (map (turn_as kind)) a.0, same.object ∙ ap (option_map kind.object) a.1 ∙ ap (λ o. Some o) (after_as kind seat.gate.opening seat.seen));
   }
 
-  -- with the turns as those of the kind
+  -- The same with the turns as those of the kind.
   pub log_as : (seat : Holding O C R) (c : Closing O) (c' : Closing O') (is : Is seat.gate.opening) (same : IsClosingAs kind c c') (k : Closes moves seat c) →
       (closes_as seat c c' is same k).log ≡ map (turn_as kind) k.log
   unfolding closes_as

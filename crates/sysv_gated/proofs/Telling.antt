@@ -1,4 +1,5 @@
--- What a read of a count, or a wait for it, at a place of the bank tells of the object that has the count.
+-- What a read of a count, or a wait for it, at a place of the bank shows of the object that has the
+-- count.
 use Rattle.std.proofs.Common.{◌≡◌, ℕ, ◌+◌, ◌<◌, ◌≤◌, List, Option, Some, None, ap}
 use mathlib.Core.Option.{some}
 use lib.ListN.{get_elem?}

@@ -1,23 +1,26 @@
--- One kind among the objects of a bank: what is seen of a gate, of a seat and of what is given back, where an object, a call
--- and a reply are seen as those of the kind (this profile's).
+-- One kind among the objects of a bank: how contracts see a gate, a seat and what a closed gate
+-- returns, if objects, calls and replies are seen as those of the kind. This project's profile.
 use Rattle.std.specs.Prelude.{◌≡◌, map, option_map, None}
 use Rattle.sysv_gate.specs.declared.view.Turn.{Turn}
 use Rattle.sysv_gate.specs.declared.closing.Closing.{Closing}
 use Rattle.sysv_gate.specs.Gates.{Gateway, Holding}
 
--- how they are seen as those of the kind
+-- How objects, calls and replies are seen as those of the kind.
 pub record Kind (O C R O' C' R' : Type 0) : Type 0 where
   pub object : O → O'
   pub call : C → C'
   pub reply : R → R'
 
 module _ {O C R O' C' R' : Type 0} (kind : Kind O C R O' C' R') where
+  -- A turn, as one of the kind.
   abbrev pub turn_as : Turn O C R → Turn O' C' R'
   turn_as t = record { by = t.by; call = kind.call t.call; reply = kind.reply t.reply; after = kind.object t.after }
 
+  -- A gate, as one of the kind.
   abbrev pub gate_as : Gateway O → Gateway O'
   gate_as g = record { table = g.table; opening = kind.object g.opening; first = g.first }
 
+  -- A seat, as one of the kind.
   abbrev pub seat_as : Holding O C R → Holding O' C' R'
   seat_as h = record {
     gate = gate_as h.gate;
@@ -30,7 +33,8 @@ module _ {O C R O' C' R' : Type 0} (kind : Kind O C R O' C' R') where
     alone = h.alone;
   }
 
-  -- what is given back is the same, as an object of its kind; where no object is, nothing is said of what the slot had
+  -- What a closed gate returns, as an object of the kind. If no object is returned, nothing is
+  -- stated of what the slot had.
   pub record IsClosingAs (c : Closing O) (c' : Closing O') : Type 0 where
     pub object : c'.object ≡ option_map kind.object c.object
     pub rest : c.rest ≡ None → c'.rest ≡ None

@@ -1,3 +1,5 @@
+-- The definitions of the objects behind gates, with those of other crates that they use. This
+-- project's profile.
 pub use Rattle.sysv_crew.specs.Turns
 pub use Rattle.sysv_crew.specs.Members
 pub use Rattle.sysv_objects.specs.LegalDeed

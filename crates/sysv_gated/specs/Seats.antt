@@ -1,5 +1,5 @@
--- What is seen of the gates of all objects and of a seat at each of them, and what a turn of a seat's own is (this
--- profile's).
+-- What contracts see of the gates of all objects and of a seat at each of them, and what a turn of
+-- a seat's own is. This project's profile.
 use Rattle.std.specs.Prelude.{◌≡◌, ℕ, false, List, [], ◌∷◌, ◌++◌}
 use Rattle.sysv_model.specs.History.{Seat, Entry, History}
 use Rattle.sysv_model.specs.Registry.{RegistryEntry, RegistryHistory}
@@ -28,29 +28,32 @@ use Rattle.sysv_gated.specs.Counts.{pool_counts}
 
 -- ---- the seats
 
+-- What contracts see of a seat at a slot.
 abbrev pub SlotSeat : Type 0
 SlotSeat = Holding Slot SlotCall SlotReply
 
+-- What contracts see of a seat at the registry.
 abbrev pub RegistrySeat : Type 0
 RegistrySeat = Holding Registry RegistryCall RegistryReply
 
+-- What contracts see of a seat at the pool.
 abbrev pub PoolSeat : Type 0
 PoolSeat = Holding State PoolCall PoolReply
 
--- the gates of the slots, by their numbers, of the registry and of the pool
+-- The gates of the slots, in the order of their numbers, of the registry and of the pool.
 pub record Gates : Type 0 where
   pub slots : List (Gateway Slot)
   pub registry : Gateway Registry
   pub pool : Gateway State
 
--- a seat at each of them, and what the seats together have seen and done, as those of one pass
+-- A seat at each gate, and what the seats together have seen and done, as one member of a crew.
 pub record Seats : Type 0 where
   pub slots : List SlotSeat
   pub registry : RegistrySeat
   pub pool : PoolSeat
   pub member : Member
 
--- the seats are of these gates
+-- The seats belong to these gates.
 pub record AreOf (gates : Gates) (seats : Seats) : Type 0 where
   pub slots : gates_of seats.slots ≡ gates.slots
   pub registry : seats.registry.gate ≡ gates.registry
@@ -58,38 +61,43 @@ pub record AreOf (gates : Gates) (seats : Seats) : Type 0 where
 
 -- ---- the histories that a seat has seen
 
--- the entries of the turns, from the object that was there before them
+-- The entries of the turns, from the object before the first of them on.
 abbrev pub entries : {O C R E : Type 0} → (O → Turn O C R → E) → O → List (Turn O C R) → List E
 entries entry before [] = []
 entries entry before (t ∷ ts) = entry before t ∷ entries entry t.after ts
 
--- the entry of a turn, where the object was this one before it
+-- The entry of a turn at a slot, if the slot before it was `before`.
 abbrev pub slot_entry : Slot → Turn Slot SlotCall SlotReply → Entry
 slot_entry before t = record { who = Seat t.by; call = slot_call t.call; reply = slot_reply before t.reply }
 
+-- The entry of a turn at the registry.
 abbrev pub registry_entry : Registry → Turn Registry RegistryCall RegistryReply → RegistryEntry
 registry_entry before t = record { who = Seat t.by; call = registry_call t.call; reply = registry_reply t.reply }
 
+-- The entry of a turn at the pool.
 abbrev pub pool_entry : State → Turn State PoolCall PoolReply → PoolEntry
 pool_entry before t = record { who = Seat t.by; call = pool_call t.call; reply = pool_reply t.reply }
 
+-- The history of the slot that the seat has seen.
 abbrev pub slot_seen : SlotSeat → History
 slot_seen seat = entries slot_entry seat.gate.opening seat.seen
 
+-- The history of the registry that the seat has seen.
 abbrev pub registry_seen : RegistrySeat → RegistryHistory
 registry_seen seat = entries registry_entry seat.gate.opening seat.seen
 
+-- The history of the pool that the seat has seen.
 abbrev pub pool_seen : PoolSeat → PoolHistory
 pool_seen seat = entries pool_entry seat.gate.opening seat.seen
 
--- the object after all that the seat has seen
+-- The object after all that the seat has seen.
 abbrev pub object_of : {O C R : Type 0} → Holding O C R → O
 object_of seat = after_all seat.gate.opening seat.seen
 
 -- ---- turns
 
--- A turn of the seat's own was answered: the history that it has seen goes on by turns of others, and then by this one, whose
--- entry is the one given. Its gate was not marked worn out before
+-- A turn of the seat's own was made. The history that the seat has seen has grown by turns of
+-- others, and then by this turn, whose entry is e. The seat was not marked as worn before.
 pub record TakesTurn {O C R E : Type 0} (moves : O → C → R → O → Type 0) (counted : O → ℕ × ℕ) (entry : O → Turn O C R → E) (e : E) (before after : Holding O C R) : Type 0 where
   pub call : C
   pub reply : R
@@ -97,7 +105,8 @@ pub record TakesTurn {O C R E : Type 0} (moves : O → C → R → O → Type 0)
   pub fresh : before.worn ≡ false
   pub entered : entry (after_all before.gate.opening (before.seen ++ answers.others)) (record { by = before.number; call = call; reply = reply; after = answers.object }) ≡ e
 
--- the turn was made at its object, and nothing was done at any other. It is the last of the order that was seen
+-- The turn was made at its object, and nothing was done at any other. It is the last of the order
+-- that was seen.
 abbrev pub MakesTurnAt : Seats → Deed → Seats → Type 0
 MakesTurnAt before (AtSlot slot call reply) after =
     ChangesAt slot before.slots after.slots (λ b a. TakesTurn SlotMoves slot_counts slot_entry (record { who = Seat b.number; call = call; reply = reply }) b a)
@@ -109,7 +118,8 @@ MakesTurnAt before (AtPool call reply) after =
     TakesTurn PoolMoves pool_counts pool_entry (record { who = Seat before.pool.number; call = call; reply = reply }) before.pool after.pool
     × (after.slots ≡ before.slots) × (after.registry ≡ before.registry) × MakesTurn before.member (AtPool call reply) after.member
 
--- the gate of the object that was to be asked was found worn out, and nothing was done at any object
+-- The gate of the object that the call is for was found worn out, and nothing was done at any
+-- object.
 abbrev pub FindsWorn : Seats → Ask → Seats → Type 0
 FindsWorn before (OfSlot slot call) after =
     ChangesAt slot before.slots after.slots (λ b a. a ≡ marked b) × (after.registry ≡ before.registry) × (after.pool ≡ before.pool) × SeesMore before.member after.member

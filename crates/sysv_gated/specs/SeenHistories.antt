@@ -1,6 +1,7 @@
--- What a seat has seen of an object is a history of it: the object stands for it, where it stood for no turn when its gate was
--- opened. A turn of the seat's own is the last entry of what it then has seen, after all that it had seen and what others did
--- (this profile's).
+-- What a seat has seen of an object is a history that the object stands for, if the object stood
+-- for no turn when its gate was opened. A turn of the seat's own is the last entry of what the seat
+-- has seen afterwards, after all that it had seen before and the turns of others. This project's
+-- profile.
 use Rattle.std.specs.Prelude.{◌≡◌, ℕ, [], ◌∷◌, ◌++◌}
 use Rattle.sysv_model.specs.History.{Entry, History}
 use Rattle.sysv_model.specs.Registry.{RegistryEntry, RegistryHistory}
@@ -24,13 +25,15 @@ use Rattle.sysv_gated.specs.Counts.{pool_counts}
 use Rattle.sysv_gated.specs.Opened.{AreOpen}
 use Rattle.sysv_gated.specs.Seats.{SlotSeat, RegistrySeat, PoolSeat, Gates, Seats, AreOf, slot_entry, registry_entry, pool_entry, slot_seen, registry_seen, pool_seen, object_of, TakesTurn}
 
+-- A legal history that a seat has seen of an object is one that the object stands for, if nothing
+-- had happened at the object when its gate was opened.
 pub record SeenHistories : Type 0 where
   pub slots : (seat : SlotSeat) → SlotStandsFor [] seat.gate.opening → IsLegal (Moves SlotMoves slot_counts) seat.gate.opening seat.seen → SlotStandsFor (slot_seen seat) (object_of seat)
   pub registry : (generation : ℕ) (seat : RegistrySeat) → RegistryStandsFor generation [] seat.gate.opening → IsLegal (Moves RegistryMoves registry_counts) seat.gate.opening seat.seen →
       RegistryStandsFor generation (registry_seen seat) (object_of seat)
   pub pool : (seat : PoolSeat) → PoolStandsFor [] seat.gate.opening → IsLegal (Moves PoolMoves pool_counts) seat.gate.opening seat.seen → PoolStandsFor (pool_seen seat) (object_of seat)
 
--- each seen history obeys the law of its object, whatever its gate was opened with
+-- Such a history obeys the law of its object.
 pub record SeenHistoriesObey : Type 0 where
   pub slots : (seat : SlotSeat) → SlotStandsFor [] seat.gate.opening → IsLegal (Moves SlotMoves slot_counts) seat.gate.opening seat.seen → QueueLaw (slot_seen seat)
   pub registry : (generation : ℕ) (seat : RegistrySeat) → RegistryStandsFor generation [] seat.gate.opening → IsLegal (Moves RegistryMoves registry_counts) seat.gate.opening seat.seen →
@@ -39,22 +42,24 @@ pub record SeenHistoriesObey : Type 0 where
 
 -- ---- the seats at all objects
 
--- each of the seats has seen a legal history, and knows just the turns of its own in it
+-- Each of the seats has seen a legal history, and knows exactly its own turns in it.
 pub record EachKnowsItsOwn (seats : Seats) : Type 0 where
   pub slots : (slot : ℕ) (seat : SlotSeat) → get_elem? seats.slots slot ≡ some seat → KnowsItsOwn (Moves SlotMoves slot_counts) seat
   pub registry : KnowsItsOwn (Moves RegistryMoves registry_counts) seats.registry
   pub pool : KnowsItsOwn (Moves PoolMoves pool_counts) seats.pool
 
--- what each of the seats has seen obeys the law of its object, whose identifiers began with this generation
+-- What each of the seats has seen obeys the law of its object. The identifiers began with this
+-- generation.
 pub record EachObeys (generation : ℕ) (seats : Seats) : Type 0 where
   pub slots : (slot : ℕ) (seat : SlotSeat) → get_elem? seats.slots slot ≡ some seat → QueueLaw (slot_seen seat)
   pub registry : RegistryLaw generation (registry_seen seats.registry)
   pub pool : PoolLaw (object_of seats.pool).size (pool_seen seats.pool)
 
--- so do seats of gates at whose objects nothing had happened when they were opened
+-- The seats obey these laws if nothing had happened at the objects when the gates were opened.
 abbrev pub ObeysIfOpen : Seats → Type 0
 ObeysIfOpen seats = (generation blocks first : ℕ) (gates : Gates) → AreOpen generation blocks first gates → AreOf gates seats → EachObeys generation seats
 
+-- A turn of the seat's own is the last entry of the history that the seat has seen afterwards.
 pub record OwnTurnsAreLast : Type 0 where
   pub slots : (before after : SlotSeat) (e : Entry) → TakesTurn SlotMoves slot_counts slot_entry e before after → (others : History) × (slot_seen after ≡ (slot_seen before ++ others) ++ e ∷ [])
   pub registry : (before after : RegistrySeat) (e : RegistryEntry) → TakesTurn RegistryMoves registry_counts registry_entry e before after →

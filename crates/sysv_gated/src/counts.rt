@@ -14,7 +14,12 @@ use sysv_gate::Awaited;
 use sysv_keys::slot_of_id;
 
 impl Gates {
-    /// The released count of the pool, as it is announced now. It takes no turn and never waits.
+    /// Returns the released count of the pool, as announced now. The call takes no turn and never
+    /// waits.
+    ///
+    /// # Conditions
+    ///
+    /// - `seats` are seats of these gates.
     pub fn released(&self, seats: &mut Seats) -> u64
         requires { AreOf self.now seats.old }
         ensures seats { AreOf self.now seats.new }
@@ -24,7 +29,13 @@ impl Gates {
         self.bank.arrived(POOL, &mut seats.seat)
     }
 
-    /// Waits until the released count of the pool is at least `goal`.
+    /// Waits until the released count of the pool is at least `goal`. Returns `Reached` with the
+    /// count, or `Worn` only if the count that was read last is below `goal` and the pool's gate is
+    /// worn out.
+    ///
+    /// # Conditions
+    ///
+    /// - `seats` are seats of these gates.
     pub fn await_released(&self, rt: &impl Wait, seats: &mut Seats, goal: u64) -> Awaited
         requires { AreOf self.now seats.old }
         ensures seats { AreOf self.now seats.new }
@@ -34,7 +45,12 @@ impl Gates {
         self.bank.await_arrived(rt, POOL, &mut seats.seat, goal)
     }
 
-    /// Waits until the settled count of the registry is at least `goal`.
+    /// Waits until the settled count of the registry is at least `goal`, like `await_released` for
+    /// the released count.
+    ///
+    /// # Conditions
+    ///
+    /// - `seats` are seats of these gates.
     pub fn await_settled(&self, rt: &impl Wait, seats: &mut Seats, goal: u64) -> Awaited
         requires { AreOf self.now seats.old }
         ensures seats { AreOf self.now seats.new }
@@ -44,7 +60,12 @@ impl Gates {
         self.bank.await_arrived(rt, REGISTRY, &mut seats.seat, goal)
     }
 
-    /// Waits until the arrived count of the identifier's slot is at least `goal`.
+    /// Waits until the arrived count of the identifier's slot is at least `goal`, like
+    /// `await_released` for the released count.
+    ///
+    /// # Conditions
+    ///
+    /// - `seats` are seats of these gates.
     pub fn await_arrived(&self, rt: &impl Wait, seats: &mut Seats, id: i32, goal: u64) -> Awaited
         requires { AreOf self.now seats.old }
         ensures seats { AreOf self.now seats.new }
@@ -55,7 +76,12 @@ impl Gates {
             .await_arrived(rt, slot_of_id(id) + FIRST_SLOT, &mut seats.seat, goal)
     }
 
-    /// Waits until the freed count of the identifier's slot is at least `goal`.
+    /// Waits until the freed count of the identifier's slot is at least `goal`, like
+    /// `await_released` for the released count.
+    ///
+    /// # Conditions
+    ///
+    /// - `seats` are seats of these gates.
     pub fn await_freed(&self, rt: &impl Wait, seats: &mut Seats, id: i32, goal: u64) -> Awaited
         requires { AreOf self.now seats.old }
         ensures seats { AreOf self.now seats.new }
@@ -66,9 +92,14 @@ impl Gates {
             .await_freed(rt, slot_of_id(id) + FIRST_SLOT, &mut seats.seat, goal)
     }
 
-    /// Waits for the released count of the pool as `await_released` does, but sleeps only once, and for a second at most.
-    /// It returns `None` if the count that it read last is still below `goal`. Else it wakes the next thread that sleeps in
-    /// this wait, so a rise wakes all of them, one after another.
+    /// Waits for the released count of the pool like `await_released`, but sleeps only once, and
+    /// for a second at most. Returns `None` only if the count that was read last is below `goal`. A
+    /// call that returns `Some` wakes the next thread that sleeps in this wait, so a rise wakes all
+    /// of them, one after another.
+    ///
+    /// # Conditions
+    ///
+    /// - `seats` are seats of these gates.
     pub fn released_within(&self, rt: &impl Wait, seats: &mut Seats, goal: u64) -> Option<Awaited>
         requires { AreOf self.now seats.old }
         ensures seats { AreOf self.now seats.new }
@@ -82,7 +113,11 @@ impl Gates {
         awaited
     }
 
-    /// Waits for the settled count of the registry, as `released_within` does for that of the pool.
+    /// Waits for the settled count of the registry, like `released_within` for the released count.
+    ///
+    /// # Conditions
+    ///
+    /// - `seats` are seats of these gates.
     pub fn settled_within(&self, rt: &impl Wait, seats: &mut Seats, goal: u64) -> Option<Awaited>
         requires { AreOf self.now seats.old }
         ensures seats { AreOf self.now seats.new }
@@ -98,9 +133,16 @@ impl Gates {
         awaited
     }
 
-    /// Waits for the arrived count of the identifier's slot, and sleeps only once, and for a second at most. It returns
-    /// `None` if the count that it read last is still below `goal`. A rise wakes only one of the threads that sleep in this
-    /// wait: a caller that then leaves to others what arrived calls `pass_arrived_on`.
+    /// Waits for the arrived count of the identifier's slot like `await_arrived`, but sleeps only
+    /// once, and for a second at most. Returns `None` only if the count that was read last is below
+    /// `goal`.
+    ///
+    /// A rise wakes only one of the threads that sleep in this wait. A thread that was woken here
+    /// and does not use what arrived should call `pass_arrived_on`.
+    ///
+    /// # Conditions
+    ///
+    /// - `seats` are seats of these gates.
     pub fn arrived_within(
         &self,
         rt: &impl Wait,
@@ -117,8 +159,12 @@ impl Gates {
             .arrived_within(rt, slot_of_id(id) + FIRST_SLOT, &mut seats.seat, goal)
     }
 
-    /// Waits for the freed count of the identifier's slot, as `arrived_within` does for the other, but a rise wakes all
-    /// threads that sleep in this wait.
+    /// Waits for the freed count of the identifier's slot, like `arrived_within` for the arrived
+    /// count, but a rise wakes all threads that sleep in this wait.
+    ///
+    /// # Conditions
+    ///
+    /// - `seats` are seats of these gates.
     pub fn freed_within(
         &self,
         rt: &impl Wait,
@@ -135,7 +181,8 @@ impl Gates {
             .freed_within(rt, slot_of_id(id) + FIRST_SLOT, &mut seats.seat, goal)
     }
 
-    /// Wakes the next thread that sleeps in `arrived_within` at the identifier's slot, if there is one.
+    /// Wakes the next thread that sleeps in `arrived_within` at the identifier's slot, if there is
+    /// one.
     pub fn pass_arrived_on(&self, id: i32) {
         self.bank.pass_on(slot_of_id(id) + FIRST_SLOT);
     }

@@ -10,18 +10,19 @@ use sysv_gate::Closing;
 /// The place of the registry in the bank.
 pub(crate) const REGISTRY: usize = 0;
 
-/// The place of the pool.
+/// The place of the pool in the bank.
 pub(crate) const POOL: usize = 1;
 
-/// The place of slot 0. The others follow it.
+/// The place of slot 0 in the bank. The other slots follow it.
 pub(crate) const FIRST_SLOT: usize = 2;
 
-/// The slots of the queues, each under its number, the registry and the pool, each behind a gate of its own. All turns at
-/// all of them have one order. Threads share them by reference, and each takes turns with seats of its own. A call on an
-/// identifier goes to the slot that its number tells, whether a queue lives under it or not. Each call waits for its turn.
+/// The slots of the queues, the registry and the pool, each behind a gate of its own. All turns at
+/// all of them have one order. Threads share the gates by reference, and each thread takes turns
+/// with seats of its own. A call on an identifier goes to the slot of that identifier, whether a
+/// queue is live under it or not. Each call waits for its turn.
 pub struct Gates {
     pub(crate) bank: Bank<Gated>,
-    /// Room for what `close` answers.
+    /// Space for the result of `close`, so that `close` allocates nothing.
     pub(crate) closings: Vec<Closing<GatedSlot>, Global>,
 }
 

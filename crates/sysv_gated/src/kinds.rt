@@ -8,10 +8,14 @@ use crate::slot::GatedSlot;
 use sysv_gate::Object;
 use sysv_turns::{ObjectCall, ObjectReply};
 
-/// An object behind a gate, of one of three kinds. It stays of its kind, and is asked only what its kind is asked.
+/// An object behind a gate, of one of three kinds. It stays of its kind, and accepts only the calls
+/// of its kind.
 pub enum Gated {
+    /// A slot of a queue.
     Slot(GatedSlot),
+    /// The registry of keys and identifiers.
     Registry(GatedRegistry),
+    /// The pool of blocks.
     Pool(GatedPool),
 }
 

@@ -1,4 +1,4 @@
-//! Laws over the definitions alone.
+//! Laws over the definitions alone. Each function's contract is its law.
 
 ghost use Rattle.sysv_gated.specs.Ordered.{OrdersAreOfCrews};
 ghost use Rattle.sysv_gated.specs.SeenHistories.{SeenHistories, SeenHistoriesObey, EachKnowsItsOwn, ObeysIfOpen, OwnTurnsAreLast};
@@ -9,12 +9,16 @@ use sysv_keys::registry_law;
 use sysv_pool::pool_law;
 use sysv_queue::queue_law;
 
-/// What a seat has seen of an object is a history for which the object stands, so each reply in it is the legal one.
+/// States that a legal history that a seat has seen of an object is one that the object stands for,
+/// if nothing had happened at the object when its gate was opened. So each reply in it is the legal
+/// one.
 pub fn seen_histories()
     ensures { SeenHistories }
 {}
 
-/// What a seat has seen of a slot obeys the queue law, of the registry its law, and of the pool its law.
+/// States that a legal history that a seat has seen of an object obeys the law of that object (the
+/// queue law, the registry law or the pool law), if nothing had happened at the object when its
+/// gate was opened.
 pub fn seen_histories_obey()
     ensures { SeenHistoriesObey }
 {
@@ -24,8 +28,9 @@ pub fn seen_histories_obey()
     pool_law();
 }
 
-/// What every seat has seen is legal, whatever calls were made with it, and it knows just the turns of its own in it, each
-/// once. So what it has seen obeys the law of its object.
+/// States that the histories that the seats have seen are legal, whatever calls were made with
+/// them, and that each seat knows exactly its own turns in its history, each once. If nothing had
+/// happened at the objects when the gates were opened, each history obeys the law of its object.
 pub fn each_seat_obeys(seats: &Seats)
     ensures knows { EachKnowsItsOwn seats.now }
     ensures obeys { ObeysIfOpen seats.now }
@@ -34,13 +39,16 @@ pub fn each_seat_obeys(seats: &Seats)
     seen_histories_obey();
 }
 
-/// A turn of the seat's own is the last entry of what it has seen then, after all that it had seen before.
+/// States that a turn of a seat's own is the last entry of what the seat has seen afterwards, after
+/// all that it had seen before.
 pub fn own_turns_are_last()
     ensures { OwnTurnsAreLast }
 {}
 
-/// What a bank of these objects says of its passes and of the order of its turns is what a pass of a service does, in turns
-/// of the world. The replies in the order that is found when the bank is closed are legal.
+/// States that what a bank of these objects promises of its passes and of the order of its turns is
+/// what a pass of a service does, in turns of the world. The replies in the order that is found
+/// when the bank is closed are legal, if nothing had happened at the objects when the gates were
+/// opened.
 pub fn orders_are_of_crews()
     ensures { OrdersAreOfCrews }
 {}

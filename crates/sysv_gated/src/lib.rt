@@ -1,5 +1,5 @@
-//! The slots of the queues, the registry and the pool behind gates: threads call each of them one turn at a time. A seat
-//! has seen a history of each, and each turn of its own extends it.
+//! The slots of the queues, the registry and the pool behind gates. Threads call each of them one
+//! turn at a time. A seat has seen a history of each object, and each of its own turns extends one.
 #![tactic(auto)]
 
 mod counts;

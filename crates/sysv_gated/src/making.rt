@@ -13,8 +13,17 @@ use sysv_gate::Worn;
 use sysv_turns::{ObjectCall, ObjectReply, Turns};
 
 impl Gates {
-    /// Makes the turn that is asked for, at its object. Where the gate is worn out, since its tickets have reached 2^62, no
-    /// turn is made, and the call comes back.
+    /// Makes the turn of `call` at its object, and returns the object's reply.
+    ///
+    /// # Errors
+    ///
+    /// - The call is handed back only if the gate of its object is worn out, that is, its tickets
+    ///   have reached 2^62. No turn is made.
+    ///
+    /// # Conditions
+    ///
+    /// - `seats` are seats of these gates.
+    /// - If `call` reads the row of a slot, the number of that slot is below 256.
     #[inline(always)]
     pub fn make(
         &self,
@@ -37,7 +46,7 @@ impl Gates {
     }
 }
 
-// The place in the bank of the object that is asked.
+// Returns the place in the bank of the object that is called.
 fn place_of(call: &ObjectCall) -> usize
     requires { IsOfSomeSlot call.now }
     ensures place { result ≡ the_place_of call.now }
@@ -50,7 +59,7 @@ fn place_of(call: &ObjectCall) -> usize
     }
 }
 
-/// The gates, for a caller that may wait: they make turns with the caller's seats.
+/// The gates, for a caller that may wait. They make turns with the caller's seats.
 #[derive(Clone, Copy)]
 pub struct AtGates<'a, R: Wait> {
     rt: &'a R,
@@ -58,7 +67,7 @@ pub struct AtGates<'a, R: Wait> {
 }
 
 impl<'a, R: Wait> AtGates<'a, R> {
-    /// These gates.
+    /// Returns a handle for these gates.
     pub fn of(rt: &'a R, gates: &'a Gates) -> AtGates<'a, R>
         ensures { result.gates.now ≡ gates.now }
     {

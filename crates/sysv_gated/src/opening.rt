@@ -21,29 +21,39 @@ use sysv_model::{MAX_BLOCKS, MIN_BLOCKS};
 use sysv_pool::Pool;
 use sysv_queue::QueueSlot;
 
-/// The first tickets of gates are at most this.
+/// The largest first ticket of a gate.
 const MAX_FIRST: u64 = 1 << 62;
 
-/// Why gates are not opened.
+/// The reasons why gates were not opened.
 #[derive(Clone, Copy, PartialEq, Eq, Debug)]
 pub enum OpenRefused {
     /// Memory was refused.
     NoMemory,
-    /// The number of blocks is not 128 to 65,536, the first ticket is above 2^62, or the generation is above the last one.
+    /// The number of blocks is not 128 to 65,536, the first ticket is above 2^62, or the generation
+    /// is above the last one.
     BadSize,
 }
 
-/// What the gates give back when they are closed, the slots by their numbers.
+/// What the gates return when they are closed. The slots are in the order of their numbers.
 pub struct GatesClosed {
+    /// What the gates of the slots returned, in the order of the slots' numbers.
     pub slots: Vec<Closing<GatedSlot>>,
+    /// What the gate of the registry returned.
     pub registry: Closing<GatedRegistry>,
+    /// What the gate of the pool returned.
     pub pool: Closing<GatedPool>,
 }
 
 impl Gates {
-    /// Gates with vacant slots, a registry without rows, whose slots all have this generation, and a pool of this many
-    /// blocks; their tickets begin at `first`. Also the first seats. `BadSize` comes exactly where an argument is out of its
-    /// range.
+    /// Opens gates around 256 vacant slots, a registry without rows and a pool of `blocks` blocks.
+    /// Tickets begin at `first`, and each slot's identifiers at `generation`. Returns the gates
+    /// with their first seats.
+    ///
+    /// # Errors
+    ///
+    /// - `BadSize` if and only if `blocks` is not 128 to 65,536, `first` is above 2^62, or
+    ///   `generation` is above the last generation.
+    /// - `NoMemory` if memory is refused.
     pub fn open_at(
         alloc: Global,
         blocks: u32,
@@ -82,8 +92,8 @@ impl Gates {
     }
 }
 
-// A registry without rows, whose slots all have this generation, a pool of so many blocks, and as many vacant slots as there
-// are. `None` where memory was refused.
+// Makes the objects: a registry without rows, whose slots have this generation, a pool of this
+// number of blocks, and the vacant slots. Returns `None` if memory is refused.
 fn fresh_objects(alloc: Global, blocks: u32, generation: u32) -> Option<Vec<Gated>>
     requires blocks { (least_blocks ≤ blocks) × (blocks ≤ most_blocks) }
     requires generation { generation ≤ GENERATION_LAST }

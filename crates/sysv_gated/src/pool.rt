@@ -1,4 +1,4 @@
-//! The pool of blocks, as an object that a gate serves.
+//! The pool of blocks, as an object behind a gate.
 
 ghost use Rattle.std.specs.Prelude.{◌≡◌, []};
 ghost use Rattle.sysv_pool.specs.StandsFor.{StandsFor};
@@ -10,7 +10,7 @@ use sysv_gate::Object;
 use sysv_pool::Pool;
 use sysv_turns::{PoolCall, PoolReply};
 
-/// The pool behind a gate. It can't be dropped: it ends by `into_pool`.
+/// The pool behind a gate. It cannot be dropped; end it with `into_pool`.
 pub struct GatedPool {
     pool: Pool,
 }
@@ -27,7 +27,11 @@ impl Model for GatedPool {
 }
 
 impl GatedPool {
-    /// The pool, at which nothing has happened yet.
+    /// Makes the object from a pool at which nothing has happened yet.
+    ///
+    /// # Conditions
+    ///
+    /// - `pool` stands for the empty history.
     pub fn of(pool: Pool) -> GatedPool
         requires { StandsFor [] pool }
         ensures { result ≡ pool }
@@ -35,7 +39,7 @@ impl GatedPool {
         GatedPool { pool }
     }
 
-    /// The pool alone.
+    /// Returns the pool alone.
     pub fn into_pool(self) -> Pool
         ensures { result ≡ self }
     {

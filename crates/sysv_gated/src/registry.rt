@@ -1,4 +1,4 @@
-//! The registry of keys and identifiers, as an object that a gate serves.
+//! The registry of keys and identifiers, as an object behind a gate.
 
 ghost use Rattle.std.specs.Prelude.{◌≡◌, ℕ, []};
 ghost use Rattle.sysv_keys.specs.StandsFor.{StandsFor};
@@ -28,7 +28,11 @@ impl Model for GatedRegistry {
 }
 
 impl GatedRegistry {
-    /// The registry, at which nothing has happened yet.
+    /// Makes the object from a registry at which nothing has happened yet.
+    ///
+    /// # Conditions
+    ///
+    /// - `registry` stands for the empty history, from some generation on.
     pub fn of(registry: Registry) -> GatedRegistry
         requires { (generation : ℕ) × StandsFor generation [] registry }
         ensures { result ≡ registry }

@@ -4,8 +4,8 @@ use crate::kinds::Gated;
 use std::marker::Model;
 use sysv_bank::BankSeat;
 
-/// The right to take turns at each slot, at the registry and at the pool. It is used only with the gates that gave it, and
-/// may go to another thread.
+/// The right of one thread to take turns at each slot, at the registry and at the pool. Seats work
+/// only with the gates that they came from. They may move to another thread.
 pub struct Seats {
     pub(crate) seat: BankSeat<Gated>,
 }

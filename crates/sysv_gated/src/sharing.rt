@@ -1,4 +1,4 @@
-//! Sharing the gates among threads: seats are split and joined, and the gates are closed.
+//! Sharing the gates among threads: splitting and joining seats, and closing the gates.
 
 ghost use Rattle.std.specs.Prelude.{◌≡◌, length, IfOk, OnErr, IfSome, option_map};
 ghost use Rattle.sysv_keys.specs.declared.identifier.TheConstants.{SLOTS};
@@ -20,8 +20,17 @@ use sysv_keys::SLOTS;
 use sysv_model::NoMemory;
 
 impl Gates {
-    /// Gives new seats, each of which has seen what the one at the same object has seen, and has made no turn. They may go
-    /// to another thread. `NoMemory` leaves all as it is.
+    /// Returns new seats, which may move to another thread. Each has seen what the seat at the same
+    /// object has seen, and has made none of these turns.
+    ///
+    /// # Errors
+    ///
+    /// - `NoMemory` is never returned by this implementation, which allocates nothing here. If it
+    ///   were, `seats` would be unchanged.
+    ///
+    /// # Conditions
+    ///
+    /// - `seats` are seats of these gates.
     pub fn split(&self, alloc: Global, seats: &mut Seats) -> Result<Seats, NoMemory>
         requires { AreOf self.now seats.old }
         ensures seats { AreOf self.now seats.new }
@@ -35,7 +44,11 @@ impl Gates {
         }
     }
 
-    /// Takes in other seats of these gates, object by object: what each has seen, and its turns.
+    /// Merges `other` into `seats`, object by object: what both have seen, and the turns of both.
+    ///
+    /// # Conditions
+    ///
+    /// - `seats` and `other` are seats of these gates.
     pub fn join(&self, seats: &mut Seats, other: Seats)
         requires seats { AreOf self.now seats.old }
         requires other { AreOf self.now other }
@@ -46,8 +59,13 @@ impl Gates {
         self.bank.join(&mut seats.seat, seat);
     }
 
-    /// Gives back each object whose gate is not held, and the number of turns at each gate: the slots by their numbers, the
-    /// registry and the pool. It takes no memory.
+    /// Closes the gates. Returns, for each slot in the order of the numbers, for the registry and
+    /// for the pool, the object and the number of turns at its gate. An object is missing if its
+    /// gate is held by a turn that did not end. It allocates nothing.
+    ///
+    /// # Conditions
+    ///
+    /// - `seats` are seats of these gates.
     pub fn close(self, seats: Seats) -> GatesClosed
         requires { AreOf self seats }
         ensures closed { AllClose seats result }
@@ -81,7 +99,7 @@ impl Gates {
     }
 }
 
-// What is given back of a slot.
+// Returns what the closed gate of a slot holds, as a slot.
 fn slot_closing(closing: Closing<Gated>) -> Closing<GatedSlot>
     ensures { IfSome closing.object IsSlot → IsClosingAs as_slot closing result }
 {
@@ -97,6 +115,7 @@ fn slot_closing(closing: Closing<Gated>) -> Closing<GatedSlot>
     }
 }
 
+// Returns what the closed gate of the registry holds, as a registry.
 fn registry_closing(closing: Closing<Gated>) -> Closing<GatedRegistry>
     ensures { IfSome closing.object IsRegistry → IsClosingAs as_registry closing result }
 {
@@ -112,6 +131,7 @@ fn registry_closing(closing: Closing<Gated>) -> Closing<GatedRegistry>
     }
 }
 
+// Returns what the closed gate of the pool holds, as a pool.
 fn pool_closing(closing: Closing<Gated>) -> Closing<GatedPool>
     ensures { IfSome closing.object IsPool → IsClosingAs as_pool closing result }
 {
@@ -127,7 +147,7 @@ fn pool_closing(closing: Closing<Gated>) -> Closing<GatedPool>
     }
 }
 
-// The slot, if it is one. Anything else is freed.
+// Returns the slot if the object is one. Any other object is freed.
 fn slot_of(object: Option<Gated>) -> Option<GatedSlot>
     ensures { IfSome object IsSlot → result ≡ option_map slot_in object }
 {
@@ -141,6 +161,7 @@ fn slot_of(object: Option<Gated>) -> Option<GatedSlot>
     }
 }
 
+// Returns the registry if the object is one. Any other object is freed.
 fn registry_of(object: Option<Gated>) -> Option<GatedRegistry>
     ensures { IfSome object IsRegistry → result ≡ option_map registry_in object }
 {
@@ -154,6 +175,7 @@ fn registry_of(object: Option<Gated>) -> Option<GatedRegistry>
     }
 }
 
+// Returns the pool if the object is one. Any other object is freed.
 fn pool_of(object: Option<Gated>) -> Option<GatedPool>
     ensures { IfSome object IsPool → result ≡ option_map pool_in object }
 {

@@ -1,4 +1,4 @@
-//! A slot of a queue, as an object that a gate serves.
+//! The slot of a queue, as an object behind a gate.
 
 ghost use Rattle.std.specs.Prelude.{◌≡◌, []};
 ghost use Rattle.sysv_queue.specs.StandsFor.{StandsFor};
@@ -10,7 +10,7 @@ use sysv_gate::Object;
 use sysv_queue::QueueSlot;
 use sysv_turns::{SlotCall, SlotReply};
 
-/// A slot behind a gate. It can't be dropped: it ends by `into_slot`.
+/// A slot behind a gate. It cannot be dropped; end it with `into_slot`.
 pub struct GatedSlot {
     slot: QueueSlot,
 }
@@ -27,7 +27,11 @@ impl Model for GatedSlot {
 }
 
 impl GatedSlot {
-    /// The slot, at which nothing has happened yet.
+    /// Makes the object from a slot at which nothing has happened yet.
+    ///
+    /// # Conditions
+    ///
+    /// - `slot` stands for the empty history.
     pub fn of(slot: QueueSlot) -> GatedSlot
         requires { StandsFor [] slot }
         ensures { result ≡ slot }
@@ -35,7 +39,7 @@ impl GatedSlot {
         GatedSlot { slot }
     }
 
-    /// The slot alone.
+    /// Returns the slot alone.
     pub fn into_slot(self) -> QueueSlot
         ensures { result ≡ self }
     {

@@ -1,4 +1,4 @@
--- What a call answers is right for the turns that it made.
+-- Proves that the result of a call is right for the turns that it made.
 use Rattle.std.proofs.Common.{ℕ}
 use Rattle.sysv_steps.specs.Answers.{EachAnswerIsRight}
 use Rattle.sysv_steps.specs.State.{Over}

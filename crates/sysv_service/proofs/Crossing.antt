@@ -1,4 +1,4 @@
--- Passes may go to other threads, which may share a service.
+-- Passes may move to other threads, and threads may share a service.
 use Rattle.std.proofs.Common.{List, [], ◌∷◌}
 use denote.RattleType.{RattleType}
 use denote.Param.Send.{IsSend, IsSync, AllSync, sendable}
@@ -50,7 +50,7 @@ gates_sync = search (crossing, bank_sync, gated_send, gated_sync, slot_sync) dep
 pub service_sync : IsSync service.the_row
 service_sync = search (crossing, gates_sync) depth 30
 
--- threads may share what a closure captures where they may share each part
+-- Threads may share the captures of a closure if they may share each of them.
 parts_sync : (Ts : List RattleType) → AllSync Ts → FieldsHave IsSync (parts Ts)
 parts_sync [] s = tt
 parts_sync (T ∷ Ts) s = (as_row_sync (row_field T) s.0, parts_sync Ts s.1)

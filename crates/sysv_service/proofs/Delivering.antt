@@ -1,4 +1,4 @@
--- A receive gives what it took.
+-- Proves that a receive returns what it took.
 use Rattle.std.proofs.Common.{◌≡◌, inl, inr, ℕ, List, ◌∷◌, ◌++◌, [], Result, Ok, Err, IfOk, ap, subst, ◌∙◌}
 use Rattle.sysv_queue.specs.Delivery.{Given}
 use Rattle.sysv_steps.specs.declared.ending.Ending.{Ending as EndingKept}
@@ -26,7 +26,7 @@ module _ (may : ℕ → Type 0) (from : State) (old : Pass) where
   pub comes_with_nothing : (kept : StateKept) (out : List ℕ) (new : Pass) → GivesNothing (state_of kept out) → Comes may from old (state_of kept out) new → ComesGiving may from old kept out new
   comes_with_nothing kept out new none comes = (comes.0, comes.1, nothing_to_have kept out comes.0 none)
 
-  -- what the code answers in the end is what it took
+  -- What the code returns in the end is what the call took.
   pub has_given : (e : EndingKept) (s : StateKept) (out : List ℕ) (new : Pass) (result : Result Given Errno) → s ≡ state.Over e → ComesGiving may from old s out new → IfOk result (λ told. e ≡ ending.Got told) → IfOk result (λ told. HasGiven may from old told new)
   has_given e s out new (Ok told) is came got =
       let over : s ≡ state.Over (ending.Got told) = is ∙ ap (λ (x : EndingKept). state.Over x) got in

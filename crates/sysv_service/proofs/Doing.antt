@@ -1,4 +1,4 @@
--- What a call does is what its pass does, as a member of a crew.
+-- Proves that what a call does is what its pass does, as a member of a crew.
 use Rattle.std.proofs.Common.{◌≡◌, ℕ, ℤ, inl, inr, List, [], ◌++◌, sym, subst}
 use Rattle.std.proofs.lemmas.List.{append-nil}
 use Rattle.sysv_model.specs.Registry.{Forget, Changed}
@@ -11,7 +11,7 @@ use Rattle.sysv_gated.specs.Seats.{Seats, MakesTurnAt, FindsWorn}
 use Rattle.sysv_gated.specs.Reading.{Reads, GivesUp}
 use Rattle.sysv_service.specs.Ran.{Pass, Forgets, TurnsBack, Ran, begins, steps, turns_back, reads, resumes, gives_up}
 
--- ---- one thing at an object
+-- ---- one action at an object
 
 module _ (before after : Seats) where
   pub turn_is_made : (deed : Deed) → MakesTurnAt before deed after → MakesTurn before.member deed after.member

@@ -1,4 +1,4 @@
--- The chains of a closed service go back to its pool, which is whole then.
+-- Proves that the chains of a closed service return to its pool, which is then whole.
 use Rattle.std.proofs.Common.{◌≡◌, ℕ, zero, suc, ◌+◌, ◌^◌, ◌<◌, ◌≤◌, ◌&&◌, nat_le, nat_lt, Bool, true, false, List, [], ◌∷◌, map, length, Option, Some, None, IfSome, if◌then◌else◌, refl, sym, ap, subst, ◌∙◌, arith}
 use Rattle.std.specs.List.{All, sum_by, range_with_len}
 use Rattle.std.proofs.lemmas.Bool.Decides.{nat_tests}
@@ -39,9 +39,9 @@ use Rattle.sysv_service.specs.PoolWhole.{EveryPoolIsWhole}
 use Rattle.sysv_service.proofs.Living.{opened_so, every_service}
 use Rattle.sysv_service.proofs.NoneKept.{none_kept}
 
--- ---- chains go back
+-- ---- chains are returned
 
--- the blocks of the messages that wait in the slot, none where its gate is held
+-- The blocks of the messages queued in the slot; none if its gate is held.
 abbrev blocks_in : Option Slot → ℕ
 blocks_in None = 0
 blocks_in (Some slot) = blocks_of slot.messages
@@ -50,7 +50,7 @@ abbrev all_blocks : List (Closing Slot) → ℕ
 all_blocks [] = 0
 all_blocks (c ∷ cs) = blocks_in c.object + all_blocks cs
 
--- the pool after it took so many blocks back
+-- The pool after it took this number of blocks back.
 abbrev then_free : State → ℕ → State
 then_free pool blocks = record pool { free = pool.free + blocks; released = pool.released + 1 }
 
@@ -74,7 +74,7 @@ slots_back pool (c ∷ cs) none room few =
     let rest = slots_back next cs (omega (arith, none)) (omega (arith, room)) (omega (arith, few)) in
     (rest.0, ap (λ o. with_slots o cs) here ∙ rest.1, omega (arith, rest.2))
 
--- no chain was kept
+-- No chain was kept.
 free_if : (pool : State) (b : Bool) → (if b then then_free pool 0 else pool).free ≡ pool.free
 free_if pool true = omega arith
 free_if pool false = refl
@@ -82,7 +82,7 @@ free_if pool false = refl
 no_chain : (pool : State) → free_in (with_chain (Some pool) 0) ≡ pool.free
 no_chain pool = free_if pool (nat_le (pool.free + 0) pool.size && nat_lt pool.released (2 ^ 63))
 
--- all chains went back, and the pool is whole
+-- All chains were returned, and the pool is whole.
 whole_again : (o : Option State) (pool : State) (cs : List (Closing Slot)) (kept blocks : ℕ) → o ≡ Some pool → kept ≡ 0 → all_held cs ≡ 0 → pool.free + all_blocks cs ≡ blocks → pool.size ≡ blocks →
     pool.released + length cs ≤ 2 ^ 63 → free_in (with_chain (with_slots o cs) kept) ≡ blocks
 whole_again o pool cs kept blocks is no_kept none whole sized few =
@@ -91,14 +91,14 @@ whole_again o pool cs kept blocks is no_kept none whole sized few =
     ∙ (ap (λ x. free_in (with_chain (with_slots x cs) 0)) is
     ∙ (ap (λ x. free_in (with_chain x 0)) back.1 ∙ (no_chain back.0 ∙ back.2) ∙ whole))
 
--- ---- what the gates give back
+-- ---- what the gates return
 
 none_held : (cs : List (Closing Slot)) (k : ℕ) (c : Closing Slot) → all_held cs ≡ 0 → get_elem? cs k ≡ some c → is_held c.object ≡ 0
 none_held [] k c none at = absurd (some-ne-none c (sym at))
 none_held (x ∷ cs) zero c none at = subst (λ (y : Closing Slot). is_held y.object ≡ 0) (some-injective x c at) (omega (arith, none))
 none_held (x ∷ cs) (suc k) c none at = none_held cs k c (omega (arith, none)) at
 
--- an object that is there is this one
+-- If a gate is not held, its object is this one.
 is_there : {O : Type 0} (o : Option O) (x : O) (Q : Type 0) → IfSome o (λ y. (y ≡ x) × Q) → is_held o ≡ 0 → o ≡ Some x
 is_there None x Q is gone = absurd (omega (arith, gone))
 is_there (Some y) x Q is gone = ap (λ z. Some z) is.0

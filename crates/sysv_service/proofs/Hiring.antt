@@ -1,4 +1,4 @@
--- The workers of a service are passes of its life.
+-- Proves that the workers of a service are passes of its life.
 use Rattle.std.specs.List.{AllByRecursion, FoldsTo, sum_by}
 use Rattle.std.proofs.Common.{◌≡◌, ℕ, ◌+◌, Bool, List, [], ◌∷◌, ◌++◌, reverse, Some, None, Ok, Err, refl, sym, ap, subst, ◌∙◌, add-zero}
 use Rattle.std.proofs.lemmas.List.{append_assoc, append-nil}
@@ -25,7 +25,7 @@ use Rattle.sysv_service.proofs.Marking.{no_mark_by_read, no_mark_by_row, no_mark
 
 -- ---- one pass
 
--- what a pass did before it came to be unmarked it did unmarked
+-- If a pass is unmarked after it worked, it was unmarked before.
 unmarked_before : (old : Pass) (made : List Called) (new : Pass) → Works old made new → IsUnmarked new.seats → IsUnmarked old.seats
 unmarked_before old _ _ working.begins none = none
 unmarked_before old _ _ (working.calls {made} {mid} cred asked released deeds state new works ran) none =
@@ -39,7 +39,7 @@ module _ (generation blocks first : ℕ) (gates : Gates) where
   abbrev Live : List Pass → List Called → Type 0
   Live passes made = Lives generation blocks first gates passes made
 
-  -- a part of the list moves to its front
+  -- A part of the list moves to its front.
   forward : (made : List Called) (bs xs rest : List Pass) → Live (xs ++ (bs ++ rest)) made → Live (bs ++ (xs ++ rest)) made
   forward made [] xs rest lives = lives
   forward made (b ∷ bs) xs rest lives =
@@ -49,7 +49,7 @@ module _ (generation blocks first : ℕ) (gates : Gates) where
       subst (λ ps. Live (b ∷ ps) made) (append_assoc bs xs rest) (life.turns_to (bs ++ xs) rest (subst (λ ps. Live ps made) named moved))
 
   module _ (before rest : List Pass) where
-    -- what the first pass does may be done by one that stands anywhere
+    -- What the first pass does may be done by a pass anywhere in the list.
     anywhere : (made more : List Called) (one after : Pass) → (Live (one ∷ before ++ rest) made → Live (after ∷ before ++ rest) more) → Live (before ++ one ∷ rest) made → Live (before ++ after ∷ rest) more
     anywhere made more one after does lives = forward more before (after ∷ []) rest (does (life.turns_to before rest lives))
 
@@ -96,7 +96,7 @@ module _ (generation blocks first : ℕ) (gates : Gates) where
   takes_all made (b ∷ back) own home takes lives =
       takes_all made back takes.0 home takes.2 (life.joins takes.0 lives takes.1.0 takes.1.1)
 
--- all that were taken back are unmarked if the one that took them is
+-- All passes that were taken back are unmarked if the pass that took them is.
 taken_unmarked : (back : List Pass) (own home : Pass) → FoldsTo TakesIn own back home → IsUnmarked home.seats → IsUnmarked own.seats × AllByRecursion (λ (p : Pass). IsUnmarked p.seats) back
 taken_unmarked [] own home takes none = (subst (λ (p : Pass). IsUnmarked p.seats) (sym takes) none, tt)
 taken_unmarked (b ∷ back) own home takes none =

@@ -1,4 +1,4 @@
--- The passes of a service are a crew.
+-- Proves that the passes of a service are a crew.
 use Rattle.std.proofs.Common.{ℕ, inl, inr, List, [], ◌∷◌, ◌++◌, map, Option, Result, Ok, Err, refl, sym, subst}
 use Rattle.std.proofs.lemmas.List.{map-append}
 use Rattle.sysv_model.specs.declared.attributes.Row.{Row}

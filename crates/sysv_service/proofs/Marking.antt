@@ -1,4 +1,5 @@
--- A mark stays: what was done before a pass came to be unmarked was done by unmarked ones, and no call found a gate worn out.
+-- Proves that a mark stays. If a pass is unmarked, it was unmarked before, and none of its calls
+-- found a gate worn out.
 use Rattle.std.specs.List.{AllByRecursion}
 use Rattle.std.proofs.Common.{◌≡◌, ℕ, ℤ, zero, suc, ◌||◌, inl, inr, Bool, true, false, List, [], ◌∷◌, slice_set, Option, Result, Ok, Err, refl, sym, ap, ◌∙◌, subst}
 use mathlib.Core.Option.{some, some-injective, some-ne-none}
@@ -23,13 +24,13 @@ use Rattle.sysv_service.specs.Told.{TellsRow}
 -- ---- lists
 
 module _ {A : Type 0} (P : A → Type 0) where
-  -- what holds of all after one was changed held of all before, if it held of that one
+  -- A fact of all elements after one was changed held of all before, if it held of that one.
   all_before : (xs : List A) (i : ℕ) (a b : A) → get_elem? xs i ≡ some a → (P b → P a) → AllByRecursion P (slice_set xs i b) → AllByRecursion P xs
   all_before [] i a b at back all = tt
   all_before (x ∷ xs) zero a b at back all = (subst P (some-injective a x (sym at)) (back all.0), all.1)
   all_before (x ∷ xs) (suc i) a b at back all = (all.0, all_before xs i a b at back all.1)
 
-  -- and it holds of the one that is there
+  -- The fact holds of the new element.
   of_the_new : (xs : List A) (i : ℕ) (a b : A) → get_elem? xs i ≡ some a → AllByRecursion P (slice_set xs i b) → P b
   of_the_new [] i a b at all = absurd (some-ne-none a (sym at))
   of_the_new (x ∷ xs) zero a b at all = all.0
@@ -48,7 +49,7 @@ module _ {O C R : Type 0} where
   abbrev worn_of : Holding O C R → Bool
   worn_of h = h.worn
 
-  -- all but those of one seat are what they were
+  -- The change of one seat leaves all other seats unchanged.
   fresh_before : (place : ℕ) (before after : List (Holding O C R)) (how : Holding O C R → Holding O C R → Type 0) → ((was is : Holding O C R) → how was is → is_fresh is → is_fresh was) →
       ChangesAt place before after how → AllByRecursion is_fresh after → AllByRecursion is_fresh before
   fresh_before place before after how back c all =
@@ -72,7 +73,7 @@ module _ {O C R : Type 0} where
         let rest = all_joined xs ys zs each.1 all.1 in
         ((here.0, rest.0), (here.1, rest.1))
 
--- ---- one thing at an object
+-- ---- one action at an object
 
 pub never : {P : Type 0} → true ≡ false → P
 never e = absurd cc
@@ -117,7 +118,7 @@ module _ (before after : Seats) (none : IsUnmarked after) where
     pool = sym (ap (λ (s : PoolSeat). s.worn) r.0.0) ∙ none.pool;
   }
 
-  -- a gate that is found worn out leaves a mark
+  -- A gate that is found worn out leaves a mark.
   pub not_worn : (ask : Ask) → FindsWorn before ask after → ⊥
   not_worn (OfSlot slot call) finds =
       never (sym (ap (λ (s : SlotSeat). s.worn) finds.0.change) ∙ fresh_there slot before.slots after.slots _ finds.0 none.slots)
@@ -155,7 +156,7 @@ no_mark_by_row slot before (Err why) after none (inl told) = subst (λ (p : Pass
 no_mark_by_row slot before (Err why) after none (inr told) = absurd (not_worn before.seats after.seats none (OfSlot slot ReadRow) told.2)
 
 module _ (may : ℕ → Type 0) (from : State) (old : Pass) where
-  -- a call that left its pass unmarked found no gate worn out
+  -- A call that left its pass unmarked found no gate worn out.
   pub finds_turns : (deeds : List Deed) (state : State) (new : Pass) (ran : Ran may from old deeds state new) → IsUnmarked new.seats → FindsTurns ran × IsUnmarked old.seats
   finds_turns _ _ _ begins none = (tt, none)
   finds_turns _ _ _ (steps {deeds} {phase} {mid} state new ran step) none =

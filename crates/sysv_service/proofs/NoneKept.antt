@@ -1,4 +1,5 @@
--- The passes of a service keep no chain, if no call found a gate worn out: the pool refuses none.
+-- Proves that the passes of a service keep no chain if no call found a gate worn out: the pool
+-- refuses none.
 use Rattle.std.proofs.Common.{◌≡◌, ◌≢◌, ℕ, ◌+◌, ◌==◌, inl, inr, Bool, true, false, cond, List, [], ◌∷◌, ◌++◌, map, Option, Result, Ok, Err, if◌then◌else◌, refl, sym, ap, subst, ◌∙◌, arith}
 use Rattle.std.specs.List.{All, filter, sum_by}
 use Rattle.std.proofs.lemmas.Bool.Decides.{nat_tests}
@@ -127,7 +128,7 @@ none_refused (r ∷ rs) a =
     let rest = none_refused rs (all_back (pool_entry r.name r.turn.deed) (pool_history (map renamed_turn rs)) a) in
     omega (arith, here, rest, sum_by-cons left_by_turn r.turn (map turn_in rs))
 
--- ---- so none is left by the calls
+-- ---- so the calls leave none
 
 abbrev deed_in : Numbered → Deed
 deed_in t = t.deed

@@ -1,4 +1,4 @@
--- The first pass is one of the service.
+-- Proves that the first pass belongs to the service.
 use Rattle.std.proofs.Common.{◌≡◌, List, [], ◌∷◌, map, refl, ap}
 use Rattle.sysv_queue.specs.Slot.{Slot}
 use Rattle.sysv_gate.specs.Gates.{Gateway, opened}

@@ -1,4 +1,5 @@
--- A call plays the turns that it made, which are those that its pass has made more.
+-- Proves that a call plays the turns that it made, which are exactly those that its pass made in
+-- the call.
 use Rattle.std.proofs.Common.{ℕ, List}
 use Rattle.sysv_model.specs.Turn.{Deed}
 use Rattle.sysv_steps.specs.State.{State, Goes, Waits}
@@ -10,7 +11,7 @@ use Rattle.sysv_service.proofs.Doing.{does}
 use Rattle.sysv_service.proofs.Marking.{finds_turns}
 use Rattle.sysv_service.proofs.Wearing.{comes}
 
--- a call that found no gate worn out is played
+-- A call that found no gate worn out is played.
 module _ (may : ℕ → Type 0) (from : State) (old : Pass) where
   pub plays : (deeds : List Deed) (state : State) (new : Pass) (ran : Ran may from old deeds state new) → FindsTurns ran → Plays from deeds state
   plays _ _ _ begins found = played.begins

@@ -1,4 +1,4 @@
--- A retry finds the count at its goal.
+-- Proves that a retry finds the count at its goal.
 use Rattle.std.proofs.Common.{◌≡◌, ℕ, zero, suc, slice_set, ◌≤◌, List, [], ◌∷◌, ◌++◌, refl, sym, ap, ◌∙◌, subst, arith}
 use mathlib.Core.Option.{some, some-injective, some-ne-none}
 use lib.ListN.{get_elem?}
@@ -45,13 +45,13 @@ module _ {O C R E : Type 0} (moves : O → C → R → O → Type 0) (counted : 
       ap (λ (h : Holding O C R). count_found counted count h) a.made ∙ ap (λ ts. of_count count (counted (after_all read.gate.opening ts))) (all_but (read.seen ++ a.others) _) in
       omega (arith, reached, known, same)
 
--- ---- the slot that is asked
+-- ---- the slot of the request
 
 abbrev slot_asked : Ask → ℕ
 slot_asked (OfSlot slot call) = slot
 slot_asked ask = 0
 
--- a turn at the slot whose count was read
+-- A turn at the slot whose count was read.
 at_slot : (count : OfObject) (slot goal value : ℕ) (call : Call) (waited read after : Seats) (deed : Deed) → asked_by deed ≡ OfSlot slot call → goal ≤ value →
     ChangesAt slot waited.slots read.slots (Finds slot_counts count value) → MakesTurnAt read deed after →
     (seat : SlotSeat) → get_elem? after.slots slot ≡ some seat → goal ≤ count_found slot_counts count seat

@@ -1,4 +1,4 @@
--- How what a call did goes on by one step, or by the end of a wait.
+-- How a call proceeds by one step, or by the end of a wait.
 use Rattle.std.proofs.Common.{◌≡◌, ℕ, inl, inr, [], ◌∷◌, ◌++◌, Option, Some, None, IfNone, sym, subst}
 use Rattle.sysv_steps.specs.State.{Phase, Wait, State, Goes, Waits}
 use Rattle.sysv_service.specs.Ran.{Pass, begins, steps, turns_back, reads, resumes, gives_up, Comes, StepsOn}
@@ -24,7 +24,7 @@ module _ (may : ℕ → Type 0) (from : State) (old : Pass) where
 
 -- ---- by a result
 
--- ---- where there may be no result
+-- ---- if there may be no result
 
 pub if_none : {T P : Type 0} (o : Option T) → P → IfNone o P
 if_none None p = p
@@ -34,7 +34,7 @@ pub none_then : {T P Q : Type 0} (o : Option T) → IfNone o P → (P → Q) →
 none_then None p f = f p
 none_then (Some x) p f = tt
 
--- ---- a call's loop
+-- ---- the loop of a call
 
 module _ (may : ℕ → Type 0) (from : State) (old : Pass) where
   pub first_at : (s : State) → from ≡ s → Comes may from old s old

@@ -1,4 +1,4 @@
--- How a stop goes on by one slot.
+-- How a stop proceeds by one slot.
 use Rattle.std.specs.Prelude.{⊤}
 use Rattle.std.proofs.Common.{◌≡◌, ◌<◌, ℕ, suc, ◌+◌, ◌||◌, arith, inl, inr, Bool, true, false, Option, Some, None, Result, Ok, Err, ◌≢◌, refl, sym, subst, ◌∙◌}
 use Rattle.sysv_keys.specs.declared.identifier.TheConstants.{SLOTS}
@@ -31,7 +31,7 @@ when_refused : (slot : ℕ) (before after : Pass) (why : Errno) → why ≢ EOVE
 when_refused slot before after why other (Refused w) s t = subst (λ o. StopsAt slot before 0 o after) (is_other w (λ e. other (t ∙ e))) s
 when_refused slot before after why other ending s t = absurd t
 
--- ---- by what the code was told
+-- ---- by the results in the code
 
 module _ (slot : ℕ) (before : Pass) where
   pub worn_at : (told : Result (Option Row) Errno) (why : Errno) (after : Pass) → slot < SLOTS → told ≡ Err why → TellsRow slot before told after → StopsAt slot before 0 true after
@@ -58,7 +58,7 @@ module _ (slot : ℕ) (before : Pass) where
     pub refused_at : (result : Result ⊤ Errno) (why : Errno) (after : Pass) → result ≡ Err why → why ≢ EOVERFLOW → (ending : Ending) × Comes no_moment (begin superuser (MsgctlRmid row.id) 0) mid (Over ending) after × TellsZero ending result → StopsAt slot before 0 false after
     refused_at result why after err other ran = when_refused slot before after why other ran.0 (tried ran.0 after ran.1) (subst (TellsZero ran.0) err ran.2)
 
--- ---- one slot more
+-- ---- one more slot
 
 or-false : (b : Bool) → (b || false) ≡ b
 or-false true = refl

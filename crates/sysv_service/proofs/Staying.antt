@@ -1,4 +1,4 @@
--- A call of each kind stays one.
+-- Proves that a call of each kind stays one of that kind.
 use Rattle.std.proofs.Common.{◌≡◌, ℕ, ℤ, pos, ◌≤◌, ◌||◌, int_lt, nat_lt, arith, inl, inr, Bool, true, false, List, length, if◌then◌else◌, refl, sym, subst}
 use Rattle.sysv_model.specs.declared.errno.Errno.{Errno}
 use Rattle.sysv_model.specs.declared.errno.Errno.TheVariants.{EINVAL}
@@ -66,7 +66,7 @@ begun_gives_nothing false receive = tt
 pub begin_gives_nothing : (cred : Cred) (id : ℤ) (size : ℕ) (mtype : ℤ) (flags : Flags) → GivesNothing (begin cred (Msgrcv id size mtype flags) 0)
 begin_gives_nothing cred id size mtype flags = begun_gives_nothing _ _
 
--- ---- what goes back
+-- ---- what is returned to the pool
 
 -- ---- the removal
 

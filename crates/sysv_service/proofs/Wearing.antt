@@ -1,4 +1,5 @@
--- A call is played along its turns, with the steps and waits whose gate it found worn out.
+-- Proves that a call is played along its turns, with the steps and waits whose gate it found worn
+-- out.
 use Rattle.std.proofs.Common.{◌≡◌, ℕ, ℤ, zero, suc, inl, inr, true, slice_set, List, [], ◌∷◌, ◌++◌, refl, sym, ap, ◌∙◌, subst}
 use Rattle.std.proofs.lemmas.List.{append-nil, append_assoc}
 use mathlib.Core.Option.{some, some-injective, some-ne-none}
@@ -23,7 +24,7 @@ use Rattle.sysv_service.proofs.Marking.{never}
 abbrev is_marked_slot : ℕ → List SlotSeat → Type 0
 is_marked_slot slot seats = (seat : SlotSeat) × (get_elem? seats slot ≡ some seat) × (seat.worn ≡ true)
 
--- where one seat is changed that keeps its mark
+-- One seat is changed and keeps its mark.
 mark_kept : (xs : List SlotSeat) (i k : ℕ) (a b : SlotSeat) → get_elem? xs i ≡ some a → (a.worn ≡ true → b.worn ≡ true) → is_marked_slot k xs → is_marked_slot k (slice_set xs i b)
 mark_kept [] i k a b at keeps is = absurd (some-ne-none a (sym at))
 mark_kept (x ∷ xs) zero zero a b at keeps is =
@@ -38,7 +39,7 @@ mark_stays slot k before after keeps c is =
     subst (is_marked_slot k) (sym c.others) (mark_kept before slot k c.was c.is c.at (keeps c.was c.is c.change) is)
 
 module _ (before after : Seats) where
-  -- what marks the seats have, they keep
+  -- The seats keep the marks that they have.
   abbrev KeepsMarks : Type 0
   KeepsMarks = (place : Place) → IsMarkedAt place before → IsMarkedAt place after
 
@@ -82,7 +83,7 @@ module _ (before after : Seats) where
 
   -- ---- a mark is made
 
-  -- a gate that is found worn out leaves one
+  -- A gate that is found worn out leaves a mark.
   is_marked : (ask : Ask) → FindsWorn before ask after → IsMarkedAt (place_of ask) after
   is_marked (OfSlot slot call) finds = (finds.0.is, is_there slot before.slots after.slots finds.0, ap (λ (s : SlotSeat). s.worn) finds.0.change)
   is_marked (OfRegistry call) finds = ap (λ (s : RegistrySeat). s.worn) finds.0
@@ -94,7 +95,7 @@ module _ (before after : Seats) where
   is_marked_by_wait Settled value r = ap (λ (s : RegistrySeat). s.worn) r.0.1
   is_marked_by_wait Released value r = ap (λ (s : PoolSeat). s.worn) r.0.1
 
-  -- a turn is made at no gate whose seat is marked
+  -- No turn is made at a gate whose seat is marked.
   not_there : (deed : Deed) → MakesTurnAt before deed after → IsMarkedAt (place_of (asked_by deed)) before → ⊥
   not_there (AtSlot slot call reply) makes is =
       let one : is.0 ≡ makes.0.was = some-injective is.0 makes.0.was (sym is.1 ∙ makes.0.at) in
@@ -104,19 +105,19 @@ module _ (before after : Seats) where
 
 -- ---- what is still to come
 
--- at the gates that these seats found worn out there comes no turn, and the marks stay
+-- At the gates that these seats found worn out no turn follows, and the marks stay.
 record Later (end mid : Seats) (more : List Deed) : Type 0 where
   elsewhere : (place : Place) → IsMarkedAt place mid → AreElsewhere place more
   marks : (place : Place) → IsMarkedAt place mid → IsMarkedAt place end
 
--- before what makes no turn
+-- The same before an action that makes no turn.
 earlier : (end mid new : Seats) (more : List Deed) → KeepsMarks mid new → Later end new more → Later end mid more
 earlier end mid new more keeps later = record {
   elsewhere = λ place is. later.elsewhere place (keeps place is);
   marks = λ place is. later.marks place (keeps place is);
 }
 
--- before a turn
+-- The same before a turn.
 earlier_turn : (end mid new : Seats) (deed : Deed) (more : List Deed) → MakesTurnAt mid deed new → Later end new more → Later end mid (deed ∷ more)
 earlier_turn end mid new deed more makes later = record {
   elsewhere = λ place is. (λ there. not_there mid new deed makes (subst (λ p. IsMarkedAt p mid) (sym there) is), later.elsewhere place (turn_keeps mid new deed makes place is));
@@ -129,7 +130,7 @@ worn_there end mid more place later is = (later.elsewhere place is, later.marks 
 -- ---- a step whose gate was worn out
 
 module _ (end : Seats) (before after : Pass) (more : List Deed) (later : Later end after.seats more) where
-  -- what is left of the turns after the step, and what comes at the gates before it
+  -- The turns that are left after the step, and what follows at the gates before it.
   record Back (phase : Phase) (deeds : List Deed) (state : State) : Type 0 where
     turns : TurnsBackOn end phase (deeds ++ more) state more
     sooner : Later end before.seats (deeds ++ more)
@@ -158,7 +159,7 @@ module _ (may : ℕ → Type 0) (from : State) (old : Pass) (to : State) (end : 
   abbrev Played : State → List Deed → Type 0
   Played state deeds = PlaysWorn end to state deeds
 
-  -- the call up to here, and then its play from here on
+  -- The call up to this state, followed by its play from this state on.
   joined : (deeds : List Deed) (state : State) (mid : Pass) (more : List Deed) → Ran may from old deeds state mid → Later end mid.seats more → Played state more → Played from (deeds ++ more)
   joined _ _ _ more begins later rest = rest
   joined _ _ _ more (steps {deeds} {phase} {mid} state new ran step) later rest =
@@ -181,11 +182,11 @@ module _ (may : ℕ → Type 0) (from : State) (old : Pass) (to : State) (end : 
       joined deeds (Waits wait) mid more ran (earlier end mid.seats new.seats more (end_keeps mid.seats new.seats (awaited wait) value r) later)
       (worn.gives_up more (worn_there end new.seats more (place_of_count (awaited wait)) later marked) rest)
 
--- after the call
+-- After the call.
 no_turns_later : (end : Seats) → Later end end []
 no_turns_later end = record { elsewhere = λ place is. tt; marks = λ place is. is }
 
--- the whole call is played
+-- The whole call is played.
 pub comes : (may : ℕ → Type 0) (from : State) (old : Pass) (deeds : List Deed) (state : State) (new : Pass) → Ran may from old deeds state new → PlaysWorn new.seats state from deeds
 comes may from old deeds state new ran =
     subst (PlaysWorn new.seats state from) (append-nil deeds) (joined may from old state new.seats deeds state new [] ran (no_turns_later new.seats) worn.stands)

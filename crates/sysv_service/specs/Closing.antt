@@ -1,5 +1,5 @@
--- What a closed service gives back (this profile's). A gate is held where a turn at it was not given back: then its object is
--- not there.
+-- What a closed service returns. A gate is held if a turn at it did not end: then its object is not
+-- returned. This project's profile.
 use Rattle.std.specs.Prelude.{◌≡◌, ℕ, ◌+◌, ◌^◌, ◌&&◌, nat_lt, nat_le, List, [], ◌∷◌, length, Option, Some, None, if◌then◌else◌}
 use Rattle.sysv_gate.specs.declared.closing.Closing.{Closing}
 use Rattle.sysv_gated.specs.declared.opening.GatesClosed.{GatesClosed}
@@ -10,50 +10,54 @@ use Rattle.sysv_queue.specs.Blocks.{blocks_of}
 use Rattle.sysv_queue.specs.Slot.{Slot}
 use Rattle.sysv_service.specs.declared.closing.Closed.{Closed}
 
--- the messages that wait in the slot, none where its gate is held
+-- The number of messages queued in the slot; 0 if its gate is held.
 abbrev pub waiting_in : Option Slot → ℕ
 waiting_in None = 0
 waiting_in (Some slot) = length slot.messages
 
--- 1 where a gate is held, else 0
+-- 1 if a gate is held, else 0.
 abbrev pub is_held : {O : Type 0} → Option O → ℕ
 is_held None = 1
 is_held (Some object) = 0
 
+-- The number of messages queued in all slots.
 abbrev pub all_waiting : List (Closing Slot) → ℕ
 all_waiting [] = 0
 all_waiting (c ∷ cs) = waiting_in c.object + all_waiting cs
 
+-- The number of held gates among those of the slots.
 abbrev pub all_held : List (Closing Slot) → ℕ
 all_held [] = 0
 all_held (c ∷ cs) = is_held c.object + all_held cs
 
--- the pool takes a chain back where not more blocks are free then than it has, and its released count can rise
+-- The pool takes a chain back if its free blocks and the chain's are together at most its size, and
+-- its released count is below 2^63. Otherwise the pool is unchanged.
 abbrev pub takes_back : State → ℕ → State
 takes_back pool blocks =
     if nat_le (pool.free + blocks) pool.size && nat_lt pool.released (2 ^ 63) then record pool { free = pool.free + blocks; released = pool.released + 1 } else pool
 
--- the pool where it is there, after the chain went back
+-- The pool, if it is there, after the chain was returned to it.
 abbrev pub with_chain : Option State → ℕ → Option State
 with_chain None blocks = None
 with_chain (Some pool) blocks = Some (takes_back pool blocks)
 
--- after the chain of the slot went back, if that is there
+-- The pool after the chain of the slot was returned to it, if the slot is there.
 abbrev pub with_slot : Option State → Option Slot → Option State
 with_slot pool None = pool
 with_slot pool (Some slot) = with_chain pool (blocks_of slot.messages)
 
--- after the chains of the slots went back, slot by slot
+-- The pool after the chains of the slots were returned to it, slot by slot.
 abbrev pub with_slots : Option State → List (Closing Slot) → Option State
 with_slots pool [] = pool
 with_slots pool (c ∷ cs) = with_slots (with_slot pool c.object) cs
 
+-- The free blocks of the pool; 0 if it is not there.
 abbrev pub free_in : Option State → ℕ
 free_in None = 0
 free_in (Some pool) = pool.free
 
--- The gates gave this back, and it was counted: the messages that wait, the gates that are held, and the free blocks once the
--- chains of the slots, and then those that the pass kept, went back
+-- The counts of what the gates returned: the queued messages, the held gates, and the free blocks
+-- after the chains of the slots, and then those that the pass kept, were returned to the pool.
 pub record IsCounted (seats : Seats) (kept : ℕ) (closed : Closed) : Type 0 where
   pub parts : GatesClosed
   pub all : AllClose seats parts

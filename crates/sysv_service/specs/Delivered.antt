@@ -1,4 +1,5 @@
--- A receive of a service that is over has taken, in one of its turns, the message that it gives (POSIX.1-2017, msgrcv).
+-- A receive that is over has taken, in one of its turns, the message that it returns (POSIX.1-2017,
+-- msgrcv).
 use Rattle.std.specs.Prelude.{ℕ, List}
 use Rattle.sysv_model.specs.Turn.{Deed}
 use Rattle.sysv_queue.specs.Delivery.{Given}
@@ -10,7 +11,7 @@ use Rattle.sysv_driver.specs.Giving.{HaveTaken, HasWhatItGives, StepsGiving as S
 use Rattle.sysv_gated.specs.Seats.{MakesTurnAt, FindsWorn}
 use Rattle.sysv_service.specs.Ran.{Pass, Ran}
 
--- the call has made these turns, of which one took what it gives, and is over
+-- The call has made these turns, one of which took the message that it returns, and is over.
 pub record HasGiven (may : ℕ → Type 0) (from : State) (old : Pass) (given : Given) (new : Pass) : Type 0 where
   pub ending : Ending
   pub deeds : List Deed
@@ -19,11 +20,12 @@ pub record HasGiven (may : ℕ → Type 0) (from : State) (old : Pass) (given : 
 
 -- ---- on the way
 
--- one step, after which the receive still has what it gives, or has just taken it
+-- One step, after which the receive still has what it will return, or has just taken it.
 abbrev pub StepsGiving : (ℕ → Type 0) → PhaseKept → List ℕ → Pass → StateKept → List ℕ → Pass → Type 0
 StepsGiving may there text before kept out after =
     StepsGivingFor MakesTurnAt FindsWorn may there text before.seats before.held kept out after.seats after.held
 
--- the turns of the call so far, with what it gives among them
+-- The turns of the call so far, with the turn that took what it will return among them, if it has
+-- taken it.
 abbrev pub ComesGiving : (ℕ → Type 0) → State → Pass → StateKept → List ℕ → Pass → Type 0
 ComesGiving may from old kept out new = (deeds : List Deed) × Ran may from old deeds (state_of kept out) new × HasWhatItGives kept deeds

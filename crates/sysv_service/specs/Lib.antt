@@ -1,3 +1,4 @@
+-- The definitions of the service, with those of other crates that they use. This project's profile.
 pub use Rattle.sysv_model.specs.History
 pub use Rattle.sysv_model.specs.Turn
 pub use Rattle.sysv_steps.specs.State

@@ -1,6 +1,7 @@
--- What a call adds to the turns that its pass has made, in the one order of all turns: those that it made, in order and at
--- whatever objects, and nothing else. The step table, taken along them, leads to where the call stands, with what the call
--- does where it found a gate worn out (POSIX.1-2017, msgget, msgsnd, msgrcv and msgctl; the order is this profile's).
+-- What a call adds to the turns of its pass, in the one order of all turns: exactly the turns that
+-- it made, in order, at whatever objects. The step table, taken along these turns, leads to the
+-- state of the call, together with what the call does at a gate that it found worn out
+-- (POSIX.1-2017, msgget, msgsnd, msgrcv and msgctl; the order is this project's profile).
 use Rattle.std.specs.Prelude.{◌≡◌, ℕ, List}
 use mathlib.Core.Option.{some}
 use lib.ListN.{get_elem?}
@@ -14,22 +15,24 @@ use Rattle.sysv_service.specs.Marks.{IsUnmarked}
 use Rattle.sysv_service.specs.PlayedWorn.{PlaysWorn}
 use Rattle.sysv_service.specs.Ran.{Pass, Ran, FindsTurns}
 
--- each seat knows just the turns of its own in what it has seen
+-- Each seat knows exactly its own turns in what it has seen.
 pub record KnowTheirOwn (seats : Seats) : Type 0 where
   pub slots : (slot : ℕ) (seat : SlotSeat) → get_elem? seats.slots slot ≡ some seat → HasItsOwn seat.numbers seat.own seat.seen
   pub registry : HasItsOwn seats.registry.numbers seats.registry.own seats.registry.seen
   pub pool : HasItsOwn seats.pool.numbers seats.pool.own seats.pool.seen
 
+-- What is known of the turns of one call.
 pub record PlaysItsOwn {may : ℕ → Type 0} {from : State} {old : Pass} {deeds : List Deed} {state : State} {new : Pass} (ran : Ran may from old deeds state new) : Type 0 where
-  -- the turns of the call are those that its pass has made more, and between them the pass has seen turns of others
+  -- The pass has made exactly the turns of the call, and has seen turns of others between them.
   pub own : Does old.seats.member deeds new.seats.member
-  -- the call is played along them, with the steps and waits whose gate it found worn out: where it has no turn left and the
-  -- seat is marked
+  -- The call is played along its turns, with the steps and waits whose gate it found worn out. It
+  -- finds a gate worn out only if it has no turn left there and the seat is marked.
   pub comes : PlaysWorn new.seats state from deeds
-  -- and by the step table alone where it found no gate worn out
+  -- If the call found no gate worn out, it is played by the step table alone.
   pub plays : FindsTurns ran → Plays from deeds state
-  -- a pass none of whose seats is marked made no call that found a gate worn out
+  -- If none of the pass's seats is marked, the call found no gate worn out.
   pub unmarked : IsUnmarked new.seats → FindsTurns ran
 
+-- This holds of each call.
 abbrev pub EachPlaysItsOwn : (ℕ → Type 0) → Type 0
 EachPlaysItsOwn may = (from : State) (old : Pass) (deeds : List Deed) (state : State) (new : Pass) (ran : Ran may from old deeds state new) → PlaysItsOwn ran

@@ -1,6 +1,6 @@
--- What a call of a pass did: the step table taken along the turns that the call made at the gates, each a turn of the pass's
--- own, with the counts that it read between them (POSIX.1-2017, msgget, msgsnd, msgrcv and msgctl; the steps are this
--- profile's).
+-- What a call of a pass did: the step table taken along the turns that the call made at the gates,
+-- each of them a turn of the pass's own, with the counts that the call read between them
+-- (POSIX.1-2017, msgget, msgsnd, msgrcv and msgctl; the steps are this project's profile).
 use Rattle.std.specs.Prelude.{◌≡◌, ℕ, ℤ, ◌<◌, ◌≤◌, ◌⊎◌, ⊤, List, [], ◌∷◌, ◌++◌}
 use Rattle.sysv_model.specs.declared.errno.Errno.TheVariants.{EOVERFLOW}
 use Rattle.sysv_model.specs.Turn.{Deed}
@@ -10,59 +10,61 @@ use Rattle.sysv_driver.specs.Stepping.{Makes as MakesFor, Steps as StepsFor, For
 use Rattle.sysv_gated.specs.Seats.{Seats, MakesTurnAt, FindsWorn}
 use Rattle.sysv_gated.specs.Reading.{Reads, GivesUp}
 
--- a pass: its seat at each object, and the blocks of the chains that it could not give back
+-- A pass: its seat at each object, and the blocks of the chains that it could not return.
 pub record Pass : Type 0 where
   pub seats : Seats
   pub held : ℕ
 
--- the pass made the turn
+-- The pass made the turn.
 abbrev pub Makes : Pass → Deed → Pass → Type 0
 Makes before deed after = MakesFor MakesTurnAt FindsWorn before.seats before.held deed after.seats after.held
 
--- one step of a call: a turn at its object
+-- One step of a call: a turn at its object.
 abbrev pub Steps : (ℕ → Type 0) → Phase → Pass → State → Pass → Type 0
 Steps may phase before state after = StepsFor MakesTurnAt FindsWorn may phase before.seats before.held state after.seats after.held
 
--- the identifier is forgotten, where the registry's gate is not worn out too
+-- The identifier is forgotten, if the registry's gate is not worn out too.
 abbrev pub Forgets : ℤ → Pass → List Deed → Pass → Type 0
 Forgets id before deeds after = ForgetsFor MakesTurnAt FindsWorn id before.seats before.held deeds after.seats after.held
 
--- what a call does where it found the gate of a step worn out
+-- What a call does after it found the gate of a step worn out.
 abbrev pub TurnsBack : Phase → Pass → List Deed → State → Pass → Type 0
 TurnsBack phase before deeds state after = TurnsBackFor MakesTurnAt FindsWorn phase before.seats before.held deeds state after.seats after.held
 
--- a step of a call whose gate is worn out, with the turns that it made
+-- A step of a call whose gate is worn out, with the turns that the call then made.
 abbrev pub FindsNoTurn : (ℕ → Type 0) → Phase → Pass → State → Pass → Type 0
 FindsNoTurn may phase before state after = FindsNoTurnFor MakesTurnAt FindsWorn may phase before.seats before.held state after.seats after.held
 
 -- ---- calls
 
--- The call that stood at `from` with this pass has made these turns, and stands there with that pass now
+-- The call was in the state `from` with the pass `old`. It has made these turns, and is now in this
+-- state with this pass.
 pub data Ran (may : ℕ → Type 0) (from : State) (old : Pass) : List Deed → State → Pass → Type 0 where
-  -- it has made no step
+  -- It has made no step.
   begins : Ran may from old [] from old
-  -- it made one more turn
+  -- It made one more turn.
   steps : {deeds : List Deed} {phase : Phase} {mid : Pass} (state : State) (new : Pass) →
       Ran may from old deeds (Goes phase) mid → (step : Steps may phase mid state new) →
       Ran may from old (deeds ++ step.deed ∷ []) state new
-  -- it found the gate of a step worn out
+  -- It found the gate of a step worn out.
   turns_back : {deeds : List Deed} {phase : Phase} {mid : Pass} (state : State) (new : Pass) →
       Ran may from old deeds (Goes phase) mid → (step : FindsNoTurn may phase mid state new) →
       Ran may from old (deeds ++ step.deeds) state new
-  -- it read a count
+  -- It read a count.
   reads : {deeds : List Deed} {state : State} {mid : Pass} (count : Count) (value : ℕ) (new : Pass) →
       Ran may from old deeds state mid → Reads count value mid.seats new.seats → new.held ≡ mid.held →
       Ran may from old deeds state new
-  -- it read the count for which it waited, and found it at its goal
+  -- It read the count for which it waited, and found it at its goal.
   resumes : {deeds : List Deed} {wait : Wait} {mid : Pass} (value : ℕ) (new : Pass) →
       Ran may from old deeds (Waits wait) mid → goal_of wait ≤ value → Reads (awaited wait) value mid.seats new.seats → new.held ≡ mid.held →
       Ran may from old deeds (Goes (resume wait value)) new
-  -- it read the count for which it waited, found it below its goal, and the gate of its object worn out
+  -- It read the count for which it waited, found it below its goal, and found the gate of its
+  -- object worn out.
   gives_up : {deeds : List Deed} {wait : Wait} {mid : Pass} (value : ℕ) (new : Pass) →
       Ran may from old deeds (Waits wait) mid → value < goal_of wait → GivesUp (awaited wait) value mid.seats new.seats → new.held ≡ mid.held →
       Ran may from old deeds (Over (Refused EOVERFLOW)) new
 
--- the call found no gate worn out, whatever other calls of its pass found before
+-- The call found no gate worn out, whatever other calls of its pass found before.
 abbrev pub FindsTurns : {may : ℕ → Type 0} {from : State} {old : Pass} {deeds : List Deed} {state : State} {new : Pass} → Ran may from old deeds state new → Type 0
 FindsTurns begins = ⊤
 FindsTurns (steps state new ran step) = FindsTurns ran
@@ -71,10 +73,10 @@ FindsTurns (reads count value new ran read same) = FindsTurns ran
 FindsTurns (resumes value new ran reached read same) = FindsTurns ran
 FindsTurns (gives_up value new ran below read same) = ⊥
 
--- the call stands there now
+-- The call is now in this state.
 abbrev pub Comes : (ℕ → Type 0) → State → Pass → State → Pass → Type 0
 Comes may from old state new = (deeds : List Deed) × Ran may from old deeds state new
 
--- one step of a call
+-- One step of a call.
 abbrev pub StepsOn : (ℕ → Type 0) → Phase → Pass → State → Pass → Type 0
 StepsOn may phase before state after = Steps may phase before state after ⊎ FindsNoTurn may phase before state after

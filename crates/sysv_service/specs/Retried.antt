@@ -1,6 +1,7 @@
--- A call that waited for room, for a message or for a settled key comes back only to an object whose count is at least the
--- goal of the wait (POSIX.1-2017, msgsnd and msgrcv: the calling thread waits until ..; the goals are this profile's). The
--- goal of a wait for blocks is compared with a count that was read, and not at a turn of the pool.
+-- A call that waited for room, for a message or for a settled key makes its next turn only at an
+-- object whose count is at least the goal of the wait (POSIX.1-2017, msgsnd and msgrcv: the calling
+-- thread waits until ..; the goals are this project's profile). The goal of a wait for blocks is
+-- compared with a count that was read, and not at a turn of the pool.
 use Rattle.std.specs.Prelude.{◌≡◌, ℕ, ◌≤◌, List, [], ◌∷◌}
 use mathlib.Core.Option.{some}
 use lib.ListN.{get_elem?}
@@ -17,23 +18,25 @@ use Rattle.sysv_gated.specs.Seats.{SlotSeat, Seats}
 use Rattle.sysv_gated.specs.Reading.{Reads}
 use Rattle.sysv_service.specs.Ran.{Pass, Steps}
 
+-- The list without its last element.
 abbrev pub all_but_last : {A : Type 0} → List A → List A
 all_but_last [] = []
 all_but_last (x ∷ []) = []
 all_but_last (x ∷ y ∷ ys) = x ∷ all_but_last (y ∷ ys)
 
--- the count of the object as the last turn that the seat has seen found it
+-- The count of the object that the last turn seen by the seat found.
 abbrev pub count_found : {O C R : Type 0} → (O → ℕ × ℕ) → OfObject → Holding O C R → ℕ
 count_found counted count seat = of_count count (counted (after_all seat.gate.opening (all_but_last seat.seen)))
 
--- the last turn at the object that has the count found it at least at the goal
+-- The last turn at the object that has the count found the count at the goal or above. Of a wait
+-- for blocks nothing is stated.
 abbrev pub IsFoundAt : Count → ℕ → Seats → Type 0
 IsFoundAt (ArrivedOf slot) goal seats = (seat : SlotSeat) → get_elem? seats.slots slot ≡ some seat → goal ≤ count_found slot_counts Arrived seat
 IsFoundAt (FreedOf slot) goal seats = (seat : SlotSeat) → get_elem? seats.slots slot ≡ some seat → goal ≤ count_found slot_counts Freed seat
 IsFoundAt Settled goal seats = goal ≤ count_found registry_counts Arrived seats.registry
 IsFoundAt Released goal seats = Unit {0}
 
--- a wait ended with a value that is at least its goal, and the call made its next turn
+-- A wait ended with a value of at least its goal, and the call made its next turn.
 abbrev pub EachRetryIsAtItsGoal : (ℕ → Type 0) → Type 0
 EachRetryIsAtItsGoal may = (wait : Wait) (value : ℕ) (waited read : Pass) (state : State) (after : Pass) →
     goal_of wait ≤ value → Reads (awaited wait) value waited.seats read.seats → Steps may (resume wait value) read state after →

@@ -1,4 +1,4 @@
--- What a call of the service answers, by how the call ended (this profile's).
+-- What a call of the service returns, by how the call ended. This project's profile.
 use Rattle.std.specs.Prelude.{◌≡◌, ◌<◌, ◌≤◌, ◌⊎◌, Option, ℕ, ℤ, List, [], length, Result, Ok, Err, ⊤}
 use Rattle.sysv_model.specs.declared.errno.Errno.{Errno}
 use Rattle.sysv_model.specs.declared.limits.TheConstants.{MESSAGE_BYTES}
@@ -13,29 +13,34 @@ use Rattle.sysv_service.specs.Ran.{Pass, Makes}
 use Rattle.sysv_queue.specs.Delivery.{Given}
 use Rattle.sysv_steps.specs.State.{Ending, Id, Zero, Got, Told, Refused}
 
+-- The result of a call that ends with an identifier.
 abbrev pub TellsId : Ending → Result ℤ Errno → Type 0
 TellsId (Id id) (Ok told) = told ≡ id
 TellsId (Refused why) (Err told) = told ≡ why
 TellsId ending result = ⊥
 
+-- The result of a call that ends with no value.
 abbrev pub TellsZero : Ending → Result ⊤ Errno → Type 0
 TellsZero Zero (Ok told) = ⊤
 TellsZero (Refused why) (Err told) = told ≡ why
 TellsZero ending result = ⊥
 
+-- The result of a call that ends with attributes.
 abbrev pub TellsStat : Ending → Result Stat Errno → Type 0
 TellsStat (Told stat) (Ok told) = told ≡ stat
 TellsStat (Refused why) (Err told) = told ≡ why
 TellsStat ending result = ⊥
 
--- what is given: the message's type, and its text, which is in the body, with its length; after a refusal the body is empty
+-- The result of a receive: the message's type, its body, which is in `out`, and the length of the
+-- body. After an error `out` is empty.
 abbrev pub TellsGot : Ending → Result Given Errno → List ℕ → Type 0
 TellsGot (Got mtype text) (Ok told) out = (told.mtype ≡ mtype) × (told.len ≡ length out) × (length out ≤ MESSAGE_BYTES) × (out ≡ text)
 TellsGot (Refused why) (Err told) out = (told ≡ why) × (out ≡ [])
 TellsGot ending result out = ⊥
 
--- the row of a slot is told in a turn at it; a slot that is not there is refused, and nothing was done; else its gate is
--- worn out. The pass keeps the chains that it kept in each case
+-- The result of a read of a slot's row. The row is returned in a turn at the slot. A slot that does
+-- not exist is refused with EINVAL, and nothing is done. Any other refusal is EOVERFLOW, and the
+-- slot's gate is worn out. The pass keeps the same chains in every case.
 abbrev pub TellsRow : ℕ → Pass → Result (Option Row) Errno → Pass → Type 0
 TellsRow slot before (Ok row) after = (slot < SLOTS) × Makes before (AtSlot slot ReadRow (Shown row)) after
 TellsRow slot before (Err why) after =

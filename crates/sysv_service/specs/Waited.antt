@@ -1,4 +1,4 @@
--- How a wait of a call ends (this profile's).
+-- How a wait of a call ends. This project's profile.
 use Rattle.std.specs.Prelude.{◌≡◌, ℕ, ◌^◌, ◌-◌, ◌<◌, ◌≤◌, ◌⊎◌, min}
 use Rattle.sysv_steps.specs.State.{Wait, State, Goes, Waits, Over, Refused}
 use Rattle.sysv_model.specs.declared.errno.Errno.TheVariants.{EOVERFLOW}
@@ -6,16 +6,16 @@ use Rattle.sysv_steps.specs.Resume.{awaited, goal_of, resume}
 use Rattle.sysv_gated.specs.Reading.{Reads, GivesUp}
 use Rattle.sysv_service.specs.Ran.{Pass}
 
--- the goal, as a number of 64 bits
+-- The goal, as a number of 64 bits.
 abbrev pub goal_seen : ℕ → ℕ
 goal_seen goal = min goal (2 ^ 64 - 1)
 
--- the count was read below the goal
+-- The count that was read is below the goal.
 abbrev pub IsUnmet : Wait → Pass → Pass → Type 0
 IsUnmet wait before after = (value : ℕ) × (value < goal_of wait) × Reads (awaited wait) value before.seats after.seats
 
--- where a look at the count leads: the call goes on with the value, or waits on, or has found the gate of the object worn out
--- and is over
+-- The state after a look at the count: the call goes on with the value, or still waits, or has
+-- found the gate of the object worn out and is over.
 abbrev pub EndsWait : Wait → Pass → State → Pass → Type 0
 EndsWait wait before state after =
     ((value : ℕ) × Reads (awaited wait) value before.seats after.seats × (after.held ≡ before.held)

@@ -1,13 +1,13 @@
-//! Whether the caller of a waiting call is still there.
+//! The callers of waiting calls, and whether they have left.
 
 ghost use Rattle.std.specs.Prelude.{IsTrue};
 
-/// The caller of a call that may wait.
+/// The caller for whom a call that may wait is made.
 pub trait Caller {
-    /// Whether it may have left.
+    /// Whether the caller may have left.
     ghost may_leave: { Self → Type 0 };
 
-    /// Whether it has left: nobody reads the answer of the call.
+    /// Returns whether the caller has left, so that the result of the call would reach no one.
     fn has_left(&self) -> bool
         ensures { IsTrue result → may_leave self.now };
 }

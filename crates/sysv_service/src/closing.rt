@@ -11,23 +11,30 @@ use sysv_gate::Closing;
 use sysv_gated::{GatedPool, GatedRegistry, GatedSlot, GatesClosed};
 use sysv_pool::{Chain, Pool};
 
-/// A pool takes a chain back below this released count, which no run of a service reaches.
+/// A pool takes a chain back while its released count is below this value. No run of a service
+/// reaches it.
 const RELEASES: u64 = 1 << 63;
 
-/// What a closed service gives back.
+/// What was left of a service when it was closed.
 #[derive(Clone, Copy, PartialEq, Eq, Debug)]
 pub struct Closed {
-    /// The messages that waited on queues.
+    /// The number of messages that were queued.
     pub waiting: u64,
-    /// The blocks of the pool that are free once those of the messages that waited, and those that the pass kept, were put
-    /// back. It is 0 where the gate of the pool is held.
+    /// The number of free blocks, after the chains of the queued messages and those that the pass
+    /// kept were returned to the pool, as far as the pool takes them. It is 0 if the gate of the
+    /// pool is held.
     pub free: u32,
-    /// The gates that are held: a turn at each was not given back, and nothing is told of its object.
+    /// The number of held gates. A turn at each of them did not end, and nothing is known of its
+    /// object.
     pub held: u32,
 }
 
 impl Service {
-    /// Ends the service and the pass, and counts what is left. It takes no memory.
+    /// Closes the service, ends the pass, and counts what is left. It allocates nothing.
+    ///
+    /// # Conditions
+    ///
+    /// - `pass` is a pass of this service.
     pub fn close(self, pass: Pass) -> Closed
         requires { AreOf self pass.seats }
         ensures { IsCounted pass.seats pass.held result }
@@ -50,7 +57,8 @@ impl Service {
     }
 }
 
-/// What the slots held, the first one first. Their chains go back to the pool, if it is there.
+/// Returns the number of messages that the slots held and the number of held gates, and returns the
+/// slots' chains to the pool, in the order of the slots, if the pool is there.
 fn end_slots(mut slots: Vec<Closing<GatedSlot>>, pool: &mut Option<Pool>) -> (u64, u32)
     requires { length slots.items ≤ slot_count }
     ensures waiting { result.0 ≡ all_waiting slots.items }
@@ -71,7 +79,8 @@ fn end_slots(mut slots: Vec<Closing<GatedSlot>>, pool: &mut Option<Pool>) -> (u6
     (waiting, held)
 }
 
-/// The messages that waited in the slot. `None` where its gate is held.
+/// Returns the number of messages that were queued in the slot, and returns its chain to the pool.
+/// Returns `None` if the slot's gate is held.
 fn end_slot(slot: Closing<GatedSlot>, pool: &mut Option<Pool>) -> Option<u32>
     ensures waiting { IfSome result (λ messages. messages ≡ waiting_in slot.object) }
     ensures held { is_held result ≡ is_held slot.object }
@@ -94,14 +103,14 @@ fn end_slot(slot: Closing<GatedSlot>, pool: &mut Option<Pool>) -> Option<u32>
     Some(messages)
 }
 
-/// 1 where the gate of the registry is held, else 0.
+/// Returns 1 if the gate of the registry is held, else 0.
 fn end_registry(registry: Closing<GatedRegistry>) -> u32
     ensures { result ≡ is_held registry.object }
 {
     u32::from(registry.object.is_none())
 }
 
-/// The pool, and 1 where its gate is held, else 0.
+/// Returns the pool, and 1 if its gate is held, else 0.
 fn end_pool(pool: Closing<GatedPool>) -> (Option<Pool>, u32)
     ensures pool { result.0 ≡ pool.object }
     ensures held { result.1 ≡ is_held pool.object }
@@ -120,7 +129,7 @@ fn end_pool(pool: Closing<GatedPool>) -> (Option<Pool>, u32)
     }
 }
 
-/// Puts the chain back, as far as the pool takes it.
+/// Returns the chain to the pool, if the pool takes it.
 fn put_back(pool: &mut Option<Pool>, chain: Chain)
     ensures { pool.new ≡ with_chain pool.old chain.blocks }
 {
@@ -137,7 +146,7 @@ fn put_back(pool: &mut Option<Pool>, chain: Chain)
     }
 }
 
-/// The free blocks, 0 where there is no pool.
+/// Returns the number of free blocks, 0 if there is no pool.
 fn end_blocks(pool: Option<Pool>) -> u32
     ensures { result ≡ free_in pool }
 {

@@ -23,7 +23,20 @@ use sysv_steps::{Ending, Phase, State, begin_remove, begin_set, begin_stat};
 use sysv_turns::{ObjectCall, ObjectReply, SlotAsk, SlotCall, SlotReply};
 
 impl Service {
-    /// Tells the attributes of the queue of this identifier, and what waits on it (POSIX.1-2017, `msgctl`, IPC_STAT).
+    /// Returns the attributes of the queue `id`, the number of queued messages and the number of
+    /// their bytes (POSIX.1-2017, `msgctl`, IPC_STAT). It never waits for a count.
+    ///
+    /// # Errors
+    ///
+    /// The first cause that applies is reported.
+    ///
+    /// - `EINVAL` if no queue is live under `id`.
+    /// - `EACCES` if `cred` has no read permission.
+    /// - `EOVERFLOW` only if a gate is worn out.
+    ///
+    /// # Conditions
+    ///
+    /// - `pass` is a pass of this service.
     pub fn msgctl_stat(
         &self,
         rt: &impl MayWait,
@@ -48,7 +61,7 @@ impl Service {
         unreachable!()
     }
 
-    /// One step of an IPC_STAT.
+    /// Makes one step of an IPC_STAT.
     fn stat_step(&self, rt: &impl MayWait, pass: &mut Pass, phase: Phase) -> State
         requires pass { AreOf self.now pass.old.seats }
         requires stats { Stats (Goes (phase_of phase [])) }
@@ -61,7 +74,22 @@ impl Service {
         stat_step(&gates, &mut pass.seats, phase)
     }
 
-    /// Sets the owner, the mode and the limit of the queue of this identifier (POSIX.1-2017, `msgctl`, IPC_SET).
+    /// Sets the owner, the mode and the limit `qbytes` of the queue `id`, and its time of change
+    /// (POSIX.1-2017, `msgctl`, IPC_SET). It wakes the calls that wait on the queue.
+    ///
+    /// # Errors
+    ///
+    /// An error leaves the queue unchanged. The first cause that applies is reported.
+    ///
+    /// - `EINVAL` if no queue is live under `id`.
+    /// - `EPERM` if `cred` is not user 0, the owner or the creator.
+    /// - `EINVAL` if the new limit is above 65,536 bytes.
+    /// - `EPERM` if the new limit is above the present one and `cred` is not user 0.
+    /// - `EOVERFLOW` only if a gate is worn out.
+    ///
+    /// # Conditions
+    ///
+    /// - `pass` is a pass of this service.
     pub fn msgctl_set<C: Clock>(
         &self,
         rt: &impl MayWait,
@@ -88,7 +116,7 @@ impl Service {
         unreachable!()
     }
 
-    /// One step of an IPC_SET.
+    /// Makes one step of an IPC_SET.
     fn set_step<C: Clock>(
         &self,
         rt: &impl MayWait,
@@ -107,7 +135,20 @@ impl Service {
         set_step(&gates, &mut pass.seats, &mut pass.held, clock, phase)
     }
 
-    /// Removes the queue of this identifier, and discards what waits on it (POSIX.1-2017, `msgctl`, IPC_RMID).
+    /// Removes the queue `id` and discards its queued messages (POSIX.1-2017, `msgctl`, IPC_RMID).
+    /// Calls that wait on the queue fail with `EIDRM`.
+    ///
+    /// # Errors
+    ///
+    /// An error leaves the queue unchanged. The first cause that applies is reported.
+    ///
+    /// - `EINVAL` if no queue is live under `id`.
+    /// - `EPERM` if `cred` is not user 0, the owner or the creator.
+    /// - `EOVERFLOW` only if a gate is worn out.
+    ///
+    /// # Conditions
+    ///
+    /// - `pass` is a pass of this service.
     pub fn msgctl_rmid(
         &self,
         rt: &impl MayWait,
@@ -132,7 +173,7 @@ impl Service {
         unreachable!()
     }
 
-    /// One step of an IPC_RMID.
+    /// Makes one step of an IPC_RMID.
     fn remove_step(&self, rt: &impl MayWait, pass: &mut Pass, phase: Phase) -> State
         requires pass { AreOf self.now pass.old.seats }
         requires removes { Removes (Goes (phase_of phase [])) }
@@ -145,8 +186,17 @@ impl Service {
         remove_step(&gates, &mut pass.seats, &mut pass.held, phase)
     }
 
-    /// The row of the live queue in this slot, if one is live (this profile's, for `ipcs`). No permission is asked. `EINVAL`
-    /// comes exactly where the slot is not 0 to 255, and then nothing was done.
+    /// Returns the row of the live queue in this slot, or `None` if no queue is live there (this
+    /// project's profile, for `ipcs`). It checks no permission.
+    ///
+    /// # Errors
+    ///
+    /// - `EINVAL` if and only if `slot` is not 0 to 255. Nothing was done.
+    /// - `EOVERFLOW` only if the gate of the slot is worn out.
+    ///
+    /// # Conditions
+    ///
+    /// - `pass` is a pass of this service.
     pub fn list_row(
         &self,
         rt: &impl MayWait,
@@ -174,7 +224,7 @@ impl Service {
     }
 }
 
-/// The answer of an IPC_STAT.
+/// Returns the result of an IPC_STAT.
 fn stat_of(ending: Ending) -> Result<Stat, Errno>
     requires { Stats (Over (ending_of ending [])) }
     ensures { TellsStat (ending_of ending []) result }

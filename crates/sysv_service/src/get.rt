@@ -19,7 +19,26 @@ use sysv_model::{Cred, Errno, Flags};
 use sysv_steps::{Ending, Getting, Phase, State};
 
 impl Service {
-    /// Answers the identifier of the queue of this key, or makes one (POSIX.1-2017, `msgget`).
+    /// Returns the identifier of the queue with this key, or that of a new queue (POSIX.1-2017,
+    /// `msgget`).
+    ///
+    /// A queue is created if `key` is 0 (`IPC_PRIVATE`), or if the key has no queue and `IPC_CREAT`
+    /// is set. Its mode is the low nine bits of `flags`. If another call is creating or removing
+    /// the queue of this key, the call waits until that is done, whatever `flags` says.
+    ///
+    /// # Errors
+    ///
+    /// The first cause that applies is reported.
+    ///
+    /// - `ENOENT` if the key has no queue and `IPC_CREAT` is not set.
+    /// - `ENOSPC` if a queue is to be created and no slot is vacant.
+    /// - `EEXIST` if the key has a queue, and `IPC_CREAT` and `IPC_EXCL` are set.
+    /// - `EACCES` if the mode bits of `flags` request a permission that `cred` does not have.
+    /// - `EOVERFLOW` only if a gate is worn out.
+    ///
+    /// # Conditions
+    ///
+    /// - `pass` is a pass of this service.
     pub fn msgget<C: Clock>(
         &self,
         rt: &impl MayWait,
@@ -46,7 +65,7 @@ impl Service {
         unreachable!()
     }
 
-    /// One step of a get.
+    /// Makes one step of a `msgget`.
     fn get_step<C: Clock>(
         &self,
         rt: &impl MayWait,
@@ -66,7 +85,7 @@ impl Service {
     }
 }
 
-/// The answer of a msgget.
+/// Returns the result of a `msgget`.
 fn id_of(ending: Ending) -> Result<i32, Errno>
     requires { Gets (Over (ending_of ending [])) }
     ensures { TellsId (ending_of ending []) result }

@@ -1,4 +1,4 @@
-//! Laws over the definitions alone.
+//! Laws over the definitions alone. Each function's contract is its law.
 
 ghost use Rattle.sysv_gated.specs.SeenHistories.{ObeysIfOpen};
 ghost use Rattle.sysv_service.specs.Hiring.{EveryHiringObeys, EveryStopRemoves};
@@ -15,8 +15,10 @@ use sysv_free::every_service_that_came_home_is_a_run;
 use sysv_gated::{each_seat_obeys, seen_histories};
 use sysv_steps::each_answer_is_right;
 
-/// Whatever calls were made with a pass, and whether it was opened, split off or joined, each of its seats knows just the
-/// turns of its own in what it has seen, and what it has seen of each object obeys the law of that object.
+/// States that each seat of a pass knows exactly its own turns in what it has seen, whatever calls
+/// were made with the pass, and whether it was opened, split off or joined. If nothing had happened
+/// at the objects when the service was opened, what the seat has seen of its object obeys the law
+/// of that object.
 pub fn each_pass_obeys(pass: &Pass)
     ensures knows { KnowTheirOwn pass.now.seats }
     ensures obeys { ObeysIfOpen pass.now.seats }
@@ -24,7 +26,8 @@ pub fn each_pass_obeys(pass: &Pass)
     each_seat_obeys(&pass.seats);
 }
 
-/// A call that found no gate worn out answers as the calls of System V queues do, by the turns that it made alone.
+/// States that a call that found no gate worn out returns what a call of System V queues returns
+/// for the turns that it made itself.
 pub fn each_run_answers_right<C: Clock>(clock: &C)
     ensures stamped { EachRunAnswersRight (C.may clock.now) }
     ensures unstamped { EachRunAnswersRight no_moment }
@@ -32,24 +35,28 @@ pub fn each_run_answers_right<C: Clock>(clock: &C)
     each_answer_is_right();
 }
 
-/// A call adds to the turns that its pass has made, in the one order of all turns, just those that it made, in order, and is
-/// played along them. A step or a wait at a worn gate comes only where the call has no turn left at that object and the
-/// pass's seat there is marked. Where the call found no gate worn out, as it did where the pass is unmarked after it, it is
-/// played by the step table alone.
+/// States that a call adds to its pass's turns, in the one order of all turns, exactly the turns
+/// that it made, in order, and that it is played along them. A step or a wait at a worn gate occurs
+/// only if the call has no turn left at that object and the pass's seat there is marked. If the
+/// call found no gate worn out, it is played by the step table alone. If the pass is unmarked after
+/// the call, the call found no gate worn out.
 pub fn each_plays_its_own<C: Clock>(clock: &C)
     ensures stamped { EachPlaysItsOwn (C.may clock.now) }
     ensures unstamped { EachPlaysItsOwn no_moment }
 {}
 
-/// A call that waited for room, for a message or for a settled key comes back to an object whose count is at least the goal
-/// of the wait.
+/// States that a call that waited for room, for a message or for a settled key makes its next turn
+/// at an object whose count is at least the goal of the wait. Of a wait for blocks it states
+/// nothing.
 pub fn each_retry_is_at_its_goal<C: Clock>(clock: &C)
     ensures { EachRetryIsAtItsGoal (C.may clock.now) }
 {}
 
-/// Whatever the passes of a service did, from its opening until all of them were joined into one, with which it was closed: the
-/// calls of all passes are all that made the order of turns that is found there, that order is a run of a world with them, and
-/// it obeys the headline of threads. This is so if no call found a gate worn out, whatever clock it had.
+/// States that the calls of all passes of a service are one run of a world. The service was opened,
+/// its passes did what they did, all of them were joined into one, and the service was closed with
+/// that one. Then the calls of all passes are all that made the order of turns that is found there,
+/// that order is a run of a world with them, and it obeys the headline of threads. This holds if no
+/// call found a gate worn out, whatever clock each call had.
 pub fn every_service_obeys<C: Clock>(clock: &C)
     ensures obeys { EveryServiceObeys }
     ensures stamped { EachRunIsAtAnyMoment (C.may clock.now) }
@@ -58,10 +65,13 @@ pub fn every_service_obeys<C: Clock>(clock: &C)
     every_service_that_came_home_is_a_run();
 }
 
-/// The calls of the workers of a service, to each of which a pass was given, and those that the first pass made once all were
-/// taken back, are all that made the order of turns that is found at the close. That order is a run of a world with them, and it
-/// obeys the headline of threads. This is so if the last pass is unmarked: then no call found a gate worn out. A stop makes
-/// removals, and no other call.
+/// States the same of a service whose first pass gave a pass to each worker and took all of them
+/// back. The calls of the workers, and those that the first pass made afterwards, are all that made
+/// the order of turns that is found at the close. That order is a run of a world with them, and it
+/// obeys the headline of threads. This holds if the last pass is unmarked: then no call found a
+/// gate worn out.
+///
+/// The second clause states that a stop makes removals, and no other call.
 pub fn every_hiring_obeys()
     ensures obeys { EveryHiringObeys }
     ensures stops { EveryStopRemoves }
@@ -69,8 +79,9 @@ pub fn every_hiring_obeys()
     every_service_that_came_home_is_a_run();
 }
 
-/// Once all passes of a service have come home, and each of their calls is over or was left at a wait, all blocks of the pool are
-/// free after the close, if no gate is held and no call found one worn out.
+/// States that all blocks of the pool are free after the close of a service, if all passes have
+/// come home, each of their calls is over or was left at a wait, no gate is held, no call found one
+/// worn out, and the pool took back at most 2^63 - 256 chains.
 pub fn every_pool_is_whole()
     ensures { EveryPoolIsWhole }
 {

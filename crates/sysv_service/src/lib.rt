@@ -1,6 +1,8 @@
-//! System V message queues (POSIX.1-2017, `msgget`, `msgsnd`, `msgrcv`, `msgctl`) as a service that threads share. A call
-//! makes the steps of the step table, each as a turn at the gate of one object, and waits for its turns and for counts.
-//! Each thread has a pass of its own:
+//! System V message queues (POSIX.1-2017, `msgget`, `msgsnd`, `msgrcv`, `msgctl`) as a service that
+//! threads share.
+//!
+//! A call makes the steps of the step table. Each step is a turn at the gate of one object, and the
+//! call waits for its turns and for counts. Each thread calls the service with a pass of its own:
 //!
 //! ```rust
 //! let id = service.msgget(&rt, &mut pass, &CLOCK, USER, 7, creating());
@@ -31,7 +33,7 @@ pub use laws::{
 pub use pass::Pass;
 pub use service::Service;
 
-// What the signatures name beside these.
+// The types that the signatures use.
 pub use sysv_driver::Clock;
 pub use sysv_gated::OpenRefused;
 pub use sysv_model::{Body, Cred, Errno, Flags, NoMemory, Row, SetTo, Stat};

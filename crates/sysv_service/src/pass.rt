@@ -1,4 +1,4 @@
-//! The right to call a service.
+//! The passes of a service.
 
 ghost use Rattle.std.specs.Prelude.{◌≡◌};
 
@@ -6,12 +6,12 @@ use std::marker::Model;
 use sysv_gated::Seats;
 use sysv_pool::Chain;
 
-/// The right to call a service: a seat at each object. It is used only with the service that gave it, and may go to another
-/// thread. It can be neither dropped nor copied: it ends by `Service::join_pass` or
-/// `Service::close`.
+/// The right of one thread to call a service. It has a seat at each object. It works only with the
+/// service that it came from. It may move to another thread. A pass can be neither dropped nor
+/// copied; end it with `Service::join_pass` or `Service::close`.
 pub struct Pass {
     pub(crate) seats: Seats,
-    /// The chains that could not be given back.
+    /// The chains that could not be returned to the pool, as one chain.
     pub(crate) held: Chain,
 }
 
@@ -24,7 +24,7 @@ impl Model for Pass {
 }
 
 impl Pass {
-    /// Its seat at each object, and the chains that it could not give back, as one.
+    /// Returns the seats, and the chains that could not be returned to the pool, as one chain.
     pub(crate) fn into_seats(self) -> (Seats, Chain)
         ensures { (result.0 ≡ self.seats) × (result.1.blocks ≡ self.held) }
     {

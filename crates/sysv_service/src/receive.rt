@@ -24,8 +24,31 @@ use sysv_queue::Delivery;
 use sysv_steps::{Ending, Phase, Receiving, State};
 
 impl Service {
-    /// Takes the message that the type and the flags name from the queue of this identifier (POSIX.1-2017, `msgrcv`), and
-    /// writes the first `size` bytes of its text to `out`, which is empty after a refusal.
+    /// Takes a message from the queue `id` and writes its body to `out` (POSIX.1-2017, `msgrcv`).
+    /// Returns a `Delivery` with the message's type, length, sender and number. It must be spent by
+    /// `written` or `lost`.
+    ///
+    /// `mtype` selects the message: 0 the first one; a positive number the first one of that type,
+    /// or with `MSG_EXCEPT` the first one of any other type; a negative number the first one of the
+    /// lowest type up to its absolute value. If no queued message is selected, the call waits,
+    /// unless `IPC_NOWAIT` is set. If the body is longer than `size` bytes and `MSG_NOERROR` is
+    /// set, only its first `size` bytes are written, and the rest is lost.
+    ///
+    /// # Errors
+    ///
+    /// An error leaves the queue unchanged, and `out` is empty. The first cause that applies is
+    /// reported.
+    ///
+    /// - `EINVAL` if no queue is live under `id`.
+    /// - `EACCES` if `cred` has no read permission.
+    /// - `ENOMSG` if no queued message is selected and `IPC_NOWAIT` is set.
+    /// - `E2BIG` if the body is longer than `size` bytes and `MSG_NOERROR` is not set.
+    /// - `EIDRM` if the queue was removed during the call, after the call had found it.
+    /// - `EOVERFLOW` only if a gate is worn out.
+    ///
+    /// # Conditions
+    ///
+    /// - `pass` is a pass of this service.
     #[allow(clippy::too_many_arguments)]
     pub fn msgrcv<C: Clock>(
         &self,
@@ -44,7 +67,7 @@ impl Service {
         ensures ran { (ending : Ends)
             × Comes (C.may clock.now) (begins cred (Msgrcv id size mtype flags) 0) pass.old
             (Over ending) pass.new × TellsGot ending result out.new }
-        // The message that it gives is the one that it took.
+        // The message that the call returns is the one that it took.
         ensures given { IfOk result (λ told.
             HasGiven (C.may clock.now) (begins cred (Msgrcv id size mtype flags) 0) pass.old told
             pass.new) }
@@ -55,8 +78,19 @@ impl Service {
         }
     }
 
-    /// As `msgrcv`, for a caller that may leave. `None` if it left while the call waited: nothing is taken then, and `out` is
-    /// empty. The caller is asked after each wait of about a second, and before a wait's next turn.
+    /// Like `msgrcv`, but for a caller that may leave. Returns `None` if the caller left while the
+    /// call waited: no message is taken then, and `out` is empty.
+    ///
+    /// The call checks whether the caller has left after each sleep of at most a second that does
+    /// not end the wait, and at the end of the wait, before its next turn.
+    ///
+    /// # Errors
+    ///
+    /// As for `msgrcv`.
+    ///
+    /// # Conditions
+    ///
+    /// - `pass` is a pass of this service.
     #[allow(clippy::too_many_arguments)]
     pub fn msgrcv_for<C: Clock, K: Caller>(
         &self,
@@ -77,7 +111,7 @@ impl Service {
             × Comes (C.may clock.now) (begins cred (Msgrcv id size mtype flags) 0) pass.old
             (Over ending) pass.new
             × TellsGot ending told out.new) }
-        // The message that it gives is the one that it took.
+        // The message that the call returns is the one that it took.
         ensures given { IfSome result (λ told. IfOk told (λ given.
             HasGiven (C.may clock.now) (begins cred (Msgrcv id size mtype flags) 0) pass.old given
             pass.new)) }
@@ -103,8 +137,9 @@ impl Service {
         unreachable!()
     }
 
-    /// One step of a receive that fills this body. An arrival wakes one receive that waits, so one that has waited and takes
-    /// nothing wakes the next. One that has not waited was not woken, and owes no wake.
+    /// Makes one step of a receive that writes to `out`. An arrival wakes one of the receives that
+    /// wait, so a receive that has waited and takes nothing wakes the next one. A receive that has
+    /// not waited was not woken, and need not wake another.
     #[inline(always)]
     fn receive_step<C: Clock>(
         &self,
@@ -138,7 +173,7 @@ impl Service {
     }
 }
 
-/// The answer of a receive. After a refusal the body is emptied.
+/// Returns the result of a receive. After an error it empties the body.
 fn given_of(ending: Ending, out: &mut Body) -> Result<Delivery, Errno>
     requires receives { Receives (Over (ending_of ending out.old)) }
     requires sized { IsSized (State.Over ending) out.old }

@@ -24,7 +24,24 @@ use sysv_model::{Body, Cred, Errno, Flags};
 use sysv_steps::{Phase, Sending, State};
 
 impl Service {
-    /// Sends the text as a message of type `mtype`, from 1, to the queue of this identifier (POSIX.1-2017, `msgsnd`).
+    /// Appends a message of type `mtype` with the body `text` to the queue `id` (POSIX.1-2017,
+    /// `msgsnd`). `mtype` is at least 1, and the body has at most 8,192 bytes. If the message does
+    /// not fit, the call waits, unless `IPC_NOWAIT` is set.
+    ///
+    /// # Errors
+    ///
+    /// An error leaves the queue unchanged. The first cause that applies is reported.
+    ///
+    /// - `EINVAL` if `mtype` is below 1, if the body is too long, or if no queue is live under
+    ///   `id`.
+    /// - `EACCES` if `cred` has no write permission.
+    /// - `EAGAIN` if the message does not fit and `IPC_NOWAIT` is set.
+    /// - `EIDRM` if the queue was removed during the call, after the call had found it.
+    /// - `EOVERFLOW` only if a gate is worn out.
+    ///
+    /// # Conditions
+    ///
+    /// - `pass` is a pass of this service.
     #[allow(clippy::too_many_arguments)]
     pub fn msgsnd<C: Clock>(
         &self,
@@ -39,7 +56,7 @@ impl Service {
     ) -> Result<(), Errno>
         requires { AreOf self.now pass.old.seats }
         ensures pass { AreOf self.now pass.new.seats }
-        // Its start is the reading of the released count.
+        // The call starts with a read of the released count.
         ensures ran { (released : ℕ) × (mid : Seen)
             × Reads Released released pass.old.seats mid.seats × (mid.held ≡ pass.old.held)
             × (ending : Ends) × Comes (C.may clock.now)
@@ -52,8 +69,19 @@ impl Service {
         }
     }
 
-    /// As `msgsnd`, for a caller that may leave. `None` if it left while the call waited: nothing is sent then. The caller is
-    /// asked after each wait of about a second, and before a wait's next turn.
+    /// Like `msgsnd`, but for a caller that may leave. Returns `None` if the caller left while the
+    /// call waited: nothing is sent then.
+    ///
+    /// The call checks whether the caller has left after each sleep of at most a second that does
+    /// not end the wait, and at the end of the wait, before its next turn.
+    ///
+    /// # Errors
+    ///
+    /// As for `msgsnd`.
+    ///
+    /// # Conditions
+    ///
+    /// - `pass` is a pass of this service.
     #[allow(clippy::too_many_arguments)]
     pub fn msgsnd_for<C: Clock, K: Caller>(
         &self,
@@ -69,7 +97,7 @@ impl Service {
     ) -> Option<Result<(), Errno>>
         requires { AreOf self.now pass.old.seats }
         ensures pass { AreOf self.now pass.new.seats }
-        // Its start is the reading of the released count.
+        // The call starts with a read of the released count.
         ensures ran { IfSome result (λ told. (released : ℕ) × (mid : Seen)
             × Reads Released released pass.old.seats mid.seats × (mid.held ≡ pass.old.held)
             × (ending : Ends)
@@ -86,7 +114,7 @@ impl Service {
         self.send(rt, pass, clock, caller, text, begun)
     }
 
-    /// A send that has begun, to its end, or until its caller has left.
+    /// Runs a send that has begun until it is over, or until its caller has left.
     fn send<C: Clock, K: Caller>(
         &self,
         rt: &impl MayWait,
@@ -116,7 +144,7 @@ impl Service {
         unreachable!()
     }
 
-    /// One step of a send that has this text.
+    /// Makes one step of a send with this body.
     #[inline(always)]
     fn send_step<C: Clock>(
         &self,

@@ -14,8 +14,9 @@ use sysv_gated::{Gates, OpenRefused};
 use sysv_model::NoMemory;
 use sysv_pool::Chain;
 
-/// The queues of a system: 256 slots, the registry of their keys and the pool of blocks, which threads share by reference.
-/// Each thread calls it with a pass of its own. It can't be dropped: it ends by `close`.
+/// The message queues of a system: 256 slots, the registry of their keys and the pool of blocks.
+/// Threads share the service by reference, and each thread calls it with a pass of its own. A
+/// service cannot be dropped; end it with `close`.
 pub struct Service {
     pub(crate) gates: Gates,
 }
@@ -29,8 +30,13 @@ impl Model for Service {
 }
 
 impl Service {
-    /// A service without queues, with a pool of this many blocks, 128 to 65,536, and its first pass. `BadSize` comes exactly
-    /// where the number of blocks is out of that range. No later call takes memory.
+    /// Opens a service without queues, with a pool of `blocks` blocks, 128 to 65,536. Returns it
+    /// with its first pass. No later call allocates.
+    ///
+    /// # Errors
+    ///
+    /// - `BadSize` if and only if `blocks` is not 128 to 65,536.
+    /// - `NoMemory` if memory is refused.
     pub fn open(alloc: Global, blocks: u32) -> Result<(Service, Pass), OpenRefused>
         ensures open { IfOk result (λ o. AreOpen 0 blocks 0 o.0
             × (o.1 ≡ record { seats = all_opened o.0; held = 0 })) }
@@ -41,8 +47,14 @@ impl Service {
         Service::open_at(alloc, blocks, 0, 0)
     }
 
-    /// As `open`, where the tickets of all gates begin at `first`, at most 2^62, and the identifiers of all slots with this
-    /// generation, at most 8,388,607. `BadSize` comes exactly where one of the three is out of its range.
+    /// Like `open`, but with tickets of all gates from `first` on, and identifiers of all slots
+    /// from `generation` on.
+    ///
+    /// # Errors
+    ///
+    /// - `BadSize` if and only if `blocks` is not 128 to 65,536, `first` is above 2^62, or
+    ///   `generation` is above 8,388,607.
+    /// - `NoMemory` if memory is refused.
     pub fn open_at(
         alloc: Global,
         blocks: u32,
@@ -64,8 +76,17 @@ impl Service {
         Ok((Service { gates }, pass))
     }
 
-    /// Gives a new pass, which has seen what this one has seen, has made no turn, and keeps no chain. `NoMemory` leaves all
-    /// as it is.
+    /// Returns a new pass, which may move to another thread. It has seen what `pass` has seen, has
+    /// made none of these turns, and keeps no chain.
+    ///
+    /// # Errors
+    ///
+    /// - `NoMemory` is never returned by this implementation, which allocates nothing here. If it
+    ///   were, `pass` would be unchanged.
+    ///
+    /// # Conditions
+    ///
+    /// - `pass` is a pass of this service.
     pub fn split_pass(&self, alloc: Global, pass: &mut Pass) -> Result<Pass, NoMemory>
         requires { AreOf self.now pass.old.seats }
         ensures pass { AreOf self.now pass.new.seats }
@@ -81,7 +102,11 @@ impl Service {
         })
     }
 
-    /// Takes in another pass of this service: what it has seen, its turns, and the chains that it keeps.
+    /// Merges `other` into `pass`: what both have seen, their turns, and the chains that they keep.
+    ///
+    /// # Conditions
+    ///
+    /// - `pass` and `other` are passes of this service.
     pub fn join_pass(&self, pass: &mut Pass, other: Pass)
         requires pass { AreOf self.now pass.old.seats }
         requires other { AreOf self.now other.seats }
@@ -94,7 +119,7 @@ impl Service {
         pass.hold(chain);
     }
 
-    /// The gates of the objects.
+    /// Returns the gates of the objects.
     pub(crate) fn into_gates(self) -> Gates
         ensures { result ≡ self }
     {

@@ -11,7 +11,7 @@ use std::sync::Wait as MayWait;
 use sysv_keys::SLOTS;
 use sysv_model::{Cred, Errno};
 
-/// Who may remove every queue.
+/// The user who may remove every queue.
 const SUPERUSER: Cred = Cred {
     uid: 0,
     gid: 0,
@@ -19,9 +19,18 @@ const SUPERUSER: Cred = Cred {
 };
 
 impl Service {
-    /// Removes every queue: at each slot in order it reads the row, and removes the queue that is shown, as user 0 (this
-    /// profile's). It answers how many it removed. What is made meanwhile may stay. `EOVERFLOW` comes exactly where the gate of
-    /// a slot was found worn out, after all slots were tried.
+    /// Removes all queues and returns the number of queues removed (this project's profile). It
+    /// goes through the slots in order: it reads the row of each slot, and removes the queue that
+    /// it finds there as user 0. A queue that another call creates in the meantime may stay.
+    ///
+    /// # Errors
+    ///
+    /// - `EOVERFLOW` if and only if the gate of a slot was found worn out. All slots were tried,
+    ///   and the queues that could be removed are removed.
+    ///
+    /// # Conditions
+    ///
+    /// - `pass` is a pass of this service.
     pub fn stop(&self, rt: &impl MayWait, pass: &mut Pass) -> Result<u32, Errno>
         requires { AreOf self.now pass.old.seats }
         ensures pass { AreOf self.now pass.new.seats }
@@ -43,7 +52,8 @@ impl Service {
         Ok(removed)
     }
 
-    /// Whether a queue was removed at this slot. `EOVERFLOW` where its gate was found worn out.
+    /// Returns whether a queue was removed at this slot. Fails with `EOVERFLOW` if the slot's gate
+    /// was found worn out.
     fn stop_slot(&self, rt: &impl MayWait, pass: &mut Pass, slot: u32) -> Result<bool, Errno>
         requires pass { AreOf self.now pass.old.seats }
         requires slot { slot < slot_count }

@@ -20,7 +20,7 @@ use sysv_model::Errno;
 use sysv_pool::Chain;
 use sysv_steps::{Ending, State, Wait};
 
-/// The end of a call whose turn was due at a gate that is worn out.
+/// Returns the end of a call whose turn was due at a worn gate.
 pub(crate) fn overflow() -> State
     ensures { result ≡ State.Over (Ending.Refused Errno.EOVERFLOW) }
 {
@@ -28,7 +28,7 @@ pub(crate) fn overflow() -> State
 }
 
 impl Pass {
-    /// Keeps a chain that could not be given back.
+    /// Keeps a chain that could not be returned to the pool.
     pub(crate) fn hold(&mut self, chain: Chain)
         ensures { self.new ≡ record self.old { held = self.old.held + chain.blocks } }
     {
@@ -39,7 +39,8 @@ impl Pass {
 }
 
 impl Service {
-    /// Waits until the call may go on.
+    /// Waits for a second at most. Returns the state of the call afterwards: it goes on, still
+    /// waits, or is over because a gate is worn out.
     pub(crate) fn wait_on(&self, rt: &impl MayWait, pass: &mut Pass, wait: Wait) -> State
         requires { AreOf self.now pass.old.seats }
         ensures pass { AreOf self.now pass.new.seats }
@@ -52,8 +53,8 @@ impl Service {
         }
     }
 
-    /// Waits for up to a second until the call may go on. If the goal is not reached then, the call still waits. `None` if the
-    /// caller has left, which is asked at the end of each wait.
+    /// Like `wait_on`, but for a caller that may leave. Returns `None` if the caller has left,
+    /// which is checked at the end of the wait.
     pub(crate) fn wait_for<K: Caller>(
         &self,
         rt: &impl MayWait,
@@ -91,7 +92,7 @@ impl Service {
         }
     }
 
-    /// Waits for up to a second for the count of a wait to pass the value that it names.
+    /// Waits, for a second at most, until the count of `wait` is above the value in `wait`.
     fn await_within(&self, rt: &impl MayWait, pass: &mut Pass, wait: &Wait) -> Option<Awaited>
         requires { AreOf self.now pass.old.seats }
         ensures pass { AreOf self.now pass.new.seats }
@@ -121,7 +122,7 @@ impl Service {
     }
 }
 
-/// The answer of a call that has nothing to tell where it succeeds.
+/// Returns the result of a call that returns no value.
 pub(crate) fn zero_of(ending: Ending) -> Result<(), Errno>
     requires { EndsInZero (Over (ending_of ending [])) }
     ensures { (text : List ℕ) → TellsZero (ending_of ending text) result }

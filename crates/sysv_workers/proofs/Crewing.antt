@@ -1,4 +1,4 @@
--- The threads that run, one more and one fewer, and what is gathered of them.
+-- The running threads: one more, one fewer, and what is collected of them.
 use Rattle.std.proofs.Common.{◌≡◌, ℕ, suc, ◌+◌, ◌<◌, ◌&&◌, ◌⊎◌, inl, inr, ⊎_elim, Bool, false, true, List, [], ◌∷◌, ◌++◌, length, map, reverse, refl, sym, ap, ◌∙◌, subst, arith, length-append, append_assoc}
 use Rattle.std.specs.Prelude.{min, ◌^◌, ◌-◌}
 use Rattle.std.specs.List.{All, FoldsTo, flat_map, slice_index_or}
@@ -30,13 +30,13 @@ module _ {A : Type 0} where
       let tails : reverse xs ≡ reverse ys = cc in
       (sym (reverse-reverse xs) ∙ ap reverse tails ∙ reverse-reverse ys, heads)
 
-  -- what holds of all holds of the last, and of those before it
+  -- What holds of all elements holds of all but the last.
   pub but_last : (P : A → Type 0) (xs ys : List A) (x : A) → ys ≡ xs ++ x ∷ [] → All P ys → All P xs
   but_last P xs ys x is all k d low =
       let far : k < length (xs ++ x ∷ []) = omega (arith, length-append xs (x ∷ [])) in
       subst P (get_or_append_left xs (x ∷ []) d k low) (subst (All P) is all k d far)
 
-  -- one element moves from one list to another
+  -- One element moves from one list to another.
   pub moves : (all xs xs' ys : List A) (x : A) → all ≡ xs ++ ys → xs ≡ xs' ++ x ∷ [] → all ≡ xs' ++ x ∷ ys
   moves all xs xs' ys x is one = is ∙ (ap (λ l. l ++ ys) one ∙ append_assoc xs' (x ∷ []) ys)
 
@@ -53,7 +53,7 @@ module _ {A : Type 0} where
       subst P (at_end xs x x) (subst (All P) is all (length xs) x near)
 
 module _ {W T J : Type 0} (job : J) (buffer : Buffered) where
-  -- a thread more
+  -- One more thread runs.
   pub one_more : (rest : List W) (hs hs' : List (PromisedHandle (Done W T) (Working W T J))) (w : W) (h : PromisedHandle (Done W T) (Working W T J)) → AreOn job buffer rest hs → hs' ≡ hs ++ h ∷ []
       → (h.promise.state.value ≡ w) × (h.promise.job.value ≡ job) × (h.promise.buffer.value ≡ buffer) → AreOn job buffer (w ∷ rest) hs'
   one_more rest hs hs' w h on is e =
@@ -61,7 +61,7 @@ module _ {W T J : Type 0} (job : J) (buffer : Buffered) where
       ap (map assigned_to) is ∙ (map-append assigned_to hs (h ∷ []) ∙ (ap (λ l. l ++ assigned_to h ∷ []) on ∙ (ap (λ a. map (λ v. record { state = v; job = job; buffer = buffer }) (reverse rest) ++ a ∷ []) same
       ∙ sym (ap (map (λ (v : W). record { state = v; job = job; buffer = buffer })) (reverse-append (w ∷ []) rest) ∙ map-append (λ (v : W). record { state = v; job = job; buffer = buffer }) (reverse rest) (w ∷ [])))))
 
-  -- a thread fewer
+  -- One thread fewer runs.
   pub one_fewer : (left : List W) (hs hs' : List (PromisedHandle (Done W T) (Working W T J))) (h : PromisedHandle (Done W T) (Working W T J)) → AreOn job buffer left hs → hs ≡ hs' ++ h ∷ []
       → (w : W) × (rest : List W) × (left ≡ w ∷ rest) × AreOn job buffer rest hs' × (h.promise.state.value ≡ w) × (h.promise.job.value ≡ job) × (h.promise.buffer.value ≡ buffer)
   one_fewer [] hs hs' h on is =
@@ -80,7 +80,7 @@ module _ {W T J : Type 0} (job : J) (buffer : Buffered) where
   none_left [] hs on is = refl
   none_left (w ∷ left) hs on is = let long = on_length (w ∷ left) hs on in let none = ap length is in absurd (omega arith)
 
--- of two of which not both are so, one is not
+-- If two are not both true, one of them is false.
 either_false : (a b : Bool) → (a && b) ≡ false → (a ≡ false) ⊎ (b ≡ false)
 either_false true b is = inr is
 either_false false b is = inl refl
@@ -105,7 +105,7 @@ module _ {T : Type 0} where
   feeds_of_worker xs b is = ap (λ (v : Bool). length (map Item xs ++ mark v)) is ∙ (length-append (map Item xs) (End ∷ []) ∙ ap (λ n. n + 1) (map_length Item xs))
 
 module _ {W T : Type 0} where
-  -- the part of one worker more
+  -- The part of one more worker is collected.
   pub gathers : (runs : W → T → W → Type 0) (fits : W → Type 0) (buffer : Buffered) (others : List W) (parts : List (Part W T)) (h theirs h' : Holding (Feed T)) (states states' : List W) (ran ran' its : ℕ) (ended ended' end : Bool) (before after : W)
       → Gathered runs fits others parts h states ran ended → Did runs fits buffer before end after theirs its → Joins h theirs h' → states' ≡ states ++ after ∷ [] → (ran' ≡ min (ran + its) (2 ^ 64 - 1)) × (ended' ≡ (ended && end))
       → (part : Part W T) × (part.before ≡ before) × Gathered runs fits others (parts ++ part ∷ []) h' states' ran' ended'
@@ -142,7 +142,7 @@ module _ {W T : Type 0} where
       )
 
 module _ {W T J : Type 0} (runs : J → W → T → W → Type 0) (fits : J → W → Type 0) (buffer : Buffered) (job : J) (others : List W) (parts : List (Part W T)) (rest : List W) where
-  -- some of the threads on these states were joined, and the others are left
+  -- Some of the threads on these states were joined, and the others are left.
   pub record Joining (hs : List (PromisedHandle (Done W T) (Working W T J))) (h : Holding (Feed T)) (states : List W) (ran : ℕ) (ended : Bool) : Type 0 where
     pub more : List (Part W T)
     pub left : List W

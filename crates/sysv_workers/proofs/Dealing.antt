@@ -1,4 +1,4 @@
--- Where as many places were read as there are, and none twice, all was read.
+-- If as many places were read as there are, and none twice, all were read.
 use Rattle.std.proofs.Common.{◌≡◌, ◌≢◌, ℕ, zero, suc, ◌+◌, ◌≤◌, ◌==◌, cond, List, [], ◌∷◌, ◌++◌, length, map, refl, sym, ap, ◌∙◌, subst, arith, length-append}
 use Rattle.std.specs.List.Sorted.{IsPermutation}
 use Rattle.std.proofs.lemmas.List.Sorted.{IsPermutation-refl, IsPermutation-cons, IsPermutation-middle, IsPermutation-sym, IsPermutation-trans}
@@ -12,12 +12,12 @@ use Rattle.sysv_workers.specs.declared.feed.Feed.TheVariants.{Item, End}
 use Rattle.sysv_workers.specs.Feeding.{Reads, items_in, fed}
 use Rattle.sysv_workers.proofs.Feeds.{nil_of}
 
--- the number is none of these
+-- The number is none of these.
 abbrev Away : ℕ → List ℕ → Type 0
 Away k [] = Unit {0}
 Away k (j ∷ js) = (j ≢ k) × Away k js
 
--- no number is twice among these
+-- No number occurs twice among these.
 abbrev pub Apart : List ℕ → Type 0
 Apart [] = Unit {0}
 Apart (j ∷ js) = Away j js × Apart js
@@ -44,7 +44,7 @@ apart (j ∷ js) once = (
   apart js (λ k. let sum = sum_by-cons (λ (y : ℕ). cond (y == k) 1 0) j js in let one = once k in omega arith),
 )
 
--- where a place goes when another is left out
+-- The place of an element after another place is left out.
 lowered : ℕ → ℕ → ℕ
 lowered zero zero = zero
 lowered zero (suc j) = j
@@ -83,7 +83,7 @@ module _ {A : Type 0} where
   reads_lowered a b x (j ∷ js) [] from r = r
   reads_lowered a b x (j ∷ js) (y ∷ ys) from r = (at_lowered a b x y j from.0 r.0, reads_lowered a b x js ys from.1 r.1)
 
-  -- the list round one place
+  -- The list around one place.
   pub record Round (list : List A) (k : ℕ) (x : A) : Type 0 where
     pub low : List A
     pub high : List A

@@ -1,4 +1,4 @@
--- What is known of a run once all workers have ended.
+-- What is known of a run after all workers have ended.
 use Rattle.std.proofs.Common.{◌≡◌, ◌≢◌, ◌⊎◌, inl, inr, ⊎_elim, ℕ, ◌+◌, ◌≤◌, true, false, Bool, Option, Some, None, List, [], ◌∷◌, ◌++◌, length, map, refl, sym, ap, ◌∙◌, subst, arith, length-append}
 use Rattle.std.specs.Prelude.{min, ◌^◌, ◌-◌, IfSome, IfNone}
 use mathlib.Core.Bool.{true≢false}
@@ -30,7 +30,7 @@ module _ {W T : Type 0} (runs : W → T → W → Type 0) (fits : W → Type 0) 
   RanBy : Part W T → Type 0
   RanBy p = FoldsTo runs p.before p.items p.after
 
-  -- no worker has ended yet
+  -- No worker has ended yet.
   pub none_gathered : (others : List W) (h : Holding (Feed T)) (states : List W) (ran : ℕ) (ended : Bool) → h.takes ≡ [] → states ≡ others → All fits others → ran ≡ 0 → ended ≡ true → Gathered runs fits others [] h states ran ended
   none_gathered others h states ran ended none same all zero not = record {
     left = same ∙ sym (append-nil others);
@@ -44,7 +44,7 @@ module _ {W T : Type 0} (runs : W → T → W → Type 0) (fits : W → Type 0) 
     total = zero;
   }
 
-  -- the seat sees more
+  -- The seat sees more.
   pub gathered_looks : (others : List W) (parts : List (Part W T)) (h h' : Holding (Feed T)) (states : List W) (ran : ℕ) (ended : Bool) → Gathered runs fits others parts h states ran ended → Looks h h' → Gathered runs fits others parts h' states ran ended
   gathered_looks others parts h h' states ran ended g l = record {
     left = g.left;
@@ -58,7 +58,7 @@ module _ {W T : Type 0} (runs : W → T → W → Type 0) (fits : W → Type 0) 
     total = g.total;
   }
 
-  -- all that was given was run, each item once
+  -- All items of the source were run, each once.
   pub dealt : (parts : List (Part W T)) (h : Holding (Feed T)) (states : List W) (ran : ℕ) (ended : Bool) (given : List T) (n put : ℕ) → Gathered runs fits [] parts h states ran ended → HasFed given n h → HasItsOwn h
       → ended ≡ true → length parts ≡ n → 1 ≤ n → ran ≡ counted (length given) → put ≡ length h.seen → put ≡ min (ran + n) (2 ^ 64 - 1) → IsPermutation (flat_map (λ p. p.items) parts) given
   dealt parts h states ran ended given n put g f own all parts_n some same is most =
@@ -73,7 +73,7 @@ module _ {W T : Type 0} (runs : W → T → W → Type 0) (fits : W → Type 0) 
       let p : IsPermutation (items_in g.feeds) (items_in h.seen) = all_dealt g.feeds h.seen h.takes g.reads apart' (omega arith) in
       subst (λ (l : List T). IsPermutation flat l) (ap items_in whole ∙ items_fed given n) (subst (λ (l : List T). IsPermutation l (items_in h.seen)) g.items p)
 
-  -- where no item was run, no state has changed
+  -- If no item was run, no state has changed.
   unchanged : (parts : List (Part W T)) → length (flat_map (λ p. p.items) parts) ≡ 0 → All RanBy parts → map (λ p. p.after) parts ≡ map (λ p. p.before) parts
   unfolding RanBy
   unchanged [] none all = refl
@@ -115,7 +115,7 @@ module _ {W T : Type 0} (runs : W → T → W → Type 0) (fits : W → Type 0) 
   flats [] ps = refl
   flats (w ∷ ws) ps = flats ws ps
 
-  -- the parts of those that were started, after those that were not
+  -- The parts of the workers that were started follow the states of those that were not.
   pub leads : (others : List W) (parts : List (Part W T)) (h : Holding (Feed T)) (states : List W) (ran : ℕ) (ended : Bool) (rest : List W) → Gathered runs fits others parts h states ran ended → map (λ p. p.before) parts ≡ rest
       → (all : List (Part W T)) × Leads runs (others ++ rest) all states × (length (flat_map (λ p. p.items) all) ≡ length (flat_map (λ p. p.items) parts))
   unfolding RanBy
@@ -129,7 +129,7 @@ module _ {W T : Type 0} (runs : W → T → W → Type 0) (fits : W → Type 0) 
     ap length (flats others parts),
   )
 
-  -- why a run is refused, once threads were started
+  -- The causes of a refusal after threads were started.
   pub fails_early : {S : Type 0} (gives : S → Option T → S → Type 0) (before after : List W) (source : S) (why : WorkersFault) → (why ≡ Thread) ⊎ (why ≡ Missed) → GivesBack {T = T} runs before why after → All fits after → Fails {T = T} runs fits gives before source why after source
   fails_early gives before after source why cause back all = record {
     back = back;
@@ -149,7 +149,7 @@ module _ {W T : Type 0} (runs : W → T → W → Type 0) (fits : W → Type 0) 
   }
 
   module _ {S : Type 0} (gives : S → Option T → S → Type 0) (before after : List W) (source source' : S) (seat : Holding (Feed T)) (marks : ℕ) where
-    -- the cause, if a thread was refused
+    -- The cause, if a thread was refused.
     pub cause_early : (why : WorkersFault) → source' ≡ source → (why ≡ Thread) ⊎ (why ≡ Missed) → (why ≡ Missed → (parts : List (Part W T)) × Leads runs before parts after × (1 ≤ length (flat_map (λ p. p.items) parts)))
         → HasCause runs gives before source marks why after source' seat
     cause_early why still which ran = ⊎_elim
@@ -157,7 +157,7 @@ module _ {W T : Type 0} (runs : W → T → W → Type 0) (fits : W → Type 0) 
         (λ e. let m = ran e in let low = m.2 in subst (λ (y : WorkersFault). HasCause runs gives before source marks y after source' seat) (sym e) (record { parts = m.0; given = []; leads = m.1; gave = inr (refl, still); differs = inl (λ q. omega arith) }))
         which
 
-    -- the cause, once all workers have ended
+    -- The cause, after all workers have ended.
     pub cause_late : (why : WorkersFault) (items : Option ℕ) (marked ended : Bool) (ran put m : ℕ) (parts : List (Part W T)) → m ≡ marks → Told items marked ended ran put m why
         → (items ≡ None → 2 ^ 62 ≤ length seat.seen) → (marked ≡ false → 2 ^ 62 ≤ length seat.seen) → (ended ≡ false → 2 ^ 62 ≤ length seat.seen)
         → ((n : ℕ) → items ≡ Some n → (given : List T) × GivesAll gives source given source' × (n ≡ counted (length given)))
@@ -178,7 +178,7 @@ module _ {W T : Type 0} (runs : W → T → W → Type 0) (fits : W → Type 0) 
           differs = ⊎_elim (λ d. inl (λ e. d (omega arith))) (λ d. inr (λ e. d (omega arith))) told.2;
         }
 
-    -- and what is known of the source then
+    -- What is known of the source after all workers have ended.
     pub late : (why : WorkersFault) (items : Option ℕ) (marked ended : Bool) (ran put m : ℕ) → Told items marked ended ran put m why
         → ((n : ℕ) → items ≡ Some n → (given : List T) × GivesAll gives source given source' × (n ≡ counted (length given)))
         → (why ≡ Worn) ⊎ ((why ≡ Missed) × ((given : List T) × GivesAll gives source given source'))
@@ -188,7 +188,7 @@ module _ {W T : Type 0} (runs : W → T → W → Type 0) (fits : W → Type 0) 
     late Worn items marked ended ran put m told gave = inl refl
     late Missed items marked ended ran put m told gave = let s = gave told.0 told.1 in inr (refl, (s.0, s.1))
 
-  -- where a thread could not be started
+  -- A thread could not be started.
   pub gives_up : (others rest : List W) (state : W) (part : Part W T) (more : List (Part W T)) (h : Holding (Feed T)) (states : List W) (ran : ℕ) (ended : Bool)
       → part.before ≡ state → map (λ p. p.before) more ≡ rest → Gathered runs fits others (part ∷ more) h states ran ended
       → (ran ≡ 0 → states ≡ others ++ state ∷ rest) × ((all : List (Part W T)) × Leads runs (others ++ state ∷ rest) all states × (ran ≢ 0 → 1 ≤ length (flat_map (λ p. p.items) all)))
@@ -198,7 +198,7 @@ module _ {W T : Type 0} (runs : W → T → W → Type 0) (fits : W → Type 0) 
       let total = g.total in
       ((λ zero. all_unchanged others (part ∷ more) h states ran ended (state ∷ rest) g zero began), (led.0, led.1, λ some. let long = led.2 in omega (arith, some)))
 
-  -- all items were run
+  -- All items were run.
   pub ends : {S : Type 0} (gives : S → Option T → S → Type 0) (before after : List W) (source source' : S) (parts : List (Part W T)) (given : List T) (h : Holding (Feed T)) (ran : ℕ) (ended : Bool) (n put : ℕ)
       → Gathered runs fits [] parts h after ran ended → map (λ p. p.before) parts ≡ before → length before ≡ n → 1 ≤ n → GivesAll gives source given source' → HasFed given n h → HasItsOwn h
       → ended ≡ true → ran ≡ counted (length given) → put ≡ length h.seen → put ≡ min (ran + n) (2 ^ 64 - 1) → Ends runs fits gives before source after source'

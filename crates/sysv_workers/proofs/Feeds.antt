@@ -1,4 +1,4 @@
--- How what was put grows, and what is read of it.
+-- How the list of items put grows, and what is read of it.
 use Rattle.std.proofs.Common.{◌≡◌, ℕ, zero, suc, ◌+◌, ◌≤◌, List, [], ◌∷◌, ◌++◌, length, map, replicate, refl, sym, ap, ◌∙◌, arith, add-one, length-append, append_assoc}
 use Rattle.std.proofs.lemmas.List.{append-nil, map-append}
 use mathlib.Core.Option.{some, some-ne-none}
@@ -18,7 +18,7 @@ module _ {A : Type 0} where
   at_longer (y ∷ list) more zero x at = at
   at_longer (y ∷ list) more (suc k) x at = at_longer list more k x at
 
-  -- what is read stays the same where the list grows
+  -- What is read stays the same as the list grows.
   pub reads_longer : (list more : List A) (ks : List ℕ) (xs : List A) → Reads list ks xs → Reads (list ++ more) ks xs
   reads_longer list more [] [] r = tt
   reads_longer list more [] (x ∷ xs) r = r
@@ -50,14 +50,14 @@ module _ {T : Type 0} where
       ap (λ l. l ++ End ∷ []) (append-nil (fed xs n))
       ∙ (append_assoc (map Item xs) (replicate n End) (End ∷ []) ∙ ap (λ l. map Item xs ++ l) (replicate_push n End ∙ ap (λ k. replicate k End) (sym (add-one n))))
 
-  -- a seat has seen no less afterwards
+  -- A seat has seen no less afterwards.
   pub grown_longer : (h h' : Holding (Feed T)) (more : List (Feed T)) → h'.seen ≡ h.seen ++ more → length h.seen ≤ length h'.seen
   grown_longer h h' more is = let long = ap length is ∙ length-append h.seen more in omega arith
 
   pub looks_longer : (h h' : Holding (Feed T)) → Looks h h' → length h.seen ≤ length h'.seen
   looks_longer h h' l = let long = ap length l.seen ∙ length-append h.seen l.more in omega arith
 
-  -- one more item was put
+  -- One more item was put.
   pub fed_item : (xs : List T) (x : T) (h h' : Holding (Feed T)) → HasFed xs 0 h → Puts (Item x) h h' → HasFed (xs ++ x ∷ []) 0 h'
   fed_item xs x h h' f p =
       let long = ap length p.seen ∙ length-append (h.seen ++ p.others) (Item x ∷ []) in
@@ -72,7 +72,7 @@ module _ {T : Type 0} where
             p.seen ∙ (ap (λ l. (h.seen ++ l) ++ Item x ∷ []) none ∙ (ap (λ l. (l ++ []) ++ Item x ∷ []) whole ∙ item_at_end xs x));
       }
 
-  -- one more end mark was put
+  -- One more end mark was put.
   pub fed_mark : (xs : List T) (n : ℕ) (h h' : Holding (Feed T)) → HasFed xs n h → Puts End h h' → HasFed xs (n + 1) h'
   fed_mark xs n h h' f p =
       let long = ap length p.seen ∙ length-append (h.seen ++ p.others) (End ∷ []) in
@@ -86,7 +86,7 @@ module _ {T : Type 0} where
             p.seen ∙ (ap (λ l. (h.seen ++ l) ++ End ∷ []) none ∙ (ap (λ l. (l ++ []) ++ End ∷ []) whole ∙ mark_at_end xs n));
       }
 
-  -- the seat has seen more
+  -- The seat has seen more.
   pub fed_longer : (xs : List T) (n : ℕ) (h h' : Holding (Feed T)) (more : List (Feed T)) → h'.seen ≡ h.seen ++ more → HasFed xs n h → HasFed xs n h'
   fed_longer xs n h h' more is f =
       let long = ap length is ∙ length-append h.seen more in

@@ -13,7 +13,7 @@ use Rattle.sysv_workers.specs.Feeding.{Reads, mark}
 use Rattle.sysv_workers.specs.Doing.{Doing, Did}
 use Rattle.sysv_workers.proofs.Feeds.{reads_longer, reads_both}
 
--- one more was taken
+-- One more item was taken.
 took : {A : Type 0} (x : A) (xs : List A) (h h' : Holding A) → Reads h.seen h.takes xs → Takes x h h' → Reads h'.seen h'.takes (xs ++ x ∷ [])
 took x xs h h' r t =
     let longer = reads_longer h.seen t.more h.takes xs r in

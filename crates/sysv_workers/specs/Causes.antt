@@ -1,5 +1,6 @@
--- Why a run is refused. The seat is the one that fed the workers, after all of them were joined: it has seen all that was
--- put into the buffer, each item and each end mark.
+-- The causes of a refused run. The seat is the one that fed the workers, after all of them were
+-- joined. It has seen all that was put into the buffer, each item and each end mark. This project's
+-- profile.
 use Rattle.std.specs.Prelude.{◌≡◌, ◌≢◌, ◌⊎◌, ℕ, ◌+◌, ◌^◌, ◌≤◌, Bool, false, List, length, Option, Some, None}
 use Rattle.std.specs.List.{flat_map}
 use Rattle.sysv_buffer.specs.ManyEnds.{Holding}
@@ -10,8 +11,10 @@ use Rattle.sysv_workers.specs.Sources.{Gave}
 use Rattle.sysv_workers.specs.declared.refusals.WorkersFault.{WorkersFault}
 use Rattle.sysv_workers.specs.declared.refusals.WorkersFault.TheVariants.{BadCount, NoMemory, Thread, Worn, Missed}
 
--- What the counts at the end of a run say. `Worn` comes only if a put or a take was refused: not all items were put, or not
--- all end marks, or a worker took none. `Missed` comes only if none was, and a count differs
+-- What the counts at the end of a run show. `Worn` is the cause only if a put or a take was
+-- refused: not all items were put, or not all end marks were put, or some worker took no end mark.
+-- `Missed` is the cause only if the source's items were all put and a count differs: the number of
+-- items run, or the number of items and end marks put.
 abbrev pub Told : Option ℕ → Bool → Bool → ℕ → ℕ → ℕ → WorkersFault → Type 0
 Told items marked ended ran put marks BadCount = ⊥
 Told items marked ended ran put marks NoMemory = ⊥
@@ -20,8 +23,8 @@ Told items marked ended ran put marks Worn = (items ≡ None) ⊎ ((marked ≡ f
 Told items marked ended ran put marks Missed = (n : ℕ) × (items ≡ Some n) × ((ran ≢ n) ⊎ (put ≢ counted (n + marks)))
 
 module _ {W T S : Type 0} where
-  -- The number of items that were run is not that of the items of the source, or the number of items and end marks that
-  -- were put is not that of the items of the source and the end marks
+  -- The number of items run differs from the number of items of the source, or the number of items
+  -- and end marks put differs from the number of the source's items and the end marks.
   pub record Differs (runs : W → T → W → Type 0) (gives : S → Option T → S → Type 0) (before : List W) (source : S) (marks : ℕ) (after : List W) (source' : S) (seat : Holding (Feed T)) : Type 0 where
     pub parts : List (Part W T)
     pub given : List T
@@ -29,7 +32,9 @@ module _ {W T S : Type 0} where
     pub gave : Gave gives source given source'
     pub differs : (length (flat_map (λ p. p.items) parts) ≢ length given) ⊎ (length seat.seen ≢ counted (length given + marks))
 
-  -- A buffer is worn out only if 2^62 items and end marks were put into it
+  -- The cause of a refused run. `Worn` is the cause only if 2^62 items and end marks were put into
+  -- the buffer, and `Missed` only if the numbers differ. A run that had its buffer never fails with
+  -- `BadCount` or `NoMemory`.
   abbrev pub HasCause : (W → T → W → Type 0) → (S → Option T → S → Type 0) → List W → S → ℕ → WorkersFault → List W → S → Holding (Feed T) → Type 0
   HasCause runs gives before source marks BadCount after source' seat = ⊥
   HasCause runs gives before source marks NoMemory after source' seat = ⊥

@@ -1,20 +1,22 @@
--- The threads that run, by the states on which they were started.
+-- The threads that run, by the states on which they were started. This project's profile.
 use Rattle.std.specs.Prelude.{◌≡◌, List, map, reverse}
 use Rattle.std.specs.declared.thread.PromisedHandle.{PromisedHandle}
 use Rattle.sysv_buffer.specs.Ends.{Buffered}
 use Rattle.sysv_workers.specs.declared.worker.Done.{Done}
 use Rattle.sysv_workers.specs.declared.worker.Working.{Working}
 
--- what a thread works on
+-- What a thread works on: its state, its job and its buffer.
 pub record Assigned (W J : Type 0) : Type 0 where
   pub state : W
   pub job : J
   pub buffer : Buffered
 
 module _ {W T J : Type 0} where
+  -- What the thread of this handle works on.
   abbrev pub assigned_to : PromisedHandle (Done W T) (Working W T J) → Assigned W J
   assigned_to h = record { state = h.promise.state.value; job = h.promise.job.value; buffer = h.promise.buffer.value }
 
-  -- the threads work for this job on these states with this buffer, the one that was started last on the first state
+  -- The threads run this job on these states with this buffer. The thread that was started last has
+  -- the first state.
   abbrev pub AreOn : J → Buffered → List W → List (PromisedHandle (Done W T) (Working W T J)) → Type 0
   AreOn job buffer states handles = map assigned_to handles ≡ map (λ w. record { state = w; job = job; buffer = buffer }) (reverse states)

@@ -1,4 +1,4 @@
--- What one worker does, and what is known once some workers have ended.
+-- What one worker does, and what is known after some workers have ended. This project's profile.
 use Rattle.std.specs.Prelude.{◌≡◌, ℕ, ◌+◌, ◌^◌, ◌≤◌, Bool, true, false, List, ◌++◌, length, map}
 use Rattle.std.specs.List.{All, FoldsTo, flat_map}
 use Rattle.sysv_buffer.specs.Ends.{Buffered}
@@ -9,7 +9,8 @@ use Rattle.sysv_workers.specs.Feeding.{counted, Reads, items_in, mark}
 use Rattle.sysv_workers.specs.Parts.{Part}
 
 module _ {W T : Type 0} where
-  -- With its seat a worker took these items so far. The job's runs over the items led from one state to the other
+  -- With its seat a worker has taken these items so far. The job's runs over them led from the
+  -- first state to the second.
   pub record Doing (runs : W → T → W → Type 0) (fits : W → Type 0) (buffer : Buffered) (before after : W) (seat : Holding (Feed T)) (ran : ℕ) : Type 0 where
     pub items : List T
     pub folds : FoldsTo runs before items after
@@ -18,8 +19,9 @@ module _ {W T : Type 0} where
     pub reads : Reads seat.seen seat.takes (map Item items)
     pub count : ran ≡ counted (length items)
 
-  -- With its seat a worker took these items, and then an end mark if it has ended. If it has not, it has seen that the
-  -- buffer is worn out. The job's runs over the items led from one state to the other
+  -- With its seat a worker took these items, and then an end mark if it has ended. If it has not
+  -- ended, it has seen that the buffer is worn out. The job's runs over the items led from the
+  -- first state to the second.
   pub record Did (runs : W → T → W → Type 0) (fits : W → Type 0) (buffer : Buffered) (before : W) (ended : Bool) (after : W) (seat : Holding (Feed T)) (ran : ℕ) : Type 0 where
     pub items : List T
     pub folds : FoldsTo runs before items after
@@ -29,7 +31,8 @@ module _ {W T : Type 0} where
     pub count : ran ≡ counted (length items)
     pub worn : ended ≡ false → 2 ^ 62 ≤ seat.gone
 
-  -- Workers have ended whose parts are these. The seat has taken in their seats, and their states lie after the others
+  -- The workers with these parts have ended. Their seats are joined into the seat, and their states
+  -- follow the other states.
   pub record Gathered (runs : W → T → W → Type 0) (fits : W → Type 0) (others : List W) (parts : List (Part W T)) (seat : Holding (Feed T)) (states : List W) (ran : ℕ) (ended : Bool) : Type 0 where
     pub left : states ≡ others ++ map (λ p. p.after) parts
     pub folds : All (λ p. FoldsTo runs p.before p.items p.after) parts

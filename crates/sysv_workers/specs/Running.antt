@@ -1,4 +1,4 @@
--- What a run of workers does, and what comes back where it is refused.
+-- What a run of workers does, and what is handed back if it is refused. This project's profile.
 use Rattle.std.specs.Prelude.{◌≡◌, ◌≢◌, List, Option}
 use Rattle.std.specs.List.{All}
 use Rattle.sysv_workers.specs.Parts.{Part, Leads, AreDealt}
@@ -7,8 +7,9 @@ use Rattle.sysv_workers.specs.declared.refusals.WorkersFault.{WorkersFault}
 use Rattle.sysv_workers.specs.declared.refusals.WorkersFault.TheVariants.{BadCount, NoMemory, Thread, Worn, Missed}
 
 module _ {W T : Type 0} where
-  -- The workers have run over all items of the source: each has a list of items, and the state that it leaves is one that
-  -- the job's runs over that list lead to. Together the lists are the items that the source gave, each once
+  -- The workers have run over all items of the source. Each worker has a list of items, and leaves
+  -- a state to which the job's runs over that list lead. Together, the lists are the items that the
+  -- source returned, each once.
   pub record RunsAll {S : Type 0} (runs : W → T → W → Type 0) (gives : S → Option T → S → Type 0) (before : List W) (source : S) (after : List W) (source' : S) : Type 0 where
     pub parts : List (Part W T)
     pub given : List T
@@ -16,7 +17,8 @@ module _ {W T : Type 0} where
     pub gave : GivesAll gives source given source'
     pub dealt : AreDealt given parts
 
-  -- where no item was run the states come back as they were, and else each is one that runs over some items lead to
+  -- What a refused run hands back. After `BadCount`, `NoMemory` and `Thread` the states are
+  -- unchanged. After `Worn` and `Missed` each state is one to which runs over some items lead.
   abbrev pub GivesBack : (W → T → W → Type 0) → List W → WorkersFault → List W → Type 0
   GivesBack runs before BadCount after = after ≡ before
   GivesBack runs before NoMemory after = after ≡ before
@@ -24,8 +26,8 @@ module _ {W T : Type 0} where
   GivesBack runs before Worn after = (parts : List (Part W T)) × Leads runs before parts after
   GivesBack runs before Missed after = (parts : List (Part W T)) × Leads runs before parts after
 
--- If no item could be run, nothing was taken of the source. Items are missed only if the source is at its end, or if it
--- was not read
+-- What a refused run leaves of the source. After `BadCount`, `NoMemory` and `Thread` the source was
+-- not read. After `Missed` it is at its end or was not read. After `Worn` nothing is stated.
 abbrev pub LeavesSource : {S T : Type 0} → (S → Option T → S → Type 0) → S → WorkersFault → S → Type 0
 LeavesSource gives source BadCount source' = source' ≡ source
 LeavesSource gives source NoMemory source' = source' ≡ source
@@ -34,12 +36,13 @@ LeavesSource gives source Worn source' = Unit {0}
 LeavesSource {T = T} gives source Missed source' = (given : List T) × Gave gives source given source'
 
 module _ {W T S : Type 0} where
-  -- the answer of a run that had as many states as it may
+  -- The result of a run with an allowed number of states that was not refused.
   pub record Ends (runs : W → T → W → Type 0) (fits : W → Type 0) (gives : S → Option T → S → Type 0) (before : List W) (source : S) (after : List W) (source' : S) : Type 0 where
     pub all : RunsAll runs gives before source after source'
     pub still : All fits after
 
-  -- and where it is refused
+  -- The result of a run with an allowed number of states that was refused after the buffer was
+  -- made.
   pub record Fails (runs : W → T → W → Type 0) (fits : W → Type 0) (gives : S → Option T → S → Type 0) (before : List W) (source : S) (why : WorkersFault) (after : List W) (source' : S) : Type 0 where
     pub back : GivesBack runs before why after
     pub still : All fits after

@@ -1,13 +1,13 @@
--- What a source of items gives.
+-- The items that a source returns. This project's profile.
 use Rattle.std.specs.Prelude.{◌≡◌, ◌⊎◌, List, [], Option, Some, None}
 use Rattle.std.specs.List.{FoldsTo}
 
--- the source gave these items, one after the other, and then said that it has no more
+-- The source returned these items, one after the other, and then reported its end.
 pub record GivesAll {S T : Type 0} (gives : S → Option T → S → Type 0) (before : S) (items : List T) (after : S) : Type 0 where
   pub last : S
   pub gave : FoldsTo (λ s x s'. gives s (Some x) s') before items last
   pub ended : gives last None after
 
--- the source gave these items and is at its end, or it was not read and gave none
+-- The source returned these items and is at its end, or it was not read and returned none.
 abbrev pub Gave : {S T : Type 0} → (S → Option T → S → Type 0) → S → List T → S → Type 0
 Gave gives before items after = GivesAll gives before items after ⊎ ((items ≡ []) × (after ≡ before))

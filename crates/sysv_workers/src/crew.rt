@@ -19,19 +19,20 @@ use std::sync::Wait;
 use std::thread::{PromisedHandle, Scope, Threads};
 use sysv_buffer::{ManyBuffer, Seat};
 
+/// The handle of a worker's thread.
 pub(crate) type Handle<W, T, J> = PromisedHandle<Done<W, T>, Working<W, T, J>>;
 
-/// What the workers that were joined did.
+/// What the workers that have been joined did.
 #[derive(Drop)]
 pub(crate) struct Tally {
-    /// Over how many items they ran. It stays at the greatest value.
+    /// The number of items that they ran over. It stays at the greatest value once it reaches it.
     pub(crate) ran: u64,
-    /// Whether each took an end mark.
+    /// Whether each of them took an end mark.
     pub(crate) ended: bool,
 }
 
 impl Tally {
-    // No worker was joined yet.
+    // Returns the tally before any worker is joined.
     pub(crate) fn new() -> Tally
         ensures { (result.ran ≡ 0) × (result.ended ≡ true) }
     {
@@ -42,8 +43,9 @@ impl Tally {
     }
 }
 
-// Starts a worker on the state. Where no thread can be made, end marks are put for it and those that were started, and it
-// works here until it takes one.
+// Starts a worker on `state`. If the thread cannot be started, one end mark is put for this worker
+// and one for each worker that was started, and this worker runs in the calling thread until it
+// takes a mark. The error is what that run left.
 pub(crate) fn start<
     's,
     E,
@@ -94,7 +96,8 @@ pub(crate) fn start<
     }
 }
 
-// Starts a worker on each state, the last first. Where one is not started, what it left is answered.
+// Starts a worker on each state, the last state first. If one cannot be started, returns what it
+// left after its run in the calling thread; the states before it stay in `states`.
 pub(crate) fn start_all<
     's,
     E,
@@ -136,7 +139,7 @@ pub(crate) fn start_all<
     None
 }
 
-// Takes in what a worker left: its seat, its count, and its state after the others.
+// Collects what one worker left: joins its seat, adds its count, and appends its state.
 pub(crate) fn collect<W, T: Drop>(
     buffer: &ManyBuffer<Feed<T>>,
     seat: &mut Seat<Feed<T>>,
@@ -167,7 +170,7 @@ pub(crate) fn collect<W, T: Drop>(
     tally.ended = tally.ended && ended;
 }
 
-// Waits for all workers, and takes in what each left.
+// Waits for all workers, and collects what each left.
 pub(crate) fn join_all<W, T: Drop, J: Job<W, T>, R: Threads>(
     rt: &R,
     buffer: &ManyBuffer<Feed<T>>,

@@ -1,4 +1,4 @@
-//! The buffer's side of the source.
+//! The side of the buffer that the source feeds.
 ghost use Rattle.std.specs.Prelude.{◌≡◌, ℕ, ◌+◌, ◌^◌, ◌≤◌, true, false, List, length, IfSome, IfNone};
 ghost use Rattle.sysv_workers.specs.Feeding.{counted, HasFed};
 ghost use Rattle.sysv_workers.specs.Sources.{GivesAll};
@@ -7,15 +7,16 @@ use crate::source::Source;
 use std::sync::Wait;
 use sysv_buffer::{ManyBuffer, Seat};
 
-/// What lies in the buffer between the source and the workers.
+/// What the buffer holds between the source and the workers.
 #[derive(Drop)]
 pub(crate) enum Feed<T> {
     Item(T),
-    /// The worker that takes it ends.
+    /// An end mark. The worker that takes it ends.
     End,
 }
 
-// Puts the items of the source until it has no more, and answers how many. `None` where the buffer is worn out.
+// Puts the items of the source until it has no more, and returns their number. Returns `None` only
+// if the buffer is worn out.
 pub(crate) fn put_all<T: Drop, S: Source<T>, R: Wait>(
     rt: &R,
     buffer: &ManyBuffer<Feed<T>>,
@@ -43,7 +44,7 @@ pub(crate) fn put_all<T: Drop, S: Source<T>, R: Wait>(
     unreachable!()
 }
 
-// Puts so many end marks. False where the buffer is worn out.
+// Puts `count` end marks. Returns `false` only if the buffer is worn out.
 pub(crate) fn put_marks<T: Drop, R: Wait>(
     rt: &R,
     buffer: &ManyBuffer<Feed<T>>,

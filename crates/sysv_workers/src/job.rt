@@ -2,13 +2,19 @@
 
 /// Work over items of type `T` with a state of type `W`. The threads share the job by reference.
 pub trait Job<W, T> {
-    /// The states with which it works.
+    /// The states that the job works with.
     ghost fits: { Self → W → Type 0 };
 
-    /// To which state a run over an item leads from a state.
+    /// The states to which a run over an item may lead from a state.
     ghost runs: { Self → W → T → W → Type 0 };
 
-    /// Runs over one item. A job whose type has a handle for it may wait here.
+    /// Runs the job over one item and changes the state accordingly. A job whose type has the
+    /// handle for it may wait here.
+    ///
+    /// # Conditions
+    ///
+    /// - `state` is one that the job works with (`fits`). The state that the run leaves is one,
+    ///   too.
     fn run(&self, state: &mut W, item: T)
         requires { fits self.now state.old }
         ensures fits { fits self.now state.new }

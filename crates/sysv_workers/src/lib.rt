@@ -1,5 +1,5 @@
-//! Worker threads: items go from one source to some threads, each of which runs a job over the items that it gets, with a
-//! state of its own.
+//! Worker threads: the items of one source go to several threads. Each thread runs a job over the
+//! items that it takes, with a state of its own.
 #![tactic(auto)]
 
 mod crew;

@@ -1,28 +1,32 @@
-//! Why workers are refused.
+//! The errors of this crate.
 use thiserror::Error;
 
-/// Why the items of a source were not all run.
+/// The reasons why the items of a source were not all run.
 #[derive(Clone, Copy, PartialEq, Eq, Debug, Error)]
 pub enum WorkersFault {
-    /// There is no state, or more states than the run may have.
+    /// There is no state, or there are more states than the function allows.
     #[error("a number of workers out of range")]
     BadCount,
     /// Memory was refused.
     #[error("no memory")]
     NoMemory,
-    /// A thread could not be started.
+    /// A thread could not be started, and no item was run.
     #[error("no thread")]
     Thread,
-    /// The buffer between the source and the workers was worn out: 2^62 items had gone through it.
+    /// The buffer between the source and the workers was worn out: 2^62 items and end marks had
+    /// been put into it.
     #[error("the buffer is worn out")]
     Worn,
-    /// The number of items that were run is not that of the items that were put.
+    /// The number of items that were run, or the number of items and end marks that were put, is
+    /// not what the source requires.
     #[error("items were missed")]
     Missed,
 }
 
-/// The states of workers that were refused, and why.
+/// The states that a failed run hands back, and the cause of the failure.
 pub struct WorkersRefused<W> {
+    /// The cause of the failure.
     pub why: WorkersFault,
+    /// All states, in their order.
     pub states: Vec<W>,
 }

@@ -1,12 +1,13 @@
-//! Where items come from.
+//! The origin of the items.
 ghost use Rattle.std.specs.Prelude.{Option};
 
 /// A source of items, one after the other.
 pub trait Source<T> {
-    /// What an asking gives, and what it leaves.
+    /// What a call of `next` may return, and what source it leaves.
     ghost gives: { Self → Option T → Self → Type 0 };
 
-    /// The next item, or `None` where there are no more. A source whose type has a handle for it may wait here.
+    /// Returns the next item, or `None` if there are no more. A source whose type has the handle
+    /// for it may wait here.
     fn next(&mut self) -> Option<T>
         ensures { gives self.old result self.new };
 }

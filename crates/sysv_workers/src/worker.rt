@@ -11,19 +11,22 @@ use std::sync::Wait;
 use std::thread::Promise;
 use sysv_buffer::{ManyBuffer, Seat};
 
-/// What a worker's thread leaves. A thread has to leave what may be dropped, and a state may be linear: so the state is
-/// kept from drops, and is taken out again once the thread is joined.
+/// What a worker's thread leaves. The result of a thread must be a value that can be dropped, and a
+/// state may be linear. The state is therefore kept from drops, and is taken out again after the
+/// thread is joined.
 #[derive(Drop)]
 pub(crate) struct Done<W, T> {
     pub(crate) state: ManuallyDrop<W>,
     pub(crate) seat: Seat<Feed<T>>,
-    /// How many items it ran over. It stays at the greatest value.
+    /// The number of items that the worker ran over. It stays at the greatest value once it reaches
+    /// it.
     pub(crate) ran: u64,
-    /// Whether it took an end mark. If not, the buffer is worn out.
+    /// Whether the worker took an end mark. If it did not, the buffer is worn out.
     pub(crate) ended: bool,
 }
 
-/// What a worker's thread promises: it runs the job with this state over what it takes from the buffer.
+/// What a worker's thread promises: it runs the job with this state over the items that it takes
+/// from the buffer.
 #[derive(Drop)]
 pub(crate) struct Working<W, T, J> {
     pub(crate) job: Snapshot<J>,
@@ -65,7 +68,7 @@ pub(crate) fn work<W, T: Drop, J: Job<W, T>, R: Wait>(
     unreachable!()
 }
 
-// What a thread leaves.
+// Returns what a worker's thread leaves.
 fn left_by<W, T>(state: W, seat: Seat<Feed<T>>, ran: u64, ended: bool) -> Done<W, T>
     ensures { (manually_drop_value result.state ≡ state) × (result.seat ≡ seat) × (result.ran ≡ ran)
         × (result.ended ≡ ended) }

@@ -23,20 +23,39 @@ use std::thread;
 use std::thread::{Scope, Threads};
 use sysv_buffer::{ManyBuffer, Seat};
 
-/// The most workers of `run_workers`; there is at least one.
+/// The largest number of workers of `run_workers`. The smallest is one.
 pub const MAX_WORKERS: usize = 16;
 
-/// The most workers of `run_crowd`; there is at least one.
+/// The largest number of workers of `run_crowd`. The smallest is one.
 pub const MAX_CROWD: usize = 256;
 
-/// Runs the job over all items of the source, in a thread for each state, and answers the states that the runs leave, in
-/// their order. An item goes to a worker that waits for one, through a buffer with a cell for each worker. The source is
-/// asked by the calling thread alone, once all threads run.
+/// Runs the job over all items of the source, in one thread per state. Returns the states that the
+/// runs leave, in their order.
 ///
-/// In each refusal the states come back. `BadCount` comes where there are not 1 to 16 states, `NoMemory` where memory is
-/// refused, and `Thread` where a thread can't be started: then the states are as they were, and the source was not asked.
-/// `Worn` comes where 2^62 items had gone through the buffer, and `Missed` where the number of items that were run is not
-/// that of the items that were put. Then each state is one that runs over some items leave.
+/// The calling thread alone reads the source, after all threads have started. Each item goes to the
+/// next free worker, through a buffer with one cell per worker. Each worker has a list of items,
+/// its state is one to which the job's runs over that list lead, and together the lists are the
+/// items of the source, each once.
+///
+/// # Errors
+///
+/// The error holds all states.
+///
+/// - `BadCount` if and only if there are not 1 to 16 states.
+/// - `NoMemory` if memory is refused.
+/// - `Thread` if a thread cannot be started and no item was run.
+/// - `Worn` only if 2^62 items and end marks were put into the buffer.
+/// - `Missed` only if the number of items that were run differs from the number of items of the
+///   source, or the number of items and end marks that were put differs from the number that was to
+///   be put.
+///
+/// After `BadCount`, `NoMemory` and `Thread` the states are unchanged, and the source was not read.
+/// After `Worn` and `Missed` each state is one to which runs over some items lead. After `Missed`
+/// the source is at its end or was not read.
+///
+/// # Conditions
+///
+/// - Each state is one that the job works with (`fits`).
 pub fn run_workers<W: Send, T: Drop + Send, S: Source<T>, J: Job<W, T> + Sync, R>(
     rt: &R,
     alloc: Global,
@@ -60,7 +79,15 @@ where
     run_at_most(MAX_WORKERS, rt, alloc, states, source, job)
 }
 
-/// As `run_workers`, with 1 to 256 states. `BadCount` comes where there are not so many.
+/// Like `run_workers`, but with 1 to 256 states.
+///
+/// # Errors
+///
+/// As for `run_workers`, but `BadCount` if and only if there are not 1 to 256 states.
+///
+/// # Conditions
+///
+/// - Each state is one that the job works with (`fits`).
 pub fn run_crowd<W: Send, T: Drop + Send, S: Source<T>, J: Job<W, T> + Sync, R>(
     rt: &R,
     alloc: Global,
@@ -84,7 +111,7 @@ where
     run_at_most(MAX_CROWD, rt, alloc, states, source, job)
 }
 
-// As `run_workers`, with at most so many states.
+// Like `run_workers`, but with at most `most` states.
 fn run_at_most<W: Send, T: Drop + Send, S: Source<T>, J: Job<W, T> + Sync, R>(
     most: usize,
     rt: &R,
@@ -122,7 +149,7 @@ where
     run_scoped(rt, &buffer, job, source, seat, states, handles)
 }
 
-// Runs all in a scope of threads.
+// Runs everything in one scope of threads.
 fn run_scoped<W: Send, T: Drop + Send, S: Source<T>, J: Job<W, T> + Sync, R>(
     rt: &R,
     buffer: &ManyBuffer<Feed<T>>,
@@ -174,7 +201,7 @@ where
     outcome
 }
 
-// This use of the reference is what ties it to the parameter that lent it.
+// Uses the reference once more. This use ties it to the parameter that lent it.
 fn given_back<S>(source: &mut S)
     ensures { source.new ≡ source.old }
 {}
@@ -227,7 +254,8 @@ fn run_in<
     }
 }
 
-// Ends the workers that were started, after one was not. It has worked here, and what it left is handed in.
+// Ends the workers that were started after another could not be started. That worker has run in the
+// calling thread, and `done` is what it left.
 fn give_up<W, T: Drop, J: Job<W, T>, R: Threads>(
     rt: &R,
     buffer: &ManyBuffer<Feed<T>>,
@@ -262,7 +290,8 @@ fn give_up<W, T: Drop, J: Job<W, T>, R: Threads>(
     WorkersRefused { why, states }
 }
 
-// What is wrong once all workers have ended. So many items and end marks were put, where all were.
+// Returns what is wrong after all workers have ended, if anything is. `items` is the number of
+// items put, if all were put; `marked` is whether all end marks were put.
 fn fault(
     marks: u64,
     items: Option<u64>,

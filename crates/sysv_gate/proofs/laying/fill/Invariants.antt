@@ -3,7 +3,7 @@ use Rattle.std.specs.Prelude.{vec_len, vec_capacity}
 use Rattle.sysv_gate.proofs.Laid.{IsFilling}
 use Rattle.sysv_gate.proofs.laying.fill.Given as goal
 
--- how far it has come
+-- The objects moved so far.
 abbrev pub invariant-loop-object : goal.invariant-loop-object
 invariant-loop-object g l = record {
   filling : IsFilling l.fn.objects.items l.objects.items l.spots.items;
@@ -11,6 +11,6 @@ invariant-loop-object g l = record {
   same : vec_capacity l.objects ≡ vec_capacity l.fn.objects;
 }
 
--- one less each time
+-- Each round leaves one object fewer.
 abbrev pub decreases-loop-object : goal.decreases-loop-object
 decreases-loop-object g l = vec_len l.objects

@@ -3,7 +3,8 @@ use Rattle.sysv_keys.specs.declared.identifier.TheConstants.{SLOTS}
 use Rattle.sysv_service.specs.Closing.{all_waiting, all_held, with_slots}
 use Rattle.sysv_service.proofs.closing.end_slots.Given as goal
 
--- what was counted, with what the slots that are left have, is all; they lie with the first one last
+-- The counts so far and those of the slots that are left add up to the counts of all slots. The
+-- slots that are left are in reverse order.
 abbrev pub invariant-loop-slot : goal.invariant-loop-slot
 invariant-loop-slot l = record {
   waiting : l.waiting + all_waiting (reverse l.slots.items) ≡ all_waiting l.fn.slots.items;
@@ -13,6 +14,6 @@ invariant-loop-slot l = record {
   few : l.held + length l.slots.items ≤ SLOTS;
 }
 
--- one less each time
+-- Each round leaves one slot fewer.
 abbrev pub decreases-loop-slot : goal.decreases-loop-slot
 decreases-loop-slot l = goal.left-loop-slot l

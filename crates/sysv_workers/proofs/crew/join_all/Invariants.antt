@@ -5,7 +5,7 @@ use Rattle.sysv_workers.specs.Parts.{Part}
 use Rattle.sysv_workers.proofs.Crewing.{Joining}
 use Rattle.sysv_workers.proofs.crew.join_all.Given as goal
 
--- the last threads were joined
+-- The threads at the end of the list were joined.
 abbrev pub invariant-loop-handle : goal.invariant-loop-handle
 invariant-loop-handle g l = record {
   buffer : l.seat.buffer ≡ l.buffer;

@@ -3,7 +3,7 @@ use Rattle.std.specs.List.{All}
 use Rattle.sysv_workers.specs.Crews.{AreOn}
 use Rattle.sysv_workers.proofs.crew.start_all.Given as goal
 
--- the last states have threads
+-- The states at the end of the list have threads.
 abbrev pub invariant-loop-state : goal.invariant-loop-state
 invariant-loop-state g l = record {
   buffer : l.seat.buffer ≡ l.buffer;

@@ -4,7 +4,7 @@ use Rattle.std.specs.List.{FoldsTo}
 use Rattle.sysv_workers.specs.Feeding.{counted, HasFed}
 use Rattle.sysv_workers.proofs.feed.put_all.Given as goal
 
--- what the source gave so far was put
+-- All items that the source returned so far were put.
 abbrev pub invariant-loop : goal.invariant-loop
 invariant-loop g l =
     (goal.iterator-loop g).can_next l.iterator'

@@ -2,7 +2,7 @@ use Rattle.std.proofs.Common.{◌≡◌, ◌≤◌, List, length}
 use Rattle.sysv_workers.specs.Feeding.{HasFed}
 use Rattle.sysv_workers.proofs.feed.put_marks.Given as goal
 
--- so many marks were put
+-- This number of end marks were put.
 abbrev pub invariant-loop : goal.invariant-loop
 invariant-loop g l =
     (l.seat.buffer ≡ l.buffer)

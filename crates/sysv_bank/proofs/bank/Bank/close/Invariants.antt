@@ -7,7 +7,7 @@ use Rattle.sysv_gate.specs.Ending.{IsReadAt}
 use Rattle.sysv_gate.specs.declared.closing.Closing.{Closing}
 use Rattle.sysv_bank.proofs.bank.Bank.close.Given as goal
 
--- how far it has come
+-- The places before this one were closed.
 abbrev pub invariant-loop-place : goal.invariant-loop-place
 invariant-loop-place g l = record {
   words : l.closed.words ≡ l.initial.closed.words;

@@ -3,6 +3,6 @@ use Rattle.sysv_gate.specs.Halls.{me_at}
 use Rattle.sysv_gate.specs.Doors.{IsSame}
 use Rattle.sysv_gate.proofs.door.Door.draw.Given as goal
 
--- no ticket is drawn yet
+-- No ticket was drawn yet.
 abbrev pub invariant-loop : goal.invariant-loop
 invariant-loop g l = record { same : IsSame l.self.place l.fn.token l.token; still : me_at l.self.place l.token.me ≡ me_at l.self.place l.fn.token.me; goes_on : (goal.iterator-loop g).can_next l.iterator' × (goal.iterator-loop g).is_finite l.iterator' }

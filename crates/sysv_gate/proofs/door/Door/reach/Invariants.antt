@@ -3,6 +3,6 @@ use Rattle.sysv_gate.specs.Halls.{me_at}
 use Rattle.sysv_gate.specs.Doors.{IsSame}
 use Rattle.sysv_gate.proofs.door.Door.reach.Given as goal
 
--- the turn has not come yet
+-- The turn has not begun yet.
 abbrev pub invariant-loop : goal.invariant-loop
 invariant-loop g l = record { same : IsSame l.self.place l.fn.token l.token; waits : SawMore (me_at l.self.place l.fn.token.me).0 (me_at l.self.place l.token.me); goes_on : (goal.iterator-loop g).can_next l.iterator' × (goal.iterator-loop g).is_finite l.iterator' }

@@ -5,7 +5,7 @@ use Rattle.sysv_gate.specs.Halls.{me_at}
 use Rattle.sysv_gate.specs.Doors.{IsSame}
 use Rattle.sysv_gate.proofs.door.Door.spin.Given as goal
 
--- what the look that was made last tells
+-- What the last look shows.
 abbrev pub invariant-loop : goal.invariant-loop
 invariant-loop g l = record {
   same : IsSame l.self.place l.fn.token l.token;

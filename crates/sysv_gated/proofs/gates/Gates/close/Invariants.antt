@@ -6,7 +6,7 @@ use Rattle.sysv_gated.specs.declared.kinds.Gated.{Gated}
 use Rattle.sysv_gated.proofs.Dividing.{GivenBack}
 use Rattle.sysv_gated.proofs.gates.Gates.close.Given as goal
 
--- what was taken from the end was given back as slots, the last one first
+-- The elements taken from the end so far were moved to the slots, the last one first.
 abbrev pub invariant-loop : goal.invariant-loop
 invariant-loop l = record {
   back : (done : List (Closing Gated)) × (l.initial.closings.items ≡ l.closings.items ++ done) × Each2 GivenBack done (reverse l.slots.items);

@@ -7,7 +7,7 @@ use Rattle.sysv_service.specs.Ran.{Comes}
 use Rattle.sysv_driver.specs.Kinds.{Gets}
 use Rattle.sysv_service.proofs.service.Service.msgget.Given as goal
 
--- where the call has come to
+-- The state of the call so far.
 abbrev pub invariant-loop : goal.invariant-loop
 invariant-loop g l = record {
   pass : AreOf l.fn.self l.pass.seats;

@@ -6,7 +6,7 @@ use Rattle.sysv_service.specs.Delivered.{ComesGiving}
 use Rattle.sysv_driver.specs.Kinds.{Receives, IsSized}
 use Rattle.sysv_service.proofs.service.Service.msgrcv_for.Given as goal
 
--- where the call has come to
+-- The state of the call so far.
 abbrev pub invariant-loop : goal.invariant-loop
 invariant-loop g l = record {
   pass : AreOf l.fn.self l.pass.seats;

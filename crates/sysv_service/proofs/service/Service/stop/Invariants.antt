@@ -3,7 +3,7 @@ use Rattle.sysv_gated.specs.Seats.{AreOf}
 use Rattle.sysv_service.specs.Stopped.{Stops}
 use Rattle.sysv_service.proofs.service.Service.stop.Given as goal
 
--- the slots before this one were tried
+-- The slots before this one were tried.
 abbrev pub invariant-loop-slot : goal.invariant-loop-slot
 invariant-loop-slot g l = record {
   pass : AreOf l.fn.self l.pass.seats;
