@@ -100,7 +100,7 @@ impl<'a, C: Clock, R: Wait, K: Caller + Copy> ServiceKernel<'a, C, R, K> {
             (K.may_leave self.old.caller) result self.old.pass self.new.pass
             (I.remaining reader.old) (I.remaining reader.new)
             (O.contents writer.old) (O.contents writer.new) }
-        // The session ends as its input leads to, unless it is cut short.
+        // The session ends as its input determines, unless it is cut short.
         ensures only { (input : List ℕ) (course : Course) → I.remaining reader.old ≡ Some input →
             Takes input course → Follows course result }
         ensures service { self.new.service ≡ self.old.service }
@@ -122,7 +122,7 @@ impl<'a, C: Clock, R: Wait, K: Caller + Copy> ServiceKernel<'a, C, R, K> {
             (K.may_leave self.old.caller) result self.old.pass self.new.pass
             (I.remaining reader.old) (I.remaining reader.new)
             (O.contents writer.old) (O.contents writer.new) }
-        // The session ends as its input leads to, unless it is cut short.
+        // The session ends as its input determines, unless it is cut short.
         ensures only { (input : List ℕ) (course : Course) → I.remaining reader.old ≡ Some input →
             Takes input course → Follows course result }
         ensures service { self.new.service ≡ self.old.service }

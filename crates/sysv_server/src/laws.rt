@@ -8,9 +8,9 @@ use sysv_service::every_hiring_obeys;
 
 /// States that the sessions of a server are one run of its service if no gate was found worn out.
 ///
-/// The calls of all sessions, each answered as it ended, and the removals of the stop are all the
-/// calls that made the order of turns of the service. That order is a run of a world with those
-/// calls, and the run obeys the headline of threads.
+/// The calls of all sessions, each answered as it ended or was left, and the removals of the stop
+/// are all the calls that made the order of turns of the service. That order is a run of a world
+/// with those calls, and the run obeys the headline of threads.
 pub fn each_life_is_one_run()
     ensures { EachLifeIsOneRun }
 {

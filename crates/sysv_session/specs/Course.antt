@@ -106,6 +106,6 @@ IsCutShort («end».Fault Read) = ⊤
 IsCutShort «end».Write = ⊤
 IsCutShort «end».Bound = ⊤
 
--- The session ended as the course of its input leads to, or it was cut short.
+-- The session ended as the course of its input determines, or it was cut short.
 abbrev pub Follows : Course → Served → Type 0
 Follows course served = EndsAsTold course served.«end» served.requests ⊎ IsCutShort served.«end»

@@ -38,7 +38,7 @@ pub fn serve<R: Read, W: Write, K: Kernel>(
     ensures serves { Serves K.meaning (K.slots kernel.old) result kernel.old kernel.new
         (R.remaining reader.old) (R.remaining reader.new) (W.contents writer.old)
         (W.contents writer.new) }
-    // The session ends as its input leads to, unless it is cut short.
+    // The session ends as its input determines, unless it is cut short.
     ensures only { (input : List ℕ) (course : Course) → R.remaining reader.old ≡ Some input →
         Takes input course → Follows course result }
     ensures memory { result.«end» ≡ End.NoMemory → (reader.new ≡ reader.old)
@@ -65,7 +65,7 @@ pub fn serve_with<R: Read, W: Write, K: Kernel>(
     ensures serves { Serves K.meaning (K.slots kernel.old) result kernel.old kernel.new
         (R.remaining reader.old) (R.remaining reader.new) (W.contents writer.old)
         (W.contents writer.new) }
-    // The session ends as its input leads to, unless it is cut short.
+    // The session ends as its input determines, unless it is cut short.
     ensures only { (input : List ℕ) (course : Course) → R.remaining reader.old ≡ Some input →
         Takes input course → Follows course result }
     ensures memory { result.«end» ≢ End.NoMemory }
@@ -91,7 +91,7 @@ pub fn serve_watched<R: Read, W: Write, K: Kernel>(
     ensures serves { Serves K.meaning (K.slots kernel.old) result kernel.old kernel.new
         (R.remaining (stream_of reader.old)) (R.remaining (stream_of reader.new))
         (W.contents (stream_of writer.old)) (W.contents (stream_of writer.new)) }
-    // The session ends as its input leads to, unless it is cut short.
+    // The session ends as its input determines, unless it is cut short.
     ensures only { (input : List ℕ) (course : Course) →
         R.remaining (stream_of reader.old) ≡ Some input → Takes input course →
         Follows course result }
