@@ -147,6 +147,7 @@ impl<'a, C: Clock, R: Wait, K: Caller + Copy> ServiceKernel<'a, C, R, K> {
         pass
     }
 
+    /// Makes a `msgget`, and returns the reply with its result.
     fn get(&mut self, version: Version, cred: Cred, key: i32, flags: Flags) -> Outcome
         ensures gets { Gets (C.may self.old.clock.now) version cred key flags self.old.pass result
             self.new.pass }
@@ -164,6 +165,8 @@ impl<'a, C: Clock, R: Wait, K: Caller + Copy> ServiceKernel<'a, C, R, K> {
         }
     }
 
+    /// Makes a `msgsnd` of the body, and returns the reply with its result. A call that was left
+    /// has the reply `EAGAIN`.
     fn send(
         &mut self,
         version: Version,
@@ -194,6 +197,8 @@ impl<'a, C: Clock, R: Wait, K: Caller + Copy> ServiceKernel<'a, C, R, K> {
         }
     }
 
+    /// Makes a `msgrcv` into `given`, and returns its message or the reply with its error. A call
+    /// that was left has the reply `ENOMSG`.
     fn receive(
         &mut self,
         version: Version,
@@ -225,6 +230,7 @@ impl<'a, C: Clock, R: Wait, K: Caller + Copy> ServiceKernel<'a, C, R, K> {
         }
     }
 
+    /// Makes a `msgctl` with `IPC_STAT`, and returns the reply with its result.
     fn stat(&mut self, version: Version, cred: Cred, id: i32) -> Outcome
         ensures stats { Stats version cred id self.old.pass result self.new.pass }
         ensures answer { MayAnswer version (Ask.Stat id) result [] }
@@ -239,6 +245,7 @@ impl<'a, C: Clock, R: Wait, K: Caller + Copy> ServiceKernel<'a, C, R, K> {
         }
     }
 
+    /// Makes a `msgctl` with `IPC_SET`, and returns the reply with its result.
     fn set(&mut self, version: Version, cred: Cred, id: i32, to: SetTo) -> Outcome
         ensures sets { Sets (C.may self.old.clock.now) version cred id to self.old.pass result
             self.new.pass }
@@ -256,6 +263,7 @@ impl<'a, C: Clock, R: Wait, K: Caller + Copy> ServiceKernel<'a, C, R, K> {
         }
     }
 
+    /// Makes a `msgctl` with `IPC_RMID`, and returns the reply with its result.
     fn remove(&mut self, version: Version, cred: Cred, id: i32) -> Outcome
         ensures removes { Removes version cred id self.old.pass result self.new.pass }
         ensures answer { MayAnswer version (Ask.Rm id) result [] }
@@ -270,6 +278,7 @@ impl<'a, C: Clock, R: Wait, K: Caller + Copy> ServiceKernel<'a, C, R, K> {
         }
     }
 
+    /// Reads the row of a slot, and returns the reply with the result.
     fn row(&mut self, version: Version, slot: u32) -> Outcome
         ensures shows { Shows version slot self.old.pass result self.new.pass }
         ensures answer { MayAnswer version (Ask.Row slot) result [] }

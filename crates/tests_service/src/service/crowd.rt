@@ -103,7 +103,7 @@ impl Receiver {
         }
     }
 
-    /// Returns how often it received the message with this number from this sender.
+    /// Returns how often it received the message with this type and number.
     fn count_of(&self, mtype: i64, number: u8) -> usize {
         self.got
             .iter()

@@ -337,7 +337,8 @@ fn advance_ten_times(count: &Eventcount, seat: &mut Seat) -> bool
     true
 }
 
-// Requests the advances, and then waits in turns until the count has reached the goal.
+// Requests the advances, and then waits for the goal for a bounded number of looks. Returns whether
+// the count reached it.
 fn ask_and_see(
     rt: &impl Wait,
     asked: &Eventcount,
