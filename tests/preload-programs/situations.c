@@ -139,7 +139,7 @@ static void waits_for_worker(void)
 }
 
 static int shared_queue;
-enum { PAIRS = 100, THREADS = 12, SHORT_THREADS = 60 };
+enum { PAIRS = 100, THREADS = 12, SHORT_THREADS = 60, FORKS = 300 };
 
 static void *pairs(void *type)
 {
@@ -212,6 +212,42 @@ static void fork_beside_threads(void)
     if (child == 0)
         _exit(count_descriptors(is_socket));
     expect(status_of(child) == 0, "the child has copies");
+}
+
+static volatile bool goes_on = true;
+
+static void *one_stat(void *unused)
+{
+    stat_of(shared_queue);
+    return unused;
+}
+
+static void *one_after_another(void *unused)
+{
+    pthread_t thread;
+    while (goes_on && pthread_create(&thread, NULL, one_stat, NULL) == 0)
+        pthread_join(thread, NULL);
+    return unused;
+}
+
+/* Nor has it a copy of one that a thread is opening at the fork. */
+static void fork_beside_openings(void)
+{
+    pthread_t all[3];
+    int copies = 0;
+    shared_queue = new_queue();
+    for (int i = 0; i < 3; i++)
+        pthread_create(&all[i], NULL, one_after_another, NULL);
+    for (int i = 0; i < FORKS; i++) {
+        pid_t child = fork();
+        if (child == 0)
+            _exit(connection() != -1);
+        copies += status_of(child) != 0;
+    }
+    goes_on = false;
+    for (int i = 0; i < 3; i++)
+        pthread_join(all[i], NULL);
+    expect(copies == 0, "a child has a copy");
 }
 
 static void *wait_for_message(void *result)
@@ -607,6 +643,7 @@ static const struct {
     {"threads", threads},
     {"short-threads", short_threads},
     {"fork-beside-threads", fork_beside_threads},
+    {"fork-beside-openings", fork_beside_openings},
     {"cancel", cancels},
     {"cancel-disabled", cancels_disabled},
     {"vfork", vforks},
