@@ -508,6 +508,8 @@ static void bad_pointers(void)
                && refused(msgctl(0, IPC_INFO, NULL), EFAULT)
                && refused(msgctl(0, MSG_STAT, constant), EFAULT),
         "msgctl: EFAULT");
+    const char *volatile nowhere = NULL;
+    expect(!fopen(nowhere, "r") && errno == EFAULT, "fopen: EFAULT");
     expect(send_text(id, 1) == 0 && receive_text(id, 1, 0) == 4, "calls after it fail");
 }
 
