@@ -520,6 +520,9 @@ static void control_sentences(int id)
             told.msg_qnum == 1 && told.msg_cbytes == 4 && told.msg_lspid == was.msg_lspid
                 && told.msg_lrpid == 0 && told.msg_stime == was.msg_stime && told.msg_rtime == 0
                 && told.msg_perm.__key == was.msg_perm.__key);
+        bool is_refused = refused(set_to(id, (uid_t)-1, 0, 0600, 1000), EINVAL);
+        changed("msgctl, IPC_SET, EINVAL for user -1 on Linux", is_refused, "it is set",
+            !is_refused && stat_of(id).msg_perm.uid == (uid_t)-1);
     }
     if (has_privilege(CAP_SYS_RESOURCE)) {
         says("msgctl, a user with the privilege may raise msg_qbytes", set_qbytes(id, 65536) == 0);

@@ -629,6 +629,15 @@ static void server_gone(const char *server)
     expect(refused(send_text(id, -1), EIO), "a refusal of the server's doesn't fail with EIO");
 }
 
+/* The server ends sessions that are idle for a second. */
+static void idle(void)
+{
+    int id = new_queue();
+    sleep(2);
+    expect(refused(send_text(id, 1), EIO), "a call after the session's end doesn't fail with EIO");
+    expect(send_text(id, 1) == 0 && receive_text(id, 1, 0) == 4, "the next call doesn't connect");
+}
+
 /* The standard error is a pipe that nobody reads. */
 static void no_server(void)
 {
@@ -660,6 +669,7 @@ static const struct {
     {"user", changes_user},
     {"bad-pointers", bad_pointers},
     {"tables", tables},
+    {"idle", idle},
     {"no-server", no_server},
     {"wait-for-worker", waits_for_worker},
 };
