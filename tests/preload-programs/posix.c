@@ -351,6 +351,22 @@ static void raised_sentences(int id)
             && refused(send(id, 1, 1, IPC_NOWAIT), EAGAIN));
 }
 
+/* Four queues that are full take the whole pool of a server with 1,024 blocks. */
+static void shared_room(int id)
+{
+    int full[4];
+    for (int i = 0; i < 4; i++) {
+        full[i] = new_queue(0600);
+        send(full[i], 1, TEXT, IPC_NOWAIT);
+        send(full[i], 1, TEXT, IPC_NOWAIT);
+    }
+    bool is_sent = send(id, 1, 1, IPC_NOWAIT) == 0;
+    changed("msgsnd, a message fits if its own queue has room", is_sent,
+        "and the pool of all queues has blocks for it", !is_sent && errno == EAGAIN);
+    for (int i = 0; i < 4; i++)
+        remove_queue(full[i]);
+}
+
 static void many_messages(int id)
 {
     int count = 0;
@@ -701,6 +717,7 @@ int main(int count, char **words)
     on_queue(send_sentences);
     on_queue(full_sentences);
     on_queue(raised_sentences);
+    on_queue(shared_room);
     on_queue(many_messages);
     on_queue(receive_sentences);
     on_queue(lowest_sentences);
