@@ -1,6 +1,7 @@
 /* msgget, msgsnd, msgrcv and msgctl of the C library, over a server's socket. Loaded before a
  * program's own libraries. Without SYSVMSG_PATH each call is the C library's own. */
 #define _GNU_SOURCE
+#undef _FILE_OFFSET_BITS /* 64 would make fopen another name of fopen64 */
 #include <dlfcn.h>
 #include <errno.h>
 #include <limits.h>
@@ -328,7 +329,7 @@ EXPORTED int msgctl(int id, int command, struct msqid_ds *told)
  * can't. */
 static bool is_hidden(const char *name)
 {
-    return is_ours() && strcmp(name, "/proc/sysvipc/msg") == 0;
+    return is_ours() && name && strcmp(name, "/proc/sysvipc/msg") == 0;
 }
 
 static FILE *no_file(void)

@@ -53,6 +53,39 @@ static bool keeps; /* connections after a call */
 static bool ends_by_signals;
 static struct sockaddr_un server = {.sun_family = AF_UNIX}; /* without a path if that is too long */
 
+/* Held while a descriptor is opened or closed and `connections` is told. fork waits for it, so that
+ * its child finds all its copies there. Signals are blocked meanwhile: a handler may fork. */
+static pthread_mutex_t descriptors = PTHREAD_MUTEX_INITIALIZER;
+
+struct hold {
+    bool is_held;
+    sigset_t mask; /* before it */
+};
+
+static __thread struct hold at_fork __attribute__((tls_model("initial-exec")));
+
+/* A child that was made without the handlers of fork doesn't hold. It closes no copies, and a
+ * thread that it doesn't have may have held when it was made. */
+static struct hold hold_descriptors(void)
+{
+    struct hold hold = {.is_held = getpid() == process};
+    sigset_t all;
+    if (hold.is_held) {
+        sigfillset(&all);
+        pthread_sigmask(SIG_SETMASK, &all, &hold.mask);
+        pthread_mutex_lock(&descriptors);
+    }
+    return hold;
+}
+
+static void release_descriptors(const struct hold *hold)
+{
+    if (!hold->is_held)
+        return;
+    pthread_mutex_unlock(&descriptors);
+    pthread_sigmask(SIG_SETMASK, &hold->mask, NULL);
+}
+
 /* Whether the descriptor still is the connection. The program may have closed it, and its number
  * may be another file. */
 static bool is_open(const struct connection *connection)
@@ -68,7 +101,10 @@ static void end_session(struct connection *connection)
 {
     if (is_open(connection)) {
         shutdown(connection->fd, SHUT_RDWR);
+        const struct hold hold = hold_descriptors();
         close(connection->fd);
+        connection->fd = -1;
+        release_descriptors(&hold);
     }
     connection->fd = -1;
 }
@@ -81,6 +117,10 @@ static void end_thread(void *connection)
     atomic_store(&((struct connection *)connection)->taken, false);
     in_call = 0;
 }
+
+static void before_fork(void) { at_fork = hold_descriptors(); }
+
+static void after_fork(void) { release_descriptors(&at_fork); }
 
 /* Closes a forked child's copies of its parent's connections, and frees the places of the threads
  * that it doesn't have. */
@@ -96,6 +136,7 @@ static void begin_child(void)
         if (each != mine)
             atomic_store(&each->taken, false);
     }
+    release_descriptors(&at_fork);
 }
 
 static void begin(void)
@@ -109,7 +150,7 @@ static void begin(void)
         strcpy(server.sun_path, word);
     process = getpid();
     keeps = pthread_key_create(&at_thread_end, end_thread) == 0
-            && pthread_atfork(NULL, NULL, begin_child) == 0;
+            && pthread_atfork(before_fork, after_fork, begin_child) == 0;
     serves = true;
 }
 
@@ -293,22 +334,39 @@ static int move_up(int fd)
     return high;
 }
 
-/* Returns a descriptor that is connected to the server, or -1. */
-static int connect_server(void)
+/* Opens the connection's socket, and notes which file it is. */
+static bool open_held(struct connection *connection)
 {
+    struct stat found;
     int fd = socket(AF_UNIX, SOCK_STREAM | SOCK_CLOEXEC, 0);
     if (fd < 0)
-        return -1;
+        return false;
+    fd = move_up(fd);
+    if (fstat(fd, &found) != 0) {
+        close(fd);
+        return false;
+    }
+    connection->device = found.st_dev;
+    connection->inode = found.st_ino;
+    connection->fd = fd;
+    return true;
+}
+
+static bool open_socket(struct connection *connection)
+{
+    const struct hold hold = hold_descriptors();
+    bool is_opened = open_held(connection);
+    release_descriptors(&hold);
+    return is_opened;
+}
+
+static bool connect_server(int fd)
+{
     int status;
     do
         status = connect(fd, (const struct sockaddr *)&server, sizeof server);
     while (status < 0 && errno == EINTR);
-    if (status == 0)
-        return move_up(fd);
-    int error = errno;
-    close(fd);
-    errno = error;
-    return -1;
+    return status == 0;
 }
 
 static int say_hello(struct connection *connection, const struct call *call)
@@ -343,14 +401,10 @@ static const char *why_unconnected(int error)
 
 static int begin_session(struct connection *connection, const struct call *call)
 {
-    struct stat found;
     if (!*server.sun_path)
         return broken(connection, call, "it is longer than 107 bytes");
-    connection->fd = connect_server();
-    if (connection->fd < 0 || fstat(connection->fd, &found) != 0)
+    if (!open_socket(connection) || !connect_server(connection->fd))
         return broken(connection, call, why_unconnected(errno));
-    connection->device = found.st_dev;
-    connection->inode = found.st_ino;
     return say_hello(connection, call);
 }
 

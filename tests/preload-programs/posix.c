@@ -351,6 +351,22 @@ static void raised_sentences(int id)
             && refused(send(id, 1, 1, IPC_NOWAIT), EAGAIN));
 }
 
+/* Four queues that are full take the whole pool of a server with 1,024 blocks. */
+static void shared_room(int id)
+{
+    int full[4];
+    for (int i = 0; i < 4; i++) {
+        full[i] = new_queue(0600);
+        send(full[i], 1, TEXT, IPC_NOWAIT);
+        send(full[i], 1, TEXT, IPC_NOWAIT);
+    }
+    bool is_sent = send(id, 1, 1, IPC_NOWAIT) == 0;
+    changed("msgsnd, a message fits if its own queue has room", is_sent,
+        "and the pool of all queues has blocks for it", !is_sent && errno == EAGAIN);
+    for (int i = 0; i < 4; i++)
+        remove_queue(full[i]);
+}
+
 static void many_messages(int id)
 {
     int count = 0;
@@ -520,6 +536,9 @@ static void control_sentences(int id)
             told.msg_qnum == 1 && told.msg_cbytes == 4 && told.msg_lspid == was.msg_lspid
                 && told.msg_lrpid == 0 && told.msg_stime == was.msg_stime && told.msg_rtime == 0
                 && told.msg_perm.__key == was.msg_perm.__key);
+        bool is_refused = refused(set_to(id, (uid_t)-1, 0, 0600, 1000), EINVAL);
+        changed("msgctl, IPC_SET, EINVAL for user -1 on Linux", is_refused, "it is set",
+            !is_refused && stat_of(id).msg_perm.uid == (uid_t)-1);
     }
     if (has_privilege(CAP_SYS_RESOURCE)) {
         says("msgctl, a user with the privilege may raise msg_qbytes", set_qbytes(id, 65536) == 0);
@@ -698,6 +717,7 @@ int main(int count, char **words)
     on_queue(send_sentences);
     on_queue(full_sentences);
     on_queue(raised_sentences);
+    on_queue(shared_room);
     on_queue(many_messages);
     on_queue(receive_sentences);
     on_queue(lowest_sentences);

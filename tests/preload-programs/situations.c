@@ -139,7 +139,7 @@ static void waits_for_worker(void)
 }
 
 static int shared_queue;
-enum { PAIRS = 100, THREADS = 12, SHORT_THREADS = 60 };
+enum { PAIRS = 100, THREADS = 12, SHORT_THREADS = 60, FORKS = 300 };
 
 static void *pairs(void *type)
 {
@@ -212,6 +212,42 @@ static void fork_beside_threads(void)
     if (child == 0)
         _exit(count_descriptors(is_socket));
     expect(status_of(child) == 0, "the child has copies");
+}
+
+static volatile bool goes_on = true;
+
+static void *one_stat(void *unused)
+{
+    stat_of(shared_queue);
+    return unused;
+}
+
+static void *one_after_another(void *unused)
+{
+    pthread_t thread;
+    while (goes_on && pthread_create(&thread, NULL, one_stat, NULL) == 0)
+        pthread_join(thread, NULL);
+    return unused;
+}
+
+/* Nor has it a copy of one that a thread is opening at the fork. */
+static void fork_beside_openings(void)
+{
+    pthread_t all[3];
+    int copies = 0;
+    shared_queue = new_queue();
+    for (int i = 0; i < 3; i++)
+        pthread_create(&all[i], NULL, one_after_another, NULL);
+    for (int i = 0; i < FORKS; i++) {
+        pid_t child = fork();
+        if (child == 0)
+            _exit(connection() != -1);
+        copies += status_of(child) != 0;
+    }
+    goes_on = false;
+    for (int i = 0; i < 3; i++)
+        pthread_join(all[i], NULL);
+    expect(copies == 0, "a child has a copy");
 }
 
 static void *wait_for_message(void *result)
@@ -472,6 +508,8 @@ static void bad_pointers(void)
                && refused(msgctl(0, IPC_INFO, NULL), EFAULT)
                && refused(msgctl(0, MSG_STAT, constant), EFAULT),
         "msgctl: EFAULT");
+    const char *volatile nowhere = NULL;
+    expect(!fopen(nowhere, "r") && errno == EFAULT, "fopen: EFAULT");
     expect(send_text(id, 1) == 0 && receive_text(id, 1, 0) == 4, "calls after it fail");
 }
 
@@ -591,6 +629,15 @@ static void server_gone(const char *server)
     expect(refused(send_text(id, -1), EIO), "a refusal of the server's doesn't fail with EIO");
 }
 
+/* The server ends sessions that are idle for a second. */
+static void idle(void)
+{
+    int id = new_queue();
+    sleep(2);
+    expect(refused(send_text(id, 1), EIO), "a call after the session's end doesn't fail with EIO");
+    expect(send_text(id, 1) == 0 && receive_text(id, 1, 0) == 4, "the next call doesn't connect");
+}
+
 /* The standard error is a pipe that nobody reads. */
 static void no_server(void)
 {
@@ -607,6 +654,7 @@ static const struct {
     {"threads", threads},
     {"short-threads", short_threads},
     {"fork-beside-threads", fork_beside_threads},
+    {"fork-beside-openings", fork_beside_openings},
     {"cancel", cancels},
     {"cancel-disabled", cancels_disabled},
     {"vfork", vforks},
@@ -621,6 +669,7 @@ static const struct {
     {"user", changes_user},
     {"bad-pointers", bad_pointers},
     {"tables", tables},
+    {"idle", idle},
     {"no-server", no_server},
     {"wait-for-worker", waits_for_worker},
 };
