@@ -49,7 +49,7 @@ pub record Obeys (o : Opening) (w : World) (given : List Given) : Type 0 where
   pub calls : All (Fate w given) w.calls
   -- No two calls have the same name.
   pub apart : AllPairs (λ (c d : Started). c.who ≢ d.who) w.calls
-  -- Each turn is made by one of the calls, or by a preset.
+  -- Each turn is made by one of the calls, or is one of the three turns of a preset.
   pub made : All (IsMade w.calls) w.turns
   -- Each turn of a call requests what the call's arguments name, also if the call is under way.
   pub asked : All (AsksAsItWasAsked w) w.calls

@@ -1,13 +1,14 @@
 -- What the answer law admits and refuses, at the send of "hello" in the worked run: the send
 -- started at step number 2, looked, got a block, placed its body and returned 0.
-use Rattle.std.specs.Prelude.{ℕ, pos, [], ◌∷◌, ◌++◌, true, Some}
+use Rattle.std.specs.Prelude.{ℕ, pos, List, [], ◌∷◌, ◌++◌, true, Some, All}
 use Rattle.sysv_model.specs.declared.errno.Errno.TheVariants.{EAGAIN}
-use Rattle.sysv_model.specs.History.{Actor, Fits, Accepted, Full}
+use Rattle.sysv_model.specs.Message.{Message}
+use Rattle.sysv_model.specs.History.{Actor, Remove, Fits, Accepted, Full, Discarded}
 use Rattle.sysv_model.specs.Pool.{Reserve, Reserved}
 use Rattle.sysv_model.specs.Turn.{Deed, AtSlot, AtPool}
 use Rattle.sysv_steps.specs.State.{AtReserve, Zero, Refused, State, Goes, Over}
 use Rattle.sysv_steps.specs.Played.{Plays}
-use Rattle.sysv_core.specs.World.{World, Started, opening, with_actor, begun, with_preset_turns}
+use Rattle.sysv_core.specs.World.{World, Started, opening, with_actor, begun, preset_who, preset_cred, preset_begin, preset_install, preset_settle, with_preset_turns}
 use Rattle.sysv_core.specs.AnswerLaw.{Fate, IsMade}
 use Rattle.sysv_core.specs.WorkedRun.{hello, send_hello, place_hello, look_for, one_calls, one_ends, the_calls, the_turns, the_answers, of_16}
 
@@ -65,3 +66,7 @@ pub record WorkedAnswers : Type 0 where
   pub looks_otherwise : ¬ Fate (looking 6) [] the_send
   -- A turn that no call made is refused.
   pub by_nobody : (deed : Deed) → ¬ IsMade the_calls (record { who = Actor 3 0; deed = deed })
+  -- A preset makes its three turns, and no others: no look, and no removal of its queue.
+  pub by_preset : All (λ (deed : Deed). IsMade [] (record { who = preset_who; deed = deed })) (preset_begin ∷ preset_install ∷ preset_settle ∷ [])
+  pub by_no_preset : ¬ IsMade the_calls (record { who = preset_who; deed = look_fits })
+  pub removed_by_no_preset : (messages : List Message) → ¬ IsMade the_calls (record { who = preset_who; deed = AtSlot 0 (Remove (pos 0) preset_cred) (Discarded messages) })

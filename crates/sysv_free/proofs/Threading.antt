@@ -25,7 +25,7 @@ use Rattle.sysv_steps.specs.Answers.{IsRightAnswer, EachAnswerIsRight}
 use Rattle.sysv_steps.specs.AfterRemoval.{EachIsToldOfRemoval}
 use Rattle.sysv_core.specs.Kinds.{kind_of}
 use Rattle.sysv_core.specs.World.{World, Opening, Started, Doing, Given, opening, doing_in, given_in, begun, in_state, with_call, Turns}
-use Rattle.sysv_core.specs.AnswerLaw.{Fate, IsMade, AsksAsItWasAsked}
+use Rattle.sysv_core.specs.AnswerLaw.{Fate, AsksAsItWasAsked}
 use Rattle.sysv_core.specs.Conserved.{AreConserved}
 use Rattle.sysv_core.specs.Sound.{IsSound, StaysSound}
 use Rattle.sysv_core.proofs.Histories.{turn_of}
@@ -36,7 +36,7 @@ use Rattle.sysv_core.proofs.Installing.{stand_counts, continues_counts, not_held
 use Rattle.sysv_core.proofs.Tending.{Tends, idle_move, turns_tend, waiting_state, each_row}
 use Rattle.sysv_core.proofs.Vacating.{IsKept, continues_holds, stand_fits, resumed_fits, begun_fits}
 use Rattle.sysv_core.proofs.Telling.{told_so}
-use Rattle.sysv_core.proofs.Obeying.{Inv, stands_there, goes_on, starts, turns_keep, opens, right_now}
+use Rattle.sysv_core.proofs.Obeying.{HasName, Inv, stands_there, goes_on, starts, turns_keep, opens, right_now}
 use Rattle.sysv_free.specs.FreeRun.{nobody, starting_with, Moment, Starts, TakesTurn, Wakes, Reads, StartsCall, TakesItsTurn, WakesUp, ReadsRow, Brings, LeadsOnThreads}
 use Rattle.sysv_free.specs.OnThreads.{IsRowRead, IsMadeOrRead, ObeysOnThreads}
 use Rattle.sysv_free.specs.Forgotten.{AllTakeTheirRows}
@@ -55,7 +55,7 @@ record IsHeld (w : World) (given : List Given) : Type 0 where
   reads : All ReadsIfNobody w.turns
   owed : Owed w.turns w.actors
 
-made_so : (calls : List Started) (t : Turn) → IsMade calls t → ReadsIfNobody t → IsMadeOrRead calls t
+made_so : (calls : List Started) (t : Turn) → HasName calls t → ReadsIfNobody t → IsMadeOrRead calls t
 made_so calls t (inl nobody_did) reads = inl (reads nobody_did)
 made_so calls t (inr by) reads = inr by
 
