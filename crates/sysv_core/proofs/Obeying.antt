@@ -1,5 +1,5 @@
 -- Every list of happenings leads only to worlds that obey the laws.
-use Rattle.std.proofs.Common.{◌≡◌, ◌≢◌, ℕ, zero, suc, ◌+◌, ◌<◌, ◌⊎◌, inl, inr, Bool, true, false, cond, List, [], ◌∷◌, ◌++◌, Option, None, Some, refl, sym, ap, subst, ◌∙◌, arith, slice_get, slice_set, append_assoc, map}
+use Rattle.std.proofs.Common.{◌≡◌, ◌≢◌, ℕ, zero, suc, ◌+◌, ◌<◌, ◌≤◌, ◌⊎◌, inl, inr, Bool, true, false, cond, List, [], ◌∷◌, ◌++◌, Option, None, Some, refl, sym, ap, subst, ◌∙◌, arith, slice_get, slice_set, append_assoc, map}
 use Rattle.std.specs.List.{All, AllPairs, Contains, filter}
 use Rattle.std.proofs.Math.ListN.{get_or}
 use Rattle.std.proofs.lemmas.List.{append-nil}
@@ -25,6 +25,7 @@ use Rattle.sysv_steps.specs.Resume.{awaited, resume}
 use Rattle.sysv_steps.specs.Played.{Plays, begins, steps, resumes}
 use Rattle.sysv_steps.specs.AsksFor.{EachDeedIsAskedFor}
 use Rattle.sysv_steps.specs.Answers.{IsRightAnswer, EachAnswerIsRight}
+use Rattle.sysv_steps.specs.Effects.{effects, EachHasOneEffect}
 use Rattle.sysv_steps.specs.HoldsAsked.{EachHoldsWhatItWasAsked}
 use Rattle.sysv_steps.specs.WaitsFor.{EachWaitsForItsRefusal}
 use Rattle.sysv_steps.specs.AfterRemoval.{EachIsToldOfRemoval}
@@ -498,10 +499,10 @@ module _ (sound : StaysSound) where
   }
 
   pub run_obeys : ((generation blocks : ℕ) → AreLegal generation blocks []) → ((h : History) → IsLegalHistory h → QueueLaw h) →
-      ((generation : ℕ) (h : RegistryHistory) → IsLegalRegistryHistory generation h → RegistryLaw generation h) → ((size : ℕ) (h : PoolHistory) → IsLegalPoolHistory size h → PoolLaw size h) → EachDeedIsAskedFor → EachAnswerIsRight →
+      ((generation : ℕ) (h : RegistryHistory) → IsLegalRegistryHistory generation h → RegistryLaw generation h) → ((size : ℕ) (h : PoolHistory) → IsLegalPoolHistory size h → PoolLaw size h) → EachDeedIsAskedFor → EachAnswerIsRight → EachHasOneEffect →
       NoMatchStays → FullStays → FullStaysForLook → CountsNeverFall → EachWaitsForItsRefusal → EachHoldsWhatItWasAsked → RemovedForGood → EachIsToldOfRemoval →
       (o : Opening) (list : List Happening) (given : List Given) (w : World) → Leads (opening o) list given w → Obeys o w given
-  run_obeys none law registry_law pool_law asked right no_match full full_for_look counts refused holds for_good told o list given w led =
+  run_obeys none law registry_law pool_law asked right one_effect no_match full full_for_look counts refused holds for_good told o list given w led =
       let opened : Inv (opening o) [] = opens o (none o.generation o.blocks) in
       let i : Inv w given = leads_keeps (opening o) w list [] given opened led in
       let own : All OwnIfPreset w.turns = leads_own (opening o) w list [] given opened led (λ k d low. absurd (omega (arith, low))) in
@@ -529,4 +530,6 @@ module _ (sound : StaysSound) where
         tended = tended;
         told = λ id before after t call whole removal has q. let f = i.fates call has in
             told_so w given call f told (asked call.cred call.asked call.released (deeds_of call.who w.turns) f.state f.plays) good id before after t whole removal q;
+        once = All-weaker (Contains w.calls) (λ (c : Started). effects (deeds_of c.who w.turns) ≤ 1)
+            (λ c has. let f = i.fates c has in one_effect c.cred c.asked c.released (deeds_of c.who w.turns) f.state f.plays) w.calls (All-contains_itself w.calls);
       }

@@ -19,6 +19,7 @@ use Rattle.sysv_pool.specs.PoolLaw.{PoolLaw}
 use Rattle.sysv_queue.specs.QueueLaw.{QueueLaw}
 use Rattle.sysv_keys.specs.RegistryLaw.{RegistryLaw}
 use Rattle.sysv_steps.specs.Answers.{IsRightAnswer}
+use Rattle.sysv_steps.specs.Effects.{effects}
 use Rattle.sysv_core.specs.declared.event.Event.{Event}
 use Rattle.sysv_core.specs.declared.event.Answer.{Answer}
 use Rattle.sysv_core.specs.declared.event.Stepped.{Stepped}
@@ -69,6 +70,9 @@ pub record Obeys (o : Opening) (w : World) (given : List Given) : Type 0 where
   -- Sends and receives of a removed queue fail with EIDRM if they had reached it before, else with
   -- EINVAL.
   pub told : AreToldOfRemovals w given
+  -- Each call, also one under way, has had at most one effect: one identifier made, one message
+  -- accepted, one taken, one queue changed, or one removed.
+  pub once : All (λ (c : Started). effects (deeds_of c.who w.turns) ≤ 1) w.calls
 
 -- Every list of happenings leads from every opening only to worlds that obey the laws.
 abbrev pub EveryRunObeys : Type 0
