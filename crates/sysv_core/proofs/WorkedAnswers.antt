@@ -1,5 +1,5 @@
 -- What the answer law admits and refuses at the send of the worked run.
-use Rattle.std.proofs.Common.{◌≡◌, ℕ, zero, suc, pos, true, inl, inr, List, [], ◌∷◌, None, Some, refl, ap, subst, arith}
+use Rattle.std.proofs.Common.{◌≡◌, ℕ, zero, suc, pos, true, inl, inr, List, [], ◌∷◌, None, Some, refl, sym, ap, subst, arith}
 use Rattle.std.specs.List.{All, Contains}
 use Rattle.sysv_model.specs.declared.errno.Errno.TheVariants.{EAGAIN}
 use Rattle.sysv_model.specs.Message.{Message}
@@ -10,9 +10,10 @@ use Rattle.sysv_steps.specs.Played.{Plays, begins, steps}
 use Rattle.sysv_steps.specs.AsksFor.{AsksFor, EachDeedIsAskedFor}
 use Rattle.sysv_steps.specs.Answers.{EachAnswerIsRight}
 use Rattle.sysv_core.specs.World.{Started, begun, preset_who, preset_cred, preset_begin, preset_install, preset_settle}
-use Rattle.sysv_core.specs.AnswerLaw.{IsMade, ended, standing}
+use Rattle.sysv_core.specs.AnswerLaw.{AreInTheirCalls, IsMade, ended, standing}
 use Rattle.sysv_core.specs.WorkedRun.{hello, the_calls, look_for}
-use Rattle.sysv_core.specs.WorkedAnswers.{the_send, the_end, still_reserving, looking, look_fits, gets_a_block, accepts, WorkedAnswers}
+use Rattle.sysv_core.proofs.Sounding.{none_busy}
+use Rattle.sysv_core.specs.WorkedAnswers.{the_send, the_end, still_reserving, looking, looked_by, look_fits, gets_a_block, accepts, WorkedAnswers}
 
 abbrev placing : State
 placing = Goes (AtPlace record { cred = the_send.cred; id = pos 0; mtype = pos 5; text = hello; nowait = true; released = 0; seen = true } 1)
@@ -91,6 +92,19 @@ other_size (inr (inl is)) = cc
 other_size (inr (inr (inl (now, is)))) = cc
 other_size (inr (inr (inr (blocks, is)))) = cc
 
+-- Actor 1 is in the send, and all others are idle.
+in_its_own : AreInTheirCalls (looking 5)
+in_its_own zero d there =
+    let same : d.call ≡ the_send = cc in
+    ((0, omega arith, sym same), (2, ap (λ (c : Started). c.who) same))
+in_its_own (suc place) d there = absurd (none_busy 15 place d there)
+
+not_started_there : ¬ AreInTheirCalls (record (looking 5) { calls = [] })
+not_started_there own = omega (arith, (own 0 _ refl).0.1)
+
+of_another_there : ¬ AreInTheirCalls (looked_by 2)
+of_another_there own = let who = (own 1 _ refl).1.1 in cc
+
 pub worked_answers : EachDeedIsAskedFor → EachAnswerIsRight → WorkedAnswers
 worked_answers asked right = record {
   plays = its_play;
@@ -107,6 +121,9 @@ worked_answers asked right = record {
   goes_on = λ f. over_and_going Zero still_reserving f.state f.answered f.stands;
   looks = record { state = still_reserving; plays = steps look_fits 0 still_reserving begins refl refl; answered = refl; stands = refl };
   looks_otherwise = λ f. other_size ((asked the_send.cred the_send.asked 0 (deeds_of the_send.who (looking 6).turns) f.state f.plays) 0 look_fits (omega arith));
+  its_own = in_its_own;
+  not_started = not_started_there;
+  of_another = of_another_there;
   by_nobody = nobody;
   by_preset = three_of_preset;
   by_no_preset = no_look;

@@ -25,7 +25,7 @@ use Rattle.sysv_core.specs.declared.event.Answer.{Answer}
 use Rattle.sysv_core.specs.declared.event.Stepped.{Stepped}
 use Rattle.sysv_core.specs.World.{World, Opening, Started, Given, Happening, Preset, opening}
 use Rattle.sysv_core.specs.Run.{Leads}
-use Rattle.sysv_core.specs.AnswerLaw.{Fate, IsMade, AsksAsItWasAsked}
+use Rattle.sysv_core.specs.AnswerLaw.{Fate, AreInTheirCalls, IsMade, AsksAsItWasAsked}
 use Rattle.sysv_core.specs.Conserved.{AreConserved}
 use Rattle.sysv_core.specs.Parked.{AreParkedRightly}
 use Rattle.sysv_core.specs.Removed.{AreRemovedForGood}
@@ -73,6 +73,8 @@ pub record Obeys (o : Opening) (w : World) (given : List Given) : Type 0 where
   -- Each call, also one under way, has had at most one effect: one identifier made, one message
   -- accepted, one taken, one queue changed, or one removed.
   pub once : All (λ (c : Started). effects (deeds_of c.who w.turns) ≤ 1) w.calls
+  -- Each actor that is in a call is in one that it started, and that is one of the calls.
+  pub under_way : AreInTheirCalls w
 
 -- Every list of happenings leads from every opening only to worlds that obey the laws.
 abbrev pub EveryRunObeys : Type 0

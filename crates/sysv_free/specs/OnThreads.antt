@@ -16,7 +16,7 @@ use Rattle.sysv_keys.specs.RegistryLaw.{RegistryLaw}
 use Rattle.sysv_steps.specs.Answers.{IsRightAnswer}
 use Rattle.sysv_steps.specs.Effects.{effects}
 use Rattle.sysv_core.specs.World.{World, Opening, Started, Given, opening}
-use Rattle.sysv_core.specs.AnswerLaw.{Fate, AsksAsItWasAsked}
+use Rattle.sysv_core.specs.AnswerLaw.{Fate, AreInTheirCalls, AsksAsItWasAsked}
 use Rattle.sysv_core.specs.Conserved.{AreConserved}
 use Rattle.sysv_core.specs.Removed.{AreRemovedForGood}
 use Rattle.sysv_core.specs.Vacant.{AllFindVacant}
@@ -69,6 +69,8 @@ pub record ObeysOnThreads (o : Opening) (w : World) (given : List Given) : Type 
   -- Each call, also one under way, has had at most one effect: one identifier made, one message
   -- accepted, one taken, one queue changed, or one removed.
   pub once : All (λ (c : Started). effects (deeds_of c.who w.turns) ≤ 1) w.calls
+  -- Each actor that is in a call is in one that it started, and that is one of the calls.
+  pub under_way : AreInTheirCalls w
 
 -- Every list of moments leads from every opening only to worlds that obey these laws.
 abbrev pub EveryThreadedRunObeys : Type 0
