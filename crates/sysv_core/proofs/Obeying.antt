@@ -1,5 +1,5 @@
 -- Every list of happenings leads only to worlds that obey the laws.
-use Rattle.std.proofs.Common.{◌≡◌, ◌≢◌, ℕ, zero, suc, ◌+◌, ◌<◌, ◌⊎◌, inl, inr, Bool, true, false, cond, List, [], ◌∷◌, ◌++◌, Option, None, Some, refl, sym, ap, subst, ◌∙◌, arith, slice_get, slice_set, append_assoc, map}
+use Rattle.std.proofs.Common.{◌≡◌, ◌≢◌, ℕ, zero, suc, ◌+◌, ◌<◌, ◌≤◌, ◌⊎◌, inl, inr, Bool, true, false, cond, List, [], ◌∷◌, ◌++◌, Option, None, Some, refl, sym, ap, subst, ◌∙◌, arith, slice_get, slice_set, append_assoc, map}
 use Rattle.std.specs.List.{All, AllPairs, Contains, filter}
 use Rattle.std.proofs.Math.ListN.{get_or}
 use Rattle.std.proofs.lemmas.List.{append-nil}
@@ -25,12 +25,13 @@ use Rattle.sysv_steps.specs.Resume.{awaited, resume}
 use Rattle.sysv_steps.specs.Played.{Plays, begins, steps, resumes}
 use Rattle.sysv_steps.specs.AsksFor.{EachDeedIsAskedFor}
 use Rattle.sysv_steps.specs.Answers.{IsRightAnswer, EachAnswerIsRight}
+use Rattle.sysv_steps.specs.Effects.{effects, EachHasOneEffect}
 use Rattle.sysv_steps.specs.HoldsAsked.{EachHoldsWhatItWasAsked}
 use Rattle.sysv_steps.specs.WaitsFor.{EachWaitsForItsRefusal}
 use Rattle.sysv_steps.specs.AfterRemoval.{EachIsToldOfRemoval}
 use Rattle.sysv_core.specs.World.{World, Opening, Started, Doing, Given, Happening, Preset, Start, Step, opening, doing_in, given_in, StaysWith, starting, begun, Turns, value_of, Looks, Continues, StartsAt, StepsAt, preset_who, preset_begin, preset_install, preset_settle, with_preset_turns, Presets, Makes}
 use Rattle.sysv_core.specs.Run.{Leads}
-use Rattle.sysv_core.specs.AnswerLaw.{endings_of, stands_in, standing_of, ended, standing, Fate, IsMade, AsksAsItWasAsked}
+use Rattle.sysv_core.specs.AnswerLaw.{endings_of, stands_in, standing_of, ended, standing, Fate, IsOfPreset, IsMade, AsksAsItWasAsked}
 use Rattle.sysv_core.specs.Headline.{Obeys}
 use Rattle.sysv_core.specs.Conserved.{AreConserved}
 use Rattle.sysv_core.specs.Sound.{IsSound, StaysSound}
@@ -51,6 +52,18 @@ use Rattle.sysv_core.proofs.Own.{same_who, same_itself, not_same, same_or_not, o
 abbrev pub IsBefore : ℕ → Started → Type 0
 IsBefore n call = (place : ℕ) × (start : ℕ) × (call.who ≡ Actor (suc place) start) × (start < n)
 
+-- The turn has the name of a preset, or that of a call that was started.
+abbrev pub HasName : List Started → Turn → Type 0
+HasName calls t = (t.who ≡ preset_who) ⊎ ((call : Started) × Contains calls call × (t.who ≡ call.who))
+
+-- A turn with the name of a preset is one of its three.
+abbrev pub OwnIfPreset : Turn → Type 0
+OwnIfPreset t = t.who ≡ preset_who → IsOfPreset t
+
+made_so : (calls : List Started) (t : Turn) → HasName calls t → OwnIfPreset t → IsMade calls t
+made_so calls t (inl preset) own = inl (own preset)
+made_so calls t (inr by) own = inr by
+
 -- The actor at that place is in a call that it started.
 abbrev pub IsOwn : List Started → ℕ → Doing → Type 0
 IsOwn calls place d = Contains calls d.call × ((start : ℕ) × (d.call.who ≡ Actor (suc place) start))
@@ -64,7 +77,7 @@ pub record Inv (w : World) (given : List Given) : Type 0 where
   pub before : (c : Started) → Contains w.calls c → IsBefore w.steps c
   pub apart : AllPairs (λ (c d : Started). c.who ≢ d.who) w.calls
   pub named : (c d : Started) → Contains w.calls c → Contains w.calls d → c.who ≡ d.who → c ≡ d
-  pub made : All (IsMade w.calls) w.turns
+  pub made : All (HasName w.calls) w.turns
   pub known : All (λ (g : Given). Contains w.calls g.call) given
   pub doing : AreOwn w.calls w.actors
 
@@ -161,7 +174,7 @@ module _ (w : World) (given : List Given) (i : Inv w given) (place : ℕ) (d : D
       let s = its_state f.state (sym f.stands ∙ where_it_stands) in
       record { plays = subst (Plays (begun d.call) (deeds_of d.call.who w.turns)) s.0 f.plays; quiet = f.answered ∙ s.1 }
 
-  pub goes_on : (turns : List Turn) (state : State) → IsSound (record { turns = turns; calls = w.calls; actors = slice_set w.actors place (doing_in d.call state); steps = w.steps + 1; blocks = w.blocks; generation = w.generation }) → OthersStay d.call.who w.turns turns → Stands turns given d.call state → All (IsMade w.calls) turns →
+  pub goes_on : (turns : List Turn) (state : State) → IsSound (record { turns = turns; calls = w.calls; actors = slice_set w.actors place (doing_in d.call state); steps = w.steps + 1; blocks = w.blocks; generation = w.generation }) → OthersStay d.call.who w.turns turns → Stands turns given d.call state → All (HasName w.calls) turns →
       Inv (record { turns = turns; calls = w.calls; actors = slice_set w.actors place (doing_in d.call state); steps = w.steps + 1; blocks = w.blocks; generation = w.generation }) (given ++ given_in d.call state)
   goes_on turns state sound stay s made = record {
     sound = sound;
@@ -208,7 +221,7 @@ module _ (w : World) (given : List Given) (i : Inv w given) (place : ℕ) (there
   no_preset e = let bad : Actor (suc place) w.steps ≡ Actor 0 0 = sym name ∙ e in cc
 
   new_turns : (t : Turn) → Contains w.turns t → is_same call.who t.who ≡ false
-  new_turns t has = elim (All-contains (IsMade w.calls) w.turns t i.made has) [
+  new_turns t has = elim (All-contains (HasName w.calls) w.turns t i.made has) [
     | inl preset ↦ not_same call.who t.who (λ e. no_preset (e ∙ preset))
     | inr by ↦ not_same call.who t.who (λ e. is_new by.0 by.1 (sym (e ∙ by.2)))
   ]
@@ -246,7 +259,7 @@ module _ (w : World) (given : List Given) (i : Inv w given) (place : ℕ) (there
             | inr newer ↦ sym new ∙ newer
           ]
         ];
-        made = All-weaker (IsMade w.calls) (IsMade calls) (λ t m. elim m [ inl p ↦ inl p | inr by ↦ inr (by.0, Contains-append_left w.calls (call ∷ []) by.0 by.1, by.2) ]) w.turns i.made;
+        made = All-weaker (HasName w.calls) (HasName calls) (λ t m. elim m [ inl p ↦ inl p | inr by ↦ inr (by.0, Contains-append_left w.calls (call ∷ []) by.0 by.1, by.2) ]) w.turns i.made;
         known = known_more calls given call (begun call) (Contains-push w.calls call)
             (All-weaker (λ (g : Given). Contains w.calls g.call) (λ (g : Given). Contains calls g.call) (λ g has. Contains-append_left w.calls (call ∷ []) g.call has) given i.known);
         doing = now_doing w given w.turns calls place None call (begun call) there tt stay w.steps name (Contains-push w.calls call)
@@ -344,7 +357,7 @@ module _ (sound : StaysSound) where
       (subst IsSound t.6 ok)
       (λ other apart. other_deed other w.turns turn apart)
       (record { plays = subst (λ ds. Plays (begun call) ds state) (sym own) (steps deed now state here.plays t.2 t.4); quiet = here.quiet })
-      (All-push (IsMade w.calls) w.turns turn i.made (inr (call, has_it w given i place d there, refl)))))
+      (All-push (HasName w.calls) w.turns turn i.made (inr (call, has_it w given i place d there, refl)))))
 
   looks_keep : (w after : World) (given one : List Given) (place : ℕ) (call : Started) (wait : Wait) → Inv w given → slice_get w.actors place ≡ Some (Some record { call = call; state = Waits wait }) →
       Looks w (suc place) call wait one after → IsSound after → Inv after (given ++ one)
@@ -395,8 +408,8 @@ module _ (sound : StaysSound) where
         before = i.before;
         apart = i.apart;
         named = i.named;
-        made = All-push (IsMade w.calls) second (turn_of preset_who preset_settle)
-            (All-push (IsMade w.calls) first (turn_of preset_who preset_install) (All-push (IsMade w.calls) w.turns (turn_of preset_who preset_begin) i.made (inl refl)) (inl refl)) (inl refl);
+        made = All-push (HasName w.calls) second (turn_of preset_who preset_settle)
+            (All-push (HasName w.calls) first (turn_of preset_who preset_install) (All-push (HasName w.calls) w.turns (turn_of preset_who preset_begin) i.made (inl refl)) (inl refl)) (inl refl);
         known = i.known;
         doing = i.doing;
       }
@@ -416,6 +429,60 @@ module _ (sound : StaysSound) where
       subst (λ gs. Inv after (given ++ gs)) (sym s.5) (subst (Inv after) (append_assoc given s.1 s.2)
       (leads_keeps s.0 after xs (given ++ s.1) s.2 (makes_keeps w s.0 x given s.1 i s.3) s.4))
 
+  -- ---- the turns of presets
+
+  no_preset_turn : (w : World) (given : List Given) (place : ℕ) (d : Doing) (deed : Deed) → Inv w given → slice_get w.actors place ≡ Some (Some d) → OwnIfPreset (turn_of d.call.who deed)
+  no_preset_turn w given place d deed i there e =
+      let name = its_name w given i place d there in
+      let bad : Actor (suc place) name.0 ≡ preset_who = sym name.1 ∙ e in
+      absurd cc
+
+  same_turns : (w after : World) → after.turns ≡ w.turns → All OwnIfPreset w.turns → All OwnIfPreset after.turns
+  same_turns w after e own = subst (All OwnIfPreset) (sym e) own
+
+  continues_own : (w after : World) (given one : List Given) (place now : ℕ) (d : Doing) (state : State) → state ≡ d.state → Inv w given → slice_get w.actors place ≡ Some (Some d) →
+      Continues w (suc place) now d.call state one after → All OwnIfPreset w.turns → All OwnIfPreset after.turns
+  continues_own w after given one place now d (Goes phase) is i there t own =
+      subst (All OwnIfPreset) (sym (ap (λ (v : World). v.turns) t.6))
+      (All-push OwnIfPreset w.turns (turn_of d.call.who t.0) own (no_preset_turn w given place d t.0 i there))
+  continues_own w after given one place now d (Waits wait) is i there (inl t) own = same_turns w after (ap (λ (v : World). v.turns) t.2) own
+  continues_own w after given one place now d (Waits wait) is i there (inr t) own = same_turns w after (ap (λ (v : World). v.turns) t.1.1) own
+  continues_own w after given one place now d (Over ending) is i there c own = same_turns w after (ap (λ (v : World). v.turns) c.1) own
+
+  steps_own : (w after : World) (given one : List Given) (place now : ℕ) (o : Option (Option Doing)) → Inv w given → slice_get w.actors place ≡ o → StepsAt w (suc place) now o one after →
+      All OwnIfPreset w.turns → All OwnIfPreset after.turns
+  steps_own w after given one place now None i there s own = same_turns w after (ap (λ (v : World). v.turns) s.1) own
+  steps_own w after given one place now (Some None) i there s own = same_turns w after (ap (λ (v : World). v.turns) s.1) own
+  steps_own w after given one place now (Some (Some d)) i there s own = continues_own w after given one place now d d.state refl i there s own
+
+  starts_own : (w after : World) (one : List Given) (actor : ℕ) (cred : Cred) (asked : SystemCall) (o : Option (Option Doing)) → StartsAt w actor cred asked o one after → All OwnIfPreset w.turns → All OwnIfPreset after.turns
+  starts_own w after one actor cred asked None s own = same_turns w after (ap (λ (v : World). v.turns) s.1) own
+  starts_own w after one actor cred asked (Some None) s own = same_turns w after (ap (λ (v : World). v.turns) s.1) own
+  starts_own w after one actor cred asked (Some (Some d)) s own = same_turns w after (ap (λ (v : World). v.turns) s.1) own
+
+  preset_own : (w after : World) (made : Bool) → Presets w made after → All OwnIfPreset w.turns → All OwnIfPreset after.turns
+  preset_own w after made (inr p) own = same_turns w after (ap (λ (v : World). v.turns) p.2) own
+  preset_own w after made (inl p) own =
+      let first = w.turns ++ turn_of preset_who preset_begin ∷ [] in
+      let second = first ++ turn_of preset_who preset_install ∷ [] in
+      subst (All OwnIfPreset) (sym (ap (λ (v : World). v.turns) p.2))
+      (All-push OwnIfPreset second (turn_of preset_who preset_settle)
+      (All-push OwnIfPreset first (turn_of preset_who preset_install)
+      (All-push OwnIfPreset w.turns (turn_of preset_who preset_begin) own (λ e. (e, inl refl))) (λ e. (e, inr (inl refl)))) (λ e. (e, inr (inr refl))))
+
+  makes_own : (w after : World) (x : Happening) (given one : List Given) → Inv w given → Makes w x one after → All OwnIfPreset w.turns → All OwnIfPreset after.turns
+  makes_own w after Preset given one i m own = preset_own w after m.1.0 m.1.1 own
+  makes_own w after (Start actor cred asked) given one i (inl worn) own = same_turns w after (ap (λ (v : World). v.turns) worn.1.1) own
+  makes_own w after (Start actor cred asked) given one i (inr young) own = starts_own w after one actor cred asked _ young.1 own
+  makes_own w after (Step actor now) given one i (inl worn) own = same_turns w after (ap (λ (v : World). v.turns) worn.1.1) own
+  makes_own w after (Step zero now) given one i (inr young) own = same_turns w after (ap (λ (v : World). v.turns) young.1.1) own
+  makes_own w after (Step (suc place) now) given one i (inr young) own = steps_own w after given one place now (slice_get w.actors place) i refl young.1 own
+
+  leads_own : (w after : World) (xs : List Happening) (given more : List Given) → Inv w given → Leads w xs more after → All OwnIfPreset w.turns → All OwnIfPreset after.turns
+  leads_own w after [] given more i s own = same_turns w after (ap (λ (v : World). v.turns) s.1) own
+  leads_own w after (x ∷ xs) given more i s own =
+      leads_own s.0 after xs (given ++ s.1) s.2 (makes_keeps w s.0 x given s.1 i s.3) s.4 (makes_own w s.0 x given s.1 i s.3 own)
+
   nothing_in : {X : Type 0} (x : X) → Contains [] x → ⊥
   nothing_in x has = omega (arith, has.1)
 
@@ -432,11 +499,13 @@ module _ (sound : StaysSound) where
   }
 
   pub run_obeys : ((generation blocks : ℕ) → AreLegal generation blocks []) → ((h : History) → IsLegalHistory h → QueueLaw h) →
-      ((generation : ℕ) (h : RegistryHistory) → IsLegalRegistryHistory generation h → RegistryLaw generation h) → ((size : ℕ) (h : PoolHistory) → IsLegalPoolHistory size h → PoolLaw size h) → EachDeedIsAskedFor → EachAnswerIsRight →
+      ((generation : ℕ) (h : RegistryHistory) → IsLegalRegistryHistory generation h → RegistryLaw generation h) → ((size : ℕ) (h : PoolHistory) → IsLegalPoolHistory size h → PoolLaw size h) → EachDeedIsAskedFor → EachAnswerIsRight → EachHasOneEffect →
       NoMatchStays → FullStays → FullStaysForLook → CountsNeverFall → EachWaitsForItsRefusal → EachHoldsWhatItWasAsked → RemovedForGood → EachIsToldOfRemoval →
       (o : Opening) (list : List Happening) (given : List Given) (w : World) → Leads (opening o) list given w → Obeys o w given
-  run_obeys none law registry_law pool_law asked right no_match full full_for_look counts refused holds for_good told o list given w led =
-      let i : Inv w given = leads_keeps (opening o) w list [] given (opens o (none o.generation o.blocks)) led in
+  run_obeys none law registry_law pool_law asked right one_effect no_match full full_for_look counts refused holds for_good told o list given w led =
+      let opened : Inv (opening o) [] = opens o (none o.generation o.blocks) in
+      let i : Inv w given = leads_keeps (opening o) w list [] given opened led in
+      let own : All OwnIfPreset w.turns = leads_own (opening o) w list [] given opened led (λ k d low. absurd (omega (arith, low))) in
       let same = leads_generation (opening o) w list given led in
       let of_registry = subst (λ g. RegistryLaw g (registry_history w.turns)) same (registry_law w.generation (registry_history w.turns) i.sound.legal.registry) in
       let good = removed_for_good sound for_good o w list given (opening_sound o (none o.generation o.blocks)) led of_registry i.sound.legal.slots in
@@ -448,7 +517,7 @@ module _ (sound : StaysSound) where
         registry = of_registry;
         calls = All-weaker (Contains w.calls) (Fate w given) i.fates w.calls (All-contains_itself w.calls);
         apart = i.apart;
-        made = i.made;
+        made = λ k d low. made_so w.calls (get_or w.turns k d) (i.made k d low) (own k d low);
         asked = All-weaker (Contains w.calls) (AsksAsItWasAsked w)
             (λ c has. let f = i.fates c has in asked c.cred c.asked c.released (deeds_of c.who w.turns) f.state f.plays) w.calls (All-contains_itself w.calls);
         known = i.known;
@@ -461,4 +530,7 @@ module _ (sound : StaysSound) where
         tended = tended;
         told = λ id before after t call whole removal has q. let f = i.fates call has in
             told_so w given call f told (asked call.cred call.asked call.released (deeds_of call.who w.turns) f.state f.plays) good id before after t whole removal q;
+        once = All-weaker (Contains w.calls) (λ (c : Started). effects (deeds_of c.who w.turns) ≤ 1)
+            (λ c has. let f = i.fates c has in one_effect c.cred c.asked c.released (deeds_of c.who w.turns) f.state f.plays) w.calls (All-contains_itself w.calls);
+        under_way = i.doing;
       }

@@ -1,17 +1,19 @@
 -- What the answer law admits and refuses at the send of the worked run.
-use Rattle.std.proofs.Common.{◌≡◌, ℕ, zero, suc, pos, true, inl, inr, [], ◌∷◌, None, Some, refl, ap, subst, arith}
-use Rattle.std.specs.List.{Contains}
+use Rattle.std.proofs.Common.{◌≡◌, ℕ, zero, suc, pos, true, inl, inr, List, [], ◌∷◌, None, Some, refl, sym, ap, subst, arith}
+use Rattle.std.specs.List.{All, Contains}
 use Rattle.sysv_model.specs.declared.errno.Errno.TheVariants.{EAGAIN}
-use Rattle.sysv_model.specs.History.{Actor}
-use Rattle.sysv_model.specs.Turn.{OfSlot, Deed, deeds_of}
+use Rattle.sysv_model.specs.Message.{Message}
+use Rattle.sysv_model.specs.History.{Actor, Remove, Discarded}
+use Rattle.sysv_model.specs.Turn.{OfSlot, Deed, AtSlot, deeds_of}
 use Rattle.sysv_steps.specs.State.{AtPlace, Ending, Zero, Refused, State, Goes, Waits, Over}
 use Rattle.sysv_steps.specs.Played.{Plays, begins, steps}
 use Rattle.sysv_steps.specs.AsksFor.{AsksFor, EachDeedIsAskedFor}
 use Rattle.sysv_steps.specs.Answers.{EachAnswerIsRight}
-use Rattle.sysv_core.specs.World.{Started, begun}
-use Rattle.sysv_core.specs.AnswerLaw.{IsMade, ended, standing}
+use Rattle.sysv_core.specs.World.{Started, begun, preset_who, preset_cred, preset_begin, preset_install, preset_settle}
+use Rattle.sysv_core.specs.AnswerLaw.{AreInTheirCalls, IsMade, ended, standing}
 use Rattle.sysv_core.specs.WorkedRun.{hello, the_calls, look_for}
-use Rattle.sysv_core.specs.WorkedAnswers.{the_send, the_end, still_reserving, looking, look_fits, gets_a_block, accepts, WorkedAnswers}
+use Rattle.sysv_core.proofs.Sounding.{none_busy}
+use Rattle.sysv_core.specs.WorkedAnswers.{the_send, the_end, still_reserving, looking, looked_by, look_fits, gets_a_block, accepts, WorkedAnswers}
 
 abbrev placing : State
 placing = Goes (AtPlace record { cred = the_send.cred; id = pos 0; mtype = pos 5; text = hello; nowait = true; released = 0; seen = true } 1)
@@ -51,8 +53,37 @@ none_of_three place (call, (suc (suc (suc (suc (suc (suc zero))))), low, is), na
 none_of_three place (call, (suc (suc (suc (suc (suc (suc (suc k)))))), low, is), name) = omega (arith, low)
 
 nobody : (deed : Deed) → ¬ IsMade the_calls (record { who = Actor 3 0; deed = deed })
-nobody deed (inl preset) = cc
+nobody deed (inl preset) = let who = preset.0 in cc
 nobody deed (inr by) = none_of_three 0 by
+
+-- No call of the run has the name of a preset.
+none_of_preset : (call : Started) × Contains the_calls call × (preset_who ≡ call.who) → ⊥
+none_of_preset (call, (zero, low, is), name) = let e = ap (λ (c : Started). c.who) is in cc
+none_of_preset (call, (suc zero, low, is), name) = let e = ap (λ (c : Started). c.who) is in cc
+none_of_preset (call, (suc (suc zero), low, is), name) = let e = ap (λ (c : Started). c.who) is in cc
+none_of_preset (call, (suc (suc (suc zero)), low, is), name) = let e = ap (λ (c : Started). c.who) is in cc
+none_of_preset (call, (suc (suc (suc (suc zero))), low, is), name) = let e = ap (λ (c : Started). c.who) is in cc
+none_of_preset (call, (suc (suc (suc (suc (suc zero)))), low, is), name) = let e = ap (λ (c : Started). c.who) is in cc
+none_of_preset (call, (suc (suc (suc (suc (suc (suc zero))))), low, is), name) = let e = ap (λ (c : Started). c.who) is in cc
+none_of_preset (call, (suc (suc (suc (suc (suc (suc (suc k)))))), low, is), name) = omega (arith, low)
+
+three_of_preset : All (λ (deed : Deed). IsMade [] (record { who = preset_who; deed = deed })) (preset_begin ∷ preset_install ∷ preset_settle ∷ [])
+three_of_preset zero d low = inl (refl, inl refl)
+three_of_preset (suc zero) d low = inl (refl, inr (inl refl))
+three_of_preset (suc (suc zero)) d low = inl (refl, inr (inr refl))
+three_of_preset (suc (suc (suc k))) d low = absurd (omega (arith, low))
+
+no_look : ¬ IsMade the_calls (record { who = preset_who; deed = look_fits })
+no_look (inl (who, inl is)) = cc
+no_look (inl (who, inr (inl is))) = cc
+no_look (inl (who, inr (inr is))) = cc
+no_look (inr by) = none_of_preset by
+
+no_removal : (messages : List Message) → ¬ IsMade the_calls (record { who = preset_who; deed = AtSlot 0 (Remove (pos 0) preset_cred) (Discarded messages) })
+no_removal messages (inl (who, inl is)) = cc
+no_removal messages (inl (who, inr (inl is))) = cc
+no_removal messages (inl (who, inr (inr is))) = cc
+no_removal messages (inr by) = none_of_preset by
 
 -- A send of 5 bytes does not request room for 6.
 other_size : AsksFor the_send.cred the_send.asked (OfSlot 0 (look_for 6)) → ⊥
@@ -60,6 +91,19 @@ other_size (inl is) = cc
 other_size (inr (inl is)) = cc
 other_size (inr (inr (inl (now, is)))) = cc
 other_size (inr (inr (inr (blocks, is)))) = cc
+
+-- Actor 1 is in the send, and all others are idle.
+in_its_own : AreInTheirCalls (looking 5)
+in_its_own zero d there =
+    let same : d.call ≡ the_send = cc in
+    ((0, omega arith, sym same), (2, ap (λ (c : Started). c.who) same))
+in_its_own (suc place) d there = absurd (none_busy 15 place d there)
+
+not_started_there : ¬ AreInTheirCalls (record (looking 5) { calls = [] })
+not_started_there own = omega (arith, (own 0 _ refl).0.1)
+
+of_another_there : ¬ AreInTheirCalls (looked_by 2)
+of_another_there own = let who = (own 1 _ refl).1.1 in cc
 
 pub worked_answers : EachDeedIsAskedFor → EachAnswerIsRight → WorkedAnswers
 worked_answers asked right = record {
@@ -77,5 +121,11 @@ worked_answers asked right = record {
   goes_on = λ f. over_and_going Zero still_reserving f.state f.answered f.stands;
   looks = record { state = still_reserving; plays = steps look_fits 0 still_reserving begins refl refl; answered = refl; stands = refl };
   looks_otherwise = λ f. other_size ((asked the_send.cred the_send.asked 0 (deeds_of the_send.who (looking 6).turns) f.state f.plays) 0 look_fits (omega arith));
+  its_own = in_its_own;
+  not_started = not_started_there;
+  of_another = of_another_there;
   by_nobody = nobody;
+  by_preset = three_of_preset;
+  by_no_preset = no_look;
+  removed_by_no_preset = no_removal;
 }

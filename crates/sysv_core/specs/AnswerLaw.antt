@@ -1,16 +1,17 @@
 -- The law of the answers. Each call that was started plays its own turns: the step table, taken
 -- along them from the start of the call, leads to the state of the call. A call that is over has
 -- one ending, the one of that state, and no actor is in it. A call that is not over has no ending,
--- and its actor is in it in that state. Each turn is made by a call that was started, and requests
--- what the arguments of that call name, or is made by a preset (POSIX.1-2017, msgsnd and msgrcv,
--- RETURN VALUE and ERRORS; the steps are this project's profile).
-use Rattle.std.specs.Prelude.{◌≡◌, ◌⊎◌, List, [], ◌∷◌, Option, Some, None, Contains, filter, map, if◌then◌else◌}
+-- and its actor is in it in that state. An actor is in no other call. Each turn is made by a call
+-- that was started, and requests what the arguments of that call name, or is one of the three turns
+-- of a preset (POSIX.1-2017, msgsnd and msgrcv, RETURN VALUE and ERRORS; the steps are this
+-- project's profile).
+use Rattle.std.specs.Prelude.{◌≡◌, ◌⊎◌, ℕ, suc, List, [], ◌∷◌, Option, Some, None, Contains, filter, map, slice_get, if◌then◌else◌}
 use Rattle.sysv_model.specs.History.{Who, Actor, Seat}
 use Rattle.sysv_model.specs.Turn.{Turn, is_same, deeds_of}
 use Rattle.sysv_steps.specs.State.{Ending, State, Goes, Waits, Over}
 use Rattle.sysv_steps.specs.Played.{Plays}
 use Rattle.sysv_steps.specs.AsksFor.{AllAskFor}
-use Rattle.sysv_core.specs.World.{World, Started, Doing, Given, actor_at, begun}
+use Rattle.sysv_core.specs.World.{World, Started, Doing, Given, actor_at, begun, preset_who, preset_begin, preset_install, preset_settle}
 
 -- The endings of the calls of this name, in order.
 abbrev pub endings_of : Who → List Given → List Ending
@@ -47,9 +48,18 @@ pub record Fate (w : World) (given : List Given) (call : Started) : Type 0 where
   pub answered : endings_of call.who given ≡ ended state
   pub stands : standing_of call.who w.actors ≡ standing state
 
--- The turn is made by a preset, or by a call that was started.
+-- Each actor that is in a call is in one that it started. Actors count from 1.
+abbrev pub AreInTheirCalls : World → Type 0
+AreInTheirCalls w = (place : ℕ) (d : Doing) → slice_get w.actors place ≡ Some (Some d) →
+    Contains w.calls d.call × ((start : ℕ) × (d.call.who ≡ Actor (suc place) start))
+
+-- The turn is one of the three of a preset.
+abbrev pub IsOfPreset : Turn → Type 0
+IsOfPreset t = (t.who ≡ preset_who) × ((t.deed ≡ preset_begin) ⊎ (t.deed ≡ preset_install) ⊎ (t.deed ≡ preset_settle))
+
+-- The turn is one of a preset, or it is made by a call that was started.
 abbrev pub IsMade : List Started → Turn → Type 0
-IsMade calls t = (t.who ≡ Actor 0 0) ⊎ ((call : Started) × Contains calls call × (t.who ≡ call.who))
+IsMade calls t = IsOfPreset t ⊎ ((call : Started) × Contains calls call × (t.who ≡ call.who))
 
 -- Each turn of the call requests, under the call's credentials, what its arguments name, and
 -- nothing else.

@@ -19,12 +19,13 @@ use Rattle.sysv_pool.specs.PoolLaw.{PoolLaw}
 use Rattle.sysv_queue.specs.QueueLaw.{QueueLaw}
 use Rattle.sysv_keys.specs.RegistryLaw.{RegistryLaw}
 use Rattle.sysv_steps.specs.Answers.{IsRightAnswer}
+use Rattle.sysv_steps.specs.Effects.{effects}
 use Rattle.sysv_core.specs.declared.event.Event.{Event}
 use Rattle.sysv_core.specs.declared.event.Answer.{Answer}
 use Rattle.sysv_core.specs.declared.event.Stepped.{Stepped}
 use Rattle.sysv_core.specs.World.{World, Opening, Started, Given, Happening, Preset, opening}
 use Rattle.sysv_core.specs.Run.{Leads}
-use Rattle.sysv_core.specs.AnswerLaw.{Fate, IsMade, AsksAsItWasAsked}
+use Rattle.sysv_core.specs.AnswerLaw.{Fate, AreInTheirCalls, IsMade, AsksAsItWasAsked}
 use Rattle.sysv_core.specs.Conserved.{AreConserved}
 use Rattle.sysv_core.specs.Parked.{AreParkedRightly}
 use Rattle.sysv_core.specs.Removed.{AreRemovedForGood}
@@ -49,7 +50,7 @@ pub record Obeys (o : Opening) (w : World) (given : List Given) : Type 0 where
   pub calls : All (Fate w given) w.calls
   -- No two calls have the same name.
   pub apart : AllPairs (λ (c d : Started). c.who ≢ d.who) w.calls
-  -- Each turn is made by one of the calls, or by a preset.
+  -- Each turn is made by one of the calls, or is one of the three turns of a preset.
   pub made : All (IsMade w.calls) w.turns
   -- Each turn of a call requests what the call's arguments name, also if the call is under way.
   pub asked : All (AsksAsItWasAsked w) w.calls
@@ -69,6 +70,11 @@ pub record Obeys (o : Opening) (w : World) (given : List Given) : Type 0 where
   -- Sends and receives of a removed queue fail with EIDRM if they had reached it before, else with
   -- EINVAL.
   pub told : AreToldOfRemovals w given
+  -- Each call, also one under way, has had at most one effect: one identifier made, one message
+  -- accepted, one taken, one queue changed, or one removed.
+  pub once : All (λ (c : Started). effects (deeds_of c.who w.turns) ≤ 1) w.calls
+  -- Each actor that is in a call is in one that it started, and that is one of the calls.
+  pub under_way : AreInTheirCalls w
 
 -- Every list of happenings leads from every opening only to worlds that obey the laws.
 abbrev pub EveryRunObeys : Type 0

@@ -1,14 +1,15 @@
 -- What the answer law admits and refuses, at the send of "hello" in the worked run: the send
 -- started at step number 2, looked, got a block, placed its body and returned 0.
-use Rattle.std.specs.Prelude.{ℕ, pos, [], ◌∷◌, ◌++◌, true, Some}
+use Rattle.std.specs.Prelude.{ℕ, pos, List, [], ◌∷◌, ◌++◌, true, Some, All}
 use Rattle.sysv_model.specs.declared.errno.Errno.TheVariants.{EAGAIN}
-use Rattle.sysv_model.specs.History.{Actor, Fits, Accepted, Full}
+use Rattle.sysv_model.specs.Message.{Message}
+use Rattle.sysv_model.specs.History.{Actor, Remove, Fits, Accepted, Full, Discarded}
 use Rattle.sysv_model.specs.Pool.{Reserve, Reserved}
 use Rattle.sysv_model.specs.Turn.{Deed, AtSlot, AtPool}
 use Rattle.sysv_steps.specs.State.{AtReserve, Zero, Refused, State, Goes, Over}
 use Rattle.sysv_steps.specs.Played.{Plays}
-use Rattle.sysv_core.specs.World.{World, Started, opening, with_actor, begun, with_preset_turns}
-use Rattle.sysv_core.specs.AnswerLaw.{Fate, IsMade}
+use Rattle.sysv_core.specs.World.{World, Started, opening, with_actor, begun, preset_who, preset_cred, preset_begin, preset_install, preset_settle, with_preset_turns}
+use Rattle.sysv_core.specs.AnswerLaw.{Fate, AreInTheirCalls, IsMade}
 use Rattle.sysv_core.specs.WorkedRun.{hello, send_hello, place_hello, look_for, one_calls, one_ends, the_calls, the_turns, the_answers, of_16}
 
 -- The call.
@@ -38,6 +39,10 @@ looking size = record {
   generation = 0;
 }
 
+-- The same world, but the actor of this number is in that call.
+abbrev pub looked_by : ℕ → World
+looked_by actor = record (looking 5) { actors = with_actor (opening of_16).actors actor (Some record { call = the_send; state = still_reserving }) }
+
 -- The look of the send; its reservation and its place follow.
 abbrev pub look_fits : Deed
 look_fits = AtSlot 0 (look_for 5) Fits
@@ -63,5 +68,14 @@ pub record WorkedAnswers : Type 0 where
   -- A call under way requests room for the size of its own body, and for no other size.
   pub looks : Fate (looking 5) [] the_send
   pub looks_otherwise : ¬ Fate (looking 6) [] the_send
+  -- An actor is in a call that it started: in no call that was not started, and in no other
+  -- actor's.
+  pub its_own : AreInTheirCalls (looking 5)
+  pub not_started : ¬ AreInTheirCalls (record (looking 5) { calls = [] })
+  pub of_another : ¬ AreInTheirCalls (looked_by 2)
   -- A turn that no call made is refused.
   pub by_nobody : (deed : Deed) → ¬ IsMade the_calls (record { who = Actor 3 0; deed = deed })
+  -- A preset makes its three turns, and no others: no look, and no removal of its queue.
+  pub by_preset : All (λ (deed : Deed). IsMade [] (record { who = preset_who; deed = deed })) (preset_begin ∷ preset_install ∷ preset_settle ∷ [])
+  pub by_no_preset : ¬ IsMade the_calls (record { who = preset_who; deed = look_fits })
+  pub removed_by_no_preset : (messages : List Message) → ¬ IsMade the_calls (record { who = preset_who; deed = AtSlot 0 (Remove (pos 0) preset_cred) (Discarded messages) })

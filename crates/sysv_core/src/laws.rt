@@ -14,8 +14,8 @@ use sysv_objects::{legal_turns, one_legal_deed};
 use sysv_pool::pool_law;
 use sysv_queue::{blocks_kept, queue_law, removed_for_good, stays_right};
 use sysv_steps::{
-    after_removal, each_answer_is_right, each_deed_is_asked_for, each_holds_its_blocks,
-    each_holds_what_it_was_asked, waits_for_its_refusal,
+    after_removal, each_answer_is_right, each_deed_is_asked_for, each_has_one_effect,
+    each_holds_its_blocks, each_holds_what_it_was_asked, waits_for_its_refusal,
 };
 
 /// States the headline: every list of happenings leads from every opening only to worlds that obey
@@ -30,6 +30,7 @@ pub fn every_run_obeys()
     pool_law();
     each_deed_is_asked_for();
     each_answer_is_right();
+    each_has_one_effect();
     stays_right();
     waits_for_its_refusal();
     each_holds_what_it_was_asked();

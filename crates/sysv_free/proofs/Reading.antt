@@ -20,7 +20,6 @@ use Rattle.sysv_keys.specs.Rows.{is_made, is_settled, is_forgotten}
 use Rattle.sysv_objects.specs.LegalDeed.{IsLegalDeed, AreLegal}
 use Rattle.sysv_steps.specs.Played.{Plays}
 use Rattle.sysv_core.specs.World.{World, Started, Doing, Given, begun}
-use Rattle.sysv_core.specs.AnswerLaw.{IsMade}
 use Rattle.sysv_core.specs.Conserved.{blocks_waiting, blocks_in_calls, AreConserved}
 use Rattle.sysv_core.specs.Sound.{IsSound, IsMadeIn}
 use Rattle.sysv_core.specs.Removed.{IsInItsSlot}
@@ -30,7 +29,7 @@ use Rattle.sysv_core.proofs.Sounding.{before, installed, lived, installs, still_
 use Rattle.sysv_core.proofs.Installing.{one, makes_id, installs_id, sum_more, Counted}
 use Rattle.sysv_core.proofs.Tending.{AllTended, Lives, Settled, IsRemovedBy, live_past}
 use Rattle.sysv_core.proofs.Vacating.{Facts, facts_more, AllFit, fits_still}
-use Rattle.sysv_core.proofs.Obeying.{Inv}
+use Rattle.sysv_core.proofs.Obeying.{HasName, Inv}
 use Rattle.sysv_core.proofs.Own.{not_same, other_deed}
 use Rattle.sysv_free.specs.FreeRun.{nobody}
 
@@ -144,7 +143,7 @@ module _ (more : (generation blocks : ℕ) (turns : List Turn) (who : Who) (deed
     before = i.before;
     apart = i.apart;
     named = i.named;
-    made = All-push (IsMade w.calls) w.turns (turn_of nobody (AtSlot slot ReadRow reply)) i.made (inl refl);
+    made = All-push (HasName w.calls) w.turns (turn_of nobody (AtSlot slot ReadRow reply)) i.made (inl refl);
     known = i.known;
     doing = i.doing;
   }

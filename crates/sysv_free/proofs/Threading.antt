@@ -22,10 +22,11 @@ use Rattle.sysv_steps.specs.Resume.{goal_of, resume}
 use Rattle.sysv_steps.specs.Played.{resumes}
 use Rattle.sysv_steps.specs.AsksFor.{EachDeedIsAskedFor}
 use Rattle.sysv_steps.specs.Answers.{IsRightAnswer, EachAnswerIsRight}
+use Rattle.sysv_steps.specs.Effects.{effects, EachHasOneEffect}
 use Rattle.sysv_steps.specs.AfterRemoval.{EachIsToldOfRemoval}
 use Rattle.sysv_core.specs.Kinds.{kind_of}
 use Rattle.sysv_core.specs.World.{World, Opening, Started, Doing, Given, opening, doing_in, given_in, begun, in_state, with_call, Turns}
-use Rattle.sysv_core.specs.AnswerLaw.{Fate, IsMade, AsksAsItWasAsked}
+use Rattle.sysv_core.specs.AnswerLaw.{Fate, AsksAsItWasAsked}
 use Rattle.sysv_core.specs.Conserved.{AreConserved}
 use Rattle.sysv_core.specs.Sound.{IsSound, StaysSound}
 use Rattle.sysv_core.proofs.Histories.{turn_of}
@@ -36,7 +37,7 @@ use Rattle.sysv_core.proofs.Installing.{stand_counts, continues_counts, not_held
 use Rattle.sysv_core.proofs.Tending.{Tends, idle_move, turns_tend, waiting_state, each_row}
 use Rattle.sysv_core.proofs.Vacating.{IsKept, continues_holds, stand_fits, resumed_fits, begun_fits}
 use Rattle.sysv_core.proofs.Telling.{told_so}
-use Rattle.sysv_core.proofs.Obeying.{Inv, stands_there, goes_on, starts, turns_keep, opens, right_now}
+use Rattle.sysv_core.proofs.Obeying.{HasName, Inv, stands_there, goes_on, starts, turns_keep, opens, right_now}
 use Rattle.sysv_free.specs.FreeRun.{nobody, starting_with, Moment, Starts, TakesTurn, Wakes, Reads, StartsCall, TakesItsTurn, WakesUp, ReadsRow, Brings, LeadsOnThreads}
 use Rattle.sysv_free.specs.OnThreads.{IsRowRead, IsMadeOrRead, ObeysOnThreads}
 use Rattle.sysv_free.specs.Forgotten.{AllTakeTheirRows}
@@ -55,7 +56,7 @@ record IsHeld (w : World) (given : List Given) : Type 0 where
   reads : All ReadsIfNobody w.turns
   owed : Owed w.turns w.actors
 
-made_so : (calls : List Started) (t : Turn) → IsMade calls t → ReadsIfNobody t → IsMadeOrRead calls t
+made_so : (calls : List Started) (t : Turn) → HasName calls t → ReadsIfNobody t → IsMadeOrRead calls t
 made_so calls t (inl nobody_did) reads = inl (reads nobody_did)
 made_so calls t (inr by) reads = inr by
 
@@ -234,9 +235,9 @@ module _ (sound : StaysSound) (more : (generation blocks : ℕ) (turns : List Tu
 
   -- ---- the laws
 
-  pub run_obeys : ((generation blocks : ℕ) → AreLegal generation blocks []) → ((h : History) → IsLegalHistory h → QueueLaw h) → EachDeedIsAskedFor → EachAnswerIsRight → EachIsToldOfRemoval →
+  pub run_obeys : ((generation blocks : ℕ) → AreLegal generation blocks []) → ((h : History) → IsLegalHistory h → QueueLaw h) → EachDeedIsAskedFor → EachAnswerIsRight → EachHasOneEffect → EachIsToldOfRemoval →
       (o : Opening) (list : List Moment) (given : List Given) (w : World) → LeadsOnThreads (opening o) list given w → ObeysOnThreads o w given
-  run_obeys none law asked right told o list given w led =
+  run_obeys none law asked right one_effect told o list given w led =
       let h : IsHeld w given = leads_held (opening o) w list [] given (opening_held o (none o.generation o.blocks)) led in
       let i : Inv w given = h.inv in
       let opened = leads_opened (opening o) w list given led in
@@ -261,6 +262,9 @@ module _ (sound : StaysSound) (more : (generation blocks : ℕ) (turns : List Tu
         told = λ id before after t call whole removal has q.
             let f = i.fates call has in
             told_so w given call f told (asked call.cred call.asked call.released (deeds_of call.who w.turns) f.state f.plays) good id before after t whole removal q;
+        once = All-weaker (Contains w.calls) (λ (c : Started). effects (deeds_of c.who w.turns) ≤ 1)
+            (λ c has. let f = i.fates c has in one_effect c.cred c.asked c.released (deeds_of c.who w.turns) f.state f.plays) w.calls (All-contains_itself w.calls);
+        under_way = i.doing;
       }
 
   -- ---- and each forget takes its row

@@ -7,15 +7,16 @@
 -- lost; each install finds its slot vacant; after a removal nothing is accepted or delivered under
 -- that identifier, for good, and the sends and receives of that queue report the removal (what
 -- POSIX.1-2017 says of msgget, msgsnd, msgrcv and msgctl, in the steps of this project's profile).
-use Rattle.std.specs.Prelude.{◌≡◌, ◌≢◌, ◌⊎◌, ℕ, List, All, AllPairs, Contains}
+use Rattle.std.specs.Prelude.{◌≡◌, ◌≢◌, ◌⊎◌, ℕ, ◌≤◌, List, All, AllPairs, Contains}
 use Rattle.sysv_model.specs.History.{ReadRow, Reply}
 use Rattle.sysv_model.specs.Turn.{AtSlot, Turn, slot_history, registry_history, pool_history, deeds_of}
 use Rattle.sysv_pool.specs.PoolLaw.{PoolLaw}
 use Rattle.sysv_queue.specs.QueueLaw.{QueueLaw}
 use Rattle.sysv_keys.specs.RegistryLaw.{RegistryLaw}
 use Rattle.sysv_steps.specs.Answers.{IsRightAnswer}
+use Rattle.sysv_steps.specs.Effects.{effects}
 use Rattle.sysv_core.specs.World.{World, Opening, Started, Given, opening}
-use Rattle.sysv_core.specs.AnswerLaw.{Fate, AsksAsItWasAsked}
+use Rattle.sysv_core.specs.AnswerLaw.{Fate, AreInTheirCalls, AsksAsItWasAsked}
 use Rattle.sysv_core.specs.Conserved.{AreConserved}
 use Rattle.sysv_core.specs.Removed.{AreRemovedForGood}
 use Rattle.sysv_core.specs.Vacant.{AllFindVacant}
@@ -65,6 +66,11 @@ pub record ObeysOnThreads (o : Opening) (w : World) (given : List Given) : Type 
   -- Sends and receives of a removed queue fail with EIDRM if they had reached it before, else with
   -- EINVAL.
   pub told : AreToldOfRemovals w given
+  -- Each call, also one under way, has had at most one effect: one identifier made, one message
+  -- accepted, one taken, one queue changed, or one removed.
+  pub once : All (λ (c : Started). effects (deeds_of c.who w.turns) ≤ 1) w.calls
+  -- Each actor that is in a call is in one that it started, and that is one of the calls.
+  pub under_way : AreInTheirCalls w
 
 -- Every list of moments leads from every opening only to worlds that obey these laws.
 abbrev pub EveryThreadedRunObeys : Type 0

@@ -16,7 +16,8 @@ use sysv_objects::legal_turns;
 use sysv_pool::pool_law;
 use sysv_queue::{blocks_kept, queue_law, removed_for_good};
 use sysv_steps::{
-    after_removal, each_answer_is_right, each_deed_is_asked_for, each_holds_its_blocks, one_answer,
+    after_removal, each_answer_is_right, each_deed_is_asked_for, each_has_one_effect,
+    each_holds_its_blocks, one_answer,
 };
 
 /// States the headline of threads: every list of moments leads from every opening only to worlds
@@ -34,6 +35,7 @@ pub fn every_threaded_run_obeys()
     registry_law();
     each_deed_is_asked_for();
     each_answer_is_right();
+    each_has_one_effect();
     removed_for_good();
     after_removal();
 }

@@ -9,6 +9,7 @@ pub mod Removals
 pub mod Waiting
 pub mod Tending
 pub mod Patience
+pub mod Acting
 pub mod WorkedPlays
 pub mod Holding
 pub mod Reading

@@ -1,5 +1,5 @@
 -- What the laws of a call admit and refuse, at the worked calls.
-use Rattle.std.proofs.Common.{◌≡◌, pos, inl, inr, true, List, [], ◌∷◌, ◌++◌, refl, arith}
+use Rattle.std.proofs.Common.{◌≡◌, ◌≤◌, pos, inl, inr, true, List, [], ◌∷◌, ◌++◌, refl, arith}
 use Rattle.std.specs.List.{Contains}
 use Rattle.sysv_model.specs.declared.errno.Errno.TheVariants.{EACCES, EAGAIN, EEXIST, EIDRM, EINVAL, ENOSPC}
 use Rattle.sysv_model.specs.declared.flags.TheConstants.Flags.{IPC_CREAT, IPC_NOWAIT}
@@ -7,13 +7,14 @@ use Rattle.sysv_model.specs.declared.selector.Selector.TheVariants.{Any}
 use Rattle.sysv_model.specs.History.{Take}
 use Rattle.sysv_model.specs.Registry.{Forget, RegistryReply}
 use Rattle.sysv_model.specs.Turn.{Deed, AtRegistry}
-use Rattle.sysv_steps.specs.State.{OnSettled, OnArrived, AtInstall, AtSettle, AtProbe, AtForget, AtRemoveGiveback, Id, Zero, Refused, Goes, Waits, Over}
+use Rattle.sysv_steps.specs.State.{OnSettled, OnArrived, AtInstall, AtSettle, AtProbe, AtReceiveGiveback, AtForget, AtRemoveGiveback, Id, Zero, Refused, Goes, Waits, Over}
 use Rattle.sysv_steps.specs.Played.{begins, steps, resumes}
 use Rattle.sysv_steps.specs.Answers.{IsItsOwn, IsNotGiven, IsInvalid, EachAnswerIsRight}
+use Rattle.sysv_steps.specs.Effects.{effects, EachHasOneEffect}
 use Rattle.sysv_steps.specs.WaitsFor.{WaitsFor}
 use Rattle.sysv_steps.specs.Tended.{EachIsTended}
 use Rattle.sysv_steps.specs.AfterRemoval.{EachIsToldOfRemoval}
-use Rattle.sysv_steps.specs.WorkedPlays.{caller, PlaysTo, EndsIn, makes, finds_it_busy, is_given_one, installs, settles, is_made, making, new_alone, wants_a_new_one, finds_one, is_denied, is_there, receives, finds_none, finds_it_gone, waiting, sends, finds_it_full, removes, discards, forgets, releases, WorkedPlays}
+use Rattle.sysv_steps.specs.WorkedPlays.{caller, PlaysTo, EndsIn, makes, finds_it_busy, is_given_one, installs, settles, is_made, making, new_alone, wants_a_new_one, finds_one, is_denied, is_there, receives, finds_none, finds_it_gone, takes_it, waiting, sends, finds_it_full, removes, discards, forgets, releases, WorkedPlays}
 
 new_making : EndsIn makes is_made (Id (pos 259))
 new_making =
@@ -73,8 +74,11 @@ another_goal w =
 untended_there : ((reply : RegistryReply) × Contains [] (AtRegistry (Forget (pos 259)) reply)) → ⊥
 untended_there f = omega (arith, f.1.1)
 
-pub worked_plays : EachAnswerIsRight → EachIsToldOfRemoval → EachIsTended → WorkedPlays
-worked_plays right told tends = record {
+two_taken : ¬ (effects (takes_it ∷ takes_it ∷ []) ≤ 1)
+two_taken least = omega (arith, least)
+
+pub worked_plays : EachAnswerIsRight → EachHasOneEffect → EachIsToldOfRemoval → EachIsTended → WorkedPlays
+worked_plays right one_effect told tends = record {
   made = new_making;
   made_another = λ p. let r = right caller makes 0 is_made (Id (pos 3)) p in own_of ((r.identifier (pos 3)).0 refl);
   made_none = λ p. let r = right caller makes 0 is_made (Refused ENOSPC) p in given_none ((r.refused ENOSPC).0 refl);
@@ -86,6 +90,11 @@ worked_plays right told tends = record {
   removed_untold = λ t. let e = t.removed refl in cc;
   waits = first_wait;
   waits_longer = another_goal;
+  takes = steps takes_it 90 (Goes (AtReceiveGiveback 1 (pos 5) (104 ∷ []))) begins refl refl;
+  takes_another = λ state p. two_taken (one_effect caller receives 0 (takes_it ∷ takes_it ∷ []) state p);
+  taken_twice = λ ending r. omega (arith, r.once);
+  two_effects = λ least. omega (arith, least);
+  same_effects = two_taken;
   full = steps finds_it_full 0 (Over (Refused EAGAIN)) begins refl refl;
   full_sent = λ p. let r = right caller (sends IPC_NOWAIT) 0 (finds_it_full ∷ []) Zero p in let e = r.zero.0 refl in cc;
   full_waits = λ p. let r = right caller (sends IPC_CREAT) 0 (finds_it_full ∷ []) (Refused EAGAIN) p in let e = (r.again.0 refl).0 in cc;

@@ -22,6 +22,7 @@ pub mod Answers
 pub mod AfterRemoval
 pub mod WaitsFor
 pub mod MayWait
+pub mod Effects
 pub mod Tended
 pub mod WorkedPlays
 pub mod HeldBlocks

@@ -2,20 +2,22 @@
 -- another call has settled its key and then makes the queue; a msgget that requires a new queue and
 -- finds one; a receive whose queue is removed while it waits; two sends to a full queue, one of
 -- which waits; and a removal.
-use Rattle.std.specs.Prelude.{pos, true, false, List, [], ◌∷◌}
+use Rattle.std.specs.Prelude.{pos, ◌≤◌, true, false, List, [], ◌∷◌}
 use Rattle.sysv_model.specs.declared.cred.Cred.{Cred}
 use Rattle.sysv_model.specs.declared.errno.Errno.TheVariants.{EACCES, EAGAIN, EEXIST, EIDRM, EINVAL, ENOSPC}
 use Rattle.sysv_model.specs.declared.flags.Flags.{Flags}
 use Rattle.sysv_model.specs.declared.flags.TheConstants.Flags.{IPC_CREAT, IPC_NOWAIT, MSG_NOERROR}
 use Rattle.sysv_model.specs.declared.selector.Selector.TheVariants.{Any}
-use Rattle.sysv_model.specs.History.{Install, Probe, Look, Take, Remove, Installed, Gone, Denied, Full, NoMatch, Discarded}
+use Rattle.sysv_model.specs.History.{Install, Probe, Look, Take, Remove, Installed, Gone, Denied, Full, NoMatch, Taken, Discarded}
 use Rattle.sysv_model.specs.Registry.{Begin, Settle, Forget, Found, Made, Busy, Changed}
 use Rattle.sysv_model.specs.Pool.{Release, Released}
 use Rattle.sysv_model.specs.Turn.{Deed, AtSlot, AtRegistry, AtPool}
 use Rattle.sysv_steps.specs.Call.{SystemCall, Msgget, Msgsnd, Msgrcv, MsgctlRmid}
-use Rattle.sysv_steps.specs.State.{Getting, Receiving, OnArrived, AtForget, Ending, Id, Zero, Refused, State, Goes, Waits, Over}
+use Rattle.sysv_steps.specs.State.{Getting, Receiving, OnArrived, AtReceiveGiveback, AtForget, Ending, Id, Zero, Refused, State, Goes, Waits, Over}
 use Rattle.sysv_steps.specs.Begin.{begin}
 use Rattle.sysv_steps.specs.Played.{Plays}
+use Rattle.sysv_steps.specs.Answers.{IsRightAnswer}
+use Rattle.sysv_steps.specs.Effects.{effects}
 use Rattle.sysv_steps.specs.AfterRemoval.{IsToldOfRemoval}
 use Rattle.sysv_steps.specs.WaitsFor.{WaitsFor}
 use Rattle.sysv_steps.specs.Tended.{IsTended}
@@ -80,6 +82,10 @@ finds_none = AtSlot 3 (Take (pos 259) caller Any 9 true 90) (NoMatch 2)
 abbrev pub finds_it_gone : Deed
 finds_it_gone = AtSlot 3 (Take (pos 259) caller Any 9 true 91) Gone
 
+-- Instead, a message of one byte is queued.
+abbrev pub takes_it : Deed
+takes_it = AtSlot 3 (Take (pos 259) caller Any 9 true 90) (Taken record { number = 0; sender = 101; mtype = pos 5; bytes = 104 ∷ [] })
+
 abbrev pub waiting : Receiving
 waiting = record { cred = caller; id = pos 259; selector = Any; size = 9; noerror = true; nowait = false; seen = true }
 
@@ -121,6 +127,13 @@ pub record WorkedPlays : Type 0 where
   -- The receive waits for the third arrival, and for no later one.
   pub waits : PlaysTo receives (finds_none ∷ []) (Waits (OnArrived 3 waiting))
   pub waits_longer : ¬ WaitsFor (OnArrived 4 waiting) (finds_none ∷ [])
+  -- A receive that took a message takes no other one. No result is right for two messages taken.
+  pub takes : PlaysTo receives (takes_it ∷ []) (Goes (AtReceiveGiveback 1 (pos 5) (104 ∷ [])))
+  pub takes_another : (state : State) → ¬ PlaysTo receives (takes_it ∷ takes_it ∷ []) state
+  pub taken_twice : (ending : Ending) → ¬ IsRightAnswer receives (takes_it ∷ takes_it ∷ []) ending
+  -- To take a message and to remove a queue are two effects, and so are two messages taken.
+  pub two_effects : ¬ (effects (takes_it ∷ discards ∷ []) ≤ 1)
+  pub same_effects : ¬ (effects (takes_it ∷ takes_it ∷ []) ≤ 1)
   -- A full queue means EAGAIN for a send that does not wait, and for no other send.
   pub full : EndsIn (sends IPC_NOWAIT) (finds_it_full ∷ []) (Refused EAGAIN)
   pub full_sent : ¬ EndsIn (sends IPC_NOWAIT) (finds_it_full ∷ []) Zero

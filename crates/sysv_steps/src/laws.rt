@@ -3,6 +3,7 @@
 ghost use Rattle.sysv_steps.specs.AfterRemoval.{EachIsToldOfRemoval};
 ghost use Rattle.sysv_steps.specs.Answers.{EachAnswerIsRight};
 ghost use Rattle.sysv_steps.specs.AsksFor.{EachDeedIsAskedFor};
+ghost use Rattle.sysv_steps.specs.Effects.{EachHasOneEffect};
 ghost use Rattle.sysv_steps.specs.HeldBlocks.{EachHoldsItsBlocks, EachStepKeepsItsBlocks};
 ghost use Rattle.sysv_steps.specs.HoldsAsked.{EachHoldsWhatItWasAsked};
 ghost use Rattle.sysv_steps.specs.MayWait.{EachWaitsWhereItMay};
@@ -16,6 +17,13 @@ ghost use Rattle.sysv_steps.specs.WorkedPlays.{WorkedPlays};
 /// turns.
 pub fn each_answer_is_right()
     ensures { EachAnswerIsRight }
+{}
+
+/// States that a call, over or under way, has had at most one effect: it made one identifier, put
+/// one message on a queue, took one message, changed the attributes of one queue, or removed one
+/// queue.
+pub fn each_has_one_effect()
+    ensures { EachHasOneEffect }
 {}
 
 /// States what a send or a receive reports after it found its identifier gone: EIDRM if it had come
@@ -77,6 +85,7 @@ pub fn worked_plays()
     ensures { WorkedPlays }
 {
     each_answer_is_right();
+    each_has_one_effect();
     after_removal();
     each_is_tended();
 }

@@ -21,9 +21,9 @@ pub use control::{
 pub use ending::Ending;
 pub use get::Getting;
 pub use laws::{
-    after_removal, each_answer_is_right, each_deed_is_asked_for, each_holds_its_blocks,
-    each_holds_what_it_was_asked, each_is_tended, one_answer, waits_above_what_it_read,
-    waits_for_its_refusal, waits_where_it_may, worked_plays,
+    after_removal, each_answer_is_right, each_deed_is_asked_for, each_has_one_effect,
+    each_holds_its_blocks, each_holds_what_it_was_asked, each_is_tended, one_answer,
+    waits_above_what_it_read, waits_for_its_refusal, waits_where_it_may, worked_plays,
 };
 pub use receive::Receiving;
 pub use send::Sending;
