@@ -1,6 +1,7 @@
--- Each removal forgets the row of its identifier (this project's profile): no forget is answered
--- false. The row exists until then: it was made with the identifier, only one removal of an
--- identifier succeeds, and no other call forgets it, because no install finds its slot occupied.
+-- The forget of each removal takes the row of its identifier away (this project's profile): no
+-- forget is answered false. The row exists until then: it was made with the identifier, only one
+-- removal of an identifier succeeds, and no other call forgets it, because no install finds its
+-- slot occupied.
 use Rattle.std.specs.Prelude.{◌≡◌, true, List, All}
 use Rattle.sysv_model.specs.Registry.{Forget, Changed}
 use Rattle.sysv_model.specs.Turn.{Deed, AtRegistry, Turn}

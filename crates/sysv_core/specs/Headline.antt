@@ -65,7 +65,7 @@ pub record Obeys (o : Opening) (w : World) (given : List Given) : Type 0 where
   pub tended : AreTended w
   -- Each msgget finds the slot of its new identifier vacant.
   pub vacant : AllFindVacant w.turns
-  -- Each removal forgets the row of its identifier.
+  -- The forget of each removal takes the row of its identifier away.
   pub forgets : AllTakeTheirRows w.turns
   -- A removal is for good.
   pub removed : AreRemovedForGood w.turns

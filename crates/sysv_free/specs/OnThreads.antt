@@ -62,7 +62,7 @@ pub record ObeysOnThreads (o : Opening) (w : World) (given : List Given) : Type 
   pub tended : AreTended w
   -- Each msgget finds the slot of its new identifier vacant.
   pub vacant : AllFindVacant w.turns
-  -- Each removal forgets the row of its identifier.
+  -- The forget of each removal takes the row of its identifier away.
   pub forgets : AllTakeTheirRows w.turns
   -- A removal is for good.
   pub removed : AreRemovedForGood w.turns
@@ -75,7 +75,7 @@ abbrev pub EveryThreadedRunObeys : Type 0
 EveryThreadedRunObeys = (o : Opening) (list : List Moment) (given : List Given) (w : World) →
     LeadsOnThreads (opening o) list given w → ObeysOnThreads o w given
 
--- In every free run each forget takes a row away: each removal forgets the row of its identifier.
+-- In every free run each forget takes a row away: that of the identifier that was removed.
 abbrev pub EachForgetTakesItsRow : Type 0
 EachForgetTakesItsRow = (o : Opening) (list : List Moment) (given : List Given) (w : World) →
     LeadsOnThreads (opening o) list given w → AllTakeTheirRows w.turns

@@ -37,8 +37,8 @@ pub fn every_threaded_run_obeys()
     after_removal();
 }
 
-/// States that each forget in a free run takes a row away: each removal forgets the row of its
-/// identifier, which exists until then.
+/// States that each forget in a free run takes a row away: the row of the identifier that was
+/// removed, which exists until then.
 pub fn each_forget_takes_its_row()
     ensures { EachForgetTakesItsRow }
 {
