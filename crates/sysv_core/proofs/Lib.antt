@@ -11,6 +11,7 @@ pub mod Telling
 pub mod Tending
 pub mod Settling
 pub mod Vacating
+pub mod Forgetting
 pub mod GetsParked
 pub mod Reserving
 pub mod Waking

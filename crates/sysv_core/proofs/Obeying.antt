@@ -42,6 +42,7 @@ use Rattle.sysv_core.proofs.Waking.{are_to_be_woken}
 use Rattle.sysv_core.proofs.Parking.{parked_rightly}
 use Rattle.sysv_core.proofs.Installing.{removed_for_good}
 use Rattle.sysv_core.proofs.Vacating.{all_find_vacant}
+use Rattle.sysv_core.proofs.Forgetting.{all_take_their_rows}
 use Rattle.sysv_core.proofs.Telling.{told_so}
 use Rattle.sysv_core.proofs.Tending.{are_tended}
 use Rattle.sysv_core.proofs.Settling.{settled_once_installed}
@@ -527,6 +528,7 @@ module _ (sound : StaysSound) where
             (are_to_be_woken sound o w list given (opening_sound o (none o.generation o.blocks)) led);
         removed = good;
         vacant = all_find_vacant for_good registry_law sound o w list given (opening_sound o (none o.generation o.blocks)) led;
+        forgets = all_take_their_rows for_good registry_law sound o w list given (opening_sound o (none o.generation o.blocks)) led;
         tended = tended;
         told = λ id before after t call whole removal has q. let f = i.fates call has in
             told_so w given call f told (asked call.cred call.asked call.released (deeds_of call.who w.turns) f.state f.plays) good id before after t whole removal q;

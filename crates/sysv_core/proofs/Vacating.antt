@@ -239,7 +239,7 @@ module _ (for_good : RemovedForGood) (w : World) (s : IsSound w) (law : Registry
   row_of id key = record { id = id; key = key; live = is_settled id (registry_history w.turns) }
 
   -- The queue of an identifier that was removed is not live.
-  not_live : (id : ℤ) → was_removed id w.turns ≡ true → ¬ IsLive (slot_history (slot_of_id id) w.turns) id
+  pub not_live : (id : ℤ) → was_removed id w.turns ≡ true → ¬ IsLive (slot_history (slot_of_id id) w.turns) id
   not_live id e =
       let at = any_at (λ (x : Entry). removes id x.call x.reply) (slot_history (slot_of_id id) w.turns) e in
       ((good_of for_good w.generation w.turns w.actors c law s.legal.slots).gone (slot_of_id id) id at.0 at.1 at.2 at.3 at.4).not_live
@@ -291,13 +291,13 @@ module _ (for_good : RemovedForGood) (w : World) (s : IsSound w) (law : Registry
 -- ---- where a turn leads
 
 -- The state is not before an install, a forget, or giving an identifier up.
-abbrev Quiet : Option State → Type 0
+abbrev pub Quiet : Option State → Type 0
 Quiet (Some (Goes (AtInstall get id))) = ⊥
 Quiet (Some (Goes (AtForget id blocks))) = ⊥
 Quiet (Some (Goes (AtUnmake id))) = ⊥
 Quiet state = Unit {0}
 
-data Comes (phase : Phase) (deed : Deed) : Type 0 where
+pub data Comes (phase : Phase) (deed : Deed) : Type 0 where
   comes_quiet : Quiet (next phase deed) → Comes phase deed
   comes_made : (get : Getting) (id : ℤ) (call : RegistryCall) → phase ≡ AtBegin get → deed ≡ AtRegistry call (Made id) → Comes phase deed
   comes_refused : (get : Getting) (id : ℤ) (slot : ℕ) (call : Call) → phase ≡ AtInstall get id → deed ≡ AtSlot slot call (Installed false) → Comes phase deed
@@ -312,7 +312,7 @@ reserved send (Reserved blocks) = tt
 reserved send TooFew = held_up send.nowait _ _
 reserved send reply = tt
 
-comes : (phase : Phase) (deed : Deed) → Comes phase deed
+pub comes : (phase : Phase) (deed : Deed) → Comes phase deed
 comes (AtBegin get) (AtRegistry c (Made id)) = comes_made get id c refl refl
 comes (AtBegin get) (AtRegistry c (Found id settled)) = comes_quiet tt
 comes (AtBegin get) (AtRegistry c (Busy settled)) = comes_quiet tt
@@ -348,7 +348,7 @@ quiet_fits turns (Goes (AtForget id blocks)) q = absurd q
 quiet_fits turns (Goes (AtUnmake id)) q = absurd q
 quiet_fits turns state q = tt
 
-some_is : {X : Type 0} {x y : X} → Some x ≡ Some y → x ≡ y
+pub some_is : {X : Type 0} {x y : X} → Some x ≡ Some y → x ≡ y
 some_is e = cc
 
 -- ---- a turn of a call
@@ -395,6 +395,18 @@ pub record IsKept (w : World) : Type 0 where
   pub counts : Counts w
   pub facts : Facts w.turns
   pub fit : AllFit w.turns w.actors
+
+pub opening_kept : (o : Opening) → IsKept (opening o)
+opening_kept o = record {
+  counts = opening_counts o;
+  facts = record {
+    lives = λ slot a e. absurd cc;
+    forgot = λ id e. absurd cc;
+    removed = λ id e. absurd cc;
+    vacant = λ i t low. absurd (omega (arith, low));
+  };
+  fit = λ place e there. absurd (none_busy o.actors place e there);
+}
 
 module _ (for_good : RemovedForGood) (registry_law : (generation : ℕ) (h : RegistryHistory) → IsLegalRegistryHistory generation h → RegistryLaw generation h) where
   module _ (w : World) (s : IsSound w) (k : IsKept w) (place : ℕ) (call : Started) (phase : Phase) (there : slice_get w.actors place ≡ Some (Some record { call = call; state = Goes phase })) (now : ℕ) where
@@ -536,7 +548,7 @@ module _ (for_good : RemovedForGood) (registry_law : (generation : ℕ) (h : Reg
             (fits_still (begun_turns w.turns) (turn_of preset_who preset_install) e.state (fits_still w.turns (turn_of preset_who preset_begin) e.state (k.fit place e there)));
       }
 
-  makes_holds : (w after : World) (x : Happening) (given : List Given) → IsSound w → IsKept w → IsSound after → Makes w x given after → Holds after
+  pub makes_holds : (w after : World) (x : Happening) (given : List Given) → IsSound w → IsKept w → IsSound after → Makes w x given after → Holds after
   makes_holds w after Preset given s k then m = preset_holds w after m.1.0 k then m.1.1
   makes_holds w after (Start actor cred asked) given s k then (inl worn) = same_holds w after worn.1.1 k
   makes_holds w after (Start zero cred asked) given s k then (inr young) = same_holds w after young.1.1 k
@@ -553,13 +565,4 @@ module _ (for_good : RemovedForGood) (registry_law : (generation : ℕ) (h : Reg
       leads_vacant sound l.0 after xs l.2 then (record { counts = makes_counts w l.0 x l.1 s k.counts l.3; facts = h.facts; fit = h.fit }) l.4
 
   pub all_find_vacant : StaysSound → (o : Opening) (w : World) (list : List Happening) (given : List Given) → IsSound (opening o) → Leads (opening o) list given w → AllFindVacant w.turns
-  all_find_vacant sound o w list given s led = leads_vacant sound (opening o) w list given s (record {
-    counts = opening_counts o;
-    facts = record {
-      lives = λ slot a e. absurd cc;
-      forgot = λ id e. absurd cc;
-      removed = λ id e. absurd cc;
-      vacant = λ i t low. absurd (omega (arith, low));
-    };
-    fit = λ place e there. absurd (none_busy o.actors place e there);
-  }) led
+  all_find_vacant sound o w list given s led = leads_vacant sound (opening o) w list given s (opening_kept o) led

@@ -1,14 +1,18 @@
 -- What the laws of waits and of removals admit and refuse.
-use Rattle.std.proofs.Common.{◌≡◌, ℕ, ◌<◌, inl, inr, true, [], ◌∷◌, refl, arith, pos}
+use Rattle.std.proofs.Common.{◌≡◌, ℕ, ◌<◌, inl, inr, true, false, List, [], ◌∷◌, ◌++◌, refl, arith, pos}
 use Rattle.std.specs.List.{All}
 use Rattle.std.proofs.lemmas.List.Elements.{All-push, All-contains}
 use Rattle.sysv_model.specs.declared.errno.Errno.TheVariants.{EIDRM, EINVAL}
 use Rattle.sysv_model.specs.declared.selector.Selector.TheVariants.{Any}
-use Rattle.sysv_model.specs.Turn.{Deed}
+use Rattle.sysv_model.specs.Registry.{Forget, Changed}
+use Rattle.sysv_model.specs.Turn.{Deed, AtRegistry, Turn}
 use Rattle.sysv_queue.specs.Named.{IsNamed}
 use Rattle.sysv_steps.specs.State.{Ending, Refused}
 use Rattle.sysv_steps.specs.Answers.{is_at_slot, found_gone}
-use Rattle.sysv_core.specs.WorkedWaits.{finds_none, finds_it_gone, WorkedWaits}
+use Rattle.sysv_core.specs.World.{with_preset_turns}
+use Rattle.sysv_core.specs.Forgotten.{TakesItsRow, AllTakeTheirRows}
+use Rattle.sysv_core.specs.WorkedWaits.{by_preset, after_removal, after_forget, finds_none, finds_it_gone, WorkedWaits}
+use Rattle.sysv_core.proofs.Histories.{begun_turns, installed_turns}
 
 none_is_named : (place : ℕ) → ¬ IsNamed Any [] place
 none_is_named place named = let below : place < 0 = named.0.0 in omega arith
@@ -25,6 +29,16 @@ all_gone = All-push (λ (deed : Deed). is_at_slot deed ≡ true → found_gone d
 one_ending : (e : Ending) → All (λ (x : Ending). x ≡ e) (e ∷ [])
 one_ending e = All-push (λ (x : Ending). x ≡ e) [] e (no_ending _) refl
 
+-- Turns that each take their row, and then one more that does.
+takes_one_more : (turns : List Turn) (t : Turn) → AllTakeTheirRows turns → TakesItsRow t.deed → AllTakeTheirRows (turns ++ t ∷ [])
+takes_one_more turns t all takes = All-push (λ (x : Turn). TakesItsRow x.deed) turns t all takes
+
+takes_rows : AllTakeTheirRows (after_forget true)
+takes_rows =
+    takes_one_more after_removal _
+    (takes_one_more (with_preset_turns []) _
+    (takes_one_more (installed_turns []) _ (takes_one_more (begun_turns []) _ (takes_one_more [] _ (λ k d low. absurd (omega (arith, low))) tt) tt) tt) tt) refl
+
 pub worked_waits : WorkedWaits
 worked_waits = record {
   waits = record { lives = refl; may_read = inr (inl (inl refl, λ none. cc)); unnamed = none_is_named };
@@ -34,5 +48,7 @@ worked_waits = record {
   told_never = λ t. let bad = All-contains (λ (x : Ending). x ≡ Refused EIDRM) (Refused EINVAL ∷ []) (Refused EINVAL) (t.removed refl refl) (0, omega arith, refl) in cc;
   told_to_a_later_one = record { gone = all_gone; removed = λ there come. absurd cc; absent = λ none come. one_ending (Refused EINVAL) };
   found_again = λ t. let bad = All-contains (λ (deed : Deed). is_at_slot deed ≡ true → found_gone deed ≡ true) (finds_none ∷ []) finds_none t.gone (0, omega arith, refl) refl in cc;
+  forgets = takes_rows;
+  forgets_nothing = λ all. let bad = All-contains (λ (t : Turn). TakesItsRow t.deed) (after_forget false) (by_preset (AtRegistry (Forget (pos 0)) (Changed false))) all (4, omega arith, refl) in cc;
   comes_back = λ r. let bad = r.once 0 (pos 0) [] (_ ∷ []) [] _ _ refl refl in cc;
 }

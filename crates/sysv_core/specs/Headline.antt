@@ -30,6 +30,7 @@ use Rattle.sysv_core.specs.Conserved.{AreConserved}
 use Rattle.sysv_core.specs.Parked.{AreParkedRightly}
 use Rattle.sysv_core.specs.Removed.{AreRemovedForGood}
 use Rattle.sysv_core.specs.Vacant.{AllFindVacant}
+use Rattle.sysv_core.specs.Forgotten.{AllTakeTheirRows}
 use Rattle.sysv_core.specs.LastWords.{AreToldOfRemovals}
 use Rattle.sysv_core.specs.Tending.{AreTended}
 use Rattle.sysv_core.specs.Seen.{Seen, StandsFor, happening_of, TellAll, Gives}
@@ -65,6 +66,8 @@ pub record Obeys (o : Opening) (w : World) (given : List Given) : Type 0 where
   pub tended : AreTended w
   -- Each msgget finds the slot of its new identifier vacant.
   pub vacant : AllFindVacant w.turns
+  -- The forget of each removal takes the row of its identifier away.
+  pub forgets : AllTakeTheirRows w.turns
   -- A removal is for good.
   pub removed : AreRemovedForGood w.turns
   -- Sends and receives of a removed queue fail with EIDRM if they had reached it before, else with

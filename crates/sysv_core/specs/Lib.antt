@@ -37,6 +37,7 @@ pub mod Tending
 pub mod Parked
 pub mod Removed
 pub mod Vacant
+pub mod Forgotten
 pub mod AnswerLaw
 pub mod LastWords
 pub mod Headline

@@ -1,15 +1,17 @@
 -- What the laws of waits and of removals admit and refuse: a receive of any message on the queue
--- that a preset made, a removal of that queue while the receive waits, and an identifier that is
--- installed twice.
-use Rattle.std.specs.Prelude.{pos, List, [], ◌∷◌, ◌++◌, true}
+-- that a preset made, a removal of that queue while the receive waits, a forget that finds no row,
+-- and an identifier that is installed twice.
+use Rattle.std.specs.Prelude.{pos, List, [], ◌∷◌, ◌++◌, Bool, true, false}
 use Rattle.sysv_model.specs.declared.errno.Errno.TheVariants.{EIDRM, EINVAL}
 use Rattle.sysv_model.specs.declared.selector.Selector.TheVariants.{Any}
 use Rattle.sysv_model.specs.History.{Take, Remove, Gone, NoMatch, Accepted, Discarded, History}
-use Rattle.sysv_model.specs.Turn.{Deed, AtSlot, Turn, slot_history}
+use Rattle.sysv_model.specs.Registry.{Forget, Changed}
+use Rattle.sysv_model.specs.Turn.{Deed, AtSlot, AtRegistry, Turn, slot_history}
 use Rattle.sysv_steps.specs.State.{Refused}
 use Rattle.sysv_core.specs.World.{preset_who, preset_install, with_preset_turns}
 use Rattle.sysv_core.specs.Parked.{HasNothingToTake}
 use Rattle.sysv_core.specs.Removed.{AreRemovedForGood}
+use Rattle.sysv_core.specs.Forgotten.{AllTakeTheirRows}
 use Rattle.sysv_core.specs.LastWords.{IsToldSo}
 use Rattle.sysv_core.specs.WorkedRun.{sender, place_hello}
 
@@ -27,6 +29,10 @@ after_hello = with_preset_turns [] ++ by_preset (AtSlot 0 place_hello (Accepted 
 -- The turns of the preset, and then one that removes the queue.
 abbrev pub after_removal : List Turn
 after_removal = with_preset_turns [] ++ by_preset (AtSlot 0 (Remove (pos 0) sender) (Discarded [])) ∷ []
+
+-- These turns, and then one that forgets the identifier, with that reply.
+abbrev pub after_forget : Bool → List Turn
+after_forget done = after_removal ++ by_preset (AtRegistry (Forget (pos 0)) (Changed done)) ∷ []
 
 -- A turn of the receive that finds no message.
 abbrev pub finds_none : Deed
@@ -50,5 +56,8 @@ pub record WorkedWaits : Type 0 where
   pub told_to_a_later_one : IsToldSo [] (finds_it_gone ∷ []) (Refused EINVAL ∷ [])
   -- After the removal the queue is not empty but gone.
   pub found_again : ¬ IsToldSo (finds_none ∷ []) (finds_none ∷ []) []
+  -- The forget of the removal takes the row of the preset away; it does not find that there is none.
+  pub forgets : AllTakeTheirRows (after_forget true)
+  pub forgets_nothing : ¬ AllTakeTheirRows (after_forget false)
   -- An identifier is not installed again.
   pub comes_back : ¬ AreRemovedForGood (after_removal ++ by_preset preset_install ∷ [])

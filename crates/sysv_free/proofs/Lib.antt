@@ -11,6 +11,5 @@ pub mod Resting
 pub mod WorkedOrder
 pub mod WorkedCrew
 pub mod Reading
-pub mod Forgetting
 pub mod Threading
 pub mod RunIsFree

@@ -32,16 +32,15 @@ use Rattle.sysv_core.specs.Sound.{IsSound, StaysSound}
 use Rattle.sysv_core.proofs.Histories.{turn_of}
 use Rattle.sysv_core.proofs.Conserving.{BlockLaws, stands_conserves, resumed_holds, begun_holds}
 use Rattle.sysv_core.proofs.Following.{later_of, blocks_later, begun_later, resumed_later}
-use Rattle.sysv_core.proofs.Sounding.{own_still, later_installs, turn_sound, look_sound, none_busy}
-use Rattle.sysv_core.proofs.Installing.{stand_counts, continues_counts, not_held, opening_counts, good_of}
+use Rattle.sysv_core.proofs.Sounding.{own_still, later_installs, turn_sound, look_sound}
+use Rattle.sysv_core.proofs.Installing.{stand_counts, continues_counts, not_held, good_of}
 use Rattle.sysv_core.proofs.Tending.{Tends, idle_move, turns_tend, waiting_state, each_row}
-use Rattle.sysv_core.proofs.Vacating.{IsKept, continues_holds, stand_fits, resumed_fits, begun_fits}
+use Rattle.sysv_core.proofs.Vacating.{IsKept, opening_kept, continues_holds, stand_fits, resumed_fits, begun_fits}
+use Rattle.sysv_core.proofs.Forgetting.{Owed, owed_idle, owed_spared, owed_turn, opening_owed, begun_none, resumed_none}
 use Rattle.sysv_core.proofs.Telling.{told_so}
 use Rattle.sysv_core.proofs.Obeying.{HasName, Inv, stands_there, goes_on, starts, turns_keep, opens, right_now}
 use Rattle.sysv_free.specs.FreeRun.{nobody, starting_with, Moment, Starts, TakesTurn, Wakes, Reads, StartsCall, TakesItsTurn, WakesUp, ReadsRow, Brings, LeadsOnThreads}
 use Rattle.sysv_free.specs.OnThreads.{IsRowRead, IsMadeOrRead, ObeysOnThreads}
-use Rattle.sysv_free.specs.Forgotten.{AllTakeTheirRows}
-use Rattle.sysv_free.proofs.Forgetting.{Owed, owed_idle, owed_read, owed_turn, begun_none, resumed_none}
 use Rattle.sysv_free.proofs.Reading.{row_counts, row_tends, row_facts, row_fits, row_keeps}
 
 -- A turn that belongs to no call reads a row.
@@ -178,7 +177,7 @@ module _ (sound : StaysSound) (more : (generation blocks : ℕ) (turns : List Tu
         tends = row_tends w.turns slot reply w.actors legal h.tends;
         kept = record { counts = row_counts w.turns slot reply w.actors h.kept.counts; facts = row_facts w.turns slot reply legal h.kept.facts; fit = row_fits w.turns slot reply w.actors h.kept.fit };
         reads = All-push ReadsIfNobody w.turns (turn_of nobody (AtSlot slot ReadRow reply)) h.reads (λ e. (refl, (slot, reply, refl)));
-        owed = owed_read w.turns w.actors nobody slot ReadRow reply h.owed;
+        owed = owed_spared w.turns w.actors nobody (AtSlot slot ReadRow reply) (λ id. refl) tt h.owed;
       })
 
   -- ---- a list of moments
@@ -199,17 +198,9 @@ module _ (sound : StaysSound) (more : (generation blocks : ℕ) (turns : List Tu
   opening_held o legal = record {
     inv = opens sound o legal;
     tends = λ id key made kept. absurd cc;
-    kept = record {
-      counts = opening_counts o;
-      facts = record { lives = λ slot a e. absurd cc; forgot = λ id e. absurd cc; removed = λ id e. absurd cc; vacant = λ i t low. absurd (omega (arith, low)) };
-      fit = λ place e there. absurd (none_busy o.actors place e there);
-    };
+    kept = opening_kept o;
     reads = λ i t low. absurd (omega (arith, low));
-    owed = record {
-      rows = λ place d id there b. absurd (none_busy o.actors place d there);
-      alone = λ place at d e id there other b x. absurd (none_busy o.actors place d there);
-      taken = λ i t low. absurd (omega (arith, low));
-    };
+    owed = opening_owed o;
   }
 
   -- ---- what a world was opened with
@@ -258,6 +249,7 @@ module _ (sound : StaysSound) (more : (generation blocks : ℕ) (turns : List Tu
             (λ g has. right_now w given i right g has) given (All-contains_itself given);
         tended = each_row w h.tends;
         vacant = h.kept.facts.vacant;
+        forgets = h.owed.taken;
         removed = good;
         told = λ id before after t call whole removal has q.
             let f = i.fates call has in
@@ -266,11 +258,3 @@ module _ (sound : StaysSound) (more : (generation blocks : ℕ) (turns : List Tu
             (λ c has. let f = i.fates c has in one_effect c.cred c.asked c.released (deeds_of c.who w.turns) f.state f.plays) w.calls (All-contains_itself w.calls);
         under_way = i.doing;
       }
-
-  -- ---- and each forget takes its row
-
-  pub run_forgets : ((generation blocks : ℕ) → AreLegal generation blocks []) →
-      (o : Opening) (list : List Moment) (given : List Given) (w : World) → LeadsOnThreads (opening o) list given w → AllTakeTheirRows w.turns
-  run_forgets none o list given w led =
-      let h : IsHeld w given = leads_held (opening o) w list [] given (opening_held o (none o.generation o.blocks)) led in
-      h.owed.taken

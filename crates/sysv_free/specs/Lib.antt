@@ -18,11 +18,11 @@ pub use Rattle.sysv_core.specs.AnswerLaw
 pub use Rattle.sysv_core.specs.Conserved
 pub use Rattle.sysv_core.specs.Tending
 pub use Rattle.sysv_core.specs.Vacant
+pub use Rattle.sysv_core.specs.Forgotten
 pub use Rattle.sysv_core.specs.Removed
 pub use Rattle.sysv_core.specs.LastWords
 pub mod FreeRun
 pub mod OnThreads
-pub mod Forgotten
 pub mod RunIsFree
 pub mod Order
 pub mod OrderIsRun

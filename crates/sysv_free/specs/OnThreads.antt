@@ -3,8 +3,8 @@
 -- run does not state when a waiting call reads its count. All else holds: every accepted message is
 -- delivered exactly once, discarded when its queue is removed, or still queued; each receive takes
 -- the message that its selector names; messages of one type leave in the order of acceptance; every
--- result follows from the call's arguments and from that call's own turns; no block is made or
--- lost; each install finds its slot vacant; after a removal nothing is accepted or delivered under
+-- result follows from the call's arguments and own turns; no block is made or lost; each install
+-- finds its slot vacant, each forget a row; after a removal nothing is accepted or delivered under
 -- that identifier, for good, and the sends and receives of that queue report the removal (what
 -- POSIX.1-2017 says of msgget, msgsnd, msgrcv and msgctl, in the steps of this project's profile).
 use Rattle.std.specs.Prelude.{◌≡◌, ◌≢◌, ◌⊎◌, ℕ, ◌≤◌, List, All, AllPairs, Contains}
@@ -20,6 +20,7 @@ use Rattle.sysv_core.specs.AnswerLaw.{Fate, AreInTheirCalls, AsksAsItWasAsked}
 use Rattle.sysv_core.specs.Conserved.{AreConserved}
 use Rattle.sysv_core.specs.Removed.{AreRemovedForGood}
 use Rattle.sysv_core.specs.Vacant.{AllFindVacant}
+use Rattle.sysv_core.specs.Forgotten.{AllTakeTheirRows}
 use Rattle.sysv_core.specs.LastWords.{AreToldOfRemovals}
 use Rattle.sysv_core.specs.Tending.{AreTended}
 use Rattle.sysv_free.specs.FreeRun.{nobody, Moment, LeadsOnThreads}
@@ -61,6 +62,8 @@ pub record ObeysOnThreads (o : Opening) (w : World) (given : List Given) : Type 
   pub tended : AreTended w
   -- Each msgget finds the slot of its new identifier vacant.
   pub vacant : AllFindVacant w.turns
+  -- The forget of each removal takes the row of its identifier away.
+  pub forgets : AllTakeTheirRows w.turns
   -- A removal is for good.
   pub removed : AreRemovedForGood w.turns
   -- Sends and receives of a removed queue fail with EIDRM if they had reached it before, else with
@@ -76,3 +79,8 @@ pub record ObeysOnThreads (o : Opening) (w : World) (given : List Given) : Type 
 abbrev pub EveryThreadedRunObeys : Type 0
 EveryThreadedRunObeys = (o : Opening) (list : List Moment) (given : List Given) (w : World) →
     LeadsOnThreads (opening o) list given w → ObeysOnThreads o w given
+
+-- In every free run each forget takes a row away: that of the identifier that was removed.
+abbrev pub EachForgetTakesItsRow : Type 0
+EachForgetTakesItsRow = (o : Opening) (list : List Moment) (given : List Given) (w : World) →
+    LeadsOnThreads (opening o) list given w → AllTakeTheirRows w.turns

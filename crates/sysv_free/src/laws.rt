@@ -2,8 +2,7 @@
 
 ghost use Rattle.sysv_free.specs.AtRest.{OrdersAtRest};
 ghost use Rattle.sysv_free.specs.Crew.{EveryServiceIsARun};
-ghost use Rattle.sysv_free.specs.Forgotten.{EachForgetTakesItsRow};
-ghost use Rattle.sysv_free.specs.OnThreads.{EveryThreadedRunObeys};
+ghost use Rattle.sysv_free.specs.OnThreads.{EachForgetTakesItsRow, EveryThreadedRunObeys};
 ghost use Rattle.sysv_free.specs.Order.{NoCallReadsARow};
 ghost use Rattle.sysv_free.specs.OrderIsRun.{EveryOrderIsARun};
 ghost use Rattle.sysv_free.specs.RunIsFree.{EachRunIsFree};
@@ -40,18 +39,12 @@ pub fn every_threaded_run_obeys()
     after_removal();
 }
 
-/// States that each forget in a free run takes a row away: each removal forgets the row of its
-/// identifier, which exists until then.
+/// States that each forget in a free run takes a row away: the row of the identifier that was
+/// removed, which exists until then.
 pub fn each_forget_takes_its_row()
     ensures { EachForgetTakesItsRow }
 {
-    each_world_is_sound();
-    legal_turns();
-    blocks_kept();
-    pool_law();
-    each_holds_its_blocks();
-    registry_law();
-    removed_for_good();
+    every_threaded_run_obeys();
 }
 
 /// States that each run of a world without a preset is a free run.

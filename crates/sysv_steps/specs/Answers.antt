@@ -123,7 +123,7 @@ abbrev pub was_removed : Deed → Bool
 was_removed (AtSlot slot call (Discarded messages)) = true
 was_removed deed = false
 
--- The deed requested the registry to forget an identifier.
+-- The deed requested the registry to forget an identifier, whatever it replied.
 abbrev pub has_forgotten : Deed → Bool
 has_forgotten (AtRegistry (Forget id) reply) = true
 has_forgotten deed = false

@@ -1,42 +1,40 @@
 -- A call that has an identifier to forget finds its row. No two calls have the same identifier to
 -- forget, because a removal finds the queue live, and a queue that was removed is not live.
-use Rattle.std.proofs.Common.{◌≡◌, ◌≢◌, inl, inr, ℕ, ℤ, ◌||◌, Bool, true, false, cond, List, [], ◌∷◌, ◌++◌, Option, None, Some, refl, sym, ap, subst, ◌∙◌, slice_get, slice_set}
-use Rattle.std.specs.List.{list_any}
+use Rattle.std.proofs.Common.{◌≡◌, ◌≢◌, inl, inr, ℕ, zero, suc, ℤ, ◌||◌, Bool, true, false, cond, List, [], ◌∷◌, ◌++◌, Option, None, Some, refl, sym, ap, subst, ◌∙◌, arith, slice_get, slice_set}
 use Rattle.std.proofs.lemmas.Bool.Decides.{Decides-int_eq}
 use Rattle.std.proofs.lemmas.List.Elements.{All-push}
 use Rattle.std.proofs.lemmas.List.Folds.{list_any-append}
 use Rattle.sysv_model.specs.declared.attributes.Attributes.{Attributes}
 use Rattle.sysv_model.specs.declared.cred.Cred.{Cred}
-use Rattle.sysv_model.specs.declared.errno.Errno.{Errno}
 use Rattle.sysv_model.specs.declared.errno.Errno.TheVariants.{EINVAL}
 use Rattle.sysv_model.specs.Message.{Message}
-use Rattle.sysv_model.specs.History.{Who, Call, Remove, Reply, Gone, Denied, Granted, Full, NoMatch, Discarded, Installed, Entry, History}
+use Rattle.sysv_model.specs.History.{Who, Call, Remove, Installed, Discarded}
 use Rattle.sysv_model.specs.Live.{live, HasId, IsLive}
-use Rattle.sysv_model.specs.Registry.{Forget, Found, Made, Busy, Unbound, Changed, RegistryEntry}
-use Rattle.sysv_model.specs.Pool.{PoolReply, Reserved, TooFew, Released, Foreign}
-use Rattle.sysv_model.specs.Turn.{OfSlot, OfRegistry, Deed, AtSlot, AtRegistry, AtPool, asked_by, Turn, slot_history, registry_entry, registry_history}
-use Rattle.sysv_queue.specs.QueueLaw.{removes}
+use Rattle.sysv_model.specs.Registry.{RegistryHistory, Forget, Made, Changed, RegistryEntry}
+use Rattle.sysv_model.specs.Turn.{OfSlot, OfRegistry, Deed, AtSlot, AtRegistry, asked_by, Turn, slot_history, registry_entry, registry_history}
 use Rattle.sysv_queue.specs.ForGood.{RemovedForGood}
 use Rattle.sysv_keys.specs.Identifier.{slot_of_id}
 use Rattle.sysv_keys.specs.Rows.{forgets, is_settled, is_forgotten}
+use Rattle.sysv_keys.specs.LegalReply.{IsLegalHistory as IsLegalRegistryHistory}
 use Rattle.sysv_keys.specs.RegistryLaw.{RegistryLaw}
 use Rattle.sysv_objects.specs.LegalDeed.{IsLegalDeed}
 use Rattle.sysv_steps.specs.Call.{SystemCall, Msgget, Msgsnd, Msgrcv, MsgctlStat, MsgctlSet, MsgctlRmid}
-use Rattle.sysv_steps.specs.State.{Sending, Wait, OnSettled, OnFreed, OnReleased, OnArrived, IsRefused, WaitsOn, Phase, AtBegin, AtInstall, AtSettle, AtProbe, AtUnmake, AtLook, AtReserve, AtPlace, AtSendGiveback, AtTake, AtRemove, AtForget, State, Goes, Waits, Over, Refused}
+use Rattle.sysv_steps.specs.State.{Wait, OnSettled, OnFreed, OnReleased, OnArrived, Phase, AtUnmake, AtRemove, AtForget, State, Goes, Waits, Over, Refused}
 use Rattle.sysv_steps.specs.Begin.{is_refused, first, begin}
 use Rattle.sysv_steps.specs.Asks.{asks}
-use Rattle.sysv_steps.specs.Next.{waits_or, goes_on, after_reserve, next}
-use Rattle.sysv_steps.specs.Resume.{resume}
-use Rattle.sysv_core.specs.World.{World, Started, Doing, doing_in}
-use Rattle.sysv_core.specs.Sound.{IsSound}
+use Rattle.sysv_steps.specs.Next.{next}
+use Rattle.sysv_steps.specs.Resume.{resume, awaited}
+use Rattle.sysv_core.specs.World.{World, Opening, Started, Doing, Given, Happening, Preset, Start, Step, opening, doing_in, starting, begun, value_of, Continues, StartsAt, StepsAt, preset_who, preset_begin, preset_install, preset_settle, Presets, Makes}
+use Rattle.sysv_core.specs.Run.{Leads}
+use Rattle.sysv_core.specs.Sound.{IsSound, StaysSound}
+use Rattle.sysv_core.specs.Forgotten.{TakesItsRow, AllTakeTheirRows}
 use Rattle.sysv_core.proofs.Lists.{get_set_same, get_set_other, same_place}
-use Rattle.sysv_core.proofs.Histories.{turn_of, registry_more}
-use Rattle.sysv_core.proofs.Sounding.{made_more}
+use Rattle.sysv_core.proofs.Histories.{turn_of, registry_more, begun_turns, installed_turns}
+use Rattle.sysv_core.proofs.Sounding.{none_busy, made_more}
 use Rattle.sysv_core.proofs.Settling.{or_none}
-use Rattle.sysv_core.proofs.Installing.{Counted, good_of}
+use Rattle.sysv_core.proofs.Installing.{Counted, makes_counts}
 use Rattle.sysv_core.proofs.Tending.{BeforeForget}
-use Rattle.sysv_core.proofs.Vacating.{was_removed, WasMade, Facts, Fits, AllFit}
-use Rattle.sysv_free.specs.Forgotten.{TakesItsRow, AllTakeTheirRows}
+use Rattle.sysv_core.proofs.Vacating.{some_is, was_removed, WasMade, Facts, Fits, AllFit, Quiet, Comes, comes_quiet, comes_made, comes_refused, comes_removed, comes, not_live, IsKept, makes_holds, opening_kept}
 
 -- The registry has a row of the identifier.
 abbrev HasRow : ℤ → List Turn → Type 0
@@ -49,9 +47,6 @@ pub record Owed (turns : List Turn) (actors : List (Option Doing)) : Type 0 wher
   pub taken : AllTakeTheirRows turns
 
 -- ---- where an actor stands after one moved
-
-some_is : {X : Type 0} {x y : X} → Some x ≡ Some y → x ≡ y
-some_is e = cc
 
 data Stands (actors : List (Option Doing)) (place : ℕ) (state : State) (at : ℕ) (d : Doing) : Type 0 where
   here : place ≡ at → d.state ≡ state → Stands actors place state at d
@@ -132,62 +127,16 @@ same_row id turns who deed spared row = (
       ∙ (ap (λ b. b || is_forgotten id (registry_entry who deed)) row.1 ∙ spared)),
 )
 
-pub owed_read : (turns : List Turn) (actors : List (Option Doing)) (who : Who) (slot : ℕ) (call : Call) (reply : Reply) → Owed turns actors → Owed (turns ++ turn_of who (AtSlot slot call reply) ∷ []) actors
-owed_read turns actors who slot call reply o = record {
-  rows = λ place d id there b. same_row id turns who (AtSlot slot call reply) refl (o.rows place d id there b);
+-- A turn that forgets nothing, whoever made it, with every actor as it was.
+pub owed_spared : (turns : List Turn) (actors : List (Option Doing)) (who : Who) (deed : Deed) → ((id : ℤ) → is_forgotten id (registry_entry who deed) ≡ false) → TakesItsRow deed → Owed turns actors →
+    Owed (turns ++ turn_of who deed ∷ []) actors
+owed_spared turns actors who deed spared takes o = record {
+  rows = λ place d id there b. same_row id turns who deed (spared id) (o.rows place d id there b);
   alone = o.alone;
-  taken = All-push (λ (t : Turn). TakesItsRow t.deed) turns (turn_of who (AtSlot slot call reply)) o.taken tt;
+  taken = All-push (λ (t : Turn). TakesItsRow t.deed) turns (turn_of who deed) o.taken takes;
 }
 
 -- ---- where a turn leads
-
--- The state is not before a forget.
-abbrev Quiet : Option State → Type 0
-Quiet (Some (Goes (AtForget id blocks))) = ⊥
-Quiet state = Unit {0}
-
-data Comes (phase : Phase) (deed : Deed) : Type 0 where
-  comes_quiet : Quiet (next phase deed) → Comes phase deed
-  comes_removed : (by : Cred) (id : ℤ) (slot : ℕ) (call : Call) (messages : List Message) → phase ≡ AtRemove by id → deed ≡ AtSlot slot call (Discarded messages) → Comes phase deed
-
-held_up : (nowait : Bool) (wait : Wait) (why : Errno) → Quiet (Some (goes_on (waits_or nowait wait why)))
-held_up true wait why = tt
-held_up false wait why = tt
-
-reserved : (send : Sending) (reply : PoolReply) → Quiet (after_reserve send reply)
-reserved send (Reserved blocks) = tt
-reserved send TooFew = held_up send.nowait _ _
-reserved send reply = tt
-
-comes : (phase : Phase) (deed : Deed) → Comes phase deed
-comes (AtBegin get) (AtRegistry c (Made id)) = comes_quiet tt
-comes (AtBegin get) (AtRegistry c (Found id settled)) = comes_quiet tt
-comes (AtBegin get) (AtRegistry c (Busy settled)) = comes_quiet tt
-comes (AtBegin get) (AtRegistry c (Unbound why)) = comes_quiet tt
-comes (AtInstall get id) (AtSlot slot c (Installed false)) = comes_quiet tt
-comes (AtInstall get id) (AtSlot slot c (Installed true)) = comes_quiet tt
-comes (AtRemove by id) (AtSlot slot c (Discarded messages)) = comes_removed by id slot c messages refl refl
-comes (AtSettle id) (AtRegistry c (Changed done)) = comes_quiet tt
-comes (AtProbe get id settled) (AtSlot slot c Gone) = comes_quiet tt
-comes (AtProbe get id settled) (AtSlot slot c Denied) = comes_quiet tt
-comes (AtProbe get id settled) (AtSlot slot c Granted) = comes_quiet tt
-comes (AtUnmake id) (AtRegistry c (Changed done)) = comes_quiet tt
-comes (AtForget id blocks) (AtRegistry c (Changed done)) = comes_quiet tt
-comes (AtLook send) (AtSlot slot c (Full freed)) = comes_quiet (held_up send.nowait _ _)
-comes (AtReserve send) (AtPool c reply) = comes_quiet (reserved send reply)
-comes (AtSendGiveback blocks (WaitsOn wait)) (AtPool c Released) = comes_quiet tt
-comes (AtSendGiveback blocks (IsRefused why)) (AtPool c Released) = comes_quiet tt
-comes (AtSendGiveback blocks (WaitsOn wait)) (AtPool c Foreign) = comes_quiet tt
-comes (AtSendGiveback blocks (IsRefused why)) (AtPool c Foreign) = comes_quiet tt
-comes (AtPlace send blocks) (AtSlot slot c (Full freed)) = comes_quiet tt
-comes (AtTake receive) (AtSlot slot c (NoMatch arrived)) = comes_quiet (held_up receive.nowait _ _)
-comes phase (AtSlot slot c Gone) = comes_quiet tt
-comes phase (AtSlot slot c reply) = comes_quiet tt
-comes phase (AtRegistry c (Changed done)) = comes_quiet tt
-comes phase (AtRegistry c reply) = comes_quiet tt
-comes phase (AtPool c Released) = comes_quiet tt
-comes phase (AtPool c Foreign) = comes_quiet tt
-comes phase (AtPool c reply) = comes_quiet tt
 
 quiet_none : (state : State) (id : ℤ) → Quiet (Some state) → ¬ BeforeForget id state
 quiet_none (Goes (AtForget at blocks)) id q b = absurd q
@@ -210,26 +159,11 @@ was_so : (turns : List Turn) (state : State) (id : ℤ) → BeforeForget id stat
 was_so turns (Goes (AtForget at blocks)) id b fits = subst (λ i. was_removed i turns ≡ true) b fits
 was_so turns state id b fits = absurd b
 
--- Some entry passes a test.
-abbrev At : (Entry → Bool) → History → Type 0
-At p h = (before after : History) × (e : Entry) × (h ≡ before ++ e ∷ after) × (p e ≡ true)
-
-at_first : (p : Entry → Bool) (x : Entry) (h : History) (b : Bool) → p x ≡ b → (list_any p h ≡ true → At p h) → (b || list_any p h) ≡ true → At p (x ∷ h)
-at_first p x h true is rest e = ([], h, x, refl, is)
-at_first p x h false is rest e = let r = rest e in (x ∷ r.0, r.1, r.2, ap (λ ys. x ∷ ys) r.3, r.4)
-
-any_at : (p : Entry → Bool) (h : History) → list_any p h ≡ true → At p h
-any_at p [] e = absurd cc
-any_at p (x ∷ h) e = at_first p x h (p x) refl (any_at p h) e
-
 -- ---- a turn of a call
 
 module _ (for_good : RemovedForGood) (w : World) (s : IsSound w) (law : RegistryLaw w.generation (registry_history w.turns)) (c : Counted w.turns w.actors) (f : Facts w.turns) (fit : AllFit w.turns w.actors) (o : Owed w.turns w.actors) where
-  -- The queue of an identifier that was removed is not live.
-  not_live : (id : ℤ) → was_removed id w.turns ≡ true → ¬ IsLive (slot_history (slot_of_id id) w.turns) id
-  not_live id e =
-      let at = any_at (λ (x : Entry). removes id x.call x.reply) (slot_history (slot_of_id id) w.turns) e in
-      ((good_of for_good w.generation w.turns w.actors c law s.legal.slots).gone (slot_of_id id) id at.0 at.1 at.2 at.3 at.4).not_live
+  gone : (id : ℤ) → was_removed id w.turns ≡ true → ¬ IsLive (slot_history (slot_of_id id) w.turns) id
+  gone = not_live for_good w s law c f fit
 
   -- The identifier of a live queue has a row.
   live_row : (id : ℤ) → IsLive (slot_history (slot_of_id id) w.turns) id → HasRow id w.turns
@@ -240,7 +174,7 @@ module _ (for_good : RemovedForGood) (w : World) (s : IsSound w) (law : Registry
       made (Some a) is has = subst (λ i. WasMade i w.turns) has (f.lives (slot_of_id id) a is).made
 
       kept : (b : Bool) → is_forgotten id (registry_history w.turns) ≡ b → is_forgotten id (registry_history w.turns) ≡ false
-      kept true e = absurd (not_live id (f.forgot id e) lives)
+      kept true e = absurd (gone id (f.forgot id e) lives)
       kept false e = e
 
   module _ (place : ℕ) (call : Started) (phase : Phase) (there : slice_get w.actors place ≡ Some (Some record { call = call; state = Goes phase })) (now : ℕ) where
@@ -252,6 +186,7 @@ module _ (for_good : RemovedForGood) (w : World) (s : IsSound w) (law : Registry
     takes (AtRegistry (Forget at) (Changed false)) asked legal =
         let has = o.rows place d at there (forget_asked w.turns phase now at asked (fit place d there)) in
         absurd (legal (record { id = at; key = has.0.0; live = is_settled at (registry_history w.turns) }) (record { made = has.0.1; kept = has.1; stage = refl }) refl)
+    takes (AtRegistry (Forget at) reply) asked legal = absurd legal
     takes deed asked legal = tt
 
     -- The rows that other calls have to forget remain.
@@ -273,12 +208,15 @@ module _ (for_good : RemovedForGood) (w : World) (s : IsSound w) (law : Registry
     comes_so : (deed : Deed) (state : State) → asked_by deed ≡ asks phase now → IsLegalDeed w.generation w.blocks w.turns deed → next phase deed ≡ Some state → Comes phase deed → (id : ℤ) → BeforeForget id state →
         HasRow id (w.turns ++ turn_of call.who deed ∷ []) × NoOther w.actors place id
     comes_so deed state asked legal goes (comes_quiet q) id b = absurd (quiet_none state id (subst Quiet goes q) b)
+    comes_so deed state asked legal goes (comes_made get at c was is) id b = absurd (subst (BeforeForget id) (sym (some_is (ap (λ p. next p (AtRegistry c (Made at))) (sym was) ∙ (ap (next phase) (sym is) ∙ goes)))) b)
+    comes_so deed state asked legal goes (comes_refused get at slot c was is) id b =
+        absurd (subst (BeforeForget id) (sym (some_is (ap (λ p. next p (AtSlot slot c (Installed false))) (sym was) ∙ (ap (next phase) (sym is) ∙ goes)))) b)
     comes_so deed state asked legal goes (comes_removed by at slot c messages was is) id b =
         let same : at ≡ id = removed_then by at slot c messages state id (ap (λ p. next p (AtSlot slot c (Discarded messages))) (sym was) ∙ (ap (next phase) (sym is) ∙ goes)) b in
         let lives = subst (λ i. IsLive (slot_history (slot_of_id i) w.turns) i) same
         (removal by at slot c messages (ap asked_by (sym is) ∙ (asked ∙ ap (λ p. asks p now) was)) (subst (IsLegalDeed w.generation w.blocks w.turns) is legal)) in (
           same_row id w.turns call.who deed (ap (λ x. is_forgotten id (registry_entry call.who x)) is) (live_row id lives),
-          λ q e apart old before. not_live id (was_so w.turns e.state id before (fit q e old)) lives,
+          λ q e apart old before. gone id (was_so w.turns e.state id before (fit q e old)) lives,
         )
 
     pub owed_turn : (deed : Deed) (state : State) → asked_by deed ≡ asks phase now → IsLegalDeed w.generation w.blocks w.turns deed → next phase deed ≡ Some state →
@@ -286,3 +224,70 @@ module _ (for_good : RemovedForGood) (w : World) (s : IsSound w) (law : Registry
     owed_turn deed state asked legal goes =
         owed_moved w.turns (w.turns ++ turn_of call.who deed ∷ []) w.actors place (Some d) call state there o (stays deed asked) (comes_so deed state asked legal goes (comes phase deed))
         (All-push (λ (t : Turn). TakesItsRow t.deed) w.turns (turn_of call.who deed) o.taken (takes deed asked legal))
+
+-- ---- what happens
+
+abbrev Owes : World → Type 0
+Owes w = Owed w.turns w.actors
+
+same_owes : (w after : World) → after ≡ w → Owes w → Owes after
+same_owes w after e o = subst Owes (sym e) o
+
+pub opening_owed : (o : Opening) → Owed [] (opening o).actors
+opening_owed o = record {
+  rows = λ place d id there b. absurd (none_busy o.actors place d there);
+  alone = λ place at d e id there other b x. absurd (none_busy o.actors place d there);
+  taken = λ i t low. absurd (omega (arith, low));
+}
+
+starts_owes : (w after : World) (given : List Given) (place : ℕ) (cred : Cred) (asked : SystemCall) (at : Option (Option Doing)) → Owes w → slice_get w.actors place ≡ at → StartsAt w (suc place) cred asked at given after → Owes after
+starts_owes w after given place cred asked None o there t = same_owes w after t.1 o
+starts_owes w after given place cred asked (Some (Some e)) o there t = same_owes w after t.1 o
+starts_owes w after given place cred asked (Some None) o there t =
+    let call = starting w (suc place) cred asked in
+    subst Owes (sym t.1) (owed_idle w.turns w.actors place None call (begun call) there (begun_none cred asked call.released) o)
+
+-- The turns of a preset forget nothing.
+preset_owes : (w after : World) (made : Bool) → Owes w → Presets w made after → Owes after
+preset_owes w after made o (inr p) = same_owes w after p.2 o
+preset_owes w after made o (inl p) =
+    let one_turn = owed_spared w.turns w.actors preset_who preset_begin (λ id. refl) tt o in
+    let two_turns = owed_spared (begun_turns w.turns) w.actors preset_who preset_install (λ id. refl) tt one_turn in
+    subst Owes (sym p.2) (owed_spared (installed_turns w.turns) w.actors preset_who preset_settle (λ id. refl) tt two_turns)
+
+module _ (for_good : RemovedForGood) (registry_law : (generation : ℕ) (h : RegistryHistory) → IsLegalRegistryHistory generation h → RegistryLaw generation h) where
+  continues_owes : (w after : World) (given : List Given) (place now : ℕ) (call : Started) (state : State) → IsSound w → IsKept w → Owes w → slice_get w.actors place ≡ Some (Some record { call = call; state = state }) →
+      Continues w (suc place) now call state given after → Owes after
+  continues_owes w after given place now call (Goes phase) s k o there t =
+      subst Owes (sym t.6)
+      (owed_turn for_good w s (registry_law w.generation (registry_history w.turns) s.legal.registry) k.counts k.facts k.fit o place call phase there now t.0 t.1 t.2 t.3 t.4)
+  continues_owes w after given place now call (Waits wait) s k o there (inl t) =
+      let value = value_of w.turns (awaited wait) in
+      subst Owes (sym t.2) (owed_idle w.turns w.actors place (Some record { call = call; state = Waits wait }) call (Goes (resume wait value)) there (resumed_none wait value) o)
+  continues_owes w after given place now call (Waits wait) s k o there (inr t) = same_owes w after t.1.1 o
+  continues_owes w after given place now call (Over ending) s k o there t = same_owes w after t.1 o
+
+  steps_owes : (w after : World) (given : List Given) (place now : ℕ) (at : Option (Option Doing)) → IsSound w → IsKept w → Owes w → slice_get w.actors place ≡ at → StepsAt w (suc place) now at given after → Owes after
+  steps_owes w after given place now None s k o there t = same_owes w after t.1 o
+  steps_owes w after given place now (Some None) s k o there t = same_owes w after t.1 o
+  steps_owes w after given place now (Some (Some e)) s k o there t = continues_owes w after given place now e.call e.state s k o there t
+
+  makes_owes : (w after : World) (x : Happening) (given : List Given) → IsSound w → IsKept w → Owes w → Makes w x given after → Owes after
+  makes_owes w after Preset given s k o m = preset_owes w after m.1.0 o m.1.1
+  makes_owes w after (Start actor cred asked) given s k o (inl worn) = same_owes w after worn.1.1 o
+  makes_owes w after (Start zero cred asked) given s k o (inr young) = same_owes w after young.1.1 o
+  makes_owes w after (Start (suc place) cred asked) given s k o (inr young) = starts_owes w after given place cred asked (slice_get w.actors place) o refl young.1
+  makes_owes w after (Step actor now) given s k o (inl worn) = same_owes w after worn.1.1 o
+  makes_owes w after (Step zero now) given s k o (inr young) = same_owes w after young.1.1 o
+  makes_owes w after (Step (suc place) now) given s k o (inr young) = steps_owes w after given place now (slice_get w.actors place) s k o refl young.1
+
+  leads_owes : StaysSound → (w after : World) (xs : List Happening) (given : List Given) → IsSound w → IsKept w → Owes w → Leads w xs given after → Owes after
+  leads_owes sound w after [] given s k o l = same_owes w after l.1 o
+  leads_owes sound w after (x ∷ xs) given s k o l =
+      let then = sound w l.0 x l.1 s l.3 in
+      let h = makes_holds for_good registry_law w l.0 x l.1 s k then l.3 in
+      let kept : IsKept l.0 = record { counts = makes_counts w l.0 x l.1 s k.counts l.3; facts = h.facts; fit = h.fit } in
+      leads_owes sound l.0 after xs l.2 then kept (makes_owes w l.0 x l.1 s k o l.3) l.4
+
+  pub all_take_their_rows : StaysSound → (o : Opening) (w : World) (list : List Happening) (given : List Given) → IsSound (opening o) → Leads (opening o) list given w → AllTakeTheirRows w.turns
+  all_take_their_rows sound o w list given s led = (leads_owes sound (opening o) w list given s (opening_kept o) (opening_owed o) led).taken
