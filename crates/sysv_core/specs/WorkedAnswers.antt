@@ -39,7 +39,7 @@ looking size = record {
   generation = 0;
 }
 
--- The same world, but the actor of this number is in that call.
+-- The world after a look for 5 bytes, but the actor of this number is in that call.
 abbrev pub looked_by : ℕ → World
 looked_by actor = record (looking 5) { actors = with_actor (opening of_16).actors actor (Some record { call = the_send; state = still_reserving }) }
 
