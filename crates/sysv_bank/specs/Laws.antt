@@ -8,7 +8,7 @@ use Rattle.sysv_gate.specs.declared.view.Sight.{Sight}
 use Rattle.sysv_gate.specs.Rule.{Spot}
 use Rattle.sysv_gate.specs.Halls.{InOrder}
 
--- The orders that two passes have seen begin one another: one is a prefix of the other.
+-- Of the orders that two passes have seen, one is a prefix of the other.
 abbrev pub OneOrder : {O C R : Type 0} → (O → C → R → O → Type 0) → (O → ℕ × ℕ) → Type 0
 OneOrder {O} {C} {R} moves counted =
     (openings : List O) (first : ℕ) (s : State (Spot O C R) (Sight O C R)) → InOrder moves counted openings first s

@@ -31,8 +31,8 @@ pub fn each_pass_knows_its_turns<O: Object>(seat: &BankSeat<O>)
     let _ = &seat.token;
 }
 
-/// States that the orders that any two seats of one bank have seen begin one another, in every
-/// state.
+/// States that of the orders that any two seats of one bank have seen, one is a prefix of the
+/// other.
 pub fn one_order<O: Object>()
     ensures { OneOrder (Moves O.meaning O.counted) O.counted }
 {}

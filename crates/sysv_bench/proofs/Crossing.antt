@@ -12,7 +12,7 @@ pub use Rattle.sysv_bank.proofs.Crossing.{bank_seat_send, bank_sync}
 
 pub ruleset crossing = (sendable, crosses, declared_send, declared_sync, as_row_send, as_row_sync)
 
--- threads may share what a closure captures where they may share each part
+-- Threads may share what a closure captures if they may share each part of it.
 parts_sync : (Ts : List RattleType) → AllSync Ts → FieldsHave IsSync (parts Ts)
 parts_sync [] s = tt
 parts_sync (T ∷ Ts) s = (as_row_sync (row_field T) s.0, parts_sync Ts s.1)

@@ -1,4 +1,5 @@
-//! Buffers beside the kit's channel of the same bound, and alone by one thread, which never sleeps.
+//! Buffers beside a channel of `crossbeam_channel` with the same bound, and a buffer used by one
+//! thread, which never sleeps.
 mod channel;
 mod many;
 mod one;
@@ -10,10 +11,10 @@ use std::sync::Wait;
 use std::thread::Threads;
 use std::time::{Clock, CpuClock};
 
-/// The cells, and the bound of the channel.
+/// The number of cells, and the bound of the channel.
 const BOUND: usize = 64;
 
-/// How often each measurement is made, all in turn.
+/// How often each measurement is made, all of them in turn.
 const RUNS: u32 = 5;
 
 /// The number of items of one measurement.

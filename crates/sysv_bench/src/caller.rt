@@ -8,7 +8,7 @@ pub(crate) const USER: Cred = Cred {
     pid: 101,
 };
 
-/// A clock that stands still.
+/// A clock that always returns the same time.
 pub(crate) struct Still;
 
 impl Clock for Still {

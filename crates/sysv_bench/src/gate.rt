@@ -1,5 +1,5 @@
-//! A gate beside std's `Mutex` round the same object, the places of a bank beside one another, and
-//! two threads that wait for one another's counts.
+//! A gate beside std's `Mutex` around the same object, the places of a bank beside one another, and
+//! two threads that wait for each other's counts.
 mod calls;
 mod figures;
 mod locked;

@@ -7,7 +7,8 @@ use std::alloc::Global;
 use std::io;
 use std::time::{Clock, CpuClock};
 
-/// Prints what a queue that comes and goes takes, and what a look-up takes.
+/// Prints the time of making, settling and forgetting the queue of a key, and the time of a
+/// look-up.
 pub(crate) fn measure<R: Clock + CpuClock + Print>(rt: &R, alloc: Global) -> io::Result<()> {
     calls::measure(rt, alloc)?;
     lookups::measure(rt, alloc)

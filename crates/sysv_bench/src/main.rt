@@ -35,7 +35,7 @@ use words::{Asked, USAGE, read_words};
 /// The status if the measurement could not be made or printed.
 const FAULT: u8 = 1;
 
-/// The status if the command line is not understood.
+/// The exit status if the command line is not valid.
 const NOT_UNDERSTOOD: u8 = 2;
 
 fn main(rt: HostRuntime) -> ExitCode {

@@ -1,4 +1,4 @@
-//! Each measurement once, with the smallest sizes: it takes a second at most, and prints nothing
+//! Each measurement once, with the smallest sizes. This takes a second at most, and prints nothing
 //! that depends on time.
 use crate::{buffer, eventcount, gate, keys, pool, service, session, wire};
 use std::alloc::Global;
@@ -7,7 +7,7 @@ use std::sync::Wait;
 use std::thread::Threads;
 use std::time::{Clock, CpuClock};
 
-/// Prints for each measurement whether its steps went well.
+/// Prints for each measurement whether its steps succeeded.
 pub(crate) fn measure<R: Threads + Wait + Clock + CpuClock + Print + Sync>(
     rt: &R,
     alloc: Global,

@@ -12,7 +12,7 @@ use sysv_pool::Pool;
 /// The number of rounds of one measurement.
 const ROUNDS: u64 = 100_000;
 
-/// The bytes that are copied.
+/// The number of bytes that are copied.
 const TEXT: [u8; MESSAGE_BYTES] = [b'x'; MESSAGE_BYTES];
 
 /// Prints the time of rounds with chains beside that with vectors.
@@ -27,7 +27,7 @@ fn show_beside<R: Clock + CpuClock + Print>(
     show_ratio(rt, what, "chain beside vector", chains, vecs, "times")
 }
 
-/// Prints how many million bytes a second went through.
+/// Prints how many million bytes per second were copied.
 fn show_speed(rt: &impl Print, how: &str, nanos: Option<u64>) -> io::Result<()> {
     let millions = nanos.map(|_| MESSAGE_BYTES as u64 * 1000 * ROUNDS);
     let unit = "million bytes a second";

@@ -1,8 +1,8 @@
-//! How time is taken.
+//! Measuring time.
 use std::io;
 use std::time::{Clock, CpuClock, Duration, Instant};
 
-/// Which time a watch takes.
+/// The kind of time that a watch measures.
 #[derive(Clone, Copy)]
 pub(crate) enum Time {
     /// The time that passes.
@@ -20,7 +20,7 @@ pub(crate) struct Watch {
 }
 
 impl Watch {
-    /// Starts a watch. Returns `None` if the system has no time.
+    /// Starts a watch. Returns `None` if the system returns no time.
     pub(crate) fn start<R: Clock + CpuClock>(rt: &R, time: Time) -> Option<Watch> {
         let used = rt.process_cpu_time().ok()?;
         let begun = Instant::now(rt).ok()?;

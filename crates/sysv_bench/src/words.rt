@@ -26,8 +26,8 @@ pub(crate) const USAGE: &str = "sysv_bench: once | eventcount | buffer [alone] \
     | gate [one | wakes [ROUNDS]] | pool | keys | wire [answers] | session \
     | service [pairs [SIZE [COUNT]] | rounds [COUNT] | soak [SECONDS]]";
 
-/// Reads the words behind the program's name. Returns `None` if one is not known, is missing or is
-/// left over.
+/// Parses the words after the program's name. Returns `None` if a word is not known, is missing or
+/// is left over.
 pub(crate) fn read_words(words: &[&str]) -> Option<Asked> {
     let [word, rest @ ..] = words else {
         return None;
@@ -101,7 +101,7 @@ fn read_service(words: &[&str]) -> Option<Asked> {
     }
 }
 
-/// The number that is the only word, or `absent` if there is no word.
+/// Returns the number that is the only word, or `absent` if there is no word.
 fn number(words: &[&str], absent: u64) -> Option<u64> {
     match words {
         [] => Some(absent),

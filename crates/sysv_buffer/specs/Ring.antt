@@ -24,8 +24,7 @@ module _ {T : Type 0} where
     pub order : taken ≤ length put
     pub within : length put ≤ taken + n
     pub limit : length put ≤ 2 ^ 62
-    -- The producer knows all items put, and a number of items of which it has seen that they were
-    -- taken.
+    -- The producer knows all items put, and a lower bound of the number of items taken.
     pub producer : p.role ≡ Producer
     pub puts : p.put ≡ put
     pub gone : p.taken ≤ taken

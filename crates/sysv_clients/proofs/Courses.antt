@@ -40,7 +40,7 @@ same_refusal : (a b : Errno) → (let x : Outcome = Told.Refused a in let y : Ou
     → (let x : Result ⊤ ClientFault = Err (fault.Refused a) in let y : Result ⊤ ClientFault = Err (fault.Refused b) in x ≡ y)
 same_refusal a b same = let e : a ≡ b = cc in ap (λ (x : Errno). let r : Result ⊤ ClientFault = Err (fault.Refused x) in r) e
 
--- the reply of an exchange stands at the start
+-- The reply of an exchange is at the start of the input.
 stands : (e : Exchange) (behind input : List ℕ) → IsDone e.ask e.answer e.given → input ≡ reply_spelling (reply_to e.ask e.answer) e.given ++ behind
     → ReplyAt input (Ok (Some (reply_to e.ask e.answer)))
 stands e behind input done front = (e.given, behind, done.fits, front)
@@ -61,14 +61,14 @@ error_above EOVERFLOW same = absurd (omega (arith, same))
 same_ask : (command : Command) (exchanges : List Exchange) (a b : Ask) → next_ask command exchanges ≡ Some a → next_ask command exchanges ≡ Some b → a ≡ b
 same_ask command exchanges a b x y = let e : Some a ≡ Some b = sym x ∙ y in cc
 
--- a reply that is done ends no talk
+-- A reply to a request that was done is no reply with an error.
 no_refusal : (one : OneAnswerToReplies) (e : Exchange) (ask : Ask) (error : Errno) (input : List ℕ) → IsDone e.ask e.answer e.given → ReplyAt input (Ok (Some (reply_to e.ask e.answer)))
     → ReplyAt input (Ok (Some (reply_to ask (Told.Refused error)))) → ⊥
 no_refusal one e ask error input done here there =
     let same : e.answer ≡ Told.Refused error = ap (λ (r : Reply). r.result) (one_reply (reply_to e.ask e.answer) (reply_to ask (Told.Refused error)) (one input _ _ here there)) in
     error_above error (sym (ap error_number same) ∙ done.done)
 
--- a reply to the request is no other one
+-- A reply to the request is not another reply.
 not_other : (ask : Ask) (answer : Outcome) (reply : Reply) → reply_to ask answer ≡ reply → IsOther ask reply → ⊥
 not_other ask answer reply same (inl version) = version (sym (ap (λ (r : Reply). r.version) same))
 not_other ask answer reply same (inr op) = op (sym (ap (λ (r : Reply). r.op) same))
@@ -80,7 +80,7 @@ is_reply one e ask (Ok (Some reply)) input same here there other =
 is_reply one e ask (Ok None) input same here there other = apart_none (reply_to e.ask e.answer) (one input _ _ here there)
 is_reply one e ask (Err why) input same here there other = apart_fault (reply_to e.ask e.answer) why (one input _ _ here there)
 
--- where an exchange comes next, the talk does not end
+-- If an exchange is next, the talk does not end.
 goes_on : (one : OneAnswerToReplies) (command : Command) (before : List Exchange) (e : Exchange) (ended : Result ⊤ ClientFault) (input : List ℕ) → next_ask command before ≡ Some e.ask
     → IsDone e.ask e.answer e.given → ReplyAt input (Ok (Some (reply_to e.ask e.answer))) → EndsOn command before ended input → ⊥
 goes_on one command before e (Ok done) input next is_done here ends = let no : None ≡ Some e.ask = sym ends ∙ next in cc
@@ -95,7 +95,7 @@ same_exchange e m asks answers givens =
     ∙ ap (λ (x : Outcome). let one : Exchange = record { ask = m.ask; answer = x; given = e.given } in one) answers
     ∙ ap (λ (x : List ℕ). let one : Exchange = record { ask = m.ask; answer = m.answer; given = x } in one) givens
 
--- what is left of the exchanges that an input makes after those that were made
+-- The exchanges that remain of those that an input makes, after those that were made.
 pub record Agrees (command : Command) (made all before : List Exchange) (behind rest : List ℕ) : Type 0 where
   pub more : List Exchange
   pub parts : all ≡ made ++ more
@@ -129,7 +129,7 @@ agree one spelled command before (e ∷ es) (m ∷ ms) whole ended input behind 
       left = others.left;
     }
 
--- an exchange that is left would come next
+-- The first remaining exchange would be next.
 first_left : (made all before : List Exchange) (m : Exchange) (ms : List Exchange) (behind rest : List ℕ) → behind ≡ answered_spelling (m ∷ ms) ++ rest → IsDone m.ask m.answer m.given
     → ReplyAt behind (Ok (Some (reply_to m.ask m.answer)))
 first_left made all before m ms behind rest left done =
@@ -138,7 +138,7 @@ first_left made all before m ms behind rest left done =
 no_next : (command : Command) (exchanges : List Exchange) (ask : Ask) → next_ask command exchanges ≡ None → next_ask command exchanges ≡ Some ask → ⊥
 no_next command exchanges ask none some = let e : None ≡ Some ask = sym none ∙ some in cc
 
--- the talk that was made is the whole of what the input makes
+-- The talk that was made is the whole of what the input makes.
 pub record IsWhole (made all : List Exchange) (was ended : Result ⊤ ClientFault) : Type 0 where
   pub exchanges : all ≡ made
   pub ending : ended ≡ was
@@ -153,7 +153,7 @@ all_asked command made all [] (Err fault.NoReply) done behind rest none parts fo
     absurd (no_next command made ends.0 none (ap (next_ask command) (sym (parts ∙ append-nil made)) ∙ ends.2))
 all_asked command made all [] (Err fault.NoMemory) done behind rest none parts follows ends = absurd ends
 
--- a reply to the request is a reply to it
+-- A reply to the request is not a lack of a reply to it.
 is_answer : (one : OneAnswerToReplies) (ask other : Ask) (told : Outcome) (answer : Result (Option Reply) Fault) (input : List ℕ) → other ≡ ask → ReplyAt input (Ok (Some (reply_to ask told)))
     → ReplyAt input answer → IsNoReplyTo other answer → ⊥
 is_answer one ask other told (Ok (Some reply)) input same here there denies =
@@ -190,7 +190,7 @@ unanswered one command made all [] (Err (fault.Refused other)) ask heard behind 
 unanswered one command made all [] (Err fault.NoReply) ask heard behind rest next here denies parts follows left ends = record { exchanges = parts ∙ append-nil made; ending = refl }
 unanswered one command made all [] (Err fault.NoMemory) ask heard behind rest next here denies parts follows left ends = absurd ends
 
--- What is heard stands in the input, unless the reader failed.
+-- What is read is in the input, or nothing is stated because the reader failed.
 Heard : Ask → List ℕ → Type 0
 Heard ask behind = ((heard : Result (Option Reply) Fault) × ReplyAt behind heard × IsNoReplyTo ask heard) ⊎ ⊤
 
@@ -236,7 +236,8 @@ refusal_heard : (ask : Ask) (error : Errno) (behind : List ℕ) (rest : Option (
 refusal_heard ask error behind None took = absurd took
 refusal_heard ask error behind (Some left) took = ([], left, (few_ops ask, tt, omega arith), took)
 
--- what a talk that was made is of what the input makes: the whole, or a stream failed or memory was refused
+-- A talk that ended with no reply or with no memory. The talk that was made is the whole of what
+-- the input makes, or it was cut this way.
 abbrev pub IsCut : Result ⊤ ClientFault → Type 0
 IsCut was = (was ≡ Err fault.NoReply) ⊎ (was ≡ Err fault.NoMemory)
 
@@ -267,7 +268,7 @@ made_of one spelled command made all was ended input (Some behind) left taken wr
     let agrees = agree one spelled command [] made all all ended input behind makes.rest talked makes.talked reads makes.replies refl makes.ends in
     ends_as_made one command made all agrees.more was ended behind makes.rest left taken written ends agrees.parts agrees.follows agrees.left makes.ends
 
--- a line that was shown, or a prefix of it
+-- The line of a fault was shown, or a prefix of it.
 shows_fault : (why : ClientFault) (status : ℤ) (shown after : Option (List ℕ)) → Shows status (pos 1) (fault_line why) shown after → ShowsFault why status shown after
 shows_fault why status shown after (inl whole) = (whole.0, (fault_line why, ([], sym (append-nil (fault_line why))), whole.1))
 shows_fault why status shown after (inr part) = part
@@ -282,7 +283,7 @@ shown_as_made command made all was ended status shown after shows (inr (inl cut)
 shown_as_made command made all was ended status shown after shows (inr (inr cut)) =
     inr (inr (shows_fault fault.NoMemory status shown after (subst (λ (e : Result ⊤ ClientFault). Shows status (status_of e) (shown_text command.task made e) shown after) cut shows)))
 
--- a client shows what its input makes of its command
+-- A client shows what its input makes of its command.
 pub shows_course : OneAnswerToReplies → OneReply → (command : Command) (status : ℤ) (left rest taken more shown after : Option (List ℕ)) → Runs command status left rest taken more shown after
     → (input : List ℕ) (all : List Exchange) (ended : Result ⊤ ClientFault) → left ≡ Some input → Makes command input all ended → ShowsCourse command all ended status shown after
 shows_course one spelled command status left rest taken more shown after runs input all ended known makes =

@@ -1,4 +1,4 @@
--- A talk under way, and how it ends.
+-- A talk in progress, and how it ends.
 use Rattle.std.proofs.Common.{◌≡◌, ℕ, ℤ, pos, ◌+◌, ◌*◌, List, [], ◌∷◌, ◌++◌, length, Option, None, Some, Ok, Err, cond, ltb, refl, sym, ap, subst, ◌∙◌, ◌⊎◌, inl, inr, ◌≤◌, ◌<◌, true, arith, append_assoc, append-nil, length-append}
 use Rattle.std.proofs.lemmas.Bool.Decides.{nat_tests}
 use Rattle.std.proofs.lemmas.List.Concat.{flat_map-append}
@@ -27,11 +27,12 @@ use Rattle.sysv_wire.specs.Frames.{op_number}
 use Rattle.sysv_wire.specs.Replies.{IsAnswer, gives_text, reply_spelling}
 use Rattle.sysv_wire.specs.Requests.{op_of, request_spelling}
 
--- the most bytes that are collected of so many exchanges: a message comes with the third at the earliest
+-- The maximum number of bytes that are collected of this number of exchanges. A message is in the
+-- third exchange at the earliest.
 abbrev pub page_most : ℕ → ℕ
 page_most place = 55 + 62 * place + cond (ltb 2 place) 8193 0
 
--- so many exchanges were made, and this was collected of them
+-- This number of exchanges was made, and this page was collected of them.
 pub record Talking (command : Command) (left rest taken more : Option (List ℕ)) (page : List ℕ) (place slots : ℕ) (id : ℤ) : Type 0 where
   pub exchanges : List Exchange
   pub talked : Talked command exchanges
@@ -79,14 +80,14 @@ slots_more exchanges one = fold-append (λ (slots : ℕ) (e : Exchange). slots_a
 length_more : (exchanges : List Exchange) (one : Exchange) → length (exchanges ++ one ∷ []) ≡ length exchanges + 1
 length_more exchanges one = length-append exchanges (one ∷ [])
 
--- an exchange more at the end
+-- One more exchange at the end.
 follows_more : (command : Command) (before exchanges : List Exchange) (one : Exchange) → Follows command before exchanges → next_ask command (before ++ exchanges) ≡ Some one.ask
     → IsDone one.ask one.answer one.given → Follows command before (exchanges ++ one ∷ [])
 follows_more command before [] one follows next done = (ap (next_ask command) (sym (append-nil before)) ∙ next, done, tt)
 follows_more command before (first ∷ others) one follows next done =
     (follows.0, follows.1, follows_more command (before ++ first ∷ []) others one follows.2 (ap (next_ask command) (append_assoc before (first ∷ []) others) ∙ next) done)
 
--- what is asked at this place is what the command asks for next
+-- The request at this place is what the command requests next.
 is_next : (command : Command) (left rest taken more : Option (List ℕ)) (page : List ℕ) (place slots : ℕ) (id : ℤ) (found : Option Ask)
     → (so_far : Talking command left rest taken more page place slots id) → found ≡ slice_get (asks_of command slots id) place → next_ask command so_far.exchanges ≡ found
 is_next command left rest taken more page place slots id found so_far asked =
@@ -94,7 +95,7 @@ is_next command left rest taken more page place slots id found so_far asked =
     ∙ ap (λ (s : ℕ). slice_get (asks_of command s (found_in so_far.exchanges)) place) so_far.tells
     ∙ ap (λ (n : ℕ). slice_get (asks_of command (slots_in so_far.exchanges) (found_in so_far.exchanges)) n) so_far.counts)
 
--- an exchange more
+-- One more exchange.
 pub goes_on : (command : Command) (ask : Ask) (answer : Outcome) (given : List ℕ) (left mid rest taken more most : Option (List ℕ)) (page text : List ℕ) (place slots : ℕ) (id : ℤ)
     → Talking command left mid taken more page place slots id → Some ask ≡ slice_get (asks_of command slots id) place → text ≡ text_of command.task
     → Exchanges (request_spelling (request_of ask) text) ask (Ok answer) mid rest more most given
@@ -114,7 +115,7 @@ goes_on command ask answer given left mid rest taken more most page text place s
       finds = ap (λ (i : ℤ). id_after i answer) so_far.finds ∙ sym (found_more before one);
     }
 
--- all was asked
+-- All requests were made.
 pub finishes : (command : Command) (left rest taken more : Option (List ℕ)) (page : List ℕ) (place slots : ℕ) (id : ℤ) (done : ⊤)
     → Talking command left rest taken more page place slots id → None ≡ slice_get (asks_of command slots id) place → TalksThrough command (Ok done) page left rest taken more
 finishes command left rest taken more page place slots id done so_far asked = (
@@ -130,7 +131,7 @@ finishes command left rest taken more page place slots id done so_far asked = (
   so_far.collects,
 )
 
--- a fault in what was read or written last
+-- A fault in what was read or written last.
 ends_by : (command : Command) (exchanges : List Exchange) (why : ClientFault) (ask : Ask) (text given : List ℕ) (left rest taken more : Option (List ℕ))
     → next_ask command exchanges ≡ Some ask → text ≡ text_of command.task → Exchanges (request_spelling (request_of ask) text) ask (Err why) left rest taken more given
     → EndsTalk command exchanges (Err why) left rest taken more
@@ -156,7 +157,7 @@ breaks_off command why ask given left mid rest taken more most page last text pl
   tt,
 )
 
--- no memory for the line of a row
+-- Memory for the line of a row is refused.
 pub no_line : (command : Command) (ask : Ask) (answer : Outcome) (given : List ℕ) (left mid rest taken more most : Option (List ℕ)) (page last text : List ℕ) (place slots : ℕ) (id : ℤ)
     → Talking command left mid taken more page place slots id → Some ask ≡ slice_get (asks_of command slots id) place → text ≡ text_of command.task
     → Exchanges (request_spelling (request_of ask) text) ask (Ok answer) mid rest more most given → is_row answer ≡ true → TalksThrough command (Err NoMemory) last left rest taken most
@@ -176,7 +177,7 @@ no_line command ask answer given left mid rest taken more most page last text pl
       tt,
     )
 
--- no memory, and nothing was asked
+-- Memory is refused, and no request was made.
 pub refused : (command : Command) (status : ℤ) (left taken shown after : Option (List ℕ)) → Shows status (pos 1) (fault_line NoMemory) shown after
     → Runs command status left left taken taken shown after
 refused command status left taken shown after shows = record {
@@ -193,7 +194,7 @@ refused command status left taken shown after shows = record {
   shows = shows;
 }
 
--- an answer to a receive was asked for by one
+-- Only a receive has a reply with a message.
 answers_receive : (ask : Ask) (mtype : ℤ) → IsAnswer Two (op_number (op_of ask)) (Told.Rcv mtype) → is_receive ask ≡ true
 answers_receive (asks.Rcv id size wanted flags) mtype fits = refl
 answers_receive (asks.Hello cred) mtype fits = absurd (omega (arith, fits))
@@ -204,7 +205,7 @@ answers_receive (asks.Set id to) mtype fits = absurd (omega (arith, fits))
 answers_receive (asks.Rm id) mtype fits = absurd (omega (arith, fits))
 answers_receive (asks.Row slot) mtype fits = absurd (omega (arith, fits))
 
--- what an answer adds at most, by the number of exchanges before it
+-- The maximum number of bytes that a result adds, by the number of exchanges before it.
 most_at : (place : ℕ) (ask : Ask) (answer : Outcome) → IsAnswer Two (op_number (op_of ask)) answer → (is_receive ask ≡ true → place ≡ 2)
     → (answer_most answer ≤ 62) ⊎ ((answer_most answer ≡ 8193) × (place ≡ 2))
 most_at place ask (Told.Rcv mtype) fits third = inr (refl, third (answers_receive ask mtype fits))
@@ -221,7 +222,7 @@ most_at place ask Told.Rm fits third = inl (omega arith)
 page_most_more : (place : ℕ) → page_most place + 62 ≤ page_most (place + 1)
 page_most_more place = grind (arith, nat_tests)
 
--- a message comes with the third exchange
+-- A message is in the third exchange.
 third_one : (place : ℕ) (ask : Ask) (answer : Outcome) → IsAnswer Two (op_number (op_of ask)) answer → (is_receive ask ≡ true → place ≡ 2) → gives_text answer ≡ true → place ≡ 2
 third_one place ask (Told.Rcv mtype) fits third gives = third (answers_receive ask mtype fits)
 third_one place ask (Told.Row row) fits third gives = absurd cc
@@ -234,14 +235,14 @@ third_one place ask (Told.Stat stat) fits third gives = absurd cc
 third_one place ask Told.Set fits third gives = absurd cc
 third_one place ask Told.Rm fits third gives = absurd cc
 
--- there is room for a message
+-- There is space for a message.
 pub has_room : (place : ℕ) (ask : Ask) (answer : Outcome) (given : List ℕ) (held : ℕ) → IsDone ask answer given → (is_receive ask ≡ true → place ≡ 2) → held ≤ page_most place → gives_text answer ≡ true
     → held + 8192 + 1 ≤ 8372
 has_room place ask answer given held done third room gives =
     let at : held ≤ page_most 2 = subst (λ (n : ℕ). held ≤ page_most n) (third_one place ask answer done.fits.0 third gives) room in
     omega (arith, at)
 
--- and what is collected stays within its bound
+-- What is collected stays within its bound.
 pub stays_within : (place : ℕ) (ask : Ask) (answer : Outcome) (given : List ℕ) (held more : ℕ) → IsDone ask answer given → (is_receive ask ≡ true → place ≡ 2) → held ≤ page_most place
     → more ≤ held + answer_most answer → more ≤ page_most (place + 1)
 stays_within place ask answer given held more done third room grown = elim (most_at place ask answer done.fits.0 third) [
@@ -252,7 +253,7 @@ stays_within place ask answer given held more done third room grown = elim (most
       subst (λ (n : ℕ). more ≤ page_most (n + 1)) (sym big.1) fits
 ]
 
--- what stands above the lines is short
+-- The head before the lines is short.
 pub short_head : (task : Task) (page : List ℕ) → page ≡ task_head task → length page ≤ 55
 unfolding table_head
 short_head Table page same = omega (arith, ap length same)
@@ -260,7 +261,7 @@ short_head (Remove target) page same = omega (arith, ap length same)
 short_head (Send key text mtype nowait) page same = omega (arith, ap length same)
 short_head (Receive key size mtype nowait noerror) page same = omega (arith, ap length same)
 
--- a talk that a fault ends, by the counts
+-- A talk that a fault ends, by the counts of failures.
 blames : (command : Command) (why : ClientFault) (ask : Ask) (had has wrote writes : ℕ) (left mid rest taken more : Option (List ℕ)) (page : List ℕ) (place slots : ℕ) (id : ℤ)
     → Talking command left mid taken more page place slots id → Some ask ≡ slice_get (asks_of command slots id) place → ExchangedBy ask (Err why) had has wrote writes mid rest
     → Blames command (Err why) had has wrote writes left rest

@@ -1,4 +1,4 @@
--- What words of a command line say, and what they do not.
+-- The words of a command line, and what they mean.
 use Rattle.std.proofs.Common.{◌≢◌, ◌<◌, ◌≤◌, ◌^◌, ℕ, List, [], ◌∷◌, length, get_or, Result, Ok, Err, sym, ap, subst, ◌∙◌, arith}
 use Rattle.std.specs.Option.{SomeIff}
 use Rattle.std.specs.Result.{result_ok}
@@ -23,14 +23,14 @@ IsAscii-hex (d ∷ ds) h = IsAscii-cons d ds (hex_glyph d h.0) (IsAscii-hex ds h
 pub IsUtf8-hex : (ds : List ℕ) → AllDigits 16 ds → IsUtf8 ds
 IsUtf8-hex ds h = IsUtf8-from_ascii ds (IsAscii-hex ds h)
 
--- eight hexadecimal digits stand for a number of 32 bits
+-- Eight hexadecimal digits are a number of 32 bits.
 hex_small : (ds : List ℕ) → AllDigits 16 ds → length ds ≤ 8 → digits_value 16 ds < 2 ^ 32
 hex_small ds h few =
     let below : digits_value 16 ds < 16 ^ length ds = digits_value-lt 16 ds h in
     let most : 16 ^ length ds ≤ 16 ^ 8 = pow-le-pow_right (omega arith) few in
     omega (arith, below, most)
 
--- what is read of at most eight digits, before which no plus stands
+-- The result of parsing at most eight digits that do not begin with a plus.
 pub hex_read : {E : Type 0} (digits : List ℕ) (r : Result ℕ E) → get_or digits 0 0 ≢ 43 → length digits ≤ 8 → ParsesUnsigned 32 16 digits r →
     SomeIff (result_ok r) (IsNumeral 16 digits × (length digits ≤ 8)) (digits_value 16 digits)
 hex_read {E} digits (Ok x) plain few h =

@@ -1,4 +1,5 @@
--- Why a client has no reply (this profile's programs): a stream failed, as its count tells, or the bytes say so.
+-- Why a client has no reply (this project's programs): a stream failed, as its count of failures
+-- states, or the bytes that were read are no reply.
 use Rattle.std.specs.Prelude.{◌≡◌, ◌⊎◌, ⊤, ℕ, ℤ, true, List, [], Option, Some, Result, Ok, Err}
 use Rattle.std.specs.Io.KnownBytes.{Consumes, IsAtEnd}
 use Rattle.sysv_clients.specs.declared.command.Command.{Command}
@@ -15,36 +16,38 @@ use Rattle.sysv_wire.specs.Faults.{Faults, is_read}
 use Rattle.sysv_wire.specs.Replies.{FitsReply, reply_spelling}
 use Rattle.sysv_wire.specs.ReplyFaults.{ReplyFault}
 
--- What comes is no reply to a request, and the reader's count was the first number and is the second: it has failed if
--- and only if the fault is that it did.
+-- What was read is no reply to a request: the input is at its end, or there is a fault, or it is
+-- another reply. The reader's count of failures was `had` and is `has`: the reader failed if and
+-- only if the fault is that it did.
 abbrev pub Unheard : Ask → (had has : ℕ) → (left rest : Option (List ℕ)) → Type 0
 Unheard ask had has left rest =
     (Consumes left rest [] × IsAtEnd rest × (has ≡ had))
     ⊎ ((fault : Fault) × Faults ReplyFault fault left rest × (has ≡ failures_after (is_read fault) had))
     ⊎ ((reply : Reply) × (text : List ℕ) × FitsReply reply text × IsOther ask reply × Consumes left rest (reply_spelling reply text) × (has ≡ had))
 
--- what was heard, by the reader's count
+-- What was read as the reply, by the reader's count of failures.
 abbrev pub HeardBy : Ask → Result Outcome ClientFault → (had has : ℕ) → (left rest : Option (List ℕ)) → Type 0
 HeardBy ask (Ok answer) had has left rest = has ≡ had
 HeardBy ask (Err (fault.Refused error)) had has left rest = has ≡ had
 HeardBy ask (Err fault.NoReply) had has left rest = Unheard ask had has left rest
 HeardBy ask (Err fault.NoMemory) had has left rest = ⊥
 
--- There is no reply to a request: the writer failed, and nothing was read, or no reply to it came.
+-- There is no reply to a request: the writer failed and nothing was read, or what was read is no
+-- reply to it.
 abbrev pub Unanswered : Ask → (had has wrote writes : ℕ) → (left rest : Option (List ℕ)) → Type 0
 Unanswered ask had has wrote writes left rest =
     ((writes ≡ failures_after true wrote) × (has ≡ had) × (rest ≡ left))
     ⊎ ((writes ≡ wrote) × Unheard ask had has left rest)
 
--- what came of a request, by the counts of the reader and of the writer
+-- The result of a request, by the reader's and the writer's counts of failures.
 abbrev pub ExchangedBy : Ask → Result Outcome ClientFault → (had has wrote writes : ℕ) → (left rest : Option (List ℕ)) → Type 0
 ExchangedBy ask (Ok answer) had has wrote writes left rest = (has ≡ had) × (writes ≡ wrote)
 ExchangedBy ask (Err (fault.Refused error)) had has wrote writes left rest = (has ≡ had) × (writes ≡ wrote)
 ExchangedBy ask (Err fault.NoReply) had has wrote writes left rest = Unanswered ask had has wrote writes left rest
 ExchangedBy ask (Err fault.NoMemory) had has wrote writes left rest = ⊥
 
--- A talk that ended so, by the counts: no stream failed but where there is no reply, and there the request after these
--- exchanges has none.
+-- A talk that ended this way, by the counts of failures. No stream failed unless there is no reply;
+-- then the request after some exchanges has none.
 abbrev pub Blames : Command → Result ⊤ ClientFault → (had has wrote writes : ℕ) → (left rest : Option (List ℕ)) → Type 0
 Blames command (Ok done) had has wrote writes left rest = (has ≡ had) × (writes ≡ wrote)
 Blames command (Err (fault.Refused error)) had has wrote writes left rest = (has ≡ had) × (writes ≡ wrote)
@@ -53,7 +56,7 @@ Blames command (Err fault.NoReply) had has wrote writes left rest =
     (exchanges : List Exchange) × (ask : Ask) × (unread : Option (List ℕ)) × Talked command exchanges × Consumes left unread (answered_spelling exchanges)
     × (next_ask command exchanges ≡ Some ask) × Unanswered ask had has wrote writes unread rest
 
--- what a client that ended with this status did, as `Runs` says, and which stream failed
+-- What a client that ended with this status did, as in `Runs`, and which stream failed.
 pub record RunsBlaming (command : Command) (status : ℤ) (left rest taken more shown after : Option (List ℕ)) (had has wrote writes : ℕ) : Type 0 where
   pub exchanges : List Exchange
   pub ended : Result ⊤ ClientFault

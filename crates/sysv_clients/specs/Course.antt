@@ -1,5 +1,6 @@
--- What an input makes of a command, taken for itself (this profile's programs): the replies that stand in it, and how the
--- talk ends that reads them. That a stream fails may come with any input, and is not spoken of here.
+-- What an input makes of a command, considered alone (this project's programs): the replies in it,
+-- and how a talk that reads them ends. A stream may fail with any input; that is not considered
+-- here.
 use Rattle.std.specs.Prelude.{◌≡◌, ◌≢◌, ◌⊎◌, ⊤, ℕ, ℤ, pos, List, ◌++◌, Option, None, Some, Result, Ok, Err}
 use Rattle.sysv_clients.specs.declared.command.Command.{Command}
 use Rattle.sysv_clients.specs.declared.fault.ClientFault.{ClientFault}
@@ -16,13 +17,13 @@ use Rattle.sysv_wire.specs.OneAnswer.{ReplyAt}
 use Rattle.sysv_wire.specs.Requests.{op_of}
 use Rattle.sysv_model.specs.Writing.{AppendsPrefix}
 
--- what a reader answers is no reply to the request: none, none that can be read, or another one
+-- What a reader returns is no reply to the request: none, none that can be read, or another reply.
 abbrev pub IsNoReplyTo : Ask → Result (Option Reply) Fault → Type 0
 IsNoReplyTo ask (Ok None) = ⊤
 IsNoReplyTo ask (Ok (Some reply)) = IsOther ask reply
 IsNoReplyTo ask (Err why) = ⊤
 
--- how the talk ends where this comes next
+-- How the talk ends if this is read next.
 abbrev pub EndsOn : Command → List Exchange → Result ⊤ ClientFault → List ℕ → Type 0
 EndsOn command exchanges (Ok done) rest = next_ask command exchanges ≡ None
 EndsOn command exchanges (Err (fault.Refused error)) rest = (ask : Ask) × (next_ask command exchanges ≡ Some ask) × ReplyAt rest (Ok (Some (reply_to ask (Refused error))))
@@ -30,18 +31,19 @@ EndsOn command exchanges (Err fault.NoReply) rest =
     (ask : Ask) × (answer : Result (Option Reply) Fault) × (next_ask command exchanges ≡ Some ask) × IsNoReplyTo ask answer × ReplyAt rest answer
 EndsOn command exchanges (Err fault.NoMemory) rest = ⊥
 
--- The input is the replies to these exchanges, and what then ends the talk.
+-- The input is the replies to these exchanges, and then what ends the talk.
 pub record Makes (command : Command) (input : List ℕ) (exchanges : List Exchange) (ended : Result ⊤ ClientFault) : Type 0 where
   pub talked : Talked command exchanges
   pub rest : List ℕ
   pub replies : input ≡ answered_spelling exchanges ++ rest
   pub ends : EndsOn command exchanges ended rest
 
--- the line of this fault was shown, or a prefix of it
+-- The line of this fault was shown, or a prefix of it, and the status is 1.
 abbrev pub ShowsFault : ClientFault → ℤ → (shown after : Option (List ℕ)) → Type 0
 ShowsFault why status shown after = (status ≡ pos 1) × AppendsPrefix shown after (fault_line why)
 
--- What the input makes of the command is shown; or a stream failed, or memory was refused.
+-- What the input makes of the command was shown; or a stream failed or memory was refused, and the
+-- line of that fault was shown.
 abbrev pub ShowsCourse : Command → List Exchange → Result ⊤ ClientFault → ℤ → (shown after : Option (List ℕ)) → Type 0
 ShowsCourse command exchanges ended status shown after =
     Shows status (status_of ended) (shown_text command.task exchanges ended) shown after

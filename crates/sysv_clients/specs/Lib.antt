@@ -1,3 +1,4 @@
+-- The definitions of clients.
 pub mod Asks
 pub mod Talk
 pub mod Faults

@@ -1,4 +1,4 @@
--- What a client shows (this profile's programs): the table of `ipcs`, or the message of `rcv`.
+-- What a client shows (this project's programs): the table of `ipcs`, or the message of `rcv`.
 use Rattle.std.specs.Prelude.{ℕ, List, [], ◌∷◌, ◌++◌, None, Some, flat_map}
 use Rattle.sysv_clients.specs.declared.command.Task.{Task}
 use Rattle.sysv_clients.specs.declared.command.Task.TheVariants.{List as Table, Remove, Send, Receive}
@@ -8,7 +8,8 @@ use Rattle.sysv_clients.specs.Talk.{Exchange}
 use Rattle.sysv_wire.specs.declared.reply.Outcome.{Outcome}
 use Rattle.sysv_wire.specs.declared.reply.Outcome.TheVariants.{Refused, Hello, HelloSlots, Get, Snd, Rcv, Stat, Set, Rm, Row}
 
--- what an answer adds to what is shown: a row that is there its line, and a message its text and LF
+-- What a result adds to what is shown: for a row with a queue its line, and for a message its body
+-- and an LF.
 abbrev pub answer_text : Outcome → List ℕ → List ℕ
 answer_text (Row (Some row)) given = row_line row
 answer_text (Rcv mtype) given = given ++ 10 ∷ []
@@ -22,18 +23,18 @@ answer_text (Stat stat) given = []
 answer_text Set given = []
 answer_text Rm given = []
 
--- what stands above it
+-- What is shown before the results: for `ipcs` the head of the table.
 abbrev pub task_head : Task → List ℕ
 task_head Table = table_head
 task_head (Remove target) = []
 task_head (Send key text mtype nowait) = []
 task_head (Receive key size mtype nowait noerror) = []
 
--- what these exchanges give to show
+-- What is shown of these exchanges.
 abbrev pub page_text : Task → List Exchange → List ℕ
 page_text task exchanges = task_head task ++ flat_map (λ exchange. answer_text exchange.answer exchange.given) exchanges
 
--- the most bytes that an answer adds
+-- The maximum number of bytes that a result adds.
 abbrev pub answer_most : Outcome → ℕ
 answer_most (Rcv mtype) = 8193
 answer_most (Row row) = MAX_LINE

@@ -1,5 +1,5 @@
--- A client's talk with a server (this profile's): it writes a request and reads the reply, and what it asks next depends
--- on the replies before.
+-- A client's talk with a server (this project's programs): the client writes a request and reads
+-- the reply, and its next request depends on the replies before.
 use Rattle.std.specs.Prelude.{◌≡◌, ◌≢◌, ◌⊎◌, ⊤, ℕ, ℤ, pos, List, [], ◌∷◌, ◌++◌, length, Bool, true, false, Option, None, Some, Result, Ok, Err, flat_map, fold, slice_get}
 use Rattle.std.specs.Io.KnownBytes.{Appends, Consumes, IsAtEnd}
 use Rattle.sysv_clients.specs.declared.command.Command.{Command}
@@ -19,34 +19,35 @@ use Rattle.sysv_wire.specs.ReplyFaults.{ReplyFault}
 use Rattle.sysv_wire.specs.Requests.{op_of, request_spelling}
 use Rattle.sysv_model.specs.Writing.{AppendsPrefix}
 
--- a request and what its reply answers, with its text
+-- A request, and the result in its reply with the body.
 pub record Exchange : Type 0 where
   pub ask : Ask
   pub answer : Outcome
   pub given : List ℕ
 
--- the reply to a request that answers so, in the version that clients speak
+-- The reply to a request with this result, in the version that clients use.
 abbrev pub reply_to : Ask → Outcome → Reply
 reply_to ask answer = record { version = Two; op = op_number (op_of ask); result = answer }
 
--- what was asked is done: the answer is one that the operation may give, and no refusal
+-- The request was done: the result is one that the operation may have, and is no error.
 pub record IsDone (ask : Ask) (answer : Outcome) (given : List ℕ) : Type 0 where
   pub fits : FitsReply (reply_to ask answer) given
   pub text : given ≡ outcome_text answer given
   pub done : error_number answer ≡ 0
 
--- the frame of a request, in which that of a send has the command's text
+-- The frame of a request. That of a send has the command's body.
 abbrev pub ask_spelling : Command → Ask → List ℕ
 ask_spelling command ask = request_spelling (request_of ask) (text_of command.task)
 
--- the frames of the requests, in order, and of the replies
+-- The frames of the requests, in order.
 abbrev pub asked_spelling : Command → List Exchange → List ℕ
 asked_spelling command exchanges = flat_map (λ exchange. ask_spelling command exchange.ask) exchanges
 
+-- The frames of the replies, in order.
 abbrev pub answered_spelling : List Exchange → List ℕ
 answered_spelling exchanges = flat_map (λ exchange. reply_spelling (reply_to exchange.ask exchange.answer) exchange.given) exchanges
 
--- the identifier that the last msgget gave; 0 before one
+-- The identifier that the last msgget returned, 0 before one.
 abbrev pub id_after : ℤ → Outcome → ℤ
 id_after found (Get id) = id
 id_after found (Refused error) = found
@@ -59,7 +60,7 @@ id_after found Set = found
 id_after found Rm = found
 id_after found (Row row) = found
 
--- the slots that the reply to the hello told; 0 before it
+-- The number of slots that the reply to the hello states, 0 before it.
 abbrev pub slots_after : ℕ → Outcome → ℕ
 slots_after slots (HelloSlots told) = told
 slots_after slots (Refused error) = slots
@@ -72,31 +73,34 @@ slots_after slots Set = slots
 slots_after slots Rm = slots
 slots_after slots (Row row) = slots
 
+-- The number of slots that the reply to the hello states, after these exchanges.
 abbrev pub slots_in : List Exchange → ℕ
 slots_in exchanges = fold (λ slots exchange. slots_after slots exchange.answer) 0 exchanges
 
+-- The identifier that the last msgget returned, after these exchanges.
 abbrev pub found_in : List Exchange → ℤ
 found_in exchanges = fold (λ found exchange. id_after found exchange.answer) (pos 0) exchanges
 
--- what a command asks for next; nothing where all is asked
+-- What the command requests next. Nothing if all requests were made.
 abbrev pub next_ask : Command → List Exchange → Option Ask
 next_ask command exchanges = slice_get (asks_of command (slots_in exchanges) (found_in exchanges)) (length exchanges)
 
--- After some exchanges come these: each request is what the command asks for next, and is done.
+-- After some exchanges, these follow: each request is what the command requests next, and was done.
 abbrev pub Follows : Command → List Exchange → List Exchange → Type 0
 Follows command before [] = ⊤
 Follows command before (exchange ∷ more) =
     (next_ask command before ≡ Some exchange.ask) × IsDone exchange.ask exchange.answer exchange.given × Follows command (before ++ exchange ∷ []) more
 
--- a command's exchanges, as far as they go
+-- Exchanges of a command from its start on, possibly not all of them.
 abbrev pub Talked : Command → List Exchange → Type 0
 Talked command exchanges = Follows command [] exchanges
 
--- the reply is of another version, or to another operation
+-- The reply is of another version, or of another operation.
 abbrev pub IsOther : Ask → Reply → Type 0
 IsOther ask reply = (reply.version ≢ Two) ⊎ (reply.op ≢ op_number (op_of ask))
 
--- What comes is no reply to a request: the input is at its end, or it is no reply at all, or another one.
+-- What was read is no reply to a request: the input is at its end, or there is a fault, or it is
+-- another reply.
 abbrev pub HasNoReply : Ask → (left rest : Option (List ℕ)) → Type 0
 HasNoReply ask left rest =
     (Consumes left rest [] × IsAtEnd rest)
@@ -110,11 +114,11 @@ Hears ask (Err (fault.Refused error)) left rest given = Consumes left rest (repl
 Hears ask (Err fault.NoReply) left rest given = HasNoReply ask left rest
 Hears ask (Err fault.NoMemory) left rest given = ⊥
 
--- A request was not written, but for a prefix, perhaps all of it, and nothing was read.
+-- A prefix of a request was written, which may be all of it, and nothing was read.
 abbrev pub IsUnwritten : List ℕ → (left rest taken more : Option (List ℕ)) → Type 0
 IsUnwritten frame left rest taken more = AppendsPrefix taken more frame × (rest ≡ left)
 
--- A request was written, and its reply read; or there is no reply to it.
+-- A request was written and its reply read, or there is no reply to it.
 abbrev pub Exchanges : List ℕ → Ask → Result Outcome ClientFault → (left rest taken more : Option (List ℕ)) → List ℕ → Type 0
 Exchanges frame ask (Ok answer) left rest taken more given = Appends taken more frame × Hears ask (Ok answer) left rest given
 Exchanges frame ask (Err (fault.Refused error)) left rest taken more given = Appends taken more frame × Hears ask (Err (fault.Refused error)) left rest given
@@ -122,12 +126,12 @@ Exchanges frame ask (Err fault.NoReply) left rest taken more given =
     IsUnwritten frame left rest taken more ⊎ (Appends taken more frame × Hears ask (Err fault.NoReply) left rest given)
 Exchanges frame ask (Err fault.NoMemory) left rest taken more given = ⊥
 
--- The next request ends the talk by a fault.
+-- The next request ends the talk with a fault.
 abbrev pub BreaksOff : Command → List Exchange → ClientFault → (left rest taken more : Option (List ℕ)) → Type 0
 BreaksOff command exchanges why left rest taken more =
     (ask : Ask) × (next_ask command exchanges ≡ Some ask) × Exchanges (ask_spelling command ask) ask (Err why) left rest taken more []
 
--- a row that is there
+-- The result is a row with a queue.
 abbrev pub is_row : Outcome → Bool
 is_row (Row (Some row)) = true
 is_row (Row None) = false
@@ -141,20 +145,20 @@ is_row (Stat stat) = false
 is_row Set = false
 is_row Rm = false
 
--- the last reply told a row
+-- The last reply reported a row with a queue.
 abbrev pub EndsWithRow : List Exchange → Type 0
 EndsWithRow exchanges = (before : List Exchange) × (last : Exchange) × (exchanges ≡ before ++ last ∷ []) × (is_row last.answer ≡ true)
 
--- How a talk ends after these exchanges: all is asked, or the next request ends it, or memory was refused, before it began or
--- for the line of a row.
+-- How a talk ends after these exchanges: all requests were made, or the next request ends it, or
+-- memory was refused, either before the first request or for the line of a row.
 abbrev pub EndsTalk : Command → List Exchange → Result ⊤ ClientFault → (left rest taken more : Option (List ℕ)) → Type 0
 EndsTalk command exchanges (Ok done) left rest taken more = (next_ask command exchanges ≡ None) × (rest ≡ left) × (more ≡ taken)
 EndsTalk command exchanges (Err (fault.Refused error)) left rest taken more = BreaksOff command exchanges (fault.Refused error) left rest taken more
 EndsTalk command exchanges (Err fault.NoReply) left rest taken more = BreaksOff command exchanges fault.NoReply left rest taken more
 EndsTalk command exchanges (Err fault.NoMemory) left rest taken more = ((exchanges ≡ []) ⊎ EndsWithRow exchanges) × (rest ≡ left) × (more ≡ taken)
 
--- A talk that ended so: what was read is the replies to its requests, and what was written is those requests, each but
--- perhaps the last whole.
+-- A talk that ended this way. What was read is the replies to its requests, and then what ended it.
+-- What was written is those requests, each whole except perhaps the last.
 pub record Talks (command : Command) (exchanges : List Exchange) (ended : Result ⊤ ClientFault) (left rest taken more : Option (List ℕ)) : Type 0 where
   pub talked : Talked command exchanges
   pub unread : Option (List ℕ)  -- what the reader had left after these exchanges

@@ -19,18 +19,26 @@ use std::io::{Read, Write};
 use sysv_model::{Body, NoMemory, Watched};
 use sysv_wire::{Outcome, one_answer_to_replies, one_reply};
 
-/// Asks a server for what a command says, and shows what came of it; the status, 0 where all was done and
-/// shown, else 1. The text of a `snd` has at most 8,256 bytes.
+/// Runs a command against a server, and shows the result on `screen`. Returns the exit status: 0 if
+/// everything was done and shown, otherwise 1.
 ///
-/// Memory is taken first, for two texts and for a message or the head of a table; where it is refused, nothing
-/// is written to the server or read. More is taken for each row of an `ipcs`, and where that is refused, the
-/// talk ends after the row's reply. A hello and the requests of the task are written, all of version 2, each
-/// flushed before its reply is read. The first that is refused, cannot be written or has no reply ends the
-/// talk: a reply to another operation or of another version is none. An `ipcs` asks for as many rows as the
-/// hello's reply says, but at most for `MAX_ROWS`. What earlier requests did stays done.
+/// The client writes a hello and the requests of the task, all of version 2. Each request is
+/// flushed before its reply is read. The first request that the server refuses, that cannot be
+/// written or that has no reply ends the talk. A reply of another operation or of another version
+/// counts as no reply. Earlier requests stay done. An `ipcs` requests a row for each slot that the
+/// reply to the hello states, but at most `MAX_ROWS` rows.
 ///
-/// Then the screen is written, and flushed: the table of an `ipcs`, the text and an LF of a `rcv`, nothing of
-/// the others, and of a fault its line alone. Where the screen fails it has taken a prefix of that.
+/// Then the screen is written and flushed: the table of an `ipcs`, the body and an LF of a `rcv`,
+/// and nothing for the other commands. After a fault only the line of the fault is written. If the
+/// screen fails, it has taken a prefix of that.
+///
+/// Memory for two bodies, and for a message or the head of a table, is allocated first; if it is
+/// refused, nothing is written to the server or read. An `ipcs` allocates more for each row; if
+/// that is refused, the talk ends after the reply with that row.
+///
+/// # Conditions
+///
+/// - The body of a `snd` has at most 8,256 bytes.
 pub fn run_client<R: Read, W: Write, S: Write>(
     alloc: Global,
     command: &Command<'_>,
@@ -58,8 +66,13 @@ pub fn run_client<R: Read, W: Write, S: Write>(
     )
 }
 
-/// As `run_client`, and tells why there is no reply where there is none: the writer failed, or the reader did, or
-/// what was read is no reply to the last request. In no other case has one of the two failed, and at most one has.
+/// Runs a command like `run_client`, and records why there is no reply, if there is none: the
+/// writer failed, the reader failed, or what was read is no reply to the last request. In no other
+/// case did a stream fail, and at most one of the two failed.
+///
+/// # Conditions
+///
+/// - The body of a `snd` has at most 8,256 bytes.
 pub fn run_client_watched<R: Read, W: Write, S: Write>(
     alloc: Global,
     command: &Command<'_>,
@@ -79,7 +92,7 @@ pub fn run_client_watched<R: Read, W: Write, S: Write>(
         → Makes command.now input exchanges ended →
         ShowsCourse command.now exchanges ended result (S.contents screen.old)
         (S.contents screen.new) }
-    // The streams are the same ones.
+    // The streams stay the same.
     ensures same_reader { stream_name reader.new ≡ stream_name reader.old }
     ensures same_writer { stream_name writer.new ≡ stream_name writer.old }
 {
@@ -88,7 +101,8 @@ pub fn run_client_watched<R: Read, W: Write, S: Write>(
     talk_and_show(alloc, command, reader, writer, screen)
 }
 
-/// The same, by what was read and written.
+/// Runs a command like `run_client_watched`. The contract states only what was read, written and
+/// shown.
 fn talk_and_show<R: Read, W: Write, S: Write>(
     alloc: Global,
     command: &Command<'_>,
@@ -114,7 +128,7 @@ fn talk_and_show<R: Read, W: Write, S: Write>(
     }
 }
 
-/// Shows the line of a fault; 1.
+/// Shows the line of a fault. Returns 1.
 fn show_fault<S: Write>(screen: &mut S, fault: ClientFault) -> i32
     ensures { Shows result (pos 1) (fault_line fault) (S.contents screen.old)
         (S.contents screen.new) }
@@ -122,7 +136,7 @@ fn show_fault<S: Write>(screen: &mut S, fault: ClientFault) -> i32
     show(screen, fault.line().as_bytes(), 1)
 }
 
-/// The identifier that the last `msgget` gave, after one more answer.
+/// Returns the identifier that the last `msgget` returned, after one more result.
 fn found(id: i32, answer: &Outcome) -> i32
     ensures { result ≡ id_after id answer.now }
 {
@@ -132,7 +146,7 @@ fn found(id: i32, answer: &Outcome) -> i32
     }
 }
 
-/// The number of slots that the reply to the hello has, after one more answer.
+/// Returns the number of slots that the reply to the hello states, after one more result.
 fn told_slots(slots: u32, answer: &Outcome) -> u32
     ensures { result ≡ slots_after slots answer.now }
 {
@@ -142,19 +156,19 @@ fn told_slots(slots: u32, answer: &Outcome) -> u32
     }
 }
 
-/// A client under way.
+/// A client that talks with a server.
 #[derive(Drop)]
 struct Client {
-    /// The text that it sends.
+    /// The body that it sends.
     text: Body,
-    /// The text that it was given last.
+    /// The body that it received last.
     given: Body,
     /// What it will show.
     page: Page,
 }
 
 impl Client {
-    /// Nothing was asked. `NoMemory` where memory is refused.
+    /// Creates a client that has made no request. Fails with `NoMemory` if allocation fails.
     fn open(alloc: Global, task: &Task<'_>) -> Result<Client, NoMemory>
         requires { HasShortText task.now }
         ensures { IfOk result (λ client. (client.text ≡ text_of task.now)
@@ -173,7 +187,7 @@ impl Client {
         Ok(Client { text, given, page })
     }
 
-    /// Asks for all that the command asks for, and collects what is to be shown.
+    /// Makes all requests of the command, and collects what is to be shown.
     fn talk<R: Read, W: Write>(
         &mut self,
         command: &Command<'_>,

@@ -1,4 +1,4 @@
-//! What a client is asked to do.
+//! The commands of a client.
 ghost use Rattle.std.specs.Prelude.{◌≡◌, ◌<◌, false, true, IfSome, slice_get};
 ghost use Rattle.sysv_clients.specs.Asks.{asks_of, create_flags, flags_to_receive, flags_to_wait, is_receive, remove_asks, row_asks, task_asks};
 
@@ -6,68 +6,70 @@ use bitflags::Flags as _;
 use sysv_model::{Cred, Flags};
 use sysv_wire::Ask;
 
-/// The most rows that `ipcs` asks for, however many slots a server says that it has: Linux has at most as
-/// many queues in a namespace (its `IPCMNI`), so that no table of `ipcs` is longer.
+/// The maximum number of rows that `ipcs` requests, whatever number of slots a server states. Linux
+/// allows at most this number of queues in a namespace (its `IPCMNI`), so no table of `ipcs` is
+/// longer.
 pub const MAX_ROWS: u32 = 32_768;
 
-/// The most requests of a command: those of `ipcs`, a hello and one for each row.
+/// The maximum number of requests of a command: those of `ipcs`, a hello and one for each row.
 pub const MAX_REQUESTS: u32 = 32_769;
 
-/// A client's task, and who asks for it.
+/// A client's task, with the credentials for it.
 #[derive(Clone, Copy, PartialEq, Eq, Debug)]
 pub struct Command<'a> {
-    /// Who the client says it is.
+    /// The credentials that the client states in its hello.
     pub cred: Cred,
-    /// What it asks for.
+    /// The task.
     pub task: Task<'a>,
 }
 
-/// What a client asks for.
+/// The task of a client.
 #[derive(Clone, Copy, PartialEq, Eq, Debug)]
 pub enum Task<'a> {
-    /// `ipcs`: the list of queues.
+    /// `ipcs`: lists the queues.
     List,
-    /// `ipcrm`: the end of a queue.
+    /// `ipcrm`: removes a queue.
     Remove(Target),
-    /// `snd`: to send a message to a queue, which is made with mode 0600 if there is none.
+    /// `snd`: sends a message to a queue, which is created with mode 0600 if there is none.
     Send {
-        /// The queue's key, of which 0 is the private one.
+        /// The queue's key. Key 0 is `IPC_PRIVATE`.
         key: i32,
-        /// The text, at most 8,256 bytes.
+        /// The message's body, at most 8,256 bytes.
         text: &'a [u8],
         /// The message's type.
         mtype: i64,
-        /// Whether to refuse rather than to wait for room.
+        /// Whether to fail at once instead of waiting for room.
         nowait: bool,
     },
-    /// `rcv`: to receive a message from a queue.
+    /// `rcv`: receives a message from a queue.
     Receive {
         /// The queue's key.
         key: i32,
-        /// The most bytes of text that are wanted.
+        /// The maximum number of bytes of the body to receive.
         size: u32,
-        /// The type that is wanted, as `msgrcv` understands it: any for 0, and for a negative one the
-        /// least up to its magnitude.
+        /// The type to receive, as `msgrcv` defines it: 0 for any type, a positive number for
+        /// exactly that type, and a negative number for the lowest type up to its absolute value.
         mtype: i64,
-        /// Whether to refuse rather than to wait for a message.
+        /// Whether to fail at once instead of waiting for a message.
         nowait: bool,
-        /// Whether a longer text is cut.
+        /// Whether to shorten a longer body instead of failing.
         noerror: bool,
     },
 }
 
-/// Which queue is meant.
+/// The queue that an `ipcrm` removes.
 #[derive(Clone, Copy, PartialEq, Eq, Debug)]
 pub enum Target {
-    /// The one with this identifier.
+    /// The queue with this identifier.
     Id(i32),
-    /// The one with this key.
+    /// The queue with this key.
     Key(i32),
 }
 
 impl Command<'_> {
-    /// The request with this number, counted from 0; `None` after the last. `slots` is the number of
-    /// slots that the reply to the hello has, and `id` the identifier that the last `msgget` gave.
+    /// Returns the request at `place`, counted from 0, or `None` after the last. `slots` is the
+    /// number of slots that the reply to the hello states, and `id` is the identifier that the last
+    /// `msgget` returned.
     pub(crate) fn ask(&self, place: u32, slots: u32, id: i32) -> Option<Ask>
         ensures ask { result ≡ slice_get (asks_of self.now slots id) place }
         ensures few { IfSome result (λ _. place < MAX_REQUESTS) }
@@ -81,7 +83,7 @@ impl Command<'_> {
 }
 
 impl Task<'_> {
-    /// The request with this number after the hello, counted from 0; `None` after the last.
+    /// Returns the request at `place` after the hello, counted from 0, or `None` after the last.
     fn ask(&self, place: u32, slots: u32, id: i32) -> Option<Ask>
         ensures ask { result ≡ slice_get (task_asks self.now slots id) place }
         ensures few { IfSome result (λ _. place < MAX_ROWS) }
@@ -130,7 +132,8 @@ impl Task<'_> {
     }
 }
 
-/// The request for the row of a slot, if it is one of so many slots and of those that are asked for.
+/// Returns the request for the row of a slot, or `None` if the slot is not below both `slots` and
+/// `MAX_ROWS`.
 fn row(slot: u32, slots: u32) -> Option<Ask>
     ensures ask { result ≡ slice_get (row_asks slots) slot }
     ensures few { IfSome result (λ _. slot < MAX_ROWS) }
@@ -145,7 +148,7 @@ fn row(slot: u32, slots: u32) -> Option<Ask>
 }
 
 impl Target {
-    /// The request with this number of an `ipcrm`, counted from 0; `None` after the last.
+    /// Returns the request of an `ipcrm` at `place`, counted from 0, or `None` after the last.
     fn remove(self, place: u32, id: i32) -> Option<Ask>
         ensures ask { result ≡ slice_get (remove_asks self id) place }
         ensures few { IfSome result (λ _. place < 2) }
@@ -163,7 +166,7 @@ impl Target {
     }
 }
 
-/// `IPC_CREAT` with mode 0600.
+/// Returns `IPC_CREAT` with mode 0600.
 fn make_flags() -> Flags
     ensures { result ≡ create_flags }
 {
@@ -172,7 +175,7 @@ fn make_flags() -> Flags
         .union(Flags::USER_WRITE)
 }
 
-/// `IPC_NOWAIT`, if it is wanted.
+/// Returns `IPC_NOWAIT` if `nowait` is true, and otherwise no flags.
 fn wait_flags(nowait: bool) -> Flags
     ensures { result ≡ flags_to_wait nowait }
 {
@@ -183,7 +186,7 @@ fn wait_flags(nowait: bool) -> Flags
     }
 }
 
-/// `IPC_NOWAIT` and `MSG_NOERROR`, as they are wanted.
+/// Returns `IPC_NOWAIT` if `nowait` is true, together with `MSG_NOERROR` if `noerror` is true.
 fn receive_flags(nowait: bool, noerror: bool) -> Flags
     ensures { result ≡ flags_to_receive nowait noerror }
 {

@@ -13,11 +13,11 @@ use std::io::{Read, Write};
 use sysv_model::{Body, Watched};
 use sysv_wire::{Ask, Outcome, Request, Version, WriteFault, read_reply, write_request};
 
-/// The version that a client speaks.
+/// The version in which clients write their requests.
 const SPOKEN: Version = Version::Two;
 
-/// Writes a request, flushes it, and reads its reply; what the operation gives. The text of a message
-/// is then in `given`.
+/// Writes a request, flushes it and reads its reply. Returns the result of the operation; the body
+/// of a message is then in `given`.
 pub(crate) fn exchange<R: Read, W: Write>(
     reader: &mut Watched<'_, R>,
     writer: &mut Watched<'_, W>,
@@ -40,7 +40,7 @@ pub(crate) fn exchange<R: Read, W: Write>(
     }
 }
 
-/// Writes a request, and flushes it.
+/// Writes a request and flushes it.
 fn send<W: Write>(writer: &mut Watched<'_, W>, ask: Ask, text: &Body) -> Result<(), WriteFault>
     ensures ok { OnOk result (Appends (W.contents (stream_of writer.old))
         (W.contents (stream_of writer.new)) (request_spelling (request_of ask) text.now)) }

@@ -4,14 +4,15 @@ ghost use Rattle.sysv_clients.specs.Faults.{fault_line};
 
 use sysv_model::{Errno, NoMemory};
 
-/// Why a client does not come to the end of its task.
+/// Why a client does not complete its task.
 #[derive(Clone, Copy, PartialEq, Eq, Debug)]
 pub enum ClientFault {
-    /// A request was refused.
+    /// The server refused a request with this error.
     Refused(Errno),
     /// A request could not be written, or no reply to it could be read.
     NoReply,
-    /// Memory was refused. Nothing was written to the server or read.
+    /// Memory was refused: before anything was written or read, or for the line of a row that an
+    /// `ipcs` had just read.
     NoMemory,
 }
 
@@ -26,7 +27,7 @@ impl From<NoMemory> for ClientFault {
 }
 
 impl ClientFault {
-    /// The line that tells a user of it.
+    /// Returns the line that reports the fault to a user.
     pub fn line(self) -> &'static str
         ensures { result.now ≡ fault_line self }
     {
@@ -38,7 +39,7 @@ impl ClientFault {
     }
 }
 
-/// The line that tells a user of a refusal.
+/// Returns the line that reports an error of the server to a user.
 fn refusal_line(error: Errno) -> &'static str
     ensures { result.now ≡ fault_line (ClientFault.Refused error) }
 {

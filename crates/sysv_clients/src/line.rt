@@ -6,13 +6,13 @@ use itoa::{Buffer, Integer};
 use std::marker::Model;
 use sysv_model::Row;
 
-/// The bytes of the longest line of the table.
+/// The number of bytes in the longest line of the table.
 pub(crate) const MAX_LINE: usize = 62;
 
-/// As many spaces as the widest column.
+/// The number of spaces in the widest column.
 const SPACES: [u8; 10] = [b' '; 10];
 
-/// A line that is put together in memory of a fixed size.
+/// A line that is collected in memory of a fixed size.
 #[derive(Drop)]
 pub(crate) struct Line {
     bytes: [u8; MAX_LINE],
@@ -30,7 +30,7 @@ impl Model for Line {
 }
 
 impl Line {
-    /// An empty line.
+    /// Returns an empty line.
     pub(crate) fn new() -> Line
         ensures { result ≡ [] }
     {
@@ -40,7 +40,7 @@ impl Line {
         }
     }
 
-    /// All that was put.
+    /// Returns all bytes appended so far.
     pub(crate) fn bytes(&self) -> &[u8]
         ensures bytes { result.now ≡ self.now }
         ensures most { length result.now ≤ MAX_LINE }
@@ -48,7 +48,7 @@ impl Line {
         &self.bytes[..self.len]
     }
 
-    /// Puts bytes at the end.
+    /// Appends bytes.
     fn put(&mut self, piece: &[u8])
         requires { length self.old + length piece.now ≤ MAX_LINE }
         ensures after { self.new ≡ self.old ++ piece.now }
@@ -61,7 +61,7 @@ impl Line {
 }
 
 impl Line {
-    /// Puts the columns of a row and an LF on an empty line.
+    /// Writes the columns of a row and an LF on an empty line.
     #[tactic(auto, using(std::proofs::Common::append_assoc), unfolding(crate::specs::Table::row_line))]
     pub(crate) fn row(&mut self, row: &Row)
         requires { length self.old ≡ 0 }
@@ -76,7 +76,7 @@ impl Line {
         self.put(b"\n");
     }
 
-    /// Puts a key, as `0x` and eight hexadecimal digits.
+    /// Appends a key as `0x` and eight hexadecimal digits.
     #[tactic(auto, using(std::proofs::Common::append_assoc), unfolding(crate::specs::Table::key_text))]
     fn key(&mut self, key: i32)
         requires { length self.old + 10 ≤ MAX_LINE }
@@ -91,7 +91,7 @@ impl Line {
         self.byte(d);
     }
 
-    /// Puts a byte, as two hexadecimal digits.
+    /// Appends a byte as two hexadecimal digits.
     fn byte(&mut self, byte: u8)
         requires { length self.old + 2 ≤ MAX_LINE }
         ensures after { self.new ≡ self.old ++ hex_byte byte }
@@ -100,7 +100,7 @@ impl Line {
         self.put(&[hex_digit(byte / 16), hex_digit(byte % 16)]);
     }
 
-    /// Puts a number at the right of a column, with a space before that.
+    /// Appends a space, and then a number right-aligned in a column.
     fn number<I: Integer>(&mut self, width: usize, number: I)
         requires width { width ≤ 10 }
         requires most { I.MAX_STR_LEN ≤ 11 }
@@ -113,7 +113,7 @@ impl Line {
         self.column(width, text.as_bytes());
     }
 
-    /// Puts a text at the right of a column, with a space before that.
+    /// Appends a space, and then `text` right-aligned in a column.
     #[tactic(auto, using(std::proofs::Common::append_assoc), unfolding(crate::specs::Table::column))]
     fn column(&mut self, width: usize, text: &[u8])
         requires width { width ≤ 10 }
@@ -126,7 +126,7 @@ impl Line {
         self.put(text);
     }
 
-    /// Puts three octal digits at the right of their column, with a space before that.
+    /// Appends a space, and then the mode as three octal digits, right-aligned in their column.
     fn mode(&mut self, mode: u16)
         requires { length self.old + 6 ≤ MAX_LINE }
         ensures after { self.new ≡ self.old ++ column 5 (mode_text mode) }
@@ -141,7 +141,7 @@ impl Line {
     }
 }
 
-/// The hexadecimal digit of a number below 16.
+/// Returns the hexadecimal digit of a number below 16.
 fn hex_digit(number: u8) -> u8
     requires { number < 16 }
     ensures { result ≡ glyph number }

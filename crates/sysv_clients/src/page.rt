@@ -1,4 +1,5 @@
-//! What a client collects to show: there is room for a message from the start, and rows take more as they come.
+//! What a client collects to show. Space for a message is reserved from the start; rows allocate
+//! more as they arrive.
 ghost use Rattle.std.specs.Prelude.{◌≡◌, ◌+◌, ◌≤◌, [], ◌∷◌, ◌++◌, ℕ, length, true, IfOk, OnOk, OnErr};
 ghost use Rattle.sysv_clients.specs.Page.{answer_most, answer_text};
 ghost use Rattle.sysv_clients.specs.Talk.{is_row};
@@ -12,11 +13,11 @@ use std::marker::Model;
 use sysv_model::{BLOCK_BYTES, Body, NoMemory, Row};
 use sysv_wire::Outcome;
 
-/// The bytes for which a page has room from the start: a message of the greatest size with its LF, and 179
-/// bytes before it.
+/// The number of bytes that a page has space for from the start: a message of the maximum size with
+/// its LF, and 179 bytes before it.
 pub(crate) const PAGE_ROOM: usize = 8_372;
 
-/// What a client collects.
+/// What a client collects to show.
 #[derive(Drop)]
 pub(crate) struct Page {
     bytes: Vec<u8>,
@@ -34,7 +35,7 @@ impl Model for Page {
 }
 
 impl Page {
-    /// An empty page. `NoMemory` where the memory for it is refused.
+    /// Creates an empty page. Fails with `NoMemory` if allocation fails.
     pub(crate) fn open(alloc: Global) -> Result<Page, NoMemory>
         ensures { IfOk result (λ page. page ≡ []) }
     {
@@ -44,14 +45,14 @@ impl Page {
         }
     }
 
-    /// All that was collected.
+    /// Returns all bytes collected so far.
     pub(crate) fn bytes(&self) -> &[u8]
         ensures { result.now ≡ self.now }
     {
         &self.bytes
     }
 
-    /// Puts bytes at the end, for which there is room from the start.
+    /// Appends bytes that fit in the space reserved from the start.
     fn put(&mut self, piece: &[u8])
         requires { length self.old + length piece.now ≤ PAGE_ROOM }
         ensures after { self.new ≡ self.old ++ piece.now }
@@ -63,7 +64,8 @@ impl Page {
         }
     }
 
-    /// Puts bytes at the end, and takes memory for them as it needs it. `NoMemory` where that is refused.
+    /// Appends bytes, and allocates memory for them as needed. Fails with `NoMemory` if allocation
+    /// fails.
     fn append(&mut self, piece: &[u8]) -> Result<(), NoMemory>
         ensures { OnOk result (self.new ≡ self.old ++ piece.now) }
     {
@@ -73,7 +75,7 @@ impl Page {
         }
     }
 
-    /// Puts the head of the table on an empty page.
+    /// Writes the head of the table on an empty page.
     #[tactic(auto, unfolding(crate::specs::Table::table_head))]
     pub(crate) fn head(&mut self)
         requires { self.old ≡ [] }
@@ -82,8 +84,8 @@ impl Page {
         self.put(b"key             msqid      owner perms  bytes messages\n");
     }
 
-    /// Puts what an answer adds to what is shown: the line of a row, or a message and its LF. `NoMemory` where
-    /// memory for the line is refused.
+    /// Appends what a result adds to the page: the line of a row, or a message and its LF. Fails
+    /// with `NoMemory` if memory for the line is refused.
     pub(crate) fn tell(&mut self, answer: &Outcome, given: &Body) -> Result<(), NoMemory>
         requires text { length given.now ≤ MESSAGE_BYTES }
         requires room { gives_text answer.now ≡ true →
@@ -102,7 +104,7 @@ impl Page {
         }
     }
 
-    /// Puts the line of a row.
+    /// Appends the line of a row.
     fn row(&mut self, row: &Row) -> Result<(), NoMemory>
         ensures after { OnOk result (self.new ≡ self.old ++ row_line row.now) }
         ensures len { OnOk result (length self.new ≤ length self.old + 62) }
@@ -112,7 +114,7 @@ impl Page {
         self.append(line.bytes())
     }
 
-    /// Puts a message and its LF.
+    /// Appends a message and its LF.
     fn message(&mut self, text: &Body)
         requires { length self.old + length text.now + 1 ≤ PAGE_ROOM }
         ensures after { self.new ≡ self.old ++ (text.now ++ 10 ∷ []) }

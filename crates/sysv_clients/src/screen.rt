@@ -1,4 +1,4 @@
-//! What a user is shown.
+//! Output to a user.
 ghost use Rattle.std.specs.Prelude.{OnOk, OnErr};
 ghost use Rattle.std.specs.Io.KnownBytes.{Appends};
 ghost use Rattle.sysv_clients.specs.Run.{Shows};
@@ -7,7 +7,7 @@ ghost use Rattle.sysv_model.specs.Writing.{AppendsPrefix};
 use std::io::Write;
 use sysv_model::{Watched, WriteFault};
 
-/// Writes a text to the screen and flushes it. Returns the status that is due, or 1 if the screen fails.
+/// Writes `text` to the screen and flushes it. Returns the status `due`, or 1 if the screen fails.
 pub(crate) fn show<S: Write>(screen: &mut S, text: &[u8], due: i32) -> i32
     ensures { Shows result due text.now (S.contents screen.old) (S.contents screen.new) }
 {
@@ -17,7 +17,7 @@ pub(crate) fn show<S: Write>(screen: &mut S, text: &[u8], due: i32) -> i32
     }
 }
 
-/// Writes a text and flushes it.
+/// Writes `text` and flushes it.
 fn print<S: Write>(screen: &mut S, text: &[u8]) -> Result<(), WriteFault>
     ensures ok { OnOk result (Appends (S.contents screen.old) (S.contents screen.new) text.now) }
     ensures err { OnErr result (AppendsPrefix (S.contents screen.old)

@@ -1,5 +1,5 @@
-//! What the words of a command line say: keys, identifiers and types. Numbers of other options are words of
-//! `sysv_words`.
+//! Parses the words of a command line: keys, identifiers and types. The numbers of other options
+//! are parsed by `sysv_words`.
 ghost use Rattle.std.specs.Prelude.{◌≤◌, ℕ, ℤ, MatchOption, length};
 ghost use Rattle.std.specs.Option.{SomeIff};
 ghost use Rattle.std.specs.Str.Parse.{IsNumeral, digits_value};
@@ -8,8 +8,8 @@ ghost use Rattle.sysv_clients.specs.Words.{IsId, IsKey, IsType};
 use std::str;
 use sysv_words::Reads;
 
-/// The key that a word says: decimal, 0 to 2147483647, or `0x` and one to eight hexadecimal digits that
-/// give the key's 32 bits. `None` for any other word, and for key 0.
+/// Parses a key: a decimal number from 1 to 2147483647, or `0x` and one to eight hexadecimal
+/// digits, which are the key's 32 bits. Returns `None` for any other word, and for key 0.
 pub fn key_of(word: &[u8]) -> Option<i32>
     ensures { MatchOption result ((key : ℤ) → ¬ IsKey word.now key) (IsKey word.now) }
 {
@@ -23,7 +23,7 @@ pub fn key_of(word: &[u8]) -> Option<i32>
     Some(key)
 }
 
-/// The identifier that a word says, decimal, 0 to 2147483647. `None` for any other word.
+/// Parses an identifier: a decimal number from 0 to 2147483647. Returns `None` for any other word.
 pub fn id_of(word: &[u8]) -> Option<i32>
     ensures { MatchOption result ((id : ℤ) → ¬ IsId word.now id) (IsId word.now) }
 {
@@ -33,7 +33,8 @@ pub fn id_of(word: &[u8]) -> Option<i32>
     }
 }
 
-/// The message type that a word says, decimal, 1 to 9223372036854775807. `None` for any other word.
+/// Parses a message type: a decimal number from 1 to 9223372036854775807. Returns `None` for any
+/// other word.
 pub fn type_of(word: &[u8]) -> Option<i64>
     ensures { MatchOption result ((mtype : ℤ) → ¬ IsType word.now mtype) (IsType word.now) }
 {
@@ -43,7 +44,7 @@ pub fn type_of(word: &[u8]) -> Option<i64>
     }
 }
 
-/// The number that one to eight hexadecimal digits stand for. `None` for anything else.
+/// Parses one to eight hexadecimal digits. Returns `None` for anything else.
 fn hex_number(digits: &[u8]) -> Option<u32>
     ensures { SomeIff result (IsNumeral 16 digits.now
         × (length digits.now ≤ 8)) (digits_value 16 digits.now) }

@@ -28,7 +28,7 @@ module _ {O C R : Type 0} (moves : O → C → R → O → Type 0) where
   abbrev pub NoTurnOfTwoSeats : Type 0
   NoTurnOfTwoSeats = OfTwoSeats (λ v w. (place : ℕ) → times place v.own + times place w.own ≤ 1)
 
-  -- The histories that two seats have seen begin one another: one is a prefix of the other.
+  -- Of the histories that two seats have seen, one is a prefix of the other.
   abbrev pub OneHistory : Type 0
   OneHistory = OfTwoSeats (λ v w. IsPrefixOf w.seen v.seen ⊎ IsPrefixOf v.seen w.seen)
 

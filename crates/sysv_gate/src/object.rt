@@ -20,7 +20,8 @@ pub trait Object {
     /// The calls that the object accepts. By default it accepts every call.
     ghost accepts: { Self → Self.Call → Type 0 } = { λ object call. ⊤ };
 
-    /// Makes the call. Each of the two counts stays or rises by one.
+    /// Makes the call as `meaning` allows, and returns the reply. Each of the two counts stays or
+    /// rises by one.
     ///
     /// # Conditions
     ///

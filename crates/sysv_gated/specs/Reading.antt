@@ -46,8 +46,8 @@ GivesUp Settled value before after =
 GivesUp Released value before after =
     FindsAndGivesUp pool_counts Arrived value before.pool after.pool × (after.slots ≡ before.slots) × (after.registry ≡ before.registry) × SeesMore before.member after.member
 
--- A wait for the count ends with a value of at least the goal, or is given up at a worn gate, if
--- the count that was read last is below the goal.
+-- A wait for the count ends with a value of at least the goal, or is given up at a worn gate: then
+-- the value that was read last is below the goal.
 abbrev pub Awaits : Count → ℕ → Seats → Awaited → Seats → Type 0
 Awaits count goal before (Reached value) after = (goal ≤ value) × Reads count value before after
 Awaits count goal before Worn after = (value : ℕ) × (value < goal) × GivesUp count value before after

@@ -46,19 +46,18 @@ abbrev pub LegalIfOpen : Seats → List Numbered → Type 0
 LegalIfOpen seats order =
     (generation blocks first : ℕ) (gates : Gates) → AreOpen generation blocks first gates → AreOf gates seats → AreLegal generation blocks (turns_of order)
 
--- The gate returns the object that is there after these turns.
+-- The gate was closed after these turns.
 abbrev pub ClosesAfter : {O C R E : Type 0} → (O → C → R → O → Type 0) → (O → Turn O C R → E) → List E → Holding O C R → Closing O → Type 0
 ClosesAfter moves entry turns seat c = (closes : Closes moves seat c) × (entries entry seat.gate.opening closes.log ≡ turns)
 
--- Each gate returns the object that is there after the order's part at that object.
+-- Each gate was closed after the order's part at its object.
 pub record ClosesAfterEach (seats : Seats) (closed : GatesClosed) (order : List Numbered) : Type 0 where
   pub slots : (slot : ℕ) (seat : SlotSeat) (c : Closing Slot) → get_elem? seats.slots slot ≡ some seat → get_elem? closed.slots.items slot ≡ some c →
       ClosesAfter (Moves SlotMoves slot_counts) slot_entry (slot_history slot (turns_of order)) seat c
   pub registry : ClosesAfter (Moves RegistryMoves registry_counts) registry_entry (registry_history (turns_of order)) seats.registry closed.registry
   pub pool : ClosesAfter (Moves PoolMoves pool_counts) pool_entry (pool_history (turns_of order)) seats.pool closed.pool
 
--- Each gate has returned its object and the number of its turns, or only that number if a turn at it
--- did not end; those of the slots in the order of their numbers.
+-- All gates were closed. What those of the slots returned is in the order of the slots' numbers.
 pub record AllClose (seats : Seats) (closed : GatesClosed) : Type 0 where
   pub slots : Each2 (Closes (Moves SlotMoves slot_counts)) seats.slots closed.slots.items
   pub registry : Closes (Moves RegistryMoves registry_counts) seats.registry closed.registry

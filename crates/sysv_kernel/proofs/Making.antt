@@ -1,4 +1,4 @@
--- A session that a pass serves makes calls of the service.
+-- A session served with a pass makes calls of the service.
 use Rattle.std.proofs.Common.{◌∙◌, ℕ, List, [], ◌∷◌, ◌++◌, ap, sym, subst, refl, inl, inr}
 use Rattle.std.proofs.lemmas.List.{append-nil, append_assoc}
 use Rattle.sysv_model.specs.declared.cred.Cred.{Cred}
@@ -22,20 +22,20 @@ use Rattle.sysv_kernel.specs.Asked.{Asks, asks_with}
 use Rattle.sysv_kernel.specs.Made.{trail, MakesCall, ReadsBeside, ShowsBeside, makes_with, EachSessionMakesCalls}
 use Rattle.sysv_kernel.specs.Requests as requests
 
--- one call more
+-- One call more.
 one_call : (may : ℕ → Type 0) → EachRunIsAtAnyMoment may → (cred : Cred) (asked : SystemCall) (released : ℕ) (start mid : Pass) (made : List Called) (deeds : List Deed) (state : State) (new : Pass) →
     Ran may (begin cred asked released) mid deeds state new → Works start made mid → Works start (made ++ call_of mid cred asked released deeds state ∷ []) new
 one_call may any cred asked released start mid made deeds state new ran works =
     working.calls cred asked released deeds state new works (any (begin cred asked released) mid deeds state new ran).0
 
 module _ (may : ℕ → Type 0) (may_leave : Type 0) (any : EachRunIsAtAnyMoment may) (unstamped : EachRunIsAtAnyMoment no_moment) (version : Version) (cred : Cred) where
-  -- the calls that a request makes, whatever was made before
+  -- The calls that a request makes, whatever calls were made before.
   record Makes (ask : Ask) (text : List ℕ) (old : Pass) (outcome : Outcome) (given : List ℕ) (new : Pass) : Type 0 where
     calls : List Called
     works : (start : Pass) (made : List Called) → Works start made old → Works start (made ++ calls) new
     asks : (made : List Called) → requests.Asks MakesCall ReadsBeside ShowsBeside may may_leave version cred ask text (trail old made) outcome given (trail new (made ++ calls))
 
-  -- this call alone
+  -- Only this call.
   abbrev only : Pass → SystemCall → ℕ → List Deed → State → List Called
   only pass asked released deeds state = call_of pass cred asked released deeds state ∷ []
 
@@ -105,7 +105,7 @@ module _ (may : ℕ → Type 0) (may_leave : Type 0) (any : EachRunIsAtAnyMoment
   }
 
 module _ (may : ℕ → Type 0) (may_leave : Type 0) (any : EachRunIsAtAnyMoment may) (unstamped : EachRunIsAtAnyMoment no_moment) where
-  -- the calls that the requests of a session make
+  -- The calls that the requests of a session make.
   record Led (cred : Cred) (old : Pass) (calls : List Call) (new : Pass) : Type 0 where
     calls_made : List Called
     works : (start : Pass) (made : List Called) → Works start made old → Works start (made ++ calls_made) new

@@ -8,7 +8,8 @@ use Rattle.sysv_service.specs.Ran.{Pass}
 use Rattle.sysv_kernel.specs.Asked.{asks_with}
 
 module _ {K S C L : Type 0} (service : K → S) (clock : K → C) (pass : K → Pass) (caller : K → L) (may : C → ℕ → Type 0) (may_leave : L → Type 0) where
-  -- the service, the clock and the caller stay, and what is done to the pass is what the calls of the service mean
+  -- The service, the clock and the caller are unchanged, and the pass changes as the calls of the
+  -- service mean.
   abbrev pub ByPass : Meaning K
   ByPass old cred request text outcome given new =
       (service new ≡ service old) × (clock new ≡ clock old) × (caller new ≡ caller old)

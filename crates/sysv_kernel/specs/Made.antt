@@ -1,5 +1,6 @@
--- The calls of a service that a session makes: one for each request, but none for one that asks for a row. Each is answered as it
--- ended, or it was left at a wait (this profile's).
+-- The calls of a service that a session makes: one for each request, except for a request for a
+-- row. Each request is answered as its call ended, or its call was left at a wait (this project's
+-- profile).
 use Rattle.std.specs.Prelude.{◌≡◌, ℕ, List, [], ◌∷◌, ◌++◌, Option, Result}
 use Rattle.sysv_keys.specs.declared.identifier.TheConstants.{SLOTS}
 use Rattle.sysv_model.specs.declared.attributes.Row.{Row}
@@ -18,37 +19,41 @@ use Rattle.sysv_kernel.specs.Asked.{ReadsReleased, ServesPass}
 use Rattle.sysv_kernel.specs.Requests as requests
 use Rattle.sysv_kernel.specs.Requests.{Going}
 
--- a pass, and the calls that were made with it so far
+-- A pass, and the calls that were made with it so far.
 pub record Trail : Type 0 where
   pub pass : Pass
   pub made : List Called
 
+-- This pass with these calls.
 abbrev pub trail : Pass → List Called → Trail
 trail pass made = record { pass = pass; made = made }
 
--- the call was made with the pass, and is one more of its calls
+-- The call was made with the pass, and is added to the calls made with it.
 abbrev pub MakesCall : Going Trail
 MakesCall may cred asked released before state after = (deeds : List Deed) × Ran may (begin cred asked released) before.pass deeds state after.pass
     × (after.made ≡ before.made ++ call_of before.pass cred asked released deeds state ∷ [])
 
--- a count was read, or a row was asked for, and neither is a call
+-- The released count was read, which is no call.
 abbrev pub ReadsBeside : ℕ → Trail → Trail → Type 0
 ReadsBeside released before after = ReadsReleased released before.pass after.pass × (after.made ≡ before.made)
 
+-- A row was requested, which is no call.
 abbrev pub ShowsBeside : ℕ → Trail → Result (Option Row) Errno → Trail → Type 0
 ShowsBeside slot before answer after = TellsRow slot before.pass answer after.pass × (after.made ≡ before.made)
 
--- request by request, what is answered and which call was made
+-- Request by request: the outcome, and the call that was made.
 abbrev pub makes_with : (ℕ → Type 0) → Type 0 → Meaning Trail
 makes_with may may_leave old cred request text outcome given new =
     requests.Asks MakesCall ReadsBeside ShowsBeside may may_leave request.version cred request.ask text old outcome given new
 
--- what a session over a service did of its pass, and the calls that it made of the service
+-- What a session over a service did to its pass, and the calls that it made of the service.
 abbrev pub ServesTrail : (ℕ → Type 0) → Type 0 → Served → (old new : Trail) → (left rest taken more : Option (List ℕ)) → Type 0
 ServesTrail may may_leave served old new left rest taken more =
     Serves (makes_with may may_leave) SLOTS served old new left rest taken more
 
--- Each session over a service makes such calls, and no other is made with its pass: they go on what the pass did from a start
+-- Each session over a service makes such calls, and no other call is made with its pass: together
+-- with the calls that were made from a start up to the session, they are all that the pass made
+-- from that start.
 abbrev pub EachSessionMakesCalls : (ℕ → Type 0) → Type 0 → Type 0
 EachSessionMakesCalls may may_leave = (start old new : Pass) (made : List Called) (served : Served) (left rest taken more : Option (List ℕ)) →
     Works start made old → ServesPass may may_leave served old new left rest taken more →

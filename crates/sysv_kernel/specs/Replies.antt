@@ -1,4 +1,4 @@
--- What a reply tells of the answer of a call (this profile's).
+-- What the reply to a request reports of the result of its call (this project's profile).
 use Rattle.std.specs.Prelude.{ℤ, ⊤, Option, option_map, Result, Ok, Err}
 use Rattle.sysv_model.specs.declared.attributes.Row.{Row as Line}
 use Rattle.sysv_model.specs.declared.attributes.Stat.{Stat as Attributes}
@@ -14,37 +14,39 @@ use Rattle.sysv_wire.specs.declared.reply.Outcome.{Outcome as Told}
 use Rattle.sysv_wire.specs.declared.reply.Outcome.TheVariants as told
 use Rattle.sysv_wire.specs.Frames.{op_number}
 
--- the reply of an operation, in the version of its request
+-- The reply of an operation, in the version of its request.
 abbrev pub reply : Version → Op → Told → Outcome
 reply version o answer = Reply (record { version = version; op = op_number o; result = answer })
 
--- an identifier, or a refusal
+-- The reply with an identifier or an error.
 abbrev pub id_reply : Version → Result ℤ Errno → Outcome
 id_reply version (Ok id) = reply version op.Get (told.Get id)
 id_reply version (Err why) = reply version op.Get (told.Refused why)
 
--- that it was done, as the operation says it, or a refusal
+-- The reply that the operation was done, or the reply with an error.
 abbrev pub done_reply : Version → Op → Told → Result ⊤ Errno → Outcome
 done_reply version o done (Ok zero) = reply version o done
 done_reply version o done (Err why) = reply version o (told.Refused why)
 
--- a message is handed on; a refusal is a reply
+-- The outcome of a receive: its message is passed on, and an error is a reply.
 abbrev pub given_reply : Version → Result Given Errno → Outcome
 given_reply version (Ok delivery) = Got delivery
 given_reply version (Err why) = reply version op.Rcv (told.Refused why)
 
--- attributes, with the nine bits of the mode, or a refusal
+-- The attributes with only the low nine bits of the mode.
 abbrev pub shown_stat : Attributes → Attributes
 shown_stat stat = record stat { perm = record stat.perm { mode = low_nine stat.perm.mode } }
 
+-- The reply with attributes or an error.
 abbrev pub stat_reply : Version → Result Attributes Errno → Outcome
 stat_reply version (Ok stat) = reply version op.Stat (told.Stat (shown_stat stat))
 stat_reply version (Err why) = reply version op.Stat (told.Refused why)
 
--- a row, with the nine bits of the mode, or that there is none, or a refusal
+-- The row with only the low nine bits of the mode.
 abbrev pub shown_row : Line → Line
 shown_row row = record row { mode = low_nine row.mode }
 
+-- The reply with a row, with the report that the slot has no queue, or with an error.
 abbrev pub row_reply : Version → Result (Option Line) Errno → Outcome
 row_reply version (Ok row) = reply version op.Row (told.Row (option_map shown_row row))
 row_reply version (Err why) = reply version op.Row (told.Refused why)

@@ -16,9 +16,11 @@ use sysv_service::{Caller, Clock, Pass, Service, Stays};
 use sysv_session::{Kernel, Outcome, Served, Texts, serve, serve_with};
 use sysv_wire::{Ask, MAX_MODE, Op, Outcome as Told, Reply, Request, Version};
 
-/// A service as one session asks it: with a pass of its own, the moments of a clock, the handle to wait, and the caller that
-/// is asked whether it is still there while its call waits. Each request is one call of the service. It can be neither dropped
-/// nor copied: it ends by `into_pass`.
+/// The kernel of one session over a service.
+///
+/// It has a pass of its own, a clock for the times of its calls, the handle to wait, and a caller
+/// that is checked while a call waits: if the caller has left, the call is left. A kernel can be
+/// neither dropped nor copied; end it with `into_pass`.
 pub struct ServiceKernel<'a, C: Clock, R: Wait, K: Caller + Copy = Stays> {
     rt: &'a R,
     service: &'a Service,
@@ -29,7 +31,11 @@ pub struct ServiceKernel<'a, C: Clock, R: Wait, K: Caller + Copy = Stays> {
 }
 
 impl<'a, C: Clock, R: Wait> ServiceKernel<'a, C, R, Stays> {
-    /// A kernel that calls this service with this pass of it, for a caller that stays.
+    /// Creates a kernel that calls `service` with `pass`, for a caller that stays.
+    ///
+    /// # Conditions
+    ///
+    /// - `pass` is a pass of `service`.
     pub fn new(rt: &'a R, service: &'a Service, clock: &'a C, pass: Pass) -> ServiceKernel<'a, C, R>
         requires { AreOf service.now pass.seats }
         ensures service { result.service.now ≡ service.now }
@@ -41,8 +47,14 @@ impl<'a, C: Clock, R: Wait> ServiceKernel<'a, C, R, Stays> {
 }
 
 impl<'a, C: Clock, R: Wait, K: Caller + Copy> ServiceKernel<'a, C, R, K> {
-    /// A kernel that calls this service with this pass of it, for a caller that may leave. A call that the caller leaves while
-    /// it waits is answered as with `IPC_NOWAIT`, which nobody reads: it takes and sends nothing.
+    /// Creates a kernel that calls `service` with `pass`, for a caller that may leave.
+    ///
+    /// A call that the caller leaves while it waits takes no message and sends none. Its reply,
+    /// which nobody reads, is the reply of `IPC_NOWAIT`.
+    ///
+    /// # Conditions
+    ///
+    /// - `pass` is a pass of `service`.
     pub fn for_caller(
         rt: &'a R,
         service: &'a Service,
@@ -65,7 +77,7 @@ impl<'a, C: Clock, R: Wait, K: Caller + Copy> ServiceKernel<'a, C, R, K> {
         }
     }
 
-    /// Makes this the caller of the calls that follow.
+    /// Sets the caller of later calls.
     pub fn set_caller(&mut self, caller: K)
         ensures service { self.new.service ≡ self.old.service }
         ensures clock { self.new.clock ≡ self.old.clock }
@@ -75,8 +87,9 @@ impl<'a, C: Clock, R: Wait, K: Caller + Copy> ServiceKernel<'a, C, R, K> {
         self.caller = caller;
     }
 
-    /// Runs one session, as `sysv_session::serve` does, with this kernel. A hello of version 2 is told that there are
-    /// `sysv_keys::SLOTS` slots.
+    /// Runs one session with this kernel, like `sysv_session::serve`.
+    ///
+    /// The reply to a hello of version 2 states `sysv_keys::SLOTS` slots.
     pub fn serve<I: Read, O: Write>(
         &mut self,
         alloc: Global,
@@ -87,7 +100,7 @@ impl<'a, C: Clock, R: Wait, K: Caller + Copy> ServiceKernel<'a, C, R, K> {
             (K.may_leave self.old.caller) result self.old.pass self.new.pass
             (I.remaining reader.old) (I.remaining reader.new)
             (O.contents writer.old) (O.contents writer.new) }
-        // It ends as its input tells, unless it is cut short.
+        // The session ends as its input determines, unless it is cut short.
         ensures only { (input : List ℕ) (course : Course) → I.remaining reader.old ≡ Some input →
             Takes input course → Follows course result }
         ensures service { self.new.service ≡ self.old.service }
@@ -97,7 +110,8 @@ impl<'a, C: Clock, R: Wait, K: Caller + Copy> ServiceKernel<'a, C, R, K> {
         serve(alloc, reader, writer, self)
     }
 
-    /// As `serve`, with two texts that are there already. It takes no memory.
+    /// Runs one session like `serve`, but with two bodies that exist already. Allocates nothing for
+    /// the session.
     pub fn serve_with<I: Read, O: Write>(
         &mut self,
         texts: &mut Texts,
@@ -108,7 +122,7 @@ impl<'a, C: Clock, R: Wait, K: Caller + Copy> ServiceKernel<'a, C, R, K> {
             (K.may_leave self.old.caller) result self.old.pass self.new.pass
             (I.remaining reader.old) (I.remaining reader.new)
             (O.contents writer.old) (O.contents writer.new) }
-        // It ends as its input tells, unless it is cut short.
+        // The session ends as its input determines, unless it is cut short.
         ensures only { (input : List ℕ) (course : Course) → I.remaining reader.old ≡ Some input →
             Takes input course → Follows course result }
         ensures service { self.new.service ≡ self.old.service }
@@ -118,7 +132,7 @@ impl<'a, C: Clock, R: Wait, K: Caller + Copy> ServiceKernel<'a, C, R, K> {
         serve_with(texts, reader, writer, self)
     }
 
-    /// Its pass.
+    /// Ends the kernel and returns its pass.
     pub fn into_pass(self) -> Pass
         ensures pass { result ≡ self.entry.pass }
         ensures fits { AreOf self.entry.service.now result.seats }
@@ -133,6 +147,7 @@ impl<'a, C: Clock, R: Wait, K: Caller + Copy> ServiceKernel<'a, C, R, K> {
         pass
     }
 
+    /// Makes a `msgget`, and returns the reply with its result.
     fn get(&mut self, version: Version, cred: Cred, key: i32, flags: Flags) -> Outcome
         ensures gets { Gets (C.may self.old.clock.now) version cred key flags self.old.pass result
             self.new.pass }
@@ -150,6 +165,8 @@ impl<'a, C: Clock, R: Wait, K: Caller + Copy> ServiceKernel<'a, C, R, K> {
         }
     }
 
+    /// Makes a `msgsnd` of the body, and returns the reply with its result. A call that was left
+    /// has the reply `EAGAIN`.
     fn send(
         &mut self,
         version: Version,
@@ -180,6 +197,8 @@ impl<'a, C: Clock, R: Wait, K: Caller + Copy> ServiceKernel<'a, C, R, K> {
         }
     }
 
+    /// Makes a `msgrcv` into `given`, and returns its message or the reply with its error. A call
+    /// that was left has the reply `ENOMSG`.
     fn receive(
         &mut self,
         version: Version,
@@ -211,6 +230,7 @@ impl<'a, C: Clock, R: Wait, K: Caller + Copy> ServiceKernel<'a, C, R, K> {
         }
     }
 
+    /// Makes a `msgctl` with `IPC_STAT`, and returns the reply with its result.
     fn stat(&mut self, version: Version, cred: Cred, id: i32) -> Outcome
         ensures stats { Stats version cred id self.old.pass result self.new.pass }
         ensures answer { MayAnswer version (Ask.Stat id) result [] }
@@ -225,6 +245,7 @@ impl<'a, C: Clock, R: Wait, K: Caller + Copy> ServiceKernel<'a, C, R, K> {
         }
     }
 
+    /// Makes a `msgctl` with `IPC_SET`, and returns the reply with its result.
     fn set(&mut self, version: Version, cred: Cred, id: i32, to: SetTo) -> Outcome
         ensures sets { Sets (C.may self.old.clock.now) version cred id to self.old.pass result
             self.new.pass }
@@ -242,6 +263,7 @@ impl<'a, C: Clock, R: Wait, K: Caller + Copy> ServiceKernel<'a, C, R, K> {
         }
     }
 
+    /// Makes a `msgctl` with `IPC_RMID`, and returns the reply with its result.
     fn remove(&mut self, version: Version, cred: Cred, id: i32) -> Outcome
         ensures removes { Removes version cred id self.old.pass result self.new.pass }
         ensures answer { MayAnswer version (Ask.Rm id) result [] }
@@ -256,6 +278,7 @@ impl<'a, C: Clock, R: Wait, K: Caller + Copy> ServiceKernel<'a, C, R, K> {
         }
     }
 
+    /// Reads the row of a slot, and returns the reply with the result.
     fn row(&mut self, version: Version, slot: u32) -> Outcome
         ensures shows { Shows version slot self.old.pass result self.new.pass }
         ensures answer { MayAnswer version (Ask.Row slot) result [] }
@@ -309,7 +332,7 @@ impl<C: Clock, R: Wait, K: Caller + Copy> Kernel for ServiceKernel<'_, C, R, K> 
     }
 }
 
-/// The reply of an operation, in the version of its request.
+/// Returns the reply of an operation, in the version of its request.
 fn reply(version: Version, op: Op, told: Told) -> Outcome
     ensures { result ≡ the_reply version op told }
 {
@@ -320,7 +343,7 @@ fn reply(version: Version, op: Op, told: Told) -> Outcome
     })
 }
 
-/// The attributes as a reply has them: the mode has nine bits.
+/// Returns the attributes as a reply has them, with only the low nine bits of the mode.
 fn shown_stat(mut stat: Stat) -> Stat
     ensures shown { result ≡ stat_shown stat }
     ensures mode { result.perm.mode ≤ MAX_MODE }
@@ -329,7 +352,7 @@ fn shown_stat(mut stat: Stat) -> Stat
     stat
 }
 
-/// The row as a reply has it: the mode has nine bits.
+/// Returns the row as a reply has it, with only the low nine bits of the mode.
 fn shown_row(mut row: Row) -> Row
     ensures shown { result ≡ row_shown row }
     ensures mode { result.mode ≤ MAX_MODE }

@@ -1,8 +1,8 @@
 -- A worked history with a removal (this profile's). The owner creates queue 0, sends two messages
--- and receives the first; the removal discards the second. Then a queue is installed in the slot
--- under another identifier, 64, and a message is sent to it. The history shows that there are legal
--- histories with removals, and what each identifier of this one has accepted, delivered, discarded
--- and still holds.
+-- and receives the first; the removal discards the second. Then a queue is installed under the
+-- next identifier of slot 0, 256, and a message is sent to it. The history shows that there are
+-- legal histories with removals, and what each identifier of this one has accepted, delivered,
+-- discarded and still holds.
 --
 -- After the history there are legal replies to other calls at its turns, and replies that are not
 -- legal there.
@@ -70,8 +70,8 @@ the_turns =
     ∷ by_actor_1 (places (pos 0) (pos 2) [] 61) (Accepted 1)
     ∷ by_actor_1 (takes_any (pos 0)) (Taken first_message)
     ∷ by_actor_1 (removes_as owner) (Discarded (second_message ∷ []))
-    ∷ by_actor_1 (installs_queue (pos 64) 80) (Installed true)
-    ∷ by_actor_1 (places (pos 64) (pos 5) (codes "next") 90) (Accepted 3) ∷ []
+    ∷ by_actor_1 (installs_queue (pos 256) 80) (Installed true)
+    ∷ by_actor_1 (places (pos 256) (pos 5) (codes "next") 90) (Accepted 3) ∷ []
 
 -- Its first turns.
 abbrev pub after_turns : ℕ → History
@@ -86,10 +86,10 @@ pub record WorkedRemoval : Type 0 where
   pub discarded_before : discarded (pos 0) the_turns ≡ second_message ∷ []
   pub waiting_before : waiting (pos 0) the_turns ≡ []
   -- of the queue that is live now
-  pub accepted_now : accepted (pos 64) the_turns ≡ third_message ∷ []
-  pub delivered_now : delivered (pos 64) the_turns ≡ []
-  pub discarded_now : discarded (pos 64) the_turns ≡ []
-  pub waiting_now : waiting (pos 64) the_turns ≡ third_message ∷ []
+  pub accepted_now : accepted (pos 256) the_turns ≡ third_message ∷ []
+  pub delivered_now : delivered (pos 256) the_turns ≡ []
+  pub discarded_now : discarded (pos 256) the_turns ≡ []
+  pub waiting_now : waiting (pos 256) the_turns ≡ third_message ∷ []
   -- of the slot: two messages were accepted before the removal and one after it; one was taken
   pub slot_holds : held the_turns ≡ third_message ∷ []
   pub arrived_is : arrived the_turns ≡ 4
@@ -130,4 +130,4 @@ pub record NoWrongReply : Type 0 where
   -- the next queue's message under the removed identifier
   pub handed_on : ¬ IsLegalReply (after_turns 7) (takes_any (pos 0)) (Taken third_message)
   -- an acceptance number that does not count the removal
-  pub number_given_again : ¬ IsLegalReply (after_turns 6) (places (pos 64) (pos 5) (codes "next") 90) (Accepted 2)
+  pub number_given_again : ¬ IsLegalReply (after_turns 6) (places (pos 256) (pos 5) (codes "next") 90) (Accepted 2)

@@ -1,4 +1,4 @@
--- Not more is accepted than may be.
+-- No more connections are accepted than the maximum.
 use Rattle.std.proofs.Common.{◌≡◌, ◌≢◌, ℕ, ◌+◌, ◌≤◌, ◌<◌, List, [], ◌∷◌, length, Option, Some, arith, sym, ◌∙◌}
 use Rattle.std.specs.Prelude.{Result, Ok, Err, IfOk, ◌^◌, ◌-◌, min}
 use Rattle.std.specs.List.{FoldsTo}

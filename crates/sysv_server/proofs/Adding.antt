@@ -28,7 +28,7 @@ cap_moves s x r = omega arith
 
 -- ---- one list
 
--- one more at the end
+-- The sums of a list with one more element at its end.
 pushed : (f : Sums → ℕ) (xs : List Sums) (x : Sums) → capped (capped (sum_by f xs) + f x) ≡ capped (sum_by f (xs ++ x ∷ []))
 pushed f xs x = cap_one (sum_by f xs) (f x) ∙ ap capped (sym (sum_by_push f xs x))
 
@@ -36,7 +36,8 @@ pub added_last : (xs : List Sums) (x : Sums) → added (all_added xs) x ≡ all_
 added_last xs x =
     sums_are (added (all_added xs) x) (all_added (xs ++ x ∷ [])) (pushed (λ s. s.sessions) xs x) (pushed (λ s. s.taken) xs x) (pushed (λ s. s.written) xs x) (pushed (λ s. s.lost) xs x)
 
--- a sum of one list, and one before the sum of another
+-- One field of the sums: if `s` is the sum of `xs`, and `rest` has the sum of `ys`, then `s` and
+-- `rest` together have the sum of `xs` and `ys`.
 joined : (f : Sums → ℕ) (xs rest ys : List Sums) (s : Sums) → f s ≡ capped (sum_by f xs) → capped (sum_by f rest) ≡ capped (sum_by f ys) → capped (sum_by f (s ∷ rest)) ≡ capped (sum_by f (xs ++ ys))
 joined f xs rest ys s is same =
     ap capped (sum_by-cons f s rest) ∙ (ap (λ n. capped (n + sum_by f rest)) is ∙ (cap_both (sum_by f xs) (sum_by f rest) (sum_by f ys) same ∙ ap capped (sym (sum_by-append f xs ys))))
@@ -57,7 +58,7 @@ pub record IsCapped (s : Sums) : Type 0 where
   pub written : s.written ≤ 2 ^ 64 - 1
   pub lost : s.lost ≤ 2 ^ 64 - 1
 
--- these sums, and then the rest, make all
+-- These sums and the sums of the rest are the sums of all.
 pub record Adding (all : List Sums) (s : Sums) (rest : List Sums) : Type 0 where
   pub adds : added s (all_added rest) ≡ all_added all
   pub small : IsCapped s
@@ -95,7 +96,7 @@ sums_up w l t w' l' h = omega arith
 both : {a b c d : ℕ} → a ≡ b → c ≡ d → a + c ≡ b + d
 both {a} {b} {c} {d} p q = ap (λ n. n + c) p ∙ ap (λ n. b + n) q
 
--- messages that were taken were written or lost
+-- The number of messages taken by these sessions is the number written plus the number lost.
 all_taken : (told : List (Option Served)) →
     sum_by (λ (s : Sums). s.taken) (map (λ t. one_session (tally_of t)) told)
     ≡ sum_by (λ (s : Sums). s.written) (map (λ t. one_session (tally_of t)) told) + sum_by (λ (s : Sums). s.lost) (map (λ t. one_session (tally_of t)) told)

@@ -1,4 +1,4 @@
--- Workers may go to other threads.
+-- Workers may be sent to other threads.
 use denote.Hole.{as_row}
 use denote.RattleType.{RattleType}
 use denote.Ref.{NamedLft, ShrRef}

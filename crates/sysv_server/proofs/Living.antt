@@ -1,4 +1,4 @@
--- The life of a server's service is that of one with workers, and their sessions make its calls.
+-- The life of a server's service is that of a service with workers whose sessions make its calls.
 use Rattle.std.proofs.Common.{◌∙◌, List, [], ◌∷◌, ◌++◌, Option, Some, None, ap, sym, subst}
 use Rattle.std.specs.Prelude.{⊤}
 use Rattle.std.specs.List.{FoldsTo}
@@ -15,7 +15,7 @@ use Rattle.sysv_server.specs.Handled.{zero_moment, Shift, Talks, TalksIn, first_
 use Rattle.sysv_server.specs.OneRun.{EachLifeIsOneRun}
 
 module _ (law : EachSessionMakesCalls zero_moment ⊤) where
-  -- the calls that were made in more sessions
+  -- The calls that were made in further sessions.
   record InSessions (start old : Pass) (told : List (Option Served)) (new : Pass) (made : List Called) : Type 0 where
     calls : List Called
     works : Works start (made ++ calls) new
@@ -49,7 +49,7 @@ module _ (law : EachSessionMakesCalls zero_moment ⊤) where
         );
       }
 
-  -- the calls of all workers
+  -- The calls of all workers.
   record InShifts (shifts : List Shift) : Type 0 where
     each : List (List Called)
     works : Each3 Works (first_passes shifts) each (last_passes shifts)

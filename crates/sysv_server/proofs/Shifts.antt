@@ -1,4 +1,4 @@
--- The shifts of workers, by what their runs lead to.
+-- The shifts of workers, from what a run of the workers leads to.
 use Rattle.std.proofs.Common.{◌≡◌, ◌∙◌, ℕ, suc, ◌<◌, List, [], ◌∷◌, ◌++◌, map, reverse, length, Option, ap, refl, sym, subst, arith, append_assoc, length-append}
 use Rattle.std.specs.List.{All, AllByRecursion, FoldsTo, flat_map, slice_index_or}
 use Rattle.std.proofs.lemmas.List.{append-nil, length-map, get_or_append_left}
@@ -25,7 +25,7 @@ All_unmap f P [] all = λ k d low. absurd (omega arith)
 All_unmap f P (x ∷ xs) all = All-cons (λ x. P (f x)) x xs (All-head P (f x) (map f xs) all) (All_unmap f P xs (All-tail P (f x) (map f xs) all))
 
 module _ {A : Type 0} where
-  -- what holds of all holds of those before the last, and of the last
+  -- What holds of all elements holds of those before the last, and of the last.
   pub but_last : (P : A → Type 0) (xs ys : List A) (x : A) → ys ≡ xs ++ x ∷ [] → All P ys → All P xs
   but_last P xs ys x is all k d low =
       let far : k < length (xs ++ x ∷ []) = omega (arith, length-append xs (x ∷ [])) in
@@ -40,7 +40,7 @@ module _ {A : Type 0} where
       let near : length xs < length (xs ++ x ∷ []) = omega (arith, length-append xs (x ∷ [])) in
       subst P (at_end xs x x) (subst (All P) is all (length xs) x near)
 
--- one step more at the end
+-- One step more at the end.
 pub folds_last : {P A : Type 0} (R : P → A → P → Type 0) (p : P) (xs : List A) (q : P) (x : A) (r : P) → FoldsTo R p xs q → R q x r → FoldsTo R p (xs ++ x ∷ []) r
 folds_last R p [] q x r is step = (r, subst (λ s. R s x r) (sym is) step, refl)
 folds_last R p (y ∷ xs) q x r folds step = (folds.0, folds.1, folds_last R folds.0 xs q x r folds.2 step)
@@ -49,7 +49,7 @@ module _ {W T : Type 0} (pass : W → Pass) (sums : W → Sums) where
   abbrev pub Runs : W → T → W → Type 0
   Runs old item new = Handles (pass old) (sums old) (pass new) (sums new)
 
-  -- the sessions of one worker, after others that told this
+  -- The sessions of one worker, after others with these reports.
   record Tells (xs : List (Option Served)) (w w' : W) (items : List T) : Type 0 where
     told : List (Option Served)
     folds : FoldsTo Talks (pass w) told (pass w')
@@ -74,7 +74,7 @@ module _ {W T : Type 0} (pass : W → Pass) (sums : W → Sums) where
         adds = more.adds ∙ ap sums_of (append_assoc xs (run.0 ∷ []) more.told);
       }
 
-  -- the shifts of all
+  -- The shifts of all workers.
   record Shifted (gates : Gates) (parts : List (Part W T)) : Type 0 where
     shifts : List Shift
     workers : length shifts ≡ length parts
@@ -100,7 +100,7 @@ module _ {W T : Type 0} (pass : W → Pass) (sums : W → Sums) where
         left = ap (λ passes. pass p.after ∷ passes) rest.left;
       }
 
-  -- what a run of workers makes of them, whose passes were split off before and joined in after it
+  -- What a run of workers does, if their passes were split off before it and joined back after it.
   pub all_shifted : {S : Type 0} (gives : S → Option T → S → Type 0) (gates : Gates) (count : ℕ) (states after : List W) (source source' : S) (total : Sums) (old kept new : Pass) → RunsAll Runs gives states source after source'
       → All (λ w. IsNew gates (pass w) (sums w)) states → length states ≡ count → total ≡ all_added (map sums after) → FoldsTo Gives old (map pass states) kept → FoldsTo TakesIn kept (reverse (map pass after)) new
       → WorkedFrom gives gates count old source total new source'

@@ -1,3 +1,4 @@
+-- The definitions of the server.
 pub mod Added
 pub mod Handled
 pub mod Accepts

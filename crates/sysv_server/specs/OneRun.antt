@@ -1,4 +1,4 @@
--- The one run that the sessions of a server make of its service (this profile's).
+-- The one run that the sessions of a server make of its service (this project's profile).
 use Rattle.std.specs.Prelude.{◌≡◌, ℕ, Bool, List, ◌++◌, Result}
 use Rattle.std.specs.List.{AllByRecursion, sum_by}
 use Rattle.sysv_bank.specs.Banks.{Each2}
@@ -17,8 +17,9 @@ use Rattle.sysv_service.specs.Ran.{Pass}
 use Rattle.sysv_service.specs.Stopped.{Stops, TellsStop}
 use Rattle.sysv_server.specs.Handled.{Shift, first_passes, last_passes, AreMadeBy}
 
--- The calls of the sessions, each answered as it ended, and the removals of the stop, which removed so many queues, are all that
--- made the order of turns. The order is a run of a world with them, which obeys the headline of threads
+-- The calls of the sessions, each answered as it ended or was left, and the removals of the stop,
+-- which removed this number of queues, are all the calls that made the order of turns. The order is
+-- a run of a world with these calls, and the run obeys the headline of threads.
 pub record IsOneRun (blocks : ℕ) (shifts : List Shift) (removed : ℕ) (order : List Numbered) : Type 0 where
   pub each : List (List Called)
   pub made : Each2 AreMadeBy shifts each
@@ -27,7 +28,8 @@ pub record IsOneRun (blocks : ℕ) (shifts : List Shift) (removed : ℕ) (order 
   pub counted : sum_by (λ (call : Called). removed_at call.state) removals ≡ removed
   pub served : IsServed 0 blocks order (all_of each ++ removals)
 
--- a stop of these gates told this: at each slot the queue that was left was removed
+-- A stop of these gates reported this. At each slot it read the row and tried to remove the queue
+-- that it found.
 pub record Stopped (gates : Gates) (told : Result ℕ Errno) : Type 0 where
   pub before : Pass
   pub after : Pass
@@ -37,8 +39,9 @@ pub record Stopped (gates : Gates) (told : Result ℕ Errno) : Type 0 where
   pub stops : Stops before slot_count removed worn after
   pub tells : TellsStop removed worn told
 
--- What a server did of these gates, from their opening to their close: its first pass gave each worker a pass and took all
--- back, made the stop, and closed the gates. All of it is one run if that pass is unmarked then: no gate was found worn out
+-- What a server did with these gates from their opening to their close. Its first pass gave each
+-- worker a pass and took all passes back, made the stop, and closed the gates. All of it is one run
+-- if that pass is unmarked at the close, that is, if no gate was found worn out.
 pub record Lived (blocks : ℕ) (gates : Gates) (shifts : List Shift) (removed : Result ℕ Errno) : Type 0 where
   pub stopped : Stopped gates removed
   pub hires : Hires (first_pass gates) (first_passes shifts) (last_passes shifts) stopped.before
@@ -48,6 +51,9 @@ pub record Lived (blocks : ℕ) (gates : Gates) (shifts : List Shift) (removed :
 
 -- ---- the law
 
+-- The gates were opened for a service with this number of blocks. The first pass gave the workers
+-- their passes, took them back and made a stop, and the gates were closed with it. If that pass is
+-- unmarked, then all of it is one run.
 abbrev pub EachLifeIsOneRun : Type 0
 EachLifeIsOneRun = (blocks : ℕ) (gates : Gates) (shifts : List Shift) (removed : Result ℕ Errno) (stopped : Stopped gates removed) (closed : Closed) →
     (counted : IsCounted stopped.after.seats stopped.after.held closed) → AreOpen 0 blocks 0 gates → AreOf gates stopped.after.seats →

@@ -1,5 +1,5 @@
--- What a server does (this profile's): its workers share one service, each with a pass of its own, and there is a session for
--- each connection.
+-- What a server does (this project's profile). Its workers share one service, each worker has a
+-- pass of its own, and there is one session for each connection.
 use Rattle.std.specs.Prelude.{◌≡◌, ◌≢◌, ◌≤◌, ℕ, List, Option, Result, length, ⊤}
 use Rattle.std.specs.List.{AllByRecursion}
 use Rattle.sysv_gated.specs.Opened.{AreOpen}
@@ -18,18 +18,19 @@ use Rattle.sysv_server.specs.Added.{nothing}
 use Rattle.sysv_server.specs.Handled.{Shift, first_passes, last_passes, sums_of, told_in}
 use Rattle.sysv_server.specs.OneRun.{Stopped, Lived}
 
--- a pass of these gates, which holds no chain, and of whose sessions none was yet
+-- A pass of these gates that holds no chain, with the sums of no sessions.
 abbrev pub IsNew : Gates → Pass → Sums → Type 0
 IsNew gates pass sums = AreOf gates pass.seats × (pass.held ≡ 0) × (sums ≡ nothing)
 
--- workers did this at the gates, and this is what their sessions add up to
+-- This number of workers worked these shifts at the gates. Each began with a pass of the gates that
+-- holds no chain, and these are the sums of all their sessions.
 pub record Worked (gates : Gates) (count : ℕ) (shifts : List Shift) (all : Sums) : Type 0 where
   pub workers : length shifts ≡ count
   pub passes : AllByRecursion (λ (shift : Shift). AreOf gates shift.before.seats × (shift.before.held ≡ 0)) shifts
   pub sums : all ≡ sums_of (told_in shifts)
 
 module _ {S T : Type 0} where
-  -- and there was a session for each connection that the source gave
+  -- The workers did this, and there was one session for each connection that the source returned.
   pub record WorkedAll (gives : S → Option T → S → Type 0) (gates : Gates) (workers : ℕ) (source : S) (sums : Sums) (source' : S) : Type 0 where
     pub shifts : List Shift
     pub worked : Worked gates workers shifts sums
@@ -37,13 +38,14 @@ module _ {S T : Type 0} where
     pub gave : GivesAll gives source given source'
     pub each : length (told_in shifts) ≡ length given
 
-  -- the same, and between these passes: the workers began with passes that were split off from the one, and those that they left
-  -- were joined into it
+  -- The workers did this between these passes: they began with passes that were split off from the
+  -- pass `old`, and the passes that they left were joined back into it.
   pub record WorkedFrom (gives : S → Option T → S → Type 0) (gates : Gates) (workers : ℕ) (old : Pass) (source : S) (sums : Sums) (new : Pass) (source' : S) : Type 0 where
     pub all : WorkedAll gives gates workers source sums source'
     pub hires : Hires old (first_passes all.shifts) (last_passes all.shifts) new
 
-  -- all that at gates that were opened for it, with so many blocks, and were stopped and closed after it
+  -- The workers did this at gates that were opened for it with this number of blocks, and that were
+  -- stopped and closed after it.
   pub record ServesAll (gives : S → Option T → S → Type 0) (blocks workers : ℕ) (source : S) (sums : Sums) (source' : S) : Type 0 where
     pub gates : Gates
     pub opened : AreOpen 0 blocks 0 gates
@@ -51,7 +53,7 @@ module _ {S T : Type 0} where
     pub removed : Result ℕ Errno
     pub lived : Lived blocks gates all.shifts removed
 
--- a server on a listener: not more sessions than there may be, where that is not 0
+-- A server on a listener. It ran no more sessions than the maximum, if the maximum is not 0.
 pub record ServesOn (blocks workers most : ℕ) (sums : Sums) : Type 0 where
   pub gates : Gates
   pub opened : AreOpen 0 blocks 0 gates
@@ -61,26 +63,27 @@ pub record ServesOn (blocks workers most : ℕ) (sums : Sums) : Type 0 where
   pub removed : Result ℕ Errno
   pub lived : Lived blocks gates shifts removed
 
--- the connections of a source were served, and then the queues that were left were removed
+-- A server served the connections of a source, and then removed the queues that were left.
 pub record EndsAll {S T : Type 0} (gives : S → Option T → S → Type 0) (blocks workers : ℕ) (source : S) (ended : Ended) (source' : S) : Type 0 where
   pub served : ServesAll gives blocks workers source ended.sums source'
   pub stopped : Stopped served.gates ended.removed
   pub told : ended.removed ≡ served.removed
 
--- those of a listener
+-- A server served the connections of a listener, and then removed the queues that were left.
 pub record EndsOn (blocks workers most : ℕ) (ended : Ended) : Type 0 where
   pub served : ServesOn blocks workers most ended.sums
   pub stopped : Stopped served.gates ended.removed
   pub told : ended.removed ≡ served.removed
 
--- where no session could be run, nothing was accepted
+-- After a fault that keeps the server from running any session, the source of connections is
+-- unchanged. After the other faults nothing is stated.
 abbrev pub LeavesConnections : {S : Type 0} → S → ServeFault → S → Type 0
 LeavesConnections source NoMemory source' = source' ≡ source
 LeavesConnections source Thread source' = source' ≡ source
 LeavesConnections source Worn source' = ⊤
 LeavesConnections source Missed source' = ⊤
 
--- a refusal of the workers is told by its name
+-- The server's fault has the name of the workers' refusal. A bad count does not occur.
 abbrev pub FaultOf : WorkersFault → ServeFault → Type 0
 FaultOf workers.BadCount why = ⊥
 FaultOf workers.NoMemory why = why ≡ NoMemory

@@ -1,4 +1,4 @@
-//! Connections as they are accepted.
+//! A source of accepted connections.
 ghost use Rattle.std.specs.Prelude.{◌≡◌, ◌≢◌, ◌<◌, ◌≤◌, ◌-◌, ◌^◌, IfSome};
 
 use crate::patient::seconds_long;
@@ -10,22 +10,23 @@ use std::os::fd::AsRawFd;
 use std::os::unix::net::{UnixListener, UnixStream};
 use sysv_workers::Source;
 
-/// The bytes of an input that are read at a time, and dropped.
+/// The maximum number of bytes of the input that are read at once and dropped.
 const INPUT_BYTES: usize = 512;
 
-/// The socket on which connections come.
+/// The socket that connections are accepted from.
 #[derive(Drop)]
 pub(crate) enum Listening<'a> {
-    /// The caller's, which stays open.
+    /// The caller's listener, which stays open.
     Lent(&'a UnixListener),
-    /// The server's own, which is closed once no more is accepted: then clients are refused.
+    /// The server's own listener, which is closed when no more connections are to be accepted.
+    /// After that, clients are refused.
     Own(UnixListener),
-    /// None any more.
+    /// No listener any more.
     Closed,
 }
 
 impl Listening<'_> {
-    /// The listener, unless there is none any more.
+    /// Returns the listener, if there is still one.
     fn listener(&self) -> Option<&UnixListener> {
         match self {
             Listening::Lent(listener) => Some(listener),
@@ -35,25 +36,25 @@ impl Listening<'_> {
     }
 }
 
-/// Accepts connections, up to a number of them or, if that is 0, without end. An accept that fails
-/// ends it, and the end of its input, if it has one.
+/// A source that accepts connections, up to a maximum number if that is not 0. It ends when an
+/// accept fails, or when its input, if it has one, ends.
 #[derive(Drop)]
 pub(crate) struct Accepting<'a, I: Drop> {
     listening: Listening<'a>,
-    /// At whose end no more is accepted.
+    /// The input whose end ends the source.
     input: Option<I>,
-    /// For how many seconds a write to a connection may wait, 0 for any time.
+    /// The number of seconds that a write to a connection may wait, 0 for no limit.
     stall: u32,
-    /// The most that are accepted, 0 for any number.
+    /// The maximum number of connections to accept, 0 for no limit.
     most: u64,
-    /// How many were accepted. It stays at the greatest value.
+    /// The number of connections that were accepted. It stays at 2^64 - 1 once it has reached it.
     accepted: u64,
-    /// Why the accept that ended it failed.
+    /// Why an accept failed, if one did.
     fault: Option<io::Error>,
 }
 
 impl<'a, I: Read + AsRawFd + Drop> Accepting<'a, I> {
-    /// Nothing was accepted yet.
+    /// Creates a source that has accepted no connection.
     pub(crate) fn new(
         listening: Listening<'a>,
         input: Option<I>,
@@ -73,12 +74,12 @@ impl<'a, I: Read + AsRawFd + Drop> Accepting<'a, I> {
         }
     }
 
-    /// Why an accept failed, if one did.
+    /// Returns why an accept failed, if one did.
     pub(crate) fn into_fault(self) -> Option<io::Error> {
         self.fault
     }
 
-    /// The next connection, or `None` where there is to be no other.
+    /// Accepts the next connection. Returns `None` if no more connections are to be accepted.
     fn accept(&mut self) -> Option<io::Result<UnixStream>>
         ensures same { (self.new.most ≡ self.old.most) × (self.new.accepted ≡ self.old.accepted) }
         ensures bounded { IfSome result (λ _. self.old.most ≢ 0 →
@@ -116,7 +117,8 @@ impl<I: Read + AsRawFd + Drop> Source<UnixStream> for Accepting<'_, I> {
     }
 }
 
-/// A connection from the listener, on which a write may wait for so many seconds.
+/// Accepts a connection from the listener. Writes to it may wait for `stall` seconds, or without
+/// limit if `stall` is 0.
 fn accept_from(listener: &UnixListener, stall: u32) -> io::Result<UnixStream> {
     let (stream, _address) = listener.accept()?;
     if stall != 0 {
@@ -125,8 +127,9 @@ fn accept_from(listener: &UnixListener, stall: u32) -> io::Result<UnixStream> {
     Ok(stream)
 }
 
-/// Waits until a connection has come, or the input has ended, or can't be read; and whether it has. What
-/// the input gives before is dropped.
+/// Waits until a connection has arrived, or the input has ended or cannot be read. Returns true if
+/// the input has ended or cannot be read. The bytes that the input returns before its end are
+/// dropped.
 fn has_ended_first<I: Read + AsRawFd>(input: &mut I, listener: &UnixListener) -> bool {
     for _ in 0..u64::MAX {
         let mut asked = [input.as_raw_fd(), listener.as_raw_fd()].map(readable);
@@ -143,7 +146,7 @@ fn has_ended_first<I: Read + AsRawFd>(input: &mut I, listener: &UnixListener) ->
     true
 }
 
-/// A descriptor that is asked whether it can be read.
+/// Returns a poll request for whether `fd` can be read.
 fn readable(fd: i32) -> pollfd {
     pollfd {
         fd,
@@ -152,7 +155,7 @@ fn readable(fd: i32) -> pollfd {
     }
 }
 
-/// Reads a piece of the input: whether it was at its end, or could not be read.
+/// Reads a piece of the input. Returns whether the input is at its end or cannot be read.
 fn is_over(input: &mut impl Read) -> bool {
     let mut piece = [0; INPUT_BYTES];
     match input.read(&mut piece) {

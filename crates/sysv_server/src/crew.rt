@@ -1,4 +1,4 @@
-//! The workers of a server: a pass is split for each, and taken back at the end.
+//! The workers of a server: a pass is split off for each, and joined back at the end.
 ghost use Rattle.std.specs.Prelude.{◌≡◌, ◌≤◌, map, reverse, vec_len, vec_capacity, OnOk, []};
 ghost use Rattle.std.specs.List.{All, FoldsTo};
 ghost use Rattle.sysv_gated.specs.Seats.{AreOf};
@@ -12,7 +12,7 @@ use std::alloc::Global;
 use std::sync::Wait;
 use sysv_service::{NoMemory, Pass, Service};
 
-/// Adds so many workers, each with a pass that is split off from this one.
+/// Adds `count` workers, each with a pass that is split off from `pass`.
 pub(crate) fn hire<'a, R: Wait>(
     rt: &'a R,
     alloc: Global,
@@ -38,7 +38,7 @@ pub(crate) fn hire<'a, R: Wait>(
     Ok(())
 }
 
-/// Takes back the passes of all workers, and adds up their sums.
+/// Joins the passes of all workers into `pass`, and returns the sum of their sums.
 pub(crate) fn dismiss<R: Wait>(
     service: &Service,
     pass: &mut Pass,

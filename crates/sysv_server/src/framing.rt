@@ -1,21 +1,22 @@
-//! Where a reader stands in the frames that it reads.
+//! The position of a reader in the frames that it reads.
 
-/// The bytes of a frame's length.
+/// The number of bytes in a frame's length field.
 const LENGTH_BYTES: u32 = 4;
 
-/// What is to come of the frame that is being read.
+/// What is still to be read of the current frame.
 #[derive(Clone, Copy)]
 pub(crate) struct Framing {
-    /// The bytes of its length that are to come; between two frames, all.
+    /// The number of bytes of the length field still to be read. Between two frames it is all of
+    /// them.
     head: u32,
-    /// Its length, as far as it came.
+    /// The frame's length, as far as it was read.
     length: u32,
-    /// The bytes after its length that are to come.
+    /// The number of bytes after the length field still to be read.
     left: u32,
 }
 
 impl Framing {
-    /// Before the first frame.
+    /// Returns the position before the first frame.
     pub(crate) fn new() -> Framing {
         Framing {
             head: LENGTH_BYTES,
@@ -24,12 +25,12 @@ impl Framing {
         }
     }
 
-    /// Whether the last frame is over, and the next has not begun.
+    /// Returns whether the reader is between two frames, or before the first.
     pub(crate) fn is_between(&self) -> bool {
         self.head == LENGTH_BYTES && self.left == 0
     }
 
-    /// These bytes came.
+    /// Moves past these bytes.
     pub(crate) fn take(&mut self, bytes: &[u8]) {
         let mut rest = bytes;
         while let Some((first, more)) = rest.split_first() {
@@ -44,7 +45,7 @@ impl Framing {
         }
     }
 
-    /// This byte of a length came.
+    /// Moves past this byte of a length field.
     fn take_head(&mut self, byte: u8) {
         let [_, high, middle, low] = self.length.to_be_bytes();
         self.length = u32::from_be_bytes([high, middle, low, byte]);

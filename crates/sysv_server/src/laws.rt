@@ -1,4 +1,4 @@
-//! A law over the definitions alone.
+//! A law about the definitions.
 ghost use Rattle.sysv_server.specs.OneRun.{EachLifeIsOneRun};
 
 use crate::peer::Peer;
@@ -6,8 +6,11 @@ use crate::session::ZERO;
 use sysv_kernel::each_session_makes_calls;
 use sysv_service::every_hiring_obeys;
 
-/// If no gate was found worn out, the calls of all sessions of a server, each answered as it ended, and the removals of its stop
-/// are all that made the order of turns of its service, and that order is a run of a world which obeys the headline of threads.
+/// States that the sessions of a server are one run of its service if no gate was found worn out.
+///
+/// The calls of all sessions, each answered as it ended or was left, and the removals of the stop
+/// are all the calls that made the order of turns of the service. That order is a run of a world
+/// with those calls, and the run obeys the headline of threads.
 pub fn each_life_is_one_run()
     ensures { EachLifeIsOneRun }
 {

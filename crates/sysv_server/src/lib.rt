@@ -1,4 +1,5 @@
-//! A server of message queues on a Unix socket: each connection is a session on one service, which worker threads share.
+//! A server of message queues on a Unix socket. Each connection is a session. All sessions share
+//! one service, and worker threads run them.
 #![tactic(auto)]
 
 mod accepting;

@@ -1,4 +1,4 @@
-//! Connections whose clients may be silent for a time.
+//! Connections whose clients may be silent for a limited time.
 
 use crate::framing::Framing;
 use crate::terms::Patience;
@@ -7,18 +7,18 @@ use std::io::Read;
 use std::os::unix::net::UnixStream;
 use std::time::Duration;
 
-/// Reads a connection. A read fails once the client was silent for longer than it may be.
+/// A reader of a connection. A read fails if the client is silent for longer than it may be.
 #[derive(Drop)]
 pub(crate) struct Patient<'a> {
     stream: &'a UnixStream,
     patience: Patience,
     framing: Framing,
-    /// The seconds after which the connection's reads fail, 0 for never.
+    /// The number of seconds after which the connection's reads fail, 0 for never.
     seconds: u32,
 }
 
 impl<'a> Patient<'a> {
-    /// Nothing was read, and reads do not fail for the time that they take.
+    /// Creates a reader that has read nothing and sets no time limit on reads yet.
     pub(crate) fn new(stream: &'a UnixStream, patience: Patience) -> Patient<'a> {
         Patient {
             stream,
@@ -28,7 +28,7 @@ impl<'a> Patient<'a> {
         }
     }
 
-    /// Sets after how many seconds the next read fails, where that changes.
+    /// Sets the number of seconds after which the next read fails, if it changes.
     fn bound(&mut self) -> io::Result<()> {
         let seconds = if self.framing.is_between() {
             self.patience.idle
@@ -55,7 +55,7 @@ impl Read for Patient<'_> {
     }
 }
 
-/// So many seconds, or no limit for 0.
+/// Returns this number of seconds as a duration, or `None` (no limit) for 0.
 pub(crate) fn seconds_long(seconds: u32) -> Option<Duration> {
     if seconds == 0 {
         return None;

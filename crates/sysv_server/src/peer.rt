@@ -1,4 +1,4 @@
-//! The other end of a connection.
+//! The client at the other end of a connection.
 
 use libc::net::{POLLERR, POLLHUP, poll};
 use libc::types::pollfd;
@@ -6,23 +6,24 @@ use std::os::fd::AsRawFd;
 use std::os::unix::net::UnixStream;
 use sysv_service::Caller;
 
-/// No descriptor: `poll` passes over a negative one.
+/// A descriptor that refers to no file. `poll` ignores negative descriptors.
 const NO_DESCRIPTOR: i32 = -1;
 
-/// The client at the other end of a connection, as the caller of the calls of its session. It has the number of the
-/// connection's descriptor, and is asked only while that is open.
+/// The client at the other end of a connection, as the caller of the calls of its session.
+///
+/// It has the number of the connection's descriptor, and is used only while the connection is open.
 #[derive(Clone, Copy)]
 pub(crate) struct Peer {
     fd: i32,
 }
 
 impl Peer {
-    /// The peer of no connection. It has not left.
+    /// Returns the peer of no connection. It never leaves.
     pub(crate) fn none() -> Peer {
         Peer { fd: NO_DESCRIPTOR }
     }
 
-    /// The peer of this connection.
+    /// Returns the peer of this connection.
     pub(crate) fn of(stream: &UnixStream) -> Peer {
         Peer {
             fd: stream.as_raw_fd(),
@@ -35,8 +36,10 @@ impl Caller for Peer {
 
     ghost may_leave = { λ _. ⊤ };
 
-    /// Whether the client has closed the connection. One that has shut down only its writing may still read a reply, and is
-    /// there: then `poll` reports neither of the two.
+    /// Returns whether the client has closed the connection.
+    ///
+    /// A client that has shut down only its writing may still read a reply, so it has not left:
+    /// `poll` then reports neither `POLLHUP` nor `POLLERR`.
     fn has_left(&self) -> bool {
         let mut asked = [pollfd {
             fd: self.fd,

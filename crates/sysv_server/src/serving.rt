@@ -23,22 +23,32 @@ use std::thread::Threads;
 use sysv_service::{Pass, Service};
 use sysv_workers::{Source, WorkersFault, WorkersRefused, run_crowd};
 
-/// Serves the connections of the listener on a new service, each as one session, and returns what
-/// the sessions add up to.
+/// Serves the connections of `listener` on a new service, each as one session, and returns the sums
+/// of the sessions.
 ///
-/// `blocks` is the size of the pool, 128 to 65,536; `workers` is the number of threads, 1 to 16; and
-/// `sessions` is the number of connections to accept, 0 for no limit. The server ends once that many
-/// sessions are over or, if an accept fails, once the accepted ones are over; then it removes the
-/// queues that are left. Every timestamp of its queues is 0.
+/// `blocks` is the number of blocks in the pool, `workers` is the number of threads, and `sessions`
+/// is the number of connections to accept, 0 for no limit. The server ends when that number of
+/// sessions is over or, if an accept fails, when the sessions accepted before it are over. It then
+/// removes the queues that are left. Every timestamp of its queues is 0.
 ///
-/// The clients' hellos are believed. A call that waits holds its worker. A session whose memory is
-/// refused is counted, and gets no reply.
+/// The server takes the credentials in a client's hello as they are and does not authenticate them.
+/// A call that waits holds its worker. A session whose memory is refused is counted and sends no
+/// reply.
 ///
 /// # Errors
-/// `NoMemory` if memory for the service, the passes or the workers is refused, and `Thread` if a
-/// thread cannot be started: then nothing was accepted. `Worn` if 2^62 connections had gone to the
-/// workers, and `Missed` if the number of sessions that were run is not that of the accepted
-/// connections.
+///
+/// After `NoMemory` and `Thread` no connection was accepted.
+///
+/// - `NoMemory` if memory for the service, the passes or the workers is refused.
+/// - `Thread` if a thread cannot be started.
+/// - `Worn` if 2^62 connections have gone to the workers.
+/// - `Missed` if the number of sessions that were run differs from the number of accepted
+///   connections.
+///
+/// # Conditions
+///
+/// - `blocks` is 128 to 65,536.
+/// - `workers` is 1 to 16.
 pub fn serve_on<R: Threads + Wait + Sync>(
     rt: &R,
     alloc: Global,
@@ -56,21 +66,28 @@ pub fn serve_on<R: Threads + Wait + Sync>(
     serve_source(rt, alloc, &mut source, blocks, workers)
 }
 
-/// Connections of a listener that stays open.
+/// Returns a source of connections from a listener that stays open.
 fn lent(listener: &UnixListener, sessions: u64) -> Accepting<'_, UnixStream>
     ensures { (result.most ≡ sessions) × (result.accepted ≡ 0) }
 {
     Accepting::new(Listening::Lent(listener), None, 0, sessions)
 }
 
-/// Serves the connections of the listener on a new service, as `serve_on` does, on these terms.
+/// Serves the connections of `listener` on a new service, like `serve_on`, but under `terms`.
 ///
-/// The listener is closed once no more is accepted, before the last sessions are over. If there is
-/// an input, no more is accepted once it has ended; what it gives before is dropped. `fault` is left
-/// as why an accept failed, or `None` if none did.
+/// The listener is closed when no more connections are to be accepted, before the last sessions are
+/// over. If there is an `input`, no more connections are accepted after it has ended; the bytes
+/// that it returns before its end are dropped. `fault` is set to the reason if an accept failed,
+/// and to `None` otherwise.
 ///
 /// # Errors
-/// As for `serve_on`.
+///
+/// The errors are those of `serve_on`.
+///
+/// # Conditions
+///
+/// - `terms.blocks` is 128 to 65,536.
+/// - `terms.at_once` is 1 to 256.
 pub fn serve_listener<I: Read + AsRawFd + Drop, R: Threads + Wait + Sync>(
     rt: &R,
     alloc: Global,
@@ -97,7 +114,7 @@ pub fn serve_listener<I: Read + AsRawFd + Drop, R: Threads + Wait + Sync>(
     outcome
 }
 
-/// As `serve_all`, without limits of patience.
+/// Serves the connections of a source like `serve_all`, without limits on a client's silence.
 fn serve_source<S: Source<UnixStream>, R: Threads + Wait + Sync>(
     rt: &R,
     alloc: Global,
@@ -117,8 +134,8 @@ fn serve_source<S: Source<UnixStream>, R: Threads + Wait + Sync>(
     }
 }
 
-/// Serves the connections of a source on a new service, and removes the queues that are left. After `NoMemory` and
-/// `Thread` the source was not asked for any.
+/// Serves the connections of a source on a new service, and removes the queues that are left. After
+/// `NoMemory` and `Thread` no connection was requested from the source.
 fn serve_all<S: Source<UnixStream>, R: Threads + Wait + Sync>(
     rt: &R,
     alloc: Global,
@@ -147,7 +164,7 @@ fn serve_all<S: Source<UnixStream>, R: Threads + Wait + Sync>(
     }
 }
 
-/// Serves the connections on this service, and takes back the passes of all workers.
+/// Serves the connections of a source on this service, and takes back the passes of all workers.
 fn serve_with<S: Source<UnixStream>, R: Threads + Wait + Sync>(
     rt: &R,
     alloc: Global,
@@ -186,7 +203,7 @@ fn serve_with<S: Source<UnixStream>, R: Threads + Wait + Sync>(
     }
 }
 
-/// What a refusal of the workers is to a server.
+/// Returns the server's fault for a refusal of the workers.
 fn fault(why: WorkersFault) -> ServeFault
     requires { why ≢ WorkersFault.BadCount }
     ensures { FaultOf why result }

@@ -1,4 +1,4 @@
-//! One session on a connection, and the workers that run them.
+//! One session on a connection, and the workers that run sessions.
 ghost use Rattle.std.specs.Prelude.{◌≡◌, ℕ, List, Option, ⊤, IfSome, IfNone};
 ghost use Rattle.sysv_gated.specs.Seats.{AreOf};
 ghost use Rattle.sysv_kernel.specs.Asked.{ServesPass};
@@ -18,7 +18,7 @@ use sysv_service::{Clock, Pass, Service};
 use sysv_session::{Served, Texts};
 use sysv_workers::Job;
 
-/// A clock that stands at 0.
+/// A clock that always returns 0.
 pub(crate) struct Zero;
 
 impl Clock for Zero {
@@ -31,8 +31,11 @@ impl Clock for Zero {
 
 pub(crate) const ZERO: Zero = Zero;
 
-/// A worker: a kernel with a pass of its own, whose caller is the peer of the session that it runs; what its sessions add up
-/// to; and the texts that they share one after another, once there are some.
+/// A worker of a server.
+///
+/// It has a kernel with a pass of its own, whose caller is the peer of the session that it runs. It
+/// has the sums of its sessions, and the bodies that its sessions share one after another, once
+/// they are allocated.
 pub(crate) struct Worker<'a, R: Wait> {
     kernel: ServiceKernel<'a, Zero, R, Peer>,
     sums: Sums,
@@ -40,7 +43,7 @@ pub(crate) struct Worker<'a, R: Wait> {
 }
 
 impl<'a, R: Wait> Worker<'a, R> {
-    /// A worker that served no session.
+    /// Creates a worker that has served no session.
     pub(crate) fn new(rt: &'a R, service: &'a Service, pass: Pass) -> Worker<'a, R>
         requires { AreOf service.now pass.seats }
         ensures service { result.kernel.service.now ≡ service.now }
@@ -54,7 +57,7 @@ impl<'a, R: Wait> Worker<'a, R> {
         }
     }
 
-    /// Its pass and its sums.
+    /// Returns the worker's pass and its sums.
     pub(crate) fn into_parts(self) -> (Pass, Sums)
         ensures pass { result.0 ≡ self.entry.kernel.pass }
         ensures fits { AreOf self.entry.kernel.service.now result.0.seats }
@@ -69,7 +72,7 @@ impl<'a, R: Wait> Worker<'a, R> {
     }
 }
 
-/// Runs a session on each connection.
+/// The job that runs a session on each connection.
 #[derive(Drop)]
 pub(crate) struct Sessions<'a> {
     pub(crate) alloc: Global,
@@ -101,7 +104,8 @@ impl<'a, R: Wait> Job<Worker<'a, R>, UnixStream> for Sessions<'a> {
     }
 }
 
-/// The texts, which are opened if there are none. `None` if memory for them was refused.
+/// Returns the bodies, and allocates them if there are none. Returns `None` if their memory is
+/// refused.
 fn opened(alloc: Global, texts: &mut Option<Texts>) -> Option<&mut Texts> {
     if texts.is_none() {
         *texts = Some(Texts::open(alloc).ok()?);
@@ -109,8 +113,8 @@ fn opened(alloc: Global, texts: &mut Option<Texts>) -> Option<&mut Texts> {
     texts.as_mut()
 }
 
-/// Runs one session on the connection, of which the reader reads. `None` where memory for its buffers or its texts was
-/// refused, and then nothing was read or written.
+/// Runs one session on the connection `stream`, which `reader` reads. Returns `None` if memory for
+/// its buffers or its bodies is refused; then nothing was read or written.
 fn converse<C: Clock, R: Wait>(
     alloc: Global,
     kernel: &mut ServiceKernel<'_, C, R, Peer>,

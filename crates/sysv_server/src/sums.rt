@@ -1,24 +1,25 @@
-//! What the sessions of a server add up to.
+//! The sums over the sessions of a server.
 ghost use Rattle.std.specs.Prelude.{◌≡◌};
 ghost use Rattle.sysv_server.specs.Added.{added, one_session, nothing};
 
 use sysv_queue::Tally;
 
-/// What sessions add up to. Each number stays at 2^64 - 1 once it has reached it.
+/// The sums over sessions. Each number stays at 2^64 - 1 once it has reached it.
 #[derive(Clone, Copy, PartialEq, Eq, Debug)]
 pub struct Sums {
-    /// The connections that were accepted, also those whose session had no memory and answered nothing.
+    /// The number of connections that were accepted, including those whose session had no memory
+    /// and sent no reply.
     pub sessions: u64,
-    /// The messages that receives of the sessions were given: those written and those lost.
+    /// The number of messages that the sessions' receives took: those written and those lost.
     pub taken: u64,
-    /// Those whose reply was written whole and flushed.
+    /// The number of messages whose reply was written whole and flushed.
     pub written: u64,
-    /// Those whose reply was not.
+    /// The number of messages whose reply was not written whole and flushed.
     pub lost: u64,
 }
 
 impl Sums {
-    /// No session.
+    /// Returns the sums of no sessions.
     pub(crate) fn open() -> Sums
         ensures { result ≡ nothing }
     {
@@ -30,7 +31,7 @@ impl Sums {
         }
     }
 
-    /// One session.
+    /// Returns the sums of one session with this tally.
     pub(crate) fn of(tally: &Tally) -> Sums
         ensures { result ≡ one_session tally.now }
     {
@@ -42,7 +43,7 @@ impl Sums {
         }
     }
 
-    /// Those of both.
+    /// Adds the sums of `other`.
     pub(crate) fn add(&mut self, other: Sums)
         ensures { self.new ≡ added self.old other }
     {

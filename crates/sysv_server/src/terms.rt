@@ -1,28 +1,30 @@
-//! How a server serves.
+//! The terms and the result of a server.
 
 use crate::sums::Sums;
 use sysv_model::Errno;
 
-/// How a server serves.
+/// The terms of a server.
 #[derive(Clone, Copy, PartialEq, Eq, Debug)]
 pub struct Terms {
-    /// The blocks of its pool, 128 to 65,536.
+    /// The number of blocks in the pool, 128 to 65,536.
     pub blocks: u32,
-    /// How many sessions run at once, each in a thread: 1 to 256.
+    /// The maximum number of sessions that run at once, each in a thread of its own: 1 to 256.
     pub at_once: u32,
-    /// How many connections are accepted, 0 for no limit.
+    /// The number of connections to accept, 0 for no limit.
     pub sessions: u64,
-    /// How long the clients may be silent.
+    /// How long a client may be silent.
     pub patience: Patience,
 }
 
-/// For how many seconds a client may be silent before its session ends, 0 for no limit. Each is a
-/// bound on one silence: a client that sends a byte now and then is never silent for long.
+/// The number of seconds that a client may be silent before its session ends, 0 for no limit.
+///
+/// Each limit bounds one silence, not a whole frame: a client that sends a byte now and then is
+/// never silent for long.
 #[derive(Clone, Copy, PartialEq, Eq, Debug)]
 pub struct Patience {
-    /// Between two requests, and before the first.
+    /// The limit between two requests and before the first request.
     pub idle: u32,
-    /// Within a request, and within a reply that it does not read.
+    /// The limit within a request, and within a reply that the client does not read.
     pub stall: u32,
 }
 
@@ -34,8 +36,9 @@ impl Patience {
 /// How a server ended.
 #[derive(Clone, Copy, PartialEq, Eq, Debug)]
 pub struct Ended {
-    /// What its sessions add up to.
+    /// The sums of its sessions.
     pub sums: Sums,
-    /// How many queues were left, and were removed; `EOVERFLOW` where the gate of a slot was worn out.
+    /// The number of queues that were left at the end and were removed, or `EOVERFLOW` if the gate
+    /// of a slot was found worn out.
     pub removed: Result<u32, Errno>,
 }

@@ -1,4 +1,4 @@
--- A session takes the one course of its input.
+-- The end of a session follows the one course of its input.
 use Rattle.std.proofs.Common.{◌≡◌, ◌≢◌, ℕ, ◌+◌, List, [], ◌∷◌, ◌++◌, length, Option, None, Some, Result, Ok, Err, Bool, true, false, refl, sym, ap, subst, ◌∙◌, arith, inl, inr, ◌⊎◌, append_assoc, append-nil, zero-add}
 use Rattle.std.specs.Prelude.{if◌then◌else◌}
 use Rattle.std.specs.Io.KnownBytes.{Consumes, IsAtEnd}
@@ -45,7 +45,7 @@ other_version One Two apart = refl
 other_version Two One apart = refl
 other_version Two Two apart = absurd (apart refl)
 
--- what is read after a hello of a request of the same version, or of another one
+-- What is read after a hello, for a request of the same version or of another one.
 later_by : (version : Version) (request : Request) (b : Bool) → is_version version request.version ≡ b
     → later version (Ok (Some request)) ≡ (let r : Result (Option Request) Fault = if b then or_hello request else Err BadField in r)
 later_by version request b e = ap (λ (b : Bool). let r : Result (Option Request) Fault = if b then or_hello request else Err BadField in r) e
@@ -63,7 +63,7 @@ later_asked version request same other =
 one_later : OneAnswerToRequests → (version : Version) (input : List ℕ) (a b : Result (Option Request) Fault) → LaterAt version input a → LaterAt version input b → a ≡ b
 one_later one version input a b x y = x.2 ∙ ap (later version) (one input x.0 y.0 x.1 y.1) ∙ sym y.2
 
--- what is read where these requests come next
+-- What is read next if these requests, and then this stop, are next.
 next_of : List Asked → Option Fault → Result (Option Request) Fault
 next_of [] stop = stop_answer stop
 next_of (asked ∷ more) stop = Ok (Some asked.request)
@@ -78,7 +78,7 @@ none_stops : (stop : Option Fault) (request : Request) → stop_answer stop ≡ 
 none_stops None request same = cc
 none_stops (Some fault) request same = cc
 
--- the calls that were made are the first that the input asks
+-- The calls that were made are the first requests of the input.
 past : OneAnswerToRequests → OneRequest → (version : Version) (calls : List Call) (behind : List ℕ) (asked : List Asked) (stop : Option Fault) → AllByRecursion (IsCall version) calls
     → Asks version (asked_spelling calls ++ behind) asked stop → (more : List Asked) × (length asked ≡ length calls + length more) × Asks version behind more stop
 past oneA oneR version [] behind asked stop are asks = (asked, sym (zero-add (length asked)), asks)
@@ -95,7 +95,7 @@ past oneA oneR version (call ∷ calls) behind (asked ∷ more) stop are asks =
     let rest = past oneA oneR version calls behind more stop are.1 (subst (λ (l : List ℕ). Asks version l more stop) (sym same.2) asks.3) in
     (rest.0, omega (arith, rest.1), rest.2)
 
--- the first request that a course of an input begins with
+-- What is read first in an input with this course.
 TellsFirst : Course → Result (Option Request) Fault → Type 0
 TellsFirst NoRequest answer = answer ≡ Ok None
 TellsFirst NoHello answer = (request : Request) × (is_hello request.ask ≡ false) × (answer ≡ Ok (Some request))
@@ -109,7 +109,7 @@ reads_first oneA input answer here NoHello takes = (takes.0, takes.1, oneA input
 reads_first oneA input answer here (BadFirst fault) takes = oneA input answer (Err fault) here takes
 reads_first oneA input answer here (Greeted version cred asked stop) takes = oneA input answer (Ok (Some (hello_of version cred))) here ([], takes.0, takes.1, takes.2)
 
--- a session that reads nothing takes the course of an input without requests
+-- A session whose input is at its end at once has the course of an input without requests.
 told_nothing : (course : Course) (requests : ℕ) → requests ≡ 0 → TellsFirst course (Ok None) → EndsAsTold course «end».Ended requests
 unfolding TellsFirst
 told_nothing NoRequest requests none first = (refl, none)
@@ -134,7 +134,7 @@ told_bad NoHello fault requests none first = let e = first.2 in cc
 told_bad (BadFirst other) fault requests none first = let same : fault ≡ other = cc in (ap (λ (f : Fault). let e : End = «end».Fault f in e) same, none)
 told_bad (Greeted version cred asked stop) fault requests none first = cc
 
--- a fault is told of the first bytes of the input, unless the reader failed
+-- The first bytes of the input cause the fault, unless the reader failed.
 fault_at : (fault : Fault) (input : List ℕ) (rest : Option (List ℕ)) → Faults RequestFault fault (Some input) rest → RequestAt input (Err fault) ⊎ IsCutShort («end».Fault fault)
 fault_at fault input None found = absurd found.1
 fault_at Truncated input (Some left) found =
@@ -149,7 +149,7 @@ as_later : (version : Version) (fault : Fault) (input : List ℕ) → RequestAt 
 as_later version fault input (inl here) = inl (Err fault, here, refl)
 as_later version fault input (inr cut) = inr cut
 
--- a request of another version is refused
+-- A request of another version is refused.
 other_at : (version : Version) (input left taken : List ℕ) → IsOfAnother version taken → input ≡ taken ++ left → LaterAt version input (Err BadField)
 other_at version input left taken another parts =
     (Ok (Some another.0), (another.1, left, another.3, parts ∙ ap (λ (l : List ℕ). l ++ left) another.4), sym (later_other version another.0 another.2))
@@ -169,7 +169,7 @@ later_fault_at version BadField input (Some left) found = elim found.2 [
 ]
 later_fault_at version Read input rest found = inr tt
 
--- the end of an input
+-- An input at whose end nothing was taken is empty.
 none_at : (input : List ℕ) (rest : Option (List ℕ)) → Consumes (Some input) rest [] → IsAtEnd rest → input ≡ []
 none_at input None took ended = absurd took
 none_at input (Some left) took ended = took ∙ ended
@@ -179,7 +179,7 @@ no_bad : OneAnswerToRequests → (course : Course) (fault : Fault) (input : List
 no_bad oneA course fault input requests none takes (inl here) = inl (told_bad course fault requests none (reads_first oneA input (Err fault) here course takes))
 no_bad oneA course fault input requests none takes (inr cut) = inr cut
 
--- a session without a hello
+-- A session without a hello.
 before : OneAnswerToRequests → (why : End) (input : List ℕ) (rest : Option (List ℕ)) (requests : ℕ) → requests ≡ 0 → EndsBefore why (Some input) rest → (course : Course) → Takes input course
     → EndsAsTold course why requests ⊎ IsCutShort why
 before oneA «end».Ended input rest requests none ends course takes =
@@ -192,7 +192,7 @@ before oneA («end».Fault fault) input rest requests none ends course takes = n
 before oneA «end».Write input rest requests none ends course takes = absurd ends
 before oneA «end».Bound input rest requests none ends course takes = absurd ends
 
--- the requests are used up where nothing more is read
+-- All requests of the course were made if nothing more is read.
 told_none : (version : Version) (cred : Cred) (asked more : List Asked) (stop : Option Fault) (n requests : ℕ) → next_of more stop ≡ Ok None → length asked ≡ n + length more → requests ≡ 1 + n
     → EndsAsTold (Greeted version cred asked stop) «end».Ended requests
 unfolding next_of
@@ -225,7 +225,7 @@ finishes oneA version cred asked more stop («end».Fault fault) n requests left
 finishes oneA version cred asked more stop «end».Write n requests left rest asks len counts ends = inr tt
 finishes oneA version cred asked more stop «end».Bound n requests left rest asks len counts ends = inr tt
 
--- a session with a hello
+-- A session with a hello.
 after : OneAnswerToRequests → OneRequest → (version : Version) (cred : Cred) (calls : List Call) (why : End) (requests : ℕ) (input : List ℕ) (behind rest : Option (List ℕ)) → FitsRequest (hello_of version cred) []
     → AllByRecursion (IsCall version) calls → Consumes (Some input) behind (hello_spelling version cred ++ asked_spelling calls) → EndsAfter version why behind rest → requests ≡ 1 + length calls
     → (course : Course) → Takes input course → EndsAsTold course why requests ⊎ IsCutShort why

@@ -1,4 +1,4 @@
--- Any request that is refused is refused after the hello too.
+-- What is refused as any request is refused is also refused after the hello.
 use Rattle.std.proofs.Common.{ℕ, List, Option, inl}
 use Rattle.sysv_session.specs.Input.{LaterFault}
 use Rattle.sysv_wire.specs.declared.fault.Fault.{Fault}

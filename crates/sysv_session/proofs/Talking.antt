@@ -1,4 +1,4 @@
--- A session after its hello, before each turn and at its end.
+-- A session after its hello, before each request and at its end.
 use Rattle.std.proofs.Common.{◌≡◌, ℕ, ◌+◌, ◌<◌, List, [], ◌∷◌, ◌++◌, length, Option, Result, Ok, Err, refl, sym, ap, subst, ◌∙◌, arith, add-zero, zero-add}
 use Rattle.std.specs.Prelude.{⊤}
 use Rattle.std.specs.Io.KnownBytes.{Appends, Consumes}
@@ -22,7 +22,7 @@ use Rattle.sysv_wire.specs.declared.frame.Version.{Version}
 use Rattle.sysv_wire.specs.declared.request.Request.{Request}
 use Rattle.sysv_wire.specs.Requests.{request_spelling}
 
--- a request was taken up, and its outcome was written or broke off
+-- A request was taken up, and its outcome was written or the writing broke off.
 pub taken_turn : {K : Type 0} (Means : Meaning K) (version : Version) (cred : Cred) (result : Result ⊤ End) (request : Request) (text : List ℕ) (outcome : Outcome) (given : List ℕ) (old new : K) (left rest taken more : Option (List ℕ)) (before after : Tallied) (few : ℕ)
     → Consumes left rest (request_spelling request text) × IsAskedIn version request text → Means old cred request text outcome given new → MayAnswer request.version request.ask outcome given
     → Answers result request.version outcome given taken more before after → Turns Means version cred result old new left rest taken more before after few (few + 1)
@@ -48,13 +48,13 @@ taken_turn Means version cred (Err NoHello) request text outcome given old new l
 taken_turn Means version cred (Err (Fault fault)) request text outcome given old new left rest taken more before after few asked means may answers = absurd answers
 taken_turn Means version cred (Err Bound) request text outcome given old new left rest taken more before after few asked means may answers = absurd answers
 
--- all messages so far were written
+-- All messages so far were written.
 all_told : (calls : List Call) (before after : Tallied) → after ≡ before → before ≡ record { written = messages_of calls; lost = 0 }
     → (taken_in after ≡ messages_of calls) × (after.written ≡ messages_of calls)
 all_told calls before after same told =
     let e = same ∙ told in (ap taken_in e ∙ add-zero (messages_of calls), ap (λ (t : Tallied). t.written) e)
 
--- the last message is lost
+-- The last message is lost.
 lost_more : (calls : List Call) (call : Call) (before after : Tallied) → after ≡ one_lost call.outcome before → before ≡ record { written = messages_of calls; lost = 0 }
     → Tallies Write (calls ++ call ∷ []) after
 lost_more calls call before after lost told =
@@ -64,7 +64,7 @@ lost_more calls call before after lost told =
     )
 
 module _ {K : Type 0} where
-  -- before a turn: all that was taken up was answered
+  -- Before a request: everything that was taken up was answered.
   pub record Talking (Means : Meaning K) (version : Version) (cred : Cred) (old new : K) (left behind taken more : Option (List ℕ)) (tally : Tallied) (many : ℕ) : Type 0 where
     pub calls : List Call
     pub are_calls : AllByRecursion (IsCall version) calls
@@ -85,7 +85,7 @@ module _ {K : Type 0} where
     counts = one;
   }
 
-  -- one more turn
+  -- One more request.
   pub goes_on : (Means : Meaning K) (version : Version) (cred : Cred) (old mid new : K) (left behind rest taken more most : Option (List ℕ)) (before after : Tallied) (few many : ℕ)
       → Talking Means version cred old mid left behind taken more before few → Takes Means version cred (Ok tt) mid new behind rest more most before after few many
       → Talking Means version cred old new left rest taken most after many
@@ -99,7 +99,7 @@ module _ {K : Type 0} where
     counts = omega (arith, turn.counts, so_far.counts, length_more so_far.calls turn.call);
   }
 
-  -- the writer fails in a turn
+  -- The writer fails at a reply.
   pub breaks_off : (Means : Meaning K) (version : Version) (cred : Cred) (old mid new : K) (left behind rest taken more most : Option (List ℕ)) (before after : Tallied) (few many : ℕ)
       → Talking Means version cred old mid left behind taken more before few → Takes Means version cred (Err Write) mid new behind rest more most before after few many
       → Goes Means version cred Write old new left rest taken most after many
@@ -116,7 +116,7 @@ module _ {K : Type 0} where
     bounded = tt;
   }
 
-  -- nothing more is taken up
+  -- Nothing more is taken up.
   pub stops : (Means : Meaning K) (version : Version) (cred : Cred) (why : End) (old mid new : K) (left behind rest taken more most : Option (List ℕ)) (before after : Tallied) (few many : ℕ)
       → (so_far : Talking Means version cred old mid left behind taken more before few) → Rests version why mid new behind rest more most before after few many
       → Writes why (frames_of so_far.calls) taken most → Tallies why so_far.calls after → IsBounded why many
@@ -134,13 +134,13 @@ module _ {K : Type 0} where
     bounded = bounded;
   }
 
-  -- what was written so far is all
+  -- All that was written so far is still all that was written.
   all_written : (Means : Meaning K) (version : Version) (cred : Cred) (old new : K) (left behind taken more most : Option (List ℕ)) (tally : Tallied) (few : ℕ)
       → (so_far : Talking Means version cred old new left behind taken more tally few) → most ≡ more → Appends taken most (concat (frames_of so_far.calls))
   all_written Means version cred old new left behind taken more most tally few so_far same =
       subst (λ (m : Option (List ℕ)). Appends taken m (concat (frames_of so_far.calls))) (sym same) so_far.writes
 
-  -- the writer fails, or nothing more is taken up
+  -- The writer fails, or nothing more is taken up.
   pub ends_turn : (Means : Meaning K) (version : Version) (cred : Cred) (why : End) (old mid new : K) (left behind rest taken more most : Option (List ℕ)) (before after : Tallied) (few many : ℕ)
       → few < SESSION_REQUESTS → Talking Means version cred old mid left behind taken more before few → Turns Means version cred (Err why) mid new behind rest more most before after few many
       → Goes Means version cred why old new left rest taken most after many
@@ -154,7 +154,7 @@ module _ {K : Type 0} where
   ends_turn Means version cred NoHello old mid new left behind rest taken more most before after few many within so_far turn = absurd turn
   ends_turn Means version cred Bound old mid new left behind rest taken more most before after few many within so_far turn = absurd turn
 
-  -- the tally is far below what it may be
+  -- The number of messages taken is below the number of requests, so far below its maximum.
   pub has_room : (Means : Meaning K) (version : Version) (cred : Cred) (old new : K) (left behind taken more : Option (List ℕ)) (tally : Tallied) (many : ℕ)
       → Talking Means version cred old new left behind taken more tally many → taken_in tally < many
   has_room Means version cred old new left behind taken more tally many so_far =

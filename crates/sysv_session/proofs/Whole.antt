@@ -1,4 +1,4 @@
--- A session of its hello and what follows that.
+-- A session, composed of its hello and what follows the hello.
 use Rattle.std.proofs.Common.{◌≡◌, ℕ, List, [], ◌∷◌, Option, Ok, Err, refl, sym, ap, subst, inl, inr, append-nil}
 use Rattle.std.specs.Io.KnownBytes.{Appends, Consumes}
 use Rattle.std.proofs.KnownBytes.{Appends-nil, Appends-trans, Consumes-trans}
@@ -14,7 +14,7 @@ use Rattle.sysv_session.specs.Output.{Writes, hello_frame, frames_of}
 use Rattle.sysv_session.specs.Parts.{Goes, IsSilent, Opens}
 use Rattle.sysv_session.specs.Session.{ServesBy}
 
--- one frame, and then others
+-- One frame, and then others.
 writes_after : (why : End) (frame : List ℕ) (frames : List (List ℕ)) (taken more most : Option (List ℕ)) → Appends taken more frame → Writes why frames more most → Writes why (frame ∷ frames) taken most
 writes_after Ended frame frames taken more most first second = Appends-trans taken more most frame (concat frames) first second
 writes_after NoMemory frame frames taken more most first second = Appends-trans taken more most frame (concat frames) first second
@@ -25,7 +25,7 @@ writes_after Write frame frames taken more most first second =
 writes_after Bound frame frames taken more most first second = Appends-trans taken more most frame (concat frames) first second
 
 module _ {K : Type 0} where
-  -- a hello that was answered, and then calls
+  -- A hello that was answered, and then calls.
   pub greeted : (Means : Meaning K) (slots : ℕ) (version : Version) (cred : Cred) (why : End) (old new : K) (left mid rest taken more most : Option (List ℕ)) (tally : Tallied) (few many : ℕ)
       → Opens slots (Ok (version, cred)) left mid taken more few → Goes Means version cred why old new mid rest more most tally many → ServesBy Means slots why tally many old new left rest taken most
   greeted Means slots version cred why old new left mid rest taken more most tally few many hello goes = inr (record {
@@ -44,12 +44,12 @@ module _ {K : Type 0} where
     bounded = goes.bounded;
   })
 
-  -- nothing was read but why there is no hello
+  -- No hello was read, and nothing was written.
   silent : (Means : Meaning K) (slots : ℕ) (why : End) (k : K) (left rest taken more : Option (List ℕ)) (tally : Tallied) (many : ℕ)
       → tally ≡ record { written = 0; lost = 0 } → IsSilent why left rest taken more many → ServesBy Means slots why tally many k k left rest taken more
   silent Means slots why k left rest taken more tally many none quiet = inl (record { kernel = refl; ends = quiet.0; writes = quiet.1; tallies = none; counts = quiet.2 })
 
-  -- a session without calls
+  -- A session without calls.
   pub not_greeted : (Means : Meaning K) (slots : ℕ) (why : End) (k : K) (left rest taken more : Option (List ℕ)) (tally : Tallied) (many : ℕ)
       → tally ≡ record { written = 0; lost = 0 } → Opens slots (Err why) left rest taken more many → ServesBy Means slots why tally many k k left rest taken more
   not_greeted Means slots Ended k left rest taken more tally many none hello = silent Means slots Ended k left rest taken more tally many none hello

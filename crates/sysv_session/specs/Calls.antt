@@ -1,4 +1,5 @@
--- The calls that a session makes of a kernel, and where all of them lead (this profile's).
+-- The calls that a session makes of a kernel, and the kernel that they lead to (this project's
+-- profile).
 use Rattle.std.specs.Prelude.{◌≡◌, ℕ, List, [], ◌∷◌, count_by}
 use Rattle.sysv_model.specs.declared.cred.Cred.{Cred}
 use Rattle.sysv_session.specs.declared.kernel.Outcome.{Outcome}
@@ -6,29 +7,29 @@ use Rattle.sysv_session.specs.Answers.{IsAskedIn, MayAnswer, is_message}
 use Rattle.sysv_wire.specs.declared.frame.Version.{Version}
 use Rattle.sysv_wire.specs.declared.request.Request.{Request}
 
--- one call: what was asked and what came of it, each with its text
+-- One call: the request and the outcome, each with its body.
 pub record Call : Type 0 where
   pub request : Request
   pub text : List ℕ
   pub outcome : Outcome
   pub given : List ℕ
 
--- what may be asked in a session of this version was asked, and what may be answered came of it
+-- In a session of this version, the kernel may receive the request, and may return the outcome.
 abbrev pub IsCall : Version → Call → Type 0
 IsCall version call = IsAskedIn version call.request call.text × MayAnswer call.request.version call.request.ask call.outcome call.given
 
--- How a kernel's calls go: the kernel before, who calls, what is asked and what comes of it, each with its text, and the
--- kernel after.
+-- What a kernel's calls mean: a relation between the kernel before, the caller's credentials, the
+-- request with its body, the outcome with its body, and the kernel after.
 abbrev pub Meaning : Type 0 → Type 1
 Meaning K = K → Cred → Request → List ℕ → Outcome → List ℕ → K → Type 0
 
--- The calls were made in this order, all with these credentials, and lead from the one kernel to the other, by what the
--- kernel's calls mean.
+-- The calls were made in this order, all with these credentials, and lead from the old kernel to
+-- the new one by what the kernel's calls mean.
 abbrev pub Leads : {K : Type 0} → Meaning K → Cred → K → List Call → K → Type 0
 Leads Means cred old [] new = new ≡ old
 Leads {K} Means cred old (call ∷ calls) new =
     (mid : K) × Means old cred call.request call.text call.outcome call.given mid × Leads Means cred mid calls new
 
--- the calls that were given a message
+-- The number of calls whose outcome is a message.
 abbrev pub messages_of : List Call → ℕ
 messages_of calls = count_by (λ call. is_message call.outcome) calls

@@ -1,5 +1,5 @@
--- What an input asks of a session, taken for itself (this profile's): it does not begin with a hello; or it does, and
--- then come requests, and then what stops them.
+-- What an input requests of a session, considered alone (this project's profile). Either it does
+-- not begin with a hello, or a hello is followed by requests and then by what stops them.
 use Rattle.std.specs.Prelude.{◌≡◌, ◌+◌, ◌⊎◌, ⊤, ℕ, Bool, true, false, List, [], ◌∷◌, ◌++◌, length, Option, None, Some, Result, Ok, Err, if◌then◌else◌}
 use Rattle.sysv_model.specs.declared.cred.Cred.{Cred}
 use Rattle.sysv_session.specs.declared.served.End.{End}
@@ -17,6 +17,7 @@ use Rattle.sysv_wire.specs.declared.request.Request.{Request}
 use Rattle.sysv_wire.specs.OneAnswer.{RequestAt}
 use Rattle.sysv_wire.specs.Requests.{FitsRequest, request_spelling}
 
+-- The request is a hello.
 abbrev pub is_hello : Ask → Bool
 is_hello (Hello cred) = true
 is_hello (Get key flags) = false
@@ -27,32 +28,35 @@ is_hello (Set id to) = false
 is_hello (Rm id) = false
 is_hello (Row slot) = false
 
+-- The two versions are equal.
 abbrev pub is_version : Version → Version → Bool
 is_version One One = true
 is_version One Two = false
 is_version Two One = false
 is_version Two Two = true
 
--- a request of the session's version is read as any request, but another hello is refused
+-- What is read, given a request of the session's version: the request itself, but a fault if it is
+-- another hello.
 abbrev pub or_hello : Request → Result (Option Request) Fault
 or_hello request = if is_hello request.ask then Err BadOp else Ok (Some request)
 
--- after a hello of this version, a request of another version is refused
+-- What is read after a hello of this version, given what is read next as the first of a stream: a
+-- request of another version is a fault.
 abbrev pub later : Version → Result (Option Request) Fault → Result (Option Request) Fault
 later version (Ok None) = Ok None
 later version (Ok (Some request)) = if is_version version request.version then or_hello request else Err BadField
 later version (Err fault) = Err fault
 
--- This is read next after a hello of this version.
+-- This is read next in a session of this version, after its hello.
 abbrev pub LaterAt : Version → List ℕ → Result (Option Request) Fault → Type 0
 LaterAt version input answer = (first : Result (Option Request) Fault) × RequestAt input first × (answer ≡ later version first)
 
--- what stops the requests: the end of the input, or a fault
+-- What stops the requests, as what is read: the end of the input, or a fault.
 abbrev pub stop_answer : Option Fault → Result (Option Request) Fault
 stop_answer None = Ok None
 stop_answer (Some fault) = Err fault
 
--- a request and its text
+-- A request and its body.
 pub record Asked : Type 0 where
   pub request : Request
   pub text : List ℕ
@@ -63,13 +67,15 @@ Asks version input [] stop = LaterAt version input (stop_answer stop)
 Asks version input (asked ∷ more) stop = (rest : List ℕ) × IsAskedIn version asked.request asked.text
     × (input ≡ request_spelling asked.request asked.text ++ rest) × Asks version rest more stop
 
--- the course of an input
+-- The course of an input: it ends before a request, begins with a request that is not a hello,
+-- begins with a fault, or begins with a hello.
 pub data Course : Type 0 where
   NoRequest : Course
   NoHello : Course
   BadFirst : (fault : Fault) → Course
   Greeted : (version : Version) (cred : Cred) (asked : List Asked) (stop : Option Fault) → Course
 
+-- The input has this course.
 abbrev pub Takes : List ℕ → Course → Type 0
 Takes input NoRequest = RequestAt input (Ok None)
 Takes input NoHello = (request : Request) × (is_hello request.ask ≡ false) × RequestAt input (Ok (Some request))
@@ -77,7 +83,8 @@ Takes input (BadFirst fault) = RequestAt input (Err fault)
 Takes input (Greeted version cred asked stop) =
     (rest : List ℕ) × FitsRequest (hello_of version cred) [] × (input ≡ hello_spelling version cred ++ rest) × Asks version rest asked stop
 
--- A session of that course ends so, after so many requests, where neither memory nor a stream failed.
+-- Without a failure of memory or of a stream, a session with this course ends for this reason, with
+-- this number of requests.
 abbrev pub EndsAsTold : Course → End → ℕ → Type 0
 EndsAsTold NoRequest why requests = (why ≡ «end».Ended) × (requests ≡ 0)
 EndsAsTold NoHello why requests = (why ≡ «end».NoHello) × (requests ≡ 0)
@@ -85,7 +92,8 @@ EndsAsTold (BadFirst fault) why requests = (why ≡ «end».Fault fault) × (req
 EndsAsTold (Greeted version cred asked None) why requests = (why ≡ «end».Ended) × (requests ≡ 1 + length asked)
 EndsAsTold (Greeted version cred asked (Some fault)) why requests = (why ≡ «end».Fault fault) × (requests ≡ 1 + length asked)
 
--- Memory was refused, the reader or the writer failed, or the session had as many requests as it may have.
+-- The session ended because memory was refused, because the reader or the writer failed, or because
+-- it had the maximum number of requests.
 abbrev pub IsCutShort : End → Type 0
 IsCutShort «end».Ended = ⊥
 IsCutShort «end».NoMemory = ⊤
@@ -98,6 +106,6 @@ IsCutShort («end».Fault Read) = ⊤
 IsCutShort «end».Write = ⊤
 IsCutShort «end».Bound = ⊤
 
--- A session ends as the course of its input tells, or it was cut short.
+-- The session ended as the course of its input determines, or it was cut short.
 abbrev pub Follows : Course → Served → Type 0
 Follows course served = EndsAsTold course served.«end» served.requests ⊎ IsCutShort served.«end»

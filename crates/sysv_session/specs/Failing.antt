@@ -1,10 +1,10 @@
--- Which stream of a session failed (this profile's), by the session's end.
+-- Which stream of a session failed, by the session's end (this project's profile).
 use Rattle.std.specs.Prelude.{Bool, true, false, Result, Ok, Err}
 use Rattle.sysv_session.specs.declared.served.End.{End}
 use Rattle.sysv_session.specs.declared.served.End.TheVariants.{Ended, NoMemory, NoHello, Fault, Write, Bound}
 use Rattle.sysv_wire.specs.Faults.{is_read}
 
--- the end is that the reader failed
+-- The end is that the reader failed.
 abbrev pub is_failed_read : End → Bool
 is_failed_read Ended = false
 is_failed_read NoMemory = false
@@ -13,7 +13,7 @@ is_failed_read (Fault fault) = is_read fault
 is_failed_read Write = false
 is_failed_read Bound = false
 
--- the end is that the writer failed
+-- The end is that the writer failed.
 abbrev pub is_failed_write : End → Bool
 is_failed_write Ended = false
 is_failed_write NoMemory = false
@@ -22,12 +22,12 @@ is_failed_write (Fault fault) = false
 is_failed_write Write = true
 is_failed_write Bound = false
 
--- a part of a session ended it, as its reader failed
+-- A part of a session ended it because the reader failed.
 abbrev pub ends_by_read : {T : Type 0} → Result T End → Bool
 ends_by_read (Ok value) = false
 ends_by_read (Err why) = is_failed_read why
 
--- a part of a session ended it, as its writer failed
+-- A part of a session ended it because the writer failed.
 abbrev pub ends_by_write : {T : Type 0} → Result T End → Bool
 ends_by_write (Ok value) = false
 ends_by_write (Err why) = is_failed_write why

@@ -1,4 +1,5 @@
--- What a session reads (this profile's): a hello, the requests that the kernel is asked, and then what ends it.
+-- What a session reads (this project's profile): a hello, the requests that the kernel receives,
+-- and then what ends the session.
 use Rattle.std.specs.Prelude.{◌≡◌, ◌≢◌, ◌⊎◌, ℕ, List, [], Option, None, Some, Result, Ok, Err, flat_map}
 use Rattle.std.specs.Io.KnownBytes.{Consumes, IsAtEnd}
 use Rattle.sysv_model.specs.declared.cred.Cred.{Cred}
@@ -14,28 +15,30 @@ use Rattle.sysv_wire.specs.declared.request.Request.{Request}
 use Rattle.sysv_wire.specs.Faults.{Faults, RequestFault}
 use Rattle.sysv_wire.specs.Requests.{FitsRequest, request_spelling}
 
+-- The hello of this version with these credentials.
 abbrev pub hello_of : Version → Cred → Request
 hello_of version cred = record { version = version; ask = Hello cred }
 
--- the one spelling of a hello
+-- The one spelling of a hello.
 abbrev pub hello_spelling : Version → Cred → List ℕ
 hello_spelling version cred = request_spelling (hello_of version cred) []
 
--- the spellings of the requests that the kernel was asked
+-- The spellings of the requests that the kernel received, in order.
 abbrev pub asked_spelling : List Call → List ℕ
 asked_spelling calls = flat_map (λ call. request_spelling call.request call.text) calls
 
--- these bytes are a hello of this version
+-- These bytes are a hello of this version.
 abbrev pub IsHello : Version → List ℕ → Type 0
 IsHello version bytes = (cred : Cred) × FitsRequest (hello_of version cred) [] × (bytes ≡ hello_spelling version cred)
 
--- these bytes are a request of another version, perhaps a hello
+-- These bytes are a request of another version, which may be a hello.
 abbrev pub IsOfAnother : Version → List ℕ → Type 0
 IsOfAnother version bytes =
     (request : Request) × (text : List ℕ) × (request.version ≢ version) × FitsRequest request text × (bytes ≡ request_spelling request text)
 
--- Why a request after the hello is refused in a session of this version: as any request, or for it is another hello, or of
--- another version.
+-- Why a request after the hello is refused in a session of this version, by the bytes that were
+-- taken: as any request is refused, or because it is another hello, or because it is of another
+-- version.
 abbrev pub LaterFault : Version → Fault → List ℕ → Type 0
 LaterFault version Truncated taken = RequestFault Truncated taken
 LaterFault version TooLong taken = RequestFault TooLong taken
@@ -43,7 +46,8 @@ LaterFault version BadOp taken = RequestFault BadOp taken ⊎ IsHello version ta
 LaterFault version BadField taken = RequestFault BadField taken ⊎ IsOfAnother version taken
 LaterFault version Read taken = RequestFault Read taken
 
--- The next request that the kernel is asked; none at the end of the input; or a fault.
+-- The next request that the kernel receives is read, or there is none at the end of the input, or
+-- there is a fault.
 abbrev pub ReadsAsked : Version → Option (List ℕ) → Option (List ℕ) → Result (Option Request) Fault → List ℕ → Type 0
 ReadsAsked version old new (Ok (Some request)) text = Consumes old new (request_spelling request text) × IsAskedIn version request text
 ReadsAsked version old new (Ok None) text = Consumes old new [] × IsAtEnd new
@@ -58,7 +62,8 @@ EndsBefore («end».Fault fault) old new = Faults RequestFault fault old new
 EndsBefore «end».Write old new = ⊥
 EndsBefore «end».Bound old new = ⊥
 
--- Why it ends later, by what it took after the last request that it took up.
+-- Why a session ends after its hello, by what it took of the input after the last request that it
+-- took up.
 abbrev pub EndsAfter : Version → End → Option (List ℕ) → Option (List ℕ) → Type 0
 EndsAfter version «end».Ended old new = Consumes old new [] × IsAtEnd new
 EndsAfter version «end».NoMemory old new = ⊥
@@ -67,7 +72,7 @@ EndsAfter version («end».Fault fault) old new = Faults (LaterFault version) fa
 EndsAfter version «end».Write old new = new ≡ old
 EndsAfter version «end».Bound old new = new ≡ old
 
--- the version and who calls, by the hello, or why there is none
+-- The version and the credentials of a hello are read, or there is a reason why there is no hello.
 abbrev pub Greets : Result (Version × Cred) End → Option (List ℕ) → Option (List ℕ) → Type 0
 Greets (Ok caller) old new = FitsRequest (hello_of caller.0 caller.1) [] × Consumes old new (hello_spelling caller.0 caller.1)
 Greets (Err why) old new = EndsBefore why old new × (why ≢ «end».NoMemory)

@@ -1,3 +1,4 @@
+-- The definitions of sessions.
 pub mod Answers
 pub mod Calls
 pub mod Input

@@ -1,5 +1,5 @@
--- What a session writes (this profile's): the reply to the hello and the replies to the calls, in order, and nothing
--- else.
+-- What a session writes (this project's profile): the reply to the hello and the replies to the
+-- calls, in order, and nothing else.
 use Rattle.std.specs.Prelude.{◌≡◌, ◌-◌, ℕ, List, [], ◌∷◌, ◌++◌, Option, length, take, map}
 use Rattle.std.specs.List.{concat}
 use Rattle.std.specs.Io.KnownBytes.{Appends}
@@ -18,23 +18,25 @@ use Rattle.sysv_wire.specs.Frames.{op_number}
 use Rattle.sysv_wire.specs.Replies.{reply_spelling}
 use Rattle.sysv_model.specs.Writing.{AppendsPrefix}
 
--- what answers a hello of this version, where there are so many slots
+-- The outcome of a hello of this version, with this number of slots.
 abbrev pub hello_outcome : Version → ℕ → Outcome
 hello_outcome One slots = Hello
 hello_outcome Two slots = HelloSlots slots
 
+-- The reply to a hello of this version, with this number of slots.
 abbrev pub hello_reply : Version → ℕ → Reply
 hello_reply version slots = record { version = version; op = op_number op.Hello; result = hello_outcome version slots }
 
--- the frame that answers a hello
+-- The frame of the reply to a hello.
 abbrev pub hello_frame : Version → ℕ → List ℕ
 hello_frame version slots = reply_spelling (hello_reply version slots) []
 
--- the frames that answer the calls, in order
+-- The frames of the replies to the calls, in order.
 abbrev pub frames_of : List Call → List (List ℕ)
 frames_of calls = map (λ call. outcome_spelling call.request.version call.outcome call.given) calls
 
--- The frames before the last are written whole, and then a prefix of the last, perhaps all of it.
+-- The frames before the last are written whole, and then a prefix of the last, which may be all of
+-- it.
 abbrev pub BreaksOff : List (List ℕ) → Option (List ℕ) → Option (List ℕ) → Type 0
 BreaksOff frames old new = (done : List (List ℕ)) × (last : List ℕ) × (mid : Option (List ℕ))
     × (frames ≡ done ++ last ∷ []) × Appends old mid (concat done) × AppendsPrefix mid new last
@@ -48,7 +50,8 @@ Writes (Fault fault) frames old new = Appends old new (concat frames)
 Writes Write frames old new = BreaksOff frames old new
 Writes Bound frames old new = Appends old new (concat frames)
 
--- the calls whose replies were written whole: all, but for the last where the writer failed
+-- The calls whose replies were written whole: all of them, or all but the last if the writer
+-- failed.
 abbrev pub answered : End → List Call → List Call
 answered Ended calls = calls
 answered NoMemory calls = calls
@@ -57,6 +60,7 @@ answered (Fault fault) calls = calls
 answered Write calls = take (length calls - 1) calls
 answered Bound calls = calls
 
--- The tally tells how many messages the kernel gave, and how many of them were written whole.
+-- The tally states the number of messages that the kernel returned, and how many of them were
+-- written whole.
 abbrev pub Tallies : End → List Call → Tallied → Type 0
 Tallies why calls tally = (taken_in tally ≡ messages_of calls) × (tally.written ≡ messages_of (answered why calls))

@@ -1,4 +1,4 @@
--- The parts of a session: its hello, and what follows that.
+-- The parts of a session (this project's profile): its hello, and what follows the hello.
 use Rattle.std.specs.Prelude.{◌≡◌, ◌+◌, ℕ, List, [], Option, Result, Ok, Err, length}
 use Rattle.std.specs.List.{AllByRecursion}
 use Rattle.std.specs.Io.KnownBytes.{Appends, Consumes}
@@ -14,16 +14,16 @@ use Rattle.sysv_wire.specs.declared.frame.Version.{Version}
 use Rattle.sysv_wire.specs.Requests.{FitsRequest}
 use Rattle.sysv_model.specs.Writing.{AppendsPrefix}
 
--- a hello was read, and so many requests are taken up with it
+-- A hello was read, and with it one request was taken up.
 abbrev pub IsGreeted : Version → Cred → (left rest : Option (List ℕ)) → ℕ → Type 0
 IsGreeted version cred left rest many =
     FitsRequest (hello_of version cred) [] × Consumes left rest (hello_spelling version cred) × (many ≡ 1)
 
--- no hello was read, and nothing was written
+-- No hello was read, nothing was written, and no request was taken up.
 abbrev pub IsSilent : End → (left rest taken more : Option (List ℕ)) → ℕ → Type 0
 IsSilent why left rest taken more many = EndsBefore why left rest × (more ≡ taken) × (many ≡ 0)
 
--- A hello is read and answered; or the writer fails at the answer; or no hello is read.
+-- A hello was read and replied to; or the writer failed at that reply; or no hello was read.
 abbrev pub Opens : ℕ → Result (Version × Cred) End → (left rest taken more : Option (List ℕ)) → ℕ → Type 0
 Opens slots (Ok caller) left rest taken more many = IsGreeted caller.0 caller.1 left rest many × Appends taken more (hello_frame caller.0 slots)
 Opens slots (Err Ended) left rest taken more many = IsSilent Ended left rest taken more many
@@ -35,7 +35,7 @@ Opens slots (Err Write) left rest taken more many =
 Opens slots (Err Bound) left rest taken more many = ⊥
 
 module _ {K : Type 0} where
-  -- what follows a hello that was answered
+  -- What follows a hello that was replied to.
   pub record Goes (Means : Meaning K) (version : Version) (cred : Cred) (why : End) (old new : K) (left rest taken more : Option (List ℕ)) (tally : Tallied) (many : ℕ) : Type 0 where
     pub calls : List Call
     pub are_calls : AllByRecursion (IsCall version) calls

@@ -1,5 +1,5 @@
--- What a session does (this profile's): it reads a hello, and answers it; then it reads requests, asks the kernel each
--- in turn and writes what the kernel answers, until something ends it.
+-- What a session does (this project's profile). It reads a hello and replies to it. It then reads
+-- requests, passes each to the kernel and writes the kernel's outcome, until something ends it.
 use Rattle.std.specs.Prelude.{◌≡◌, ◌+◌, ◌<◌, ◌⊎◌, ⊤, ℕ, List, [], ◌∷◌, ◌++◌, Option, length}
 use Rattle.std.specs.List.{AllByRecursion}
 use Rattle.std.specs.Io.KnownBytes.{Consumes}
@@ -15,7 +15,8 @@ use Rattle.sysv_session.specs.Output.{Tallies, Writes, frames_of, hello_frame}
 use Rattle.sysv_wire.specs.declared.frame.Version.{Version}
 use Rattle.sysv_wire.specs.Requests.{FitsRequest}
 
--- A session ends by its bound after so many requests, and by what it reads after fewer.
+-- A session that ends at its bound has taken up the maximum number of requests. One that ends
+-- because of what it reads has taken up fewer.
 abbrev pub IsBounded : End → ℕ → Type 0
 IsBounded Ended requests = requests < SESSION_REQUESTS
 IsBounded NoMemory requests = requests < SESSION_REQUESTS
@@ -25,7 +26,7 @@ IsBounded Write requests = ⊤
 IsBounded Bound requests = requests ≡ SESSION_REQUESTS
 
 module _ {K : Type 0} where
-  -- A session without a hello asks nothing and writes nothing.
+  -- A session without a hello makes no call and writes nothing.
   pub record Stays (why : End) (tally : Tallied) (requests : ℕ) (old new : K) (left rest taken more : Option (List ℕ)) : Type 0 where
     pub kernel : new ≡ old
     pub ends : EndsBefore why left rest
@@ -33,8 +34,9 @@ module _ {K : Type 0} where
     pub tallies : tally ≡ record { written = 0; lost = 0 }
     pub counts : requests ≡ 0
 
-  -- A session with a hello: there is a run of the kernel's calls, one for each request of the hello's version that was read
-  -- after the hello, and what is written is the frames that answer them all. The hello's tells so many slots.
+  -- A session with a hello. Its calls of the kernel are one for each request of the hello's version
+  -- that was read after the hello, and it writes the frames of the replies to the hello and to
+  -- these calls. The reply to the hello states this number of slots, if it is of version 2.
   pub record Talks (Means : Meaning K) (slots : ℕ) (why : End) (tally : Tallied) (requests : ℕ) (old new : K) (left rest taken more : Option (List ℕ)) : Type 0 where
     pub version : Version
     pub cred : Cred
@@ -50,11 +52,13 @@ module _ {K : Type 0} where
     pub counts : requests ≡ 1 + length calls
     pub bounded : IsBounded why requests
 
+  -- A session is without a hello or with one.
   abbrev pub ServesBy : Meaning K → ℕ → End → Tallied → ℕ → (old new : K) → (left rest taken more : Option (List ℕ)) → Type 0
   ServesBy Means slots why tally requests old new left rest taken more =
       Stays why tally requests old new left rest taken more ⊎ Talks Means slots why tally requests old new left rest taken more
 
-  -- what a session that told this did of its kernel, of what its reader had left and of what its writer had taken
+  -- What a session that reported this did to its kernel, to what its reader had left and to what
+  -- its writer had taken.
   abbrev pub Serves : Meaning K → ℕ → Served → (old new : K) → (left rest taken more : Option (List ℕ)) → Type 0
   Serves Means slots served old new left rest taken more =
       ServesBy Means slots served.«end» served.tally served.requests old new left rest taken more

@@ -1,4 +1,5 @@
--- One turn of a session after its hello: a request is read, the kernel is asked, and the reply is written.
+-- What a session does for one request after its hello (this project's profile): it reads the
+-- request, passes it to the kernel and writes the reply.
 use Rattle.std.specs.Prelude.{◌≡◌, ◌+◌, ⊤, ℕ, List, Option, Result, Ok, Err}
 use Rattle.std.specs.Io.KnownBytes.{Appends, Consumes}
 use Rattle.sysv_model.specs.declared.cred.Cred.{Cred}
@@ -13,15 +14,16 @@ use Rattle.sysv_wire.specs.declared.frame.Version.{Version}
 use Rattle.sysv_wire.specs.Requests.{request_spelling}
 use Rattle.sysv_model.specs.Writing.{AppendsPrefix}
 
--- a message more was written, if the outcome is one
+-- The tally with one more message written, if the outcome is a message.
 abbrev pub one_written : Outcome → Tallied → Tallied
 one_written outcome tally = record { written = tally.written + messages_in outcome; lost = tally.lost }
 
--- a message more was lost, if the outcome is one
+-- The tally with one more message lost, if the outcome is a message.
 abbrev pub one_lost : Outcome → Tallied → Tallied
 one_lost outcome tally = record { written = tally.written; lost = tally.lost + messages_in outcome }
 
--- an outcome is written whole, as its frame of this version, and counted as written
+-- The outcome was written whole as its frame of this version, and a message in it counted as
+-- written. If the writer failed, a prefix was written, and a message in it counted as lost.
 abbrev pub Answers : Result ⊤ End → Version → Outcome → List ℕ → (old new : Option (List ℕ)) → (before after : Tallied) → Type 0
 Answers (Ok done) version outcome given old new before after = Appends old new (outcome_spelling version outcome given) × (after ≡ one_written outcome before)
 Answers (Err Write) version outcome given old new before after = AppendsPrefix old new (outcome_spelling version outcome given) × (after ≡ one_lost outcome before)
@@ -32,7 +34,8 @@ Answers (Err (Fault fault)) version outcome given old new before after = ⊥
 Answers (Err Bound) version outcome given old new before after = ⊥
 
 module _ {K : Type 0} where
-  -- a request was read and the kernel was asked, and its outcome was written, or it broke off
+  -- A request was read and passed to the kernel, and its outcome was written, or the writing broke
+  -- off.
   pub record Takes (Means : Meaning K) (version : Version) (cred : Cred) (result : Result ⊤ End) (old new : K) (left rest : Option (List ℕ)) (taken more : Option (List ℕ)) (before after : Tallied) (few many : ℕ) : Type 0 where
     pub call : Call
     pub is_call : IsCall version call
@@ -41,7 +44,7 @@ module _ {K : Type 0} where
     pub answers : Answers result call.request.version call.outcome call.given taken more before after
     pub counts : many ≡ few + 1
 
-  -- nothing was asked and nothing written
+  -- The kernel received nothing and nothing was written.
   pub record Rests (version : Version) (why : End) (old new : K) (left rest : Option (List ℕ)) (taken more : Option (List ℕ)) (before after : Tallied) (few many : ℕ) : Type 0 where
     pub kernel : new ≡ old
     pub ends : EndsAfter version why left rest
@@ -49,6 +52,7 @@ module _ {K : Type 0} where
     pub tally : after ≡ before
     pub counts : many ≡ few
 
+  -- One request was carried out, or the session ended before it.
   abbrev pub Turns : Meaning K → Version → Cred → Result ⊤ End → (old new : K) → (left rest : Option (List ℕ)) → (taken more : Option (List ℕ)) → (before after : Tallied) → (few many : ℕ) → Type 0
   Turns Means version cred (Ok done) old new left rest taken more before after few many = Takes Means version cred (Ok done) old new left rest taken more before after few many
   Turns Means version cred (Err Write) old new left rest taken more before after few many = Takes Means version cred (Err Write) old new left rest taken more before after few many

@@ -1,4 +1,4 @@
-//! What answers the requests of a session.
+//! The kernel, which carries out the requests of a session.
 ghost use Rattle.std.specs.Prelude.{◌≡◌, ◌≢◌, ℕ, []};
 ghost use Rattle.sysv_session.specs.Answers.{MayAnswer};
 ghost use Rattle.sysv_session.specs.Calls.{Meaning};
@@ -8,31 +8,39 @@ use sysv_model::{Body, Cred};
 use sysv_queue::Delivery;
 use sysv_wire::{Op, Reply, Request};
 
-/// What a kernel answers. A message that was received can be neither dropped nor copied.
+/// The outcome of a request. A message that was received can be neither dropped nor copied.
 pub enum Outcome {
-    /// A reply, of the request's version and of the operation that was asked for. It is not a message.
+    /// A reply of the request's version and operation. It carries no message.
     Reply(Reply),
-    /// A receive was given this message.
+    /// A receive took this message.
     Got(Delivery),
 }
 
-/// Message queues, as a session asks for them. A kernel may wait within a call, where a handle that it
-/// holds lets it.
+/// Message queues as a session uses them.
+///
+/// A kernel may wait within a call if it holds a handle that permits it.
 pub trait Kernel {
-    /// Which calls there may be: the kernel before, who calls, the request and its text, the outcome and
-    /// its text, and the kernel after.
+    /// The meaning of the kernel's calls: a relation between the kernel before, the caller's
+    /// credentials, the request and its body, the outcome and its body, and the kernel after.
     ghost meaning: { Meaning Self };
 
-    /// How many slots for queues it has: a row may be asked for each number below.
+    /// The number of queue slots. A row may be requested for each number below it.
     ghost slots: { Self → ℕ };
 
-    /// The number of its slots, which the reply to a hello of version 2 tells.
+    /// Returns the number of queue slots, which the reply to a hello of version 2 states.
     fn slots(&self) -> u32
         ensures { result ≡ slots self.now };
 
-    /// Answers one request, any but a hello, for a caller who is believed. `text` is the text of a send,
-    /// and empty with any other request. `given` is empty, and holds the text of the message where a receive was given
-    /// one; it has at most 8,192 bytes then.
+    /// Carries out one request and returns its outcome.
+    ///
+    /// `cred` is the caller's credentials, which are not authenticated. `text` is the body of a
+    /// send, and empty for any other request. If a receive took a message, the outcome is `Got`,
+    /// and `given` is the body of the message, at most 8,192 bytes.
+    ///
+    /// # Conditions
+    ///
+    /// - `request` is not a hello.
+    /// - `given` is empty.
     fn call(&mut self, cred: Cred, request: &Request, text: &Body, given: &mut Body) -> Outcome
         requires asked { op_of request.now.ask ≢ Op.Hello }
         requires empty { given.old ≡ [] }

@@ -1,5 +1,6 @@
-//! Sessions: a client's requests and a server's replies, one reply a request, in order, over any reader
-//! and writer, answered by any kernel. `specs/` says what a session reads, asks and writes, and why it ends.
+//! Sessions: one client's requests and the server's replies, one reply per request, in order, over
+//! any reader and writer. A kernel carries out the requests. `specs/` defines what a session reads,
+//! requests and writes, and why it ends.
 #![tactic(auto)]
 
 mod kernel;

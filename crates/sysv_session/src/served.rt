@@ -1,11 +1,11 @@
-//! How a session ended.
+//! The result of a session.
 ghost use Rattle.std.specs.Prelude.{◌≡◌};
 ghost use Rattle.sysv_session.specs.declared.served.End.TheVariants as ends;
 
 use sysv_queue::Tally;
 use sysv_wire::{Fault, WriteFault};
 
-/// The most requests of a session, its hello among them.
+/// The maximum number of requests in a session, including its hello.
 pub const SESSION_REQUESTS: u32 = 4_294_967_295;
 
 /// Why a session ended.
@@ -13,14 +13,17 @@ pub const SESSION_REQUESTS: u32 = 4_294_967_295;
 pub enum End {
     /// The input ended before another request.
     Ended,
-    /// Memory for the texts was refused. Nothing was read or written.
+    /// Memory for the bodies was refused. Nothing was read or written.
     NoMemory,
-    /// The first request was another than hello. Nothing was written.
+    /// The first request was not a hello. Nothing was written.
     NoHello,
-    /// A request could not be read; a later one of another version is `BadField`, and a later hello of the session's
-    /// version is `BadOp`. It has no reply.
+    /// A request could not be read. It has no reply.
+    ///
+    /// A request after the hello that is of another version is `BadField`. A later hello of the
+    /// session's version is `BadOp`.
     Fault(Fault),
-    /// The writer failed, took no byte, or could not be flushed: the last reply may not have been written.
+    /// The writer failed, took no byte, or could not be flushed. The last reply may not have been
+    /// written.
     Write,
     /// 4,294,967,295 requests were answered. No more was read.
     Bound,
@@ -45,12 +48,12 @@ impl From<WriteFault> for End {
 /// What a session did.
 #[derive(Clone, Copy, PartialEq, Eq, Debug)]
 pub struct Served {
-    /// Why it ended.
+    /// Why the session ended.
     pub end: End,
-    /// The messages that the kernel gave: `written` where the reply was written whole and flushed, else
-    /// `lost`.
+    /// The messages that the kernel returned: `written` counts those whose reply was written whole
+    /// and flushed, and `lost` the others.
     pub tally: Tally,
-    /// The requests that were taken up, 0 to 4,294,967,295: the hello, and those that the kernel was
-    /// asked. What ended the session is not counted.
+    /// The number of requests that were taken up, 0 to 4,294,967,295: the hello and the requests
+    /// that the kernel received. What ended the session is not counted.
     pub requests: u32,
 }

@@ -17,14 +17,18 @@ use sysv_model::{Body, Cred, NoMemory, Watched};
 use sysv_queue::Tally;
 use sysv_wire::{Request, Version, one_answer_to_requests, one_request};
 
-/// Runs one session to its end: reads a hello and answers it, and then reads requests, asks the kernel
-/// each of them with the credentials of the hello, and writes its replies in order, each flushed before the
-/// next request is read.
+/// Runs one session to its end, and returns what the session did.
 ///
-/// The session has the version of its hello; in version 2 the reply to the hello has the number of slots.
-/// A request that cannot be read, one of another version and a later hello end the session without a reply.
-/// Memory is taken for two texts, and before anything is read; where it is refused, reader, writer and kernel
-/// are as they were.
+/// The session reads a hello and replies to it. It then reads requests, passes each to the kernel
+/// with the credentials of the hello, and writes the replies in order. Each reply is flushed before
+/// the next request is read.
+///
+/// The session has the version of its hello. In version 2 the reply to the hello states the number
+/// of slots. A request that cannot be read, a request of another version and a later hello end the
+/// session without a reply.
+///
+/// Memory for two bodies is allocated before anything is read. If it is refused, the session ends
+/// with `NoMemory`, and the reader, the writer and the kernel are unchanged.
 pub fn serve<R: Read, W: Write, K: Kernel>(
     alloc: Global,
     reader: &mut R,
@@ -34,7 +38,7 @@ pub fn serve<R: Read, W: Write, K: Kernel>(
     ensures serves { Serves K.meaning (K.slots kernel.old) result kernel.old kernel.new
         (R.remaining reader.old) (R.remaining reader.new) (W.contents writer.old)
         (W.contents writer.new) }
-    // It ends as its input tells, unless it is cut short.
+    // The session ends as its input determines, unless it is cut short.
     ensures only { (input : List ℕ) (course : Course) → R.remaining reader.old ≡ Some input →
         Takes input course → Follows course result }
     ensures memory { result.«end» ≡ End.NoMemory → (reader.new ≡ reader.old)
@@ -50,7 +54,8 @@ pub fn serve<R: Read, W: Write, K: Kernel>(
     serve_with(&mut texts, reader, writer, kernel)
 }
 
-/// As `serve`, with two texts that are there already, whatever they hold. It takes no memory.
+/// Runs one session like `serve`, but with two bodies that exist already, whatever they hold.
+/// Allocates nothing.
 pub fn serve_with<R: Read, W: Write, K: Kernel>(
     texts: &mut Texts,
     reader: &mut R,
@@ -60,7 +65,7 @@ pub fn serve_with<R: Read, W: Write, K: Kernel>(
     ensures serves { Serves K.meaning (K.slots kernel.old) result kernel.old kernel.new
         (R.remaining reader.old) (R.remaining reader.new) (W.contents writer.old)
         (W.contents writer.new) }
-    // It ends as its input tells, unless it is cut short.
+    // The session ends as its input determines, unless it is cut short.
     ensures only { (input : List ℕ) (course : Course) → R.remaining reader.old ≡ Some input →
         Takes input course → Follows course result }
     ensures memory { result.«end» ≢ End.NoMemory }
@@ -73,8 +78,10 @@ pub fn serve_with<R: Read, W: Write, K: Kernel>(
     )
 }
 
-/// As `serve_with`, and tells which stream failed: the reader if and only if the session ended by `Fault(Read)`, the
-/// writer if and only if it ended by `Write`.
+/// Runs one session like `serve_with`, and records which stream failed.
+///
+/// The reader fails if and only if the session ends with `Fault(Read)`, and the writer fails if and
+/// only if it ends with `Write`.
 pub fn serve_watched<R: Read, W: Write, K: Kernel>(
     texts: &mut Texts,
     reader: &mut Watched<'_, R>,
@@ -84,12 +91,12 @@ pub fn serve_watched<R: Read, W: Write, K: Kernel>(
     ensures serves { Serves K.meaning (K.slots kernel.old) result kernel.old kernel.new
         (R.remaining (stream_of reader.old)) (R.remaining (stream_of reader.new))
         (W.contents (stream_of writer.old)) (W.contents (stream_of writer.new)) }
-    // It ends as its input tells, unless it is cut short.
+    // The session ends as its input determines, unless it is cut short.
     ensures only { (input : List ℕ) (course : Course) →
         R.remaining (stream_of reader.old) ≡ Some input → Takes input course →
         Follows course result }
     ensures memory { result.«end» ≢ End.NoMemory }
-    // The streams are the same ones, and each has failed in this call if and only if the end says so.
+    // The streams stay the same, and each fails in this call if and only if the end says so.
     ensures same_reader { stream_name reader.new ≡ stream_name reader.old }
     ensures same_writer { stream_name writer.new ≡ stream_name writer.old }
     ensures reader_failed { failures_of reader.new
@@ -109,8 +116,8 @@ pub fn serve_watched<R: Read, W: Write, K: Kernel>(
     }
 }
 
-/// The two texts of a session: that of a request, and that of its reply. They may serve one session after
-/// another.
+/// The two bodies of a session: that of a request and that of its reply. Several sessions may use
+/// them, one after another.
 #[derive(Drop)]
 pub struct Texts {
     asked: Body,
@@ -118,7 +125,11 @@ pub struct Texts {
 }
 
 impl Texts {
-    /// Two texts. `NoMemory` where the memory for them is refused.
+    /// Allocates two bodies.
+    ///
+    /// # Errors
+    ///
+    /// - `NoMemory` if allocation fails.
     pub fn open(alloc: Global) -> Result<Texts, NoMemory> {
         let asked = Body::open(alloc)?;
         let given = Body::open(alloc)?;
@@ -134,7 +145,7 @@ struct Session {
 }
 
 impl Session {
-    /// Nothing was read.
+    /// Returns a session that has read nothing.
     fn open() -> Session
         ensures tally { result.tally ≡ record { written = 0; lost = 0 } }
         ensures count { result.requests ≡ 0 }
@@ -145,7 +156,7 @@ impl Session {
         }
     }
 
-    /// Runs from the hello to the end.
+    /// Runs the session from its hello to its end.
     fn run<R: Read, W: Write, K: Kernel>(
         &mut self,
         slots: u32,
@@ -175,7 +186,7 @@ impl Session {
         }
     }
 
-    /// Reads the hello and answers it.
+    /// Reads the hello and replies to it.
     fn greet<R: Read, W: Write>(
         &mut self,
         slots: u32,
@@ -203,7 +214,7 @@ impl Session {
         Ok((version, cred))
     }
 
-    /// Answers requests up to the bound or the first end.
+    /// Answers requests up to the bound or until something ends the session.
     fn serve_calls<R: Read, W: Write, K: Kernel>(
         &mut self,
         version: Version,
@@ -234,7 +245,7 @@ impl Session {
         End::Bound
     }
 
-    /// Reads the next request, asks the kernel and writes its reply.
+    /// Reads the next request, passes it to the kernel and writes its reply.
     fn serve_next<R: Read, W: Write, K: Kernel>(
         &mut self,
         version: Version,

@@ -1,4 +1,4 @@
-//! What a session reads and writes in one turn.
+//! What a session reads and writes for one request.
 ghost use Rattle.std.specs.Prelude.{◌≡◌, ◌<◌, ◌≤◌, ◌-◌, ◌^◌, List, ℕ, [], false, is_err, length, OnOk, OnErr};
 ghost use Rattle.std.specs.Io.KnownBytes.{Appends};
 ghost use Rattle.sysv_model.specs.declared.limits.TheConstants.{MESSAGE_BYTES};
@@ -22,7 +22,7 @@ use sysv_wire::{
     Ask, Fault, Op, Outcome as Told, Reply, Request, Version, WriteFault, read_request, write_reply,
 };
 
-/// Reads the first request, and says in which version and who calls.
+/// Reads the first request. Returns the version and the credentials of the hello.
 pub(crate) fn read_hello<R: Read>(
     reader: &mut Watched<'_, R>,
     text: &mut Body,
@@ -46,7 +46,7 @@ pub(crate) fn read_hello<R: Read>(
     }
 }
 
-/// The reply to a hello of this version.
+/// Returns the reply to a hello of this version.
 pub(crate) fn hello_reply(version: Version, slots: u32) -> Reply
     ensures reply { result ≡ the_hello_reply version slots }
     ensures answer { IsAnswer result.version result.op result.result }
@@ -62,7 +62,7 @@ pub(crate) fn hello_reply(version: Version, slots: u32) -> Reply
     }
 }
 
-/// Reads a later request of a session of this version; `None` at the end.
+/// Reads a later request in a session of this version. Returns `None` at the end of the input.
 pub(crate) fn read_asked<R: Read>(
     reader: &mut Watched<'_, R>,
     version: Version,
@@ -86,7 +86,7 @@ pub(crate) fn read_asked<R: Read>(
     }
 }
 
-/// Writes a reply, and flushes it.
+/// Writes a reply and flushes it.
 pub(crate) fn send<W: Write>(
     writer: &mut Watched<'_, W>,
     reply: &Reply,
@@ -109,7 +109,7 @@ pub(crate) fn send<W: Write>(
     }
 }
 
-/// The reply that gives a message.
+/// Returns the reply that carries the message.
 fn message_reply(version: Version, delivery: &Delivery) -> Reply
     ensures { result ≡ the_reply version delivery.now.mtype }
 {
@@ -122,8 +122,8 @@ fn message_reply(version: Version, delivery: &Delivery) -> Reply
     }
 }
 
-/// Writes a message that the kernel gave, and spends its delivery: as written where the reply was written
-/// whole and flushed, else as lost.
+/// Writes a message that the kernel returned, and spends its delivery: as written if the reply was
+/// written whole and flushed, otherwise as lost.
 fn deliver<W: Write>(
     writer: &mut Watched<'_, W>,
     version: Version,
@@ -154,7 +154,7 @@ fn deliver<W: Write>(
     }
 }
 
-/// Writes what the kernel answered to a request of this version.
+/// Writes the outcome of a request of this version.
 pub(crate) fn answer<W: Write>(
     writer: &mut Watched<'_, W>,
     version: Version,

@@ -1,4 +1,5 @@
--- Two lists of bytes that begin alike: equal fields at their fronts, and equal rests.
+-- Two lists of bytes that begin with fields of the same length: if the lists are equal, the fields
+-- are equal, and so are the rests.
 use Rattle.std.proofs.Common.{◌≡◌, ℕ, ℤ, ◌^◌, ◌<◌, List, ◌++◌, length, take, drop, refl, sym, ap, ◌∙◌, append_assoc}
 use Rattle.std.specs.Int.{w16, w32, w64, from_be_bytes, cast_unsigned, cast_signed}
 use Rattle.std.specs.Int.RustNames.{FitsSigned}
@@ -41,7 +42,7 @@ i64_same y z low high e =
     sym (from_be_bytes-to_be_bytes_8 (cast_unsigned w64 y) (Fits-of_z low).fits) ∙ ap (from_be_bytes w64) e ∙ from_be_bytes-to_be_bytes_8 (cast_unsigned w64 z) (Fits-of_z high).fits in
     sym (to_z-of_z w64 y low) ∙ ap (cast_signed w64) bits ∙ to_z-of_z w64 z high
 
--- one number at the start of both, and the rests
+-- The lists begin with one number each.
 pub u16_step : (m n : ℕ) (x y : List ℕ) → m < 2 ^ 16 → n < 2 ^ 16 → u16_bytes m ++ x ≡ u16_bytes n ++ y → (m ≡ n) × (x ≡ y)
 unfolding u16_bytes
 u16_step m n x y low high e = (u16_same m n low high (fronts_alike (u16_bytes m) (u16_bytes n) x y refl e), rests_alike (u16_bytes m) (u16_bytes n) x y refl e)
@@ -62,7 +63,7 @@ pub i64_step : (m n : ℤ) (x y : List ℕ) → FitsSigned w64 m → FitsSigned 
 unfolding i64_bytes
 i64_step m n x y low high e = (i64_same m n low high (fronts_alike (i64_bytes m) (i64_bytes n) x y refl e), rests_alike (i64_bytes m) (i64_bytes n) x y refl e)
 
--- two frames at the start
+-- The lists begin with one frame each.
 pub frames_alike : (a b x y : List ℕ) → length a < 2 ^ 32 → length b < 2 ^ 32 → frame a ++ x ≡ frame b ++ y → (a ≡ b) × (x ≡ y)
 unfolding frame
 frames_alike a b x y low high e =

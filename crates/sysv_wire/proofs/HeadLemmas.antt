@@ -1,4 +1,4 @@
--- What a head is refused for, and where it breaks off.
+-- Why a head is refused, and where it breaks off.
 use Rattle.std.proofs.Common.{ℕ, ◌^◌, ◌<◌, ◌≤◌, List, ◌++◌, Option, refl, inr}
 use Rattle.std.specs.Io.KnownBytes.{Consumes}
 use Rattle.sysv_wire.specs.declared.fault.Fault.{Fault}

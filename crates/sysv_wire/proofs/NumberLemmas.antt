@@ -17,7 +17,7 @@ IsBytes-take n bytes h i =
       | inr le ↦ rw (get_or_past (take n bytes) i 0 (omega (arith, length-take n bytes))) (omega arith)
     ]
 
--- the first bytes, spelled anew, and what is after them
+-- The first bytes, spelled again, and the bytes after them.
 spelled_anew : (len : ℕ) (bytes front rest spelling : List ℕ) → front ≡ take len bytes → rest ≡ drop len bytes → spelling ≡ front → bytes ≡ spelling ++ rest
 spelled_anew len bytes front rest spelling f r s = rw (s, f, r) (sym (take-append-drop len bytes))
 
@@ -42,13 +42,13 @@ unfolding u64_bytes
 u64_front bytes front rest n within fits f r e =
     spelled_anew 8 bytes front rest (u64_bytes n) f r (be_bytes_8 front n (length_front 8 bytes front f within) (IsBytes-front 8 bytes front f fits) e)
 
--- four bytes and nothing after them
+-- Four bytes with nothing after them.
 pub u32_only : (bytes rest : List ℕ) (n : ℕ) → bytes ≡ u32_bytes n ++ rest → length bytes ≡ 4 + length rest → length bytes ≡ 4 → take 4 bytes ≡ u32_bytes n
 u32_only bytes rest n e len four =
     let none : rest ≡ [] = nil_from_length rest (omega arith) in
     take_all 4 bytes (omega arith) ∙ e ∙ ap (λ l. u32_bytes n ++ l) none ∙ append-nil (u32_bytes n)
 
--- a signed number has the bytes of the number that it was made of
+-- A signed number has the bytes of the number that it was made from.
 pub i32_same : (n : ℕ) (z : ℤ) → n < 2 ^ 32 → z ≡ cast_signed w32 n → u32_bytes n ≡ i32_bytes (cast_signed w32 (cast_unsigned w32 z))
 unfolding u32_bytes i32_bytes
 i32_same n z lt e =

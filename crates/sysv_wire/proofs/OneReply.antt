@@ -1,4 +1,4 @@
--- Replies that are spelled alike are one.
+-- Replies with the same spelling are equal.
 use Rattle.std.proofs.Common.{◌≡◌, ℕ, ◌^◌, ◌<◌, ◌≤◌, true, false, cond, eqb, List, [], ◌∷◌, ◌++◌, length, Option, None, Some, refl, sym, ap, subst, ◌∙◌, append-nil, arith, length-append}
 use Rattle.std.specs.Prelude.{ℤ}
 use Rattle.sysv_model.specs.Errors.{number_of}
@@ -147,7 +147,7 @@ pub row_number : (v : Version) (n : ℕ) (r : Option Line) → IsAnswer v n (Row
 row_number v n None h = h
 row_number v n (Some r) h = h.0
 
--- A reply's operation, its error and what is after it tell what is answered, and the text.
+-- A reply's operation, its error and the bytes after it determine the result and the body.
 outcome_same : (v : Version) (n : ℕ) (a b : Outcome) (text other : List ℕ) → IsAnswer v n a → IsAnswer v n b → FitsOutcome a → FitsOutcome b → error_number a ≡ error_number b
     → outcome_fields a ++ outcome_text a text ≡ outcome_fields b ++ outcome_text b other → (a ≡ b) × (outcome_text a text ≡ outcome_text b other)
 outcome_same v n (Refused e) (Refused f) text other h k p q err same = (ap Refused (errno_same e f err), refl)

@@ -1,4 +1,4 @@
--- Requests that are spelled alike are one.
+-- Requests with the same spelling are equal.
 use Rattle.std.proofs.Common.{◌≡◌, ℕ, ◌^◌, ◌<◌, ◌≤◌, true, false, cond, eqb, List, [], ◌∷◌, ◌++◌, length, refl, sym, ap, ◌∙◌, arith, length-append}
 use Rattle.sysv_model.specs.declared.attributes.SetTo.{SetTo}
 use Rattle.sysv_model.specs.declared.cred.Cred.{Cred}
@@ -41,11 +41,11 @@ unfolding version_at
 version_back One = refl
 version_back Two = refl
 
--- one number, one version
+-- Versions with the same number are equal.
 pub version_same : (v other : Version) → version_number v ≡ version_number other → v ≡ other
 version_same v other e = sym (version_back v) ∙ ap version_at e ∙ version_back other
 
--- one number, one operation
+-- Operations with the same number are equal.
 pub op_same : (o other : Op) → op_number o ≡ op_number other → o ≡ other
 op_same o other e = sym (op_back o) ∙ ap op_at e ∙ op_back other
 

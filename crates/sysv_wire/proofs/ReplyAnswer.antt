@@ -1,5 +1,5 @@
--- An input tells by five numbers which kind of answer fits it: its length, the length that stands at its
--- front, and the three bytes after that. Where they tell of a whole reply, its fields decide.
+-- Five numbers of an input determine which kind of result fits it: its length, the length field at
+-- its start, and the three bytes after that. If these allow a whole reply, its fields decide.
 use Rattle.std.proofs.Common.{◌≡◌, ◌≢◌, ◌⊎◌, ℕ, ◌+◌, ◌-◌, ◌^◌, ◌<◌, ◌≤◌, Bool, true, false, cond, eqb, ltb, leb, MatchBool, List, [], ◌∷◌, ◌++◌, length, get_or, take, Option, None, Some, Result, Ok, Err, refl, sym, ap, subst, ◌∙◌, append_assoc, append-nil, arith, length-append, inl, inr}
 use Rattle.std.specs.Int.{w32, from_be_bytes}
 use Rattle.std.proofs.lemmas.Bool.Decides.{nat_tests}
@@ -86,7 +86,7 @@ rest_fits_not_by : (b : Bool) (v : Version) (o : Op) (n : ℕ) → ¬ MatchBool 
 rest_fits_not_by true v o n h = answer_fits_not v o n h
 rest_fits_not_by false v o n h = not_the_same n 0 h
 
--- the length that the numbers of a version and an operation want
+-- Whether the operation with this number may have this length, in the version with this number.
 rest_at : ℕ → ℕ → ℕ → ℕ → Bool
 rest_at v o e n = fits_rest (version_at v) (op_at o) e n
 
@@ -159,7 +159,7 @@ verdict_op n v o e rest most =
     let len : 4 + length (v ∷ o ∷ e ∷ rest) ≡ 7 + length rest = omega arith in
     verdict_head n (v ∷ o ∷ e ∷ rest) (omega arith) ∙ ap (λ l. verdict_of l n v o e) len
 
--- a reply has a length that its operation wants with its error
+-- A reply has a length that its operation may have with its error.
 reply_fits : (v : Version) (m : ℕ) (a : Outcome) (text : List ℕ) → IsAnswer v m a → length text ≤ 8192 → fits_rest v (op_at m) (error_number a) (length (outcome_fields a ++ outcome_text a text)) ≡ true
 unfolding fits_rest fits_answer stat_fields perm_fields count_fields time_fields row_fields u16_bytes u32_bytes u64_bytes i32_bytes i64_bytes
 reply_fits v m (Refused e) text h k = ap (λ b. cond b (fits_answer v (op_at m) 0) true) (not_the_same (number_of e) 0 (some_error e))
@@ -274,7 +274,7 @@ late_not r text rest taken behind fits (n, v, o, e, bytes, low, high, wanted, wh
     let fields : bytes ≡ outcome_fields r.result ++ outcome_text r.result text = cc (f.0) in
     late_case r.version o e r.result text bytes (subst (λ (x : ℕ). IsAnswer r.version x r.result) (sym ops) fits.0) fits.1 errors fields why.1
 
--- ---- the answers
+-- ---- the results
 
 code : Result (Option Reply) Fault → Verdict
 code (Ok (Some r)) = Whole
@@ -297,7 +297,7 @@ long_verdict input taken rest h e =
     let n = h.0 in
     ap verdict (e ∙ ap (λ l. l ++ rest) h.3) ∙ verdict_head n rest h.1 ∙ v_long (4 + length rest) n (get_or rest 0 0) (get_or rest 1 0) (get_or rest 2 0) (omega arith) h.2
 
--- after a length, a version, an operation and an error
+-- What follows a length, a version, an operation and an error.
 behind_head : (n v o x : ℕ) (taken rest : List ℕ) → taken ≡ u32_bytes n ++ (v ∷ o ∷ x ∷ []) → taken ++ rest ≡ u32_bytes n ++ (v ∷ o ∷ x ∷ rest)
 behind_head n v o x taken rest e = ap (λ l. l ++ rest) e ∙ append_assoc (u32_bytes n) (v ∷ o ∷ x ∷ []) rest
 
@@ -305,7 +305,7 @@ op_verdict : (input taken rest : List ℕ) → ReplyFault BadOp taken → input 
 op_verdict input taken rest (n, v, o, x, head, why) e =
     ap verdict (e ∙ behind_head n v o x taken rest head.2) ∙ verdict_op n v o x rest head.1 ∙ v_op (7 + length rest) n v o x (omega arith) head.0 head.1 (version_known v why.0) why.1
 
--- all of a reply is there, and its fields have no meaning
+-- All of a reply is in the input, and its fields have no meaning.
 record Late (input : List ℕ) : Type 0 where
   taken : List ℕ
   rest : List ℕ
@@ -331,7 +331,7 @@ field_verdict input taken rest (inl (inr (n, v, o, x, head, inr (w, same, (named
     (ap (λ y. rest_at y o x (n - 3)) (sym same) ∙ ap (λ y. rest_at (version_number w) y x (n - 3)) (sym number) ∙ rest_fits_not w named x (n - 3) wrong))
 field_verdict input taken rest (inr late) e = inr (record { taken = taken; rest = rest; why = late; parts = e; told = late_verdict input taken rest late e })
 
--- where fields have no meaning, no other answer fits
+-- If fields have no meaning, no other result fits.
 bad_alone : (input : List ℕ) (b : Result (Option Reply) Fault) → (verdict input ≡ Told BadField) ⊎ Late input → ReplyAt input b → b ≡ Err BadField
 unfolding verdict verdict_of
 bad_alone input (Ok (Some r)) (inl e) k = let x : Whole ≡ Told BadField = sym (ap verdict k.3 ∙ whole_verdict r k.0 k.1 k.2) ∙ e in absurd cc
@@ -347,7 +347,7 @@ bad_alone input (Err BadOp) (inl e) k = let x : Told BadOp ≡ Told BadField = s
 bad_alone input (Err BadOp) (inr late) k = let x : Told BadOp ≡ Whole = sym (op_verdict input k.0 k.1 k.2 k.3) ∙ late.told in absurd cc
 bad_alone input (Err Read) h k = absurd k
 
--- what the numbers tell of an answer: of a field without meaning too little
+-- The five numbers determine the result, except for a field without meaning.
 answer_verdict : (input : List ℕ) (a : Result (Option Reply) Fault) → ReplyAt input a → (verdict input ≡ code a) ⊎ (a ≡ Err BadField)
 unfolding verdict verdict_of code
 answer_verdict input (Ok (Some r)) h = inl (ap verdict h.3 ∙ whole_verdict r h.0 h.1 h.2)
@@ -374,7 +374,7 @@ same_code input (Ok None) (Err g) h k e = absurd cc
 same_code input (Err f) (Ok (Some s)) h k e = absurd cc
 same_code input (Err f) (Ok None) h k e = absurd cc
 
--- the field without meaning that the first answer tells of
+-- A bad field is determined by the numbers, or is a field of a whole reply.
 bad_of : (input : List ℕ) → ReplyAt input (Err BadField) → (verdict input ≡ Told BadField) ⊎ Late input
 bad_of input h = field_verdict input h.0 h.1 h.2 h.3
 
@@ -386,7 +386,7 @@ same_answer input a b h k u (inr f) = bad_alone input a (bad_of input (subst (Re
 pub one_answer : OneAnswerToReplies
 one_answer input a b h k = same_answer input a b h k (answer_verdict input a h) (answer_verdict input b k)
 
--- what was read fits what there was, or the reader has failed
+-- What was read fits the input, or the reader failed.
 pub reply_only : (input : List ℕ) (new : Option (List ℕ)) (result answer : Result (Option Reply) Fault) (text : List ℕ) → ReadsReply (Some input) new result text → ReplyAt input answer
     → (result ≡ answer) ⊎ (result ≡ Err Read)
 reply_only input None (Ok (Some r)) answer text h k = absurd h.0

@@ -1,4 +1,4 @@
--- Replies whose fields have no meaning, those that break off, and those that are whole.
+-- Replies whose fields have no meaning, replies that break off, and whole replies.
 use Rattle.std.proofs.Common.{◌≡◌, ℕ, ℤ, ◌+◌, ◌-◌, ◌^◌, ◌<◌, ◌≤◌, List, [], ◌∷◌, ◌++◌, length, get_or, Option, Some, Ok, cond, true, false, refl, sym, ap, subst, ◌∙◌, append_assoc, append-nil, arith, length-append, inl, inr}
 use Rattle.std.specs.Io.KnownBytes.{Consumes}
 use Rattle.std.proofs.KnownBytes.{Consumes-trans}
@@ -28,7 +28,7 @@ pub length-i32_bytes : (z : ℤ) → length (i32_bytes z) ≡ 4
 unfolding i32_bytes
 length-i32_bytes z = refl
 
--- after so many bytes stands this mode
+-- After this number of bytes there is this mode.
 abbrev pub HasModeAt : ℕ → List ℕ → ℕ → Type 0
 HasModeAt place fields mode = (before : List ℕ) × (after : List ℕ) × (fields ≡ before ++ (u16_bytes mode ++ after)) × (length before ≡ place)
 
@@ -60,7 +60,7 @@ wide_row row mark rest e wide fits = wide_at 13 (mark ∷ rest) row.mode (row_mo
 pub wide_stat : (stat : Told) (fields : List ℕ) → fields ≡ stat_fields stat → MAX_MODE < stat.perm.mode → stat.perm.mode < 2 ^ 16 → IsWideAt 20 fields
 wide_stat stat fields e wide fits = wide_at 20 fields stat.perm.mode (stat_mode stat fields e) wide fits
 
--- fewer bytes than are left
+-- A part of the rest that is too short is a rest that is too short.
 breaks_rest : (op : Op) (error n m : ℕ) (done : List ℕ) (fault : Fault) → length done + n ≤ m → (taken : List ℕ) → Breaks (IsShorter n) fault taken → RestFault op error m fault (done ++ taken)
 breaks_rest op error n m done Truncated fits taken why = omega (arith, length-append done taken)
 breaks_rest op error n m done Read fits taken why = tt
@@ -72,7 +72,7 @@ pub rest_broken : (op : Op) (error n m : ℕ) (done : List ℕ) (fault : Fault) 
 rest_broken op error n m done fault a b c fits first second =
     Faults-after (Breaks (IsShorter n)) (RestFault op error m) fault a b c done first second (breaks_rest op error n m done fault fits)
 
--- a head of three bytes, and what is after it
+-- A head of three bytes, and the bytes after it.
 head_then : (n : ℕ) (version : Version) (op : Op) (byte number error : ℕ) (head taken : List ℕ) → head ≡ byte ∷ number ∷ error ∷ [] → version_number version ≡ byte → op_number op ≡ number
     → (u32_bytes n ++ head) ++ taken ≡ u32_bytes n ++ (version_number version ∷ op_number op ∷ error ∷ taken)
 head_then n version op byte number error head taken h v o =
@@ -93,7 +93,7 @@ reply_broken n rest version op byte number error head fault a b c h v o low high
     (λ taken why. subst (ReplyFault fault) (sym (head_then n version op byte number error head taken h v o))
     (faults_reply n version op error fault low high (subst (IsRestLength version op error) e wanted) taken (subst (λ (k : ℕ). RestFault op error k fault taken) e why)))
 
--- a head that is refused
+-- A head that is refused.
 pub reply_refused : (n byte number error : ℕ) (head : List ℕ) (fault : Fault) (a b : Option (List ℕ)) → head ≡ byte ∷ number ∷ error ∷ [] → 3 ≤ n → n ≤ MAX_REPLY → AnswerFault n byte number error fault
     → Consumes a b (u32_bytes n ++ head) → Faults ReplyFault fault a b
 reply_refused n byte number error head BadOp a b h low high why first =
@@ -104,7 +104,7 @@ reply_refused n byte number error head Truncated a b h low high why first = absu
 reply_refused n byte number error head TooLong a b h low high why first = absurd why
 reply_refused n byte number error head Read a b h low high why first = absurd why
 
--- three bytes, one after the other
+-- A list of length three is its three bytes.
 pub triple_is : (head : List ℕ) → length head ≡ 3 → head ≡ get_or head 0 0 ∷ get_or head 1 0 ∷ get_or head 2 0 ∷ []
 triple_is [] e = absurd (omega (arith, e))
 triple_is (a ∷ []) e = absurd (omega (arith, e))
@@ -112,7 +112,7 @@ triple_is (a ∷ b ∷ []) e = absurd (omega (arith, e))
 triple_is (a ∷ b ∷ d ∷ []) e = refl
 triple_is (a ∷ b ∷ d ∷ x ∷ rest) e = absurd (omega (arith, e))
 
--- a text that came in a reply is one that a message may have
+-- The body in a reply is one that a message may have.
 text_short : (a : Outcome) (text : List ℕ) (n : ℕ) → text ≡ outcome_text a text → n ≡ length (outcome_fields a ++ outcome_text a text) → n ≤ 8200 → length text ≤ 8192
 unfolding i64_bytes
 text_short (Rcv t) text n empty len most = omega (arith, len, most, length-append (i64_bytes t) text)
@@ -126,7 +126,7 @@ text_short Set text n empty len most = let none = ap length empty in omega (arit
 text_short Rm text n empty len most = let none = ap length empty in omega (arith, none)
 text_short (Row r) text n empty len most = let none = ap length empty in omega (arith, none)
 
--- a reply that was read is spelled by what was taken
+-- A reply that was read is spelled by what was taken.
 pub reply_read : (result : Outcome) (n rest : ℕ) (version : Version) (op : Op) (byte number error told : ℕ) (head text : List ℕ) (a b c : Option (List ℕ)) → head ≡ byte ∷ number ∷ error ∷ [] → version_number version ≡ byte → op_number op ≡ number
     → 3 ≤ n → n ≤ MAX_REPLY → rest ≡ n - 3 → told ≡ op_number op → rest ≡ length (outcome_fields result ++ outcome_text result text) → IsAnswer version (op_number op) result → FitsOutcome result → error_number result ≡ error → text ≡ outcome_text result text
     → Consumes a b (u32_bytes n ++ head) → Consumes b c (outcome_fields result ++ outcome_text result text) → ReadsReply a c (Ok (Some record { version = version; op = told; result = result })) text
@@ -138,7 +138,7 @@ reply_read result n rest version op byte number error told head text a b c h v o
     ∙ frame_whole n (version_number version ∷ told ∷ error_number result ∷ behind) (omega arith) in
     (subst (Consumes a c) whole (Consumes-trans a b c (u32_bytes n ++ head) behind first second), (subst (λ (x : ℕ). IsAnswer version x result) (sym t) answer, fits, text_short result text rest empty len (omega (arith, e, high))), empty)
 
--- the head of a reply and its fields, and then its text
+-- The head of a reply and its fields, and then its body.
 spelled_head : (version number error : ℕ) (fields text : List ℕ) → (u32_bytes (3 + length fields + length text) ++ (version ∷ number ∷ error ∷ fields)) ++ text ≡ frame (version ∷ number ∷ error ∷ (fields ++ text))
 spelled_head version number error fields text =
     append_assoc (u32_bytes (3 + length fields + length text)) (version ∷ number ∷ error ∷ fields) text

@@ -1,5 +1,5 @@
--- An input tells by four numbers which kind of answer fits it: its length, the length that stands at its
--- front, and the two bytes after that.
+-- Four numbers of an input determine which kind of result fits it: its length, the length field at
+-- its start, and the two bytes after that.
 use Rattle.std.proofs.Common.{◌≡◌, ◌⊎◌, ◌≢◌, ℕ, ◌+◌, ◌^◌, ◌<◌, ◌≤◌, Bool, true, false, cond, eqb, ltb, leb, List, [], ◌∷◌, ◌++◌, length, get_or, take, Option, None, Some, Result, Ok, Err, refl, sym, subst, ap, ◌∙◌, append_assoc, append-nil, arith, length-append, inl, inr}
 use Rattle.std.specs.Int.{w32, from_be_bytes}
 use Rattle.std.proofs.lemmas.Bool.Decides.{nat_tests}
@@ -31,7 +31,7 @@ data Verdict : Type 0 where
 fits_op : Op → ℕ → Bool
 fits_op o n = cond (has_text o) (leb (2 + fields_len o) n) (eqb n (2 + fields_len o))
 
--- a version has this number
+-- Whether a version has this number.
 pub has_version : ℕ → Bool
 has_version v = cond (eqb v 1) true (eqb v 2)
 
@@ -148,7 +148,7 @@ fits_when o n h = ap (λ x. fits_op x n) (op_back o) ∙ fits_is o n h
 fits_not : (o : Op) (n : ℕ) → ¬ IsRequestLength o n → fits_op (op_at (op_number o)) n ≡ false
 fits_not o n h = ap (λ x. fits_op x n) (op_back o) ∙ fits_is_not o n h
 
--- the four numbers of a head, and what is after it
+-- The verdict on a head with these numbers and the bytes after it.
 verdict_op : (n v o : ℕ) (rest : List ℕ) → n ≤ 8274 → verdict (u32_bytes n ++ (v ∷ o ∷ rest)) ≡ verdict_of (6 + length rest) n v o
 verdict_op n v o rest most =
     let len : 4 + length (v ∷ o ∷ rest) ≡ 6 + length rest = omega arith in
@@ -203,7 +203,7 @@ long_verdict input taken rest h e =
     let n = h.0 in
     ap verdict (e ∙ ap (λ l. l ++ rest) h.3) ∙ verdict_head n rest h.1 ∙ v_long (4 + length rest) n (get_or rest 0 0) (get_or rest 1 0) (omega arith) h.2
 
--- after a length, a version and an operation
+-- What follows a length, a version and an operation.
 pub behind_head : (n v o : ℕ) (taken rest : List ℕ) → taken ≡ u32_bytes n ++ (v ∷ o ∷ []) → taken ++ rest ≡ u32_bytes n ++ (v ∷ o ∷ rest)
 behind_head n v o taken rest e = ap (λ l. l ++ rest) e ∙ append_assoc (u32_bytes n) (v ∷ o ∷ []) rest
 
@@ -254,7 +254,7 @@ same_answer input (Err f) (Ok None) h k e = absurd cc
 pub one_answer : OneAnswerToRequests
 one_answer input a b h k = same_answer input a b h k (sym (answer_verdict input a h) ∙ answer_verdict input b k)
 
--- what was read fits what there was, or the reader has failed
+-- What was read fits the input, or the reader failed.
 pub request_only : (input : List ℕ) (new : Option (List ℕ)) (result answer : Result (Option Request) Fault) (text : List ℕ) → ReadsRequest (Some input) new result text → RequestAt input answer
     → (result ≡ answer) ⊎ (result ≡ Err Read)
 request_only input None (Ok (Some r)) answer text h k = absurd h.0

@@ -1,4 +1,4 @@
--- A request that breaks off, and one that is whole.
+-- Requests that break off, and whole requests.
 use Rattle.std.proofs.Common.{◌≡◌, ℕ, ◌+◌, ◌-◌, ◌≤◌, List, [], ◌∷◌, ◌++◌, length, get_or, Option, Some, Ok, refl, sym, ap, subst, ◌∙◌, append_assoc, append-nil, cond, true, false, MatchBool, arith, length-append, inr}
 use Rattle.std.specs.Io.KnownBytes.{Consumes}
 use Rattle.std.proofs.KnownBytes.{Consumes-trans}
@@ -16,7 +16,7 @@ use Rattle.sysv_wire.specs.declared.request.Ask.{Ask}
 use Rattle.sysv_wire.specs.declared.request.Ask.TheVariants.{Hello, Get, Snd, Rcv, Stat, Set, Rm, Row}
 use Rattle.sysv_wire.proofs.StreamLemmas.{Faults-after}
 
--- fewer bytes than are left
+-- A part of the rest that is too short is a rest that is too short.
 breaks_later : (n m : ℕ) (done : List ℕ) (fault : Fault) → length done + n ≤ m → (taken : List ℕ) → Breaks (IsShorter n) fault taken → Breaks (IsShorter m) fault (done ++ taken)
 breaks_later n m done Truncated fits taken why = omega (arith, length-append done taken)
 breaks_later n m done Read fits taken why = tt
@@ -36,7 +36,7 @@ breaks_request n version op TooLong most wanted taken why = absurd why
 breaks_request n version op BadOp most wanted taken why = absurd why
 breaks_request n version op BadField most wanted taken why = absurd why
 
--- a head of two bytes, and what is after it
+-- A head of two bytes, and the bytes after it.
 head_then : (n : ℕ) (version : Version) (op : Op) (byte number : ℕ) (head taken : List ℕ) → head ≡ byte ∷ number ∷ [] → version_number version ≡ byte → op_number op ≡ number
     → (u32_bytes n ++ head) ++ taken ≡ u32_bytes n ++ (version_number version ∷ op_number op ∷ taken)
 head_then n version op byte number head taken h v o =
@@ -57,14 +57,14 @@ pub request_whole : (n : ℕ) (version : Version) (op : Op) (byte number : ℕ) 
 request_whole n version op byte number head rest a b c h v o len first second =
     subst (Consumes a c) (head_then n version op byte number head rest h v o ∙ frame_whole n (version_number version ∷ op_number op ∷ rest) (omega arith)) (Consumes-trans a b c (u32_bytes n ++ head) rest first second)
 
--- two bytes, one after the other
+-- A list of length two is its two bytes.
 pub pair_is : (head : List ℕ) → length head ≡ 2 → head ≡ get_or head 0 0 ∷ get_or head 1 0 ∷ []
 pair_is [] e = absurd (omega (arith, e))
 pair_is (a ∷ []) e = absurd (omega (arith, e))
 pair_is (a ∷ b ∷ []) e = refl
 pair_is (a ∷ b ∷ d ∷ rest) e = absurd (omega (arith, e))
 
--- the head of a frame and its fields, and then its text
+-- The head of a frame and its fields, and then its body.
 pub spelled_head : (version number : ℕ) (fields text : List ℕ) → (u32_bytes (2 + length fields + length text) ++ (version ∷ number ∷ fields)) ++ text ≡ frame (version ∷ number ∷ (fields ++ text))
 spelled_head version number fields text =
     append_assoc (u32_bytes (2 + length fields + length text)) (version ∷ number ∷ fields) text
@@ -81,7 +81,7 @@ length-ask_fields (Set id t) = refl
 length-ask_fields (Rm id) = refl
 length-ask_fields (Row slot) = refl
 
--- a text that came in a request has room in a body
+-- The body in a request fits in a `Body`.
 text_short : (a : Ask) (text : List ℕ) (n : ℕ) → text ≡ ask_text (op_of a) text → n ≡ 2 + length (ask_fields a ++ ask_text (op_of a) text) → n ≤ 8274 → length text ≤ 8256
 text_short (Snd i t f) text n empty len most = omega (arith, len, most, length-append (ask_fields (Snd i t f)) text, length-ask_fields (Snd i t f))
 text_short (Hello c) text n empty len most = let none = ap length empty in omega (arith, none)
@@ -102,7 +102,7 @@ request_read ask n version op byte number head text a b c h v o most fits len sa
   subst (λ x. text ≡ ask_text x text) (sym same) empty,
 )
 
--- what the head and the text of a request spell
+-- The head and the body of a request are its spelling.
 pub request_is : (version : Version) (ask : Ask) (op : Op) (fields text head : List ℕ) → op ≡ op_of ask → fields ≡ ask_fields ask
     → head ≡ u32_bytes (2 + length fields + length (ask_text op text)) ++ (version_number version ∷ op_number op ∷ fields) → head ++ ask_text op text ≡ request_spelling record { version = version; ask = ask } text
 request_is version ask op fields text head o f h =
@@ -110,7 +110,7 @@ request_is version ask op fields text head o f h =
     ∙ ap (λ l. frame (version_number version ∷ op_number op ∷ (l ++ ask_text op text))) f
     ∙ ap (λ x. frame (version_number version ∷ op_number x ∷ (ask_fields ask ++ ask_text x text))) o
 
--- the same where the operation has a text, and where it has none
+-- The same for an operation with a body, and for one without.
 pub request_with_text : (version : Version) (ask : Ask) (op : Op) (fields text head bytes : List ℕ) (size : ℕ) → op ≡ op_of ask → fields ≡ ask_fields ask → has_text op ≡ true
     → bytes ≡ head → size ≡ length text → head ≡ u32_bytes (2 + length fields + size) ++ (version_number version ∷ op_number op ∷ fields) → bytes ++ text ≡ request_spelling record { version = version; ask = ask } text
 request_with_text version ask op fields text head bytes size o f has b s h =
@@ -125,6 +125,6 @@ request_without_text version ask op fields text head bytes o f has b h =
     let all : head ≡ u32_bytes (2 + length fields + length (ask_text op text)) ++ (version_number version ∷ op_number op ∷ fields) = rw none h in
     b ∙ sym (append-nil head) ∙ ap (λ l. head ++ l) (sym none) ∙ request_is version ask op fields text head o f all
 
--- a request with a text is at least as long as its head and its fields
+-- A request with a body is at least as long as its head and its fields.
 pub text_length : (op : Op) (n : ℕ) → has_text op ≡ true → IsRequestLength op n → 2 + fields_len op ≤ n
 text_length op n has wanted = subst (λ b. MatchBool b (2 + fields_len op ≤ n) (n ≡ 2 + fields_len op)) has wanted

@@ -1,6 +1,6 @@
--- What a reader has taken of the input where it tells a fault (this profile's order): the length is
--- judged first, then the version, the operation and the length that the operation wants, and then
--- comes the rest of the frame.
+-- What a reader has taken of the input when it returns a fault (the order is this project's
+-- profile). The length is checked first, then the version, the operation and the length that the
+-- operation has, and then the rest of the frame is read.
 use Rattle.std.specs.Prelude.{◌≡◌, ◌≢◌, ◌<◌, ◌≤◌, ◌+◌, ◌^◌, ◌⊎◌, ⊤, ℕ, Bool, true, false, List, [], ◌∷◌, ◌++◌, length, Option, Result, Ok, Err}
 use Rattle.std.specs.Io.KnownBytes.{Consumes, IsAtEnd}
 use Rattle.sysv_wire.specs.declared.fault.Fault.{Fault}
@@ -12,7 +12,7 @@ use Rattle.sysv_wire.specs.Frames.{IsNoVersion, IsVersion, op_number, version_nu
 use Rattle.sysv_wire.specs.Numbers.{u32_bytes}
 use Rattle.sysv_wire.specs.Requests.{IsRequestLength}
 
--- the fault is that the reader failed
+-- The fault is that the reader failed.
 abbrev pub is_read : Fault → Bool
 is_read Truncated = false
 is_read TooLong = false
@@ -20,12 +20,12 @@ is_read BadOp = false
 is_read BadField = false
 is_read Read = true
 
--- the answer is that fault
+-- The result is that the reader failed.
 abbrev pub is_read_fault : {T : Type 0} → Result T Fault → Bool
 is_read_fault (Ok value) = false
 is_read_fault (Err fault) = is_read fault
 
--- after this fault the input is at its end
+-- After this fault the input is at its end. This is stated of `Truncated` only.
 abbrev pub EndsAt : Fault → Option (List ℕ) → Type 0
 EndsAt Truncated new = IsAtEnd new
 EndsAt TooLong new = ⊤
@@ -33,11 +33,11 @@ EndsAt BadOp new = ⊤
 EndsAt BadField new = ⊤
 EndsAt Read new = ⊤
 
--- the bytes that were taken are why this fault is told
+-- The bytes that were taken are the cause of this fault.
 abbrev pub Faults : (Fault → List ℕ → Type 0) → Fault → Option (List ℕ) → Option (List ℕ) → Type 0
 Faults IsWhy fault old new = (taken : List ℕ) × Consumes old new taken × IsWhy fault taken × EndsAt fault new
 
--- the input ended within some bytes, or could not be read
+-- The input ended within some bytes, or could not be read.
 abbrev pub Breaks : (List ℕ → Type 0) → Fault → List ℕ → Type 0
 Breaks IsPart Truncated taken = IsPart taken
 Breaks IsPart Read taken = ⊤
@@ -45,20 +45,20 @@ Breaks IsPart TooLong taken = ⊥
 Breaks IsPart BadOp taken = ⊥
 Breaks IsPart BadField taken = ⊥
 
--- fewer bytes than these
+-- There are fewer than this number of bytes.
 abbrev pub IsShorter : ℕ → List ℕ → Type 0
 IsShorter n taken = length taken < n
 
--- a part of a length: one to three bytes
+-- A part of a length field: one to three bytes.
 abbrev pub IsPartLength : List ℕ → Type 0
 IsPartLength taken = (0 < length taken) × (length taken < 4)
 
--- A head is a length within the limits and the bytes after it that are judged with it, as many as the
--- least length.
+-- A part of a head. A head is a length within the limits, followed by the bytes that are checked
+-- with it, whose number is the minimum length.
 abbrev pub IsPartHead : ℕ → ℕ → List ℕ → Type 0
 IsPartHead least most taken = (n : ℕ) × (part : List ℕ) × (least ≤ n) × (n ≤ most) × (length part < least) × (taken ≡ u32_bytes n ++ part)
 
--- why a length is refused
+-- Why a length is refused.
 abbrev pub LengthFault : ℕ → ℕ → ℕ → Fault → Type 0
 LengthFault least most n TooLong = most < n
 LengthFault least most n BadField = n < least
@@ -66,7 +66,7 @@ LengthFault least most n Truncated = ⊥
 LengthFault least most n BadOp = ⊥
 LengthFault least most n Read = ⊥
 
--- why a head is refused, whose length is to be within these limits
+-- Why a head whose length must be within these limits is refused.
 abbrev pub HeadFault : ℕ → ℕ → Fault → List ℕ → Type 0
 HeadFault least most Truncated taken = IsPartLength taken ⊎ IsPartHead least most taken
 HeadFault least most TooLong taken = (n : ℕ) × (n < 2 ^ 32) × LengthFault least most n TooLong × (taken ≡ u32_bytes n)
@@ -74,12 +74,12 @@ HeadFault least most BadField taken = (n : ℕ) × (n < 2 ^ 32) × LengthFault l
 HeadFault least most BadOp taken = ⊥
 HeadFault least most Read taken = ⊤
 
--- no version, or a length that is not the operation's
+-- The number is no version's, or the length is not one that the operation has.
 abbrev pub IsBadRequest : ℕ → ℕ → ℕ → Type 0
 IsBadRequest n version number =
     IsNoVersion version ⊎ (IsVersion version × ((op : Op) × (op_number op ≡ number) × ¬ IsRequestLength op n))
 
--- why a request with this length, version and operation is refused
+-- Why a request with this length, version and operation is refused.
 abbrev pub OpFault : ℕ → ℕ → ℕ → Fault → Type 0
 OpFault n version number BadField = IsBadRequest n version number
 OpFault n version number BadOp = IsVersion version × (7 < number)
@@ -87,17 +87,18 @@ OpFault n version number Truncated = ⊥
 OpFault n version number TooLong = ⊥
 OpFault n version number Read = ⊥
 
--- a request's length within the limits, its version and its operation
+-- The length of a request within the limits, its version and its operation.
 abbrev pub IsRequestHead : ℕ → ℕ → ℕ → List ℕ → Type 0
 IsRequestHead n version number taken =
     (MIN_REQUEST ≤ n) × (n ≤ MAX_REQUEST) × (taken ≡ u32_bytes n ++ version ∷ number ∷ [])
 
--- a request's head, and not all of the rest
+-- The head of a request, and a part of the rest.
 abbrev pub IsPartRequest : List ℕ → Type 0
 IsPartRequest taken = (n : ℕ) × (version : Version) × (op : Op) × (part : List ℕ) × (n ≤ MAX_REQUEST) × IsRequestLength op n
     × (2 + length part < n) × (taken ≡ u32_bytes n ++ (version_number version ∷ op_number op ∷ part))
 
--- why a request is refused: for its length, for what is judged with it, or as the input ends within it
+-- Why a request is refused: because of its length, because of what is checked with the length, or
+-- because the input ends within the request.
 abbrev pub RequestFault : Fault → List ℕ → Type 0
 RequestFault Truncated taken = HeadFault MIN_REQUEST MAX_REQUEST Truncated taken ⊎ IsPartRequest taken
 RequestFault TooLong taken = HeadFault MIN_REQUEST MAX_REQUEST TooLong taken

@@ -1,3 +1,4 @@
+-- The definitions of frames.
 pub mod Numbers
 pub mod Frames
 pub mod Requests

@@ -1,16 +1,21 @@
--- Each spelling is that of one request, or of one reply, and none is a prefix of another's: what stands
--- at the start of some bytes is at most one of them, and so is what is after it.
+-- Each spelling is that of one request, or of one reply, and none is a prefix of another's (this
+-- project's profile). So at most one of them begins a list of bytes, and what follows it is unique
+-- too.
 use Rattle.std.specs.Prelude.{◌≡◌, List, ℕ, ◌++◌}
 use Rattle.sysv_wire.specs.declared.reply.Reply.{Reply}
 use Rattle.sysv_wire.specs.declared.request.Request.{Request}
 use Rattle.sysv_wire.specs.Replies.{FitsReply, outcome_text, reply_spelling}
 use Rattle.sysv_wire.specs.Requests.{FitsRequest, ask_text, op_of, request_spelling}
 
+-- If the spellings of two requests begin the same bytes, the requests are equal, and so are their
+-- bodies and the bytes that follow.
 abbrev pub OneRequest : Type 0
 OneRequest = (a b : Request) (text other behind rest : List ℕ) → FitsRequest a text → FitsRequest b other
     → request_spelling a text ++ behind ≡ request_spelling b other ++ rest
     → (a ≡ b) × (ask_text (op_of a.ask) text ≡ ask_text (op_of b.ask) other) × (behind ≡ rest)
 
+-- If the spellings of two replies begin the same bytes, the replies are equal, and so are their
+-- bodies and the bytes that follow.
 abbrev pub OneReply : Type 0
 OneReply = (a b : Reply) (text other behind rest : List ℕ) → FitsReply a text → FitsReply b other
     → reply_spelling a text ++ behind ≡ reply_spelling b other ++ rest

@@ -1,4 +1,4 @@
--- What a reader answers, and what it has taken of the input.
+-- What a reader of frames returns, and what it has taken of the input (this project's profile).
 use Rattle.std.specs.Prelude.{◌≡◌, ℕ, List, [], Option, None, Some, Result, Ok, Err}
 use Rattle.std.specs.Io.KnownBytes.{Consumes, IsAtEnd}
 use Rattle.sysv_wire.specs.declared.fault.Fault.{Fault}
@@ -9,7 +9,7 @@ use Rattle.sysv_wire.specs.Replies.{FitsReply, outcome_text, reply_spelling}
 use Rattle.sysv_wire.specs.ReplyFaults.{ReplyFault}
 use Rattle.sysv_wire.specs.Requests.{FitsRequest, op_of, ask_text, request_spelling}
 
--- A request and its text, which stand for their spelling; none where the input is at its end; or a
+-- A request and its body, whose spelling was taken; or none, and the input is at its end; or a
 -- fault.
 abbrev pub ReadsRequest : Option (List ℕ) → Option (List ℕ) → Result (Option Request) Fault → List ℕ → Type 0
 ReadsRequest old new (Ok (Some request)) text =
@@ -17,7 +17,8 @@ ReadsRequest old new (Ok (Some request)) text =
 ReadsRequest old new (Ok None) text = Consumes old new [] × IsAtEnd new × (text ≡ [])
 ReadsRequest old new (Err fault) text = Faults RequestFault fault old new
 
--- the same of a reply, which is one that its operation may give
+-- A reply and its body, whose spelling was taken, and the reply is one that its operation may have;
+-- or none, and the input is at its end; or a fault.
 abbrev pub ReadsReply : Option (List ℕ) → Option (List ℕ) → Result (Option Reply) Fault → List ℕ → Type 0
 ReadsReply old new (Ok (Some reply)) text =
     Consumes old new (reply_spelling reply text) × FitsReply reply text × (text ≡ outcome_text reply.result text)

@@ -1,6 +1,6 @@
--- The one spelling of each reply (this profile's): the operation, the number of the error or 0, and then
--- the fields of what is answered in order, and after those of a receive's the message's text. A refusal
--- has no fields.
+-- The one spelling of each reply (this project's profile): the version, the operation, the number
+-- of the error or 0, then the fields of the result in order, and after the fields of a receive the
+-- body of the message. An error has no fields.
 use Rattle.std.specs.Prelude.{◌≡◌, ◌≤◌, ◌<◌, ◌^◌, ◌==◌, length, ⊤, ◌⊎◌, ℕ, Bool, true, false, List, [], ◌∷◌, ◌++◌, None, Some, MatchBool, if◌then◌else◌}
 use Rattle.std.specs.Int.{w32, w64}
 use Rattle.std.specs.Int.RustNames.{FitsSigned}
@@ -20,7 +20,7 @@ use Rattle.sysv_wire.specs.declared.reply.Reply.{Reply}
 use Rattle.sysv_wire.specs.Frames.{op_number, version_number, frame}
 use Rattle.sysv_wire.specs.Numbers.{u16_bytes, u32_bytes, u64_bytes, i32_bytes, i64_bytes}
 
--- the numbers are in the ranges of their types
+-- The numbers are in the ranges of their types.
 pub record FitsPerm (perm : Perm) : Type 0 where
   pub uid : perm.uid < 2 ^ 32
   pub gid : perm.gid < 2 ^ 32
@@ -28,6 +28,7 @@ pub record FitsPerm (perm : Perm) : Type 0 where
   pub cgid : perm.cgid < 2 ^ 32
   pub mode : perm.mode < 2 ^ 16
 
+-- The numbers of the attributes are in the ranges of their types.
 pub record FitsStat (stat : Told) : Type 0 where
   pub key : FitsSigned w32 stat.key
   pub perm : FitsPerm stat.perm
@@ -40,6 +41,7 @@ pub record FitsStat (stat : Told) : Type 0 where
   pub rtime : stat.rtime < 2 ^ 64
   pub ctime : stat.ctime < 2 ^ 64
 
+-- The numbers of the row are in the ranges of their types.
 pub record FitsRow (row : Line) : Type 0 where
   pub id : FitsSigned w32 row.id
   pub key : FitsSigned w32 row.key
@@ -48,7 +50,7 @@ pub record FitsRow (row : Line) : Type 0 where
   pub cbytes : row.cbytes < 2 ^ 32
   pub qnum : row.qnum < 2 ^ 32
 
--- the number of the error, 0 where there is none
+-- The number of the error, 0 if there is none.
 abbrev pub error_number : Outcome → ℕ
 error_number (Refused error) = number_of error
 error_number Hello = 0
@@ -61,27 +63,29 @@ error_number Set = 0
 error_number Rm = 0
 error_number (Row row) = 0
 
--- owner, creator and mode
+-- The fields of the owner, creator and mode.
 unfoldable pub perm_fields : Perm → List ℕ
 perm_fields perm = u32_bytes perm.uid ++ (u32_bytes perm.gid ++ (u32_bytes perm.cuid ++ (u32_bytes perm.cgid ++ u16_bytes perm.mode)))
 
--- what waits, what may wait, and who came last
+-- The fields of the counts: queued bytes and messages, the maximum number of bytes, and the
+-- processes that sent and received last.
 unfoldable pub count_fields : Told → List ℕ
 count_fields stat = u32_bytes stat.cbytes ++ (u32_bytes stat.qnum ++ (u32_bytes stat.qbytes ++ (u32_bytes stat.lspid ++ u32_bytes stat.lrpid)))
 
--- the moments
+-- The fields of the timestamps.
 unfoldable pub time_fields : Told → List ℕ
 time_fields stat = u64_bytes stat.stime ++ (u64_bytes stat.rtime ++ u64_bytes stat.ctime)
 
--- a queue's attributes
+-- The fields of a queue's attributes.
 unfoldable pub stat_fields : Told → List ℕ
 stat_fields stat = i32_bytes stat.key ++ (perm_fields stat.perm ++ (count_fields stat ++ time_fields stat))
 
--- a row that is there
+-- The fields of a row with a queue.
 unfoldable pub row_fields : Line → List ℕ
 row_fields row = i32_bytes row.id ++ (i32_bytes row.key ++ (u32_bytes row.uid ++ (u16_bytes row.mode ++ (u32_bytes row.cbytes ++ u32_bytes row.qnum))))
 
--- the fields without a text: a row that is there is marked by 1, one that is not by 0
+-- The fields of a result without its body. A row with a queue is marked by 1, and a row without one
+-- by 0.
 abbrev pub outcome_fields : Outcome → List ℕ
 outcome_fields (Refused error) = []
 outcome_fields Hello = []
@@ -95,7 +99,7 @@ outcome_fields Rm = []
 outcome_fields (Row None) = 0 ∷ []
 outcome_fields (Row (Some row)) = 1 ∷ row_fields row
 
--- a text stands after the fields: with a receive's alone
+-- The reply has a body after its fields: only that of a receive.
 abbrev pub gives_text : Outcome → Bool
 gives_text (Rcv mtype) = true
 gives_text (Refused error) = false
@@ -108,17 +112,18 @@ gives_text Set = false
 gives_text Rm = false
 gives_text (Row row) = false
 
--- the text, if there is one
+-- The body, if there is one.
 abbrev pub outcome_text : Outcome → List ℕ → List ℕ
 outcome_text outcome text = if gives_text outcome then text else []
 
--- the one spelling of a reply
+-- The one spelling of a reply.
 abbrev pub reply_spelling : Reply → List ℕ → List ℕ
 reply_spelling reply text =
     frame (version_number reply.version ∷ reply.op ∷ error_number reply.result ∷ (outcome_fields reply.result ++ outcome_text reply.result text))
 
--- The operation with this number may answer so in this version: any may be refused, a hello has the
--- number of slots in version 2 alone, and modes have nine bits.
+-- The operation with this number may have this result in this version. Any operation may fail with
+-- an error, the reply to a hello has the number of slots only in version 2, and modes have nine
+-- bits.
 abbrev pub IsAnswer : Version → ℕ → Outcome → Type 0
 IsAnswer version number (Refused error) = number ≤ 7
 IsAnswer version number Hello = (version ≡ One) × (number ≡ op_number op.Hello)
@@ -132,13 +137,14 @@ IsAnswer version number Rm = number ≡ op_number op.Rm
 IsAnswer version number (Row None) = number ≡ op_number op.Row
 IsAnswer version number (Row (Some row)) = (number ≡ op_number op.Row) × (row.mode ≤ MAX_MODE)
 
--- the bytes after the error of a hello's reply: in version 2 the number of slots
+-- The number of bytes after the error of a reply to a hello. In version 2 it is that of the number
+-- of slots.
 abbrev pub hello_len : Version → ℕ
 hello_len One = 0
 hello_len Two = 4
 
--- what an operation gives takes this many bytes after the error: a receive's has its text after its
--- fields, and a row may be there or not
+-- The result of an operation may have this number of bytes after the error. The reply to a receive
+-- has a body after its fields, and a row may have a queue or none.
 abbrev pub IsAnswerLength : Version → Op → ℕ → Type 0
 IsAnswerLength version op.Hello n = n ≡ hello_len version
 IsAnswerLength version op.Get n = n ≡ 4
@@ -149,11 +155,11 @@ IsAnswerLength version op.Set n = n ≡ 0
 IsAnswerLength version op.Rm n = n ≡ 0
 IsAnswerLength version op.Row n = (n ≡ 1) ⊎ (n ≡ 23)
 
--- a reply of the operation with this error may have so many bytes after the error
+-- A reply of the operation with this error may have this number of bytes after the error.
 abbrev pub IsRestLength : Version → Op → ℕ → ℕ → Type 0
 IsRestLength version o error n = MatchBool (error == 0) (IsAnswerLength version o n) (n ≡ 0)
 
--- the numbers are in the ranges of their types
+-- The numbers are in the ranges of their types.
 abbrev pub FitsOutcome : Outcome → Type 0
 FitsOutcome (Refused error) = ⊤
 FitsOutcome Hello = ⊤
@@ -167,6 +173,6 @@ FitsOutcome Rm = ⊤
 FitsOutcome (Row None) = ⊤
 FitsOutcome (Row (Some row)) = FitsRow row
 
--- the reply is one that its operation may give, and it and its text can be sent
+-- The reply is one that its operation may have, and the reply and its body can be sent.
 abbrev pub FitsReply : Reply → List ℕ → Type 0
 FitsReply reply text = IsAnswer reply.version reply.op reply.result × FitsOutcome reply.result × (length text ≤ MESSAGE_BYTES)

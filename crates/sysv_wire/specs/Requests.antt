@@ -1,5 +1,5 @@
--- The one spelling of each request (this profile's): its fields in order, and after those of a send its
--- text.
+-- The one spelling of each request (this project's profile): the version, the operation, its fields
+-- in order, and after the fields of a send its body.
 use Rattle.std.specs.Prelude.{◌≡◌, ◌≤◌, ◌<◌, ◌+◌, ◌^◌, ℕ, length, Bool, true, false, List, [], ◌∷◌, ◌++◌, MatchBool, if◌then◌else◌}
 use Rattle.std.specs.Int.{w32, w64}
 use Rattle.std.specs.Int.RustNames.{FitsSigned}
@@ -12,7 +12,7 @@ use Rattle.sysv_wire.specs.declared.request.Request.{Request}
 use Rattle.sysv_wire.specs.Frames.{op_number, version_number, frame}
 use Rattle.sysv_wire.specs.Numbers.{u32_bytes, i32_bytes, i64_bytes}
 
--- the operation that is asked for
+-- The operation of a request.
 abbrev pub op_of : Ask → Op
 op_of (Hello cred) = op.Hello
 op_of (Get key flags) = op.Get
@@ -23,7 +23,7 @@ op_of (Set id to) = op.Set
 op_of (Rm id) = op.Rm
 op_of (Row slot) = op.Row
 
--- the fields without a text
+-- The fields without the body.
 unfoldable pub ask_fields : Ask → List ℕ
 ask_fields (Hello cred) = u32_bytes cred.uid ++ (u32_bytes cred.gid ++ u32_bytes cred.pid)
 ask_fields (Get key flags) = i32_bytes key ++ u32_bytes flags.0
@@ -34,7 +34,7 @@ ask_fields (Set id to) = i32_bytes id ++ (u32_bytes to.uid ++ (u32_bytes to.gid 
 ask_fields (Rm id) = i32_bytes id
 ask_fields (Row slot) = u32_bytes slot
 
--- a text stands after the fields: with a send alone
+-- The request has a body after its fields: only a send.
 abbrev pub has_text : Op → Bool
 has_text op.Snd = true
 has_text op.Hello = false
@@ -45,16 +45,16 @@ has_text op.Set = false
 has_text op.Rm = false
 has_text op.Row = false
 
--- the text, if the operation has one
+-- The body, if the operation has one.
 abbrev pub ask_text : Op → List ℕ → List ℕ
 ask_text o text = if has_text o then text else []
 
--- the one spelling of a request
+-- The one spelling of a request.
 abbrev pub request_spelling : Request → List ℕ → List ℕ
 request_spelling request text =
     frame (version_number request.version ∷ op_number (op_of request.ask) ∷ (ask_fields request.ask ++ ask_text (op_of request.ask) text))
 
--- the bytes that the fields of an operation take, without a text
+-- The number of bytes in the fields of an operation, without the body.
 abbrev pub fields_len : Op → ℕ
 fields_len op.Hello = 12
 fields_len op.Get = 8
@@ -65,11 +65,12 @@ fields_len op.Set = 20
 fields_len op.Rm = 4
 fields_len op.Row = 4
 
--- a request of the operation may have this length: a text may have any
+-- A request of the operation may have this length. With a body it may be any length that the fields
+-- fit in.
 abbrev pub IsRequestLength : Op → ℕ → Type 0
 IsRequestLength o n = MatchBool (has_text o) (2 + fields_len o ≤ n) (n ≡ 2 + fields_len o)
 
--- the numbers are in the ranges of their types
+-- The numbers are in the ranges of their types.
 abbrev pub FitsAsk : Ask → Type 0
 FitsAsk (Hello cred) = (cred.uid < 2 ^ 32) × (cred.gid < 2 ^ 32) × (cred.pid < 2 ^ 32)
 FitsAsk (Get key flags) = FitsSigned w32 key × (flags.0 < 2 ^ 32)
@@ -80,6 +81,6 @@ FitsAsk (Set id to) = FitsSigned w32 id × (to.uid < 2 ^ 32) × (to.gid < 2 ^ 32
 FitsAsk (Rm id) = FitsSigned w32 id
 FitsAsk (Row slot) = slot < 2 ^ 32
 
--- the request and its text can be sent
+-- The request and its body can be sent.
 abbrev pub FitsRequest : Request → List ℕ → Type 0
 FitsRequest request text = FitsAsk request.ask × (length text ≤ BODY_ROOM)

@@ -4,11 +4,11 @@ ghost use Rattle.sysv_wire.specs.Numbers.{u16_bytes, u32_bytes, u64_bytes, i32_b
 
 use std::marker::Model;
 
-/// The bytes for which there is room: those of the longest frame without a text, the reply that tells
-/// a queue's attributes.
+/// The maximum number of bytes, that of the longest frame without a body: the reply with a queue's
+/// attributes.
 pub(crate) const FIELDS_ROOM: usize = 73;
 
-/// Bytes that are put together in memory of a fixed size.
+/// Bytes that are collected in memory of a fixed size.
 #[derive(Drop)]
 pub(crate) struct Fields {
     bytes: [u8; FIELDS_ROOM],
@@ -26,7 +26,7 @@ impl Model for Fields {
 }
 
 impl Fields {
-    /// None yet.
+    /// Returns a list of no bytes.
     pub(crate) fn new() -> Fields
         ensures { result ≡ [] }
     {
@@ -36,14 +36,14 @@ impl Fields {
         }
     }
 
-    /// All that were put.
+    /// Returns all bytes appended so far.
     pub(crate) fn bytes(&self) -> &[u8]
         ensures { result.now ≡ self.now }
     {
         &self.bytes[..self.len]
     }
 
-    /// Puts bytes at the end.
+    /// Appends these bytes.
     pub(crate) fn put(&mut self, piece: &[u8])
         requires { length self.old + length piece.now ≤ FIELDS_ROOM }
         ensures after { self.new ≡ self.old ++ piece.now }
@@ -54,7 +54,7 @@ impl Fields {
         self.len = end;
     }
 
-    /// Puts one byte at the end.
+    /// Appends one byte.
     pub(crate) fn put_u8(&mut self, byte: u8)
         requires { length self.old + 1 ≤ FIELDS_ROOM }
         ensures after { self.new ≡ self.old ++ byte ∷ [] }
@@ -63,7 +63,7 @@ impl Fields {
         self.put(&[byte]);
     }
 
-    /// Puts a number at the end, in two bytes.
+    /// Appends a number as two bytes.
     #[tactic(auto, unfolding(crate::specs::Numbers::u16_bytes))]
     pub(crate) fn put_u16(&mut self, number: u16)
         requires { length self.old + 2 ≤ FIELDS_ROOM }
@@ -73,7 +73,7 @@ impl Fields {
         self.put(&number.to_be_bytes());
     }
 
-    /// Puts a number at the end, in four bytes.
+    /// Appends a number as four bytes.
     #[tactic(auto, unfolding(crate::specs::Numbers::u32_bytes))]
     pub(crate) fn put_u32(&mut self, number: u32)
         requires { length self.old + 4 ≤ FIELDS_ROOM }
@@ -83,7 +83,7 @@ impl Fields {
         self.put(&number.to_be_bytes());
     }
 
-    /// Puts a number at the end, in eight bytes.
+    /// Appends a number as eight bytes.
     #[tactic(auto, unfolding(crate::specs::Numbers::u64_bytes))]
     pub(crate) fn put_u64(&mut self, number: u64)
         requires { length self.old + 8 ≤ FIELDS_ROOM }
@@ -93,7 +93,7 @@ impl Fields {
         self.put(&number.to_be_bytes());
     }
 
-    /// Puts a signed number at the end, in four bytes.
+    /// Appends a signed number as four bytes.
     #[tactic(auto, unfolding(crate::specs::Numbers::i32_bytes))]
     pub(crate) fn put_i32(&mut self, number: i32)
         requires { length self.old + 4 ≤ FIELDS_ROOM }
@@ -103,7 +103,7 @@ impl Fields {
         self.put(&number.to_be_bytes());
     }
 
-    /// Puts a signed number at the end, in eight bytes.
+    /// Appends a signed number as eight bytes.
     #[tactic(auto, unfolding(crate::specs::Numbers::i64_bytes))]
     pub(crate) fn put_i64(&mut self, number: i64)
         requires { length self.old + 8 ≤ FIELDS_ROOM }

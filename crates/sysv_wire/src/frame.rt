@@ -1,33 +1,33 @@
-//! What all frames have: their limits, their version and their operation.
+//! What all frames have: limits, a version and an operation.
 ghost use Rattle.std.specs.Prelude.{◌≡◌, ◌<◌, IfSome, IfNone};
 ghost use Rattle.sysv_wire.specs.Frames.{IsNoVersion, op_number, version_number};
 
-/// The least length of a request.
+/// The minimum length of a request, in bytes after the length field.
 pub const MIN_REQUEST: u32 = 2;
 
-/// The greatest length of a request: that of a send with a text of 8,256 bytes.
+/// The maximum length of a request: that of a send with a body of 8,256 bytes.
 pub const MAX_REQUEST: u32 = 8274;
 
-/// The least length of a reply.
+/// The minimum length of a reply, in bytes after the length field.
 pub const MIN_REPLY: u32 = 3;
 
-/// The greatest length of a reply: that of a receive's with a text of 8,192 bytes.
+/// The maximum length of a reply: that of a receive's reply with a body of 8,192 bytes.
 pub const MAX_REPLY: u32 = 8203;
 
-/// The greatest mode of a queue, nine bits.
+/// The maximum mode of a queue: nine bits.
 pub const MAX_MODE: u16 = 0o777;
 
-/// The version of a frame, which is the first byte after its length.
+/// The version of a frame, which is the first byte after its length field.
 #[derive(Clone, Copy, PartialEq, Eq, Debug)]
 pub enum Version {
     /// Version 1.
     One,
-    /// Version 2: the reply to a hello has the number of slots.
+    /// Version 2, in which the reply to a hello has the number of slots.
     Two,
 }
 
 impl Version {
-    /// The version's number, 1 or 2.
+    /// Returns the version's number, 1 or 2.
     pub fn number(self) -> u8
         ensures { result ≡ version_number self }
     {
@@ -37,7 +37,7 @@ impl Version {
         }
     }
 
-    /// The version with this number, if it is 1 or 2.
+    /// Returns the version with this number, or `None` if the number is neither 1 nor 2.
     pub fn of(number: u8) -> Option<Version>
         ensures some { IfSome result (λ version. version_number version ≡ number) }
         ensures none { IfNone result (IsNoVersion number) }
@@ -50,10 +50,10 @@ impl Version {
     }
 }
 
-/// What a request asks for and a reply answers.
+/// The operation of a request and of its reply.
 #[derive(Clone, Copy, PartialEq, Eq, Debug)]
 pub enum Op {
-    /// Says who makes the calls of a session.
+    /// States the credentials for the calls of a session.
     Hello,
     /// `msgget`.
     Get,
@@ -67,12 +67,12 @@ pub enum Op {
     Set,
     /// `msgctl` with `IPC_RMID`.
     Rm,
-    /// Asks for one line of the list of queues.
+    /// Requests one row of the list of queues.
     Row,
 }
 
 impl Op {
-    /// The operation's number, 0 to 7.
+    /// Returns the operation's number, 0 to 7.
     pub fn number(self) -> u8
         ensures { result ≡ op_number self }
     {
@@ -88,7 +88,7 @@ impl Op {
         }
     }
 
-    /// The operation with this number, if it is one of 0 to 7.
+    /// Returns the operation with this number, or `None` if the number is above 7.
     pub fn of(number: u8) -> Option<Op>
         ensures some { IfSome result (λ op. op_number op ≡ number) }
         ensures none { IfNone result (7 < number) }

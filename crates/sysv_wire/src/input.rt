@@ -1,4 +1,4 @@
-//! Bytes from a reader, by its `read` alone.
+//! Reads bytes from a reader, only by its `read`.
 ghost use Rattle.std.specs.Prelude.{◌≡◌, ◌<◌, ◌≤◌, ◌++◌, [], ℕ, List, take, length, ⊤, IfOk, IfErr, OnOk, MatchOption};
 ghost use Rattle.std.specs.Io.KnownBytes.{Consumes, IsAtEnd};
 ghost use Rattle.sysv_model.specs.Watched.{failures_of, failures_after, stream_name, stream_of};
@@ -10,7 +10,7 @@ use crate::number::take_u32;
 use std::io::Read;
 use sysv_model::{BLOCK_BYTES, BODY_ROOM, Body, Watched};
 
-/// Reads until the bytes are full or the input ends; the number of bytes that came.
+/// Reads until `bytes` is full or the input ends. Returns the number of bytes read.
 pub(crate) fn fill<R: Read>(reader: &mut Watched<'_, R>, bytes: &mut [u8]) -> Result<usize, Fault>
     ensures taken { IfOk result (λ count.
         Consumes (R.remaining (stream_of reader.old)) (R.remaining (stream_of reader.new))
@@ -36,7 +36,7 @@ pub(crate) fn fill<R: Read>(reader: &mut Watched<'_, R>, bytes: &mut [u8]) -> Re
     Ok(count)
 }
 
-/// Reads until the bytes are full; `Truncated` where the input ends before.
+/// Reads until `bytes` is full. Fails with `Truncated` if the input ends before.
 pub(crate) fn fill_all<R: Read>(reader: &mut Watched<'_, R>, bytes: &mut [u8]) -> Result<(), Fault>
     ensures taken { OnOk result (Consumes (R.remaining (stream_of reader.old))
         (R.remaining (stream_of reader.new)) bytes.new) }
@@ -54,7 +54,7 @@ pub(crate) fn fill_all<R: Read>(reader: &mut Watched<'_, R>, bytes: &mut [u8]) -
     Ok(())
 }
 
-/// Reads a length; `None` where the input ends before it.
+/// Reads a length field. Returns `None` if the input ends before it.
 fn read_length<R: Read>(reader: &mut Watched<'_, R>) -> Result<Option<u32>, Fault>
     ensures found { IfOk result (λ found. MatchOption found
         (Consumes (R.remaining (stream_of reader.old)) (R.remaining (stream_of reader.new)) []
@@ -79,7 +79,7 @@ fn read_length<R: Read>(reader: &mut Watched<'_, R>) -> Result<Option<u32>, Faul
     }
 }
 
-/// Judges a length by its limits.
+/// Checks a length against its limits.
 fn check_length(length: u32, least: usize, most: u32) -> Result<(), Fault>
     ensures within { OnOk result ((least ≤ length) × (length ≤ most)) }
     ensures fault { IfErr result (λ fault. LengthFault least most length fault) }
@@ -93,8 +93,8 @@ fn check_length(length: u32, least: usize, most: u32) -> Result<(), Fault>
     Ok(())
 }
 
-/// Reads the head of a frame, its length and the first bytes of what follows, as many as the least
-/// length; `None` where the input ends before it.
+/// Reads the head of a frame: the length field, and the first bytes after it into `head`, whose
+/// length is the minimum length of a frame. Returns `None` if the input ends before the frame.
 pub(crate) fn read_head<R: Read>(
     reader: &mut Watched<'_, R>,
     most: u32,
@@ -120,7 +120,7 @@ pub(crate) fn read_head<R: Read>(
     Ok(Some(length))
 }
 
-/// Reads a text of this many bytes into an empty body.
+/// Reads a body of `len` bytes into an empty `Body`.
 pub(crate) fn read_text<R: Read>(
     reader: &mut Watched<'_, R>,
     len: usize,

@@ -1,24 +1,26 @@
-//! Laws over the definitions alone.
+//! Laws about the definitions.
 ghost use Rattle.sysv_wire.specs.OneAnswer.{OneAnswerToReplies, OneAnswerToRequests};
 ghost use Rattle.sysv_wire.specs.OneSpelling.{OneRequest, OneReply};
 
-/// Each spelling of a request is that of one request, and none is a prefix of another's.
+/// States that each spelling of a request is that of one request, and that none is a prefix of
+/// another request's spelling.
 pub fn one_request()
     ensures { OneRequest }
 {}
 
-/// Each spelling of a reply is that of one reply, and none is a prefix of another's.
+/// States that each spelling of a reply is that of one reply, and that none is a prefix of another
+/// reply's spelling.
 pub fn one_reply()
     ensures { OneReply }
 {}
 
-/// At most one answer of a reader of requests fits an input: so what it answers, unless it fails, is the
-/// one that does.
+/// States that at most one result of reading a request fits an input. So if the reader does not
+/// fail, the result is the one that fits.
 pub fn one_answer_to_requests()
     ensures { OneAnswerToRequests }
 {}
 
-/// At most one answer of a reader of replies fits an input.
+/// States that at most one result of reading a reply fits an input.
 pub fn one_answer_to_replies()
     ensures { OneAnswerToReplies }
 {}

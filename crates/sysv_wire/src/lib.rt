@@ -1,5 +1,6 @@
 //! The frames of a session: requests and replies as bytes, read from any reader and written to any
-//! writer. `specs/` has the spelling of each, and what a reader returns for bytes that spell none.
+//! writer. `specs/` defines the spelling of each frame, and what a reader returns for bytes that
+//! spell none.
 //!
 //! ```rust
 //! let ask = Ask::Get { key: 7, flags };

@@ -1,8 +1,8 @@
-//! Numbers from the start of some bytes.
+//! Reads numbers from the start of a byte slice.
 ghost use Rattle.std.specs.Prelude.{◌≡◌, ◌+◌, ◌≤◌, ◌++◌, length};
 ghost use Rattle.sysv_wire.specs.Numbers.{u16_bytes, u32_bytes, u64_bytes, i32_bytes, i64_bytes};
 
-/// The number in the first two bytes, and what is after them.
+/// Returns the number in the first two bytes, and the bytes after it.
 pub(crate) fn take_u16(bytes: &[u8]) -> (u16, &[u8])
     requires { 2 ≤ length bytes.now }
     ensures spelled { bytes.now ≡ u16_bytes result.0 ++ result.1.now }
@@ -12,7 +12,7 @@ pub(crate) fn take_u16(bytes: &[u8]) -> (u16, &[u8])
     (u16::from_be_bytes([front[0], front[1]]), rest)
 }
 
-/// The number in the first four bytes, and what is after them.
+/// Returns the number in the first four bytes, and the bytes after it.
 pub(crate) fn take_u32(bytes: &[u8]) -> (u32, &[u8])
     requires { 4 ≤ length bytes.now }
     ensures spelled { bytes.now ≡ u32_bytes result.0 ++ result.1.now }
@@ -23,7 +23,7 @@ pub(crate) fn take_u32(bytes: &[u8]) -> (u32, &[u8])
     (number, rest)
 }
 
-/// The number in the first eight bytes, and what is after them.
+/// Returns the number in the first eight bytes, and the bytes after it.
 pub(crate) fn take_u64(bytes: &[u8]) -> (u64, &[u8])
     requires { 8 ≤ length bytes.now }
     ensures spelled { bytes.now ≡ u64_bytes result.0 ++ result.1.now }
@@ -36,7 +36,7 @@ pub(crate) fn take_u64(bytes: &[u8]) -> (u64, &[u8])
     (number, rest)
 }
 
-/// The signed number in the first four bytes, and what is after them.
+/// Returns the signed number in the first four bytes, and the bytes after it.
 pub(crate) fn take_i32(bytes: &[u8]) -> (i32, &[u8])
     requires { 4 ≤ length bytes.now }
     ensures spelled { bytes.now ≡ i32_bytes result.0 ++ result.1.now }
@@ -46,7 +46,7 @@ pub(crate) fn take_i32(bytes: &[u8]) -> (i32, &[u8])
     (number.cast_signed(), rest)
 }
 
-/// The signed number in the first eight bytes, and what is after them.
+/// Returns the signed number in the first eight bytes, and the bytes after it.
 pub(crate) fn take_i64(bytes: &[u8]) -> (i64, &[u8])
     requires { 8 ≤ length bytes.now }
     ensures spelled { bytes.now ≡ i64_bytes result.0 ++ result.1.now }
@@ -56,7 +56,7 @@ pub(crate) fn take_i64(bytes: &[u8]) -> (i64, &[u8])
     (number.cast_signed(), rest)
 }
 
-/// The number that these four bytes are.
+/// Returns the number that these four bytes spell.
 pub(crate) fn only_u32(bytes: &[u8]) -> u32
     requires { length bytes.now ≡ 4 }
     ensures { bytes.now ≡ u32_bytes result }
@@ -64,7 +64,7 @@ pub(crate) fn only_u32(bytes: &[u8]) -> u32
     take_u32(bytes).0
 }
 
-/// The signed number that these four bytes are.
+/// Returns the signed number that these four bytes spell.
 pub(crate) fn only_i32(bytes: &[u8]) -> i32
     requires { length bytes.now ≡ 4 }
     ensures { bytes.now ≡ i32_bytes result }
@@ -72,7 +72,7 @@ pub(crate) fn only_i32(bytes: &[u8]) -> i32
     take_i32(bytes).0
 }
 
-/// The number that these eight bytes are.
+/// Returns the number that these eight bytes spell.
 pub(crate) fn only_u64(bytes: &[u8]) -> u64
     requires { length bytes.now ≡ 8 }
     ensures { bytes.now ≡ u64_bytes result }
@@ -80,7 +80,7 @@ pub(crate) fn only_u64(bytes: &[u8]) -> u64
     take_u64(bytes).0
 }
 
-/// The signed number that these eight bytes are.
+/// Returns the signed number that these eight bytes spell.
 pub(crate) fn only_i64(bytes: &[u8]) -> i64
     requires { length bytes.now ≡ 8 }
     ensures { bytes.now ≡ i64_bytes result }

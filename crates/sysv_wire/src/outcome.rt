@@ -1,4 +1,4 @@
-//! What a reply answers, from its fields.
+//! The result in a reply, from its fields.
 ghost use Rattle.std.specs.Prelude.{◌≡◌, ◌≢◌, ◌≤◌, ◌+◌, ◌++◌, ◌∷◌, ◌⊎◌, [], length, false, IfOk, IfErr};
 ghost use Rattle.sysv_model.specs.Errors.{number_of};
 ghost use Rattle.sysv_wire.specs.Frames.{op_number};
@@ -12,7 +12,7 @@ use crate::number::{only_i32, only_u32, only_u64, take_i32, take_u16, take_u32, 
 use crate::reply::Outcome;
 use sysv_model::{Errno, Perm, Row, Stat};
 
-/// The error with this number, which is not 0.
+/// Returns the error with this number, which is not 0.
 pub(crate) fn errno_of(number: u8) -> Result<Errno, Fault>
     requires { number ≢ 0 }
     ensures ok { IfOk result (λ error. number_of error ≡ number) }
@@ -34,7 +34,7 @@ pub(crate) fn errno_of(number: u8) -> Result<Errno, Fault>
     }
 }
 
-/// What an operation gives whose answer has no text, from the fields.
+/// Returns the result of an operation whose reply has no body, from its fields.
 pub(crate) fn outcome_of(version: Version, op: Op, fields: &[u8]) -> Result<Outcome, Fault>
     requires len { IsAnswerLength version op (length fields.now) }
     requires other { op ≢ Op.Rcv }
@@ -68,7 +68,7 @@ pub(crate) fn outcome_of(version: Version, op: Op, fields: &[u8]) -> Result<Outc
     }
 }
 
-/// What a hello's fields say in this version.
+/// Returns the result of a hello in this version, from its fields.
 fn hello_of(version: Version, fields: &[u8]) -> Outcome
     requires { IsAnswerLength version Op.Hello (length fields.now) }
     ensures answer { IsAnswer version 0 result }
@@ -85,7 +85,7 @@ fn hello_of(version: Version, fields: &[u8]) -> Outcome
     }
 }
 
-/// What a row's mark and the bytes after it say.
+/// Returns the result of a request for a row, from the mark and the bytes after it.
 fn marked_row(mark: u8, rest: &[u8]) -> Result<Outcome, Fault>
     requires { (length rest.now ≡ 0) ⊎ (length rest.now ≡ 22) }
     ensures answer { (version : Versions) → IfOk result (λ outcome. IsAnswer version 7 outcome) }
@@ -113,7 +113,7 @@ fn marked_row(mark: u8, rest: &[u8]) -> Result<Outcome, Fault>
     Ok(Outcome::Row(Some(row)))
 }
 
-/// The row whose fields these are.
+/// Returns the row with these fields.
 #[tactic(auto, unfolding(crate::specs::Replies::row_fields))]
 fn row_of(fields: &[u8]) -> Row
     requires { length fields.now ≡ 22 }
@@ -136,7 +136,7 @@ fn row_of(fields: &[u8]) -> Row
     }
 }
 
-/// Owner, creator and mode at the start, and what is after them.
+/// Returns the owner, creator and mode at the start of `fields`, and the bytes after them.
 #[tactic(auto, using(std::proofs::Common::append_assoc), unfolding(crate::specs::Replies::perm_fields))]
 fn take_perm(fields: &[u8]) -> (Perm, &[u8])
     requires { 18 ≤ length fields.now }
@@ -159,7 +159,7 @@ fn take_perm(fields: &[u8]) -> (Perm, &[u8])
     (perm, fields)
 }
 
-/// The attributes whose fields these are.
+/// Returns the attributes with these fields.
 #[tactic(auto, using(std::proofs::Common::append_assoc), unfolding(crate::specs::Replies::stat_fields, crate::specs::Replies::count_fields, crate::specs::Replies::time_fields))]
 fn stat_of(fields: &[u8]) -> Stat
     requires { length fields.now ≡ 66 }

@@ -1,4 +1,4 @@
-//! Message bodies, and frames that end with one, to a writer.
+//! Writes message bodies, and frames that end with a body.
 ghost use Rattle.std.specs.Prelude.{◌≡◌, ◌++◌, is_err, OnOk, OnErr};
 ghost use Rattle.std.specs.Io.KnownBytes.{Appends};
 ghost use Rattle.sysv_model.specs.Watched.{failures_of, failures_after, stream_name, stream_of};
@@ -7,7 +7,7 @@ ghost use Rattle.sysv_model.specs.Writing.{AppendsPrefix};
 use std::io::Write;
 use sysv_model::{BLOCK_BYTES, Body, Watched, WriteFault};
 
-/// Writes a message body block by block.
+/// Writes a message body, block by block.
 pub(crate) fn write_text<W: Write>(
     writer: &mut Watched<'_, W>,
     text: &Body,
@@ -27,7 +27,7 @@ pub(crate) fn write_text<W: Write>(
     Ok(())
 }
 
-/// Writes the bytes of a frame before its message body, and then the body.
+/// Writes the bytes of a frame before its body, and then the body.
 pub(crate) fn write_both<W: Write>(
     writer: &mut Watched<'_, W>,
     front: &[u8],

@@ -1,4 +1,4 @@
-//! Replies, read and written.
+//! Reads and writes replies.
 ghost use Rattle.std.specs.Prelude.{◌≡◌, ◌≢◌, ◌≤◌, ◌+◌, ◌-◌, ◌++◌, ◌∷◌, ◌⊎◌, [], ℕ, List, Option, Some, Result, Err, length, ◌==◌, ◌↔◌, true, false, IsTrue, is_err, IfOk, IfErr, OnOk, OnErr};
 ghost use Rattle.std.specs.Io.KnownBytes.{Appends, Consumes};
 ghost use Rattle.sysv_model.specs.Watched.{failures_of, failures_after, stream_name, stream_of};
@@ -23,14 +23,15 @@ use crate::reply::{Outcome, Reply};
 use std::io::{Read, Write};
 use sysv_model::{Body, MESSAGE_BYTES, Perm, Row, Stat, Watched, WriteFault};
 
-/// The most bytes that the fields of a reply take, its text not counted.
+/// The maximum number of bytes in the fields of a reply, without its body.
 const MAX_FIELDS: usize = 66;
 
-/// The most bytes after the error of a reply.
+/// The maximum number of bytes after the error of a reply.
 const MAX_REST: usize = 8200;
 
-/// Judges the version, the operation and then the length that the operation wants with this error; the
-/// version, the operation, and the bytes after the error.
+/// Checks the version, then the operation, and then the length, which must be one that the
+/// operation has with this error. Returns the version, the operation and the number of bytes after
+/// the error.
 fn judge(length: u32, version: u8, number: u8, error: u8) -> Result<(Version, Op, usize), Fault>
     requires { 3 ≤ length }
     ensures version { IfOk result (λ found. version_number found.0 ≡ version) }
@@ -58,7 +59,7 @@ fn judge(length: u32, version: u8, number: u8, error: u8) -> Result<(Version, Op
     }
 }
 
-/// The bytes after the error of a hello's reply.
+/// Returns the number of bytes after the error of a reply to a hello.
 fn hello_len(version: Version) -> usize
     ensures { result ≡ the_hello_len version }
 {
@@ -68,7 +69,7 @@ fn hello_len(version: Version) -> usize
     }
 }
 
-/// Whether what an operation gives may take so many bytes.
+/// Returns whether the result of an operation may have `rest` bytes.
 fn may_take(version: Version, op: Op, rest: usize) -> bool
     ensures { IsTrue result ↔ IsAnswerLength version op rest }
 {
@@ -84,7 +85,7 @@ fn may_take(version: Version, op: Op, rest: usize) -> bool
     }
 }
 
-/// Reads so many bytes, which are the fields of what an operation other than a receive gives.
+/// Reads `rest` bytes, the fields of the result of an operation other than a receive.
 fn read_fields<R: Read>(
     reader: &mut Watched<'_, R>,
     version: Version,
@@ -114,7 +115,7 @@ fn read_fields<R: Read>(
     outcome_of(version, op, fields)
 }
 
-/// Reads so many bytes, which are the type and the text of a message.
+/// Reads `rest` bytes, the type and the body of a message.
 fn read_message<R: Read>(
     reader: &mut Watched<'_, R>,
     rest: usize,
@@ -145,7 +146,7 @@ fn read_message<R: Read>(
     Ok(Outcome::Rcv { mtype })
 }
 
-/// Reads what stands after the error of a reply.
+/// Reads what follows the error of a reply.
 fn read_rest<R: Read>(
     reader: &mut Watched<'_, R>,
     version: Version,
@@ -183,24 +184,37 @@ fn read_rest<R: Read>(
     }
 }
 
-/// Reads one reply; `None` where the input ends before its first byte. The text of a receive's is then
-/// in `text`, which is empty with any other reply and at the end; after a fault nothing is said of it.
+/// Reads one reply. Returns `None` if the input ends before its first byte.
 ///
-/// No byte after the reply is read, and none at all after what a fault is told of. The length is
-/// judged first, then the version, the operation and the length that it wants with this error, and once
-/// all is read the error, the mark of a row that is there and the mode. Where the input ends within the
-/// frame it is `Truncated`, and where the reader fails it is `Read`.
+/// The body of a received message is then in `text`. For any other reply and at the end of the
+/// input, `text` is empty. After an error its contents are unspecified.
+///
+/// No byte after the reply is read, and after an error none after the bytes that caused it.
+///
+/// # Errors
+///
+/// The length is checked first, then the version, the operation, and the length for that operation
+/// with this error. After the whole frame was read, the error, the mark of a row and the mode are
+/// checked.
+///
+/// - `Truncated` if the input ends within the frame.
+/// - `TooLong` if the length is above `MAX_REPLY`.
+/// - `BadField` if the length is below `MIN_REPLY`, the version is neither 1 nor 2, the operation
+///   does not have this length with this version and error, the error has no name, the mark of a
+///   row is not the one for its length, or a mode is above 0o777.
+/// - `BadOp` if the operation is above 7.
+/// - `Read` if and only if the reader fails.
 pub fn read_reply<R: Read>(
     reader: &mut Watched<'_, R>,
     text: &mut Body,
 ) -> Result<Option<Reply>, Fault>
     ensures reads { ReadsReply (R.remaining (stream_of reader.old))
         (R.remaining (stream_of reader.new)) result text.new }
-    // The answer that fits what the reader had left is given, unless the reader fails.
+    // The result is the one that fits what the reader had left, unless the reader fails.
     ensures only { (input : List ℕ) (answer : Result (Option Reply) Fault) →
         R.remaining (stream_of reader.old) ≡ Some input → ReplyAt input answer →
         (result ≡ answer) ⊎ (result ≡ Err Fault.Read) }
-    // The reader is the same one, and has failed in this call exactly where the answer is `Read`.
+    // The reader stays the same, and fails in this call if and only if the result is `Read`.
     ensures same { stream_name reader.new ≡ stream_name reader.old }
     ensures failed { failures_of reader.new
         ≡ failures_after (is_read_fault result) (failures_of reader.old) }
@@ -208,7 +222,7 @@ pub fn read_reply<R: Read>(
     next_reply(reader, text)
 }
 
-/// The same, by what was taken of the input.
+/// Reads one reply, like `read_reply`. The contract states only what was taken of the input.
 fn next_reply<R: Read>(reader: &mut Watched<'_, R>, text: &mut Body) -> Result<Option<Reply>, Fault>
     ensures reads { ReadsReply (R.remaining (stream_of reader.old))
         (R.remaining (stream_of reader.new)) result text.new }
@@ -230,9 +244,18 @@ fn next_reply<R: Read>(reader: &mut Watched<'_, R>, text: &mut Body) -> Result<O
     }))
 }
 
-/// Writes one reply, and with a receive's the text, by `write` alone; with any other reply the text is
-/// ignored. `WriteFault` where the writer fails or takes no byte, and then it took a prefix of the
-/// reply.
+/// Writes one reply, and the body in `text` if the reply carries a message. For any other reply
+/// `text` is ignored. It calls only `write`, and flushes nothing.
+///
+/// # Errors
+///
+/// - `WriteFault` if and only if a write fails or takes no byte. The writer has then taken a prefix
+///   of the reply.
+///
+/// # Conditions
+///
+/// - The reply is one that its operation has in its version.
+/// - `text` has at most 8,192 bytes.
 pub fn write_reply<W: Write>(
     writer: &mut Watched<'_, W>,
     reply: &Reply,
@@ -244,7 +267,7 @@ pub fn write_reply<W: Write>(
         (W.contents (stream_of writer.new)) (reply_spelling reply.now text.now)) }
     ensures err { OnErr result (AppendsPrefix (W.contents (stream_of writer.old))
         (W.contents (stream_of writer.new)) (reply_spelling reply.now text.now)) }
-    // The writer is the same one, and has failed in this call exactly where the answer is a fault.
+    // The writer stays the same, and fails in this call if and only if the result is an error.
     ensures same { stream_name writer.new ≡ stream_name writer.old }
     ensures failed { failures_of writer.new
         ≡ failures_after (is_err result) (failures_of writer.old) }
@@ -259,14 +282,14 @@ pub fn write_reply<W: Write>(
     }
 }
 
-/// Whether a reply has a text after its fields.
+/// Returns whether a reply has a body after its fields.
 fn takes_text(outcome: &Outcome) -> bool
     ensures { result ≡ gives_text outcome.now }
 {
     matches!(outcome, Outcome::Rcv { .. })
 }
 
-/// The number of the error, 0 where there is none.
+/// Returns the number of the error, 0 if there is none.
 fn error_of(outcome: &Outcome) -> u8
     ensures { result ≡ error_number outcome.now }
 {
@@ -284,7 +307,7 @@ fn error_of(outcome: &Outcome) -> u8
     }
 }
 
-/// The length, the version, the operation, the error and the fields of a reply, whose text has this many
+/// Returns the length, version, operation, error and fields of a reply whose body has `text_len`
 /// bytes.
 fn head_of(reply: &Reply, fields: &Fields, text_len: usize) -> Fields
     requires fields { length fields.now ≤ MAX_FIELDS }
@@ -302,7 +325,7 @@ fn head_of(reply: &Reply, fields: &Fields, text_len: usize) -> Fields
     frame
 }
 
-/// The fields of what is answered.
+/// Returns the fields of a result.
 fn fields_of(outcome: &Outcome) -> Fields
     ensures fields { result ≡ outcome_fields outcome.now }
     ensures most { length result ≤ MAX_FIELDS }
@@ -327,7 +350,7 @@ fn fields_of(outcome: &Outcome) -> Fields
     fields
 }
 
-/// Puts a row at the end.
+/// Appends a row.
 #[tactic(auto, using(std::proofs::Common::append_assoc), unfolding(crate::specs::Replies::row_fields))]
 fn put_row(fields: &mut Fields, row: Row)
     requires { length fields.old ≤ 1 }
@@ -342,7 +365,7 @@ fn put_row(fields: &mut Fields, row: Row)
     fields.put_u32(row.qnum);
 }
 
-/// Puts a queue's attributes where nothing stands yet.
+/// Writes a queue's attributes into empty fields.
 #[tactic(auto, using(std::proofs::Common::append_assoc), unfolding(crate::specs::Replies::stat_fields))]
 fn put_stat(fields: &mut Fields, stat: Stat)
     requires { length fields.old ≡ 0 }
@@ -355,7 +378,7 @@ fn put_stat(fields: &mut Fields, stat: Stat)
     put_times(fields, stat);
 }
 
-/// Puts owner, creator and mode at the end.
+/// Appends the owner, creator and mode.
 #[tactic(auto, using(std::proofs::Common::append_assoc), unfolding(crate::specs::Replies::perm_fields))]
 fn put_perm(fields: &mut Fields, perm: Perm)
     requires { length fields.old ≤ 4 }
@@ -369,7 +392,8 @@ fn put_perm(fields: &mut Fields, perm: Perm)
     fields.put_u16(perm.mode);
 }
 
-/// Puts what waits, what may wait and who came last at the end.
+/// Appends the numbers of queued bytes and messages, the maximum number of bytes, and the processes
+/// that sent and received last.
 #[tactic(auto, using(std::proofs::Common::append_assoc), unfolding(crate::specs::Replies::count_fields))]
 fn put_counts(fields: &mut Fields, stat: Stat)
     requires { length fields.old ≤ 22 }
@@ -383,7 +407,7 @@ fn put_counts(fields: &mut Fields, stat: Stat)
     fields.put_u32(stat.lrpid);
 }
 
-/// Puts the moments at the end.
+/// Appends the timestamps.
 #[tactic(auto, using(std::proofs::Common::append_assoc), unfolding(crate::specs::Replies::time_fields))]
 fn put_times(fields: &mut Fields, stat: Stat)
     requires { length fields.old ≤ 42 }

@@ -1,28 +1,29 @@
-//! What a server answers.
+//! Replies of a server.
 use crate::frame::Version;
 use sysv_model::{Errno, Row, Stat};
 
-/// One reply. The text of a receive's stands beside it, in a `Body`.
+/// One reply. The body of a received message is not in it, but in a separate `Body`.
 #[derive(Clone, Copy, PartialEq, Eq, Debug)]
 pub struct Reply {
-    /// The version of its frame, that of the request.
+    /// The version of the reply's frame. It is the version of the request.
     pub version: Version,
-    /// The number of the operation that is answered, 0 to 7.
+    /// The number of the request's operation, 0 to 7.
     pub op: u8,
-    /// What is answered.
+    /// The result of the operation.
     pub result: Outcome,
 }
 
-/// What a reply answers: a refusal of any operation, or what that operation gives.
+/// The result of an operation: an error, which any operation may have, or the operation's own
+/// result.
 #[derive(Clone, Copy, PartialEq, Eq, Debug)]
 pub enum Outcome {
-    /// The operation is refused.
+    /// The operation failed with this error.
     Refused(Errno),
-    /// The caller is known, in version 1.
+    /// The server knows the caller's credentials, in version 1.
     Hello,
-    /// The caller is known, in version 2.
+    /// The server knows the caller's credentials, in version 2.
     HelloSlots {
-        /// The number of queue slots: a row may be asked for each number below it.
+        /// The number of queue slots. A row may be requested for each number below it.
         slots: u32,
     },
     /// `msgget`.
@@ -32,7 +33,7 @@ pub enum Outcome {
     },
     /// `msgsnd`: the message was accepted.
     Snd,
-    /// `msgrcv`, with the message's text in the `Body`, at most 8,192 bytes.
+    /// `msgrcv`, with the message's body in the `Body`, at most 8,192 bytes.
     Rcv {
         /// The message's type.
         mtype: i64,
@@ -43,6 +44,7 @@ pub enum Outcome {
     Set,
     /// `IPC_RMID`.
     Rm,
-    /// One line of the list of queues, or that no queue lives in the slot. The mode is at most 0o777.
+    /// One row of the list of queues, or `None` if the slot has no queue. The mode is at most
+    /// 0o777.
     Row(Option<Row>),
 }

@@ -1,49 +1,49 @@
-//! What a client asks for.
+//! Requests of a client.
 ghost use Rattle.std.specs.Prelude.{◌≡◌};
 ghost use Rattle.sysv_wire.specs.Requests.{op_of};
 
 use crate::frame::{Op, Version};
 use sysv_model::{Cred, Flags, SetTo};
 
-/// One request. The text of a send stands beside it, in a `Body`.
+/// One request. The body of a send is not in it, but in a separate `Body`.
 #[derive(Clone, Copy, PartialEq, Eq, Debug)]
 pub struct Request {
-    /// The version of its frame.
+    /// The version of the request's frame.
     pub version: Version,
-    /// What is asked for.
+    /// The operation and its fields.
     pub ask: Ask,
 }
 
-/// What a request asks for.
+/// The operation of a request, with its fields.
 #[derive(Clone, Copy, PartialEq, Eq, Debug)]
 pub enum Ask {
-    /// To be known by these credentials.
+    /// States the credentials for the calls of the session.
     Hello(Cred),
     /// `msgget`.
     Get {
-        /// The key, of which 0 is the private one.
+        /// The key. Key 0 is `IPC_PRIVATE`.
         key: i32,
-        /// The flags and the mode, all 32 bits as they came.
+        /// The flags and the mode: all 32 bits as they were sent.
         flags: Flags,
     },
-    /// `msgsnd` of the text in the `Body`, at most 8,256 bytes.
+    /// `msgsnd` of the body in the `Body`, at most 8,256 bytes.
     Snd {
         /// The queue's identifier.
         id: i32,
         /// The message's type.
         mtype: i64,
-        /// The flags, all 32 bits as they came.
+        /// The flags: all 32 bits as they were sent.
         flags: Flags,
     },
     /// `msgrcv`.
     Rcv {
         /// The queue's identifier.
         id: i32,
-        /// The most bytes of text that are wanted.
+        /// The maximum number of bytes of the body to receive.
         size: u32,
-        /// The type that is wanted, as `msgrcv` understands it.
+        /// The type to receive, as `msgrcv` defines it.
         mtype: i64,
-        /// The flags, all 32 bits as they came.
+        /// The flags: all 32 bits as they were sent.
         flags: Flags,
     },
     /// `msgctl` with `IPC_STAT`.
@@ -55,7 +55,7 @@ pub enum Ask {
     Set {
         /// The queue's identifier.
         id: i32,
-        /// What is set; the mode may be any number.
+        /// The values to set. The mode may be any number.
         to: SetTo,
     },
     /// `msgctl` with `IPC_RMID`.
@@ -63,15 +63,15 @@ pub enum Ask {
         /// The queue's identifier.
         id: i32,
     },
-    /// One line of the list of queues.
+    /// Requests one row of the list of queues.
     Row {
-        /// The slot, counted from 0.
+        /// The slot's number, counted from 0.
         slot: u32,
     },
 }
 
 impl Ask {
-    /// The operation that is asked for.
+    /// Returns the operation.
     pub fn op(&self) -> Op
         ensures { result ≡ op_of self.now }
     {

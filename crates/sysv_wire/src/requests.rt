@@ -1,4 +1,4 @@
-//! Requests, read and written.
+//! Reads and writes requests.
 ghost use Rattle.std.specs.Prelude.{◌≡◌, ◌≤◌, ◌+◌, ◌-◌, ◌<◌, ◌++◌, ◌∷◌, ◌⊎◌, [], ℕ, List, Option, Some, Result, Err, length, is_err, IfOk, IfErr, OnOk, OnErr};
 ghost use Rattle.std.specs.Io.KnownBytes.{Appends, Consumes};
 ghost use Rattle.sysv_model.specs.Watched.{failures_of, failures_after, stream_name, stream_of};
@@ -21,10 +21,10 @@ use bitflags::Flags as Set;
 use std::io::{Read, Write};
 use sysv_model::{BODY_ROOM, Body, Cred, Flags, SetTo, Watched, WriteFault};
 
-/// The most bytes that the fields of a request take, its text not counted.
+/// The maximum number of bytes in the fields of a request, without its body.
 const MAX_FIELDS: usize = 20;
 
-/// The bytes that the fields of a request take, its text not counted.
+/// Returns the number of bytes in the fields of a request, without its body.
 fn len_of(op: Op) -> usize
     ensures { result ≡ fields_len op }
 {
@@ -37,14 +37,15 @@ fn len_of(op: Op) -> usize
     }
 }
 
-/// Whether a request has a text after its fields.
+/// Returns whether a request has a body after its fields.
 fn takes_text(op: Op) -> bool
     ensures { result ≡ has_text op }
 {
     matches!(op, Op::Snd)
 }
 
-/// Judges the version, the operation and then the length that the operation wants.
+/// Checks the version, then the operation, and then the length, which must be one that the
+/// operation has.
 fn judge(length: u32, version: u8, number: u8) -> Result<(Version, Op), Fault>
     ensures version { IfOk result (λ found. version_number found.0 ≡ version) }
     ensures op { IfOk result (λ found. (op_number found.1 ≡ number)
@@ -71,7 +72,7 @@ fn judge(length: u32, version: u8, number: u8) -> Result<(Version, Op), Fault>
     }
 }
 
-/// The request whose fields these are.
+/// Returns the request with these fields.
 fn ask_of(op: Op, fields: &[u8]) -> Ask
     requires { length fields.now ≡ fields_len op }
     ensures op { op_of result ≡ op }
@@ -204,7 +205,7 @@ fn row_of(fields: &[u8]) -> Ask
     }
 }
 
-/// Reads the fields of a request with a whole length, and its text.
+/// Reads the fields and the body of a request whose length is `whole`.
 fn read_ask<R: Read>(
     reader: &mut Watched<'_, R>,
     whole: u32,
@@ -239,23 +240,34 @@ fn read_ask<R: Read>(
     Ok(ask)
 }
 
-/// Reads one request; `None` where the input ends before its first byte. The text of a send is then in
-/// `text`, which is empty with any other request and at the end; after a fault nothing is said of it.
+/// Reads one request. Returns `None` if the input ends before its first byte.
 ///
-/// No byte after the request is read, and none at all after what a fault is told of. The length is
-/// judged first, then the version, the operation and the length that it wants; where the input ends
-/// within the frame it is `Truncated`, and where the reader fails it is `Read`.
+/// The body of a send is then in `text`. For any other request and at the end of the input, `text`
+/// is empty. After an error its contents are unspecified.
+///
+/// No byte after the request is read, and after an error none after the bytes that caused it.
+///
+/// # Errors
+///
+/// The length is checked first, then the version, the operation, and the length for that operation.
+///
+/// - `Truncated` if the input ends within the frame.
+/// - `TooLong` if the length is above `MAX_REQUEST`.
+/// - `BadField` if the length is below `MIN_REQUEST`, the version is neither 1 nor 2, or the
+///   operation does not have this length.
+/// - `BadOp` if the operation is above 7.
+/// - `Read` if and only if the reader fails.
 pub fn read_request<R: Read>(
     reader: &mut Watched<'_, R>,
     text: &mut Body,
 ) -> Result<Option<Request>, Fault>
     ensures reads { ReadsRequest (R.remaining (stream_of reader.old))
         (R.remaining (stream_of reader.new)) result text.new }
-    // The answer that fits what the reader had left is given, unless the reader fails.
+    // The result is the one that fits what the reader had left, unless the reader fails.
     ensures only { (input : List ℕ) (answer : Result (Option Request) Fault) →
         R.remaining (stream_of reader.old) ≡ Some input → RequestAt input answer →
         (result ≡ answer) ⊎ (result ≡ Err Fault.Read) }
-    // The reader is the same one, and has failed in this call exactly where the answer is `Read`.
+    // The reader stays the same, and fails in this call if and only if the result is `Read`.
     ensures same { stream_name reader.new ≡ stream_name reader.old }
     ensures failed { failures_of reader.new
         ≡ failures_after (is_read_fault result) (failures_of reader.old) }
@@ -263,7 +275,7 @@ pub fn read_request<R: Read>(
     next_request(reader, text)
 }
 
-/// The same, by what was taken of the input.
+/// Reads one request, like `read_request`. The contract states only what was taken of the input.
 fn next_request<R: Read>(
     reader: &mut Watched<'_, R>,
     text: &mut Body,
@@ -284,9 +296,13 @@ fn next_request<R: Read>(
     Ok(Some(Request { version, ask }))
 }
 
-/// Writes one request, and with a send the text, by `write` alone; with any other request the text is
-/// ignored. `WriteFault` where the writer fails or takes no byte, and then it took a prefix of the
-/// request.
+/// Writes one request, and the body in `text` if the request is a send. For any other request
+/// `text` is ignored. It calls only `write`, and flushes nothing.
+///
+/// # Errors
+///
+/// - `WriteFault` if and only if a write fails or takes no byte. The writer has then taken a prefix
+///   of the request.
 pub fn write_request<W: Write>(
     writer: &mut Watched<'_, W>,
     request: &Request,
@@ -296,7 +312,7 @@ pub fn write_request<W: Write>(
         (W.contents (stream_of writer.new)) (request_spelling request.now text.now)) }
     ensures err { OnErr result (AppendsPrefix (W.contents (stream_of writer.old))
         (W.contents (stream_of writer.new)) (request_spelling request.now text.now)) }
-    // The writer is the same one, and has failed in this call exactly where the answer is a fault.
+    // The writer stays the same, and fails in this call if and only if the result is an error.
     ensures same { stream_name writer.new ≡ stream_name writer.old }
     ensures failed { failures_of writer.new
         ≡ failures_after (is_err result) (failures_of writer.old) }
@@ -312,7 +328,7 @@ pub fn write_request<W: Write>(
     }
 }
 
-/// The length, the version, the operation and the fields of a request, whose text has this many bytes.
+/// Returns the length, version, operation and fields of a request whose body has `text_len` bytes.
 fn head_of(version: Version, op: Op, fields: &Fields, text_len: usize) -> Fields
     requires fields { length fields.now ≤ MAX_FIELDS }
     requires text { text_len ≤ BODY_ROOM }
@@ -327,7 +343,7 @@ fn head_of(version: Version, op: Op, fields: &Fields, text_len: usize) -> Fields
     frame
 }
 
-/// The fields of what is asked for.
+/// Returns the fields of a request.
 #[tactic(auto, using(std::proofs::Common::append_assoc), unfolding(crate::specs::Requests::ask_fields))]
 fn fields_of(ask: &Ask) -> Fields
     ensures fields { result ≡ ask_fields ask.now }
@@ -367,7 +383,7 @@ fn fields_of(ask: &Ask) -> Fields
     fields
 }
 
-/// Puts credentials at the end.
+/// Appends credentials.
 #[tactic(auto, using(std::proofs::Common::append_assoc))]
 fn put_cred(fields: &mut Fields, cred: Cred)
     requires { length fields.old ≤ 8 }
@@ -380,7 +396,7 @@ fn put_cred(fields: &mut Fields, cred: Cred)
     fields.put_u32(cred.pid);
 }
 
-/// Puts what is set at the end.
+/// Appends the values of a set.
 #[tactic(auto, using(std::proofs::Common::append_assoc))]
 fn put_set(fields: &mut Fields, to: SetTo)
     requires { length fields.old ≤ 4 }

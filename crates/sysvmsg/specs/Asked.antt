@@ -1,4 +1,4 @@
--- What a command line may ask for.
+-- The requests that a command line may make (this project's programs).
 use Rattle.std.specs.Prelude.{ℕ, ◌≤◌, ⊤}
 use Rattle.sysvmsg.specs.declared.asked.Asked.{Asked}
 use Rattle.sysvmsg.specs.declared.asked.Asked.TheVariants.{Script, Serve, Client}
@@ -7,26 +7,29 @@ use Rattle.sysv_server.specs.declared.terms.Terms.{Terms}
 use Rattle.sysv_clients.specs.Run.{HasShortText}
 use Rattle.sysv_model.specs.declared.limits.TheConstants.{MIN_BLOCKS, MAX_BLOCKS}
 
--- a pool has so many blocks
+-- A pool may have this number of blocks.
 abbrev pub AreBlocks : ℕ → Type 0
 AreBlocks n = (MIN_BLOCKS ≤ n) × (n ≤ MAX_BLOCKS)
 
--- so many threads serve
+-- A server may have this number of workers.
 abbrev pub AreWorkers : ℕ → Type 0
 AreWorkers n = (1 ≤ n) × (n ≤ 16)
 
--- so many sessions run at once
+-- A server may run this number of sessions at once.
 abbrev pub AreAtOnce : ℕ → Type 0
 AreAtOnce n = (1 ≤ n) × (n ≤ 256)
 
--- a server has as many blocks as one can have, and runs as many sessions at once as one can run
+-- The terms have a number of blocks that a pool may have, and a number of sessions that a server
+-- may run at once.
 abbrev pub AreTerms : Terms → Type 0
 AreTerms terms = AreBlocks terms.blocks × AreAtOnce terms.at_once
 
+-- The terms of the server are within the limits.
 abbrev pub HasLimits : Serving → Type 0
 HasLimits serving = AreTerms serving.terms
 
--- and a text that is sent is one that a request can carry
+-- The request is within the limits of the server or the client: the terms of a server, and the body
+-- of a `snd`.
 abbrev pub IsWithinLimits : Asked → Type 0
 IsWithinLimits Script = ⊤
 IsWithinLimits (Serve serving) = HasLimits serving

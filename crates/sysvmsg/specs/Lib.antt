@@ -1,1 +1,2 @@
+-- The definitions of the command line.
 pub mod Asked

@@ -1,4 +1,4 @@
-//! What a command line asks for.
+//! The request that a command line makes.
 ghost use Rattle.std.specs.Prelude.{IfOk, OnOk};
 ghost use Rattle.sysvmsg.specs.Asked.{AreAtOnce, AreBlocks, AreTerms, AreWorkers, HasLimits, IsWithinLimits};
 ghost use Rattle.sysv_clients.specs.Run.{HasShortText};
@@ -13,50 +13,51 @@ use sysv_model::{BODY_ROOM, Cred, MAX_BLOCKS, MIN_BLOCKS};
 use sysv_server::{Patience, Terms};
 use sysv_words::Reads;
 
-/// What a command line asks for.
+/// The request that a command line makes.
 #[derive(Clone, Copy, PartialEq, Eq, Debug)]
 pub(crate) enum Asked<'a> {
     /// Run the script on the standard input.
     Script,
     /// Serve at a path.
     Serve(Serving<'a>),
-    /// Ask the server at a path.
+    /// Run a client command at the server at `path`.
     Client { path: &'a str, command: Command<'a> },
 }
 
-/// How a server serves.
+/// The socket file and the terms of a server.
 #[derive(Clone, Copy, PartialEq, Eq, Debug)]
 pub(crate) struct Serving<'a> {
     pub(crate) file: SocketFile<'a>,
     pub(crate) terms: Terms,
-    /// Whether it ends once its standard input has ended.
+    /// Whether the server ends after its standard input has ended.
     pub(crate) until_eof: bool,
 }
 
 /// The file of a server's socket.
 #[derive(Clone, Copy, PartialEq, Eq, Debug)]
 pub(crate) struct SocketFile<'a> {
-    /// Where it is to be.
+    /// The path of the file.
     pub(crate) path: &'a str,
-    /// Its mode. Without one that is 0777 less the umask.
+    /// The mode of the file. Without one it is 0777 less the umask.
     pub(crate) mode: Option<u32>,
-    /// Whether a socket on which no server listens is removed before.
+    /// Whether to remove the file first if it is a socket on which no server listens.
     pub(crate) replace: bool,
 }
 
-/// The most workers of a server.
+/// The maximum number of workers of a server.
 const MAX_WORKERS: u32 = 16;
 
-/// The most sessions that a server runs at once.
+/// The maximum number of sessions that a server runs at once.
 const MAX_AT_ONCE: u32 = 256;
 
-/// The greatest mode of a socket.
+/// The maximum mode of a socket file.
 const MAX_MODE: u32 = 0o777;
 
-/// The most bytes of a socket's path: its system call has room for one more, which is 0.
+/// The maximum number of bytes in a socket's path. The system call has space for one more byte,
+/// which is 0.
 const MAX_PATH: usize = 107;
 
-/// Why a word is not understood.
+/// Why a word is not valid.
 type Bad = &'static str;
 
 const BAD_PATH: Bad = "a PATH has 1 to 107 bytes";
@@ -86,8 +87,12 @@ const LONG_TEXT: Bad = "a TEXT has at most 8256 bytes";
 
 const NO_COMMAND: Bad = "a command is missing";
 
-/// What the words ask for, the program's name first; or why they are not understood, or the help or
-/// the version that they ask for.
+/// Parses a command line, whose first word is the program's name.
+///
+/// # Errors
+///
+/// Fails with the error to print if the words are not valid, and with the help or the version if
+/// the words request it.
 pub(crate) fn read_words<'a, S: AsStr>(alloc: Global, words: &'a [S]) -> Result<Asked<'a>, Error>
     ensures { IfOk result IsWithinLimits }
 {
@@ -95,7 +100,7 @@ pub(crate) fn read_words<'a, S: AsStr>(alloc: Global, words: &'a [S]) -> Result<
     read_line(&mut line, words)
 }
 
-/// As `read_words`, by a command line.
+/// Parses the words like `read_words`, with this command line.
 fn read_line<'a, S: AsStr>(line: &mut CommandLine<'a>, words: &'a [S]) -> Result<Asked<'a>, Error>
     ensures { IfOk result IsWithinLimits }
 {
@@ -106,7 +111,7 @@ fn read_line<'a, S: AsStr>(line: &mut CommandLine<'a>, words: &'a [S]) -> Result
     }
 }
 
-/// The fault that a word is not UTF-8.
+/// Returns the error that a word is not UTF-8.
 pub(crate) fn no_text(alloc: Global) -> Error {
     match fault(alloc, "a word is not UTF-8") {
         Ok(error) => error,
@@ -114,12 +119,12 @@ pub(crate) fn no_text(alloc: Global) -> Error {
     }
 }
 
-/// A fault of the whole command line.
+/// Returns an error about the whole command line.
 fn fault(alloc: Global, text: &str) -> Result<Error, AllocError> {
     command(alloc)?.error(ErrorKind::InvalidValue, text)
 }
 
-/// What the words of a command ask for.
+/// Returns the request of the parsed command.
 fn task_of<'a>(matches: &ArgMatches<'a>) -> Result<Asked<'a>, Bad>
     ensures { IfOk result IsWithinLimits }
 {
@@ -143,8 +148,8 @@ fn task_of<'a>(matches: &ArgMatches<'a>) -> Result<Asked<'a>, Bad>
     })
 }
 
-/// The path of the socket. An empty one would make a socket without a name, which no file's mode
-/// guards.
+/// Returns the path of the socket. An empty path is refused: it would create a socket without a
+/// name, which no file's mode protects.
 fn path_of<'a>(words: &ArgMatches<'a>) -> Result<&'a str, Bad> {
     match words.get_str("path") {
         Some(path) if !path.is_empty() && path.len() <= MAX_PATH => Ok(path),
@@ -152,7 +157,7 @@ fn path_of<'a>(words: &ArgMatches<'a>) -> Result<&'a str, Bad> {
     }
 }
 
-/// What a `serve` asks for.
+/// Returns the request of a `serve`.
 fn server<'a>(words: &ArgMatches<'a>) -> Result<Serving<'a>, Bad>
     ensures { IfOk result HasLimits }
 {
@@ -167,7 +172,7 @@ fn server<'a>(words: &ArgMatches<'a>) -> Result<Serving<'a>, Bad>
     })
 }
 
-/// How a server serves.
+/// Returns the terms of a server.
 fn terms_of(words: &ArgMatches<'_>) -> Result<Terms, Bad>
     ensures { IfOk result AreTerms }
 {
@@ -182,7 +187,8 @@ fn terms_of(words: &ArgMatches<'_>) -> Result<Terms, Bad>
     })
 }
 
-/// How many sessions run at once: as many as there are workers, if it does not say.
+/// Returns the number of sessions that run at once. Without an `--at-once` it is the number of
+/// workers.
 fn at_once_of(words: &ArgMatches<'_>) -> Result<u32, Bad>
     ensures { IfOk result AreAtOnce }
 {
@@ -195,7 +201,7 @@ fn at_once_of(words: &ArgMatches<'_>) -> Result<u32, Bad>
     }
 }
 
-/// For how many seconds a client may be silent, 0 for any number.
+/// Returns the number of seconds that a client may be silent, 0 for no limit.
 fn seconds_of(words: &ArgMatches<'_>, id: &str) -> Result<u32, Bad> {
     match words.get_str(id) {
         Some(word) => u32::read(word.as_bytes()).ok_or(BAD_SECONDS),
@@ -203,7 +209,7 @@ fn seconds_of(words: &ArgMatches<'_>, id: &str) -> Result<u32, Bad> {
     }
 }
 
-/// The mode of a socket, if one is given.
+/// Returns the mode of a socket file, if the command has one.
 fn mode_of(words: &ArgMatches<'_>) -> Result<Option<u32>, Bad> {
     let Some(word) = words.get_str("mode") else {
         return Ok(None);
@@ -214,7 +220,7 @@ fn mode_of(words: &ArgMatches<'_>) -> Result<Option<u32>, Bad> {
     }
 }
 
-/// The blocks of a pool.
+/// Returns the number of blocks in a pool.
 fn blocks_of(words: &ArgMatches<'_>) -> Result<u32, Bad>
     ensures { IfOk result AreBlocks }
 {
@@ -226,7 +232,7 @@ fn blocks_of(words: &ArgMatches<'_>) -> Result<u32, Bad>
     }
 }
 
-/// How many workers serve.
+/// Returns the number of workers.
 fn workers_of(words: &ArgMatches<'_>) -> Result<u32, Bad>
     ensures { IfOk result AreWorkers }
 {
@@ -238,7 +244,7 @@ fn workers_of(words: &ArgMatches<'_>) -> Result<u32, Bad>
     }
 }
 
-/// After how many sessions a server ends.
+/// Returns the number of sessions after which a server ends, 0 for no limit.
 fn sessions_of(words: &ArgMatches<'_>) -> Result<u64, Bad> {
     match words.get_str("sessions") {
         Some(word) => u64::read(word.as_bytes()).ok_or(BAD_SESSIONS),
@@ -246,7 +252,7 @@ fn sessions_of(words: &ArgMatches<'_>) -> Result<u64, Bad> {
     }
 }
 
-/// What an `ipcrm` asks for.
+/// Returns the task of an `ipcrm`.
 fn removal<'a>(words: &ArgMatches<'a>) -> Result<Task<'a>, Bad>
     ensures { IfOk result HasShortText }
 {
@@ -257,7 +263,7 @@ fn removal<'a>(words: &ArgMatches<'a>) -> Result<Task<'a>, Bad>
     Ok(Task::Remove(target))
 }
 
-/// What a `snd` asks for.
+/// Returns the task of a `snd`.
 fn sending<'a>(words: &ArgMatches<'a>) -> Result<Task<'a>, Bad>
     ensures { IfOk result HasShortText }
 {
@@ -278,7 +284,7 @@ fn sending<'a>(words: &ArgMatches<'a>) -> Result<Task<'a>, Bad>
     })
 }
 
-/// What a `rcv` asks for.
+/// Returns the task of a `rcv`.
 fn receiving<'a>(words: &ArgMatches<'a>) -> Result<Task<'a>, Bad>
     ensures { IfOk result HasShortText }
 {
@@ -291,7 +297,8 @@ fn receiving<'a>(words: &ArgMatches<'a>) -> Result<Task<'a>, Bad>
     })
 }
 
-/// The type that a `rcv` asks for: any, one, or the lowest up to one.
+/// Returns the type argument of a `rcv`: 0 for any type, a positive number for one type, or a
+/// negative number for the lowest type up to its absolute value.
 fn wanted_type(words: &ArgMatches<'_>) -> Result<i64, Bad> {
     match (words.get_str("type"), words.get_str("upto")) {
         (Some(word), _) => type_of(word.as_bytes()).ok_or(BAD_TYPE),
@@ -300,7 +307,7 @@ fn wanted_type(words: &ArgMatches<'_>) -> Result<i64, Bad> {
     }
 }
 
-/// Who a client says it is.
+/// Returns the credentials that a client states.
 fn cred_of(words: &ArgMatches<'_>) -> Result<Cred, Bad> {
     Ok(Cred {
         uid: number(words, "uid", 1000)?,
@@ -309,7 +316,7 @@ fn cred_of(words: &ArgMatches<'_>) -> Result<Cred, Bad> {
     })
 }
 
-/// The key that is given.
+/// Returns the key.
 fn key(words: &ArgMatches<'_>) -> Result<i32, Bad> {
     words
         .get_str("key")
@@ -317,7 +324,7 @@ fn key(words: &ArgMatches<'_>) -> Result<i32, Bad> {
         .ok_or(BAD_KEY)
 }
 
-/// The number that is given to an option, or its default.
+/// Returns the number that an option has, or its default.
 fn number(words: &ArgMatches<'_>, id: &str, default: u32) -> Result<u32, Bad> {
     match words.get_str(id) {
         Some(word) => u32::read(word.as_bytes()).ok_or(BAD_NUMBER),

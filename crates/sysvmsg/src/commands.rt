@@ -1,11 +1,11 @@
-//! The command line that is understood: a table of commands, and what clap makes of it.
+//! The command line: a table of commands, and its translation for clap.
 use clap::{Arg, ArgAction, ArgGroup, Command};
 use std::alloc::{AllocError, Global};
 
 /// The program's version.
 const VERSION: &str = "0.2.0";
 
-/// What the help of the whole program ends with.
+/// The end of the help of the whole program.
 const SESSION: &str = "\
 Example:
   $ sysvmsg serve ./q &
@@ -24,19 +24,19 @@ Example:
 struct Known {
     name: &'static str,
     about: &'static str,
-    /// What its help ends with.
+    /// The end of the command's help.
     example: &'static str,
     arguments: &'static [Argument],
     either: Option<Either>,
 }
 
-/// An argument of a command: its name, how it is given, and what the help says of it.
+/// An argument of a command: its name, its form, and its help.
 type Argument = (&'static str, Form, &'static str);
 
-/// How an argument is given. A value has a name in the help.
+/// The form of an argument. The name of a value is shown in the help.
 #[derive(Clone, Copy)]
 enum Form {
-    /// By its place, and it has to be there.
+    /// A required argument, known by its position.
     Word(&'static str),
     /// As `--id VALUE`.
     Value(&'static str),
@@ -46,7 +46,7 @@ enum Form {
     Flag,
 }
 
-/// Two arguments of which at most one is given, or just one.
+/// Two arguments of which at most one may be present, or exactly one if `required` is true.
 #[derive(Clone, Copy)]
 struct Either {
     one: &'static str,
@@ -71,7 +71,7 @@ const KEY: Argument = ("key", Form::Word("KEY"), KEY_HELP);
 const KEY_HELP: &str =
     "The queue's key, 1 to 2147483647, or 0x and one to eight hexadecimal digits, not all 0";
 
-/// All commands, in the order in which the help has them.
+/// All commands, in the order of the help.
 const COMMANDS: [Known; 6] = [SERVE, SND, RCV, IPCS, IPCRM, SCRIPT];
 
 const SERVE: Known = Known {
@@ -269,7 +269,7 @@ Example:
     either: None,
 };
 
-/// The whole command line.
+/// Returns the whole command line.
 pub(crate) fn command<'a>(alloc: Global) -> Result<Command<'a>, AllocError> {
     let mut line = Command::new(alloc, "sysvmsg")
         .about("System V message queues on a Unix socket")

@@ -10,7 +10,11 @@ use std::os::unix::net::UnixStream;
 use std::process::ExitCode;
 use sysv_clients::{ClientFault, Command, run_client};
 
-/// Connects to the server at a path, and does there what a command says.
+/// Connects to the server at `path` and runs a command there.
+///
+/// # Conditions
+///
+/// - The body of a `snd` has at most 8,256 bytes.
 pub(crate) fn run_at(
     rt: &(impl Net + Print + AllocGlobal),
     path: &str,
@@ -24,7 +28,11 @@ pub(crate) fn run_at(
     }
 }
 
-/// Does over a connection what a command says, each request in one write.
+/// Runs a command over a connection, with one write per request.
+///
+/// # Conditions
+///
+/// - The body of a `snd` has at most 8,256 bytes.
 pub(crate) fn run_over<S: Write>(
     alloc: Global,
     stream: &UnixStream,

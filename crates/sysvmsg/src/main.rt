@@ -19,13 +19,13 @@ use std::{env, io};
 use sysv_model::Watched;
 use sysv_script::run_script;
 
-/// The status if a task was refused or ended by a fault.
+/// The exit status if a request was refused or a fault occurred.
 const FAULT: u8 = 1;
 
-/// The status if the command line is not understood.
+/// The exit status if the command line is not valid.
 const NOT_UNDERSTOOD: u8 = 2;
 
-/// The last of the three standard streams.
+/// The descriptor of the last of the three standard streams.
 const STANDARD_ERROR: RawFd = 2;
 
 fn main(rt: HostRuntime) -> ExitCode {
@@ -58,14 +58,15 @@ fn main(rt: HostRuntime) -> ExitCode {
     }
 }
 
-/// Takes the place of a standard stream that is closed, so that no socket gets it: what is read there is at its end, and
-/// a write fails. `None` if there is none.
+/// Opens a stand-in for a closed standard stream, so that no socket gets its descriptor. A read
+/// from it is at the end of the input, and a write to it fails. Returns `None` if no standard
+/// stream is closed, or if `/dev/null` cannot be opened.
 fn stand_in(rt: &HostRuntime) -> Option<File> {
     let file = File::open(rt, "/dev/null").ok()?;
     (file.as_raw_fd() <= STANDARD_ERROR).then_some(file)
 }
 
-/// Prints why a command line asks for nothing, or the help or the version that it asks for.
+/// Prints why a command line is not valid, or the help or the version that it requests.
 fn tell(rt: &impl Print, error: &Error) -> ExitCode {
     match error.kind() {
         ErrorKind::OutOfMemory => say(rt, "no memory"),

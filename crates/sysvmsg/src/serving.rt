@@ -14,8 +14,8 @@ use std::sync::Wait;
 use std::thread::Threads;
 use sysv_server::{Sums, serve_listener};
 
-/// Serves at a path, says on standard error that it listens, and prints what the sessions add up
-/// to. If it is to end with its input, that is read.
+/// Serves at a path, reports on standard error that it listens, and prints the sums of the
+/// sessions. The input is read only if the server is to end after it has ended.
 pub(crate) fn serve_at<
     I: Read + AsRawFd + Drop,
     R: Files + Net + Threads + Wait + Sync + Print + Eprint + AllocGlobal,
@@ -38,8 +38,8 @@ pub(crate) fn serve_at<
     }
 }
 
-/// Serves the connections of a listener, prints what their sessions add up to, and says on standard
-/// error why an accept failed.
+/// Serves the connections of a listener, and prints the sums of their sessions. If an accept fails,
+/// the reason is reported on standard error.
 fn serve_over<I: Read + AsRawFd + Drop, R: Threads + Wait + Sync + Print + Eprint + AllocGlobal>(
     rt: &R,
     listener: UnixListener,

@@ -9,10 +9,10 @@ use std::os::unix::net::{UnixListener, UnixStream};
 use std::rt::Files;
 use std::{fs, io};
 
-/// The mode of a folder that is for its owner alone.
+/// The mode of a folder that only its owner may use.
 const PRIVATE: u32 = 0o700;
 
-/// Makes the socket, and listens on it.
+/// Creates the socket and listens on it.
 pub(crate) fn listen_at<R: Files + Net + AllocGlobal>(
     rt: &R,
     file: &SocketFile<'_>,
@@ -26,7 +26,7 @@ pub(crate) fn listen_at<R: Files + Net + AllocGlobal>(
     }
 }
 
-/// Removes what is at a path if that is a socket on which no server listens.
+/// Removes the file at `path` if it is a socket on which no server listens.
 fn remove_unused<R: Files + Net>(rt: &R, path: &str) -> io::Result<()> {
     let is_socket = fs::symlink_metadata(rt, path).is_ok_and(|found| found.file_type().is_socket());
     if !is_socket {
@@ -38,8 +38,8 @@ fn remove_unused<R: Files + Net>(rt: &R, path: &str) -> io::Result<()> {
     }
 }
 
-/// Makes a socket with this mode. It is made in a folder for its owner alone beside the path, and is
-/// linked to the path once it has the mode, so that it has no other there.
+/// Creates a socket with this mode. The socket is created in a private folder beside the path, and
+/// is linked to the path once it has the mode, so that it never has another mode there.
 fn bind_with<R: Files + Net + AllocGlobal>(
     rt: &R,
     path: &str,
@@ -54,7 +54,7 @@ fn bind_with<R: Files + Net + AllocGlobal>(
     listener
 }
 
-/// Makes a socket with this mode at a private path, and links it to another.
+/// Creates a socket with this mode at the path `private`, and links it to `path`.
 fn bind_in<R: Files + Net>(
     rt: &R,
     private: &str,

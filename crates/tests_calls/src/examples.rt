@@ -1,4 +1,4 @@
-//! The examples at the head of the world and of the script language, line by line.
+//! The examples in the documentation of the world and of the script language, line by line.
 use crate::parts::assert_is;
 use std::test::Fail;
 use sysv_core::{Call, Event, Outcome, Stepped, World};

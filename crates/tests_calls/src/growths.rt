@@ -1,4 +1,4 @@
-//! The opening of a world, where a growth of it may be refused: then it answers `NoMemory`.
+//! The opening of a world, with a growth of it refused: it then returns `NoMemory`.
 
 use crate::parts::assert_is;
 use sysv_core::{OpenRefused, World};

@@ -1,5 +1,5 @@
-//! Tests of the machine of each call, of a world of queues and actors, and of the script language from its words to whole
-//! scripts.
+//! Tests of the steps of each call, of a world of queues and actors, and of the script language
+//! from its words to whole scripts.
 #![tactic(auto)]
 
 #[cfg(test)]

@@ -1,4 +1,4 @@
-//! The rows of the step table, by hand from the standard's errors.
+//! The rows of the step table, worked out by hand from the standard's errors.
 
 ghost use Rattle.std.specs.Prelude.{◌≡◌};
 ghost use Rattle.sysv_model.specs.Pool.{blocks_for};
@@ -17,7 +17,7 @@ use sysv_steps::{
 };
 use tests_kit::USER;
 
-/// A send before its look, which found the queue live before or not.
+/// Returns a send before its look, which has found the queue live before or not.
 fn sending(live_seen: bool) -> Sending {
     Sending {
         cred: USER,
@@ -29,7 +29,7 @@ fn sending(live_seen: bool) -> Sending {
     }
 }
 
-/// A receive before its take.
+/// Returns a receive before its take.
 fn receiving(live_seen: bool) -> Receiving {
     Receiving {
         cred: USER,
@@ -42,7 +42,7 @@ fn receiving(live_seen: bool) -> Receiving {
     }
 }
 
-/// A call for the queue of key 7.
+/// Returns a get of the queue of key 7.
 fn getting(flags: Flags) -> Getting {
     Getting {
         cred: USER,
@@ -51,7 +51,8 @@ fn getting(flags: Flags) -> Getting {
     }
 }
 
-/// A state that can be compared: a chain is its blocks, and a delivery its type.
+/// A state that can be compared: a chain is shown as its number of blocks, and a delivery as its
+/// type.
 #[derive(Clone, Copy, PartialEq, Eq)]
 enum Shown {
     Begin(Getting),
@@ -79,7 +80,7 @@ enum Shown {
     Refused(Errno),
 }
 
-/// The type of a delivery, which is then lost.
+/// Returns the type of a delivery, and spends the delivery as lost.
 fn mtype_of(delivery: Delivery) -> i64 {
     let mtype = delivery.mtype();
     delivery.lost(&mut Tally::open());
@@ -136,7 +137,7 @@ fn show(state: State) -> Shown {
     }
 }
 
-/// A slot with queue 0, which is its caller's. Memory is refused once at most.
+/// Opens a slot with queue 0, which belongs to its caller. Tolerates one refusal of memory.
 fn open_queue(rt: &impl Abort, alloc: Global) -> QueueSlot {
     let mut slot = match QueueSlot::open(alloc) {
         Ok(slot) => slot,
@@ -149,7 +150,7 @@ fn open_queue(rt: &impl Abort, alloc: Global) -> QueueSlot {
     slot
 }
 
-/// The chain of a text of 130 bytes, which takes three blocks.
+/// Reserves the chain of a body of 130 bytes, which takes three blocks.
 fn three_blocks(rt: &impl Abort, pool: &mut Pool) -> Chain
     ensures { result.blocks ≡ blocks_for 130 }
 {
@@ -159,7 +160,7 @@ fn three_blocks(rt: &impl Abort, pool: &mut Pool) -> Chain
     }
 }
 
-/// Puts a text of 130 letters on queue 0, as a message of type 2.
+/// Places a body of 130 letters on queue 0, as a message of type 2.
 fn send_text(rt: &impl Abort, slot: &mut QueueSlot, pool: &mut Pool, alloc: Global) {
     let mut text = open_body(rt, alloc);
     assert!(rt; text.push_piece(&[b'x'; 130]));
@@ -176,7 +177,7 @@ fn send_text(rt: &impl Abort, slot: &mut QueueSlot, pool: &mut Pool, alloc: Glob
     }
 }
 
-/// Where a call stands that was at its giveback, once the pool has its chain.
+/// Returns the state of a call that was at its giveback, after the pool has its chain.
 fn release(rt: &impl Abort, pool: &mut Pool, state: State) -> Shown {
     let (chain, after) = match state {
         State::Goes(Phase::SendGiveback { chain, afterwards }) => (chain, afterwards.given_back()),

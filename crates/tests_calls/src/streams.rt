@@ -1,4 +1,4 @@
-//! What is read, line by line, and what is written.
+//! Reading line by line, and writing.
 use sysv_lines::Head;
 use sysv_model::{Body, Watched};
 use sysv_streams::{Input, Output, next_line, read_on};

@@ -17,10 +17,11 @@ use sysv_queue::{Look, Tally};
 use sysv_steps::Phase;
 use tests_kit::{creating, flags};
 
-/// What an answer is to be: whose, how the call ended, and the text of the body that comes with it.
+/// The wanted answer: the actor, how the call ended, and the contents of the body that is handed
+/// back.
 type Want<'a> = (u32, Outcome, Option<&'a [u8]>);
 
-/// A world of 1,024 blocks with queue 0. Memory is refused once at most.
+/// Opens a world of 1,024 blocks with queue 0. Tolerates one refusal of memory.
 fn world_with_queue(rt: &impl Abort, alloc: Global, actors: u32) -> World {
     let mut world = match World::open(alloc, actors, 1024) {
         Ok(world) => world,
@@ -34,8 +35,8 @@ fn world_with_queue(rt: &impl Abort, alloc: Global, actors: u32) -> World {
     world
 }
 
-/// A world of four actors and 128 blocks that begins with this step number and this generation. Memory is refused
-/// once at most.
+/// Opens a world of four actors and 128 blocks that begins with this step number and this
+/// generation. Tolerates one refusal of memory.
 fn world_at(rt: &impl Abort, alloc: Global, first_step: u64, generation: u32) -> World {
     match World::open_at(alloc, 4, 128, first_step, generation) {
         Ok(world) => world,
@@ -46,7 +47,7 @@ fn world_at(rt: &impl Abort, alloc: Global, first_step: u64, generation: u32) ->
     }
 }
 
-/// Steps of the actor until its call is answered.
+/// Makes steps of the actor until its call is answered.
 fn go(rt: &impl Abort, world: &mut World, actor: u32) -> Outcome {
     for _ in 0..8 {
         match world.step(step(actor)) {
@@ -61,13 +62,13 @@ fn go(rt: &impl Abort, world: &mut World, actor: u32) -> Outcome {
     panic!(rt; "no answer")
 }
 
-/// The actor makes a call that goes through.
+/// Starts a call of the actor and makes its steps until it is answered.
 fn make(rt: &impl Abort, world: &mut World, actor: u32, call: Call) -> Outcome {
     assert_nothing(rt, world.step(start(actor, call)));
     go(rt, world, actor)
 }
 
-/// A call of the actor that goes through ends so.
+/// Asserts that a call of the actor ends this way.
 fn assert_makes(rt: &impl Abort, world: &mut World, actor: u32, call: Call, wanted: Outcome) {
     assert_eq!(rt; make(rt, world, actor, call), wanted);
 }
@@ -76,7 +77,7 @@ fn is_waiting(world: &World, actor: u32) -> bool {
     matches!(world.standing(actor), Some(Standing::Waits(_)))
 }
 
-/// A get of this key, with IPC_CREAT and mode 0600.
+/// Returns a get of this key, with IPC_CREAT and mode 0600.
 fn get_or_make(key: i32) -> Call {
     Call::Get {
         key,
@@ -84,7 +85,7 @@ fn get_or_make(key: i32) -> Call {
     }
 }
 
-/// A body with this text. Memory is refused once at most.
+/// Returns a body with these bytes. Tolerates one refusal of memory.
 fn body_of(rt: &impl Abort, alloc: Global, text: &[u8]) -> Body {
     let mut body = open_body(rt, alloc);
     assert!(rt; body.push_piece(text));
@@ -100,7 +101,7 @@ fn start(actor: u32, call: Call) -> Event {
     Event::Start { actor, cred, call }
 }
 
-/// The actor starts a send to queue 0.
+/// Returns the start of a send to queue 0 by the actor.
 fn send(rt: &impl Abort, alloc: Global, actor: u32, mtype: i64, text: &[u8]) -> Event {
     let call = Call::Send {
         id: 0,
@@ -111,13 +112,14 @@ fn send(rt: &impl Abort, alloc: Global, actor: u32, mtype: i64, text: &[u8]) -> 
     start(actor, call)
 }
 
-/// The actor starts a receive of at most 100 bytes from queue 0. The body that it gives is not empty.
+/// Returns the start of a receive of at most 100 bytes from queue 0 by the actor. The body that it
+/// hands in is not empty.
 fn receive(rt: &impl Abort, alloc: Global, actor: u32) -> Event {
     let call = receive_of(rt, alloc, 100, 0, Flags::IPC_NOWAIT);
     start(actor, call)
 }
 
-/// A receive from queue 0. The body that it gives is not empty.
+/// Returns a receive from queue 0. The body that it hands in is not empty.
 fn receive_of(rt: &impl Abort, alloc: Global, size: u32, mtype: i64, flags: Flags) -> Call {
     Call::Receive {
         id: 0,
@@ -160,7 +162,7 @@ fn assert_answer(rt: &impl Abort, stepped: Stepped, want: Want<'_>) {
     }
 }
 
-/// Steps of the actor until its call is answered so.
+/// Makes steps of the actor until its call is answered, and asserts the answer.
 fn assert_ends(rt: &impl Abort, world: &mut World, want: Want<'_>) {
     let (actor, _, _) = want;
     for _ in 0..8 {
@@ -176,14 +178,14 @@ fn assert_ends(rt: &impl Abort, world: &mut World, want: Want<'_>) {
     panic!(rt; "no answer")
 }
 
-/// The actor receives from start to end.
+/// Has the actor receive, from the start of its call to the end.
 fn assert_receives(rt: &impl Abort, alloc: Global, world: &mut World, want: Want<'_>) {
     let (actor, _, _) = want;
     assert_nothing(rt, world.step(receive(rt, alloc, actor)));
     assert_ends(rt, world, want);
 }
 
-/// The actor sends from start to end, and is answered zero.
+/// Has the actor send, from the start of its call to the end, and asserts that the result is 0.
 fn assert_sends(rt: &impl Abort, alloc: Global, world: &mut World, actor: u32, text: &[u8]) {
     assert_sends_type(rt, alloc, world, actor, 7, text);
 }
@@ -384,7 +386,8 @@ fn a_size_out_of_range_opens_no_world(rt: HostRuntime) {
     }
 }
 
-/// Actor 1 receives, sends `hello` and sends nothing; actor 2 receives three times.
+/// Returns events: actor 1 receives, sends `hello` and sends an empty body; actor 2 receives three
+/// times.
 fn six_calls(rt: &impl Abort, alloc: Global) -> Vec<Event> {
     let mut events = match Vec::with_capacity(alloc, 19) {
         Ok(events) => events,

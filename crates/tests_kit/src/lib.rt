@@ -1,5 +1,6 @@
-//! What several crates of tests use: readers and writers of many habits, a session whose frames are worked by hand, and
-//! bodies and pools that are opened although memory is refused once, and the mark from which growths are counted.
+//! Helpers that several test crates use: readers and writers with different behavior, a session
+//! whose frames were worked out by hand, bodies and pools that open although memory is refused
+//! once, and a mark from which growths are counted.
 #![tactic(auto)]
 
 mod marks;

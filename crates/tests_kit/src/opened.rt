@@ -1,11 +1,11 @@
-//! What is opened although memory is refused once.
+//! Objects that are opened although memory is refused once.
 ghost use Rattle.std.specs.Prelude.{◌≡◌, [], IfSome};
 
 use std::alloc::Global;
 use sysv_model::{Body, NoMemory};
 use sysv_pool::{Pool, PoolRefused};
 
-/// An open body. `None` if memory was refused twice.
+/// Opens a body. Returns `None` if memory is refused twice.
 pub fn open_body(alloc: Global) -> Option<Body>
     ensures { IfSome result (λ body. body ≡ []) }
 {
@@ -15,7 +15,8 @@ pub fn open_body(alloc: Global) -> Option<Body>
     }
 }
 
-/// A pool of so many blocks. `None` if memory was refused twice, or if a pool can't have so many.
+/// Opens a pool with this number of blocks. Returns `None` if memory is refused twice, or if a pool
+/// cannot have that number of blocks.
 pub fn open_pool(alloc: Global, blocks: u32) -> Option<Pool> {
     match Pool::open(alloc, blocks) {
         Ok(pool) => Some(pool),

@@ -1,15 +1,16 @@
-//! A writer that takes little at a time, fails or stalls, and counts how it is flushed.
+//! A writer that takes few bytes at once, fails or stalls, and records its flushes.
 use std::io;
 use std::io::{ErrorKind, Write};
 
-/// The bytes that a page holds.
+/// The number of bytes that a page can hold.
 const ROOM: usize = 512;
 
-/// The flushes of which it keeps how many bytes there were.
+/// The number of flushes whose byte counts are recorded.
 const FLUSHES: usize = 8;
 
-/// Takes at most `piece` bytes at a time up to `room` in all, and then fails, or takes nothing if `stalls` is set. It
-/// can be flushed `flushes` times, and then no more. It needs no memory.
+/// A writer that takes at most `piece` bytes at once and `room` bytes in all. After that it fails,
+/// or takes nothing if `stalls` is true. It can be flushed `flushes` times; later flushes fail. It
+/// allocates nothing.
 #[derive(Drop)]
 pub struct Page {
     bytes: [u8; 512],
@@ -23,7 +24,7 @@ pub struct Page {
 }
 
 impl Page {
-    /// Takes all that it has room for.
+    /// Creates a page that takes all bytes that it can hold.
     pub fn new() -> Page {
         Page {
             bytes: [0; 512],
@@ -37,7 +38,7 @@ impl Page {
         }
     }
 
-    /// Takes `room` bytes in all.
+    /// Creates a page that takes at most `piece` bytes at once and `room` bytes in all.
     pub fn taking(piece: usize, room: usize, stalls: bool) -> Page {
         Page {
             piece,
@@ -52,7 +53,7 @@ impl Page {
         &all[..self.len.min(all.len())]
     }
 
-    /// How many bytes there were at each of the first eight flushes.
+    /// Returns the number of bytes that had been written at each of the first eight flushes.
     pub fn flushed(&self) -> &[usize] {
         let all = &self.flushed[..];
         &all[..self.flush_count.min(all.len())]

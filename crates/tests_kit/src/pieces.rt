@@ -1,8 +1,9 @@
-//! A reader that gives its bytes piece by piece, or fails.
+//! A reader that returns its bytes piece by piece, or fails.
 use std::io;
 use std::io::{ErrorKind, Read};
 
-/// Gives two texts, one after the other, at most `piece` bytes at a time, and fails once `good` bytes were given.
+/// A reader that returns the bytes of `front` and then those of `rest`, at most `piece` bytes at
+/// once, and fails after it has returned `good` bytes.
 #[derive(Drop)]
 pub struct Pieces<'a> {
     pub front: &'a [u8],
@@ -12,7 +13,7 @@ pub struct Pieces<'a> {
 }
 
 impl<'a> Pieces<'a> {
-    /// All of the text, and then the end.
+    /// Creates a reader that returns all bytes of `text`, and then is at its end.
     pub fn new(text: &'a [u8], piece: usize) -> Pieces<'a> {
         Pieces {
             front: text,
@@ -22,7 +23,7 @@ impl<'a> Pieces<'a> {
         }
     }
 
-    /// All of both texts, each in one piece, and then the end.
+    /// Creates a reader that returns `front` and `rest`, each in one piece, and then is at its end.
     pub fn both(front: &'a [u8], rest: &'a [u8]) -> Pieces<'a> {
         Pieces {
             front,

@@ -23,12 +23,12 @@ pub const ROOT: Cred = Cred {
     pid: 1,
 };
 
-/// The flags with these bits.
+/// Returns the flags with these bits.
 pub fn flags(bits: u32) -> Flags {
     Flags::from_bits_retain(bits)
 }
 
-/// IPC_CREAT and mode 0600.
+/// Returns IPC_CREAT with mode 0600.
 pub fn creating() -> Flags {
     flags(512 + 0o600)
 }

@@ -1,4 +1,4 @@
-//! A session whose frames are worked by hand.
+//! A session whose frames were worked out by hand.
 
 /// A hello, a get, a send of `hi` and two receives.
 pub const SESSION: &[u8] = &[
@@ -11,10 +11,10 @@ pub const SESSION: &[u8] = &[
     0xff, 0xff, 0xff, 0xff, 0xff, 0xff, 0xff, 0xfb, 0x00, 0x00, 0x08, 0x00,
 ];
 
-/// Where its requests end.
+/// The positions at which its requests end.
 pub const REQUEST_ENDS: [usize; 5] = [18, 32, 56, 82, 108];
 
-/// The replies to them.
+/// The replies to its requests.
 pub const ANSWERS: &[u8] = &[
     0x00, 0x00, 0x00, 0x03, 0x01, 0x00, 0x00, 0x00, 0x00, 0x00, 0x07, 0x01, 0x01, 0x00, 0x00, 0x00,
     0x00, 0x00, 0x00, 0x00, 0x00, 0x03, 0x01, 0x02, 0x00, 0x00, 0x00, 0x00, 0x0d, 0x01, 0x03, 0x00,
@@ -22,5 +22,5 @@ pub const ANSWERS: &[u8] = &[
     0x2a,
 ];
 
-/// Where its replies end.
+/// The positions at which its replies end.
 pub const ANSWER_ENDS: [usize; 5] = [7, 18, 25, 42, 49];

@@ -14,7 +14,7 @@ use Rattle.sysv_turns.specs.Turns.{Takes}
 use Rattle.sysv_objects.specs.Objects.{Objects, CountsUpTo, raises, pool_raises, raises_by}
 use Rattle.sysv_objects.specs.StandsFor.{MakesTurn}
 
--- counts that are low are below a higher bound
+-- Counts within a bound are within a higher bound.
 pub weaker : (m n : ℕ) (o : Objects) → m ≤ n → CountsUpTo m o → CountsUpTo n o
 weaker m n o up low = (λ number slot at. let l = low.0 number slot at in (omega (arith, l.0), omega (arith, l.1)), omega (arith, low.1))
 
@@ -36,7 +36,7 @@ releases_one (Release blocks) = omega arith
 rise : (n : ℕ) (old new : Objects) (deed : Deed) → MakesTurn old deed new → CountsUpTo n old → raises_by deed ≤ 1 → CountsUpTo (n + 1) new
 rise n old new deed turn low one = weaker (n + raises_by deed) (n + 1) new (omega (arith, one)) (turn.counts n low)
 
--- no turn raises a count by more than one
+-- No turn raises a count by more than one.
 pub rises : (n : ℕ) (old new : Objects) (call : ObjectCall) (reply : ObjectReply) → Takes MakesTurn old call reply new → CountsUpTo n old → CountsUpTo (n + 1) new
 rises n old new (asked.Slot call) (told.Slot reply) taken low = rise n old new _ taken.1 low (raises_one (slot_call call))
 rises n old new (asked.Registry call) (told.Registry reply) taken low = rise n old new _ taken.0 low (omega arith)

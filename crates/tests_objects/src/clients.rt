@@ -1,4 +1,4 @@
-//! Clients over bytes that are worked by hand.
+//! Clients over bytes that were worked out by hand.
 mod growths;
 
 use crate::parts::assert_is;
@@ -9,27 +9,27 @@ use std::process::Abort;
 use sysv_clients::{Command, Target, Task, id_of, key_of, run_client, type_of};
 use sysv_model::{BODY_ROOM, Cred};
 
-/// The bytes for which a tape has room.
+/// The number of bytes that a tape has space for.
 const TAPE_ROOM: usize = 9000;
 
-/// Bytes that are read, or that were written.
+/// Bytes to read, or bytes that were written.
 #[derive(Drop)]
 struct Tape {
     bytes: Vec<u8>,
-    /// How many were read.
+    /// The number of bytes that were read.
     read: usize,
-    /// How many it gives or takes before it fails.
+    /// The number of bytes that it returns or takes before it fails.
     good: usize,
-    /// How many it gives or takes at a time.
+    /// The maximum number of bytes that it returns or takes at once.
     piece: usize,
     /// How often it can be flushed.
     flushes: usize,
-    /// How often it was.
+    /// How often it was flushed.
     flushed: usize,
 }
 
 impl Tape {
-    /// An empty tape. Memory is refused once at most.
+    /// Creates an empty tape. Tolerates one refusal of memory.
     fn new(rt: &impl Abort, alloc: Global) -> Tape {
         let bytes = match Vec::with_capacity(alloc, TAPE_ROOM) {
             Ok(bytes) => bytes,
@@ -45,7 +45,7 @@ impl Tape {
         }
     }
 
-    /// Puts bytes at the end, for which there is room.
+    /// Appends bytes, for which there is space.
     fn put(&mut self, bytes: &[u8]) {
         let _ = self.bytes.extend_from_slice(bytes);
     }
@@ -103,7 +103,7 @@ struct Talk {
 }
 
 impl Talk {
-    /// A server that will reply so.
+    /// Creates the streams of a client whose server sends these replies.
     fn new(rt: &impl Abort, alloc: Global, replies: &[&[u8]]) -> Talk {
         Talk {
             replies: joined(rt, alloc, replies),
@@ -112,7 +112,8 @@ impl Talk {
         }
     }
 
-    /// Runs a client; its status. Memory is refused once at most, and then nothing was read or written.
+    /// Runs a client and returns its status. Tolerates one refusal of memory, after which nothing
+    /// was read or written.
     fn run(&mut self, rt: &impl Abort, alloc: Global, task: Task<'_>) -> i32 {
         if let Task::Send { text, .. } = task {
             assert!(rt; text.len() <= BODY_ROOM);
@@ -142,44 +143,45 @@ impl Talk {
     }
 }
 
-/// Who the clients say they are.
+/// The credentials of the clients.
 const WHO: Cred = Cred {
     uid: 1000,
     gid: 1000,
     pid: 1,
 };
 
-/// The hello of `WHO`, and its reply, which tells 64 slots.
+/// The hello of `WHO`. The reply to it, `WELCOME`, states 64 slots.
 const HELLO: &[u8] = b"\0\0\0\x0e\x02\0\0\0\x03\xe8\0\0\x03\xe8\0\0\0\x01";
 
 const WELCOME: &[u8] = b"\0\0\0\x07\x02\0\0\0\0\0\x40";
 
-/// `msgget` of key 7 with flags 0, and the reply that gives identifier 64.
+/// `msgget` of key 7 with flags 0. `GOT` is the reply with identifier 64.
 const GET: &[u8] = b"\0\0\0\x0a\x02\x01\0\0\0\x07\0\0\0\0";
 
 const GOT: &[u8] = b"\0\0\0\x07\x02\x01\0\0\0\0\x40";
 
-/// That operation is done, and gives nothing.
+/// The reply that a send is done. `REMOVED` is the reply that a removal is done.
 const SENT: &[u8] = b"\0\0\0\x03\x02\x02\0";
 
 const REMOVED: &[u8] = b"\0\0\0\x03\x02\x06\0";
 
-/// Identifier 64 is removed.
+/// The removal of identifier 64.
 const REMOVE: &[u8] = b"\0\0\0\x06\x02\x06\0\0\0\x40";
 
-/// `msgrcv` of any type from identifier 64, at most 8,192 bytes with flags 0, and a message of type 5.
+/// `msgrcv` of any type from identifier 64, at most 8,192 bytes with flags 0. `MESSAGE` is the
+/// reply with a message of type 5.
 const RECEIVE: &[u8] = b"\0\0\0\x16\x02\x03\0\0\0\x40\0\0\x20\0\0\0\0\0\0\0\0\0\0\0\0\0";
 
 const MESSAGE: &[u8] = b"\0\0\0\x0e\x02\x03\0\0\0\0\0\0\0\0\x05abc";
 
-/// No queue lives in the slot.
+/// The reply that the slot has no queue.
 const VACANT: &[u8] = b"\0\0\0\x04\x02\x07\0\0";
 
 /// Identifier 0, key 7, user 1000, mode 0640, 3 bytes in 1 message.
 const ROW: &[u8] =
     b"\0\0\0\x1a\x02\x07\0\x01\0\0\0\0\0\0\0\x07\0\0\x03\xe8\x01\xa0\0\0\0\x03\0\0\0\x01";
 
-/// The greatest of each, and the key -2147483648.
+/// The maximum of each number, and the key -2147483648.
 const WIDE: &[u8] =
     b"\0\0\0\x1a\x02\x07\0\x01\x7f\xff\xff\xff\x80\0\0\0\xff\xff\xff\xff\x01\xff\xff\xff\xff\xff\xff\xff\xff\xff";
 
@@ -197,7 +199,7 @@ const RECEIVE_ANY: Task<'static> = Task::Receive {
     noerror: false,
 };
 
-/// These bytes, one after the other.
+/// Returns a tape with these bytes, one part after another.
 fn joined(rt: &impl Abort, alloc: Global, parts: &[&[u8]]) -> Tape {
     let mut tape = Tape::new(rt, alloc);
     for part in parts {
@@ -338,7 +340,7 @@ fn the_longest_message_is_received(rt: HostRuntime) {
     assert!(rt; talk.screen.text() == joined(&rt, rt.alloc(), &[&text, b"\n"]).text());
 }
 
-/// A server with queues in slot 0 and slot 63.
+/// Returns the streams of a client whose server has queues in slots 0 and 63.
 fn listed(rt: &impl Abort, alloc: Global) -> Talk {
     let mut talk = Talk::new(rt, alloc, &[WELCOME, ROW]);
     for _ in 0..62 {
@@ -469,7 +471,7 @@ fn a_later_request_is_refused(rt: HostRuntime) {
     assert!(rt; talk.screen.text() == b"sysvmsg: ENOENT\n".as_slice());
 }
 
-/// The one line where a server does not reply.
+/// The one line that is shown if the server does not reply.
 const NO_REPLY: &[u8] = b"sysvmsg: no reply\n";
 
 #[test]

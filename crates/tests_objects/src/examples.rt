@@ -1,4 +1,4 @@
-//! The example at the head of the frames, line by line.
+//! The example in the documentation of the frames, line by line.
 use bitflags::Flags as _;
 use std::test::Fail;
 use sysv_model::{Body, Flags, Watched};

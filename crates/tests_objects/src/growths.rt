@@ -1,5 +1,5 @@
-//! Each call that takes memory, where a growth of it may be refused: then it answers `NoMemory`. Clients are tested beside
-//! the others of theirs.
+//! Each call that allocates, with a growth of it refused: the call then returns `NoMemory`. The
+//! growths of clients are tested with the other tests of clients.
 
 use crate::parts::assert_is;
 use sysv_keys::{Begun, Registry, RegistryRefused};

@@ -1,5 +1,5 @@
-//! Selections compared with a list kept beside the index, whose plain rule is that of the message
-//! rules.
+//! Selections compared with those of a list kept beside the index, which selects by the plain rule
+//! of the message rules.
 
 ghost use Rattle.std.specs.Prelude.{◌≡◌, ◌+◌, ◌<◌, ◌≤◌, length};
 ghost use Rattle.sysv_model.specs.declared.limits.TheConstants.{QUEUE_MESSAGES};
@@ -14,7 +14,7 @@ use sysv_index::{Entry, Index, Steps};
 use sysv_model::{NoMemory, QUEUE_MESSAGES, Selector};
 use sysv_rules::select_plain;
 
-/// An index. Memory is refused once at most.
+/// Opens an index. Tolerates one refusal of memory.
 fn open_index(rt: &impl Abort, alloc: Global) -> Index
     ensures { length result ≡ 0 }
 {
@@ -27,7 +27,7 @@ fn open_index(rt: &impl Abort, alloc: Global) -> Index
     }
 }
 
-/// What is selected, with a counter that is given up.
+/// Returns what is selected, with a step counter that is opened and dropped here.
 fn select_with<L: Ledger>(index: &Index, sel: Selector, blank: Blank) -> Option<Entry>
     requires name { blank.name ≡ L.name }
     requires parts { blank.parts ≡ L.parts }
@@ -41,7 +41,7 @@ fn select(index: &Index, sel: Selector) -> Option<Entry> {
     select_with::<Brand>(index, sel, Blank::new(1))
 }
 
-/// The entries in the order in which they were pushed, and a list for their types.
+/// The entries in the order in which they were pushed, and space for a list of their types.
 #[derive(Drop)]
 struct Beside {
     entries: Vec<Entry>,
@@ -56,7 +56,7 @@ impl Beside {
         }
     }
 
-    /// What the plain rule names.
+    /// Returns what the plain rule selects.
     fn select(&mut self, sel: Selector) -> Result<Option<Entry>, Fail> {
         self.types.clear();
         for entry in &self.entries {
@@ -67,7 +67,7 @@ impl Beside {
     }
 }
 
-/// Each kind of selector selects what the plain rule names.
+/// Asserts that each kind of selector selects what the plain rule selects.
 fn assert_agree(
     rt: &impl Abort,
     index: &Index,
@@ -86,7 +86,7 @@ fn assert_agree(
     Ok(())
 }
 
-/// The selector of a step, and the type of the message that it sends.
+/// Returns the selector of a step, and the type of the message that the step sends.
 fn script(step: u64) -> (Selector, i64)
     requires { step < 500 }
 {
@@ -127,7 +127,7 @@ fn selections_follow_the_plain_rule(rt: HostRuntime) -> Result<(), Fail> {
     Ok(())
 }
 
-/// What is selected is this.
+/// Asserts that this entry is selected.
 fn assert_selects(rt: &impl Abort, index: &Index, sel: Selector, wanted: Option<Entry>) {
     assert_eq!(rt; select(index, sel), wanted, "{sel:?}");
 }

@@ -1,5 +1,5 @@
 //! Keys that are found, made, busy and refused; rows that are settled and forgotten; and the last
-//! identifiers of all.
+//! identifiers that a registry can make.
 
 use crate::parts::assert_is;
 use std::alloc::Global;
@@ -8,7 +8,7 @@ use sysv_keys::{Begun, Registry, RegistryRefused, slot_of_id};
 use sysv_model::{Errno, Flags, IPC_PRIVATE};
 use tests_kit::{creating, flags};
 
-/// A registry whose slots all have this generation. Memory is refused once at most.
+/// Opens a registry whose slots all have this generation. Tolerates three refusals of memory.
 fn registry_at(rt: &impl Abort, alloc: Global, generation: u32) -> Registry {
     for _ in 0..3 {
         match Registry::open_at(alloc, generation) {
@@ -35,17 +35,17 @@ fn make_private(rt: &impl Abort, registry: &mut Registry, id: i32) {
     assert!(rt; registry.settle(id));
 }
 
-/// A begin ends so.
+/// Asserts that a begin has this result.
 fn assert_begins(rt: &impl Abort, registry: &mut Registry, key: i32, flags: Flags, wanted: Begun) {
     assert_eq!(rt; registry.begin(key, flags), wanted, "key {key}");
 }
 
-/// A begin with IPC_CREAT makes this identifier.
+/// Asserts that a begin with IPC_CREAT makes this identifier.
 fn assert_made(rt: &impl Abort, registry: &mut Registry, key: i32, id: i32) {
     assert_begins(rt, registry, key, creating(), Begun::Made { id });
 }
 
-/// A begin is refused so.
+/// Asserts that a begin is refused with this error.
 fn assert_refused(rt: &impl Abort, registry: &mut Registry, key: i32, flags: Flags, why: Errno) {
     assert_begins(rt, registry, key, flags, Begun::Refused(why));
 }

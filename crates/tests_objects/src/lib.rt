@@ -1,5 +1,5 @@
-//! Tests of the words of all calls, of the rules, of queues and what they stand on, of objects and the steps of calls at
-//! them, of frames and of clients.
+//! Tests of the words of all calls, of the rules, of queues and the structures that they use, of
+//! objects and the steps of calls at them, of frames and of clients.
 #![tactic(auto)]
 
 #[cfg(test)]

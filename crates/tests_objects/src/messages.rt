@@ -1,5 +1,5 @@
-//! Messages that come and go by each kind of selector, refusals, and stores that end with messages
-//! in them.
+//! Messages that are put in and taken out by each kind of selector, refusals, and stores that end
+//! with messages in them.
 
 ghost use Rattle.std.specs.Prelude.{◌≡◌, ◌+◌, ◌<◌, []};
 ghost use Rattle.std.specs.List.{All};
@@ -15,7 +15,7 @@ use sysv_messages::{Messages, NotTaken, Waiting};
 use sysv_model::{Body, NoMemory, QUEUE_MESSAGES, Selector};
 use sysv_pool::{Chain, Pool};
 
-/// A store, and what its callers have at hand.
+/// A store, with the pool and the bodies that its callers use.
 struct Desk {
     messages: Messages,
     pool: Pool,
@@ -23,7 +23,7 @@ struct Desk {
     out: Body,
 }
 
-/// What a receive gave, in a form that can be compared.
+/// What a receive returned, in a form that can be compared.
 #[derive(Clone, Copy, PartialEq, Eq, Debug)]
 struct Received {
     number: u64,
@@ -32,7 +32,7 @@ struct Received {
     len: usize,
 }
 
-/// A store without messages. Memory is refused once at most.
+/// Opens a store without messages. Tolerates one refusal of memory.
 fn open_messages(rt: &impl Abort, alloc: Global) -> Messages
     ensures { result ≡ [] }
 {
@@ -45,7 +45,7 @@ fn open_messages(rt: &impl Abort, alloc: Global) -> Messages
     }
 }
 
-/// A store without messages beside a pool of 512 blocks.
+/// Opens a store without messages beside a pool of 512 blocks.
 fn open_desk(rt: &impl Abort, alloc: Global) -> Desk
     ensures { result.messages ≡ [] }
 {
@@ -57,8 +57,8 @@ fn open_desk(rt: &impl Abort, alloc: Global) -> Desk
     }
 }
 
-/// Ends the store, in which messages of that many blocks wait, and the pool, in which all blocks are then
-/// free.
+/// Ends the store, whose messages have this number of blocks, and asserts that all blocks of the
+/// pool are then free.
 fn end_desk(rt: &impl Abort, desk: Desk, blocks: u32) {
     let Desk {
         messages,
@@ -73,7 +73,7 @@ fn end_desk(rt: &impl Abort, desk: Desk, blocks: u32) {
     pool.end();
 }
 
-/// Puts a message of process 101 with this text in.
+/// Puts in a message of process 101 with this body.
 fn send(rt: &impl Abort, desk: &mut Desk, number: u64, mtype: i64, text: &[u8])
     requires { All (λ (m : Message). m.number < number) desk.old.messages }
     ensures { All (λ (m : Message). m.number < number + 1) desk.new.messages }
@@ -91,7 +91,7 @@ fn send(rt: &impl Abort, desk: &mut Desk, number: u64, mtype: i64, text: &[u8])
     desk.messages.push(number, 101, mtype, chain, size);
 }
 
-/// A message that is taken, with a counter that is given up.
+/// Takes a message, with a step counter that is opened and dropped here.
 fn take_with<L: Ledger>(
     messages: &mut Messages,
     sel: Selector,
@@ -106,7 +106,7 @@ fn take_with<L: Ledger>(
     messages.take(sel, most, &mut steps)
 }
 
-/// Receives a text of at most `most` bytes into `out`. Its blocks come back.
+/// Receives a body of at most `most` bytes into `out`, and gives its blocks back to the pool.
 fn receive(
     rt: &impl Abort,
     desk: &mut Desk,
@@ -127,7 +127,7 @@ fn receive(
     Ok(received)
 }
 
-/// What a receive gives of a message that `send` put in.
+/// Returns what a receive returns for a message that `send` put in.
 fn sent(number: u64, mtype: i64, len: usize) -> Received {
     Received {
         number,
@@ -137,7 +137,7 @@ fn sent(number: u64, mtype: i64, len: usize) -> Received {
     }
 }
 
-/// A receive of at most `most` bytes ends so.
+/// Asserts that a receive of at most `most` bytes has this result.
 fn assert_receives(
     rt: &impl Abort,
     desk: &mut Desk,
@@ -148,12 +148,12 @@ fn assert_receives(
     assert_eq!(rt; receive(rt, desk, sel, most), wanted, "{sel:?}");
 }
 
-/// So many messages wait, with so many bytes.
+/// Asserts that this number of messages with this number of bytes is queued.
 fn assert_waiting(rt: &impl Abort, desk: &Desk, waiting: (usize, u32)) {
     assert_eq!(rt; (desk.messages.len(), desk.messages.bytes()), waiting);
 }
 
-/// A store with messages 3 to 6, of types 5, 2, 5 and 9.
+/// Opens a store with messages 3 to 6, of types 5, 2, 5 and 9.
 fn open_with_four(rt: &impl Abort, alloc: Global) -> Desk {
     let mut desk = open_desk(rt, alloc);
     send(rt, &mut desk, 3, 5, b"first");
@@ -165,7 +165,7 @@ fn open_with_four(rt: &impl Abort, alloc: Global) -> Desk {
     desk
 }
 
-/// Receives that are refused leave all four messages.
+/// Asserts that refused receives leave all four messages.
 fn assert_refusals(rt: &impl Abort, desk: &mut Desk) {
     let none = Err(NotTaken::NoneQualifies);
     let too_long = Err(NotTaken::TooLong);
@@ -208,7 +208,7 @@ fn a_store_ends_with_what_waits(rt: HostRuntime) {
     end_desk(&rt, desk, 1);
 }
 
-/// A full store, whose only message of type 2 came last.
+/// Opens a full store whose last message is the only one of type 2.
 fn open_full(rt: &impl Abort, alloc: Global) -> Desk {
     let mut desk = open_desk(rt, alloc);
     for number in 0..255 {

@@ -23,7 +23,7 @@ fn figures(rt: HostRuntime) {
     assert_eq!(rt; WORN, 4_611_686_018_427_387_904);
 }
 
-/// What the error prints. Memory is refused once at most.
+/// Returns what the error prints. Tolerates one refusal of memory.
 fn printed(rt: &impl Abort, alloc: Global, error: Errno) -> String {
     match format!(in alloc; "{error}") {
         Ok(text) => text,

@@ -1,17 +1,17 @@
-//! Calls of the registry and of the pool, which take no memory: a run counts the growths after the mark, refuses each, and
-//! wants none.
+//! Calls of the registry and of the pool, which allocate nothing. A run counts the growths after
+//! the mark, refuses each, and expects none.
 
 use crate::parts::{assert_holds, assert_is, give_back, open_body, open_pool};
 use sysv_keys::{Begun, Registry};
 use sysv_model::IPC_PRIVATE;
 use tests_kit::{creating, mark};
 
-/// The identifier of a slot in its generation of this number.
+/// Returns the identifier of a slot in this generation.
 fn id_of(slot: i32, generation: i32) -> i32 {
     generation.wrapping_mul(256).wrapping_add(slot)
 }
 
-// All slots are taken, and all are given again.
+// All slots are taken and given back, twice.
 #[test]
 fn registry(rt: HostRuntime) {
     let Ok(mut registry) = Registry::open(rt.alloc()) else {

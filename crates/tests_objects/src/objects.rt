@@ -26,7 +26,8 @@ const TO: SetTo = SetTo {
     qbytes: 9,
 };
 
-/// Objects of 128 blocks whose identifiers begin with this generation. Memory is refused once at most.
+/// Opens objects of 128 blocks whose identifiers begin with this generation. Tolerates one refusal
+/// of memory.
 pub(crate) fn objects_at(rt: &impl Abort, alloc: Global, generation: u32) -> Objects
     ensures { CountsUpTo 0 result }
 {
@@ -42,7 +43,7 @@ pub(crate) fn objects_at(rt: &impl Abort, alloc: Global, generation: u32) -> Obj
     }
 }
 
-// Each of the next functions is told how far a count was raised before it at most.
+// The next functions have an argument `raised`: how far a count was raised before, at most.
 
 /// Makes one turn.
 pub(crate) fn turn(objects: &mut Objects, call: ObjectCall, raised: u64) -> ObjectReply
@@ -116,7 +117,7 @@ fn install(objects: &mut Objects, id: i32, key: i32, raised: u64) -> bool
     }
 }
 
-/// Makes the queue of a key, which gets this identifier.
+/// Makes the queue of a key, and asserts that it has this identifier.
 fn make(rt: &impl Abort, objects: &mut Objects, key: i32, id: i32, raised: u64)
     requires low { CountsUpTo raised objects.old }
     requires few { raised < 90 }
@@ -171,7 +172,7 @@ fn stat(objects: &mut Objects, id: i32, raised: u64) -> Result<Stat, Errno>
     }
 }
 
-/// The row of the slot.
+/// Returns the row of the slot.
 fn row(objects: &mut Objects, slot: usize, raised: u64) -> Option<Row>
     requires low { CountsUpTo raised objects.old }
     requires few { raised < 100 }
@@ -185,14 +186,14 @@ fn row(objects: &mut Objects, slot: usize, raised: u64) -> Option<Row>
     }
 }
 
-/// A letter without a text.
+/// Returns a letter with an empty body.
 fn empty_letter(rt: &impl Abort, alloc: Global) -> Letter {
     let body = open_body(rt, alloc);
     assert!(rt; body.len() == 0);
     Letter::of(Chain::empty(), &body)
 }
 
-/// Places an empty message of type 5, which is the first of its queue.
+/// Places an empty message of type 5, the first of its queue.
 fn place(rt: &impl Abort, alloc: Global, objects: &mut Objects, id: i32, raised: u64)
     requires low { CountsUpTo raised objects.old }
     requires few { raised < 100 }
@@ -214,7 +215,7 @@ fn place(rt: &impl Abort, alloc: Global, objects: &mut Objects, id: i32, raised:
     }
 }
 
-/// What a take of at most 9 bytes by anyone's message asks.
+/// Returns the request to take any message, of which at most 9 bytes are received.
 fn taking(id: i32) -> ObjectCall
     ensures { IsOfSomeSlot result }
 {
@@ -248,7 +249,7 @@ fn take(rt: &impl Abort, alloc: Global, objects: &mut Objects, id: i32, raised: 
     }
 }
 
-/// A take from this queue finds no message.
+/// Asserts that a take from this queue finds no message.
 fn assert_empty(rt: &impl Abort, objects: &mut Objects, id: i32, raised: u64)
     requires low { CountsUpTo raised objects.old }
     requires few { raised < 100 }
@@ -263,7 +264,7 @@ fn assert_empty(rt: &impl Abort, objects: &mut Objects, id: i32, raised: u64)
     }
 }
 
-/// Sets a queue.
+/// Sets the attributes of a queue.
 fn set(objects: &mut Objects, id: i32, raised: u64) -> Result<(), Errno>
     requires low { CountsUpTo raised objects.old }
     requires few { raised < 100 }
@@ -281,7 +282,7 @@ fn set(objects: &mut Objects, id: i32, raised: u64) -> Result<(), Errno>
     }
 }
 
-/// Removes a queue. What it discards, or why it is not removed.
+/// Removes a queue. Returns the chain that it discards, or why it is not removed.
 fn remove(objects: &mut Objects, id: i32, raised: u64) -> Result<Chain, Errno>
     requires low { CountsUpTo raised objects.old }
     requires few { raised < 100 }
@@ -295,7 +296,7 @@ fn remove(objects: &mut Objects, id: i32, raised: u64) -> Result<Chain, Errno>
     }
 }
 
-/// Reserves the blocks of a text of this size.
+/// Reserves the blocks of a body of this size.
 fn reserve(objects: &mut Objects, size: usize, raised: u64) -> Option<Chain>
     requires low { CountsUpTo raised objects.old }
     requires few { raised < 100 }
@@ -326,7 +327,7 @@ fn give_back(rt: &impl Abort, objects: &mut Objects, chain: Chain, raised: u64)
     }
 }
 
-/// Ends the objects with a chain of the pool, and then all blocks are free.
+/// Ends the objects with a chain of the pool, and asserts that all blocks are then free.
 pub(crate) fn end(rt: &impl Abort, objects: Objects, chain: Chain, raised: u64)
     requires low { CountsUpTo raised objects }
     requires few { raised < 100 }
@@ -334,7 +335,7 @@ pub(crate) fn end(rt: &impl Abort, objects: Objects, chain: Chain, raised: u64)
     assert_is(rt, objects.end(chain), 128);
 }
 
-/// The counts of the identifier's slot.
+/// Returns the counts of the identifier's slot.
 fn counts(objects: &Objects, id: i32) -> (u64, u64) {
     (objects.arrived(id), objects.freed(id))
 }

@@ -1,26 +1,26 @@
-//! What all of these tests use.
+//! Helpers of all of these tests.
 use std::alloc::Global;
 use std::fmt::Debug;
 use std::process::Abort;
 use sysv_model::{Body, QUEUE_MESSAGES};
 use sysv_pool::{Chain, Pool};
 
-/// The test fails if what was found is not what is wanted.
+/// Asserts that the found value is the wanted value.
 pub(crate) fn assert_is<T: PartialEq + Debug + Drop>(rt: &impl Abort, found: T, wanted: T) {
     assert_eq!(rt; found, wanted);
 }
 
-/// An open body. Memory is refused once at most.
+/// Opens a body. Tolerates one refusal of memory.
 pub(crate) fn open_body(rt: &impl Abort, alloc: Global) -> Body {
     tests_kit::open_body(alloc).expect(rt, "a second try")
 }
 
-/// A pool of so many blocks. Memory is refused once at most.
+/// Opens a pool with this number of blocks. Tolerates one refusal of memory.
 pub(crate) fn open_pool(rt: &impl Abort, alloc: Global, blocks: u32) -> Pool {
     tests_kit::open_pool(alloc, blocks).expect(rt, "a second try")
 }
 
-/// Gives back a chain, which the pool takes.
+/// Gives back a chain, and asserts that the pool takes it.
 pub(crate) fn give_back(rt: &impl Abort, pool: &mut Pool, chain: Chain) {
     let released = pool.released();
     assert!(rt; released < 1 << 63);
@@ -30,7 +30,7 @@ pub(crate) fn give_back(rt: &impl Abort, pool: &mut Pool, chain: Chain) {
     }
 }
 
-/// The body has this text.
+/// Asserts that the body has these bytes.
 pub(crate) fn assert_holds(rt: &impl Abort, body: &Body, text: &[u8]) {
     assert_eq!(rt; body.len(), text.len());
     for (i, byte) in text.iter().enumerate() {
@@ -39,7 +39,8 @@ pub(crate) fn assert_holds(rt: &impl Abort, body: &Body, text: &[u8]) {
     }
 }
 
-/// A list with room for all that a queue may hold. Memory is refused once at most.
+/// Returns a list with space for the maximum number of messages in a queue. Tolerates one refusal
+/// of memory.
 pub(crate) fn room<T: Drop>(rt: &impl Abort, alloc: Global) -> Vec<T> {
     match Vec::with_capacity(alloc, QUEUE_MESSAGES) {
         Ok(list) => list,

@@ -1,4 +1,5 @@
-//! Chains that are reserved and come back, texts in their blocks, chains of another pool, and long chains.
+//! Chains that are reserved and given back, bodies in their blocks, chains of another pool, and
+//! long chains.
 
 ghost use Rattle.std.specs.Prelude.{◌≡◌, ◌≤◌, length};
 ghost use Rattle.sysv_model.specs.declared.limits.TheConstants.{MESSAGE_BYTES as most_bytes};
@@ -10,7 +11,7 @@ use std::process::Abort;
 use sysv_model::Body;
 use sysv_pool::{Chain, Pool, PoolRefused};
 
-/// Why there is no pool of that many blocks.
+/// Returns why there is no pool with this number of blocks.
 fn refusal(alloc: Global, blocks: u32) -> Option<PoolRefused> {
     match Pool::open(alloc, blocks) {
         Ok(pool) => {
@@ -21,7 +22,7 @@ fn refusal(alloc: Global, blocks: u32) -> Option<PoolRefused> {
     }
 }
 
-/// A reserved chain.
+/// Returns a reserved chain.
 fn reserved(rt: &impl Abort, pool: &mut Pool, size: usize) -> Chain
     requires { size ≤ most_bytes }
     ensures { result.blocks ≡ blocks_for size }
@@ -32,7 +33,7 @@ fn reserved(rt: &impl Abort, pool: &mut Pool, size: usize) -> Chain
     }
 }
 
-/// A reserved chain with the text in it.
+/// Returns a reserved chain with the body in it.
 fn holding(rt: &impl Abort, pool: &mut Pool, body: &Body) -> Chain
     requires { length body.now ≤ most_bytes }
     ensures { result.bytes ≡ body.now }
@@ -42,12 +43,13 @@ fn holding(rt: &impl Abort, pool: &mut Pool, body: &Body) -> Chain
     chain
 }
 
-/// The free blocks of a pool, and how often a chain was released to it.
+/// Asserts the number of free blocks of a pool, and how often a chain was released to it.
 fn assert_counts(rt: &impl Abort, pool: &Pool, free: u32, released: u64) {
     assert_eq!(rt; (pool.free(), pool.released()), (free, released));
 }
 
-/// A text of so many bytes takes so many blocks of the 128, until they are given back.
+/// Asserts that a body of `size` bytes takes this number of the 128 blocks until they are given
+/// back.
 fn assert_takes(rt: &impl Abort, pool: &mut Pool, size: usize, blocks: u32) {
     assert!(rt; size <= 8192);
     let chain = reserved(rt, pool, size);
@@ -61,7 +63,7 @@ fn assert_takes(rt: &impl Abort, pool: &mut Pool, size: usize, blocks: u32) {
     assert_eq!(rt; pool.free(), 128, "{size} bytes are back");
 }
 
-/// The body has two bytes and this text.
+/// Asserts that the body is two bytes followed by these bytes.
 fn assert_ends(rt: &impl Abort, body: &Body, text: &[u8]) {
     assert_eq!(rt; body.len(), text.len() + 2);
     for (i, byte) in text.iter().enumerate() {
@@ -146,7 +148,7 @@ fn texts_come_out_as_they_were_put_in(rt: HostRuntime) {
     for (i, byte) in text.iter_mut().enumerate() {
         *byte = (i % 251) as u8;
     }
-    // The blocks hold what the text before left in them.
+    // The blocks still contain bytes of the previous body.
     for len in [8192, 0, 1, 63, 64, 65, 130, 8192] {
         body.clear();
         assert!(rt; len <= 8192 && body.push_piece(&text[..len]));

@@ -1,5 +1,5 @@
-//! Messages that come and go, receives by each kind of selector, callers of each class, receipts, and
-//! refusals in their order.
+//! Messages that are sent and received, receives by each kind of selector, callers of each class,
+//! receipts, and refusals in their order.
 
 mod control;
 mod indexed;
@@ -45,7 +45,7 @@ const USER_ZERO: Cred = Cred {
     pid: 105,
 };
 
-/// A slot, and what its callers have at hand.
+/// A slot, with the pool and the bodies that its callers use.
 struct Desk {
     slot: QueueSlot,
     pool: Pool,
@@ -53,7 +53,7 @@ struct Desk {
     out: Body,
 }
 
-/// What a receive gave, in a form that can be compared.
+/// What a receive returned, in a form that can be compared.
 #[derive(Clone, Copy, PartialEq, Eq, Debug)]
 struct Received {
     mtype: i64,
@@ -62,7 +62,7 @@ struct Received {
     number: u64,
 }
 
-/// A vacant slot. Memory is refused once at most.
+/// Opens a vacant slot. Tolerates one refusal of memory.
 fn open_slot(rt: &impl Abort, alloc: Global) -> QueueSlot {
     match QueueSlot::open(alloc) {
         Ok(slot) => slot,
@@ -73,7 +73,7 @@ fn open_slot(rt: &impl Abort, alloc: Global) -> QueueSlot {
     }
 }
 
-/// A vacant slot beside a pool of 512 blocks.
+/// Opens a vacant slot beside a pool of 512 blocks.
 fn open_desk(rt: &impl Abort, alloc: Global) -> Desk {
     Desk {
         text: open_body(rt, alloc),
@@ -83,21 +83,22 @@ fn open_desk(rt: &impl Abort, alloc: Global) -> Desk {
     }
 }
 
-/// A slot with queue 0.
+/// Opens a slot with queue 0.
 fn desk_with_queue(rt: &impl Abort, alloc: Global) -> Desk {
     let mut desk = open_desk(rt, alloc);
     assert!(rt; desk.slot.install(0, 0, SENDER, 0o600, 0));
     desk
 }
 
-/// A slot with queue 0, which its group may read.
+/// Opens a slot with queue 0, which its group may read.
 fn desk_with_shared_queue(rt: &impl Abort, alloc: Global) -> Desk {
     let mut desk = open_desk(rt, alloc);
     assert!(rt; desk.slot.install(0, 0, SENDER, 0o640, 0));
     desk
 }
 
-/// Ends the slot, on which that many blocks wait, and the pool, in which all blocks are then free.
+/// Ends the slot, whose queued messages have this number of blocks, and asserts that all blocks of
+/// the pool are then free.
 fn end_desk(rt: &impl Abort, desk: Desk, blocks: u32) {
     let Desk {
         slot,
@@ -112,7 +113,7 @@ fn end_desk(rt: &impl Abort, desk: Desk, blocks: u32) {
     pool.end();
 }
 
-/// Sends this text to queue `id`. A refused chain comes back as it was.
+/// Sends this body to queue `id`. Asserts that a refused chain is handed back unchanged.
 fn send_as(
     rt: &impl Abort,
     desk: &mut Desk,
@@ -146,12 +147,12 @@ fn send_as(
     }
 }
 
-/// Sends this text from the sender to queue 0.
+/// Sends this body from the sender to queue 0.
 fn send(rt: &impl Abort, desk: &mut Desk, mtype: i64, text: &[u8]) -> Result<u64, Unplaced> {
     send_as(rt, desk, 0, SENDER, mtype, text)
 }
 
-/// What a delivery gives, which is then written.
+/// Returns what a delivery has, and spends the delivery as written.
 fn written(rt: &impl Abort, delivery: Delivery) -> Received {
     let got = Received {
         mtype: delivery.mtype(),
@@ -165,7 +166,8 @@ fn written(rt: &impl Abort, delivery: Delivery) -> Received {
     got
 }
 
-/// Receives `size` bytes of a message of queue `id` into `out`. The blocks of the whole text come back.
+/// Receives `size` bytes of a message of queue `id` into `out`. Asserts that the blocks of the
+/// whole body are handed back.
 fn take_as(
     rt: &impl Abort,
     desk: &mut Desk,
@@ -193,7 +195,7 @@ fn receive(
     take_as(rt, desk, 0, RECEIVER, Selector::Any, size, noerror)
 }
 
-/// Receives a text of at most 100 bytes from queue `id`.
+/// Receives a body of at most 100 bytes from queue `id`.
 fn receive_as(
     rt: &impl Abort,
     desk: &mut Desk,
@@ -204,7 +206,7 @@ fn receive_as(
     take_as(rt, desk, id, cred, sel, 100, false)
 }
 
-/// What a receive of this text from the sender gives.
+/// Returns what a receive of this body from the sender returns.
 fn got(mtype: i64, text: &[u8], number: u64) -> Received {
     Received {
         mtype,
@@ -214,7 +216,7 @@ fn got(mtype: i64, text: &[u8], number: u64) -> Received {
     }
 }
 
-/// Queue `id` finds this for a text of so many bytes.
+/// Asserts that queue `id` finds this for a body of `size` bytes.
 fn assert_looks(rt: &impl Abort, desk: &Desk, id: i32, cred: Cred, size: usize, found: Look) {
     assert_eq!(rt;
         desk.slot.look(id, cred, size),
@@ -223,12 +225,12 @@ fn assert_looks(rt: &impl Abort, desk: &Desk, id: i32, cred: Cred, size: usize, 
     );
 }
 
-/// The counts of what has arrived and of what was freed.
+/// Asserts the arrived count and the freed count.
 fn assert_counts(rt: &impl Abort, desk: &Desk, counts: (u64, u64)) {
     assert_eq!(rt; desk.slot.counts(), counts);
 }
 
-/// A send of this text to queue `id` ends so.
+/// Asserts that a send of this body to queue `id` has this result.
 fn assert_sends_as(
     rt: &impl Abort,
     desk: &mut Desk,
@@ -241,7 +243,7 @@ fn assert_sends_as(
     assert_eq!(rt; send_as(rt, desk, id, cred, mtype, text), wanted);
 }
 
-/// A send of this text to queue 0 ends so.
+/// Asserts that a send of this body to queue 0 has this result.
 fn assert_sends(
     rt: &impl Abort,
     desk: &mut Desk,
@@ -252,7 +254,7 @@ fn assert_sends(
     assert_sends_as(rt, desk, 0, SENDER, mtype, text, wanted);
 }
 
-/// A receive of at most 100 bytes from queue `id` ends so.
+/// Asserts that a receive of at most 100 bytes from queue `id` has this result.
 fn assert_receives_as(
     rt: &impl Abort,
     desk: &mut Desk,
@@ -264,7 +266,7 @@ fn assert_receives_as(
     assert_eq!(rt; receive_as(rt, desk, id, cred, sel), wanted, "{sel:?}");
 }
 
-/// A receive of any message of queue 0 ends so.
+/// Asserts that a receive of any message of queue 0 has this result.
 fn assert_receives(
     rt: &impl Abort,
     desk: &mut Desk,
@@ -483,7 +485,7 @@ fn permission_is_asked_before_messages(rt: HostRuntime) {
     end_desk(&rt, desk, 0);
 }
 
-/// A receive from queue 0 is refused so.
+/// Asserts that a receive from queue 0 is refused for this reason.
 fn assert_refuses(rt: &impl Abort, desk: &mut Desk, cred: Cred, sel: Selector, why: TakeRefused) {
     assert_receives_as(rt, desk, 0, cred, sel, Err(why));
 }

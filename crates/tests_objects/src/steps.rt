@@ -75,7 +75,7 @@ impl Turns for AtObjects {
     }
 }
 
-/// A clock that stands still.
+/// A clock that always returns the same time.
 pub(crate) struct Still;
 
 impl Clock for Still {
@@ -88,7 +88,7 @@ impl Clock for Still {
     }
 }
 
-/// The step at which a call stands.
+/// Returns the step that the call makes next.
 fn at_step(rt: &impl Abort, state: State) -> Phase
     ensures { state ≡ State.Goes result }
 {
@@ -98,7 +98,7 @@ fn at_step(rt: &impl Abort, state: State) -> Phase
     }
 }
 
-/// The call is over, and succeeded.
+/// Asserts that the call is over and succeeded.
 fn assert_done(rt: &impl Abort, state: State) {
     match state {
         State::Over(Ending::Zero) => {}
@@ -106,7 +106,7 @@ fn assert_done(rt: &impl Abort, state: State) {
     }
 }
 
-/// A get that begins: it makes the queue of a key that has none.
+/// Returns the state of a get that begins, and that makes the queue of a key without one.
 fn getting() -> State
     ensures { Gets (state_of result []) }
 {
@@ -117,7 +117,7 @@ fn getting() -> State
     }))
 }
 
-/// A get is over, with this identifier.
+/// Asserts that a get is over with this identifier.
 fn assert_id(rt: &impl Abort, state: State, want: i32) {
     match state {
         State::Over(Ending::Id(id)) => assert_is(rt, id, want),
@@ -125,7 +125,7 @@ fn assert_id(rt: &impl Abort, state: State, want: i32) {
     }
 }
 
-/// The next step of a get.
+/// Makes the next step of a get.
 fn get_on(rt: &impl Abort, at: &mut Counted, state: State) -> State
     requires low { CountsUpTo at.old.raised at.old.objects }
     requires gets { Gets (state_of state []) }
@@ -136,7 +136,7 @@ fn get_on(rt: &impl Abort, at: &mut Counted, state: State) -> State
     get_step(&AtObjects, at, &Still, at_step(rt, state))
 }
 
-/// The next step of a send of this text.
+/// Makes the next step of a send of this body.
 fn send_on(rt: &impl Abort, at: &mut Counted, text: &Body, state: State) -> State
     requires low { CountsUpTo at.old.raised at.old.objects }
     requires sends { Sends (state_of state text.now) }
@@ -150,7 +150,7 @@ fn send_on(rt: &impl Abort, at: &mut Counted, text: &Body, state: State) -> Stat
     state
 }
 
-/// The next step of a receive that fills this body.
+/// Makes the next step of a receive into this body.
 fn receive_on(rt: &impl Abort, at: &mut Counted, out: &mut Body, state: State) -> State
     requires low { CountsUpTo at.old.raised at.old.objects }
     requires receives { Receives (state_of state out.old) }
@@ -164,7 +164,7 @@ fn receive_on(rt: &impl Abort, at: &mut Counted, out: &mut Body, state: State) -
     state
 }
 
-/// The next step of an IPC_SET.
+/// Makes the next step of an IPC_SET.
 fn set_on(rt: &impl Abort, at: &mut Counted, state: State) -> State
     requires low { CountsUpTo at.old.raised at.old.objects }
     requires sets { Sets (state_of state []) }
@@ -178,7 +178,7 @@ fn set_on(rt: &impl Abort, at: &mut Counted, state: State) -> State
     state
 }
 
-/// The next step of an IPC_RMID.
+/// Makes the next step of an IPC_RMID.
 fn remove_on(rt: &impl Abort, at: &mut Counted, state: State) -> State
     requires low { CountsUpTo at.old.raised at.old.objects }
     requires removes { Removes (state_of state []) }
@@ -192,7 +192,7 @@ fn remove_on(rt: &impl Abort, at: &mut Counted, state: State) -> State
     state
 }
 
-/// Objects in which the key has the queue 0.
+/// Returns objects in which the key has queue 0.
 fn with_queue(rt: &impl Abort, alloc: Global) -> Counted
     ensures { CountsUpTo result.raised result.objects }
 {
@@ -207,7 +207,7 @@ fn with_queue(rt: &impl Abort, alloc: Global) -> Counted
     at
 }
 
-/// All blocks are free at the end.
+/// Ends the objects, and asserts that all blocks are free.
 fn end_all(rt: &impl Abort, at: Counted)
     requires { CountsUpTo at.raised at.objects }
 {

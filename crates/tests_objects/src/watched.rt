@@ -1,9 +1,9 @@
-//! Streams that are watched.
+//! Watched streams.
 use std::io;
 use std::io::{ErrorKind, Read, Write};
 use sysv_model::Watched;
 
-/// Gives and takes one byte, and then fails, or takes nothing where it stalls.
+/// A stream that returns and takes one byte, and then fails, or takes nothing if it stalls.
 #[derive(Drop)]
 struct Once {
     is_over: bool,
@@ -11,7 +11,7 @@ struct Once {
 }
 
 impl Once {
-    /// How many bytes it gives or takes.
+    /// Returns the number of bytes that it returns or takes.
     fn step(&mut self) -> io::Result<usize> {
         if !self.is_over {
             self.is_over = true;

@@ -1,4 +1,4 @@
-//! Frames, with readers and writers of many habits.
+//! Frames, with readers and writers of different behavior.
 
 mod faults;
 mod fields;

@@ -1,4 +1,4 @@
-//! The steps of calls where every gate is worn out.
+//! The steps of calls at gates that are all worn out.
 
 use crate::parts::{assert_is, open_body, open_pool};
 use crate::steps::{RECEIVE, SEND, Still, TO};
@@ -16,7 +16,7 @@ const GET: Getting = Getting {
     flags: Flags::IPC_CREAT,
 };
 
-/// Gates that are worn out. They count the calls that come back.
+/// Gates that are worn out. They count the calls that they hand back.
 struct WornGates;
 
 impl Turns for WornGates {
@@ -36,7 +36,7 @@ impl Turns for WornGates {
     }
 }
 
-/// The call is over, refused with this error, or with none where it succeeded.
+/// Asserts that the call is over, with this error, or with success if there is none.
 fn assert_over(rt: &impl Abort, state: State, why: Option<Errno>) {
     match state {
         State::Over(Ending::Refused(errno)) => assert_is(rt, Some(errno), why),
@@ -61,7 +61,8 @@ fn gets_at_worn_gates(rt: HostRuntime) {
     };
     assert_over(&rt, get_step(&WornGates, &mut back, &Still, probe), worn);
     assert_is(&rt, back, 3);
-    // The identifier of a queue that was not installed is forgotten, and the answer of one that is unmade stays.
+    // The identifier of a queue that was not installed is forgotten, and the result of a call whose
+    // queue was unmade stays.
     let install = Phase::Install { get: GET, id };
     assert_over(&rt, get_step(&WornGates, &mut back, &Still, install), worn);
     assert_is(&rt, back, 5);
@@ -84,7 +85,8 @@ fn sends_at_worn_gates(rt: HostRuntime) {
     let reserve = Phase::Reserve(SEND);
     let reserved = send_step(&WornGates, &mut back, &mut kept, &Still, &text, reserve);
     assert_over(&rt, reserved, worn);
-    // A send at its place gives its chain back first, and a chain that can't go back is kept.
+    // A send at its place first gives its chain back, and a chain that cannot be given back is
+    // kept.
     let place = Phase::Place {
         send: SEND,
         chain: Chain::empty(),
@@ -106,7 +108,7 @@ fn sends_at_worn_gates(rt: HostRuntime) {
     pool.end();
 }
 
-/// A send gives back a chain of no blocks, and then is refused with EOVERFLOW.
+/// Asserts that a send gives back a chain of no blocks, and then fails with EOVERFLOW.
 fn assert_gives_nothing_back(rt: &impl Abort, phase: Phase) {
     match phase {
         Phase::SendGiveback { chain, afterwards } => {
@@ -144,7 +146,7 @@ fn commands_at_worn_gates(rt: HostRuntime) {
     let remove = Phase::Remove { cred, id };
     let removed = remove_step(&WornGates, &mut back, &mut kept, remove);
     assert_over(&rt, removed, worn);
-    // The answer of a removal stays, whatever gate is worn out after it.
+    // The result of a removal stays, even if a gate is worn out after it.
     let mut pool = open_pool(&rt, rt.alloc(), 128);
     let Some(chain) = pool.reserve(65) else {
         panic!(rt; "no blocks")
@@ -161,7 +163,7 @@ fn commands_at_worn_gates(rt: HostRuntime) {
     pool.end();
 }
 
-/// The step after the chain of a removal was due to go back.
+/// Makes the step in which the chain of a removal is given back, and returns the state after it.
 fn after_giveback(rt: &impl Abort, back: &mut u32, kept: &mut Chain, phase: Phase) -> State {
     match phase {
         Phase::RemoveGiveback { chain } => {

@@ -8,10 +8,10 @@ use std::os::unix::net::UnixStream;
 use sysv_clients::{Command, Target, Task, run_client};
 use sysv_model::Cred;
 
-/// The bytes that a screen has room for.
+/// The number of bytes that a screen has space for.
 const SCREEN_ROOM: usize = 128;
 
-/// What is listed where queue 0 has key 7, user 1000, mode 0640, and three bytes in one message.
+/// The table if queue 0 has key 7, user 1000, mode 0640, and three bytes in one message.
 const TABLE: &[u8] =
     b"key             msqid      owner perms  bytes messages\n0x00000007          0       1000   640      3        1\n";
 
@@ -36,7 +36,7 @@ const RECEIVE: Task<'static> = Task::Receive {
     noerror: false,
 };
 
-/// A client that asks for this shows that, with this status.
+/// Asserts that a client with this task shows these bytes and ends with this status.
 fn shows(
     rt: &impl Net,
     alloc: Global,
@@ -58,8 +58,9 @@ fn shows(
     told == status && len == shown.len() && bytes.starts_with(shown)
 }
 
-/// A queue is made and sent to by hand, listed, kept from another user, removed, and not found, in five sessions, all of
-/// which are made, answered or not, since the server waits for so many.
+/// A queue is created and sent to with frames written by hand, listed, kept from another user,
+/// removed, and not found, in five sessions. All sessions are made, answered or not, since the
+/// server waits for that number of them.
 pub(crate) fn five_sessions(rt: &impl Net, alloc: Global, path: &str) -> bool {
     let list = Command {
         cred: OWNER,

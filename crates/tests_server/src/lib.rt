@@ -1,4 +1,4 @@
-//! Tests of a server on a real socket, with frames worked by hand and with clients.
+//! Tests of a server on a real socket, with frames worked out by hand and with clients.
 #![tactic(auto)]
 
 #[cfg(test)]

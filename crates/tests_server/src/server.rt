@@ -1,4 +1,4 @@
-//! Servers on a socket, whose clients write their frames by hand.
+//! Servers on a socket, whose clients write frames that were worked out by hand.
 ghost use Rattle.std.specs.Prelude.{◌≤◌};
 
 mod growths;
@@ -65,7 +65,7 @@ const RECEIVE: &[u8] = &[
     0x00, 0x00, 0x00, 0x00, 0x00, 0x00, 0x00, 0x00, 0x00, 0x00,
 ];
 
-/// The same without waiting.
+/// The same receive without waiting.
 const RECEIVE_NOW: &[u8] = &[
     0x00, 0x00, 0x00, 0x16, 0x01, 0x03, 0x00, 0x00, 0x00, 0x00, 0x00, 0x00, 0x00, 0x64, 0x00, 0x00,
     0x00, 0x00, 0x00, 0x00, 0x00, 0x00, 0x00, 0x00, 0x08, 0x00,
@@ -91,10 +91,10 @@ const ROW: &[u8] = &[
     0x00, 0x00, 0x03, 0xe8, 0x01, 0xa0, 0x00, 0x00, 0x00, 0x03, 0x00, 0x00, 0x00, 0x01,
 ];
 
-/// That there is no row.
+/// The reply that the slot has no queue.
 const NO_ROW: &[u8] = &[0x00, 0x00, 0x00, 0x04, 0x01, 0x07, 0x00, 0x00];
 
-/// The requests were written, and the replies came.
+/// Returns whether the requests could be written and these replies were read.
 fn asks(stream: &mut UnixStream, requests: &[&[u8]], replies: &[&[u8]]) -> bool {
     for request in requests {
         if stream.write_all(request).is_err() {
@@ -104,14 +104,14 @@ fn asks(stream: &mut UnixStream, requests: &[&[u8]], replies: &[&[u8]]) -> bool 
     replies.iter().all(|reply| gives(stream, reply))
 }
 
-/// These bytes come next.
+/// Returns whether these bytes are read next.
 fn gives(stream: &mut UnixStream, reply: &[u8]) -> bool {
     let mut read = [0u8; 64];
     let read = &mut read[..reply.len().min(64)];
     stream.read_exact(read).is_ok() && &*read == reply
 }
 
-/// A session was answered so.
+/// Returns whether a session has these replies.
 pub(crate) fn talks(rt: &impl Net, path: &str, requests: &[&[u8]], replies: &[&[u8]]) -> bool {
     match UnixStream::connect(rt, path) {
         Ok(mut stream) => asks(&mut stream, requests, replies),
@@ -119,15 +119,16 @@ pub(crate) fn talks(rt: &impl Net, path: &str, requests: &[&[u8]], replies: &[&[
     }
 }
 
-// Each client below makes all its connections, answered or not, since the server waits for so many.
+// Each client below makes all its connections, answered or not, since the server waits for that
+// number of them.
 
-/// A message goes from one session to another.
+/// A message passes from one session to another.
 fn passing(rt: &impl Net, path: &str) -> bool {
     talks(rt, path, &[HELLO, CREATE, SEND], &[KNOWN, FOUND, SENT])
         & talks(rt, path, &[HELLO, RECEIVE_NOW], &[KNOWN, RECEIVED])
 }
 
-/// A queue is made, shown, kept from another user, and removed.
+/// A queue is created, shown, kept from another user, and removed.
 fn commanding(rt: &impl Net, path: &str) -> bool {
     talks(rt, path, &[HELLO, CREATE, SEND], &[KNOWN, FOUND, SENT])
         & listing(rt, path)
@@ -136,7 +137,7 @@ fn commanding(rt: &impl Net, path: &str) -> bool {
         & talks(rt, path, &[HELLO, FIND], &[KNOWN, NOT_FOUND])
 }
 
-/// The rows of all slots, of which the first has a queue.
+/// Requests the rows of the first 64 slots, of which only the first has a queue.
 fn listing(rt: &impl Net, path: &str) -> bool {
     let Ok(mut stream) = UnixStream::connect(rt, path) else {
         return false;
@@ -154,7 +155,7 @@ fn listing(rt: &impl Net, path: &str) -> bool {
     true
 }
 
-/// One session waits for what two others send, and is given the first.
+/// One session waits for the messages of two others, and receives the first.
 fn waiting(rt: &impl Net, path: &str) -> bool {
     let Ok(mut first) = UnixStream::connect(rt, path) else {
         return false;
@@ -165,7 +166,8 @@ fn waiting(rt: &impl Net, path: &str) -> bool {
         & gives(&mut first, RECEIVED)
 }
 
-/// One session waits for what another sends, and its client is gone by then. A third is given the message.
+/// One session waits for the message of another, and its client is gone before it is sent. A third
+/// session receives the message.
 fn vanishing(rt: &(impl Net + Wait + Clock), path: &str) -> bool {
     let begun = talks(rt, path, &[HELLO, CREATE, RECEIVE], &[KNOWN, FOUND]);
     thread::sleep(rt, Duration::from_millis(300));
@@ -174,7 +176,7 @@ fn vanishing(rt: &(impl Net + Wait + Clock), path: &str) -> bool {
         & talks(rt, path, &[HELLO, RECEIVE_NOW], &[KNOWN, RECEIVED])
 }
 
-/// A client goes away within a frame, and another before it says anything.
+/// A client goes away within a frame, and another before it writes anything.
 fn breaking(rt: &impl Net, path: &str) -> bool {
     talks(rt, path, &[HELLO, &CREATE[..5]], &[KNOWN]) & talks(rt, path, &[], &[])
 }
@@ -185,7 +187,7 @@ const SECOND_HELLO: &[u8] = &[
     0x00, 0x65,
 ];
 
-/// A get of key 7 in version 2, and the reply that gives identifier 0.
+/// A get of key 7 in version 2, and the reply with identifier 0.
 const SECOND_GET: &[u8] = &[
     0x00, 0x00, 0x00, 0x0a, 0x02, 0x01, 0x00, 0x00, 0x00, 0x07, 0x00, 0x00, 0x03, 0x80,
 ];
@@ -194,13 +196,14 @@ const SECOND_FOUND: &[u8] = &[
     0x00, 0x00, 0x00, 0x07, 0x02, 0x01, 0x00, 0x00, 0x00, 0x00, 0x00,
 ];
 
-/// Nothing more comes.
+/// Returns whether nothing more can be read.
 fn ends(stream: &mut UnixStream) -> bool {
     let mut byte = [0u8; 1];
     matches!(stream.read(&mut byte), Ok(0))
 }
 
-/// A session of version 2 and one of version 1 at once, and then a request of version 1 in the first.
+/// A session of version 2 and a session of version 1 at once, and then a request of version 1 in
+/// the first.
 fn both_versions(rt: &impl Net, path: &str) -> bool {
     let [a, b, c, d] = (SLOTS as u32).to_be_bytes();
     let known = [0x00, 0x00, 0x00, 0x07, 0x02, 0x00, 0x00, a, b, c, d];
@@ -214,7 +217,7 @@ fn both_versions(rt: &impl Net, path: &str) -> bool {
         & ends(&mut second)
 }
 
-/// The last session makes a queue, and leaves it.
+/// The last session creates a queue, and leaves it.
 fn leaving(rt: &impl Net, path: &str) -> bool {
     talks(rt, path, &[HELLO, FIND], &[KNOWN, NOT_FOUND])
         & talks(rt, path, &[HELLO, CREATE, SEND], &[KNOWN, FOUND, SENT])
@@ -234,7 +237,7 @@ enum Clients {
 }
 
 impl Clients {
-    /// They were answered as they should be.
+    /// Runs the clients, and returns whether they had the right replies.
     fn run(self, rt: &(impl Net + Wait + Clock), alloc: Global, path: &str) -> bool {
         match self {
             Clients::Leaving => leaving(rt, path),
@@ -249,7 +252,8 @@ impl Clients {
     }
 }
 
-/// What a server with so many workers and sessions answers, and whether its clients were answered as they should be.
+/// Returns the result of a server with this number of workers and sessions, and whether its clients
+/// had the right replies.
 fn served<R: Threads + Wait + Net + Files + Abort + Clock + Sync>(
     rt: &R,
     alloc: Global,
@@ -275,8 +279,8 @@ fn served<R: Threads + Wait + Net + Files + Abort + Clock + Sync>(
     )
 }
 
-/// The server answers these sums, and its clients were answered as they should be. It is tried again if memory or a
-/// thread was refused before a session began.
+/// Asserts that the server returns these sums and that its clients had the right replies. Tries
+/// again if memory or a thread was refused before a session began.
 fn adds_up<R: Threads + Wait + Net + Files + Abort + Clock + Sync>(
     rt: &R,
     alloc: Global,
@@ -295,7 +299,7 @@ fn adds_up<R: Threads + Wait + Net + Files + Abort + Clock + Sync>(
     }
 }
 
-/// How a server on these terms ends, and whether its clients were answered as they should be.
+/// Returns how a server on these terms ends, and whether its clients had the right replies.
 fn ended<R: Threads + Wait + Net + Files + Abort + Clock + Sync>(
     rt: &R,
     alloc: Global,
@@ -321,8 +325,8 @@ fn ended<R: Threads + Wait + Net + Files + Abort + Clock + Sync>(
     )
 }
 
-/// The server ends so, and its clients were answered as they should be. It is tried again if memory or a thread was refused
-/// before a session began.
+/// Asserts that the server ends this way and that its clients had the right replies. Tries again if
+/// memory or a thread was refused before a session began.
 fn ends_as<R: Threads + Wait + Net + Files + Abort + Clock + Sync>(
     rt: &R,
     alloc: Global,
@@ -350,7 +354,7 @@ fn ends_as<R: Threads + Wait + Net + Files + Abort + Clock + Sync>(
     }
 }
 
-/// So many sessions, whose messages were written and lost.
+/// Returns the sums of this number of sessions, with these numbers of messages written and lost.
 fn sums(sessions: u64, written: u64, lost: u64) -> Sums {
     Sums {
         sessions,

@@ -1,4 +1,4 @@
-//! What the gates are asked, one call for each kind of turn.
+//! Requests to the gates, one function for each kind of turn.
 
 ghost use Rattle.std.specs.Prelude.{◌≡◌, ◌≤◌, ◌<◌, [], IfOk, IfSome};
 ghost use Rattle.sysv_model.specs.Pool.{blocks_for};
@@ -21,13 +21,13 @@ use sysv_turns::{
 #[derive(Clone, Copy, PartialEq, Eq, Debug)]
 pub(crate) struct Worn;
 
-/// A call that came back, with no chain.
+/// Spends a request that was handed back, which holds no blocks.
 fn came_back(back: ObjectCall) -> Worn {
     back.into_chain().end();
     Worn
 }
 
-/// Whether a queue was installed.
+/// Returns whether a queue was installed.
 pub(crate) fn install(
     rt: &impl Wait,
     gates: &Gates,
@@ -55,7 +55,7 @@ pub(crate) fn install(
     }
 }
 
-/// What a probe found.
+/// Returns what a probe found.
 pub(crate) fn probe(
     rt: &impl Wait,
     gates: &Gates,
@@ -75,7 +75,7 @@ pub(crate) fn probe(
     }
 }
 
-/// What a look found.
+/// Returns what a look found.
 pub(crate) fn look(
     rt: &impl Wait,
     gates: &Gates,
@@ -95,7 +95,7 @@ pub(crate) fn look(
     }
 }
 
-/// The message that was taken.
+/// Returns the message that was taken.
 pub(crate) fn take(
     rt: &impl Wait,
     gates: &Gates,
@@ -125,7 +125,7 @@ pub(crate) fn take(
     }
 }
 
-/// The attributes of a queue.
+/// Returns the attributes of a queue.
 pub(crate) fn stat(
     rt: &impl Wait,
     gates: &Gates,
@@ -144,7 +144,7 @@ pub(crate) fn stat(
     }
 }
 
-/// Whether a queue was changed.
+/// Returns whether a queue was changed.
 pub(crate) fn set(
     rt: &impl Wait,
     gates: &Gates,
@@ -165,7 +165,7 @@ pub(crate) fn set(
     }
 }
 
-/// What a removal discarded.
+/// Returns what a removal discarded.
 pub(crate) fn remove(
     rt: &impl Wait,
     gates: &Gates,
@@ -184,7 +184,7 @@ pub(crate) fn remove(
     }
 }
 
-/// The row of a slot.
+/// Returns the row of a slot.
 pub(crate) fn row(
     rt: &impl Wait,
     gates: &Gates,
@@ -203,7 +203,7 @@ pub(crate) fn row(
     }
 }
 
-/// What a begin found or made.
+/// Returns what a begin found or made.
 pub(crate) fn begin(
     rt: &impl Wait,
     gates: &Gates,
@@ -225,7 +225,7 @@ pub(crate) fn begin(
     }
 }
 
-/// Whether a row was settled.
+/// Returns whether a row was settled.
 pub(crate) fn settle(
     rt: &impl Wait,
     gates: &Gates,
@@ -242,7 +242,7 @@ pub(crate) fn settle(
     }
 }
 
-/// Whether a row was forgotten.
+/// Returns whether a row was forgotten.
 pub(crate) fn forget(
     rt: &impl Wait,
     gates: &Gates,
@@ -259,7 +259,7 @@ pub(crate) fn forget(
     }
 }
 
-/// Places a letter, which comes back where the gate is worn out.
+/// Places a letter, which is handed back if the gate is worn out.
 pub(crate) fn place(
     rt: &impl Wait,
     gates: &Gates,
@@ -287,7 +287,7 @@ pub(crate) fn place(
     }
 }
 
-/// The chain that was reserved.
+/// Returns the chain that was reserved.
 pub(crate) fn reserve(
     rt: &impl Wait,
     gates: &Gates,
@@ -308,7 +308,7 @@ pub(crate) fn reserve(
     }
 }
 
-/// Releases a chain, which comes back where the gate is worn out.
+/// Releases a chain, which is handed back if the gate is worn out.
 pub(crate) fn release(
     rt: &impl Wait,
     gates: &Gates,

@@ -30,8 +30,8 @@ const TO: SetTo = SetTo {
     qbytes: 9,
 };
 
-/// Gates at 128 blocks and identifiers from the first generation on, whose tickets begin at `first`. Memory is refused once
-/// at most.
+/// Opens gates with 128 blocks and identifiers of the first generation, whose tickets begin at
+/// `first`. Tolerates one refusal of memory.
 fn gates_at(rt: &impl Abort, alloc: Global, first: u64) -> (Gates, Seats)
     ensures { AreOf result.0 result.1 }
 {
@@ -47,7 +47,7 @@ fn gates_at(rt: &impl Abort, alloc: Global, first: u64) -> (Gates, Seats)
     }
 }
 
-/// A letter with this text, in blocks of the pool.
+/// Returns a letter with this body, in blocks of the pool.
 fn letter_of<R: Wait + Abort>(
     rt: &R,
     alloc: Global,
@@ -71,7 +71,7 @@ fn letter_of<R: Wait + Abort>(
     }
 }
 
-/// Places a letter of type 9 in the queue 1, and answers its number.
+/// Places a letter of type 9 in queue 1, and returns its number.
 fn placed<R: Wait + Abort>(rt: &R, gates: &Gates, seats: &mut Seats, letter: Letter) -> u64
     requires { AreOf gates.now seats.old }
     ensures { AreOf gates.now seats.new }
@@ -107,14 +107,14 @@ fn give_back<R: Wait + Abort>(rt: &R, gates: &Gates, seats: &mut Seats, chain: C
     }
 }
 
-/// Frees a slot that came back.
+/// Frees a slot that was handed back.
 fn end_slot(slot: Option<GatedSlot>) {
     if let Some(slot) = slot {
         slot.into_slot().end().end();
     }
 }
 
-/// Frees the slots that came back.
+/// Frees the slots that were handed back.
 fn end_slots(mut closings: Vec<Closing<GatedSlot>>) {
     while let Some(closing) = closings.pop() {
         let Closing {
@@ -128,14 +128,15 @@ fn end_slots(mut closings: Vec<Closing<GatedSlot>>) {
     closings.destroy_empty();
 }
 
-/// Frees a pool that came back.
+/// Frees a pool that was handed back.
 fn end_pool(pool: Option<GatedPool>) {
     if let Some(pool) = pool {
         pool.into_pool().end();
     }
 }
 
-/// The turns at all slots, at the registry and at the pool. Each object has come back, and is freed.
+/// Returns the number of turns at all slots, at the registry and at the pool. Asserts that each
+/// object was handed back, and frees it.
 fn ended(rt: &impl Abort, closed: GatesClosed) -> (u64, u64, u64) {
     let GatesClosed {
         slots,
@@ -181,7 +182,7 @@ fn a_key_is_made_settled_and_forgotten(rt: HostRuntime) {
     assert_is(&rt, ended(&rt, gates.close(seats)), (0, 6, 0));
 }
 
-// A bounded wait returns what has come, and comes back without what has not.
+// A bounded wait returns a count that is reached, and gives up on one that is not.
 #[test]
 fn bounded_waits_come_back(rt: HostRuntime) {
     let (gates, mut seats) = gates_at(&rt, rt.alloc(), 0);

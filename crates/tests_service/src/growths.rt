@@ -1,5 +1,5 @@
-//! Each call of a service that takes memory, where a growth of it may be refused: then it answers `NoMemory`, and the pass is
-//! as it was.
+//! Each call of a service that allocates, with a growth of it refused: it then returns `NoMemory`,
+//! and the pass is unchanged.
 
 use crate::parts::{CLOCK, assert_is, closed, opened};
 use sysv_model::Errno;
@@ -32,7 +32,7 @@ fn service_starting_at(rt: HostRuntime) {
     }
 }
 
-// With another pass and without, the first one removes the queue that it has made.
+// The first pass removes the queue that it has made, with another pass present and without one.
 #[test]
 fn split_of_pass(rt: HostRuntime) {
     let (service, mut pass) = opened(&rt, rt.alloc(), 128, 0);

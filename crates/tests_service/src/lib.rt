@@ -1,4 +1,5 @@
-//! Tests of the objects of a service behind their gates, of the service by one pass and by several threads, and of sessions.
+//! Tests of the objects of a service behind their gates, of the service with one pass and with
+//! several threads, and of sessions.
 #![tactic(auto)]
 
 #[cfg(test)]

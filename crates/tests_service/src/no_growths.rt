@@ -1,5 +1,5 @@
-//! Calls of a service once it, its passes and the bodies are open, which take no memory: a run counts the growths after the
-//! mark, refuses each, and wants none.
+//! Calls of a service after it, its passes and the bodies are open. They allocate nothing. A run
+//! counts the growths after the mark, refuses each, and expects none.
 
 ghost use Rattle.std.specs.Prelude.{◌≡◌};
 ghost use Rattle.sysv_gated.specs.Seats.{AreOf};
@@ -13,7 +13,7 @@ use sysv_queue::Tally;
 use sysv_service::{Pass, Service};
 use tests_kit::{USER, creating, mark};
 
-/// A pass makes a queue, and receives its own message from it.
+/// A pass makes a queue, sends a message to it, and receives the message.
 fn own_message<R: Abort + Wait>(
     rt: &R,
     service: &Service,
@@ -39,7 +39,7 @@ fn own_message<R: Abort + Wait>(
     assert!(rt; out.block(0) == b"ping".as_slice());
 }
 
-/// The queue is changed, told and shown.
+/// The attributes of the queue are changed and returned, and its row is shown.
 fn control<R: Abort + Wait>(rt: &R, service: &Service, pass: &mut Pass)
     requires { AreOf service.now pass.old.seats }
     ensures { AreOf service.now pass.new.seats }

@@ -1,4 +1,4 @@
-//! What all of these tests use: a service, a clock, and bodies.
+//! Helpers of all of these tests: a service, a clock, and bodies.
 ghost use Rattle.std.specs.Prelude.{◌≡◌, [], IfSome};
 ghost use Rattle.sysv_gated.specs.Seats.{AreOf};
 
@@ -8,12 +8,12 @@ use std::process::Abort;
 use sysv_model::Body;
 use sysv_service::{Clock, Closed, OpenRefused, Pass, Service};
 
-/// The test fails if what was found is not what is wanted.
+/// Asserts that the found value is the wanted value.
 pub(crate) fn assert_is<T: PartialEq + Debug + Drop>(rt: &impl Abort, found: T, wanted: T) {
     assert_eq!(rt; found, wanted);
 }
 
-/// A clock that stands still.
+/// A clock that always returns the same time.
 pub(crate) struct Still(pub(crate) u64);
 
 impl Clock for Still {
@@ -26,14 +26,15 @@ impl Clock for Still {
 
 pub(crate) const CLOCK: Still = Still(7);
 
-/// A service of so many blocks whose tickets begin at `first`. Memory is refused once at most.
+/// Opens a service with this number of blocks, whose tickets begin at `first`. Tolerates one
+/// refusal of memory.
 pub(crate) fn opened(rt: &impl Abort, alloc: Global, blocks: u32, first: u64) -> (Service, Pass)
     ensures { AreOf result.0 result.1.seats }
 {
     opened_at(rt, alloc, blocks, first, 0)
 }
 
-/// As `opened`, where the identifiers of all slots begin with this generation.
+/// Opens a service like `opened`, with all identifiers beginning at this generation.
 pub(crate) fn opened_at(
     rt: &impl Abort,
     alloc: Global,
@@ -55,7 +56,8 @@ pub(crate) fn opened_at(
     }
 }
 
-/// A service in which so many messages waited, all of whose blocks came back, and all of whose gates were free.
+/// Returns the result of a close at which this number of messages was queued, this number of blocks
+/// is free, and no gate is held.
 pub(crate) const fn closed(waiting: u64, free: u32) -> Closed {
     Closed {
         waiting,
@@ -64,7 +66,7 @@ pub(crate) const fn closed(waiting: u64, free: u32) -> Closed {
     }
 }
 
-/// A body without a text. Memory is refused once at most.
+/// Returns an empty body. Tolerates one refusal of memory.
 pub(crate) fn empty_body(rt: &impl Abort, alloc: Global) -> Body
     ensures { result ≡ [] }
 {
@@ -74,7 +76,7 @@ pub(crate) fn empty_body(rt: &impl Abort, alloc: Global) -> Body
     }
 }
 
-/// A body with this text.
+/// Returns a body with these bytes.
 pub(crate) fn body_of(rt: &impl Abort, alloc: Global, text: &[u8]) -> Body {
     let mut body = empty_body(rt, alloc);
     assert!(rt; body.push_piece(text));

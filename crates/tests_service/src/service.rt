@@ -1,4 +1,4 @@
-//! The service by one pass, and with several threads, each of which has a pass of its own.
+//! The service with one pass, and with several threads that each have a pass of their own.
 
 mod ask;
 mod board;

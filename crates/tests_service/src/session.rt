@@ -1,4 +1,4 @@
-//! Sessions, with readers and writers of many habits, over a queue that is real and over a service.
+//! Sessions, with readers and writers of different behavior, over a real queue and over a service.
 
 mod failing;
 mod growths;

@@ -1,4 +1,4 @@
-//! Banks by one thread.
+//! Banks used by one thread.
 ghost use Rattle.std.specs.Prelude.{◌≡◌, ◌+◌, ◌%◌, ◌^◌, ◌≤◌, length, IfOk, IfSome};
 ghost use Rattle.std.specs.List.{All};
 ghost use Rattle.sysv_bank.specs.Banks.{gates_of};
@@ -14,7 +14,7 @@ use std::test::Fail;
 use sysv_bank::{Bank, BankSeat, NoMemory};
 use sysv_gate::{Awaited, Closing, OpenRefused, TryRefused};
 
-// Three sums, of 10, 20 and 30.
+// Opens a bank of three sums, of 10, 20 and 30.
 fn opened(alloc: Global, first: u64) -> Option<(Bank<Sum>, BankSeat<Sum>)>
     ensures { IfSome result (λ o. (gates_of o.1.seats ≡ o.0) × (length o.0 ≡ 3)) }
 {
@@ -22,7 +22,7 @@ fn opened(alloc: Global, first: u64) -> Option<(Bank<Sum>, BankSeat<Sum>)>
     Bank::open(alloc, objects, first).ok()
 }
 
-// All turns at all places.
+// Returns the number of turns at all places.
 fn turns_of(closings: Vec<Closing<Sum>, Global>) -> u64 {
     closings
         .iter()
@@ -65,7 +65,7 @@ fn each_place_has_its_own_turns(rt: HostRuntime) -> Result<(), Fail> {
     Ok(())
 }
 
-// A bounded wait at a place returns what has come there, and comes back without what has not.
+// A bounded wait at a place returns a count that is reached there, and gives up on one that is not.
 #[test]
 fn a_bounded_wait_at_a_place_comes_back(rt: HostRuntime) -> Result<(), Fail> {
     let (bank, mut seat) = opened(rt.alloc(), 0).ok_or("no memory")?;

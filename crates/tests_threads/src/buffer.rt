@@ -1,4 +1,4 @@
-//! Items through a buffer by one thread, and by two.
+//! Items through a buffer, by one thread and by two.
 ghost use Rattle.std.specs.Prelude.{◌≡◌};
 
 use crate::parts::assert_is;
@@ -15,13 +15,13 @@ mod many;
 mod many_threads;
 mod threads;
 
-/// An item that can't be copied.
+/// An item that cannot be copied.
 #[derive(Drop)]
 struct Ware {
     number: u64,
 }
 
-/// A buffer and its ends. Memory is refused once at most.
+/// Opens a buffer with its ends. Tolerates one refusal of memory.
 fn opened<T: Drop>(
     rt: &impl Abort,
     alloc: Global,
@@ -39,7 +39,7 @@ fn opened<T: Drop>(
     }
 }
 
-/// The number of the item that came back because the buffer was full.
+/// Returns the number of the item that was handed back because the buffer was full.
 fn came_back(put: Result<(), PutRefused<Ware>>) -> Option<u64> {
     match put {
         Ok(()) => None,
@@ -48,7 +48,7 @@ fn came_back(put: Result<(), PutRefused<Ware>>) -> Option<u64> {
     }
 }
 
-/// The number of the item that was taken, or why there was none.
+/// Returns the number of the item that was taken, or why there was none.
 fn number_of(taken: Result<Ware, TakeRefused>) -> Result<u64, TakeRefused> {
     match taken {
         Ok(item) => Ok(item.number),
@@ -83,7 +83,7 @@ fn two_cells_hold_two_items(rt: HostRuntime) {
     );
 }
 
-/// Puts an item and takes one, which is to be that item.
+/// Puts an item and takes one, and asserts that it is the same item.
 fn put_and_take<R: Abort + Wait>(
     rt: &R,
     buffer: &OneBuffer<Ware>,

@@ -1,4 +1,4 @@
-//! The examples at the head of the crates of threads, line by line.
+//! The examples in the documentation of the thread crates, line by line.
 use crate::sum::Sum;
 use std::test::Fail;
 use sysv_buffer::OneBuffer;

@@ -1,4 +1,4 @@
-//! Gates by one thread.
+//! Gates used by one thread.
 ghost use Rattle.std.specs.Prelude.{◌≡◌, ℕ, ◌+◌, ◌%◌, ◌^◌, ◌≤◌, ◌<◌, IfSome};
 
 mod threads;
@@ -71,7 +71,7 @@ fn a_start_above_the_limit_is_refused(rt: HostRuntime) {
     }
 }
 
-// A gate is opened and closed: not every opening lacks memory.
+// A gate is opened and closed: not every opening is refused memory.
 #[test]
 fn always_no_memory(rt: HostRuntime) -> Result<(), Fail> {
     let (gate, seat) = opened(&rt, 0).ok_or("no memory")?;
@@ -79,7 +79,7 @@ fn always_no_memory(rt: HostRuntime) -> Result<(), Fail> {
     Ok(())
 }
 
-// A lone try has its turn: not every try is busy.
+// A single try has its turn: not every try is busy.
 #[test]
 fn try_call_always_busy(rt: HostRuntime) -> Result<(), Fail> {
     let (gate, mut seat) = opened(&rt, 0).ok_or("no memory")?;
@@ -93,7 +93,7 @@ struct Slip {
     number: u32,
 }
 
-/// Keeps one slip: each call hands one in, and the one before comes back.
+/// Keeps one slip: each call hands one in, and the previous slip is handed back.
 struct Drawer {
     kept: Slip,
 }
@@ -116,7 +116,7 @@ impl Object for Drawer {
     }
 }
 
-// Spends a slip.
+// Spends a slip, and returns its number.
 fn number_of(slip: Slip) -> u32 {
     let Slip { number } = slip;
     number
@@ -145,7 +145,7 @@ fn what_cannot_be_dropped_goes_through(rt: HostRuntime) {
     }
 }
 
-// Spends the slip that a drawer keeps: its number, or 0 where there is no drawer.
+// Spends the slip that a drawer keeps. Returns its number, or 0 if there is no drawer.
 fn number_in(drawer: Option<Drawer>) -> u32 {
     match drawer {
         Some(Drawer { kept }) => number_of(kept),
@@ -153,7 +153,7 @@ fn number_in(drawer: Option<Drawer>) -> u32 {
     }
 }
 
-// A seat that was split off sees what its origin has seen, and a join brings the turns of both together.
+// A seat that was split off sees what its origin has seen, and a join combines the turns of both.
 #[test]
 fn seats_come_and_go(rt: HostRuntime) -> Result<(), Fail> {
     let (gate, mut seat) = opened(&rt, 100).ok_or("no memory")?;
@@ -174,7 +174,7 @@ fn seats_come_and_go(rt: HostRuntime) -> Result<(), Fail> {
     Ok(())
 }
 
-// The first count rises at odd numbers, and the second at even ones.
+// The first count rises at odd numbers, and the second at even numbers.
 #[test]
 fn counts_are_announced(rt: HostRuntime) -> Result<(), Fail> {
     let (gate, mut seat) = opened(&rt, 0).ok_or("no memory")?;
@@ -213,7 +213,7 @@ fn counts_are_announced(rt: HostRuntime) -> Result<(), Fail> {
     Ok(())
 }
 
-// A wait for what has come is answered at a worn gate, and another wait is given up.
+// At a worn gate, a wait for a reached count is answered, and any other wait is given up.
 #[test]
 fn a_wait_at_a_worn_gate_ends(rt: HostRuntime) -> Result<(), Fail> {
     let (gate, mut seat) = opened(&rt, LIMIT - 1).ok_or("no memory")?;
@@ -239,7 +239,7 @@ fn a_wait_at_a_worn_gate_ends(rt: HostRuntime) -> Result<(), Fail> {
     Ok(())
 }
 
-// A bounded wait returns what has come, and comes back without what has not.
+// A bounded wait returns a count that is reached, and gives up on one that is not.
 #[test]
 fn a_bounded_wait_comes_back(rt: HostRuntime) -> Result<(), Fail> {
     let (gate, mut seat) = opened(&rt, 0).ok_or("no memory")?;

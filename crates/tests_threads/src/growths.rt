@@ -1,5 +1,5 @@
-//! Each call that takes memory, where a growth of it may be refused: then it answers `NoMemory`, and what was handed in
-//! comes back as it was.
+//! Each call that allocates, with a growth of it refused: it then returns `NoMemory`, and its
+//! arguments are handed back unchanged.
 
 use crate::parts::{LIMIT, assert_is};
 use crate::sum::Sum;
@@ -55,7 +55,7 @@ fn many_buffer_open(rt: HostRuntime) {
     }
 }
 
-/// The object is as it was handed in.
+/// Asserts that the object is unchanged.
 fn assert_is_new(rt: &impl Abort, object: &Sum, sum: u64) {
     assert_eq!(rt; (object.sum, object.counts()), (sum, (0, 0)));
 }
@@ -87,7 +87,7 @@ fn gate_starting_at(rt: HostRuntime) {
     }
 }
 
-// The objects come back in their order.
+// The objects are handed back in their order.
 #[test]
 fn bank_open(rt: HostRuntime) {
     let Ok(objects) = Vec::from_array(rt.alloc(), [Sum::new(10), Sum::new(20)]) else {
@@ -108,7 +108,7 @@ fn bank_open(rt: HostRuntime) {
     }
 }
 
-// The seat answers as before, and all its turns are counted.
+// The seat works as before, and all its turns are counted.
 #[test]
 fn bank_split(rt: HostRuntime) {
     let Ok(objects) = Vec::from_array(rt.alloc(), [Sum::new(10), Sum::new(20)]) else {

@@ -1,4 +1,5 @@
-//! Calls that take no memory: a run counts the growths after the mark, refuses each, and wants none.
+//! Calls that allocate nothing. A run counts the growths after the mark, refuses each, and expects
+//! none.
 
 use crate::parts::assert_is;
 use crate::sum::Sum;

@@ -1,11 +1,11 @@
-//! What all of these tests use.
+//! Helpers of all of these tests.
 use std::fmt::Debug;
 use std::process::Abort;
 
 /// The number of turns, of items or of counts at which an object is worn out.
 pub(crate) const LIMIT: u64 = 1 << 62;
 
-/// The test fails if what was found is not what is wanted.
+/// Asserts that the found value is the wanted value.
 pub(crate) fn assert_is<T: PartialEq + Debug + Drop>(rt: &impl Abort, found: T, wanted: T) {
     assert_eq!(rt; found, wanted);
 }

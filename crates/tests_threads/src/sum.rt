@@ -3,8 +3,8 @@ ghost use Rattle.std.specs.Prelude.{◌≡◌, ◌+◌, ◌%◌, ◌^◌, ◌≤
 
 use sysv_gate::Object;
 
-/// Each call adds a number to the sum, and replies the sum before. The first count rises at odd numbers, and the second
-/// at even ones.
+/// Each call adds a number to the sum, and returns the sum before. The first count rises at odd
+/// numbers, and the second at even numbers.
 #[derive(Drop)]
 pub(crate) struct Sum {
     pub(crate) sum: u64,
@@ -13,7 +13,7 @@ pub(crate) struct Sum {
 }
 
 impl Sum {
-    /// A sum to which nothing was added.
+    /// Creates an object with this sum.
     pub(crate) fn new(sum: u64) -> Sum
         ensures { (result.odd ≡ 0) × (result.even ≡ 0) }
     {

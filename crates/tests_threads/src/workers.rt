@@ -1,4 +1,4 @@
-//! Workers over small jobs.
+//! Workers that run small jobs.
 ghost use Rattle.std.specs.Prelude.{◌≡◌, ◌≤◌, vec_capacity, vec_len, IfErr};
 ghost use Rattle.std.specs.List.{All};
 
@@ -13,7 +13,7 @@ mod marks;
 mod refused;
 mod together;
 
-/// The numbers from `next` to below `end`, one after the other. It counts how often it is asked.
+/// A source of the numbers from `next` to below `end`, in order. It counts how often it is called.
 #[derive(Drop)]
 struct Numbers {
     next: u64,
@@ -45,24 +45,25 @@ impl Source<u64> for Numbers {
     }
 }
 
-/// A state that can be neither dropped nor copied. It is known by its number, and counts the items that it is given.
+/// A state that can be neither dropped nor copied. It has a number, and counts the items that it is
+/// given.
 struct Ticket {
     number: u64,
     items: u64,
 }
 
 impl Ticket {
-    /// Its number, and how many items it was given.
+    /// Returns its number, and how many items it was given.
     fn spend(self) -> (u64, u64) {
         let Ticket { number, items } = self;
         (number, items)
     }
 }
 
-/// There is room for so many tickets.
+/// The number of tickets that there is space for.
 const TICKETS: usize = 257;
 
-/// So many tickets, numbered from 0 on. Memory is refused once at most.
+/// Returns this number of tickets, numbered from 0 on. Tolerates one refusal of memory.
 fn tickets(rt: &impl Abort, alloc: Global, count: usize) -> Vec<Ticket>
     requires { count ≤ 257 }
 {
@@ -85,8 +86,8 @@ fn room(rt: &impl Abort, alloc: Global) -> Vec<Ticket>
     }
 }
 
-/// Checks that the tickets are numbered from 0 on and that there are so many of them, and answers how many items they were
-/// given.
+/// Asserts that the tickets are numbered from 0 on and that there are `count` of them. Returns how
+/// many items they were given.
 fn items_of(rt: &impl Abort, tickets: Vec<Ticket>, count: u64) -> u64 {
     let mut tickets = tickets;
     let mut left = count;
@@ -102,7 +103,7 @@ fn items_of(rt: &impl Abort, tickets: Vec<Ticket>, count: u64) -> u64 {
     all
 }
 
-/// A run of `run_crowd`, or of `run_workers`.
+/// Runs `run_crowd` or `run_workers`.
 fn run<W: Send, J: Job<W, u64> + Sync, R: Threads + Wait + Sync>(
     rt: &R,
     alloc: Global,
@@ -121,8 +122,8 @@ fn run<W: Send, J: Job<W, u64> + Sync, R: Threads + Wait + Sync>(
     }
 }
 
-/// What the runs leave. Where memory or a thread is refused, the states come back, the source was not asked, and it is
-/// tried again.
+/// Runs the states, and returns them. If memory or a thread is refused, asserts that the states are
+/// handed back and that the source was not called, and tries again.
 fn ran<W: Send, J: Job<W, u64> + Sync, R: Threads + Wait + Abort + Sync>(
     rt: &R,
     alloc: Global,
@@ -135,7 +136,7 @@ fn ran<W: Send, J: Job<W, u64> + Sync, R: Threads + Wait + Abort + Sync>(
     ran_by(rt, alloc, false, states, source, job)
 }
 
-/// The same for a run of `run_crowd`, or of `run_workers`.
+/// Runs the states in the same way, by `run_crowd` or by `run_workers`.
 fn ran_by<W: Send, J: Job<W, u64> + Sync, R: Threads + Wait + Abort + Sync>(
     rt: &R,
     alloc: Global,

@@ -1,4 +1,4 @@
-//! The same through the kit's channel.
+//! The same measurements through a channel.
 use crate::watch::{Time, Watch};
 use crossbeam_channel::{Receiver, Sender, bounded};
 use std::alloc::Global;
@@ -24,7 +24,7 @@ fn receive_some(rt: &impl Wait, receiver: &Receiver<u64>, count: u64) -> bool {
     true
 }
 
-/// One thread sends `count` items, and another receives the same number.
+/// Sends `count` items in one thread, and receives the same number in another.
 fn exchange<R: Threads + Wait + Sync>(
     rt: &R,
     sender: &Sender<u64>,
@@ -39,7 +39,7 @@ fn exchange<R: Threads + Wait + Sync>(
     one && two
 }
 
-/// The same by two such pairs of threads at once.
+/// Does the same with two such pairs of threads at once.
 fn exchange_by_four<R: Threads + Wait + Sync>(
     rt: &R,
     sender: &Sender<u64>,
@@ -70,7 +70,7 @@ pub(crate) fn time_of_one_to_one<R: Threads + Wait + Clock + CpuClock + Sync>(
 }
 
 /// Returns the nanoseconds until each of two threads has sent `items` items and each of two others
-/// has received as many.
+/// has received the same number.
 pub(crate) fn time_of_two_to_two<R: Threads + Wait + Clock + CpuClock + Sync>(
     rt: &R,
     alloc: Global,

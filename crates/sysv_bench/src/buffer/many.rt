@@ -1,4 +1,4 @@
-//! Items between threads through a buffer of many.
+//! Items between threads, through a buffer of many producers and consumers.
 ghost use Rattle.std.specs.Prelude.{◌≡◌};
 
 use crate::watch::{Time, Watch};
@@ -19,7 +19,7 @@ enum Act {
     PutAndTake,
 }
 
-/// A thread: its seat at a buffer, what it does there, and how often.
+/// A thread: its seat at a buffer, its task there, and how often it repeats it.
 #[derive(Drop)]
 struct Worker<'a> {
     buffer: &'a ManyBuffer<u64>,
@@ -44,7 +44,7 @@ impl<'a> Worker<'a> {
         }
     }
 
-    /// A second thread at the same buffer.
+    /// Returns a second thread at the same buffer.
     fn split(&mut self, act: Act) -> Worker<'a> {
         let seat = self.buffer.split(&mut self.seat);
         Worker::new(self.buffer, seat, act, self.items)
@@ -109,7 +109,7 @@ pub(crate) fn time_of_one_to_one<R: Threads + Wait + Clock + CpuClock + Sync>(
 }
 
 /// Returns the nanoseconds until each of two threads has put `items` items and each of two others
-/// has taken as many.
+/// has taken the same number.
 pub(crate) fn time_of_two_to_two<R: Threads + Wait + Clock + CpuClock + Sync>(
     rt: &R,
     alloc: Global,

@@ -1,4 +1,4 @@
-//! A count under a lock, as one writes it with std: what eventcounts are measured beside.
+//! A count under a lock, as one writes it with std. Eventcounts are compared with it.
 use std::sync::{Condvar, Mutex, Wait};
 
 /// A number that only rises, under a lock.

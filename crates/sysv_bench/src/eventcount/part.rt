@@ -1,4 +1,4 @@
-//! What one thread of a measurement does, and the time that two of them take together.
+//! The task of one thread of a measurement, and the time that two threads take together.
 use crate::eventcount::locked::LockedCount;
 use crate::eventcount::place::Place;
 use crate::watch::{Time, Watch};
@@ -12,21 +12,21 @@ use sysv_eventcount::Eventcount;
 /// At most this number of threads run at once.
 const THREADS: usize = 2;
 
-/// What a thread does.
+/// The task of a thread.
 #[derive(Clone, Copy)]
 pub(crate) enum Act {
     /// Ends at once.
     Rest,
     /// Advances repeatedly.
     Advance,
-    /// The same, and wakes each time.
+    /// Advances repeatedly, and wakes each time.
     AdvanceAndWake,
     /// Reads repeatedly.
     Read,
     /// One side of a ping-pong: it waits for each second value, from this one on, and advances to
     /// the next.
     Play(u64),
-    /// The same over the locked count.
+    /// One side of a ping-pong over the locked count.
     PlayLocked(u64),
     /// Waits for the first advance.
     Sleep,
@@ -34,7 +34,7 @@ pub(crate) enum Act {
     Rouse,
 }
 
-/// A place and a locked count, what a thread does there, and how often.
+/// A place and a locked count, the task of a thread there, and how often it is repeated.
 #[derive(Drop)]
 struct Part<'a> {
     place: Place<'a>,

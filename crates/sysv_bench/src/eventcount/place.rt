@@ -1,10 +1,10 @@
-//! A seat where it belongs.
+//! A seat together with its eventcount.
 ghost use Rattle.std.specs.Prelude.{◌≡◌};
 
 use std::sync::Wait;
 use sysv_eventcount::{Eventcount, Seat};
 
-/// A seat beside the eventcount that gave it.
+/// A seat, with the eventcount that it belongs to.
 #[derive(Drop)]
 pub(crate) struct Place<'a> {
     count: &'a Eventcount,
@@ -19,7 +19,7 @@ impl<'a> Place<'a> {
         Place { count, seat }
     }
 
-    /// A second place at the same eventcount.
+    /// Returns a second place at the same eventcount.
     pub(crate) fn split(&mut self) -> Option<Place<'a>> {
         let Ok(seat) = self.count.split(&mut self.seat) else {
             return None;

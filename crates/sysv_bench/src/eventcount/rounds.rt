@@ -9,7 +9,7 @@ use std::sync::Wait;
 use std::thread::Threads;
 use std::time::{Clock, CpuClock};
 
-/// How often a ball goes there and back.
+/// The number of rounds of a ping-pong.
 const ROUNDS: u64 = 100_000;
 
 /// How often the two kinds of ping-pong are measured in turn.

@@ -15,13 +15,13 @@ use sysv_gate::{Gate, Seat};
 /// How often each thread calls.
 pub(crate) const TIMES: u64 = 400_000;
 
-/// How often two threads raise a count for one another.
+/// How often two threads raise a count for each other.
 pub(crate) const ROUNDS: u64 = 50_000;
 
 /// How often a watcher looks, every 10 milliseconds, before it takes a standstill for a lost wake.
 const PATIENCE: u64 = 300;
 
-/// How two threads raise a count for one another.
+/// How two threads raise a count for each other.
 #[derive(Clone, Copy)]
 pub(crate) struct Talk {
     pub(crate) rounds: u64,
@@ -29,7 +29,7 @@ pub(crate) struct Talk {
     pub(crate) pauses: bool,
 }
 
-/// What a thread does.
+/// The task of a thread.
 #[derive(Clone, Copy)]
 pub(crate) enum Task {
     /// Calls `TIMES` times.
@@ -43,12 +43,12 @@ pub(crate) enum Task {
     Watch(u64),
 }
 
-/// A thread: its seat, and what it does.
+/// A thread: its seat, and its task.
 #[derive(Drop)]
 struct Member {
     seat: Seat<Sum>,
     task: Task,
-    /// The count at which a watcher saw it stand still.
+    /// The count at which a watcher saw a standstill.
     stood: Option<u64>,
 }
 
@@ -56,7 +56,7 @@ struct Member {
 #[derive(Clone, Copy)]
 pub(crate) struct Done {
     pub(crate) nanos: u64,
-    /// The round in which they stood still.
+    /// The round of the standstill, if there was one.
     pub(crate) stood: Option<u64>,
 }
 

@@ -53,14 +53,14 @@ fn time_of_talk<R: Threads + Wait + Clock + CpuClock + Sync>(
     Some(done?.nanos)
 }
 
-// The median of the times. One that was not taken counts as 0.
+// Returns the median of the times. A time that was not taken counts as 0.
 fn middle(mut times: [u64; REPEATS]) -> Option<u64> {
     times.sort_unstable();
     let time = times[REPEATS / 2];
     if time == 0 { None } else { Some(time) }
 }
 
-// Both in turn.
+// Measures both in turn.
 fn times_of<R: Threads + Wait + Clock + CpuClock + Sync>(
     rt: &R,
     alloc: Global,
@@ -80,7 +80,7 @@ fn times_for(threads: usize) -> u64 {
     TIMES.saturating_mul(u64::try_from(threads).unwrap_or(1))
 }
 
-// A gate beside the lock, by this number of threads.
+// Measures a gate beside the lock, with this number of threads.
 fn show_beside<R: Threads + Wait + Clock + CpuClock + Print + Sync>(
     rt: &R,
     alloc: Global,
@@ -101,7 +101,7 @@ fn show_beside<R: Threads + Wait + Clock + CpuClock + Print + Sync>(
     show_ratio(rt, "beside the Mutex", how, gate, lock, "times its time")
 }
 
-// Threads at places of their own beside one thread.
+// Measures threads at places of their own beside one thread.
 fn show_places<R: Threads + Wait + Clock + CpuClock + Print + Sync>(
     rt: &R,
     alloc: Global,
@@ -118,7 +118,7 @@ fn show_places<R: Threads + Wait + Clock + CpuClock + Print + Sync>(
     show_ratio(rt, what, how, scaled, many, "times its calls")
 }
 
-/// Prints what calls by one thread take, which meet no other.
+/// Prints what calls by one thread take without contention.
 pub(crate) fn measure_alone<R: Threads + Wait + Clock + CpuClock + Print + Sync>(
     rt: &R,
     alloc: Global,
@@ -165,7 +165,7 @@ pub(crate) fn measure<R: Threads + Wait + Clock + CpuClock + Print + Sync>(
     )
 }
 
-/// Has two threads wait for one another's counts under a watcher, and prints whether they stood
+/// Has two threads wait for each other's counts under a watcher, and prints whether they stood
 /// still.
 pub(crate) fn try_wakes<R: Threads + Wait + Clock + CpuClock + Print + Sync>(
     rt: &R,
@@ -186,7 +186,7 @@ pub(crate) fn try_wakes<R: Threads + Wait + Clock + CpuClock + Print + Sync>(
     }
 }
 
-/// Returns the nanoseconds of a few rounds of two threads that wait for one another's counts.
+/// Returns the nanoseconds of a few rounds of two threads that wait for each other's counts.
 pub(crate) fn once<R: Threads + Wait + Clock + CpuClock + Sync>(
     rt: &R,
     alloc: Global,

@@ -13,7 +13,7 @@ use std::thread::{Threads, for_each_mut};
 use std::time::{Clock, CpuClock};
 use sysv_bank::{Bank, BankSeat};
 
-/// The places of the bank.
+/// The number of places in the bank.
 const PLACES: usize = 4;
 
 /// Returns the nanoseconds that `threads` threads take for their calls, each at a place of its own.

@@ -7,7 +7,8 @@ use std::time::{Clock, CpuClock};
 use sysv_keys::{Begun, Registry};
 use sysv_model::Flags;
 
-/// How often a queue comes and goes, the first time; then ten times as often.
+/// How often a queue is made and forgotten in the first measurement. In the second it is ten times
+/// that number.
 const TIMES: u64 = 1_000_000;
 
 /// The key of those queues.
@@ -44,7 +45,8 @@ fn time_of<R: Clock + CpuClock>(rt: &R, alloc: Global, key: i32, times: u64) -> 
     come_and_go_often(rt, &mut registry, key, times)
 }
 
-/// Prints what a queue that comes and goes takes, and the ratio of ten times as many.
+/// Prints the time of making, settling and forgetting a queue, and the ratio of ten times that
+/// number to it.
 pub(crate) fn measure<R: Clock + CpuClock + Print>(rt: &R, alloc: Global) -> io::Result<()> {
     for (what, key) in [("a key", KEY), ("a private key", 0)] {
         let once = time_of(rt, alloc, key, TIMES);

@@ -1,4 +1,4 @@
-//! A key that is found, among one and among 64.
+//! Look-ups of a key among one key and among 64 keys.
 use crate::figures::{show, show_ratio};
 use crate::keys::calls::CREATING;
 use crate::watch::{Time, Watch};
@@ -16,7 +16,7 @@ const MOST: i32 = 64;
 /// How often the two are measured in turn.
 const REPEATS: u32 = 3;
 
-// Gives each key a row. Returns whether all got one.
+// Gives each key a row. Returns whether each key has one.
 fn fill(registry: &mut Registry, keys: i32) -> bool {
     for key in 0..keys {
         let Begun::Made { id } = registry.begin(key.wrapping_mul(7919).wrapping_add(1), CREATING)

@@ -1,12 +1,12 @@
-//! What is measured, and how long many rounds of it take.
+//! The rounds that are measured, and the time that a number of them takes.
 use crate::watch::{Time, Watch};
 use std::alloc::Global;
 use std::time::{Clock, CpuClock};
 use sysv_model::{Body, MESSAGE_BYTES, WORN};
 use sysv_pool::Pool;
 
-/// Reserves a chain, fills it with the text, copies it out and releases it. Returns `false` if one
-/// of these was refused.
+/// Reserves a chain, fills it with the body, copies the body out and releases the chain. Returns
+/// `false` if one of these was refused.
 fn chain_round(pool: &mut Pool, text: &Body, out: &mut Body) -> bool {
     let len = text.len();
     let released = pool.released();
@@ -25,8 +25,8 @@ fn chain_round(pool: &mut Pool, text: &Body, out: &mut Body) -> bool {
     }
 }
 
-/// Allocates a vector, fills it with the text, copies it out and drops it. Returns `false` if
-/// memory was refused.
+/// Allocates a vector, fills it with the body, copies the body out and drops the vector. Returns
+/// `false` if memory was refused.
 fn vec_round(alloc: Global, text: &[u8], out: &mut Body) -> bool {
     let Ok(mut bytes) = Vec::with_capacity(alloc, text.len()) else {
         return false;

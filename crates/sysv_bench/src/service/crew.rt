@@ -18,7 +18,7 @@ use sysv_service::{Closed, Pass, Service};
 /// What is left of a service.
 #[derive(Drop)]
 pub(crate) struct Left<'a> {
-    /// What the threads did. Some are missing if memory was refused.
+    /// The parts of the threads. Some are missing if memory was refused.
     pub(crate) parts: Vec<Part<'a>>,
     /// The nanoseconds that they took together.
     pub(crate) nanos: Option<u64>,

@@ -19,7 +19,7 @@ const ROUNDS: u64 = 50_000;
 
 const BLOCKS: u32 = 1024;
 
-/// A body of `size` bytes, at most 8,192.
+/// Returns a body of `size` bytes, at most 8,192.
 fn body_of(alloc: Global, size: u64) -> Option<Body> {
     let mut body = Body::open(alloc).ok()?;
     for _ in 0..size.min(8192) {
@@ -50,7 +50,7 @@ fn player(alloc: Global, serves: bool, hears: i32, says: i32, times: u64) -> Opt
     }))
 }
 
-/// How many pairs and rounds all of them finished.
+/// Returns how many pairs and rounds all of the parts finished.
 fn done_in(parts: &[Part]) -> u64 {
     let mut done: u64 = 0;
     for part in parts {
@@ -102,7 +102,7 @@ fn time_of_rounds<R: Threads + Wait + Clock + CpuClock + Sync>(
     }
 }
 
-/// Prints how many things a second were done.
+/// Prints how many pairs or rounds per second were done.
 fn show_rate(
     rt: &impl Print,
     what: &str,

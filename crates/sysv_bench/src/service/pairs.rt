@@ -8,7 +8,7 @@ use sysv_model::{Body, Flags};
 use sysv_queue::Tally;
 use sysv_service::{Pass, Service};
 
-/// Sends a text to a queue and receives it, repeatedly.
+/// Sends a body to a queue and receives it, repeatedly.
 #[derive(Drop)]
 pub(crate) struct Pairs {
     pub(crate) id: i32,
@@ -36,7 +36,7 @@ impl Pairs {
     }
 }
 
-/// Sends the text, and waits for room. Returns whether that succeeded.
+/// Sends the body, and waits for room. Returns whether that succeeded.
 pub(crate) fn send(rt: &impl Wait, service: &Service, pass: &mut Pass, id: i32, text: &Body) -> bool
     requires { AreOf service.now pass.old.seats }
     ensures { AreOf service.now pass.new.seats }
@@ -47,7 +47,7 @@ pub(crate) fn send(rt: &impl Wait, service: &Service, pass: &mut Pass, id: i32, 
         .is_ok()
 }
 
-/// Receives a text, and waits for one. Returns whether that succeeded.
+/// Receives a body, and waits for one. Returns whether that succeeded.
 pub(crate) fn receive(
     rt: &impl Wait,
     service: &Service,

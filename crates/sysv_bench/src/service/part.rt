@@ -1,4 +1,4 @@
-//! What a thread does.
+//! The tasks of threads.
 ghost use Rattle.sysv_gated.specs.Seats.{AreOf};
 
 use crate::service::pairs::Pairs;

@@ -9,7 +9,7 @@ use sysv_service::{Pass, Service};
 /// One side of a ping-pong over two queues.
 #[derive(Drop)]
 pub(crate) struct Player {
-    /// Whether it begins.
+    /// Whether this side begins.
     pub(crate) serves: bool,
     pub(crate) hears: i32,
     pub(crate) says: i32,

@@ -16,7 +16,7 @@ use sysv_model::{Body, Cred, Flags, SetTo};
 use sysv_queue::Tally;
 use sysv_service::{Pass, Service};
 
-/// Keys from 1 on; those up to `KEPT` are never removed before the end.
+/// The keys count from 1. The queues of the keys up to `KEPT` are never removed before the end.
 const KEYS: i32 = 20;
 
 const KEPT: i32 = 10;
@@ -25,10 +25,11 @@ const SOAKERS: u64 = 8;
 
 const BLOCKS: u32 = 1024;
 
-/// How often all queues are emptied at most, so that the soak ends even if a message was lost.
+/// The maximum number of times that all queues are emptied, so that the soak ends even if a message
+/// was lost.
 const DRAINS: u32 = 1_000_000;
 
-/// What follows the number in a payload.
+/// The bytes after the number in a payload.
 const PADDING: [u8; 200] = [b'x'; 200];
 
 const ROOT: Cred = Cred {
@@ -37,7 +38,7 @@ const ROOT: Cred = Cred {
     pid: 1,
 };
 
-/// A thread that calls at random, and what it counted.
+/// A thread that makes random calls, and what it counted.
 #[derive(Drop)]
 pub(crate) struct Soaker<'a> {
     tallies: &'a Tallies,
@@ -65,7 +66,7 @@ impl<'a> Soaker<'a> {
         })
     }
 
-    /// A number below `end`.
+    /// Returns a number below `end`.
     fn below(&mut self, end: u64) -> u64
         requires { 0 < end }
         ensures { result < end }
@@ -91,7 +92,7 @@ impl<'a> Soaker<'a> {
         self.tallies.finish();
     }
 
-    /// Makes a call at the queue of this key.
+    /// Makes a call on the queue of this key.
     fn call(&mut self, rt: &impl Wait, service: &Service, pass: &mut Pass, key: i32)
         requires { AreOf service.now pass.old.seats }
         ensures { AreOf service.now pass.new.seats }
@@ -108,7 +109,7 @@ impl<'a> Soaker<'a> {
         }
     }
 
-    /// Sends a message that names its sender and has a number.
+    /// Sends a message with the number of its sender and a number of its own.
     fn send(
         &mut self,
         rt: &impl Wait,
@@ -141,7 +142,7 @@ impl<'a> Soaker<'a> {
         }
     }
 
-    /// Receives a message of any type, of a type, or of a type at most that.
+    /// Receives a message of any type, of one type, or of the lowest type up to one.
     fn receive(
         &mut self,
         rt: &impl Wait,
@@ -175,7 +176,7 @@ impl<'a> Soaker<'a> {
         self.tallies.count(&self.out, key <= KEPT);
     }
 
-    /// Sets a limit into which each message fits.
+    /// Sets a limit that each message fits in.
     fn set(&mut self, rt: &impl Wait, service: &Service, pass: &mut Pass, id: i32)
         requires { AreOf service.now pass.old.seats }
         ensures { AreOf service.now pass.new.seats }
@@ -208,7 +209,7 @@ fn flags_of(nowait: bool) -> Flags {
     }
 }
 
-/// The identifier of the queue of this key, which is created if there is none.
+/// Returns the identifier of the queue of this key, which is created if there is none.
 fn id_of(rt: &impl Wait, service: &Service, pass: &mut Pass, key: i32) -> Option<i32>
     requires { AreOf service.now pass.old.seats }
     ensures { AreOf service.now pass.new.seats }
@@ -217,12 +218,12 @@ fn id_of(rt: &impl Wait, service: &Service, pass: &mut Pass, key: i32) -> Option
     service.msgget(rt, pass, &Still, USER, key, flags).ok()
 }
 
-/// The thread that ends the others. Until then it sends to each queue and receives from it now and
-/// then, so that not all wait.
+/// The thread that ends the others. Until then it now and then sends to each queue and receives
+/// from it, so that not all threads wait.
 #[derive(Drop)]
 pub(crate) struct Keeper<'a> {
     soaker: Soaker<'a>,
-    /// How many milliseconds the others have.
+    /// The number of milliseconds that the others have.
     millis: u64,
 }
 
@@ -253,7 +254,7 @@ impl Keeper<'_> {
         }
     }
 
-    /// Receives until all messages of the queues that are kept were received.
+    /// Receives until all messages of the kept queues were received.
     fn drain(&mut self, rt: &impl Wait, service: &Service, pass: &mut Pass)
         requires { AreOf service.now pass.old.seats }
         ensures { AreOf service.now pass.new.seats }

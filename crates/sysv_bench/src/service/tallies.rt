@@ -1,27 +1,27 @@
-//! What the threads of a soak count together.
+//! The common counts of the threads of a soak.
 
 use std::alloc::Global;
 use std::sync::atomic::Ordering::SeqCst;
 use std::sync::atomic::{AtomicBool, AtomicU64};
 use sysv_model::Body;
 
-/// How many messages of each sender are told apart.
+/// How many messages of each sender are distinguished.
 const NUMBERS: u64 = 1 << 24;
 
-/// The eight threads, and the one that ends them.
+/// The number of threads: eight, and the one that ends them.
 const SENDERS: u64 = 9;
 
 /// The counts.
 #[derive(Drop)]
 pub(crate) struct Tallies {
     over: AtomicBool,
-    /// The threads that ended.
+    /// The number of threads that ended.
     finished: AtomicU64,
-    /// The messages that were sent, or are being sent, to queues that are kept.
+    /// The number of messages that were sent, or are being sent, to kept queues.
     sent: AtomicU64,
-    /// The messages that were received from queues that are kept.
+    /// The number of messages that were received from kept queues.
     received: AtomicU64,
-    /// The messages that came a second time, or were never sent.
+    /// The number of messages that were received a second time, or were never sent.
     doubled: AtomicU64,
     /// A bit for each message of each sender that was received.
     seen: Vec<AtomicU64>,
@@ -61,8 +61,8 @@ impl Tallies {
         self.finished.load(SeqCst)
     }
 
-    /// Counts a message that is about to be sent. Returns `false` and counts nothing once the
-    /// threads are to end.
+    /// Counts a message that is about to be sent. Returns `false` and counts nothing after an end
+    /// was requested.
     pub(crate) fn begin_send(&self, kept: bool) -> bool {
         if kept {
             self.sent.fetch_add(1, SeqCst);
@@ -91,7 +91,7 @@ impl Tallies {
         }
     }
 
-    /// Whether the message is one that was sent, and comes for the first time.
+    /// Returns whether the message was sent, and is received for the first time.
     fn is_first(&self, text: &Body) -> bool {
         let [sender, number @ ..] = text.block(0) else {
             return false;
@@ -111,13 +111,13 @@ impl Tallies {
         }
     }
 
-    /// Whether all messages of the queues that are kept were received.
+    /// Returns whether all messages of the kept queues were received.
     pub(crate) fn is_drained(&self) -> bool {
         self.sent.load(SeqCst) == self.received.load(SeqCst)
     }
 
-    /// The messages of the queues that are kept, how many of them were lost, and how many came
-    /// twice.
+    /// Returns the number of messages of the kept queues, how many of them were lost, and how many
+    /// were received twice.
     pub(crate) fn told(&self) -> (u64, u64, u64) {
         let sent = self.sent.load(SeqCst);
         let lost = sent.saturating_sub(self.received.load(SeqCst));

@@ -11,7 +11,7 @@ const PAIR: &[u8] = b"\0\0\0\x52\x01\x02\0\0\0\0\0\0\0\0\0\0\0\x01\0\0\0\0\
       xxxxxxxxxxxxxxxxxxxxxxxxxxxxxxxxxxxxxxxxxxxxxxxxxxxxxxxxxxxxxxxx\
       \0\0\0\x16\x01\x03\0\0\0\0\0\0\0\x40\0\0\0\0\0\0\0\0\0\0\0\0";
 
-/// Reads as a hello and a get, and then as pairs of a send and a receive.
+/// A reader that returns a hello and a get, and then pairs of a send and a receive.
 #[derive(Drop)]
 pub(crate) struct Requests {
     left: &'static [u8],
@@ -41,7 +41,7 @@ impl Read for Requests {
     }
 }
 
-/// Accepts all that is written, and counts it.
+/// A writer that accepts all bytes, and counts them.
 #[derive(Default, Drop)]
 pub(crate) struct Replies {
     bytes: u64,

@@ -5,10 +5,10 @@ use std::io::{BufReader, BufWriter, ErrorKind, Read, Write};
 use sysv_model::{Body, Watched};
 use sysv_wire::{read_reply, read_request};
 
-/// The most bytes of a case.
+/// The maximum number of bytes in a case.
 const MAX_CASE: usize = 9000;
 
-/// A hash of the payload, in which the place of each byte counts.
+/// Returns a hash of the payload that depends on the position of each byte.
 fn weight_of(text: &Body) -> u64 {
     let mut weight = 0u64;
     for i in 0..text.len() {
@@ -18,9 +18,9 @@ fn weight_of(text: &Body) -> u64 {
     weight
 }
 
-/// Reads cases, each a length of four bytes and that many bytes. Prints two lines for each, first
-/// of a reader of requests and then of a reader of replies: the result, the number of bytes that
-/// are left, and the hash of the payload.
+/// Reads cases, each a length of four bytes and that number of bytes. Prints two lines for each
+/// case, first for a reader of requests and then for a reader of replies: the result, the number of
+/// bytes that are left, and the hash of the payload.
 pub(crate) fn tell_answers<R: io::Input + io::Print>(rt: &R, alloc: Global) -> io::Result<()> {
     let mut input = BufReader::new(alloc, rt.reader())?;
     let mut output = BufWriter::new(alloc, io::writer(rt))?;

@@ -1,4 +1,4 @@
-//! A send of 64 bytes is read and its reply is written, over memory.
+//! Reading a send of 64 bytes and writing its reply, over memory.
 use crate::watch::{Time, Watch};
 use std::alloc::Global;
 use std::io;
@@ -12,7 +12,7 @@ const HEAD: [u8; 22] = [
     0, 0, 0, 82, 1, 2, 0, 0, 0, 0, 0, 0, 0, 0, 0, 0, 0, 5, 0, 0, 0, 0,
 ];
 
-/// Accepts what is written to it, over what was there before.
+/// A writer that accepts all bytes, over the bytes written before.
 #[derive(Drop)]
 struct Slate {
     bytes: [u8; 128],
@@ -45,7 +45,7 @@ pub(crate) fn time_of_turns<R: Clock + CpuClock>(rt: &R, alloc: Global, times: u
     watch.nanos(rt)
 }
 
-/// Reads the send and writes its reply. Returns whether both were done.
+/// Reads the send and writes its reply. Returns whether both succeeded.
 fn turn(frame: &[u8], text: &mut Body, slate: &mut Slate) -> bool {
     let mut input = frame;
     let Ok(Some(_)) = read_request(&mut Watched::new(&mut input), text) else {

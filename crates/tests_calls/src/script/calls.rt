@@ -1,10 +1,10 @@
-//! Keys, control, waiting and blocks, each as POSIX.1-2017 has it in msgget and msgctl, and in this profile's
-//! steps.
+//! Keys, control, waiting and blocks, as POSIX.1-2017 defines them in msgget and msgctl, and by the
+//! steps of this project's profile.
 use super::language::run;
 use std::io::Write;
 use std::test::Fail;
 
-/// Scripts with what they print.
+/// Scripts with their output.
 const RUNS: [(&[u8], &[u8]); 14] = [
     // two receivers that wait, and one message of their type
     (
@@ -21,7 +21,7 @@ all
 3 rcv waits
 ",
     ),
-    // a removal under a send and a receive that wait, and the key made anew
+    // a removal while a send and a receive wait, and the key created again
     (
         b"1 get 7 CREAT+0600
 1 set 0 1000 1000 600 1
@@ -43,7 +43,7 @@ all
 1 get = 256
 ",
     ),
-    // a limit below what waits, and who may raise it
+    // a limit below the queued bytes, and the users who may raise it
     (
         b"1 get 1 CREAT+0600
 1 snd 0 1 - =abcd
@@ -67,7 +67,7 @@ all
 2 rcv = 4 type 1 =abcd
 ",
     ),
-    // the class of a caller decides alone, and permission is asked anew after a wait
+    // only the class of a caller decides, and permission is checked again after a wait
     (
         b"1 get 1 CREAT+0077
 1 snd 0 1 NOWAIT =x
@@ -85,7 +85,7 @@ all
 2 rcv ! EACCES
 ",
     ),
-    // what a stat tells
+    // the attributes that a stat returns
     (
         b"now 50
 1 get 3 CREAT+0640
@@ -121,7 +121,7 @@ go 2
 2 get = 256
 ",
     ),
-    // who may set and remove, and what a removed identifier answers
+    // the users who may set and remove, and the result of calls on a removed identifier
     (
         b"1 get 5 CREAT+0600
 as 2 2000 2000 9
@@ -139,7 +139,7 @@ as 2 2000 2000 9
 1 stat ! EINVAL
 ",
     ),
-    // a get of a key whose queue is being made
+    // a get of a key whose queue is being created
     (
         b"+1 get 4 CREAT+0600
 step 1
@@ -154,7 +154,7 @@ go 2
 2 get = 0
 ",
     ),
-    // a removal under fifteen receives that wait
+    // a removal while fifteen receives wait
     (
         b"1 get 5 CREAT+0600
 2 rcv 0 9 0 -
@@ -209,7 +209,7 @@ all
 16 rcv ! EIDRM
 ",
     ),
-    // a set under fifteen receives that wait
+    // a set while fifteen receives wait
     (
         b"1 get 5 CREAT+0600
 2 rcv 0 9 0 -
@@ -264,7 +264,7 @@ all
 16 rcv ! EACCES
 ",
     ),
-    // a set under fifteen sends that wait
+    // a set while fifteen sends wait
     (
         b"1 get 5 CREAT+0600
 1 set 0 1000 1000 600 0
@@ -324,7 +324,7 @@ all
 1 stat = key 5 uid 1000 gid 1000 cuid 1000 cgid 1000 mode 600 bytes 15 num 15 qbytes 15 lspid 116 lrpid 0 stime 0 rtime 0 ctime 0
 ",
     ),
-    // a pool whose blocks one text takes, and a text of no bytes
+    // a pool whose blocks are all taken by one body, and an empty body
     (
         b"pool 128
 preset
@@ -339,7 +339,7 @@ preset
 2 rcv = 0 type 2 =
 ",
     ),
-    // blocks that come back by a receive and by a removal, and who waits for them
+    // blocks that are given back by a receive and by a removal, and the calls that wait for them
     (
         b"pool 128
 1 get 1 CREAT+0600
@@ -365,7 +365,7 @@ all
 2 snd ! EIDRM
 ",
     ),
-    // a send that finds no room at its place
+    // a send that finds no room when it places its message
     (
         b"preset
 1 set 0 1000 1000 600 1

@@ -3,7 +3,7 @@ use std::cell::Cell;
 use std::io;
 use std::io::{Read, Write};
 
-/// Gives the same byte for ever, and counts.
+/// A reader that returns the same byte forever, and counts the bytes.
 #[derive(Drop)]
 pub(super) struct Endless {
     pub(super) byte: u8,
@@ -20,8 +20,8 @@ impl Read for Endless {
     }
 }
 
-/// Gives one line at a time, and counts how often an answer is missing when more is asked for.
-/// The first line has no answer, and each other has one.
+/// A reader that returns one line at a time, and counts how often an answer is missing when more is
+/// read. The first line has no answer, and each other line has one.
 #[derive(Drop)]
 pub(super) struct Asker<'a> {
     pub(super) rest: &'a [u8],
@@ -46,7 +46,7 @@ impl Read for Asker<'_> {
     }
 }
 
-/// Counts the lines that it takes.
+/// A writer that counts the lines that it takes.
 #[derive(Drop)]
 pub(super) struct Counter<'a> {
     pub(super) answers: &'a Cell<u32>,

@@ -1,4 +1,4 @@
-//! Scripts over readers and writers that fail, stall or give little at a time.
+//! Scripts over readers and writers that fail, stall or transfer few bytes at once.
 use super::ends::{Asker, Counter, Endless};
 use std::alloc::Global;
 use std::cell::Cell;
@@ -26,7 +26,7 @@ const ANSWERS: &[u8] = b"1 rcv ! ENOMSG
 2 rcv ! ENOMSG
 ";
 
-/// Runs a script, whose end tells which stream has failed.
+/// Runs a script, and asserts that its end states which stream has failed.
 fn run<R: Read, W: Write>(
     rt: &impl Abort,
     alloc: Global,

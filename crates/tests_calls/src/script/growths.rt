@@ -1,4 +1,4 @@
-//! A script, where a growth of it may be refused: then it has printed a front of what it prints.
+//! A script, with a growth of it refused: it has then printed a prefix of its output.
 use std::alloc::Global;
 use std::process::Abort;
 use sysv_model::Watched;
@@ -22,7 +22,7 @@ const PRINTED: &[u8] = b"1 rcv ! ENOMSG
 line 7: bad
 ";
 
-/// Runs the script, neither of whose streams fails.
+/// Runs the script over two streams that do not fail.
 fn run(rt: &impl Abort, alloc: Global, page: &mut Page) -> Result<(), ScriptFault> {
     let mut text = Pieces::new(SCRIPT, usize::MAX);
     let mut reader = Watched::new(&mut text);

@@ -5,7 +5,7 @@ use std::test::Fail;
 use sysv_model::Watched;
 use sysv_script::{ScriptFault, run_script};
 
-/// What a script writes, and how it ends.
+/// The output of a script, and how the script ends.
 #[derive(Drop)]
 pub(super) struct Ending {
     pub(super) written: Vec<u8>,
@@ -23,7 +23,7 @@ pub(super) fn run(alloc: Global, script: &[u8]) -> Ending {
     Ending { written, end }
 }
 
-/// A script ends so, and writes this.
+/// Asserts that a script ends this way, with this output.
 fn assert_runs(
     rt: &(impl Abort + AllocGlobal),
     script: &[u8],
@@ -35,7 +35,7 @@ fn assert_runs(
     assert!(rt; ending.written.as_slice() == written, "{script:?}");
 }
 
-/// `preset` and this line.
+/// Returns a script of `preset` and this line.
 fn after_preset(alloc: Global, line: &[u8]) -> Result<Vec<u8>, Fail> {
     let mut script = Vec::new(alloc);
     script.extend_from_slice(b"preset\n")?;
@@ -44,7 +44,7 @@ fn after_preset(alloc: Global, line: &[u8]) -> Result<Vec<u8>, Fail> {
     Ok(script)
 }
 
-/// A line that ends in this many letters.
+/// Returns a line that ends in this number of letters.
 fn lettered(alloc: Global, start: &[u8], letters: usize) -> Result<Vec<u8>, Fail> {
     let mut line = Vec::from_slice(alloc, start)?;
     for _ in 0..letters {

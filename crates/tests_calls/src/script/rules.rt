@@ -1,8 +1,10 @@
-//! Which message a receive takes, how much of it is given, and who may send and receive, each as
-//! POSIX.1-2017 has it in msgsnd, msgrcv and the general description of interprocess communication.
+//! Which message a receive takes, how much of it is returned, and who may send and receive, as
+//! POSIX.1-2017 defines it in msgsnd, msgrcv and the general description of interprocess
+//! communication.
 use super::language::run;
 
-/// Scripts with what they print. In each the queue is of user and group 1000 and has mode 0600.
+/// Scripts with their output. In each script the queue belongs to user and group 1000 and has mode
+/// 0600.
 const RUNS: [(&[u8], &[u8]); 14] = [
     // by an exact type, by a bound, and the first that is left
     (
@@ -24,7 +26,7 @@ const RUNS: [(&[u8], &[u8]); 14] = [
 2 rcv = 1 type 5 =c
 ",
     ),
-    // by every type but one; with 0 and with a bound the flag has no effect
+    // by every type but one; with type 0 and with a bound the flag has no effect
     (
         b"preset
 1 snd 0 5 - =a
@@ -44,7 +46,7 @@ const RUNS: [(&[u8], &[u8]); 14] = [
 2 rcv = 1 type 5 =c
 ",
     ),
-    // the least type asked for is a bound of 2^63
+    // the lowest type argument is a bound of 2^63
     (
         b"preset
 1 snd 0 9223372036854775807 - =max
@@ -58,7 +60,7 @@ const RUNS: [(&[u8], &[u8]); 14] = [
 2 rcv = 3 type 9223372036854775807 =max
 ",
     ),
-    // the greatest bound but one leaves the greatest type out no more than the greatest does
+    // the second highest bound includes the highest type, as the highest bound does
     (
         b"preset
 1 snd 0 9223372036854775807 - =max
@@ -82,7 +84,7 @@ const RUNS: [(&[u8], &[u8]); 14] = [
 2 rcv = 1 type 3 =p
 ",
     ),
-    // so does an exact type that no message has
+    // an exact type that no message has names nothing either
     (
         b"preset
 1 snd 0 3 - =p
@@ -96,7 +98,7 @@ const RUNS: [(&[u8], &[u8]); 14] = [
 2 rcv = 1 type 3 =p
 ",
     ),
-    // of the lowest type the one sent first, as long as there is one
+    // among messages of the lowest type the one sent first, as long as there is one
     (
         b"preset
 1 snd 0 4 - =a
@@ -118,7 +120,7 @@ const RUNS: [(&[u8], &[u8]); 14] = [
 2 rcv = 1 type 4 =a
 ",
     ),
-    // a long text stays, or is cut and its rest lost
+    // a body that is too long stays, or is cut and its rest lost
     (
         b"preset
 1 snd 0 1 NOWAIT =0123456789
@@ -132,7 +134,7 @@ const RUNS: [(&[u8], &[u8]); 14] = [
 2 rcv ! ENOMSG
 ",
     ),
-    // the size is asked of the message that is named, and of no other
+    // only the size of the message that is named matters
     (
         b"preset
 1 snd 0 1 - =long
@@ -148,7 +150,7 @@ const RUNS: [(&[u8], &[u8]); 14] = [
 2 rcv = 0 type 1 =
 ",
     ),
-    // a call's own arguments come first, then the permission
+    // a call's own arguments are checked first, then the permission
     (
         b"preset
 as 3 5 5 7
@@ -163,7 +165,7 @@ as 3 5 5 7
 1 snd = 0
 ",
     ),
-    // a call's own arguments come first, then the permission, then the room
+    // a call's own arguments are checked first, then the permission, then the room
     (
         b"preset
 as 3 5 5 7
@@ -186,8 +188,8 @@ as 3 5 5 7
 3 snd ! EINVAL
 ",
     ),
-    // so for a receive: the identifier, the permission, the match and the size; the group of a queue
-    // whose group has no bits may nothing
+    // a receive in the same way: the identifier, the permission, the match and the size. A member
+    // of the queue's group has no permission if the group has no bits
     (
         b"preset
 as 3 2000 1000 7

@@ -2,7 +2,7 @@
 
 use super::*;
 
-/// A send of this text to a queue.
+/// Returns a send of this body to a queue.
 fn send_to(rt: &impl Abort, alloc: Global, id: i32, mtype: i64, text: &[u8], flags: Flags) -> Call {
     Call::Send {
         id,

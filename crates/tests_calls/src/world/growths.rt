@@ -1,8 +1,9 @@
-//! A run of events, where a growth of it may be refused: then the events come back, and the world is as it was.
+//! A run of events, with a growth of it refused: the events are then handed back, and the world is
+//! unchanged.
 use super::*;
 use tests_kit::mark;
 
-// What came back is run again, with the answers of a first run.
+// The events that are handed back are run again, and have the answers of a first run.
 #[test]
 fn run_of_events(rt: HostRuntime) {
     let alloc = rt.alloc();

@@ -46,7 +46,7 @@ fn gets_find_and_make_queues(rt: HostRuntime) {
     assert_is(&rt, world.end(), 128);
 }
 
-/// User 2000 of group 2000 starts a call.
+/// Returns the start of a call by user 2000 of group 2000.
 fn stranger(actor: u32, call: Call) -> Event {
     Event::Start {
         actor,
@@ -133,7 +133,7 @@ fn controls_are_refused_in_their_order(rt: HostRuntime) {
     assert_is(&rt, world.end(), 128);
 }
 
-/// What is told of that queue once it was set at the moment 60.
+/// The attributes of that queue after it was set at time 60.
 const SHOWN: Stat = Stat {
     key: 3,
     perm: Perm {

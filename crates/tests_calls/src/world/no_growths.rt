@@ -1,8 +1,9 @@
-//! Steps of a world, which take no memory: a run counts the growths after the mark, refuses each, and wants none.
+//! Steps of a world, which allocate nothing. A run counts the growths after the mark, refuses each,
+//! and expects none.
 use super::*;
 use tests_kit::mark;
 
-/// The queue's attributes are told and changed.
+/// Reads and changes the queue's attributes.
 fn control(rt: &impl Abort, world: &mut World) {
     match make(rt, world, 2, Call::Stat { id: 0 }) {
         Outcome::Stat(stat) => assert_eq!(rt; (stat.key, stat.qnum), (7, 0)),

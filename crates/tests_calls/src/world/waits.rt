@@ -2,7 +2,7 @@
 
 use super::*;
 
-/// The actor receives at most nine bytes of a type from queue 0, waiting for a message.
+/// Has the actor receive at most nine bytes of this type from queue 0, and wait for a message.
 fn receive_waiting(rt: &impl Abort, alloc: Global, world: &mut World, actor: u32, mtype: i64) {
     let call = receive_of(rt, alloc, 9, mtype, flags(0));
     assert_nothing(rt, world.step(start(actor, call)));
@@ -12,7 +12,7 @@ fn receive_waiting(rt: &impl Abort, alloc: Global, world: &mut World, actor: u32
     assert!(rt; is_waiting(world, actor));
 }
 
-/// A send to queue 0 that waits for room.
+/// Returns a send to queue 0 that waits for room.
 fn send_waiting(rt: &impl Abort, alloc: Global, mtype: i64, text: &[u8]) -> Call {
     Call::Send {
         id: 0,

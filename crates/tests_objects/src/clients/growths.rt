@@ -1,4 +1,5 @@
-//! A client, where a growth of it may be refused: then it shows so, and nothing was read or written.
+//! A client whose growth of memory may be refused. It then reports that, and nothing was read or
+//! written.
 use super::*;
 use tests_kit::mark;
 

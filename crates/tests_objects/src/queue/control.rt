@@ -2,7 +2,8 @@
 
 use super::*;
 
-/// Sets queue `id` for `cred` at moment 70. A refusal leaves what the queue shows, and the counts.
+/// Sets queue `id` for `cred` at time 70. Asserts that a refusal leaves the attributes and the
+/// counts unchanged.
 fn set_as(rt: &impl Abort, desk: &mut Desk, id: i32, cred: Cred, to: SetTo) -> Result<(), Errno> {
     let (arrived, freed) = desk.slot.counts();
     assert!(rt; arrived < 1 << 63);
@@ -18,7 +19,7 @@ fn set_as(rt: &impl Abort, desk: &mut Desk, id: i32, cred: Cred, to: SetTo) -> R
     done
 }
 
-/// What keeps the sender's ownership of the queue, with another limit.
+/// Returns the values that keep the sender's ownership of the queue and set another limit.
 fn limited_to(qbytes: u32) -> SetTo {
     SetTo {
         uid: 1000,
@@ -28,7 +29,8 @@ fn limited_to(qbytes: u32) -> SetTo {
     }
 }
 
-/// Removes queue `id`, and answers how many blocks come back. A refusal leaves the counts.
+/// Removes queue `id`, and returns the number of blocks that are handed back. Asserts that a
+/// refusal leaves the counts unchanged.
 fn remove_as(rt: &impl Abort, desk: &mut Desk, id: i32, cred: Cred) -> Result<u32, Errno> {
     let (arrived, freed) = desk.slot.counts();
     assert!(rt; arrived < 1 << 63);
@@ -48,7 +50,7 @@ fn remove_as(rt: &impl Abort, desk: &mut Desk, id: i32, cred: Cred) -> Result<u3
     }
 }
 
-/// A set of queue `id` ends so.
+/// Asserts that a set of queue `id` has this result.
 fn assert_sets(
     rt: &impl Abort,
     desk: &mut Desk,
@@ -60,7 +62,7 @@ fn assert_sets(
     assert_eq!(rt; set_as(rt, desk, id, cred, to), wanted, "{cred:?}");
 }
 
-/// A removal of queue `id` ends so.
+/// Asserts that a removal of queue `id` has this result.
 fn assert_removes(
     rt: &impl Abort,
     desk: &mut Desk,

@@ -1,5 +1,6 @@
-//! A slot whose receives are compared with the plain rule on a list beside it, and a full slot of as many
-//! types, whose messages are found by few reads. After the opening nothing here takes memory but the list.
+//! A slot whose receives are compared with the plain rule on a list beside it, and a full slot with
+//! a message of each of 256 types, whose messages are found by few reads. After the opening only
+//! the list allocates.
 
 ghost use Rattle.std.specs.Prelude.{◌≡◌, ◌+◌, ◌^◌, ◌<◌, ◌≤◌, length};
 ghost use Rattle.sysv_model.specs.declared.limits.TheConstants.{QUEUE_MESSAGES};
@@ -16,14 +17,14 @@ use sysv_pool::Pool;
 use sysv_queue::{QueueSlot, Steps, TakeRefused, Taken, Tally};
 use sysv_rules::select_plain;
 
-/// A slot with queue 0, and what its callers have at hand.
+/// A slot with queue 0, with the pool and the body that its callers use.
 struct Desk {
     slot: QueueSlot,
     pool: Pool,
     out: Body,
 }
 
-/// Opens all of it. Memory is refused once at most.
+/// Opens all of it. Tolerates one refusal of memory.
 fn open_desk(rt: &impl Abort, alloc: Global) -> Desk {
     let mut slot = open_slot(rt, alloc);
     assert!(rt; slot.install(0, 0, SENDER, 0o600, 0));
@@ -34,7 +35,7 @@ fn open_desk(rt: &impl Abort, alloc: Global) -> Desk {
     }
 }
 
-/// Ends the slot and the pool, in which all blocks are then free.
+/// Ends the slot and the pool, and asserts that all blocks are then free.
 fn end_desk(rt: &impl Abort, desk: Desk) {
     let Desk {
         slot,
@@ -47,7 +48,7 @@ fn end_desk(rt: &impl Abort, desk: Desk) {
     pool.end();
 }
 
-/// Sends an empty text of this type, and answers its acceptance number.
+/// Sends an empty body of this type, and returns its acceptance number.
 fn send(rt: &impl Abort, desk: &mut Desk, mtype: i64) -> u64 {
     let Some(chain) = desk.pool.reserve(0) else {
         panic!(rt; "no blocks are needed");
@@ -63,7 +64,7 @@ fn send(rt: &impl Abort, desk: &mut Desk, mtype: i64) -> u64 {
     }
 }
 
-/// The number and the type of a message that was taken.
+/// Returns the number and the type of a message that was taken.
 fn finish(rt: &impl Abort, desk: &mut Desk, taken: Taken) -> (u64, i64) {
     let (delivery, chain) = taken.finish(0, &mut desk.out);
     give_back(rt, &mut desk.pool, chain);
@@ -73,7 +74,7 @@ fn finish(rt: &impl Abort, desk: &mut Desk, taken: Taken) -> (u64, i64) {
     found
 }
 
-/// The number and the type of the message that a receive gives.
+/// Returns the number and the type of the message that a receive returns.
 fn receive(rt: &impl Abort, desk: &mut Desk, sel: Selector) -> Option<(u64, i64)> {
     let (arrived, freed) = desk.slot.counts();
     assert!(rt; freed < 1 << 63);
@@ -86,7 +87,7 @@ fn receive(rt: &impl Abort, desk: &mut Desk, sel: Selector) -> Option<(u64, i64)
     }
 }
 
-/// The numbers of the messages that wait, in the order of acceptance, and their types.
+/// The numbers of the queued messages, in the order of acceptance, and their types.
 #[derive(Drop)]
 struct Beside {
     numbers: Vec<u64>,
@@ -106,7 +107,7 @@ impl Beside {
         assert!(rt; self.types.push(mtype).is_ok());
     }
 
-    /// Takes out what the plain rule names.
+    /// Takes out what the plain rule selects.
     fn take(&mut self, rt: &impl Abort, sel: Selector) -> Option<(u64, i64)> {
         let place = select_plain(sel, &self.types)?;
         assert!(rt; place < self.numbers.len() && place < self.types.len());
@@ -114,7 +115,7 @@ impl Beside {
     }
 }
 
-/// The selector of a step, and the type of the message that it sends.
+/// Returns the selector of a step, and the type of the message that the step sends.
 fn script(step: u64) -> (Selector, i64)
     requires { step < 500 }
 {
@@ -149,7 +150,7 @@ fn takes_follow_the_plain_rule(rt: HostRuntime) {
     end_desk(&rt, desk);
 }
 
-/// The type of the message with this number, each of 1 to 256 once.
+/// Returns the type of the message with this number. Each of 1 to 256 is returned once.
 fn type_of_number(number: u64) -> i64
     requires { number < 256 }
 {
@@ -166,7 +167,7 @@ fn fill(rt: &impl Abort, desk: &mut Desk)
     assert_full(rt, &desk.slot);
 }
 
-/// The queue shows as many messages as may wait.
+/// Asserts that the queue has the maximum number of messages.
 fn assert_full(rt: &impl Abort, slot: &QueueSlot)
     ensures { length slot.now.messages ≡ QUEUE_MESSAGES }
 {
@@ -176,7 +177,7 @@ fn assert_full(rt: &impl Abort, slot: &QueueSlot)
     assert!(rt; row.qnum as usize == QUEUE_MESSAGES);
 }
 
-/// Takes a message of a full queue by 11 reads at most, since 256 has nine binary digits.
+/// Takes a message of a full queue by at most 11 reads, since 256 has nine binary digits.
 fn take_by_few<L: Ledger>(
     slot: &mut QueueSlot,
     sel: Selector,
@@ -189,7 +190,7 @@ fn take_by_few<L: Ledger>(
     slot.take_counted(0, SENDER, sel, 0, false, 9, steps)
 }
 
-/// The same with a counter that is given up.
+/// Takes a message in the same way, with a step counter that is opened and dropped here.
 fn take_from_full<L: Ledger>(
     slot: &mut QueueSlot,
     sel: Selector,
@@ -205,7 +206,7 @@ fn take_from_full<L: Ledger>(
     take_by_few(slot, sel, &mut steps)
 }
 
-/// Removes what waits, and makes queue 0 anew.
+/// Removes the queue with its messages, and makes queue 0 again.
 fn empty(rt: &impl Abort, desk: &mut Desk) {
     let (arrived, freed) = desk.slot.counts();
     assert!(rt; arrived < 1 << 63);

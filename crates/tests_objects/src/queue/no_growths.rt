@@ -1,11 +1,12 @@
-//! Calls of a slot, which take no memory: a run counts the growths after the mark, refuses each, and wants none.
+//! Calls of a slot, which allocate nothing. A run counts the growths after the mark, refuses each,
+//! and expects none.
 ghost use Rattle.std.specs.Prelude.{◌<◌, ◌^◌};
 
 use super::*;
 use crate::parts::assert_is;
 use tests_kit::{creating, mark};
 
-/// No count of the slot is so high that it could not rise.
+/// Asserts that no count of the slot is so high that it could not rise.
 fn assert_may_rise(rt: &impl Abort, slot: &QueueSlot)
     ensures arrived { slot.now.arrived < 2 ^ 63 }
     ensures freed { slot.now.freed < 2 ^ 63 }
@@ -15,7 +16,7 @@ fn assert_may_rise(rt: &impl Abort, slot: &QueueSlot)
     assert!(rt; freed < 1 << 63);
 }
 
-/// The queue's attributes are changed and told.
+/// Asserts that the queue's attributes are changed and returned.
 fn assert_is_set(rt: &impl Abort, slot: &mut QueueSlot) {
     let to = SetTo {
         uid: 1000,
@@ -31,7 +32,7 @@ fn assert_is_set(rt: &impl Abort, slot: &mut QueueSlot) {
     assert_eq!(rt; row, Some((7, 0o640)));
 }
 
-// It holds as many messages as it may, which go by each selector.
+// The slot has the maximum number of messages, which are taken by each kind of selector.
 #[test]
 fn slot(rt: HostRuntime) {
     let mut desk = open_desk(&rt, rt.alloc());

@@ -1,5 +1,5 @@
-//! Who may do what, worked from the text of the standard's general description of interprocess
-//! communication.
+//! The permissions of callers, worked out by hand from the standard's general description of
+//! interprocess communication.
 
 use std::process::Abort;
 use sysv_model::{Cred, Perm};
@@ -25,7 +25,7 @@ fn caller(uid: u32, gid: u32) -> Cred {
     Cred { uid, gid, pid: 10 }
 }
 
-/// Whether the caller of a queue with this mode may do what it wants.
+/// Asserts whether the caller of a queue with this mode has the permission that it wants.
 fn assert_may(rt: &impl Abort, who: &str, cred: Cred, mode: u16, want: Want, may_it: bool) {
     assert_eq!(rt;
         may(cred, queue(mode), want),

@@ -1,4 +1,4 @@
-//! Which message a receive names, by hand from the description of `msgrcv`.
+//! The message that a receive names, worked out by hand from the description of `msgrcv`.
 
 use std::process::Abort;
 use sysv_model::{Flags, Selector};
@@ -8,7 +8,8 @@ const MAX: i64 = i64::MAX;
 
 const MIN: i64 = i64::MIN;
 
-/// A receive with each of these type arguments selects that place among messages of these types.
+/// Asserts that a receive with each of these type arguments selects this place among messages of
+/// these types.
 fn assert_selects(rt: &impl Abort, types: &[i64], table: &[(i64, Option<usize>)]) {
     for (mtype, place) in table {
         let sel = Selector::of(*mtype, Flags::IPC_NOWAIT);

@@ -1,4 +1,4 @@
-//! Bytes that spell no frame, and frames that break off, each with its fault worked by hand.
+//! Bytes that spell no frame, and frames that break off, each with its fault worked out by hand.
 use super::frames::{OTHERS, TOLD};
 use crate::parts::open_body;
 use sysv_model::Watched;
@@ -6,7 +6,7 @@ use sysv_wire::{Fault, Reply, Request, read_reply, read_request};
 use tests_kit::Pieces;
 use tests_kit::worked::{ANSWERS, SESSION};
 
-/// Bytes, and what a reader of requests answers to them.
+/// Bytes, and what a reader of requests returns for them.
 const REQUESTS: &[(&[u8], Result<Option<Request>, Fault>)] = &[
     (&[], Ok(None)),
     (&[0x00], Err(Fault::Truncated)),
@@ -48,7 +48,7 @@ const REQUESTS: &[(&[u8], Result<Option<Request>, Fault>)] = &[
     ),
 ];
 
-/// Bytes, and what a reader of replies answers to them.
+/// Bytes, and what a reader of replies returns for them.
 const REPLIES: &[(&[u8], Result<Option<Reply>, Fault>)] = &[
     (&[], Ok(None)),
     (&[0x00], Err(Fault::Truncated)),
@@ -211,7 +211,8 @@ fn replies(rt: HostRuntime) {
     }
 }
 
-/// The ends of the frames that stand one after the other, each below 256 bytes long.
+/// Returns the end of the frame that begins at `start`. Frames follow one another, and each is
+/// shorter than 256 bytes.
 fn next_end(bytes: &[u8], start: usize) -> usize {
     let len = bytes
         .get(start.saturating_add(3))

@@ -5,16 +5,17 @@ use sysv_model::{Body, Watched};
 use sysv_wire::{Fault, Outcome, Reply, Request, read_reply, read_request};
 use tests_kit::Pieces;
 
-/// The bytes that the fields of each request take, by its operation; those of a send have no text.
+/// The number of bytes in the fields of each request, by its operation. A send has no body.
 const ASKED: [u8; 8] = [12, 8, 16, 20, 4, 20, 4, 4];
 
-/// The bytes that the fields of each reply take; those of a receive have no text, and those of a row say that none is there.
+/// The number of bytes in the fields of each reply, by its operation. A receive has no body, and a
+/// row reports that the slot has no queue.
 const TOLD: [u8; 8] = [0, 4, 0, 8, 66, 0, 0, 1];
 
 /// The numbers of the errors.
 const ERRORS: [u8; 11] = [1, 2, 7, 11, 13, 17, 22, 28, 42, 43, 75];
 
-/// A frame of this length, with zeros after its head.
+/// Returns a frame of this length, with zeros after its head.
 fn frame(length: u8, version: u8, op: u8, error: u8) -> [u8; 96] {
     let mut bytes = [0; 96];
     bytes[3] = length;
@@ -24,19 +25,19 @@ fn frame(length: u8, version: u8, op: u8, error: u8) -> [u8; 96] {
     bytes
 }
 
-/// What a reader of requests answers to the first bytes, one at a time, with nothing after them.
+/// Returns the result of reading a request from the first `len` bytes, one at a time.
 fn asked(text: &mut Body, bytes: &[u8; 96], len: u8) -> Result<Option<Request>, Fault> {
     let mut reader = Pieces::new(&bytes[..usize::from(len).min(96)], 1);
     read_request(&mut Watched::new(&mut reader), text)
 }
 
-/// What a reader of replies answers to them.
+/// Returns the result of reading a reply from the first `len` bytes, one at a time.
 fn told(text: &mut Body, bytes: &[u8; 96], len: u8) -> Result<Option<Reply>, Fault> {
     let mut reader = Pieces::new(&bytes[..usize::from(len).min(96)], 1);
     read_reply(&mut Watched::new(&mut reader), text)
 }
 
-/// Nothing, or a bad field.
+/// Returns `BadField` unless `is_good` is true.
 fn bad_field_unless(is_good: bool) -> Option<Fault> {
     if is_good { None } else { Some(Fault::BadField) }
 }
@@ -179,7 +180,7 @@ fn modes_of_replies(rt: HostRuntime) {
     }
 }
 
-/// What both readers answer to these four bytes, and then the end.
+/// Asserts what both readers return for these four bytes followed by the end of the input.
 fn lengths_are(rt: &impl Abort, text: &mut Body, bytes: [u8; 4], request: Fault, reply: Fault) {
     let mut reader = Pieces::new(&bytes, 1);
     let answer = read_request(&mut Watched::new(&mut reader), text);

@@ -1,4 +1,4 @@
-//! Frames whose bytes are worked by hand.
+//! Frames whose bytes were worked out by hand.
 use crate::parts::open_body;
 use bitflags::Flags as Set;
 use std::alloc::Global;
@@ -20,7 +20,7 @@ pub(super) const OTHERS: &[u8] = &[
     0xff, 0xff, 0x00, 0x00, 0x00, 0x06, 0x01, 0x07, 0x00, 0x00, 0x00, 0x03,
 ];
 
-/// Attributes, rows and what has no fields.
+/// Attributes, rows and replies without fields.
 pub(super) const TOLD: &[u8] = &[
     0x00, 0x00, 0x00, 0x45, 0x01, 0x04, 0x00, 0x00, 0x00, 0x00, 0x07, 0x00, 0x00, 0x03, 0xe8, 0x00,
     0x00, 0x03, 0xe9, 0x00, 0x00, 0x03, 0xea, 0x00, 0x00, 0x03, 0xeb, 0x01, 0x80, 0x00, 0x00, 0x00,
@@ -33,7 +33,7 @@ pub(super) const TOLD: &[u8] = &[
     0x03, 0x01, 0x07, 0x0b,
 ];
 
-/// Reads the requests one by one in pieces of a size, and writes each again.
+/// Reads the requests one by one in pieces of this size, and writes each again.
 fn reads_and_writes(
     rt: &impl Abort,
     alloc: Global,
@@ -58,7 +58,7 @@ fn reads_and_writes(
     assert_eq!(rt; (end, failed, page.written()), (Ok(None), false, bytes));
 }
 
-/// Reads the replies one by one in pieces of a size, and writes each again.
+/// Reads the replies one by one in pieces of this size, and writes each again.
 fn reads_and_writes_replies(
     rt: &impl Abort,
     alloc: Global,
@@ -138,7 +138,8 @@ pub(super) const SECOND: &[u8] = &[
     0x00, 0x65, 0x00, 0x00, 0x00, 0x0a, 0x02, 0x01, 0x00, 0x00, 0x00, 0x07, 0x00, 0x00, 0x03, 0x80,
 ];
 
-/// The replies to them, the first with 256 slots, and a hello's with the most slots that a reply can have.
+/// The replies to them, the first with 256 slots, and the reply to a hello with the maximum number
+/// of slots.
 pub(super) const SECOND_ANSWERS: &[u8] = &[
     0x00, 0x00, 0x00, 0x07, 0x02, 0x00, 0x00, 0x00, 0x00, 0x01, 0x00, 0x00, 0x00, 0x00, 0x07, 0x02,
     0x01, 0x00, 0x00, 0x00, 0x00, 0x00, 0x00, 0x00, 0x00, 0x07, 0x02, 0x00, 0x00, 0xff, 0xff, 0xff,
@@ -205,7 +206,7 @@ fn ends_of_ranges(rt: HostRuntime) {
     }
 }
 
-/// The attributes that are told.
+/// The attributes in a reply.
 const STAT: Stat = Stat {
     key: 7,
     perm: Perm {

@@ -1,4 +1,4 @@
-//! Readers and writers that fail within a frame, and the longest texts.
+//! Readers and writers that fail within a frame, and bodies of the maximum length.
 use crate::parts::open_body;
 use bitflags::Flags as Set;
 use std::process::Abort;
@@ -10,8 +10,8 @@ use sysv_wire::{
 use tests_kit::worked::{ANSWERS, SESSION};
 use tests_kit::{Page, Pieces};
 
-/// What the first request answers that is not one, where the reader fails after so many bytes, and whether it is then
-/// known to have failed.
+/// Reads at most five requests, up to the first failure, from a reader that fails after `good`
+/// bytes. Returns the last result, and whether the reader is then known to have failed.
 fn end_of_requests(text: &mut Body, good: usize) -> (Result<Option<Request>, Fault>, bool) {
     let mut pieces = Pieces::new(SESSION, 5);
     pieces.good = good;
@@ -26,7 +26,7 @@ fn end_of_requests(text: &mut Body, good: usize) -> (Result<Option<Request>, Fau
     (answer, reader.failures() > 0)
 }
 
-/// The same of replies.
+/// Reads replies in the same way.
 fn end_of_replies(text: &mut Body, good: usize) -> (Result<Option<Reply>, Fault>, bool) {
     let mut pieces = Pieces::new(ANSWERS, 5);
     pieces.good = good;
@@ -57,14 +57,14 @@ fn the_reader_fails(rt: HostRuntime) {
 /// How a write to this page ended, and whether the page is then known to have failed.
 type End = (Result<(), WriteFault>, bool);
 
-/// A write has failed once these bytes were taken.
+/// Asserts that a write failed after these bytes were taken.
 fn assert_fails_after(rt: &impl Abort, end: End, page: &Page, taken: &[u8]) {
     let room = taken.len();
     assert_eq!(rt; end, (Err(WriteFault), true), "{room}");
     assert_eq!(rt; page.written(), taken);
 }
 
-/// How the write of a request ends.
+/// Returns how the write of a request ends.
 fn end_of_request(page: &mut Page, request: &Request, text: &Body) -> End {
     let mut writer = Watched::new(page);
     let end = write_request(&mut writer, request, text);

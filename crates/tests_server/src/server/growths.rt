@@ -1,5 +1,5 @@
-//! A server, where a growth of it may be refused: then it accepted nothing, or a session whose texts were refused is counted
-//! and stays unanswered.
+//! A server, with a growth of it refused: it then accepted nothing, or a session whose bodies were
+//! refused is counted and has no reply.
 use super::*;
 use std::net::Shutdown;
 use tests_kit::mark;
@@ -12,7 +12,7 @@ fn greeting<R: Net + Abort>(rt: &R, path: &str) -> UnixStream {
     stream
 }
 
-/// It was answered, or has nothing to read.
+/// Returns whether the client has its reply, or has nothing to read.
 fn is_answered<R: Abort>(rt: &R, stream: &mut UnixStream) -> bool {
     let mut bytes = [0; 64];
     let mut len = 0;
@@ -29,7 +29,7 @@ fn is_answered<R: Abort>(rt: &R, stream: &mut UnixStream) -> bool {
     true
 }
 
-// A server that had no memory leaves the connection to the next one.
+// A server that had no memory leaves the connection to the next server.
 #[test]
 fn run_of_server(rt: HostRuntime) {
     let path = "growths.socket";

@@ -17,13 +17,13 @@ use tests_kit::{USER, creating, flags};
 pub(super) enum Ask {
     /// Makes the queue of this key, or finds it.
     Get(i32),
-    /// Sends a message of type 1 with so many bytes.
+    /// Sends a message of type 1 with a body of this length.
     Send(i32, usize),
     /// Receives a message of any type.
     Receive(i32),
-    /// The receive of a message of type 2.
+    /// Receives a message of type 2.
     ReceiveSecond(i32),
-    /// A receive whose caller leaves while it waits.
+    /// Receives with a caller that leaves while the call waits.
     ReceiveLeft(i32),
     /// Sets these attributes, as this user.
     Set(i32, Cred, SetTo),
@@ -31,16 +31,16 @@ pub(super) enum Ask {
     Stop,
 }
 
-/// No flag: a send and a receive wait.
+/// No flags: a send and a receive wait.
 pub(super) fn waiting() -> Flags {
     flags(0)
 }
 
-/// What a call answers: an identifier, the length of the text that was received, how many queues were removed, or 0. It is
-/// `LEFT` if the call was left.
+/// The result of a call: an identifier, the length of the body that was received, the number of
+/// queues that were removed, or 0. It is `LEFT` if the call was left.
 pub(super) type Told = Result<i64, Errno>;
 
-/// What is told of a call that was left.
+/// The result of a call that was left.
 pub(super) const LEFT: Told = Ok(-1);
 
 /// Makes the call.
@@ -83,7 +83,7 @@ pub(super) fn make<R: Abort + Wait>(
     }
 }
 
-/// A body of so many letters.
+/// Returns a body of this number of letters.
 fn letters(rt: &impl Abort, alloc: Global, size: usize) -> Body {
     let text = [b'x'; MESSAGE_BYTES];
     assert!(rt; size <= MESSAGE_BYTES);

@@ -1,14 +1,14 @@
-//! How threads tell each other how far they are, beside the service.
+//! How threads report their progress to one another, beside the service.
 use std::sync::Wait;
 use std::sync::atomic::AtomicU64;
 use std::sync::atomic::Ordering::SeqCst;
 use std::thread;
 use sysv_service::Clock;
 
-/// A thread is held for at most so many looks.
+/// The maximum number of looks for which a thread is held.
 pub(super) const LOOKS: u32 = 10_000_000;
 
-/// How many things were said.
+/// The number of reports so far.
 #[derive(Drop)]
 pub(super) struct Board {
     said: AtomicU64,
@@ -25,7 +25,7 @@ impl Board {
         [Board::new(), Board::new()]
     }
 
-    /// Says one thing more.
+    /// Makes one more report.
     pub(super) fn say(&self) {
         self.said.fetch_add(1, SeqCst);
     }
@@ -34,7 +34,7 @@ impl Board {
         self.said.load(SeqCst)
     }
 
-    /// Waits until so many things were said.
+    /// Waits until this number of reports was made.
     pub(super) fn hear(&self, rt: &impl Wait, goal: u64) {
         for _ in rt.forever() {
             if self.said() >= goal {
@@ -45,7 +45,7 @@ impl Board {
         unreachable!()
     }
 
-    /// Looks until so many things were said, ten million times at most.
+    /// Looks until this number of reports was made, at most ten million times.
     fn look_for(&self, goal: u64) {
         for _ in 0..LOOKS {
             if self.said() >= goal {
@@ -59,11 +59,11 @@ impl Board {
 /// The clock of a thread.
 #[derive(Clone, Copy)]
 pub(super) enum Moment<'a> {
-    /// It stands still.
+    /// Always returns the same time.
     Still,
-    /// It says how often it was asked.
+    /// Makes a report whenever it is called.
     Counts(&'a Board),
-    /// It says that it was asked, and holds the call until so many things were said.
+    /// Makes a report, and holds the call until this number of reports was made.
     Holds(&'a Board, u64),
 }
 

@@ -1,4 +1,4 @@
-//! Threads that act at one time, each with a pass of its own.
+//! Threads that act at once, each with a pass of its own.
 ghost use Rattle.std.specs.Prelude.{◌≡◌, [], ◌≤◌, vec_len, vec_capacity, length};
 ghost use Rattle.std.specs.List.{All};
 ghost use Rattle.std.specs.Thread.{IsSync};
@@ -18,15 +18,15 @@ use sysv_service::{Closed, Pass, Service};
 /// What is left of a service.
 #[derive(Drop)]
 pub(super) struct Left<'a> {
-    /// What the threads did, in the order in which they were given.
+    /// What the threads did, in the order in which they were passed in.
     pub(super) parts: Vec<Part<'a>>,
-    /// How many queues lived at the end.
+    /// The number of live queues at the end.
     pub(super) live: u32,
     pub(super) closed: Closed,
 }
 
-/// Opens a service of so many blocks, makes the calls, each of which has to succeed, has each part act in a thread of its
-/// own, and closes the service.
+/// Opens a service with this number of blocks and makes the calls, each of which must succeed. Then
+/// has each part act in a thread of its own, and closes the service.
 pub(super) fn run<'a, R: Threads + Abort + Wait + Clock + Sync>(
     rt: &R,
     alloc: Global,
@@ -49,7 +49,7 @@ pub(super) fn run<'a, R: Threads + Abort + Wait + Clock + Sync>(
     }
 }
 
-/// How many slots have a live queue.
+/// Returns the number of slots that have a live queue.
 fn count_live(rt: &impl Wait, service: &Service, pass: &mut Pass) -> u32
     requires { AreOf service.now pass.old.seats }
     ensures { AreOf service.now pass.new.seats }
@@ -69,7 +69,7 @@ struct Member<'a> {
     part: Part<'a>,
 }
 
-/// Has each part act in a thread of its own, and gives them back in their order.
+/// Has each part act in a thread of its own, and returns the parts in their order.
 fn together<'a, R: Threads + Abort + Wait + Clock + Sync>(
     rt: &R,
     alloc: Global,

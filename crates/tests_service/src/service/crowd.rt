@@ -1,4 +1,4 @@
-//! Four senders and four receivers at one queue that takes one byte at a time.
+//! Four senders and four receivers at one queue that has room for one byte.
 ghost use Rattle.sysv_gated.specs.Seats.{AreOf};
 
 use super::ask::{Ask, waiting};
@@ -14,12 +14,12 @@ use sysv_queue::Tally;
 use sysv_service::{Pass, Service};
 use tests_kit::USER;
 
-/// Each sender sends, and each receiver receives, so many messages.
+/// The number of messages that each sender sends, and that each receiver receives.
 const TIMES: u8 = 200;
 
 const SENDERS: i64 = 4;
 
-/// The queue of user 1000, which takes one byte.
+/// The attributes of a queue of user 1000 with room for one byte.
 const ONE_BYTE: SetTo = SetTo {
     uid: 1000,
     gid: 1000,
@@ -27,17 +27,17 @@ const ONE_BYTE: SetTo = SetTo {
     qbytes: 1,
 };
 
-/// Sends its messages in their order, by two types in turn: their byte is their number.
+/// Sends its messages in order, with two types in turn. Each message's byte is its number.
 #[derive(Drop)]
 pub(super) struct Sender {
-    /// From 0 on.
+    /// The sender's number, from 0 on.
     number: i64,
 }
 
 /// Receives messages of any type.
 #[derive(Drop)]
 pub(super) struct Receiver {
-    /// The messages in their order.
+    /// The messages in the order in which they were received.
     got: Vec<Message>,
 }
 
@@ -67,7 +67,7 @@ impl Sender {
     }
 }
 
-/// The type of a message of a sender: the even and the odd ones have types of their own.
+/// Returns the type of a message of a sender. Even and odd messages have different types.
 fn type_of(sender: i64, number: u8) -> i64 {
     sender
         .saturating_mul(2)
@@ -103,7 +103,7 @@ impl Receiver {
         }
     }
 
-    /// How often it received the message of this number from this sender.
+    /// Returns how often it received the message with this type and number.
     fn count_of(&self, mtype: i64, number: u8) -> usize {
         self.got
             .iter()
@@ -111,7 +111,7 @@ impl Receiver {
             .count()
     }
 
-    /// Whether the messages of the type came in the order in which they were sent.
+    /// Returns whether the messages of the type were received in the order in which they were sent.
     fn is_in_order(&self, mtype: i64) -> bool {
         let mut last = None;
         for message in self.got.iter() {
@@ -141,7 +141,7 @@ fn crowd(rt: &impl Abort, alloc: Global) -> Vec<Part<'static>> {
     parts
 }
 
-/// How often all receivers together received the message.
+/// Returns how often all receivers together received the message.
 fn count_in(parts: &[Part], mtype: i64, number: u8) -> usize {
     let mut count: usize = 0;
     for part in parts {

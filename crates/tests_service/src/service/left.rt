@@ -1,4 +1,4 @@
-//! A call that waits ends when its caller has left, and takes nothing.
+//! A call that waits ends after its caller has left, and takes nothing.
 
 ghost use Rattle.std.specs.Prelude.{ℕ};
 ghost use Rattle.sysv_gated.specs.Seats.{AreOf};
@@ -15,7 +15,7 @@ use sysv_queue::Tally;
 use sysv_service::{Caller, Pass, Service, Stays};
 use tests_kit::{USER, creating};
 
-/// A caller that answers so many times that it stays, and then that it has left.
+/// A caller that reports a number of times that it stays, and after that that it has left.
 #[derive(Drop)]
 pub(super) struct Leaves {
     stays: u64,
@@ -30,7 +30,7 @@ impl Leaves {
         }
     }
 
-    /// How many times it was asked.
+    /// Returns how many times it was checked.
     fn asked(&self) -> u64 {
         self.asked.load(SeqCst)
     }
@@ -44,7 +44,7 @@ impl Caller for Leaves {
     }
 }
 
-/// Opens a service of 128 blocks with the queues 0 and 1, each of which has room for one byte.
+/// Opens a service of 128 blocks with queues 0 and 1, each of which has room for one byte.
 fn two_queues(rt: &(impl Abort + Wait), alloc: Global) -> (Service, Pass)
     ensures { AreOf result.0 result.1.seats }
 {
@@ -54,7 +54,7 @@ fn two_queues(rt: &(impl Abort + Wait), alloc: Global) -> (Service, Pass)
     (service, pass)
 }
 
-/// Makes the queue of the key, which is to have this identifier, with room for one byte.
+/// Makes the queue of the key with room for one byte, and asserts that it has this identifier.
 fn small_queue(rt: &(impl Abort + Wait), service: &Service, pass: &mut Pass, key: i32, id: i32)
     requires { AreOf service.now pass.old.seats }
     ensures { AreOf service.now pass.new.seats }
@@ -71,7 +71,7 @@ fn small_queue(rt: &(impl Abort + Wait), service: &Service, pass: &mut Pass, key
     assert_is(rt, set, Ok(()));
 }
 
-/// Sends one byte to queue 0. `None` if the call was left.
+/// Sends one byte to queue 0. Returns `None` if the call was left.
 fn send<K: Caller>(
     rt: &(impl Abort + Wait),
     alloc: Global,
@@ -86,7 +86,8 @@ fn send<K: Caller>(
     service.msgsnd_for(rt, pass, &CLOCK, caller, USER, 0, 5, &text, waiting())
 }
 
-/// Receives from queue 0, and returns the length of the message. `None` if the call was left.
+/// Receives from queue 0, and returns the length of the message. Returns `None` if the call was
+/// left.
 fn receive<K: Caller>(
     rt: &(impl Abort + Wait),
     alloc: Global,
@@ -132,7 +133,7 @@ fn a_receive_is_left_and_the_message_goes_to_the_next(rt: HostRuntime) {
     assert_is(&rt, service.close(pass), closed(0, 128));
 }
 
-/// Its caller is asked once for each second.
+/// The caller is checked once for each second.
 #[test]
 fn a_receive_waits_while_its_caller_stays(rt: HostRuntime) {
     let (service, mut pass) = two_queues(&rt, rt.alloc());

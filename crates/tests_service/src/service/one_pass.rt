@@ -13,7 +13,7 @@ use sysv_queue::Tally;
 use sysv_service::{OpenRefused, Pass, Service};
 use tests_kit::{OTHER, USER, creating};
 
-/// Sends this text to the queue of the identifier, without waiting.
+/// Sends this body to the queue with this identifier, without waiting.
 fn send(
     rt: &(impl Abort + Wait),
     alloc: Global,
@@ -30,7 +30,7 @@ fn send(
     service.msgsnd(rt, pass, &CLOCK, USER, id, mtype, &text, Flags::IPC_NOWAIT)
 }
 
-/// Sends one byte to the queue of the identifier, and waits until there is room for it.
+/// Sends one byte to the queue with this identifier, and waits until there is room for it.
 fn send_and_wait(
     rt: &(impl Abort + Wait),
     alloc: Global,
@@ -45,7 +45,8 @@ fn send_and_wait(
     service.msgsnd(rt, pass, &CLOCK, USER, id, 5, &text, Flags::empty())
 }
 
-/// Receives a text of at most `size` bytes from the queue of the identifier, without waiting, and tells its type and length.
+/// Receives a body of at most `size` bytes from the queue with this identifier, without waiting,
+/// and returns its type and length.
 fn receive(
     rt: &(impl Abort + Wait),
     alloc: Global,
@@ -179,7 +180,7 @@ fn a_queue_is_removed(rt: HostRuntime) {
     assert_is(&rt, service.close(pass), closed(0, 128));
 }
 
-/// A msgget of no key.
+/// Makes a private queue.
 fn get(rt: &impl Wait, service: &Service, pass: &mut Pass) -> Result<i32, Errno>
     requires { AreOf service.now pass.old.seats }
     ensures { AreOf service.now pass.new.seats }
@@ -187,7 +188,8 @@ fn get(rt: &impl Wait, service: &Service, pass: &mut Pass) -> Result<i32, Errno>
     service.msgget(rt, pass, &CLOCK, USER, 0, creating())
 }
 
-/// Makes a queue of no key in each slot in turn, and removes it. Their identifiers are to be those of the last generation.
+/// Makes a private queue in each slot in turn, and removes it. Asserts that their identifiers are
+/// those of the last generation.
 fn use_up(rt: &(impl Abort + Wait), service: &Service, pass: &mut Pass)
     requires { AreOf service.now pass.old.seats }
     ensures { AreOf service.now pass.new.seats }
@@ -208,7 +210,7 @@ fn a_removal_of_the_last_generation_ends_its_slot(rt: HostRuntime) {
     assert_is(&rt, service.close(pass), closed(0, 128));
 }
 
-/// Makes a queue of no key, whose identifier is to be this one, and sends one byte to it.
+/// Makes a private queue, asserts that it has this identifier, and sends one byte to it.
 fn make_with_message(
     rt: &(impl Abort + Wait),
     alloc: Global,

@@ -1,4 +1,4 @@
-//! What a thread does.
+//! The tasks of threads.
 ghost use Rattle.sysv_gated.specs.Seats.{AreOf};
 
 use super::ask::{Ask, Told, make};
@@ -15,7 +15,7 @@ use sysv_service::{Pass, Service};
 /// What one thread does with its pass.
 #[derive(Drop)]
 pub(super) enum Part<'a> {
-    /// Makes a call once its turn comes.
+    /// Makes a call at its time.
     Asks(Turn<'a>),
     Teases(Tease<'a>),
     Sends(Sender),
@@ -42,28 +42,28 @@ impl Part<'_> {
     }
 }
 
-/// A call of a thread, and what was said before it and after it.
+/// A call of a thread, with the reports before it and after it.
 #[derive(Drop)]
 pub(super) struct Turn<'a> {
     pub(super) board: &'a Board,
-    /// It says that it runs.
+    /// Whether the thread reports that it runs.
     pub(super) runs: bool,
-    /// It waits until so many things were said.
+    /// The number of reports that it waits for.
     pub(super) after: u64,
-    /// It lets the others come to their waits, and says that it begins.
+    /// Whether it reports that it begins, after it has let the others reach their waits.
     pub(super) begins: bool,
     pub(super) clock: Moment<'a>,
     pub(super) ask: Ask,
-    /// It says that it was answered.
+    /// Whether it reports that its call was answered.
     pub(super) ends: bool,
-    /// The answer, once it is there.
+    /// The result, after the call has ended.
     pub(super) told: Option<Told>,
-    /// How many things were said when the answer came.
+    /// The number of reports when the call ended.
     pub(super) said: u64,
 }
 
 impl<'a> Turn<'a> {
-    /// A call that is made at once by a thread that says that it runs.
+    /// Creates a call that is made at once, by a thread that reports that it runs.
     pub(super) fn at_once(board: &'a Board, ask: Ask) -> Turn<'a> {
         Turn {
             board,
@@ -104,12 +104,12 @@ impl<'a> Turn<'a> {
     }
 }
 
-/// Adds a part after the others.
+/// Appends a part.
 pub(super) fn add<'a>(rt: &impl Abort, parts: &mut Vec<Part<'a>>, part: Part<'a>) {
     parts.push(part).expect(rt, "memory");
 }
 
-/// What the call of this part was answered, and how many things were said by then.
+/// Returns the result of the call of this part, and the number of reports when it ended.
 pub(super) fn told_of(rt: &impl Abort, parts: &[Part], place: usize) -> (Told, u64) {
     let Some(Part::Asks(turn)) = parts.get(place) else {
         panic!(rt; "no call at {place}")

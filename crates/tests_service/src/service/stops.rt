@@ -9,7 +9,8 @@ use crate::parts::closed;
 use std::process::Abort;
 use sysv_model::Errno;
 
-/// Two receives of type 2 at a queue, whose clocks have a board each, and a thread that says once both have looked.
+/// Two receives of type 2 at a queue, whose clocks report on a board each, and a thread that
+/// reports after both have looked.
 fn add_waiters<'a>(
     rt: &impl Abort,
     parts: &mut Vec<Part<'a>>,
@@ -29,7 +30,7 @@ fn add_waiters<'a>(
     add(rt, parts, Part::Teases(Tease { id, looks, then }));
 }
 
-/// The stop begins once each of six receives has looked, so each of them has found its queue.
+/// The stop begins after each of six receives has looked, so each of them has found its queue.
 #[test]
 fn a_stop_wakes_all_who_wait(rt: HostRuntime) {
     let alloc = rt.alloc();

@@ -1,4 +1,4 @@
-//! Calls that go on while another is held, and a receive that is asked again.
+//! Calls that proceed while another call is held, and a receive that looks again.
 ghost use Rattle.sysv_gated.specs.Seats.{AreOf};
 
 use super::ask::Ask;
@@ -14,21 +14,23 @@ use sysv_queue::Tally;
 use sysv_service::{Pass, Service};
 use tests_kit::USER;
 
-/// Sends messages of type 1 to a queue and takes them back, until each of some receives of type 2 has looked twice there.
+/// Sends messages of type 1 to a queue and takes them back, until each of several receives of type
+/// 2 has looked twice there.
 #[derive(Drop)]
 pub(super) struct Tease<'a> {
     pub(super) id: i32,
-    /// The clock of each receive says on its board that it is asked, which is once before each look.
+    /// The clock of each receive reports on its board whenever it is read, which is once before
+    /// each look.
     pub(super) looks: &'a [Board],
     pub(super) then: Then<'a>,
 }
 
-/// What is done once each receive has looked twice.
+/// What is done after each receive has looked twice.
 #[derive(Clone, Copy)]
 pub(super) enum Then<'a> {
-    /// A message of type 2 is sent.
+    /// Sends a message of type 2.
     Sends,
-    /// It is said.
+    /// Makes a report.
     Says(&'a Board),
 }
 

@@ -1,4 +1,4 @@
-//! Waits of every kind end when what they wait for comes.
+//! Waits of every kind end when what they wait for happens.
 
 use super::ask::{Ask, LEFT, Told};
 use super::board::{Board, Moment};
@@ -13,10 +13,10 @@ use std::time::Clock;
 use sysv_model::{Errno, SetTo};
 use tests_kit::{ROOT, USER};
 
-/// A wait is tried so many times where the other call may come first.
+/// How often a wait is tried if the other call may be first.
 const TRIES: u32 = 50;
 
-/// The queue of user 1000 with this mode and limit.
+/// The attributes of a queue of user 1000 with this mode and limit.
 fn to(mode: u32, qbytes: u32) -> SetTo {
     SetTo {
         uid: 1000,
@@ -26,7 +26,7 @@ fn to(mode: u32, qbytes: u32) -> SetTo {
     }
 }
 
-/// A call that waits, after these calls, and one that ends its wait.
+/// Runs a call that waits, after these calls, and a call that ends its wait.
 #[derive(Clone, Copy)]
 struct Case {
     before: [Ask; 3],
@@ -35,7 +35,8 @@ struct Case {
     told: Told,
 }
 
-/// What the wait answers, how many things were said by then, and what ended it.
+/// Returns the result of the wait, the number of reports when it ended, and the result of the call
+/// that ended it.
 fn waited<R: Threads + Abort + Wait + Clock + Sync>(
     rt: &R,
     alloc: Global,
@@ -58,8 +59,8 @@ fn waited<R: Threads + Abort + Wait + Clock + Sync>(
     (told, said, told_of(rt, &left.parts, 1).0)
 }
 
-/// The wait has come to its end, and not before the call that ends it began. Where the removal came before the first look,
-/// it is tried again.
+/// Asserts that the wait has ended, and not before the call that ends it began. If the removal was
+/// made before the first look, it is tried again.
 fn check<R: Threads + Abort + Wait + Clock + Sync>(rt: &R, alloc: Global, case: &Case) {
     for _ in 0..TRIES {
         let (told, said, ending) = waited(rt, alloc, case);
@@ -73,7 +74,7 @@ fn check<R: Threads + Abort + Wait + Clock + Sync>(rt: &R, alloc: Global, case: 
     panic!(rt; "the removal came first each time")
 }
 
-/// The wait ends so at each of these calls.
+/// Asserts that the wait has this result, for each of these calls that end it.
 fn check_each<R: Threads + Abort + Wait + Clock + Sync>(
     rt: &R,
     alloc: Global,
@@ -120,8 +121,8 @@ fn a_receive_waits_for_a_message(rt: HostRuntime) {
     check_each(&rt, rt.alloc(), before, waits, ends);
 }
 
-/// The send wakes the receive, which then takes nothing: the message is still queued at the end. Where the send came before
-/// the first look, the receive took it, and it is tried again.
+/// The send wakes the receive, which then takes nothing: the message is still queued at the end. If
+/// the send was made before the first look, the receive took the message, and the test tries again.
 #[test]
 fn a_woken_receive_is_left(rt: HostRuntime) {
     let case = Case {
@@ -153,8 +154,8 @@ fn a_send_waits_for_blocks(rt: HostRuntime) {
     check_each(&rt, rt.alloc(), before, waits, ends);
 }
 
-/// The first get makes the queue, and its clock holds it before the install, until the second has come to its wait and the
-/// third says so.
+/// The first get makes the queue, and its clock holds it before the install until the second get
+/// waits and the third call reports that.
 #[test]
 fn a_get_waits_for_a_key_that_is_made(rt: HostRuntime) {
     let alloc = rt.alloc();

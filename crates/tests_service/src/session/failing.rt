@@ -40,7 +40,8 @@ fn the_reader_fails_at_the_end(rt: HostRuntime) {
     );
 }
 
-/// The requests and the messages taken, written and lost where the writer takes so many bytes.
+/// Returns the number of requests and the messages taken, written and lost if the writer takes this
+/// number of bytes.
 fn told_at(room: usize) -> (u32, u64, u64, u64) {
     match room {
         0..=6 => (1, 0, 0, 0),

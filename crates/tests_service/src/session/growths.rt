@@ -1,4 +1,5 @@
-//! A session, where a growth of it may be refused: then nothing was read, written or asked, and a second one is whole.
+//! A session, with a growth of it refused: nothing was then read or written and no call was made,
+//! and a second session runs as a whole.
 use super::served::{assert_served, served_on};
 use super::shelf::Shelf;
 use sysv_session::End;

@@ -1,11 +1,11 @@
-//! Sessions over readers and writers, and what they told.
+//! Sessions over readers and writers, and their results.
 use super::shelf::Shelf;
 use std::alloc::Global;
 use std::process::Abort;
 use sysv_session::{End, Served, serve};
 use tests_kit::{Page, Pieces};
 
-/// What a session told, in numbers: its requests, and the messages that were taken, written and lost.
+/// The counts of a session: its requests, and the messages that were taken, written and lost.
 pub(super) fn counts_of(served: &Served) -> (u32, u64, u64, u64) {
     let tally = served.tally;
     (
@@ -16,7 +16,7 @@ pub(super) fn counts_of(served: &Served) -> (u32, u64, u64, u64) {
     )
 }
 
-/// A session ended so, with these counts, and these bytes are its answers.
+/// Asserts that a session ended this way, with these counts and these bytes of replies.
 pub(super) fn assert_served(
     rt: &impl Abort,
     served: &Served,
@@ -29,7 +29,8 @@ pub(super) fn assert_served(
     assert_eq!(rt; page.written(), answers);
 }
 
-/// Serves one session on this kernel. Memory is refused once at most, and then nothing was read or written.
+/// Serves one session on this kernel. Tolerates one refusal of memory, after which nothing was read
+/// or written.
 pub(super) fn served_on(
     rt: &impl Abort,
     alloc: Global,
@@ -51,7 +52,7 @@ pub(super) fn served_on(
     again
 }
 
-/// Serves one session on a new kernel, whose blocks are all free in the end.
+/// Serves one session on a new kernel, and asserts that all its blocks are free at the end.
 pub(super) fn served(
     rt: &impl Abort,
     alloc: Global,

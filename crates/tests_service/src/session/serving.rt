@@ -13,14 +13,15 @@ use sysv_session::{End, Served};
 use tests_kit::worked::{ANSWERS, SESSION};
 use tests_kit::{Page, Pieces};
 
-/// Ends the service. So many messages waited, and then all blocks are free.
+/// Ends the service. Asserts that this number of messages was queued, and that all blocks are then
+/// free.
 pub(super) fn ended(rt: &impl Abort, service: Service, pass: Pass, waiting: u64)
     requires { AreOf service pass.seats }
 {
     assert_eq!(rt; service.close(pass), closed(waiting, 128));
 }
 
-/// Serves one session. Memory is refused once at most, and then nothing was read or written.
+/// Serves one session. Tolerates one refusal of memory, after which nothing was read or written.
 pub(super) fn talked<R: Abort + Wait, K: Caller + Copy>(
     rt: &R,
     alloc: Global,
@@ -38,7 +39,8 @@ pub(super) fn talked<R: Abort + Wait, K: Caller + Copy>(
     kernel.serve(alloc, reader, page)
 }
 
-/// Serves one session on a new service at the moment 7, on which so many messages are left to wait.
+/// Serves one session on a new service at time 7, and asserts that this number of messages is left
+/// in its queues.
 fn served<R: Abort + Wait>(
     rt: &R,
     alloc: Global,
@@ -75,8 +77,8 @@ fn the_session_by_pieces(rt: HostRuntime) {
     }
 }
 
-/// Runs a session of a hello, a get of queue 0 with key 7, mode 0600 and these bytes, whose replies follow those to the first
-/// two requests.
+/// Runs a session of a hello, a get of queue 0 with key 7 and mode 0600, and these bytes, whose
+/// replies follow those to the first two requests.
 fn answers<R: Abort + Wait>(rt: &R, alloc: Global, bytes: &[u8], replies: &[u8], waiting: u64) {
     let mut reader = Pieces::both(&SESSION[..32], bytes);
     let mut page = Page::new();
@@ -97,7 +99,7 @@ fn a_longer_text_is_cut_or_stays(rt: HostRuntime) {
         // A receive of at most two bytes of any type.
         0x00, 0x00, 0x00, 0x16, 0x01, 0x03, 0x00, 0x00, 0x00, 0x00, 0x00, 0x00, 0x00, 0x02, 0x00,
         0x00, 0x00, 0x00, 0x00, 0x00, 0x00, 0x00, 0x00, 0x00, 0x08, 0x00,
-        // The same with MSG_NOERROR.
+        // The same receive with MSG_NOERROR.
         0x00, 0x00, 0x00, 0x16, 0x01, 0x03, 0x00, 0x00, 0x00, 0x00, 0x00, 0x00, 0x00, 0x02, 0x00,
         0x00, 0x00, 0x00, 0x00, 0x00, 0x00, 0x00, 0x00, 0x00, 0x18, 0x00,
     ];

@@ -17,21 +17,21 @@ use sysv_session::{Kernel, Outcome};
 use sysv_wire::{Ask, Op, Outcome as Told, Reply, Request, Version};
 use tests_kit::open_pool;
 
-/// The most that a count reaches here.
+/// The maximum of each count here.
 const MAX_COUNT: u64 = 1 << 32;
 
-/// One slot for a queue, and what it stands on. It answers msgget, msgsnd and msgrcv, which never wait,
-/// and refuses all else with EINVAL.
+/// One slot for a queue, and the objects that it uses. It carries out msgget, msgsnd and msgrcv,
+/// which never wait, and refuses everything else with EINVAL.
 pub(super) struct Shelf {
     slot: QueueSlot,
     registry: Registry,
     pool: Pool,
-    /// The requests that it was asked.
+    /// The number of requests that it received.
     pub(super) asked: u32,
 }
 
 impl Shelf {
-    /// No queue, and a pool of 128 blocks. Memory is refused once at most.
+    /// Opens a shelf with no queue and a pool of 128 blocks. Tolerates one refusal of memory.
     pub(super) fn open(rt: &impl Abort, alloc: Global) -> Shelf {
         let registry = match Registry::open(alloc) {
             Ok(registry) => registry,
@@ -50,7 +50,7 @@ impl Shelf {
         }
     }
 
-    /// Ends the shelf; how many blocks are free with those of what waits.
+    /// Ends the shelf. Returns the number of free blocks, including those of the queued messages.
     pub(super) fn end(self) -> u32 {
         let Shelf {
             slot,
@@ -177,7 +177,7 @@ impl Kernel for Shelf {
     }
 }
 
-/// The refusal of an operation.
+/// Returns the reply that refuses an operation.
 fn refusal(version: Version, op: Op, why: Errno) -> Outcome
     ensures { result ≡ Outcome.Reply
         (record { version = version; op = op_number op; result = Told.Refused why }) }
@@ -189,7 +189,7 @@ fn refusal(version: Version, op: Op, why: Errno) -> Outcome
     })
 }
 
-/// Puts a chain back into the pool that it came from.
+/// Gives a chain back to the pool that it was reserved from.
 fn give_back(pool: &mut Pool, chain: Chain) {
     if pool.released() > MAX_COUNT {
         let _blocks = chain.end();

@@ -7,7 +7,7 @@ use sysv_wire::{Outcome as Told, Reply, Request};
 use tests_kit::worked::SESSION;
 use tests_kit::{Page, Pieces};
 
-/// Counts what it is asked under a lock, and refuses all.
+/// Counts its requests under a lock, and refuses all of them.
 #[derive(Drop)]
 struct Locked<'a, R: Wait> {
     rt: &'a R,

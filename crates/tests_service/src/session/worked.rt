@@ -1,4 +1,4 @@
-//! A session whose bytes are worked by hand, whole and cut short, and sessions that end early.
+//! A session whose bytes were worked out by hand, whole and cut short, and sessions that end early.
 use super::served::{assert_served, served};
 use std::alloc::Global;
 use std::process::Abort;
@@ -61,7 +61,7 @@ fn the_session_ended_after_each_byte(rt: HostRuntime) {
     }
 }
 
-/// A session of these bytes ends so, before any hello.
+/// Asserts that a session of these bytes ends this way, before any hello.
 fn ends_unanswered(rt: &impl Abort, alloc: Global, bytes: &[u8], end: End) {
     let mut reader = Pieces::new(bytes, usize::MAX);
     let mut page = Page::new();
@@ -100,7 +100,8 @@ fn the_first_frame_is_no_hello(rt: HostRuntime) {
     );
 }
 
-/// A session of a hello and these bytes ends so, with the hello's reply alone.
+/// Asserts that a session of a hello and these bytes ends this way, with only the reply to the
+/// hello.
 fn ends_after_hello(rt: &impl Abort, alloc: Global, bytes: &[u8], end: End) {
     let mut reader = Pieces::both(&SESSION[..18], bytes);
     let mut page = Page::new();
@@ -151,7 +152,8 @@ fn a_session_of_version_2(rt: HostRuntime) {
     }
 }
 
-/// A session of a hello of version 2 and these bytes ends so, with the hello's reply alone.
+/// Asserts that a session of a hello of version 2 and these bytes ends this way, with only the
+/// reply to the hello.
 fn ends_after_second_hello(rt: &impl Abort, alloc: Global, bytes: &[u8], fault: Fault) {
     let mut reader = Pieces::both(&SECOND[..18], bytes);
     let mut page = Page::new();

@@ -11,16 +11,16 @@ use std::thread::{Threads, for_each_mut};
 use sysv_bank::{Bank, BankSeat};
 use sysv_eventcount::Eventcount;
 
-/// What a thread does.
+/// The task of a thread.
 #[derive(Drop)]
 enum Role<'a> {
-    /// Calls at place 0, whose turn lasts until two calls were answered.
+    /// Calls at place 0, in a turn that lasts until two calls were answered.
     Holds,
-    /// Calls at place 1 once that turn has begun, and says each answer.
+    /// Calls at place 1 after that turn has begun, and reports each answer.
     Calls(Watch<'a>),
 }
 
-/// A thread, and whether each of its calls was answered rightly.
+/// A thread, and whether each of its calls was answered correctly.
 #[derive(Drop)]
 struct Member<'a, 'b> {
     bank: &'b Bank<Keeper<'a>>,
@@ -54,7 +54,7 @@ fn act_all<R: Threads + Wait + Sync>(rt: &R, members: &mut [Member]) {
     for_each_mut(rt, members, 2, &|_, member| member.act(rt));
 }
 
-// Whether both were answered rightly.
+// Returns whether both were answered correctly.
 fn hold_and_call<'a, R: Threads + Wait + Sync>(
     rt: &R,
     alloc: Global,
@@ -85,7 +85,8 @@ fn hold_and_call<'a, R: Threads + Wait + Sync>(
     Some(members.iter().all(|member| member.well))
 }
 
-// A bank whose first object keeps its turns, and a watch for who calls the second.
+// Opens a bank whose first object holds its turns, and a watch for the thread that calls the
+// second.
 fn opened<'a>(
     alloc: Global,
     mut begun: Place<'a>,
@@ -109,7 +110,7 @@ fn opened<'a>(
     Some((bank, seat, watch))
 }
 
-// Under one lock for all places neither call is answered while the turn is held.
+// With one lock for all places, neither call is answered while the turn is held.
 #[test]
 fn one_lock_round_everything(rt: HostRuntime) -> Result<(), Fail> {
     let alloc = rt.alloc();

@@ -1,17 +1,18 @@
-//! An object that keeps its turn until others were answered.
+//! An object that holds its turn until other calls were answered.
 use super::place::Place;
 use std::sync::Mutex;
 use sysv_gate::Object;
 
-/// It says that its turn has begun, and hears how often others were answered.
+/// Reports that a turn has begun, and waits for the reports of other answers.
 #[derive(Drop)]
 pub(crate) struct Watch<'a> {
     pub(crate) begun: Place<'a>,
     pub(crate) answered: Place<'a>,
 }
 
-/// Where it has a watch, a call keeps its turn until so many others were answered, and replies whether they were. Else
-/// it replies at once. The watch lies in a lock, which is never taken, so that threads may share a bank of keepers.
+/// With a watch, a call holds its turn until a number of other calls were answered, and returns
+/// whether they were. Without one it returns at once. The watch is in a lock that is never taken,
+/// so that threads may share a bank of keepers.
 #[derive(Drop)]
 pub(crate) struct Keeper<'a> {
     pub(crate) watch: Option<Mutex<Watch<'a>>>,

@@ -1,12 +1,12 @@
-//! A seat of an eventcount where it belongs.
+//! A seat together with its eventcount.
 ghost use Rattle.std.specs.Prelude.{◌≡◌};
 
 use sysv_eventcount::{Awaited, Eventcount, Seat};
 
-/// A wait gives up after so many looks.
+/// The number of looks after which a wait gives up.
 const LOOKS: u64 = 10_000_000;
 
-/// A seat beside the eventcount that gave it.
+/// A seat, with the eventcount that it belongs to.
 #[derive(Drop)]
 pub(crate) struct Place<'a> {
     count: &'a Eventcount,
@@ -21,7 +21,7 @@ impl<'a> Place<'a> {
         Place { count, seat }
     }
 
-    /// A second place at the same eventcount.
+    /// Returns a second place at the same eventcount.
     pub(crate) fn split(&mut self) -> Option<Place<'a>> {
         let Ok(seat) = self.count.split(&mut self.seat) else {
             return None;
@@ -33,7 +33,7 @@ impl<'a> Place<'a> {
         let _ = self.count.advance(&mut self.seat);
     }
 
-    /// Whether so many things were said before it gave up.
+    /// Returns whether the count reached `goal` before the wait gave up.
     pub(crate) fn hears(&mut self, goal: u64) -> bool {
         matches!(
             self.count.await_turns(&mut self.seat, goal, LOOKS),

@@ -1,11 +1,11 @@
-//! Items that count their ends.
+//! Items that count how often they are dropped.
 use super::{many, opened};
 use crate::parts::assert_is;
 use std::sync::atomic::AtomicU64;
 use std::sync::atomic::Ordering::SeqCst;
 use sysv_buffer::{ManyPutRefused, PutRefused};
 
-/// An item that can't be copied, and counts its end.
+/// An item that cannot be copied, and that counts its drop.
 struct Counted<'a> {
     ends: &'a AtomicU64,
 }

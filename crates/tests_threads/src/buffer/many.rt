@@ -1,4 +1,4 @@
-//! Items through a buffer of many.
+//! Items through a buffer of many producers and consumers.
 ghost use Rattle.std.specs.Prelude.{◌≡◌};
 
 use super::Ware;
@@ -7,7 +7,7 @@ use std::alloc::Global;
 use std::process::Abort;
 use sysv_buffer::{ManyBuffer, ManyPutRefused, ManyTakeRefused, OpenRefused, Seat};
 
-/// A buffer and its first seat. Memory is refused once at most.
+/// Opens a buffer with its first seat. Tolerates one refusal of memory.
 pub(super) fn opened<T: Drop>(
     rt: &impl Abort,
     alloc: Global,
@@ -25,7 +25,7 @@ pub(super) fn opened<T: Drop>(
     }
 }
 
-/// The number of the item that came back because the buffer was full.
+/// Returns the number of the item that was handed back because the buffer was full.
 fn came_back(put: Result<(), ManyPutRefused<Ware>>) -> Option<u64> {
     match put {
         Ok(()) => None,
@@ -35,7 +35,7 @@ fn came_back(put: Result<(), ManyPutRefused<Ware>>) -> Option<u64> {
     }
 }
 
-/// The number of the item that was taken, or why there was none.
+/// Returns the number of the item that was taken, or why there was none.
 fn number_of(taken: Result<Ware, ManyTakeRefused>) -> Result<u64, ManyTakeRefused> {
     match taken {
         Ok(item) => Ok(item.number),

@@ -1,4 +1,4 @@
-//! Two threads put, and two take.
+//! Two threads put items, and two take them.
 ghost use Rattle.std.specs.Prelude.{◌≡◌, ◌≤◌};
 ghost use Rattle.std.specs.Thread.{IsSync};
 
@@ -8,13 +8,13 @@ use std::sync::Wait;
 use std::thread::{Threads, join};
 use sysv_buffer::{ManyBuffer, Seat};
 
-/// So many items are put by each producer, and taken by each consumer.
+/// The number of items that each producer puts and each consumer takes.
 const ITEMS: u64 = 100;
 
 /// How often each number was taken.
 type Marks = [u64; 200];
 
-/// Puts so many numbers from the first on. False where one was refused.
+/// Puts `ITEMS` numbers, from `first` on. Returns false if one was refused.
 fn put_some(rt: &impl Wait, buffer: &ManyBuffer<Ware>, mut seat: Seat<Ware>, first: u64) -> bool
     requires seat { seat.buffer ≡ buffer.now }
     requires low { first ≤ 100 }
@@ -30,7 +30,7 @@ fn put_some(rt: &impl Wait, buffer: &ManyBuffer<Ware>, mut seat: Seat<Ware>, fir
     true
 }
 
-/// Takes as many, and marks them.
+/// Takes `ITEMS` numbers, and marks them.
 fn take_some(rt: &impl Wait, buffer: &ManyBuffer<Ware>, mut seat: Seat<Ware>) -> Marks
     requires { seat.buffer ≡ buffer.now }
 {
@@ -46,7 +46,7 @@ fn take_some(rt: &impl Wait, buffer: &ManyBuffer<Ware>, mut seat: Seat<Ware>) ->
     marks
 }
 
-/// Two producers at one time.
+/// Runs two producers at once.
 fn put_by_two<R: Threads + Wait + Sync>(
     rt: &R,
     buffer: &ManyBuffer<Ware>,
@@ -68,7 +68,7 @@ fn put_by_two<R: Threads + Wait + Sync>(
     first && second
 }
 
-/// Two consumers at one time.
+/// Runs two consumers at once.
 fn take_by_two<R: Threads + Wait + Sync>(
     rt: &R,
     buffer: &ManyBuffer<Ware>,
@@ -89,7 +89,7 @@ fn take_by_two<R: Threads + Wait + Sync>(
     )
 }
 
-/// All four at one time. Whether all was put, and what was taken.
+/// Runs all four at once. Returns whether all was put, and what was taken.
 fn exchange<R: Threads + Wait + Sync>(
     rt: &R,
     buffer: &ManyBuffer<Ware>,

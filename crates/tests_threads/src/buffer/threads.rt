@@ -1,4 +1,4 @@
-//! One thread puts, and another takes.
+//! One thread puts items, and another takes them.
 ghost use Rattle.std.specs.Prelude.{◌≡◌};
 ghost use Rattle.std.specs.Thread.{IsSync};
 
@@ -7,10 +7,10 @@ use std::sync::Wait;
 use std::thread::{Threads, join};
 use sysv_buffer::{Consumer, OneBuffer, Producer};
 
-/// So many items go through.
+/// The number of items.
 const ITEMS: u64 = 20_000;
 
-/// Puts the numbers from 0 on. False where one was refused.
+/// Puts the numbers from 0 on. Returns false if one was refused.
 fn put_all(rt: &impl Wait, buffer: &OneBuffer<Ware>, mut end: Producer<Ware>) -> bool
     requires { end.buffer ≡ buffer.now }
 {
@@ -22,7 +22,7 @@ fn put_all(rt: &impl Wait, buffer: &OneBuffer<Ware>, mut end: Producer<Ware>) ->
     true
 }
 
-/// Takes as many, and says whether they were the numbers from 0 on.
+/// Takes the same number of items, and returns whether they were the numbers from 0 on.
 fn take_all(rt: &impl Wait, buffer: &OneBuffer<Ware>, mut end: Consumer<Ware>) -> bool
     requires { end.buffer ≡ buffer.now }
 {
@@ -35,7 +35,7 @@ fn take_all(rt: &impl Wait, buffer: &OneBuffer<Ware>, mut end: Consumer<Ware>) -
     true
 }
 
-/// Both at one time.
+/// Runs both threads at once.
 fn exchange<R: Threads + Wait + Sync>(
     rt: &R,
     buffer: &OneBuffer<Ware>,

@@ -14,17 +14,17 @@ use std::thread::{Threads, join};
 use std::time::{Clock, Duration};
 use sysv_eventcount::{Awaited, Eventcount, Seat, Sequencer};
 
-/// What each of the threads does so many times.
+/// How often each thread repeats its task.
 const TIMES: u64 = 100;
 
-/// A thread's seats, at two objects or two at one.
+/// The two seats of a thread, at two objects or at one.
 #[derive(Drop)]
 struct Pair {
     one: Seat,
     two: Seat,
 }
 
-// Draws some tickets with a seat, and gives them beside it.
+// Draws some tickets with a seat, and returns them with the seat.
 fn draw(alloc: Global, turns: &Sequencer, mut seat: Seat) -> Option<(Seat, Vec<u64>)>
     requires { seat.counter ≡ turns.now }
     ensures { IfSome result (λ d. HasDrawn seat d.0 d.1.items) }
@@ -67,7 +67,7 @@ fn draw_both<R: Threads + Sync>(
     Some((seat, drawn))
 }
 
-// What four threads draw are the numbers below the next ticket, each once and none left out.
+// Draws with four threads. The tickets are the numbers below the next ticket, each exactly once.
 fn draw_by_four<R: Threads + Sync>(rt: &R, alloc: Global) -> Option<(u64, Vec<u64>)>
     ensures { IfSome result (λ all. AreBetween 0 all.0 all.1.items) }
 {
@@ -107,7 +107,7 @@ fn four_threads_draw_each_number_once(rt: HostRuntime) -> Result<(), Fail> {
     Ok(())
 }
 
-// A section that one thread is in at a time: a turn is drawn, awaited and given on.
+// A section that one thread is in at a time: a thread draws a turn, waits for it, and passes it on.
 #[derive(Drop)]
 struct Exclusion {
     turns: Sequencer,
@@ -141,7 +141,7 @@ impl Exclusion {
         Some(())
     }
 
-    // The seats of one more thread.
+    // Splits off the seats of one more thread.
     fn split(&self, seats: &mut Pair) -> Option<Pair>
         requires drawing { seats.old.one.counter ≡ self.now.turns }
         requires serving { seats.old.two.counter ≡ self.now.served }
@@ -202,8 +202,8 @@ fn one_thread_at_a_time_is_in_the_section(rt: HostRuntime) -> Result<(), Fail> {
     Ok(())
 }
 
-// Advances as often as it is told, with one wake after each. It pauses before each, so that who waits has gone to sleep.
-// False where the count is worn out.
+// Advances `times` times, with one wake after each. It pauses before each advance, so that the
+// waiting thread has gone to sleep. Returns false if the count is worn out.
 fn advance_often<R: Wait + Clock>(rt: &R, count: &Eventcount, mut seat: Seat, times: u64) -> bool
     requires { seat.counter ≡ count.now }
 {
@@ -253,7 +253,7 @@ fn wait_and_advance<R: Threads + Wait + Clock + Sync>(
     )
 }
 
-// The seats of one more thread at two eventcounts.
+// Splits off the seats of one more thread at two eventcounts.
 fn split_both(first: &Eventcount, second: &Eventcount, seats: &mut Pair) -> Option<Pair>
     requires one { seats.old.one.counter ≡ first.now }
     requires two { seats.old.two.counter ≡ second.now }
@@ -267,7 +267,8 @@ fn split_both(first: &Eventcount, second: &Eventcount, seats: &mut Pair) -> Opti
     Some(Pair { one, two })
 }
 
-// What the waits for 1, 2 and 3 answer while a fourth thread advances three times, and whether it could.
+// Returns the results of waits for 1, 2 and 3 while a fourth thread advances three times, and
+// whether it could advance.
 fn wait_by_three<R: Threads + Wait + Clock + Sync>(
     rt: &R,
     count: &Eventcount,
@@ -301,10 +302,11 @@ fn three_waiters_are_woken_at_their_goals(rt: HostRuntime) -> Result<(), Fail> {
     Ok(())
 }
 
-/// How often a bounded wait is tried, since one alone could begin after the other thread has advanced.
+/// How often a bounded wait is tried. A single wait could begin after the other thread has
+/// advanced.
 const TRIES: u64 = 100;
 
-// Advances ten times whenever it is asked to, waking nobody.
+// Advances ten times whenever that is requested, and wakes no thread.
 fn advance_when_asked(
     rt: &impl Wait,
     asked: &Eventcount,
@@ -335,7 +337,8 @@ fn advance_ten_times(count: &Eventcount, seat: &mut Seat) -> bool
     true
 }
 
-// Asks, and then waits in turns until the count has reached the goal.
+// Requests the advances, and then waits for the goal for a bounded number of looks. Returns whether
+// the count reached it.
 fn ask_and_see(
     rt: &impl Wait,
     asked: &Eventcount,
@@ -354,7 +357,8 @@ fn ask_and_see(
     count.await_turns(seat, goal, 10_000_000) == Awaited::Reached(goal)
 }
 
-// Asks over and over, and tells how often the wait that followed saw the tenth advance.
+// Requests the advances repeatedly, and returns how often the wait that followed saw the tenth
+// advance.
 fn see_ten_when_asking(
     rt: &impl Wait,
     asked: &Eventcount,
@@ -373,7 +377,7 @@ fn see_ten_when_asking(
     seen
 }
 
-// One thread asks and the other advances.
+// One thread requests the advances, and the other makes them.
 fn ask_and_advance<R: Threads + Wait + Sync>(
     rt: &R,
     asked: &Eventcount,
@@ -400,11 +404,11 @@ fn turns_see_what_another_thread_advances(rt: HostRuntime) -> Result<(), Fail> {
     Ok(())
 }
 
-/// The rounds of a ping-pong.
+/// The number of rounds of a ping-pong.
 const ROUNDS: u64 = 2000;
 
-// Plays all rounds: waits for the one count, and advances the other. In every hundredth round it pauses before, so that
-// the other side has gone to sleep.
+// Plays all rounds: waits for one count, and advances the other. In every hundredth round it pauses
+// before, so that the other side has gone to sleep.
 fn play<R: Wait + Clock>(rt: &R, hear: &Eventcount, say: &Eventcount, mut seats: Pair) -> bool
     requires hearing { seats.one.counter ≡ hear.now }
     requires saying { seats.two.counter ≡ say.now }
@@ -426,7 +430,7 @@ fn pause_at(rt: &impl Clock, round: u64) {
     }
 }
 
-// Both sides.
+// Plays both sides.
 fn play_both<R: Threads + Wait + Clock + Sync>(
     rt: &R,
     ping: &Eventcount,
@@ -445,7 +449,7 @@ fn play_both<R: Threads + Wait + Clock + Sync>(
     ))
 }
 
-// Each side sleeps and is woken over and over.
+// Each side sleeps and is woken repeatedly.
 #[test]
 fn two_threads_wake_each_other(rt: HostRuntime) -> Result<(), Fail> {
     let (ping, one) = Eventcount::open(rt.alloc(), 1)?;

@@ -11,23 +11,23 @@ use std::time::{Clock, CpuClock, Duration};
 use std::{hint, thread};
 use sysv_gate::{Awaited, Gate, Object, Seat};
 
-/// What each of the threads does so many times.
+/// How often each thread repeats its task.
 const TIMES: u64 = 10_000;
 
-/// So many rounds the two counts go there and back.
+/// The number of rounds in which the two counts rise in turn.
 const ROUNDS: u64 = 500;
 
-/// A watcher looks so many times, every 10 milliseconds, before it takes a standstill for a lost wake.
+/// How often a watcher looks, every 10 milliseconds, before it takes a standstill for a lost wake.
 const PATIENCE: u64 = 300;
 
-/// The most bounded waits in a row.
+/// The maximum number of bounded waits in a row.
 const NAPS: u64 = 100;
 
-/// What a thread does with its seat.
+/// The task of a thread.
 #[derive(Clone, Copy)]
 enum Role {
     Idle,
-    /// Adds 3 over and over.
+    /// Adds 3 repeatedly.
     Adds,
     /// Raises the first count, and waits for the second, in each round.
     Says,
@@ -37,17 +37,17 @@ enum Role {
     Watches,
     /// Waits for a count that no call raises.
     WaitsInVain,
-    /// Draws the last ticket, once another sleeps.
+    /// Draws the last ticket, after another thread sleeps.
     WearsOut,
     /// Waits for the first count by bounded waits.
     NapsForArrived,
     /// Waits for the second count by bounded waits.
     NapsForFreed,
-    /// Raises both counts, once others sleep.
+    /// Raises both counts, after other threads sleep.
     RaisesBoth,
 }
 
-/// A thread, and the number that it was told at last.
+/// A thread, and the last number that it was told.
 #[derive(Drop)]
 struct Member<'b> {
     gate: &'b Gate<Sum>,
@@ -58,7 +58,7 @@ struct Member<'b> {
 }
 
 impl<'b> Member<'b> {
-    /// A thread with a seat that is split off.
+    /// Creates a thread with a seat that is split off.
     fn new(gate: &'b Gate<Sum>, seat: &mut Seat<Sum>, role: Role) -> Member<'b>
         requires { seat.old.gate ≡ gate.now }
         ensures { seat.new.gate ≡ gate.now }
@@ -91,7 +91,7 @@ fn act_all<R: Threads + Wait + Clock + Sync>(rt: &R, members: &mut [Member]) {
     for_each_mut(rt, members, 4, &|_, member| member.act(rt));
 }
 
-/// What four threads were told.
+/// Returns what four threads were told.
 fn told_to_four<R: Threads + Wait + Clock + Sync>(
     rt: &R,
     gate: &Gate<Sum>,
@@ -112,7 +112,7 @@ fn told_to_four<R: Threads + Wait + Clock + Sync>(
     members.map(|member| member.told)
 }
 
-// The sum before the last call.
+// Returns the sum before the last call.
 fn add_often(rt: &impl Wait, gate: &Gate<Sum>, seat: &mut Seat<Sum>) -> Option<u64>
     requires { seat.old.gate ≡ gate.now }
     ensures { seat.new.gate ≡ gate.now }
@@ -139,10 +139,10 @@ fn four_threads_take_all_their_turns(rt: HostRuntime) -> Result<(), Fail> {
     Ok(())
 }
 
-/// A slow turn pauses the processor so often, which takes some tenths of a second or more.
+/// How often a slow turn pauses the processor, which takes some tenths of a second or more.
 const PAUSES: u32 = 1 << 26;
 
-/// An object whose turns are slow where a call says 1.
+/// An object whose turn is slow if a call passes 1.
 #[derive(Drop)]
 struct Slow {
     slow: u64,
@@ -179,7 +179,7 @@ fn call_slowly(rt: &impl Wait, gate: &Gate<Slow>, mut seat: Seat<Slow>) -> bool
     gate.call(rt, &mut seat, 1).is_ok()
 }
 
-// Calls while the other turn lasts, and answers the processor time of the waiting thread.
+// Calls while the other turn lasts, and returns the processor time of the waiting thread.
 fn call_after<R: Wait + Clock + CpuClock>(
     rt: &R,
     gate: &Gate<Slow>,
@@ -223,14 +223,14 @@ fn a_waiter_sleeps(rt: HostRuntime) -> Result<(), Fail> {
     Ok(())
 }
 
-// Passes some time, in each round another.
+// Spends some time, in each round a different one.
 fn dither(round: u64) {
     for _ in 0..round.wrapping_mul(977) % 4096 {
         hint::spin_loop();
     }
 }
 
-// The second count after the last round.
+// Returns the second count after the last round.
 fn say_often(rt: &impl Wait, gate: &Gate<Sum>, seat: &mut Seat<Sum>) -> Option<u64>
     requires { seat.old.gate ≡ gate.now }
     ensures { seat.new.gate ≡ gate.now }
@@ -243,7 +243,7 @@ fn say_often(rt: &impl Wait, gate: &Gate<Sum>, seat: &mut Seat<Sum>) -> Option<u
     Some(gate.freed(seat))
 }
 
-// The first count after the last round.
+// Returns the first count after the last round.
 fn answer_often(rt: &impl Wait, gate: &Gate<Sum>, seat: &mut Seat<Sum>) -> Option<u64>
     requires { seat.old.gate ≡ gate.now }
     ensures { seat.new.gate ≡ gate.now }
@@ -256,8 +256,8 @@ fn answer_often(rt: &impl Wait, gate: &Gate<Sum>, seat: &mut Seat<Sum>) -> Optio
     Some(gate.arrived(seat))
 }
 
-// The round in which the counts stood still for seconds, if they did. There it wakes those who sleep, so that the rounds go
-// on.
+// Returns the round in which the counts stood still for seconds, if they did. In that case it wakes
+// the sleeping threads, so that the rounds continue.
 fn watch<R: Wait + Clock>(rt: &R, gate: &Gate<Sum>, seat: &mut Seat<Sum>) -> Option<u64>
     requires { seat.old.gate ≡ gate.now }
     ensures { seat.new.gate ≡ gate.now }
@@ -285,7 +285,7 @@ fn watch<R: Wait + Clock>(rt: &R, gate: &Gate<Sum>, seat: &mut Seat<Sum>) -> Opt
     stood
 }
 
-// A wake that is lost leaves both asleep, and the watcher tells in which round.
+// A lost wake leaves both threads asleep, and the watcher reports the round.
 #[test]
 fn no_wake_is_lost(rt: HostRuntime) -> Result<(), Fail> {
     let (gate, mut seat) = opened(&rt, 0).ok_or("no memory")?;
@@ -296,7 +296,7 @@ fn no_wake_is_lost(rt: HostRuntime) -> Result<(), Fail> {
     Ok(())
 }
 
-// The count that it reached, or none if the gate was worn out first.
+// Returns the count that it reached, or none if the gate was worn out first.
 fn wait_in_vain(rt: &impl Wait, gate: &Gate<Sum>, seat: &mut Seat<Sum>) -> Option<u64>
     requires { seat.old.gate ≡ gate.now }
     ensures { seat.new.gate ≡ gate.now }
@@ -307,7 +307,7 @@ fn wait_in_vain(rt: &impl Wait, gate: &Gate<Sum>, seat: &mut Seat<Sum>) -> Optio
     }
 }
 
-// The sum before its turn.
+// Returns the sum before its turn.
 fn wear_out<R: Wait + Clock>(rt: &R, gate: &Gate<Sum>, seat: &mut Seat<Sum>) -> Option<u64>
     requires { seat.old.gate ≡ gate.now }
     ensures { seat.new.gate ≡ gate.now }
@@ -326,7 +326,7 @@ fn a_sleeper_is_told_that_the_gate_is_worn(rt: HostRuntime) -> Result<(), Fail> 
     Ok(())
 }
 
-// The first count, if it was raised.
+// Returns the first count, if it was raised.
 fn nap_for_arrived(rt: &impl Wait, gate: &Gate<Sum>, seat: &mut Seat<Sum>) -> Option<u64>
     requires { seat.old.gate ≡ gate.now }
     ensures { seat.new.gate ≡ gate.now }
@@ -339,7 +339,7 @@ fn nap_for_arrived(rt: &impl Wait, gate: &Gate<Sum>, seat: &mut Seat<Sum>) -> Op
     None
 }
 
-// The second count, if it was raised.
+// Returns the second count, if it was raised.
 fn nap_for_freed(rt: &impl Wait, gate: &Gate<Sum>, seat: &mut Seat<Sum>) -> Option<u64>
     requires { seat.old.gate ≡ gate.now }
     ensures { seat.new.gate ≡ gate.now }
@@ -352,7 +352,7 @@ fn nap_for_freed(rt: &impl Wait, gate: &Gate<Sum>, seat: &mut Seat<Sum>) -> Opti
     None
 }
 
-// The sum before its second turn.
+// Returns the sum before its second turn.
 fn raise_both<R: Wait + Clock>(rt: &R, gate: &Gate<Sum>, seat: &mut Seat<Sum>) -> Option<u64>
     requires { seat.old.gate ≡ gate.now }
     ensures { seat.new.gate ≡ gate.now }

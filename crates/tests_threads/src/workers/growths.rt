@@ -1,10 +1,11 @@
-//! A run of workers, where a growth of it may be refused: then the states come back, and the source was not asked.
+//! A run of workers, with a growth of it refused: the states are then handed back, and the source
+//! was not called.
 ghost use Rattle.std.specs.Prelude.{◌≡◌};
 
 use super::*;
 use tests_kit::mark;
 
-/// Counts its items.
+/// A job that counts its items.
 #[derive(Drop)]
 struct Counting;
 

@@ -1,7 +1,7 @@
 //! Each item is run once.
 use super::*;
 
-/// So many items are run.
+/// The number of items.
 const ITEMS: u64 = 1_000;
 
 /// How often each item was run with a state.
@@ -10,7 +10,7 @@ struct Marks {
     marks: [u8; 1_000],
 }
 
-/// Marks each item.
+/// A job that marks each item.
 #[derive(Drop)]
 struct Marking;
 
@@ -30,7 +30,7 @@ fn unmarked() -> Marks {
     Marks { marks: [0; 1_000] }
 }
 
-/// Four states without a mark. Memory is refused once at most.
+/// Returns four states without a mark. Tolerates one refusal of memory.
 fn four(rt: &impl Abort, alloc: Global) -> Vec<Marks> {
     match Vec::from_array(alloc, [unmarked(), unmarked(), unmarked(), unmarked()]) {
         Ok(states) => states,

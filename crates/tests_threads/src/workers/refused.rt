@@ -1,9 +1,9 @@
-//! Numbers of states at their ends, and a source with nothing.
+//! The lowest and highest numbers of states, and a source with no item.
 ghost use Rattle.std.specs.Prelude.{◌≡◌, ◌≤◌};
 
 use super::*;
 
-/// Counts its items.
+/// A job that counts its items.
 #[derive(Drop)]
 struct Counting;
 
@@ -17,7 +17,7 @@ impl Job<Ticket, u64> for Counting {
     }
 }
 
-/// So many states are refused.
+/// Asserts that this number of states is refused.
 fn are_refused<R: Threads + Wait + Abort + Sync>(
     rt: &R,
     alloc: Global,
@@ -39,7 +39,7 @@ fn are_refused<R: Threads + Wait + Abort + Sync>(
     }
 }
 
-/// So many states run over all items.
+/// Asserts that this number of states runs all items.
 fn are_run<R: Threads + Wait + Abort + Sync>(rt: &R, alloc: Global, is_crowd: bool, count: usize)
     requires { count ≤ 257 }
 {

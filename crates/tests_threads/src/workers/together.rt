@@ -1,4 +1,4 @@
-//! Two workers run at one time.
+//! Two workers run at once.
 ghost use Rattle.std.specs.Prelude.{◌≡◌};
 
 use super::*;
@@ -6,10 +6,10 @@ use std::sync::atomic::AtomicBool;
 use std::sync::atomic::Ordering::SeqCst;
 use std::thread;
 
-/// An item is held for at most so many looks.
+/// The maximum number of looks for which an item is held.
 const LOOKS: u32 = 10_000_000;
 
-/// Item 0 is held until item 1 was run.
+/// A job that holds item 0 until item 1 was run.
 #[derive(Drop)]
 struct Held {
     second: AtomicBool,

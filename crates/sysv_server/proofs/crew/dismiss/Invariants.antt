@@ -6,7 +6,8 @@ use Rattle.sysv_service.specs.Ran.{Pass}
 use Rattle.sysv_server.proofs.Adding.{Adding}
 use Rattle.sysv_server.proofs.crew.dismiss.Given as goal
 
--- the sums of those that were dismissed, and of those that are left, are the sums of all, and so with their passes
+-- The sums of the dismissed workers and those of the remaining ones are the sums of all. The passes
+-- of the dismissed workers were joined in.
 abbrev pub invariant-loop-worker : goal.invariant-loop-worker
 invariant-loop-worker g l = record {
   pass : AreOf l.service l.pass.seats;

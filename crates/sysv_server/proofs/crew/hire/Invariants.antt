@@ -5,7 +5,7 @@ use Rattle.sysv_service.specs.Hiring.{Gives}
 use Rattle.sysv_server.specs.Serving.{IsNew}
 use Rattle.sysv_server.proofs.crew.hire.Given as goal
 
--- one worker for each pass that was split off
+-- There is one worker for each pass that was split off.
 abbrev pub invariant-loop : goal.invariant-loop
 invariant-loop g l = record {
   pass : AreOf l.service l.pass.seats;

@@ -1,4 +1,5 @@
--- The gates that were opened are those that were served, stopped and closed. What was taken was written or lost.
+-- The gates that were opened are those that were served, stopped and closed. The messages that were
+-- taken were written or lost.
 use Rattle.std.proofs.Common.{subst, refl}
 use Rattle.sysv_service.specs.Hiring.{Hires}
 use Rattle.sysv_service.specs.Ran.{Pass}

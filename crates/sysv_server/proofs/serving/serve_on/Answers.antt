@@ -1,4 +1,4 @@
--- Not more is accepted than may be.
+-- No more connections are accepted than the maximum.
 use Rattle.std.proofs.Common.{arith}
 use Rattle.std.specs.declared.net.unix.UnixStream.{UnixStream}
 use Rattle.sysv_server.specs.declared.accepting.Accepting.{Accepting}

@@ -1,4 +1,4 @@
--- The workers run, and what they did is added up.
+-- The workers run, and their sums are added.
 use denote.Param.Send.{arg_send, param_send, param_sync, shr_sync}
 use Rattle.std.proofs.Common.{◌≡◌, ℕ, ◌<◌, length, arith}
 use Rattle.std.proofs.alloc.Global.TheSendSync as heaps

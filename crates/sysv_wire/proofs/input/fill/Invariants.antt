@@ -1,4 +1,4 @@
--- What came so far is at the start, and less is left each time.
+-- The bytes read so far are at the start, and fewer remain each time.
 use Rattle.std.proofs.Common.{◌≡◌, ◌-◌, ◌≤◌, length, take}
 use Rattle.std.specs.Io.KnownBytes.{Consumes}
 use Rattle.sysv_model.specs.Watched.{failures_of, stream_name, stream_of}

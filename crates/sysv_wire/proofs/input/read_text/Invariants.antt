@@ -1,4 +1,4 @@
--- What came so far is the text, and less is left each time.
+-- The bytes read so far are the body, and fewer remain each time.
 use Rattle.std.proofs.Common.{◌≡◌, ◌+◌, length}
 use Rattle.std.specs.Io.KnownBytes.{Consumes}
 use Rattle.sysv_model.specs.Watched.{failures_of, stream_name, stream_of}

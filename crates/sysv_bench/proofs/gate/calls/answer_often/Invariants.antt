@@ -1,6 +1,6 @@
 use Rattle.std.proofs.Common.{◌≡◌}
 use Rattle.sysv_bench.proofs.gate.calls.answer_often.Given as goal
 
--- it is a seat of the gate
+-- The seat is one of the gate.
 abbrev pub invariant-loop-round : goal.invariant-loop-round
 invariant-loop-round g l = l.seat.gate ≡ l.gate

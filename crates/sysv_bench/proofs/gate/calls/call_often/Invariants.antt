@@ -1,6 +1,6 @@
 use Rattle.std.proofs.Common.{◌≡◌}
 use Rattle.sysv_bench.proofs.gate.calls.call_often.Given as goal
 
--- it is a seat of the gate
+-- The seat is one of the gate.
 abbrev pub invariant-loop : goal.invariant-loop
 invariant-loop g l = l.seat.gate ≡ l.gate

@@ -16,7 +16,7 @@ use Rattle.sysv_bench.proofs.gate.places.call_all.Goals as goal
 pub for_each_mut-requires-send-T : goal.for_each_mut-requires-send-T
 for_each_mut-requires-send-T g c κs within = search (crossing, bank_seat_send, sum_send) depth 30
 
--- threads may share each part that the closure captures
+-- Threads may share each part that the closure captures.
 pub for_each_mut-requires-sync-F : goal.for_each_mut-requires-sync-F
 for_each_mut-requires-sync-F g c κs within =
     let shared : IsSync (bank.the_row sum.the_row raise.the_row u64-field.row object.ghosts) = bank_sync sum.the_row raise.the_row u64-field.row object.ghosts sum_send sum_sync in

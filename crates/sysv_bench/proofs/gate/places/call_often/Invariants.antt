@@ -2,6 +2,6 @@ use Rattle.std.proofs.Common.{◌≡◌}
 use Rattle.sysv_bank.specs.Banks.{gates_of}
 use Rattle.sysv_bench.proofs.gate.places.call_often.Given as goal
 
--- it is a seat of the bank
+-- The seat is one of the bank.
 abbrev pub invariant-loop : goal.invariant-loop
 invariant-loop g l = gates_of l.seat.seats ≡ l.bank

@@ -12,7 +12,7 @@ use Rattle.sysv_bench.proofs.service.crew.act_all.Goals as goal
 pub for_each_mut-requires-send-T : goal.for_each_mut-requires-send-T
 for_each_mut-requires-send-T g c κs within = search (crossing, pass_send, part_send) depth 30
 
--- threads may share each part that the closure captures
+-- Threads may share each part that the closure captures.
 pub for_each_mut-requires-sync-F : goal.for_each_mut-requires-sync-F
 for_each_mut-requires-sync-F g c κs within =
     let t = captured_sync (ShrRef (lifetime 6) κs.1.1.1.1.1.1.0 (param 0 g.row.R) ∷ ShrRef (lifetime 7) κs.1.1.1.1.1.1.1.0 service.the_row ∷ [])

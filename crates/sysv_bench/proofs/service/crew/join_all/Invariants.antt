@@ -2,7 +2,7 @@ use Rattle.std.specs.List.{All}
 use Rattle.sysv_gated.specs.Seats.{AreOf}
 use Rattle.sysv_bench.proofs.service.crew.join_all.Given as goal
 
--- the last passes were joined
+-- The last passes were joined.
 abbrev pub invariant-loop-member : goal.invariant-loop-member
 invariant-loop-member l = AreOf l.service l.pass.seats × All (λ m. AreOf l.service m.pass.seats) l.members.items
 

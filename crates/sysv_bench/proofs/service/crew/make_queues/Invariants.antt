@@ -1,6 +1,6 @@
 use Rattle.sysv_gated.specs.Seats.{AreOf}
 use Rattle.sysv_bench.proofs.service.crew.make_queues.Given as goal
 
--- it is a pass of the service
+-- The pass is one of the service.
 abbrev pub invariant-loop-key : goal.invariant-loop-key
 invariant-loop-key g l = AreOf l.service l.pass.seats

@@ -3,7 +3,7 @@ use Rattle.std.specs.List.{All}
 use Rattle.sysv_gated.specs.Seats.{AreOf}
 use Rattle.sysv_bench.proofs.service.crew.split_all.Given as goal
 
--- the last parts have passes of the service
+-- The last parts have passes of the service.
 abbrev pub invariant-loop-part : goal.invariant-loop-part
 invariant-loop-part l = record {
   pass : AreOf l.service l.pass.seats;

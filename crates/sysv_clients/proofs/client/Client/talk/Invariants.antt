@@ -1,4 +1,4 @@
--- The exchanges so far, and what they gave to show.
+-- The exchanges so far, and what was collected of them.
 use Rattle.std.proofs.Common.{◌≡◌, ◌-◌, ◌≤◌, length}
 use Rattle.sysv_clients.specs.declared.command.TheConstants.{MAX_REQUESTS}
 use Rattle.sysv_clients.specs.Asks.{text_of}

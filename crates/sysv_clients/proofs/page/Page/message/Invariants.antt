@@ -1,4 +1,4 @@
--- The blocks so far are put.
+-- The blocks so far are on the page.
 use Rattle.std.proofs.Common.{◌≡◌, ◌++◌, ◌*◌, take}
 use Rattle.sysv_model.specs.declared.limits.TheConstants.{BLOCK_BYTES}
 use Rattle.sysv_clients.proofs.page.Page.message.Given as goal

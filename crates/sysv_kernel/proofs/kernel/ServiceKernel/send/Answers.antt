@@ -1,4 +1,4 @@
--- A call that was left is answered as with IPC_NOWAIT.
+-- A call that was left has the reply of IPC_NOWAIT.
 use Rattle.std.proofs.Common.{inr}
 use Rattle.std.proofs.lemmas.Int.{to_z-of_z}
 use Rattle.sysv_kernel.proofs.kernel.ServiceKernel.send.Goals as goal

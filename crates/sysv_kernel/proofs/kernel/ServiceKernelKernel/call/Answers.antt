@@ -1,4 +1,4 @@
--- Each request is answered by the call of its kind.
+-- Each request is carried out by the call of its kind.
 use Rattle.std.proofs.Common.{rules, FitsSigned, w32, w64}
 use Rattle.std.proofs.lemmas.Int.{to_z-of_z}
 use Rattle.sysv_kernel.proofs.kernel.ServiceKernelKernel.call.Goals as goal

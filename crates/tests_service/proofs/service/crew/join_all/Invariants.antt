@@ -3,7 +3,7 @@ use Rattle.std.specs.List.{All}
 use Rattle.sysv_gated.specs.Seats.{AreOf}
 use Rattle.tests_service.proofs.service.crew.join_all.Given as goal
 
--- the last passes were joined
+-- The last passes were joined.
 abbrev pub invariant-loop-member : goal.invariant-loop-member
 invariant-loop-member g l = record {
   pass : AreOf l.service l.pass.seats;

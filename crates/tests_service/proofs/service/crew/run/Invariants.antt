@@ -1,6 +1,6 @@
 use Rattle.sysv_gated.specs.Seats.{AreOf}
 use Rattle.tests_service.proofs.service.crew.run.Given as goal
 
--- it is a pass of the service
+-- The pass is one of the service.
 abbrev pub invariant-loop-call : goal.invariant-loop-call
 invariant-loop-call g l = AreOf l.service l.pass.seats

@@ -1,6 +1,6 @@
 use Rattle.sysv_gated.specs.Seats.{AreOf}
 use Rattle.tests_service.proofs.service.one_pass.use_up.Given as goal
 
--- it is a pass of the service
+-- The pass is one of the service.
 abbrev pub invariant-loop-id : goal.invariant-loop-id
 invariant-loop-id g l = AreOf l.service l.pass.seats

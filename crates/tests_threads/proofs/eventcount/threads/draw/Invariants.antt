@@ -1,7 +1,7 @@
 use Rattle.std.proofs.Common.{◌≡◌, ◌++◌}
 use Rattle.tests_threads.proofs.eventcount.threads.draw.Given as goal
 
--- the seat has drawn what the list has
+-- The seat has drawn the tickets in the list.
 abbrev pub invariant-loop : goal.invariant-loop
 invariant-loop l = record {
   counter : l.seat.counter ≡ l.turns;

@@ -1,6 +1,6 @@
 use Rattle.std.proofs.Common.{◌≡◌}
 use Rattle.tests_threads.proofs.gate.threads.nap_for_arrived.Given as goal
 
--- it is a seat of the gate
+-- The seat is one of the gate.
 abbrev pub invariant-loop : goal.invariant-loop
 invariant-loop g l = l.seat.gate ≡ l.gate

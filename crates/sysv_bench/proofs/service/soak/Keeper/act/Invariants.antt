@@ -1,6 +1,6 @@
 use Rattle.sysv_gated.specs.Seats.{AreOf}
 use Rattle.sysv_bench.proofs.service.soak.Keeper.act.Given as goal
 
--- it is a pass of the service
+-- The pass is one of the service.
 abbrev pub invariant-loop : goal.invariant-loop
 invariant-loop g l = AreOf l.service l.pass.seats

@@ -1,6 +1,6 @@
 use Rattle.sysv_gated.specs.Seats.{AreOf}
 use Rattle.tests_service.proofs.service.crowd.Sender.send_all.Given as goal
 
--- it is a pass of the service
+-- The pass is one of the service.
 abbrev pub invariant-loop-number : goal.invariant-loop-number
 invariant-loop-number g l = AreOf l.service l.pass.seats
