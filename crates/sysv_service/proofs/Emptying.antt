@@ -36,11 +36,12 @@ use Rattle.sysv_gated.specs.Seats.{SlotSeat, PoolSeat, entries, slot_entry, pool
 use Rattle.sysv_gated.proofs.Closing.{as_long}
 use Rattle.sysv_gated.proofs.Histories.{pool_sized}
 use Rattle.sysv_service.specs.Closing.{is_held, all_held, takes_back, with_chain, with_slot, with_slots, free_in}
-use Rattle.sysv_service.specs.PoolWhole.{EveryPoolIsWhole, EveryHiringLeavesThePoolWhole}
+use Rattle.sysv_service.specs.PoolWhole.{NoHiringLeavesAGateHeld, EveryPoolIsWhole, EveryHiringLeavesThePoolWhole}
 use Rattle.sysv_service.specs.Hiring.{all_of}
 use Rattle.sysv_service.proofs.Hiring.{hired}
 use Rattle.sysv_service.proofs.Living.{crew_of, opened_so, every_service}
 use Rattle.sysv_service.proofs.NoneKept.{none_kept}
+use Rattle.sysv_service.proofs.Whole.{last_is_whole}
 
 -- ---- chains are returned
 
@@ -161,7 +162,13 @@ vacant_seat (s ∷ ss) zero seat vacant at =
 vacant_seat (s ∷ ss) (suc k) seat vacant at =
     vacant_seat ss k seat (All-tail (SlotStandsFor []) s.gate.opening (map (λ (g : Gateway Slot). g.opening) (gates_of ss)) vacant) at
 
--- ---- the law
+-- ---- the laws
+
+pub none_held_at_all : NoHiringLeavesAGateHeld
+none_held_at_all gates theirs left home last each calls closed hires works more end =
+    let back = end.all.home (last_is_whole gates theirs left home last each calls hires works more) in
+    let count = end.held in
+    omega (arith, count, all_there end.parts.slots.items back.0, not_held end.parts.registry back.1, not_held end.parts.pool back.2)
 
 pub every_pool : SeenHistories → EveryServiceIsARun → EveryLastPassIsWhole → EveryPoolIsWhole
 every_pool histories law home generation blocks first gates last calls closed lives fits end rest =
