@@ -1,17 +1,18 @@
 -- What is known of a bank that was closed.
 use Rattle.std.proofs.Common.{◌≡◌, ℕ, zero, suc, ◌<◌, ◌≤◌, ⊎_elim, Bool, false, set, List, [], ◌∷◌, ◌++◌, length, get_or, refl, sym, ap, ◌∙◌, subst, arith}
+use Rattle.std.specs.List.{AllByRecursion}
 use mathlib.Core.Option.{some, some-ne-none}
 use lib.ListN.{get_elem?}
 use Rattle.atomic_table.specs.Table.{State, Final, Seen}
 use Rattle.sysv_lists.specs.Prefix.{IsPrefixOf}
-use Rattle.sysv_lists.proofs.Places.{at_snoc_place, there}
+use Rattle.sysv_lists.proofs.Places.{at_below, at_snoc_place, there}
 use Rattle.sysv_gate.specs.declared.view.View.{View}
 use Rattle.sysv_gate.specs.declared.view.Sight.{Sight}
 use Rattle.sysv_gate.specs.declared.view.Placed.{Placed}
 use Rattle.sysv_gate.specs.declared.closing.Closing.{Closing}
 use Rattle.sysv_gate.specs.Rule.{Spot}
 use Rattle.sysv_gate.specs.Gates.{Holding}
-use Rattle.sysv_gate.specs.Closings.{Closes}
+use Rattle.sysv_gate.specs.Closings.{IsBack, Closes}
 use Rattle.sysv_gate.specs.Ending.{IsReadAt}
 use Rattle.sysv_gate.specs.History.{made_at}
 use Rattle.sysv_gate.specs.Orders.{turns_at, AreBelow, NoneMadeUnder, AllMadeUnder}
@@ -35,6 +36,11 @@ each2_of fact [] [] same each = tt
 each2_of fact [] (y ∷ ys) same each = absurd (omega arith)
 each2_of fact (x ∷ xs) [] same each = absurd (omega arith)
 each2_of fact (x ∷ xs) (y ∷ ys) same each = (each 0 x y refl refl, each2_of fact xs ys (omega arith) (λ k a b at there. each (suc k) a b at there))
+
+-- A fact at each place of a list.
+pub all_at : {A : Type 0} (fact : A → Type 0) (xs : List A) → ((k : ℕ) (x : A) → get_elem? xs k ≡ some x → fact x) → AllByRecursion fact xs
+all_at fact [] each = tt
+all_at fact (x ∷ xs) each = (each 0 x refl, all_at fact xs (λ k y at. each (suc k) y at))
 
 -- A slot that was taken is empty, wherever it is.
 pub emptied : (fs : List Bool) (i : ℕ) → get_or (set fs i false) i false ≡ false
@@ -113,6 +119,17 @@ module _ {O C R : Type 0} (moves : O → C → R → O → Type 0) (counted : O 
       pub closes_all : Each2 (Closes moves) (pass_of u).seats closings
       closes_all = each2_of (Closes moves) (pass_of u).seats closings (as_many ∙ sym count) (λ k h c at there. (closes_at k h c at (read k c there)).0)
 
+      -- If no other pass is left, each place returns its object.
+      all_back : IsWhole (pass_of u).shares → AllByRecursion IsBack closings
+      all_back whole =
+          all_at IsBack closings
+          (λ k c at.
+          let less = at_below closings k c at in
+          let o = there openings k (omega arith) in
+          let mine = rest.each k o.0 (subst (λ (l : List O). get_elem? l k ≡ some o.0) (sym same_os) o.1) in
+          end.back_at moves counted openings first id v words slots final k o.0 u.token.table_id c o.1 (subst (λ (x : Sight O C R). IsWhole x.shares) is_view whole)
+          (ap (λ (x : Sight O C R). (view_at k x).tickets) (sym is_view) ∙ mine.0.no_ticket) (read k c at))
+
       pub closes_order : 1 ≤ length openings → ClosesInOrder moves (pass_of u) closings
       closes_order some_place = record {
         order = Order;
@@ -121,7 +138,7 @@ module _ {O C R : Type 0} (moves : O → C → R → O → Type 0) (counted : O 
         apart =
             let o = there openings 0 (omega arith) in
             numbers_once moves o.0 first (turns_at 0 Order) (get_or (state_at 0 St).words 32 0) id (state_at 0 St).homes (state_at 0 St).views (view_at 0 u.token.me.0) (final.1.0.1.each 0 o.0 o.1).3 (my_view 0);
-        home = λ whole. (ends_there (pass_of u).numbers u.token.me.0.seen Order begins strangers_end (all_end whole), all_end whole);
+        home = λ whole. (ends_there (pass_of u).numbers u.token.me.0.seen Order begins strangers_end (all_end whole), all_end whole, all_back whole);
         below = subst (λ (n : ℕ). AreBelow n Order) (sym as_many) final.1.0.1.below;
         each = λ k h c at there. closes_at k h c at (read k c there);
       }

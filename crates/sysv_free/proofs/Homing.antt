@@ -354,10 +354,13 @@ all_sound (splits {one = one} {rest = rest} {made = made} kept new crew s) apart
 all_sound (joins {one = one} {two = two} {rest = rest} {made = made} after crew j) apart = join_sound one two after rest made j apart (all_sound crew)
 all_sound (turns_to {one = one} {made = made} before rest crew) apart = turn_sound one before rest made apart (all_sound crew)
 
+pub last_is_whole : (last : Member) (made : List Called) → IsCrew (last ∷ []) made → AreWhole last.shares
+last_is_whole last made crew = subst AreWhole (append-nil last.shares) (all_have_the_whole crew)
+
 pub all_home : (last : Member) (made : List Called) (order : List Numbered) → IsCrew (last ∷ []) made → Closes last order → AreAll order made
 all_home last made order crew c =
     let sound : IsSound (last ∷ []) made = all_sound crew (subst NoneTwice (sym (append-nil last.numbers)) c.apart) in
-    let own = c.all (subst AreWhole (append-nil last.shares) (all_have_the_whole crew)) in
+    let own = c.all (last_is_whole last made crew) in
     record {
       played = sound.played;
       whole = λ x. elim (none_or_some (times x last.numbers)) [

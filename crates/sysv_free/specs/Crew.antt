@@ -5,7 +5,7 @@ use Rattle.std.specs.Prelude.{◌≡◌, ℕ, List, [], ◌∷◌, ◌++◌, All
 use Rattle.sysv_model.specs.History.{ReadRow, Reply}
 use Rattle.sysv_model.specs.Turn.{AtSlot}
 use Rattle.sysv_crew.specs.Turns.{Numbered, turns_of}
-use Rattle.sysv_crew.specs.Members.{Member, first_with, SeesMore, MakesTurn, Does, Splits, Joins, Closes}
+use Rattle.sysv_crew.specs.Members.{Member, AreWhole, first_with, SeesMore, MakesTurn, Does, Splits, Joins, Closes}
 use Rattle.sysv_objects.specs.LegalDeed.{AreLegal}
 use Rattle.sysv_free.specs.Order.{Called, IsPlayed, AreAll}
 use Rattle.sysv_free.specs.OrderIsRun.{IsRunWith}
@@ -50,3 +50,7 @@ pub record IsServed (generation blocks : ℕ) (order : List Numbered) (calls : L
 abbrev pub EveryServiceIsARun : Type 0
 EveryServiceIsARun = (generation blocks : ℕ) (last : Member) (calls : List Called) (order : List Numbered) →
     IsCrew (last ∷ []) calls → Closes last order → AreLegal generation blocks (turns_of order) → IsServed generation blocks order calls
+
+-- After all passes have come home to one, that one has the whole service.
+abbrev pub EveryLastPassIsWhole : Type 0
+EveryLastPassIsWhole = (last : Member) (calls : List Called) → IsCrew (last ∷ []) calls → AreWhole last.shares

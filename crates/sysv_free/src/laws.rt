@@ -1,7 +1,7 @@
 //! Laws of free runs.
 
 ghost use Rattle.sysv_free.specs.AtRest.{OrdersAtRest};
-ghost use Rattle.sysv_free.specs.Crew.{EveryServiceIsARun};
+ghost use Rattle.sysv_free.specs.Crew.{EveryLastPassIsWhole, EveryServiceIsARun};
 ghost use Rattle.sysv_free.specs.OnThreads.{EachForgetTakesItsRow, EveryThreadedRunObeys};
 ghost use Rattle.sysv_free.specs.Order.{NoCallReadsARow};
 ghost use Rattle.sysv_free.specs.OrderIsRun.{EveryOrderIsARun};
@@ -77,9 +77,10 @@ pub fn orders_at_rest()
 
 /// States that, after all passes of a service were joined into one, the order of all turns that its
 /// close finds is a run with all calls that its passes made, if each reply in it is legal and no
-/// call found a gate worn out.
+/// call found a gate worn out. The one pass that is left has the whole service.
 pub fn every_service_that_came_home_is_a_run()
-    ensures { EveryServiceIsARun }
+    ensures run { EveryServiceIsARun }
+    ensures whole { EveryLastPassIsWhole }
 {
     every_order_is_a_run();
     orders_at_rest();

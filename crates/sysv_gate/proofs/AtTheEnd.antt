@@ -1,5 +1,5 @@
 -- What is known of a table that was closed.
-use Rattle.std.proofs.Common.{◌≡◌, ◌≢◌, ℕ, zero, suc, ◌+◌, ◌-◌, ◌*◌, ◌<◌, ◌≤◌, true, List, [], ◌∷◌, length, get_or, refl, sym, ap, ◌∙◌, subst, arith, lt_of_not-le}
+use Rattle.std.proofs.Common.{◌≡◌, ◌≢◌, ℕ, zero, suc, ◌+◌, ◌-◌, ◌*◌, ◌^◌, ◌<◌, ◌≤◌, true, List, [], ◌∷◌, length, get_or, refl, sym, ap, ◌∙◌, subst, arith, lt_of_not-le}
 use Rattle.std.specs.Prelude.{Option, Some, None, IfSome, IfNone}
 use mathlib.Core.Logic.{dite}
 use native.Mathlib.Decide.{dec_le, ℕ_discrete}
@@ -19,8 +19,9 @@ use Rattle.sysv_gate.specs.History.{IsLegal, after_all, HasItsOwn}
 use Rattle.sysv_gate.specs.Rule.{Homes, Spot, put, IsKept, GatedBy}
 use Rattle.sysv_gate.specs.Gates.{Holding}
 use Rattle.sysv_gate.specs.Held.{holding}
-use Rattle.sysv_gate.specs.Closings.{held_object, ATurnIsDue, Closes}
+use Rattle.sysv_gate.specs.Closings.{held_object, IsBack, ATurnIsDue, Closes}
 use Rattle.sysv_gate.specs.Ending.{IsReadAt}
+use Rattle.sysv_gate.specs.Shares.{IsWhole}
 use Rattle.sysv_gate.specs.Orders.{turns_at}
 use Rattle.sysv_gate.specs.Halls.{block, view_at, state_at, InOrder}
 use Rattle.sysv_lists.proofs.Places.{at_below, one_there, there}
@@ -29,6 +30,7 @@ use Rattle.sysv_lists.proofs.Counting.{once_between-first}
 use Rattle.sysv_gate.proofs.Keeping.{no_ticket_no_turn, own_turns}
 use Rattle.sysv_gate.proofs.Blocks.{block_read}
 use Rattle.sysv_gate.proofs.Lifting.{read_there}
+use Rattle.sysv_gate.proofs.Sharing.{none_out}
 
 read_at : (xs : List ℕ) (i a : ℕ) → get_elem? xs i ≡ some a → get_or xs i 0 ≡ a
 read_at [] i a at = absurd (some-ne-none a (sym at))
@@ -50,6 +52,7 @@ module _ {O C R : Type 0} (moves : O → C → R → O → Type 0) (counted : O 
     pub longer : IsPrefixOf h.seen log
     pub own : HasItsOwn h.numbers h.own log
     pub count : served ≡ h.gate.first + length log
+    pub few : h.gate.first + length log ≤ 2 ^ 62
     pub whole : served ≡ next → held_object spot ≡ Some (after_all h.gate.opening log)
     pub due : served ≢ next → ATurnIsDue moves h.gate log
     pub alone : h.alone ≡ true → (log ≡ h.seen) × (served ≡ next)
@@ -58,18 +61,17 @@ module _ {O C R : Type 0} (moves : O → C → R → O → Type 0) (counted : O 
   the_only : (views : List (View O C R)) (i k : ℕ) (v u : View O C R) → length views ≡ 1 → get_elem? views i ≡ some v → get_elem? views k ≡ some u → u ≡ v
   the_only views i k v u one at there = let here = at_below views i v at in let beside = at_below views k u there in one_there views i k v u (omega arith) at there
 
-  -- A seat that is alone has seen all turns, and no ticket is held.
-  all_served : (o : O) (first : ℕ) (log : List (Turn O C R)) (drawn id : ℕ) (homes : Homes O C R) (views : List (View O C R)) (v : View O C R) → IsKept moves o first log drawn homes views → get_elem? views id ≡ some v
-      → length views ≡ 1 → v.tickets ≡ [] → drawn ≤ first + length log
-  all_served o first log drawn id homes views v kept at one empty =
+  -- If no view holds a ticket, all drawn tickets were served.
+  all_served : (o : O) (first : ℕ) (log : List (Turn O C R)) (drawn : ℕ) (homes : Homes O C R) (views : List (View O C R)) → IsKept moves o first log drawn homes views
+      → ((i : ℕ) (u : View O C R) → get_elem? views i ≡ some u → u.tickets ≡ []) → drawn ≤ first + length log
+  all_served o first log drawn homes views kept empty =
       let s' : ℕ = first + length log in
       dite (dec_le drawn s') (λ d. d)
       (λ nd.
       let less : s' < drawn = lt_of_not-le nd in
       let all = kept.tickets s' in
       let holder = some_part (λ (u : View O C R). times s' u.tickets) views (omega (arith, once_between-first s' drawn less)) in
-      let is = the_only views id holder.0 v holder.1 one at holder.2 in
-      let bare : times s' holder.1.tickets ≡ 0 = ap (λ (u : View O C R). times s' u.tickets) is ∙ ap (times s') empty in
+      let bare : times s' holder.1.tickets ≡ 0 = ap (times s') (empty holder.0 holder.1 holder.2) in
       let has = holder.3 in
       absurd (omega arith))
 
@@ -82,12 +84,14 @@ module _ {O C R : Type 0} (moves : O → C → R → O → Type 0) (counted : O 
       let drawn : ℕ = get_or s.words 32 0 in
       let count : served ≡ first + length log = sym same_served ∙ held.2 in
       let order = kept.order in
+      let limit = kept.limit in
       let own = own_turns moves opening first log drawn id s.homes s.views v kept at in
       record {
         legal = kept.legal;
         longer = subst (λ (l : List (Turn O C R)). IsPrefixOf l log) same.seen (kept.each id v at).seen;
         own = subst (λ (l : List ℕ). HasItsOwn h.numbers l log) same.own (subst (λ (l : List ℕ). HasItsOwn l v.own log) same.numbers own);
         count = count;
+        few = omega arith;
         whole = λ all.
             let home = kept.home (no_ticket_no_turn moves opening first log drawn s.homes s.views kept (omega arith)) in
             ap held_object (back (put (after_all opening log) home.0) home.1);
@@ -99,7 +103,7 @@ module _ {O C R : Type 0} (moves : O → C → R → O → Type 0) (counted : O 
             (drawn, s.homes, s.views, kept, holder);
         alone = λ mark.
             let one = kept.alone id v at (same.alone ∙ mark) in
-            let all = all_served opening first log drawn id s.homes s.views v kept at one.0 same.no_ticket in
+            let all = all_served opening first log drawn s.homes s.views kept (λ i u there. ap (λ (w : View O C R). w.tickets) (the_only s.views id i v u one.0 at there) ∙ same.no_ticket) in
             (sym one.1 ∙ same.seen, omega arith);
       }
 
@@ -113,6 +117,7 @@ module _ {O C R : Type 0} (moves : O → C → R → O → Type 0) (counted : O 
           longer = end.longer;
           own = end.own;
           turns = turns ∙ (omega arith);
+          few = end.few;
           object = subst (λ (x : Option O). IfSome x (λ o. (o ≡ after_all h.gate.opening log) × (c.rest ≡ None))) (sym is) (refl, rest);
           due = subst (λ (x : Option O). IfNone x (ATurnIsDue moves h.gate log)) (sym is) tt;
           alone = λ mark.
@@ -131,6 +136,7 @@ module _ {O C R : Type 0} (moves : O → C → R → O → Type 0) (counted : O 
           longer = end.longer;
           own = end.own;
           turns = turns ∙ (omega arith);
+          few = end.few;
           object = subst (λ (x : Option O). IfSome x (λ o. (o ≡ after_all h.gate.opening log) × (c.rest ≡ None))) (sym object) tt;
           due = subst (λ (x : Option O). IfNone x (ATurnIsDue moves h.gate log)) (sym object) (end.due more);
           alone = λ mark. absurd (more (end.alone mark).1);
@@ -164,18 +170,39 @@ module _ {O C R : Type 0} (moves : O → C → R → O → Type 0) (counted : O 
       let is = word_there place 16 served (omega arith) at in
       omega arith
 
+  -- What the place shows to a pass that has no ticket there.
+  ended_there : (place : ℕ) (o : O) (table : TableId) (c : Closing O) → get_elem? openings place ≡ some o → (view_at place v).tickets ≡ [] → (read : IsReadAt first words slots place c)
+      → Ended moves counted (turns_at place Order) (holding table first o (view_at place v)) read.served read.next read.spot
+  ended_there place o table c opens empty read =
+      let few = at_below openings place o opens in
+      let many : length St.homes ≡ length openings = final.1.0.1.homes in
+      ended_by moves counted (holding table first o (view_at place v)) id (view_at place v) (state_at place St) (turns_at place Order) read.served read.next read.spot (gated place o opens) (view_there place)
+      (record { numbers = refl; seen = refl; own = refl; alone = refl; no_ticket = empty })
+      (word_there place 16 read.served (omega arith) read.at_served) (word_there place 32 read.next (omega arith) read.at_next)
+      (λ x there. some-injective read.spot x (sym read.at_spot ∙ final.4 place x (read_there St.homes place none (some x) (omega arith) (some-injective _ _ there))))
+
   -- What one place returns to a pass that has no ticket there.
   pub closes_at : (place : ℕ) (o : O) (table : TableId) (c : Closing O) → get_elem? openings place ≡ some o → (view_at place v).tickets ≡ [] → IsReadAt first words slots place c
       → (closes : Closes moves (holding table first o (view_at place v)) c) × (closes.log ≡ turns_at place Order)
   closes_at place o table c opens empty read =
-      let few = at_below openings place o opens in
-      let many : length St.homes ≡ length openings = final.1.0.1.homes in
       let log : List (Turn O C R) = turns_at place Order in
       let h : Holding O C R = holding table first o (view_at place v) in
-      let end = ended_by moves counted h id (view_at place v) (state_at place St) log read.served read.next read.spot (gated place o opens) (view_there place)
-      (record { numbers = refl; seen = refl; own = refl; alone = refl; no_ticket = empty })
-      (word_there place 16 read.served (omega arith) read.at_served) (word_there place 32 read.next (omega arith) read.at_next)
-      (λ x there. some-injective read.spot x (sym read.at_spot ∙ final.4 place x (read_there St.homes place none (some x) (omega arith) (some-injective _ _ there)))) in
+      let end = ended_there place o table c opens empty read in
       dite (ℕ_discrete read.served read.next)
       (λ all. let w = read.whole all in closes_whole moves counted log h read.served read.next read.spot c end all w.0 w.1 read.turns)
       (λ more. closes_due moves counted log h read.served read.next read.spot c end more (read.due more) read.turns)
+
+  -- If the pass has the whole table, the place returns its object.
+  pub back_at : (place : ℕ) (o : O) (table : TableId) (c : Closing O) → get_elem? openings place ≡ some o → IsWhole v.shares → (view_at place v).tickets ≡ [] → IsReadAt first words slots place c → IsBack c
+  back_at place o table c opens whole empty read =
+      let few = at_below openings place o opens in
+      let log : List (Turn O C R) = turns_at place Order in
+      let kept = (gated place o opens).3 in
+      let drawn : ℕ = get_or (block place St.words) 32 0 in
+      let order = kept.order in
+      let next = word_there place 32 read.next (omega arith) read.at_next in
+      let end = ended_there place o table c opens empty read in
+      let count = end.count in
+      let all = all_served moves counted o first log drawn (state_at place St).homes (state_at place St).views kept (none_out moves counted openings first Order St id v final.1.0.1 final.1.1 whole place empty) in
+      let same : read.served ≡ read.next = omega arith in
+      (after_all o log, (read.whole same).0 ∙ end.whole same)

@@ -199,3 +199,16 @@ module _ {O C R : Type 0} where
     where
       nobody : (x place : ℕ) (u : Sight O C R) → u.views ≡ [] → times x (view_at place u).numbers ≡ 0
       nobody x place u bare = ap (λ (vs : List (View O C R)). times x (get_or vs place gate.spent).numbers) bare
+
+  -- If a pass has the whole and holds no ticket at the place, no pass does.
+  pub none_out : (moves : O → C → R → O → Type 0) (counted : O → ℕ × ℕ) (openings : List O) (first : ℕ) (order : List (Placed O C R)) (s : State (Spot O C R) (Sight O C R)) (id : ℕ) (v : Sight O C R) → Kept moves counted openings first order s
+      → get_elem? s.views id ≡ some v → IsWhole v.shares → (place : ℕ) → (view_at place v).tickets ≡ [] → (i : ℕ) (u : View O C R) → get_elem? (state_at place s).views i ≡ some u → u.tickets ≡ []
+  none_out moves counted openings first order s id v kept at whole place empty i u there =
+      let from = map_at (view_at place) s.views i u there in
+      let same : u.tickets ≡ (view_at place from.0).tickets = ap (λ (w : View O C R). w.tickets) (sym from.2) in
+      same
+      ∙ dite (ℕ_discrete i id)
+      (λ e. ap (λ (x : Sight O C R). (view_at place x).tickets) (one_there s.views id i v from.0 e at from.1) ∙ empty)
+      (λ ne.
+      let bare : from.0.views ≡ [] = (kept.full i from.0 from.1).shareless (others_shareless s.views id i v from.0 kept.shared whole ne at from.1) in
+      ap (λ (vs : List (View O C R)). (get_or vs place gate.spent).tickets) bare)

@@ -1,5 +1,5 @@
 -- What a gate returns when it is closed. This project's profile.
-use Rattle.std.specs.Prelude.{◌≡◌, ℕ, ◌+◌, ◌≤◌, true, List, length, Option, Some, None, IfSome, IfNone}
+use Rattle.std.specs.Prelude.{◌≡◌, ℕ, ◌+◌, ◌^◌, ◌≤◌, true, List, length, Option, Some, None, IfSome, IfNone}
 use mathlib.Core.Option.{some}
 use lib.ListN.{get_elem?}
 use Rattle.sysv_gate.specs.declared.closing.Closing.{Closing}
@@ -16,6 +16,10 @@ abbrev pub held_object : {O C R : Type 0} → Spot O C R → Option O
 held_object None = None
 held_object (Some place) = Some place.object
 
+-- The gate returned its object.
+abbrev pub IsBack : {O : Type 0} → Closing O → Type 0
+IsBack {O} c = (o : O) × (c.object ≡ Some o)
+
 module _ {O C R : Type 0} where
   -- The rule has a state with these turns in which some seat holds the ticket that comes next.
   abbrev pub ATurnIsDue : (O → C → R → O → Type 0) → Gateway O → List (Turn O C R) → Type 0
@@ -25,14 +29,16 @@ module _ {O C R : Type 0} where
 
   -- There is one legal history of all turns. It begins with all that the seat had seen, and of the
   -- seat's own turns it has exactly those that the seat knows of. The number of its turns is
-  -- returned, and the object after them, unless a turn is still due. If the seat is alone, the
-  -- history is what the seat has seen, and the object is returned.
+  -- returned, and the object after them, unless a turn is still due. The tickets of these turns are
+  -- all below 2^62. If the seat is alone, the history is what the seat has seen, and the object is
+  -- returned.
   pub record Closes (moves : O → C → R → O → Type 0) (seat : Holding O C R) (c : Closing O) : Type 0 where
     pub log : List (Turn O C R)
     pub legal : IsLegal moves seat.gate.opening log
     pub longer : IsPrefixOf seat.seen log
     pub own : HasItsOwn seat.numbers seat.own log
     pub turns : c.turns ≡ length log
+    pub few : seat.gate.first + length log ≤ 2 ^ 62
     pub object : IfSome c.object (λ o. (o ≡ after_all seat.gate.opening log) × (c.rest ≡ None))
     pub due : IfNone c.object (ATurnIsDue moves seat.gate log)
     pub alone : seat.alone ≡ true → (log ≡ seat.seen) × (c.object ≡ Some (after_all seat.gate.opening seat.seen))

@@ -1,14 +1,16 @@
 -- What splits, joins and the end of a bank show of the registry, of the pool and of the slots.
 use Rattle.std.proofs.Common.{◌≡◌, suc, List, [], ◌∷◌, ◌++◌, map, length, IfSome, refl, sym, ap, subst, ◌∙◌, arith}
+use Rattle.std.specs.List.{AllByRecursion}
+use Rattle.std.specs.Prelude.{option_map}
 use Rattle.std.proofs.lemmas.List.{length-append}
 use Rattle.atomic_table.proofs.Lists.{at_map}
 use Rattle.sysv_crew.specs.Turns.{Numbered}
-use Rattle.sysv_crew.specs.Members.{Member, Splits, Joins as MembersJoin, Closes as MemberCloses}
+use Rattle.sysv_crew.specs.Members.{Member, AreWhole, Splits, Joins as MembersJoin, Closes as MemberCloses}
 use Rattle.sysv_queue.specs.Slot.{Slot}
 use Rattle.sysv_gate.specs.declared.closing.Closing.{Closing}
 use Rattle.sysv_gate.specs.History.{Moves}
 use Rattle.sysv_gate.specs.Gates.{Gateway, parted, IsSplit, Joins, KnowsItsOwn}
-use Rattle.sysv_gate.specs.Closings.{Closes}
+use Rattle.sysv_gate.specs.Closings.{IsBack, Closes}
 use Rattle.sysv_bank.specs.Banks.{gates_of, Each2, Each3, EachKnowsItsOwn}
 use Rattle.sysv_bank.specs.Passes.{SplitsOff, JoinsOrders}
 use Rattle.sysv_gated.specs.declared.kinds.Gated.{Gated}
@@ -20,7 +22,7 @@ use Rattle.sysv_gated.specs.Counts.{registry_counts}
 use Rattle.sysv_turns.specs.PoolTurns.{PoolMoves}
 use Rattle.sysv_gated.specs.Counts.{pool_counts}
 use Rattle.sysv_gated.specs.Gated.{IsSlot, IsRegistry, IsPool, as_slot, as_registry, as_pool, GatedMoves, gated_counts}
-use Rattle.sysv_gated.specs.Kinds.{seat_as, IsClosingAs}
+use Rattle.sysv_gated.specs.Kinds.{Kind, seat_as, IsClosingAs}
 use Rattle.sysv_gated.specs.Seats.{SlotSeat}
 use Rattle.sysv_gated.specs.SeenHistories.{EachKnowsItsOwn as EachSeatKnows}
 use Rattle.sysv_gated.specs.Sharing.{AreSplit, AreJoined, LegalIfOpen, ClosesAfterEach, AllClose}
@@ -130,24 +132,43 @@ closes_each (s ∷ ss) (c ∷ cs) (d ∷ ds) are e back =
     let is = back.0 (object_kept as_slot IsSlot (Moves GatedMoves gated_counts) gated_counts (Moves SlotMoves slot_counts) slot_counts keeps_slot s c are.0 e.0) in
     (closes_as as_slot IsSlot (Moves GatedMoves gated_counts) gated_counts (Moves SlotMoves slot_counts) slot_counts keeps_slot s c d are.0 is e.0, closes_each ss cs ds are.1 e.1 back.1)
 
+-- What a gate returned is also back as an object of the kind.
+back_as_kind : {O C R O' C' R' : Type 0} (kind : Kind O C R O' C' R') (c : Closing O) (c' : Closing O') → IsClosingAs kind c c' → IsBack c → IsBack c'
+back_as_kind kind c c' same back = (kind.object back.0, same.object ∙ ap (option_map kind.object) back.1)
+
+back_each : (ss : List Mark) (cs : List (Closing Gated)) (ds : List (Closing Slot)) → AreSlots (gates_of ss) → Each2 (Closes (Moves GatedMoves gated_counts)) ss cs → Each2 GivenBack cs ds → AllByRecursion IsBack cs → AllByRecursion IsBack ds
+back_each [] [] [] are e given back = tt
+back_each [] [] (d ∷ ds) are e given back = absurd given
+back_each [] (c ∷ cs) ds are e given back = absurd e
+back_each (s ∷ ss) [] ds are e given back = absurd e
+back_each (s ∷ ss) (c ∷ cs) [] are e given back = absurd given
+back_each (s ∷ ss) (c ∷ cs) (d ∷ ds) are e given back =
+    let is = given.0 (object_kept as_slot IsSlot (Moves GatedMoves gated_counts) gated_counts (Moves SlotMoves slot_counts) slot_counts keeps_slot s c are.0 e.0) in
+    (back_as_kind as_slot c d is back.0, back_each ss cs ds are.1 e.1 given.1 back.1)
+
 pub all_close : (seats : List Mark) (m : Member) (order : List Numbered) → MemberCloses m order → LegalIfOpen (seats_at seats m) order → (closed : GatesClosed) → ClosesAfterEach (seats_at seats m) closed order → (cs done : List (Closing Gated)) (r p : Closing Gated) → AreByKind (gates_of seats) → Each2 (Closes (Moves GatedMoves gated_counts)) seats cs → cs ≡ r ∷ p ∷ done → Each2 GivenBack done closed.slots.items
-    → (IfSome r.object IsRegistry → IsClosingAs as_registry r closed.registry) → (IfSome p.object IsPool → IsClosingAs as_pool p closed.pool) → AllClose (seats_at seats m) closed
-all_close [] m order ended lawful closed parts cs done r p kinds e is slots registry pool = absurd kinds
-all_close (x ∷ []) m order ended lawful closed parts cs done r p kinds e is slots registry pool = absurd kinds
-all_close (x ∷ y ∷ ss) m order ended lawful closed parts cs done r p kinds e is slots registry pool =
+    → (IfSome r.object IsRegistry → IsClosingAs as_registry r closed.registry) → (IfSome p.object IsPool → IsClosingAs as_pool p closed.pool) → (AreWhole m.shares → AllByRecursion IsBack cs) → AllClose (seats_at seats m) closed
+all_close [] m order ended lawful closed parts cs done r p kinds e is slots registry pool home = absurd kinds
+all_close (x ∷ []) m order ended lawful closed parts cs done r p kinds e is slots registry pool home = absurd kinds
+all_close (x ∷ y ∷ ss) m order ended lawful closed parts cs done r p kinds e is slots registry pool home =
     let each = subst (λ (l : List (Closing Gated)). Each2 (Closes (Moves GatedMoves gated_counts)) (x ∷ y ∷ ss) l) is e in
+    let same_registry = registry (object_kept as_registry IsRegistry (Moves GatedMoves gated_counts) gated_counts (Moves RegistryMoves registry_counts) registry_counts keeps_registry x r kinds.0 each.0) in
+    let same_pool = pool (object_kept as_pool IsPool (Moves GatedMoves gated_counts) gated_counts (Moves PoolMoves pool_counts) pool_counts keeps_pool y p kinds.1 each.1.0) in
     record {
       slots = closes_each ss done closed.slots.items kinds.2 each.1.1 slots;
       registry =
           closes_as as_registry IsRegistry (Moves GatedMoves gated_counts) gated_counts (Moves RegistryMoves registry_counts) registry_counts keeps_registry x r closed.registry kinds.0
-          (registry (object_kept as_registry IsRegistry (Moves GatedMoves gated_counts) gated_counts (Moves RegistryMoves registry_counts) registry_counts keeps_registry x r kinds.0 each.0)) each.0;
+          same_registry each.0;
       pool =
           closes_as as_pool IsPool (Moves GatedMoves gated_counts) gated_counts (Moves PoolMoves pool_counts) pool_counts keeps_pool y p closed.pool kinds.1
-          (pool (object_kept as_pool IsPool (Moves GatedMoves gated_counts) gated_counts (Moves PoolMoves pool_counts) pool_counts keeps_pool y p kinds.1 each.1.0)) each.1.0;
+          same_pool each.1.0;
       order = order;
       member = ended;
       legal = lawful;
       parts = parts;
+      home = λ whole.
+          let back = subst (AllByRecursion IsBack) is (home whole) in
+          (back_each ss done closed.slots.items kinds.2 each.1.1 slots back.1.1, back_as_kind as_registry r closed.registry same_registry back.0, back_as_kind as_pool p closed.pool same_pool back.1.0);
     }
 
 -- Two elements are left at the end.

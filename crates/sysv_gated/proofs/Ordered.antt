@@ -52,7 +52,7 @@ all_within : (depth : ℕ) (shares : List ℕ) → AreWithin depth shares → Al
 all_within depth [] within = All-nil (AtMost depth)
 all_within depth (d ∷ ds) within = All-cons (AtMost depth) d ds within.0 (all_within depth ds within.1)
 
-whole : (shares : List ℕ) → AreWhole shares → IsWhole shares
+pub whole : (shares : List ℕ) → AreWhole shares → IsWhole shares
 whole shares w depth within = whole_in_any shares w depth (all_within depth shares within)
 
 -- ---- orders

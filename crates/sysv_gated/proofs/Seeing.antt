@@ -1,5 +1,5 @@
 -- What holds of a gate whose objects stay of one kind also holds of it as a gate of that kind.
-use Rattle.std.proofs.Common.{◌≡◌, ℕ, zero, suc, ◌+◌, ◌≤◌, Option, Some, None, IfSome, IfNone, List, [], ◌∷◌, ◌++◌, map, length, sum_by, ap, sym, subst, refl, ◌∙◌}
+use Rattle.std.proofs.Common.{◌≡◌, ℕ, zero, suc, ◌+◌, ◌^◌, ◌≤◌, Option, Some, None, IfSome, IfNone, List, [], ◌∷◌, ◌++◌, map, length, sum_by, ap, sym, subst, refl, ◌∙◌}
 use Rattle.std.specs.Prelude.{option_map}
 use Rattle.std.proofs.lemmas.List.{map-append, length-map}
 use Rattle.std.proofs.lemmas.List.Sums.{sum_by-cons}
@@ -230,6 +230,7 @@ module _ {O C R O' C' R' : Type 0} (kind : Kind O C R O' C' R') (Is : O → Type
     longer = prefix_as (turn_as kind) seat.seen k.log k.longer;
     own = own_as kind seat.numbers seat.own k.log k.own;
     turns = same.turns ∙ k.turns ∙ sym (length-map k.log (turn_as kind));
+    few = subst (λ n. seat.gate.first + n ≤ 2 ^ 62) (sym (length-map k.log (turn_as kind))) k.few;
     object = some_then c'.object _ (λ o there.
         let of = from_some kind.object c.object o (sym same.object ∙ there) in
         let was = some_of c.object _ of.0 of.1 k.object in

@@ -1,18 +1,19 @@
 -- How the seats at all objects are split and joined, and what the gates return when they are
 -- closed. This project's profile.
 use Rattle.std.specs.Prelude.{◌≡◌, ℕ, List, map}
+use Rattle.std.specs.List.{AllByRecursion}
 use mathlib.Core.Option.{some}
 use lib.ListN.{get_elem?}
 use Rattle.sysv_model.specs.Turn.{slot_history, registry_history, pool_history}
 use Rattle.sysv_crew.specs.Turns.{Numbered, turns_of}
-use Rattle.sysv_crew.specs.Members.{Splits, Joins as MembersJoin, Closes as MemberCloses}
+use Rattle.sysv_crew.specs.Members.{AreWhole, Splits, Joins as MembersJoin, Closes as MemberCloses}
 use Rattle.sysv_objects.specs.LegalDeed.{AreLegal}
 use Rattle.sysv_queue.specs.Slot.{Slot}
 use Rattle.sysv_gate.specs.declared.closing.Closing.{Closing}
 use Rattle.sysv_gate.specs.declared.view.Turn.{Turn}
 use Rattle.sysv_gate.specs.History.{Moves}
 use Rattle.sysv_gate.specs.Gates.{Holding, parted, IsSplit, Joins}
-use Rattle.sysv_gate.specs.Closings.{Closes}
+use Rattle.sysv_gate.specs.Closings.{IsBack, Closes}
 use Rattle.sysv_bank.specs.Banks.{Each2, Each3}
 use Rattle.sysv_gated.specs.declared.opening.GatesClosed.{GatesClosed}
 use Rattle.sysv_turns.specs.SlotTurns.{SlotMoves}
@@ -67,3 +68,5 @@ pub record AllClose (seats : Seats) (closed : GatesClosed) : Type 0 where
   pub member : MemberCloses seats.member order
   pub legal : LegalIfOpen seats order
   pub parts : ClosesAfterEach seats closed order
+  -- If the seats have the whole service, no others are left, and each gate has returned its object.
+  pub home : AreWhole seats.member.shares → AllByRecursion IsBack closed.slots.items × IsBack closed.registry × IsBack closed.pool

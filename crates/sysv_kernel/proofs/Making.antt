@@ -7,6 +7,8 @@ use Rattle.sysv_steps.specs.Begin.{begin}
 use Rattle.sysv_steps.specs.Call.{SystemCall, Msgget, Msgsnd, Msgrcv, MsgctlStat, MsgctlSet, MsgctlRmid}
 use Rattle.sysv_steps.specs.Resume.{Released}
 use Rattle.sysv_steps.specs.State.{State, Waits, Over}
+use Rattle.std.specs.List.{AllByRecursion}
+use Rattle.sysv_free.specs.AtRest.{Rests}
 use Rattle.sysv_free.specs.Order.{Called}
 use Rattle.sysv_session.specs.declared.kernel.Outcome.{Outcome}
 use Rattle.sysv_session.specs.Calls.{Call, Leads}
@@ -22,6 +24,14 @@ use Rattle.sysv_kernel.specs.Asked.{Asks, asks_with}
 use Rattle.sysv_kernel.specs.Made.{trail, MakesCall, ReadsBeside, ShowsBeside, makes_with, EachSessionMakesCalls}
 use Rattle.sysv_kernel.specs.Requests as requests
 
+-- The call is over or was left at a wait.
+abbrev Resting : Called → Type 0
+Resting call = Rests call.state
+
+both : (xs ys : List Called) → AllByRecursion Resting xs → AllByRecursion Resting ys → AllByRecursion Resting (xs ++ ys)
+both [] ys one two = two
+both (x ∷ xs) ys one two = (one.0, both xs ys one.1 two)
+
 -- One call more.
 one_call : (may : ℕ → Type 0) → EachRunIsAtAnyMoment may → (cred : Cred) (asked : SystemCall) (released : ℕ) (start mid : Pass) (made : List Called) (deeds : List Deed) (state : State) (new : Pass) →
     Ran may (begin cred asked released) mid deeds state new → Works start made mid → Works start (made ++ call_of mid cred asked released deeds state ∷ []) new
@@ -32,6 +42,7 @@ module _ (may : ℕ → Type 0) (may_leave : Type 0) (any : EachRunIsAtAnyMoment
   -- The calls that a request makes, whatever calls were made before.
   record Makes (ask : Ask) (text : List ℕ) (old : Pass) (outcome : Outcome) (given : List ℕ) (new : Pass) : Type 0 where
     calls : List Called
+    rests : AllByRecursion Resting calls
     works : (start : Pass) (made : List Called) → Works start made old → Works start (made ++ calls) new
     asks : (made : List Called) → requests.Asks MakesCall ReadsBeside ShowsBeside may may_leave version cred ask text (trail old made) outcome given (trail new (made ++ calls))
 
@@ -45,6 +56,7 @@ module _ (may : ℕ → Type 0) (may_leave : Type 0) (any : EachRunIsAtAnyMoment
       let did = asked.0 in
       record {
         calls = only old (Msgget key flags) 0 did.2.0 (Over did.1);
+        rests = (tt, tt);
         works = λ start made. one_call may any cred (Msgget key flags) 0 start old made did.2.0 (Over did.1) new did.2.1;
         asks = λ made. ((did.0, did.1, (did.2.0, did.2.1, refl), did.3, did.4), asked.1);
       }
@@ -54,11 +66,13 @@ module _ (may : ℕ → Type 0) (may_leave : Type 0) (any : EachRunIsAtAnyMoment
       elim sends.3 [
         | inl did ↦ record {
           calls = only sends.1 call sends.0 did.2.0 (Over did.1);
+          rests = (tt, tt);
           works = λ start made works. one_call may any cred call sends.0 start sends.1 made did.2.0 (Over did.1) new did.2.1 (working.reads_count Released sends.0 sends.1 works sends.2.0 sends.2.1);
           asks = λ made. ((sends.0, trail sends.1 made, (sends.2, refl), inl (did.0, did.1, (did.2.0, did.2.1, refl), did.3, did.4)), asked.1);
         }
         | inr left ↦ record {
           calls = only sends.1 call sends.0 left.0.2.0 (Waits left.0.1);
+          rests = (tt, tt);
           works = λ start made works. one_call may any cred call sends.0 start sends.1 made left.0.2.0 (Waits left.0.1) new left.0.2.1 (working.reads_count Released sends.0 sends.1 works sends.2.0 sends.2.1);
           asks = λ made. ((sends.0, trail sends.1 made, (sends.2, refl), inr ((left.0.0, left.0.1, (left.0.2.0, left.0.2.1, refl)), left.1)), asked.1);
         }
@@ -68,11 +82,13 @@ module _ (may : ℕ → Type 0) (may_leave : Type 0) (any : EachRunIsAtAnyMoment
       elim asked [
         | inl did ↦ record {
           calls = only old call 0 did.2.0 (Over did.1);
+          rests = (tt, tt);
           works = λ start made. one_call may any cred call 0 start old made did.2.0 (Over did.1) new did.2.1;
           asks = λ made. inl (did.0, did.1, (did.2.0, did.2.1, refl), did.3, did.4);
         }
         | inr left ↦ record {
           calls = only old call 0 left.0.2.0 (Waits left.0.1);
+          rests = (tt, tt);
           works = λ start made. one_call may any cred call 0 start old made left.0.2.0 (Waits left.0.1) new left.0.2.1;
           asks = λ made. inr ((left.0.0, left.0.1, (left.0.2.0, left.0.2.1, refl)), left.1, left.2);
         }
@@ -81,6 +97,7 @@ module _ (may : ℕ → Type 0) (may_leave : Type 0) (any : EachRunIsAtAnyMoment
       let did = asked.0 in
       record {
         calls = only old (MsgctlStat id) 0 did.2.0 (Over did.1);
+        rests = (tt, tt);
         works = λ start made. one_call no_moment unstamped cred (MsgctlStat id) 0 start old made did.2.0 (Over did.1) new did.2.1;
         asks = λ made. ((did.0, did.1, (did.2.0, did.2.1, refl), did.3, did.4), asked.1);
       }
@@ -88,6 +105,7 @@ module _ (may : ℕ → Type 0) (may_leave : Type 0) (any : EachRunIsAtAnyMoment
       let did = asked.0 in
       record {
         calls = only old (MsgctlSet id to) 0 did.2.0 (Over did.1);
+        rests = (tt, tt);
         works = λ start made. one_call may any cred (MsgctlSet id to) 0 start old made did.2.0 (Over did.1) new did.2.1;
         asks = λ made. ((did.0, did.1, (did.2.0, did.2.1, refl), did.3, did.4), asked.1);
       }
@@ -95,11 +113,13 @@ module _ (may : ℕ → Type 0) (may_leave : Type 0) (any : EachRunIsAtAnyMoment
       let did = asked.0 in
       record {
         calls = only old (MsgctlRmid id) 0 did.2.0 (Over did.1);
+        rests = (tt, tt);
         works = λ start made. one_call no_moment unstamped cred (MsgctlRmid id) 0 start old made did.2.0 (Over did.1) new did.2.1;
         asks = λ made. ((did.0, did.1, (did.2.0, did.2.1, refl), did.3, did.4), asked.1);
       }
   makes (Row slot) text old outcome given new asked = record {
     calls = [];
+    rests = tt;
     works = λ start made works. subst (λ calls. Works start calls new) (sym (append-nil made)) (working.asks_row slot asked.0.0 new works asked.0.1);
     asks = λ made. ((asked.0.0, (asked.0.1, append-nil made), asked.0.2), asked.1);
   }
@@ -108,12 +128,14 @@ module _ (may : ℕ → Type 0) (may_leave : Type 0) (any : EachRunIsAtAnyMoment
   -- The calls that the requests of a session make.
   record Led (cred : Cred) (old : Pass) (calls : List Call) (new : Pass) : Type 0 where
     calls_made : List Called
+    rests : AllByRecursion Resting calls_made
     works : (start : Pass) (made : List Called) → Works start made old → Works start (made ++ calls_made) new
     leads : (made : List Called) → Leads (makes_with may may_leave) cred (trail old made) calls (trail new (made ++ calls_made))
 
   led : (cred : Cred) (old : Pass) (calls : List Call) (new : Pass) → Leads (asks_with may may_leave) cred old calls new → Led cred old calls new
   led cred old [] new is = record {
     calls_made = [];
+    rests = tt;
     works = λ start made works. subst (Works start (made ++ [])) (sym is) (subst (λ calls. Works start calls old) (sym (append-nil made)) works);
     leads = λ made. ap (λ (p : Pass). trail p (made ++ [])) is ∙ ap (trail old) (append-nil made);
   }
@@ -122,6 +144,7 @@ module _ (may : ℕ → Type 0) (may_leave : Type 0) (any : EachRunIsAtAnyMoment
       let more = led cred leads.0 calls new leads.2 in
       record {
         calls_made = one.calls ++ more.calls_made;
+        rests = both one.calls more.calls_made one.rests more.rests;
         works = λ start made works. subst (λ calls. Works start calls new) (append_assoc made one.calls more.calls_made) (more.works start (made ++ one.calls) (one.works start made works));
         leads = λ made. (
           trail leads.0 (made ++ one.calls),
@@ -141,6 +164,7 @@ module _ (may : ℕ → Type 0) (may_leave : Type 0) (any : EachRunIsAtAnyMoment
       tallies = stays.tallies;
       counts = stays.counts;
     }),
+    tt,
   )
   each_session start old new made served left rest taken more works (inr talks) =
       let done = led talks.cred old talks.calls new talks.leads in (
@@ -161,4 +185,5 @@ module _ (may : ℕ → Type 0) (may_leave : Type 0) (any : EachRunIsAtAnyMoment
           counts = talks.counts;
           bounded = talks.bounded;
         }),
+        done.rests,
       )

@@ -6,6 +6,8 @@ use Rattle.sysv_keys.specs.declared.identifier.TheConstants.{SLOTS}
 use Rattle.sysv_model.specs.declared.attributes.Row.{Row}
 use Rattle.sysv_model.specs.declared.errno.Errno.{Errno}
 use Rattle.sysv_model.specs.Turn.{Deed}
+use Rattle.std.specs.List.{AllByRecursion}
+use Rattle.sysv_free.specs.AtRest.{Rests}
 use Rattle.sysv_free.specs.Order.{Called}
 use Rattle.sysv_session.specs.declared.served.Served.{Served}
 use Rattle.sysv_session.specs.Calls.{Meaning}
@@ -53,8 +55,9 @@ ServesTrail may may_leave served old new left rest taken more =
 
 -- Each session over a service makes such calls, and no other call is made with its pass: together
 -- with the calls that were made from a start up to the session, they are all that the pass made
--- from that start.
+-- from that start. Each of the calls is over or was left at a wait.
 abbrev pub EachSessionMakesCalls : (ℕ → Type 0) → Type 0 → Type 0
 EachSessionMakesCalls may may_leave = (start old new : Pass) (made : List Called) (served : Served) (left rest taken more : Option (List ℕ)) →
     Works start made old → ServesPass may may_leave served old new left rest taken more →
-    (calls : List Called) × Works start (made ++ calls) new × ServesTrail may may_leave served (trail old made) (trail new (made ++ calls)) left rest taken more
+    (calls : List Called) × Works start (made ++ calls) new × ServesTrail may may_leave served (trail old made) (trail new (made ++ calls)) left rest taken more ×
+    AllByRecursion (λ (call : Called). Rests call.state) calls

@@ -54,5 +54,6 @@ module _ {S : Type 0} (T : Type 0) (most accepted : S → ℕ) where
     served = serves_on blocks workers m s s' (Ok ended.sums) none same small all.served;
     stopped = all.stopped;
     told = all.told;
+    closed = all.closed;
   }
   ends_on blocks workers m s s' (Err why) none same small all = tt

@@ -1,29 +1,46 @@
 -- The life of a server's service is that of a service with workers whose sessions make its calls.
 use Rattle.std.proofs.Common.{◌∙◌, List, [], ◌∷◌, ◌++◌, Option, Some, None, ap, sym, subst}
 use Rattle.std.specs.Prelude.{⊤}
-use Rattle.std.specs.List.{FoldsTo}
+use Rattle.std.specs.List.{All, AllByRecursion, FoldsTo}
 use Rattle.std.proofs.lemmas.List.{append-nil, append_assoc}
+use Rattle.std.proofs.lemmas.List.Elements.{All-from_recursion}
 use Rattle.sysv_bank.specs.Banks.{Each2, Each3}
+use Rattle.sysv_free.specs.AtRest.{Rests}
 use Rattle.sysv_free.specs.Order.{Called}
 use Rattle.sysv_session.specs.declared.served.Served.{Served}
-use Rattle.sysv_service.specs.Hiring.{EveryHiringObeys, EveryStopRemoves}
+use Rattle.sysv_service.specs.Hiring.{all_of, IsRemoval, EveryHiringObeys, EveryStopRemoves}
+use Rattle.sysv_service.specs.PoolWhole.{EveryHiringLeavesThePoolWhole, NoHiringLeavesAGateHeld}
 use Rattle.sysv_service.specs.Ran.{Pass}
 use Rattle.sysv_service.specs.Working as working
 use Rattle.sysv_service.specs.Working.{Works}
 use Rattle.sysv_kernel.specs.Made.{trail, EachSessionMakesCalls}
 use Rattle.sysv_server.specs.Handled.{zero_moment, Shift, Talks, TalksIn, first_passes, last_passes, AreMadeBy}
-use Rattle.sysv_server.specs.OneRun.{EachLifeIsOneRun}
+use Rattle.sysv_server.specs.OneRun.{EachLifeIsOneRun, EachLifeLeavesThePoolWhole, NoLifeLeavesAGateHeld}
+
+-- The call is over or was left at a wait.
+abbrev Resting : Called → Type 0
+Resting call = Rests call.state
+
+both : (xs ys : List Called) → AllByRecursion Resting xs → AllByRecursion Resting ys → AllByRecursion Resting (xs ++ ys)
+both [] ys one two = two
+both (x ∷ xs) ys one two = (one.0, both xs ys one.1 two)
+
+removals_rest : (calls : List Called) → AllByRecursion IsRemoval calls → AllByRecursion Resting calls
+removals_rest [] are = tt
+removals_rest (c ∷ calls) are = (subst Rests (sym are.0.2.1) tt, removals_rest calls are.1)
 
 module _ (law : EachSessionMakesCalls zero_moment ⊤) where
   -- The calls that were made in further sessions.
   record InSessions (start old : Pass) (told : List (Option Served)) (new : Pass) (made : List Called) : Type 0 where
     calls : List Called
+    rests : AllByRecursion Resting calls
     works : Works start (made ++ calls) new
     talks : FoldsTo TalksIn (trail old made) told (trail new (made ++ calls))
 
   in_sessions : (start old : Pass) (told : List (Option Served)) (new : Pass) (made : List Called) → Works start made old → FoldsTo Talks old told new → InSessions start old told new made
   in_sessions start old [] new made works is = record {
     calls = [];
+    rests = tt;
     works = subst (Works start (made ++ [])) is (subst (λ calls. Works start calls old) (sym (append-nil made)) works);
     talks = ap (trail old) (sym (append-nil made)) ∙ ap (λ (p : Pass). trail p (made ++ [])) is;
   }
@@ -32,6 +49,7 @@ module _ (law : EachSessionMakesCalls zero_moment ⊤) where
       let more = in_sessions start folds.0 told new made here folds.2 in
       record {
         calls = more.calls;
+        rests = more.rests;
         works = more.works;
         talks = (trail folds.0 made, ap (λ (p : Pass). trail p made) folds.1, more.talks);
       }
@@ -41,6 +59,7 @@ module _ (law : EachSessionMakesCalls zero_moment ⊤) where
       let more = in_sessions start folds.0 told new (made ++ one.0) one.1 folds.2 in
       record {
         calls = one.0 ++ more.calls;
+        rests = both one.0 more.calls one.3 more.rests;
         works = subst (λ calls. Works start calls new) (append_assoc made one.0 more.calls) more.works;
         talks = (
           trail folds.0 (made ++ one.0),
@@ -52,16 +71,18 @@ module _ (law : EachSessionMakesCalls zero_moment ⊤) where
   -- The calls of all workers.
   record InShifts (shifts : List Shift) : Type 0 where
     each : List (List Called)
+    rests : AllByRecursion Resting (all_of each)
     works : Each3 Works (first_passes shifts) each (last_passes shifts)
     made : Each2 AreMadeBy shifts each
 
   in_shifts : (shifts : List Shift) → InShifts shifts
-  in_shifts [] = record { each = []; works = tt; made = tt }
+  in_shifts [] = record { each = []; rests = tt; works = tt; made = tt }
   in_shifts (shift ∷ shifts) =
       let one = in_sessions shift.before shift.before shift.told shift.after [] working.begins shift.worked in
       let rest = in_shifts shifts in
       record {
         each = one.calls ∷ rest.each;
+        rests = both one.calls (all_of rest.each) one.rests rest.rests;
         works = (one.works, rest.works);
         made = (one.talks, rest.made);
       }
@@ -78,3 +99,16 @@ module _ (law : EachSessionMakesCalls zero_moment ⊤) where
         counted = stop.3;
         served = obeys 0 blocks 0 gates (first_passes shifts) (last_passes shifts) stopped.before stopped.after done.each stop.0 closed opened hires done.works stop.1 unmarked fits counted;
       }
+
+  pub each_whole : EveryHiringLeavesThePoolWhole → EveryStopRemoves → EachLifeLeavesThePoolWhole
+  each_whole home stops blocks gates shifts removed stopped closed counted opened fits hires unmarked =
+      let done = in_shifts shifts in
+      let stop = stops _ stopped.removed stopped.worn stopped.before stopped.after stopped.stops in
+      let rest : All Resting (all_of done.each ++ stop.0) = All-from_recursion Resting (all_of done.each ++ stop.0) (both (all_of done.each) stop.0 done.rests (removals_rest stop.0 stop.2)) in
+      home 0 blocks 0 gates (first_passes shifts) (last_passes shifts) stopped.before stopped.after done.each stop.0 closed opened hires done.works stop.1 unmarked fits counted rest
+
+  pub each_none_held : NoHiringLeavesAGateHeld → EveryStopRemoves → NoLifeLeavesAGateHeld
+  each_none_held none stops gates shifts removed stopped closed counted hires =
+      let done = in_shifts shifts in
+      let stop = stops _ stopped.removed stopped.worn stopped.before stopped.after stopped.stops in
+      none gates (first_passes shifts) (last_passes shifts) stopped.before stopped.after done.each stop.0 closed hires done.works stop.1 counted

@@ -68,12 +68,14 @@ pub record EndsAll {S T : Type 0} (gives : S → Option T → S → Type 0) (blo
   pub served : ServesAll gives blocks workers source ended.sums source'
   pub stopped : Stopped served.gates ended.removed
   pub told : ended.removed ≡ served.removed
+  pub closed : ended.closed ≡ served.lived.closed
 
 -- A server served the connections of a listener, and then removed the queues that were left.
 pub record EndsOn (blocks workers most : ℕ) (ended : Ended) : Type 0 where
   pub served : ServesOn blocks workers most ended.sums
   pub stopped : Stopped served.gates ended.removed
   pub told : ended.removed ≡ served.removed
+  pub closed : ended.closed ≡ served.lived.closed
 
 -- After a fault that keeps the server from running any session, the source of connections is
 -- unchanged. After the other faults nothing is stated.

@@ -156,10 +156,14 @@ fn serve_all<S: Source<UnixStream>, R: Threads + Wait + Sync>(
     let count = workers as usize;
     let outcome = serve_with(rt, alloc, &service, &mut pass, source, count, patience);
     let removed = service.stop(rt, &mut pass);
-    let _closed = service.close(pass);
+    let closed = service.close(pass);
     each_life_is_one_run();
     match outcome {
-        Ok(sums) => Ok(Ended { sums, removed }),
+        Ok(sums) => Ok(Ended {
+            sums,
+            removed,
+            closed,
+        }),
         Err(why) => Err(why),
     }
 }

@@ -2,6 +2,7 @@
 
 use crate::sums::Sums;
 use sysv_model::Errno;
+use sysv_service::Closed;
 
 /// The terms of a server.
 #[derive(Clone, Copy, PartialEq, Eq, Debug)]
@@ -41,4 +42,7 @@ pub struct Ended {
     /// The number of queues that were left at the end and were removed, or `EOVERFLOW` if the gate
     /// of a slot was found worn out.
     pub removed: Result<u32, Errno>,
+    /// What was left of its service when it was closed, after these queues were removed. No gate is
+    /// held. The pool has all its blocks, unless a gate was found worn out.
+    pub closed: Closed,
 }

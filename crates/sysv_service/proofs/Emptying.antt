@@ -1,15 +1,15 @@
 -- Proves that the chains of a closed service return to its pool, which is then whole.
-use Rattle.std.proofs.Common.{◌≡◌, ℕ, zero, suc, ◌+◌, ◌^◌, ◌<◌, ◌≤◌, ◌&&◌, nat_le, nat_lt, Bool, true, false, List, [], ◌∷◌, map, length, Option, Some, None, IfSome, if◌then◌else◌, refl, sym, ap, subst, ◌∙◌, arith}
-use Rattle.std.specs.List.{All, sum_by, range_with_len}
+use Rattle.std.proofs.Common.{◌≡◌, ℕ, zero, suc, ◌+◌, ◌^◌, ◌<◌, ◌≤◌, ◌&&◌, nat_le, nat_lt, Bool, true, false, List, [], ◌∷◌, ◌++◌, map, length, Option, Some, None, IfSome, if◌then◌else◌, refl, sym, ap, subst, ◌∙◌, arith}
+use Rattle.std.specs.List.{All, AllByRecursion, sum_by, range_with_len}
 use Rattle.std.proofs.lemmas.Bool.Decides.{nat_tests}
 use Rattle.std.proofs.lemmas.List.{length-map}
 use Rattle.std.proofs.lemmas.List.Elements.{All-head, All-tail}
-use Rattle.std.proofs.lemmas.List.Sums.{sum_by-cons}
+use Rattle.std.proofs.lemmas.List.Sums.{sum_by-cons, count_by-le-length}
 use mathlib.Core.Option.{some, some-injective, some-ne-none}
 use lib.ListN.{get_elem?}
 use Rattle.sysv_lists.proofs.Places.{at_below, there}
 use Rattle.sysv_model.specs.History.{History}
-use Rattle.sysv_model.specs.Pool.{PoolHistory}
+use Rattle.sysv_model.specs.Pool.{PoolEntry, PoolHistory, frees, released}
 use Rattle.sysv_model.specs.Turn.{Turn, slot_history, pool_history}
 use Rattle.sysv_model.specs.Waiting.{held as waiting_on}
 use Rattle.sysv_crew.specs.Turns.{turns_of}
@@ -20,11 +20,12 @@ use Rattle.sysv_queue.specs.Slot.{Slot}
 use Rattle.sysv_queue.specs.Blocks.{blocks_of}
 use Rattle.sysv_queue.specs.StandsFor.{StandsFor as SlotStandsFor}
 use Rattle.sysv_core.specs.Conserved.{blocks_waiting}
-use Rattle.sysv_free.specs.Crew.{EveryServiceIsARun}
+use Rattle.sysv_free.specs.Crew.{EveryServiceIsARun, EveryLastPassIsWhole}
 use Rattle.sysv_gate.specs.declared.closing.Closing.{Closing}
+use Rattle.sysv_gate.specs.declared.view.Turn.{Turn as GateTurn}
 use Rattle.sysv_gate.specs.History.{Moves, after_all}
 use Rattle.sysv_gate.specs.Gates.{Gateway}
-use Rattle.sysv_gate.specs.Closings.{Closes}
+use Rattle.sysv_gate.specs.Closings.{IsBack, Closes}
 use Rattle.sysv_bank.specs.Banks.{gates_of}
 use Rattle.sysv_turns.specs.SlotTurns.{SlotMoves}
 use Rattle.sysv_gated.specs.Counts.{slot_counts}
@@ -35,9 +36,12 @@ use Rattle.sysv_gated.specs.Seats.{SlotSeat, PoolSeat, entries, slot_entry, pool
 use Rattle.sysv_gated.proofs.Closing.{as_long}
 use Rattle.sysv_gated.proofs.Histories.{pool_sized}
 use Rattle.sysv_service.specs.Closing.{is_held, all_held, takes_back, with_chain, with_slot, with_slots, free_in}
-use Rattle.sysv_service.specs.PoolWhole.{EveryPoolIsWhole}
-use Rattle.sysv_service.proofs.Living.{opened_so, every_service}
+use Rattle.sysv_service.specs.PoolWhole.{NoHiringLeavesAGateHeld, EveryPoolIsWhole, EveryHiringLeavesThePoolWhole}
+use Rattle.sysv_service.specs.Hiring.{all_of}
+use Rattle.sysv_service.proofs.Hiring.{hired}
+use Rattle.sysv_service.proofs.Living.{crew_of, opened_so, every_service}
 use Rattle.sysv_service.proofs.NoneKept.{none_kept}
+use Rattle.sysv_service.proofs.Whole.{last_is_whole}
 
 -- ---- chains are returned
 
@@ -98,6 +102,19 @@ none_held [] k c none at = absurd (some-ne-none c (sym at))
 none_held (x ∷ cs) zero c none at = subst (λ (y : Closing Slot). is_held y.object ≡ 0) (some-injective x c at) (omega (arith, none))
 none_held (x ∷ cs) (suc k) c none at = none_held cs k c (omega (arith, none)) at
 
+-- A gate that has returned its object is not held.
+not_held : {O : Type 0} (c : Closing O) → IsBack c → is_held c.object ≡ 0
+not_held c back = ap is_held back.1
+
+all_there : (cs : List (Closing Slot)) → AllByRecursion IsBack cs → all_held cs ≡ 0
+all_there [] back = refl
+all_there (c ∷ cs) back = omega (arith, not_held c back.0, all_there cs back.1)
+
+-- There are as many entries as turns.
+many_entries : {O C R E : Type 0} (entry : O → GateTurn O C R → E) (before : O) (log : List (GateTurn O C R)) → length (entries entry before log) ≡ length log
+many_entries entry before [] = refl
+many_entries entry before (t ∷ ts) = ap suc (many_entries entry t.after ts)
+
 -- If a gate is not held, its object is this one.
 is_there : {O : Type 0} (o : Option O) (x : O) (Q : Type 0) → IfSome o (λ y. (y ≡ x) × Q) → is_held o ≡ 0 → o ≡ Some x
 is_there None x Q is gone = absurd (omega (arith, gone))
@@ -145,10 +162,16 @@ vacant_seat (s ∷ ss) zero seat vacant at =
 vacant_seat (s ∷ ss) (suc k) seat vacant at =
     vacant_seat ss k seat (All-tail (SlotStandsFor []) s.gate.opening (map (λ (g : Gateway Slot). g.opening) (gates_of ss)) vacant) at
 
--- ---- the law
+-- ---- the laws
 
-pub every_pool : SeenHistories → EveryServiceIsARun → EveryPoolIsWhole
-every_pool histories law generation blocks first gates last calls closed lives fits end rest held few =
+pub none_held_at_all : NoHiringLeavesAGateHeld
+none_held_at_all gates theirs left home last each calls closed hires works more end =
+    let back = end.all.home (last_is_whole gates theirs left home last each calls hires works more) in
+    let count = end.held in
+    omega (arith, count, all_there end.parts.slots.items back.0, not_held end.parts.registry back.1, not_held end.parts.pool back.2)
+
+pub every_pool : SeenHistories → EveryServiceIsARun → EveryLastPassIsWhole → EveryPoolIsWhole
+every_pool histories law home generation blocks first gates last calls closed lives fits end rest =
     let parts = end.all.parts in
     let seats = last.seats in
     let turns = turns_of end.all.order in
@@ -158,9 +181,15 @@ every_pool histories law generation blocks first gates last calls closed lives f
     let whole = (served.at_rest rest).whole in
     let kept = none_kept generation blocks first gates last calls end.all.order lives served in
     let fresh = opened_so generation blocks first gates (last ∷ []) calls lives in
+    let back = end.all.home (home last.seats.member calls (crew_of generation blocks first gates (last ∷ []) calls lives)) in
+    let none : all_held items ≡ 0 = all_there items back.0 in
+    let there_registry : is_held end.parts.registry.object ≡ 0 = not_held end.parts.registry back.1 in
+    let there_pool : is_held end.parts.pool.object ≡ 0 = not_held end.parts.pool back.2 in
     let count = end.held in
-    let none : all_held items ≡ 0 = omega (arith, count, held) in
-    let there_pool : is_held end.parts.pool.object ≡ 0 = omega (arith, count, held) in
+    let log = parts.pool.0.log in
+    let long : length h ≡ length log = ap length (sym parts.pool.1) ∙ many_entries pool_entry seats.pool.gate.opening log in
+    let below = parts.pool.0.few in
+    let few : released h + SLOTS ≤ 2 ^ 63 = omega (arith, count_by-le-length (λ (e : PoolEntry). frees e.reply) h, long, below) in
     let vacant : All (SlotStandsFor []) (map (λ (g : Gateway Slot). g.opening) (gates_of seats.slots)) =
     subst (λ (gs : List (Gateway Slot)). All (SlotStandsFor []) (map (λ (g : Gateway Slot). g.opening) gs)) (sym fits.slots) fresh.slots.1 in
     let same_long : length seats.slots ≡ length items = as_long (Closes (Moves SlotMoves slot_counts)) seats.slots items end.all.slots in
@@ -176,4 +205,11 @@ every_pool histories law generation blocks first gates last calls closed lives f
     let pool_is : end.parts.pool.object ≡ Some start =
     pool_there histories seats.pool end.parts.pool h blocks (subst (λ (g : Gateway State). PoolStandsFor [] g.opening) (sym fits.pool) fresh.pool.0)
     (ap (λ (g : Gateway State). g.opening.size) fits.pool ∙ fresh.pool.1) parts.pool.0 parts.pool.1 there_pool in
-    end.free ∙ whole_again end.parts.pool.object start items last.held blocks pool_is kept none (omega (arith, lying, whole)) refl (omega (arith, few, many))
+    record {
+      held = omega (arith, count, none, there_registry, there_pool);
+      free = end.free ∙ whole_again end.parts.pool.object start items last.held blocks pool_is kept none (omega (arith, lying, whole)) refl (omega (arith, few, many));
+    }
+
+pub every_hired_pool : EveryPoolIsWhole → EveryHiringLeavesThePoolWhole
+every_hired_pool law generation blocks first gates theirs left home last each calls closed opened hires works removes none fits end rest =
+    law generation blocks first gates last (all_of each ++ calls) closed (hired generation blocks first gates theirs left home last each calls opened hires works removes none) fits end rest

@@ -10,8 +10,9 @@ use Rattle.sysv_steps.specs.Call.{MsgctlRmid}
 use Rattle.sysv_steps.specs.State.{Over}
 use Rattle.sysv_free.specs.Order.{Called}
 use Rattle.sysv_bank.specs.Banks.{Each3}
+use Rattle.sysv_gated.specs.Opened.{AreOpen}
 use Rattle.sysv_gated.specs.Seats.{Gates}
-use Rattle.sysv_service.specs.Hiring.{first_pass, Gives, TakesIn, all_of, EveryHiringObeys, IsRemoval, removed_at, EveryStopRemoves}
+use Rattle.sysv_service.specs.Hiring.{first_pass, Hires, Gives, TakesIn, all_of, EveryHiringObeys, IsRemoval, removed_at, EveryStopRemoves}
 use Rattle.sysv_service.specs.Life as life
 use Rattle.sysv_service.specs.Life.{any_moment, EachRunIsAtAnyMoment, call_of, Lives, EveryServiceObeys}
 use Rattle.sysv_service.specs.Marks.{IsUnmarked}
@@ -115,15 +116,22 @@ module _ (P : Pass → Type 0) where
       let parts = all_and_one (reverse xs) x (subst (AllByRecursion P) (reverse_onto xs x []) all) in
       (parts.1, all_reversed xs parts.0)
 
-pub every_hiring : EveryServiceObeys → EveryHiringObeys
-every_hiring law generation blocks first gates theirs left home last each calls closed opened hires works removes none fits end =
+-- The life of such a service.
+pub hired : (generation blocks first : ℕ) (gates : Gates) (theirs left : List Pass) (home last : Pass) (each : List (List Called)) (calls : List Called) →
+    AreOpen generation blocks first gates → Hires (first_pass gates) theirs left home → Each3 Works theirs each left → Works home calls last → IsUnmarked last.seats →
+    Lives generation blocks first gates (last ∷ []) (all_of each ++ calls)
+hired generation blocks first gates theirs left home last each calls opened hires works removes none =
     let at_home = unmarked_before home calls last removes none in
     let taken = taken_unmarked (reverse left) hires.kept home hires.takes at_home in
     let fresh = all_reversed (λ (p : Pass). IsUnmarked p.seats) left taken.1 in
     let given = gives_all generation blocks first gates theirs [] (first_pass gates) hires.kept hires.gives (life.opens opened) in
     let worked = works_all generation blocks first gates theirs each left [] hires.kept [] works fresh given in
     let back = takes_all generation blocks first gates (all_of each) (reverse left) hires.kept home hires.takes (subst (λ ps. Lives generation blocks first gates (hires.kept ∷ ps) (all_of each)) (append-nil (reverse left)) worked) in
-    law generation blocks first gates last (all_of each ++ calls) closed (works_there generation blocks first gates [] [] (all_of each) home calls last removes none back) fits end
+    works_there generation blocks first gates [] [] (all_of each) home calls last removes none back
+
+pub every_hiring : EveryServiceObeys → EveryHiringObeys
+every_hiring law generation blocks first gates theirs left home last each calls closed opened hires works removes none fits end =
+    law generation blocks first gates last (all_of each ++ calls) closed (hired generation blocks first gates theirs left home last each calls opened hires works removes none) fits end
 
 -- ---- the stop
 
@@ -144,7 +152,7 @@ slot_removes any slot _ sofar _ old mid _ (stop.tries row there ending new told 
     let from = begin superuser (MsgctlRmid row.id) 0 in
     let call = call_of there superuser (MsgctlRmid row.id) 0 ran.0 (Over ending) in
     let works = working.calls superuser (MsgctlRmid row.id) 0 ran.0 (Over ending) new (working.asks_row slot (Ok (Some row)) there done.1 told) (any from there ran.0 (Over ending) new ran.1).0 in
-    (done.0 ++ call ∷ [], works, one_more done.0 call done.2 (refl, (row.id, refl)), sum_by_push removed_of done.0 call ∙ ap (λ n. n + removed_by ending) done.3)
+    (done.0 ++ call ∷ [], works, one_more done.0 call done.2 (refl, (row.id, refl), (ending, refl)), sum_by_push removed_of done.0 call ∙ ap (λ n. n + removed_by ending) done.3)
 
 module _ (any : EachRunIsAtAnyMoment no_moment) (old : Pass) where
   stop_removes : (slots removed : ℕ) (worn : Bool) (new : Pass) → Stops old slots removed worn new → Removes old removed new

@@ -8,6 +8,7 @@ pub mod Retrying
 pub mod Doing
 pub mod Living
 pub mod NoneKept
+pub mod Whole
 pub mod Emptying
 pub mod Marking
 pub mod Wearing

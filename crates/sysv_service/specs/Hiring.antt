@@ -3,7 +3,7 @@
 use Rattle.std.specs.Prelude.{◌≡◌, ◌+◌, ℕ, ℤ, Bool, List, ◌++◌, reverse}
 use Rattle.std.specs.List.{AllByRecursion, FoldsTo, flat_map, sum_by}
 use Rattle.sysv_steps.specs.Call.{MsgctlRmid}
-use Rattle.sysv_steps.specs.State.{State, Over}
+use Rattle.sysv_steps.specs.State.{Ending, State, Over}
 use Rattle.sysv_free.specs.Order.{Called}
 use Rattle.sysv_free.specs.Crew.{IsServed}
 use Rattle.sysv_bank.specs.Banks.{Each3}
@@ -52,9 +52,9 @@ EveryHiringObeys = (generation blocks first : ℕ) (gates : Gates) (theirs left 
     IsUnmarked last.seats → AreOf gates last.seats → (end : IsCounted last.seats last.held closed) →
     IsServed generation blocks end.all.order (all_of each ++ calls)
 
--- A removal of a queue by the superuser.
+-- A removal of a queue by the superuser, which is over.
 abbrev pub IsRemoval : Called → Type 0
-IsRemoval call = (call.cred ≡ superuser) × ((id : ℤ) × (call.asked ≡ MsgctlRmid id))
+IsRemoval call = (call.cred ≡ superuser) × ((id : ℤ) × (call.asked ≡ MsgctlRmid id)) × ((ending : Ending) × (call.state ≡ Over ending))
 
 -- The number of queues that a call removed which is in this state: one or none.
 abbrev pub removed_at : State → ℕ

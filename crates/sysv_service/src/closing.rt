@@ -25,7 +25,7 @@ pub struct Closed {
     /// pool is held.
     pub free: u32,
     /// The number of held gates. A turn at each of them did not end, and nothing is known of its
-    /// object.
+    /// object. `every_pool_is_whole` states when it is 0.
     pub held: u32,
 }
 

@@ -4,7 +4,7 @@ ghost use Rattle.sysv_gated.specs.SeenHistories.{ObeysIfOpen};
 ghost use Rattle.sysv_service.specs.Hiring.{EveryHiringObeys, EveryStopRemoves};
 ghost use Rattle.sysv_service.specs.Life.{EachRunIsAtAnyMoment, EveryServiceObeys};
 ghost use Rattle.sysv_service.specs.OwnTurns.{EachPlaysItsOwn, KnowTheirOwn};
-ghost use Rattle.sysv_service.specs.PoolWhole.{EveryPoolIsWhole};
+ghost use Rattle.sysv_service.specs.PoolWhole.{EveryHiringLeavesThePoolWhole, EveryPoolIsWhole, NoHiringLeavesAGateHeld};
 ghost use Rattle.sysv_service.specs.RightAnswers.{EachRunAnswersRight};
 ghost use Rattle.sysv_driver.specs.Stepping.{no_moment};
 ghost use Rattle.sysv_service.specs.Retried.{EachRetryIsAtItsGoal};
@@ -79,11 +79,17 @@ pub fn every_hiring_obeys()
     every_service_that_came_home_is_a_run();
 }
 
-/// States that all blocks of the pool are free after the close of a service, if all passes have
-/// come home, each of their calls is over or was left at a wait, no gate is held, no call found one
-/// worn out, and the pool took back at most 2^63 - 256 chains.
+/// States that no gate is held and all blocks of the pool are free after the close of a service, if
+/// all passes have come home, each of their calls is over or was left at a wait, and no call found a
+/// gate worn out.
+///
+/// The clause `hired` states the same of a service whose first pass gave a pass to each worker and
+/// took all of them back, if the last pass is unmarked. The clause `none_held` states that no gate is
+/// held after the close of such a service, also if calls found gates worn out.
 pub fn every_pool_is_whole()
-    ensures { EveryPoolIsWhole }
+    ensures whole { EveryPoolIsWhole }
+    ensures hired { EveryHiringLeavesThePoolWhole }
+    ensures none_held { NoHiringLeavesAGateHeld }
 {
     seen_histories();
     every_service_that_came_home_is_a_run();

@@ -16,6 +16,14 @@ use std::time::{Clock, Duration};
 use std::{fs, thread};
 use sysv_keys::SLOTS;
 use sysv_server::{Ended, Patience, ServeFault, Sums, Terms, serve_listener, serve_on};
+use sysv_service::Closed;
+
+/// What is left of a service of 128 blocks when it is closed: no message, all blocks, no held gate.
+const EMPTY: Closed = Closed {
+    waiting: 0,
+    free: 128,
+    held: 0,
+};
 
 /// A hello of user and group 1000, pid 101.
 pub(crate) const HELLO: &[u8] = &[
@@ -405,6 +413,7 @@ fn the_queue_that_the_last_session_made_is_removed(rt: HostRuntime) {
     let end = Ended {
         sums: sums(2, 0, 0),
         removed: Ok(1),
+        closed: EMPTY,
     };
     ends_as(&rt, rt.alloc(), 1, Clients::Leaving, end);
 }
@@ -414,6 +423,7 @@ fn no_queue_is_left(rt: HostRuntime) {
     let end = Ended {
         sums: sums(5, 0, 0),
         removed: Ok(0),
+        closed: EMPTY,
     };
     ends_as(&rt, rt.alloc(), 40, Clients::Commanding, end);
 }

@@ -35,11 +35,14 @@ returns-in-Ok-outcome-clause-ok g c =
           hires = hires;
           closed = c.close-closed.result;
           counted = c.close-closed.ensures;
-          run = c.each_life_is_one_run.ensures c.args.blocks c.in-Ok.service shifts c.stop-removed.result stopped c.close-closed.result c.close-closed.ensures opened.0 c.stop-removed.ensures.pass hires;
+          run = c.each_life_is_one_run.ensures.run c.args.blocks c.in-Ok.service shifts c.stop-removed.result stopped c.close-closed.result c.close-closed.ensures opened.0 c.stop-removed.ensures.pass hires;
+          held = c.each_life_is_one_run.ensures.none_held c.in-Ok.service shifts c.stop-removed.result stopped c.close-closed.result c.close-closed.ensures hires;
+          whole = c.each_life_is_one_run.ensures.whole c.args.blocks c.in-Ok.service shifts c.stop-removed.result stopped c.close-closed.result c.close-closed.ensures opened.0 c.stop-removed.ensures.pass hires;
         };
       };
       stopped = stopped;
       told = refl;
+      closed = refl;
     }
 
 pub returns-in-Ok-outcome-clause-balance : goal.returns-in-Ok-outcome-clause-balance

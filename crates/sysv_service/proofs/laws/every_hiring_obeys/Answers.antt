@@ -4,7 +4,7 @@ use Rattle.sysv_driver.specs.Stepping.{no_moment}
 use Rattle.sysv_service.proofs.laws.every_hiring_obeys.Goals as goal
 
 pub returns-clause-obeys : goal.returns-clause-obeys
-returns-clause-obeys c = every_hiring (every_service c.every_service_that_came_home_is_a_run.ensures)
+returns-clause-obeys c = every_hiring (every_service c.every_service_that_came_home_is_a_run.ensures.run)
 
 pub returns-clause-stops : goal.returns-clause-stops
 returns-clause-stops c = every_stop (at_any no_moment)

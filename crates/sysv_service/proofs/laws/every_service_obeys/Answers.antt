@@ -3,7 +3,7 @@ use Rattle.sysv_driver.specs.Stepping.{no_moment}
 use Rattle.sysv_service.proofs.laws.every_service_obeys.Goals as goal
 
 pub returns-clause-obeys : goal.returns-clause-obeys
-returns-clause-obeys g c = every_service c.every_service_that_came_home_is_a_run.ensures
+returns-clause-obeys g c = every_service c.every_service_that_came_home_is_a_run.ensures.run
 
 pub returns-clause-stamped : goal.returns-clause-stamped
 returns-clause-stamped g c = at_any _

@@ -7,7 +7,7 @@ use Rattle.sysv_gated.proofs.Closing.{as_long}
 use Rattle.sysv_bank.specs.Banks.{gates_of}
 use Rattle.sysv_gated.specs.Order.{deeds_of}
 use Rattle.sysv_gated.specs.Banked.{seats_seen}
-use Rattle.sysv_gated.proofs.Ordered.{closes}
+use Rattle.sysv_gated.proofs.Ordered.{whole, closes}
 use Rattle.sysv_gated.proofs.OrderedHistories.{order_legal}
 use Rattle.sysv_gated.proofs.Placing.{of_bank}
 use Rattle.sysv_gated.proofs.Parting.{all_parts}
@@ -68,4 +68,4 @@ returns-clause-closed c =
     (all_close seats (seats_seen last).member (deeds_of (gates_of seats) order.order) (closes (gates_of seats) last c.close-closings.result.items order)
     (order_legal last c.close-closings.result.items c.seats.invariant (sym (as_long _ _ _ c.close-closings.ensures.closed)) order) _ parts
     c.close-closings.result.items back.0 c.in-Some-pop-2.registry c.in-Some-pop.pool c.seats.invariant c.close-closings.ensures.closed cs given
-    c.registry_closing.ensures c.pool_closing.ensures)
+    c.registry_closing.ensures c.pool_closing.ensures (λ w. (order.home (whole last.shares w)).2))
