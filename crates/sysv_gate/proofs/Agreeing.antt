@@ -5,7 +5,7 @@ use Rattle.sysv_gate.specs.declared.view.Turn.{Turn}
 use Rattle.sysv_lists.specs.Numbers.{times}
 use Rattle.sysv_lists.specs.Prefix.{IsPrefixOf}
 use Rattle.sysv_gate.specs.History.{made_at}
-use Rattle.sysv_gate.specs.Laws.{OneTurnAtATime, NoTurnOfTwoSeats, OneHistory, CountsOutsideATurn}
+use Rattle.sysv_gate.specs.Laws.{OneTurnAtATime, NoTurnOfTwoSeats, OneHistory, MarkedOnlyWhenWorn, CountsOutsideATurn}
 use Rattle.sysv_lists.proofs.Sums.{two-le-sum_by}
 use Rattle.sysv_gate.specs.Counts.{word_of, of_count}
 use Rattle.sysv_gate.specs.History.{after_all}
@@ -45,6 +45,12 @@ module _ {O C R : Type 0} where
         let one = (kept.each i v at).seen in
         let two = (kept.each k w there).seen in
         prefix_either v.seen w.seen one.0 two.0 (sym one.1 ∙ two.1)
+
+    pub marked_only : MarkedOnlyWhenWorn {C = C} {R = R} moves
+    marked_only opening first log drawn homes views kept i v at marked =
+        let reached = (kept.each i v at).worn marked in
+        let most = kept.limit in
+        omega arith
 
     pub counts_outside : (counted : O → ℕ × ℕ) → CountsOutsideATurn {C = C} {R = R} moves counted
     counts_outside counted opening first s held nobody = (

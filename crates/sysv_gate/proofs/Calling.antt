@@ -74,7 +74,7 @@ module _ {O C R : Type 0} (moves : O → C → R → O → Type 0) (counted : O 
   pub refused : (call : C) (e : TryRefused C) → HasTried moves o m call e m' → Refuses moves Was call e Is
   refused call (Busy c) told =
       let is : m'.0 ≡ record m.0 { seen = told.1.log } = ap (λ (n : Mine O C R). n.0) told.1.is in
-      (told.0, record { others = told.1.longer.0; seen = shown _ is ∙ ap (λ (l : List (Turn O C R)). holding table first o (record m.0 { seen = l })) told.1.longer.1; legal = told.2; own = told.3 })
+      (told.0, record { others = told.1.longer.0; seen = shown _ is ∙ ap (λ (l : List (Turn O C R)). holding table first o (record m.0 { seen = l })) told.1.longer.1; legal = told.2; own = told.3 }, told.4)
   refused call (Worn c) told = (told.0, worn told.1)
 
   pub rests_refused : (call : C) (e : TryRefused C) → HasTried moves o m call e m' → RestsAt moves o first m'.0

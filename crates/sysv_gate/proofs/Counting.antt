@@ -20,6 +20,11 @@ pub not_true : (b : Bool) → ¬ (b ≡ true) → b ≡ false
 not_true true h = absurd (h refl)
 not_true false h = refl
 
+-- A mark that is there only from 2^62 on is not there below it.
+pub unmarked : (b : Bool) (n : ℕ) → (b ≡ true → 2 ^ 62 ≤ n) → n < 2 ^ 62 → b ≡ false
+unmarked true n marks low = let high = marks refl in absurd (omega arith)
+unmarked false n marks low = refl
+
 -- A list of one number does not contain another number.
 pub another : (x n : ℕ) → times n (x ∷ []) ≡ cond (x == n) 1 0 → ¬ (x ≡ n) → times n (x ∷ []) ≡ 0
 another x n e apart = grind (arith, nat_tests)

@@ -99,10 +99,10 @@ module _ {O C R : Type 0} where
     pub counts : (count : Count) → of_count count m.0.read ≤ of_count count (counted (after_all opening (m.0.seen ++ others)))
     pub fresh : m.0.worn ≡ false
 
-  -- A try was refused, and the call is handed back. The pass has seen more, or has found the
-  -- tickets worn out.
+  -- A try was refused, and the call is handed back. Either the pass was not marked before and has
+  -- seen more, or it has found the tickets worn out.
   abbrev pub HasTried : (O → C → R → O → Type 0) → O → Mine O C R → C → TryRefused C → Mine O C R → Type 0
-  HasTried moves opening m call (Busy c) m' = (c ≡ call) × SawMore m.0 m' × IsLegal moves opening m'.0.seen × HasItsOwn m'.0.numbers m'.0.own m'.0.seen
+  HasTried moves opening m call (Busy c) m' = (c ≡ call) × SawMore m.0 m' × IsLegal moves opening m'.0.seen × HasItsOwn m'.0.numbers m'.0.own m'.0.seen × (m.0.worn ≡ false)
   HasTried moves opening m call (Worn c) m' = (c ≡ call) × HasWorn m m'
 
   -- What a pass has that was split off: what its origin has seen, a number of its own, and no turn.

@@ -1,6 +1,6 @@
 -- Consequences of the rule of a gate for all seats together. They hold at each place of a table.
 -- This project's profile.
-use Rattle.std.specs.Prelude.{◌≡◌, ◌⊎◌, ℕ, ◌+◌, ◌≤◌, List, length, slice_index, true, false}
+use Rattle.std.specs.Prelude.{◌≡◌, ◌⊎◌, ℕ, ◌+◌, ◌^◌, ◌≤◌, List, length, slice_index, true, false}
 use mathlib.Core.Option.{some}
 use lib.ListN.{get_elem?}
 use Rattle.sysv_gate.specs.declared.view.View.{View}
@@ -31,6 +31,12 @@ module _ {O C R : Type 0} (moves : O → C → R → O → Type 0) where
   -- Of the histories that two seats have seen, one is a prefix of the other.
   abbrev pub OneHistory : Type 0
   OneHistory = OfTwoSeats (λ v w. IsPrefixOf w.seen v.seen ⊎ IsPrefixOf v.seen w.seen)
+
+  -- A seat is marked as worn only if the tickets have reached 2^62.
+  abbrev pub MarkedOnlyWhenWorn : Type 0
+  MarkedOnlyWhenWorn =
+      (opening : O) (first : ℕ) (log : List (Turn O C R)) (drawn : ℕ) (homes : Homes O C R) (views : List (View O C R)) → IsKept moves opening first log drawn homes views
+      → (i : ℕ) (v : View O C R) → get_elem? views i ≡ some v → v.worn ≡ true → drawn ≡ 2 ^ 62
 
   -- If no seat is in its turn, there is a legal history of all turns, and the words of the two
   -- counts have the counts of the object after it.

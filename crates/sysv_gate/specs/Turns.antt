@@ -57,10 +57,10 @@ module _ {O C R : Type 0} where
     pub other : times n m.0.tickets ≡ 0 → m' ≡ (record m.0 { seen = log }, [])
 
   -- The result of a try. The turn has begun, or the seat has seen more, or it has found that the
-  -- tickets have reached 2^62.
+  -- tickets have reached 2^62. In the first two cases it was not marked before.
   abbrev pub Entered : (O → C → R → O → Type 0) → (O → ℕ × ℕ) → O → Mine O C R → Entry → Mine O C R → Type 0
   Entered moves counted opening m Turn m' = (ticket : ℕ) × TurnCame moves counted opening m.0 ticket m' × (ticket < 2 ^ 62) × (m.0.worn ≡ false)
-  Entered moves counted opening m Busy m' = SawMore m.0 m' × IsLegal moves opening m'.0.seen × HasItsOwn m'.0.numbers m'.0.own m'.0.seen
+  Entered moves counted opening m Busy m' = SawMore m.0 m' × IsLegal moves opening m'.0.seen × HasItsOwn m'.0.numbers m'.0.own m'.0.seen × (m.0.worn ≡ false)
   Entered moves counted opening m Worn m' = HasWorn m m'
 
   -- The turn was made.

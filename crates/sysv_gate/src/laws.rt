@@ -1,7 +1,7 @@
 //! Laws about all seats of a gate together. Each function does nothing: its contract is the law.
 ghost use Rattle.sysv_gate.specs.History.{Moves};
 ghost use Rattle.sysv_gate.specs.Gates.{KnowsItsOwn};
-ghost use Rattle.sysv_gate.specs.Laws.{OneTurnAtATime, NoTurnOfTwoSeats, OneHistory, CountsOutsideATurn};
+ghost use Rattle.sysv_gate.specs.Laws.{OneTurnAtATime, NoTurnOfTwoSeats, OneHistory, MarkedOnlyWhenWorn, CountsOutsideATurn};
 
 use crate::object::Object;
 use crate::seat::Seat;
@@ -19,6 +19,11 @@ pub fn no_turn_of_two_seats<O: Object>()
 /// States that all seats have seen prefixes of one history.
 pub fn one_history<O: Object>()
     ensures { OneHistory (Moves O.meaning O.counted) }
+{}
+
+/// States that a seat is marked as worn only if all tickets below 2^62 are drawn.
+pub fn marked_only_when_worn<O: Object>()
+    ensures { MarkedOnlyWhenWorn (Moves O.meaning O.counted) }
 {}
 
 /// States that outside a turn the two words have the counts of the object after all turns.

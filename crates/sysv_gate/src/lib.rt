@@ -43,8 +43,8 @@ pub use ending::close_place;
 pub use gate::Gate;
 pub use hall::{Hall, HallKey, HallRule, HallToken};
 pub use laws::{
-    counts_outside_a_turn, each_seat_knows_its_own, no_turn_of_two_seats, one_history,
-    one_turn_at_a_time,
+    counts_outside_a_turn, each_seat_knows_its_own, marked_only_when_worn, no_turn_of_two_seats,
+    one_history, one_turn_at_a_time,
 };
 pub use laying::lay_hall;
 pub use object::Object;

@@ -6,6 +6,7 @@ ghost use Rattle.sysv_bank.specs.Banks.{gates_of};
 mod held;
 mod keeper;
 mod place;
+mod threads;
 
 use crate::parts::{LIMIT, assert_is};
 use crate::sum::Sum;

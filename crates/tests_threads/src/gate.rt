@@ -3,7 +3,7 @@ ghost use Rattle.std.specs.Prelude.{◌≡◌, ℕ, ◌+◌, ◌%◌, ◌^◌, �
 
 mod threads;
 
-use crate::parts::{LIMIT, assert_is};
+use crate::parts::{LIMIT, assert_is, millis};
 use crate::sum::Sum;
 use std::test::Fail;
 use sysv_gate::{Awaited, Gate, Object, OpenRefused, Seat, TryRefused};
@@ -257,5 +257,20 @@ fn a_bounded_wait_comes_back(rt: HostRuntime) -> Result<(), Fail> {
     );
     assert_is(&rt, gate.freed_within(&rt, &mut seat, 1), None);
     assert_is(&rt, gate.close(seat).turns, 1);
+    Ok(())
+}
+
+// Each of the two waits lasts a second at most.
+#[test]
+fn a_bounded_wait_lasts_a_second_at_most(rt: HostRuntime) -> Result<(), Fail> {
+    let (gate, mut seat) = opened(&rt, 0).ok_or("no memory")?;
+    let begun = millis(&rt);
+    assert_is(&rt, gate.arrived_within(&rt, &mut seat, 1), None);
+    assert_is(&rt, gate.freed_within(&rt, &mut seat, 1), None);
+    let ended = millis(&rt);
+    assert_is(&rt, gate.close(seat).turns, 0);
+    assert!(rt;
+        matches!((begun, ended), (Some(begun), Some(ended)) if ended.saturating_sub(begun) < 3_900)
+    );
     Ok(())
 }

@@ -2,8 +2,9 @@
 ghost use Rattle.std.specs.Prelude.{◌≡◌};
 
 use super::opened;
-use crate::parts::LIMIT;
+use crate::parts::{LIMIT, millis};
 use crate::sum::Sum;
+use std::alloc::Global;
 use std::sync::Wait;
 use std::test::Fail;
 use std::thread::{Threads, for_each_mut, join};
@@ -23,6 +24,14 @@ const PATIENCE: u64 = 300;
 /// The maximum number of bounded waits in a row.
 const NAPS: u64 = 100;
 
+/// A test by time has this many trials. One that shows what is wanted is enough, because a thread of
+/// a busy machine may be late.
+const TRIALS: u64 = 8;
+
+/// A thread that is woken returns within this number of milliseconds. A thread that is not woken
+/// sleeps longer.
+const PROMPT: u64 = 400;
+
 /// The task of a thread.
 #[derive(Clone, Copy)]
 enum Role {
@@ -37,14 +46,26 @@ enum Role {
     Watches,
     /// Waits for a count that no call raises.
     WaitsInVain,
-    /// Draws the last ticket, after another thread sleeps.
-    WearsOut,
+    /// Waits until the second count is at least this number.
+    WaitsForFreed(u64),
+    /// Draws the last ticket and adds this number, once others sleep.
+    WearsOut(u8),
     /// Waits for the first count by bounded waits.
     NapsForArrived,
     /// Waits for the second count by bounded waits.
     NapsForFreed,
     /// Raises both counts, after other threads sleep.
     RaisesBoth,
+    /// Waits for the first count, and notes the time at which it returns.
+    NotesTime,
+    /// Raises the first count by a try, once others sleep. Later it notes the time, and wakes all.
+    TriesAndWakes,
+    /// Waits for the first count by one bounded wait, and notes the time at which it returns.
+    Naps,
+    /// Does as `Naps`, and then passes on.
+    NapsAndPassesOn,
+    /// Notes the time and raises the first count, once others sleep.
+    RaisesArrived,
 }
 
 /// A thread, and the last number that it was told.
@@ -79,10 +100,16 @@ impl<'b> Member<'b> {
             Role::Answers => answer_often(rt, self.gate, &mut self.seat),
             Role::Watches => watch(rt, self.gate, &mut self.seat),
             Role::WaitsInVain => wait_in_vain(rt, self.gate, &mut self.seat),
-            Role::WearsOut => wear_out(rt, self.gate, &mut self.seat),
+            Role::WaitsForFreed(goal) => wait_for_freed(rt, self.gate, &mut self.seat, goal),
+            Role::WearsOut(call) => wear_out(rt, self.gate, &mut self.seat, call),
             Role::NapsForArrived => nap_for_arrived(rt, self.gate, &mut self.seat),
             Role::NapsForFreed => nap_for_freed(rt, self.gate, &mut self.seat),
             Role::RaisesBoth => raise_both(rt, self.gate, &mut self.seat),
+            Role::NotesTime => note_time(rt, self.gate, &mut self.seat),
+            Role::TriesAndWakes => try_and_wake(rt, self.gate, &mut self.seat),
+            Role::Naps => nap(rt, self.gate, &mut self.seat),
+            Role::NapsAndPassesOn => nap_and_pass_on(rt, self.gate, &mut self.seat),
+            Role::RaisesArrived => raise_arrived(rt, self.gate, &mut self.seat),
         };
     }
 }
@@ -307,21 +334,53 @@ fn wait_in_vain(rt: &impl Wait, gate: &Gate<Sum>, seat: &mut Seat<Sum>) -> Optio
     }
 }
 
+// Returns the count that it reached, or `None` if the gate was worn out first.
+fn wait_for_freed(rt: &impl Wait, gate: &Gate<Sum>, seat: &mut Seat<Sum>, goal: u64) -> Option<u64>
+    requires { seat.old.gate ≡ gate.now }
+    ensures { seat.new.gate ≡ gate.now }
+{
+    match gate.await_freed(rt, seat, goal) {
+        Awaited::Reached(count) => Some(count),
+        Awaited::Worn => None,
+    }
+}
+
 // Returns the sum before its turn.
-fn wear_out<R: Wait + Clock>(rt: &R, gate: &Gate<Sum>, seat: &mut Seat<Sum>) -> Option<u64>
+fn wear_out<R: Wait + Clock>(
+    rt: &R,
+    gate: &Gate<Sum>,
+    seat: &mut Seat<Sum>,
+    call: u8,
+) -> Option<u64>
     requires { seat.old.gate ≡ gate.now }
     ensures { seat.new.gate ≡ gate.now }
 {
     thread::sleep(rt, Duration::from_millis(100));
-    gate.call(rt, seat, 2).ok()
+    gate.call(rt, seat, call).ok()
 }
 
 #[test]
 fn a_sleeper_is_told_that_the_gate_is_worn(rt: HostRuntime) -> Result<(), Fail> {
     let (gate, mut seat) = opened(&rt, LIMIT - 1).ok_or("no memory")?;
-    let roles = [Role::WaitsInVain, Role::WearsOut, Role::Idle, Role::Idle];
+    let roles = [Role::WaitsInVain, Role::WearsOut(2), Role::Idle, Role::Idle];
     let told = told_to_four(&rt, &gate, &mut seat, roles);
     assert_eq!(rt; told, [None, Some(0), None, None]);
+    assert_eq!(rt; gate.close(seat).turns, 1);
+    Ok(())
+}
+
+// The last turn raises the first count, so that only the wear wakes those who wait for the second.
+#[test]
+fn a_sleeper_for_freed_is_told_that_the_gate_is_worn(rt: HostRuntime) -> Result<(), Fail> {
+    let (gate, mut seat) = opened(&rt, LIMIT - 1).ok_or("no memory")?;
+    let roles = [
+        Role::WaitsForFreed(1),
+        Role::WaitsForFreed(1),
+        Role::WearsOut(1),
+        Role::Idle,
+    ];
+    let told = told_to_four(&rt, &gate, &mut seat, roles);
+    assert_eq!(rt; told, [None, None, Some(0), None]);
     assert_eq!(rt; gate.close(seat).turns, 1);
     Ok(())
 }
@@ -374,5 +433,196 @@ fn bounded_waits_see_what_comes_while_they_sleep(rt: HostRuntime) -> Result<(), 
     let told = told_to_four(&rt, &gate, &mut seat, roles);
     assert_eq!(rt; told, [Some(1), Some(1), Some(1), None]);
     assert_eq!(rt; gate.close(seat).turns, 2);
+    Ok(())
+}
+
+// One rise ends every wait for the second count.
+#[test]
+fn a_rise_wakes_all_who_wait_for_freed(rt: HostRuntime) -> Result<(), Fail> {
+    let (gate, mut seat) = opened(&rt, 0).ok_or("no memory")?;
+    let roles = [
+        Role::WaitsForFreed(1),
+        Role::WaitsForFreed(1),
+        Role::RaisesBoth,
+        Role::WaitsForFreed(1),
+    ];
+    let told = told_to_four(&rt, &gate, &mut seat, roles);
+    assert_eq!(rt; told, [Some(1); 4]);
+    assert_eq!(rt; gate.close(seat).turns, 2);
+    Ok(())
+}
+
+// The time at which the wait ended.
+fn note_time<R: Wait + Clock>(rt: &R, gate: &Gate<Sum>, seat: &mut Seat<Sum>) -> Option<u64>
+    requires { seat.old.gate ≡ gate.now }
+    ensures { seat.new.gate ≡ gate.now }
+{
+    gate.await_arrived(rt, seat, 1);
+    millis(rt)
+}
+
+// The time before it wakes the others.
+fn try_and_wake<R: Wait + Clock>(rt: &R, gate: &Gate<Sum>, seat: &mut Seat<Sum>) -> Option<u64>
+    requires { seat.old.gate ≡ gate.now }
+    ensures { seat.new.gate ≡ gate.now }
+{
+    thread::sleep(rt, Duration::from_millis(100));
+    gate.try_call(seat, 1).ok()?;
+    thread::sleep(rt, Duration::from_millis(100));
+    let before = millis(rt);
+    gate.wake(rt);
+    before
+}
+
+#[test]
+fn a_try_wakes_nobody_and_a_wake_wakes_all(rt: HostRuntime) -> Result<(), Fail> {
+    let mut slept = false;
+    for _ in 0..TRIALS {
+        let (gate, mut seat) = opened(&rt, 0).ok_or("no memory")?;
+        let roles = [
+            Role::NotesTime,
+            Role::NotesTime,
+            Role::TriesAndWakes,
+            Role::Idle,
+        ];
+        let [one, two, woken, _] = told_to_four(&rt, &gate, &mut seat, roles);
+        assert_eq!(rt; gate.close(seat).turns, 1);
+        slept =
+            matches!((one, two, woken), (Some(one), Some(two), Some(woken)) if one >= woken && two >= woken);
+        if slept {
+            break;
+        }
+    }
+    assert!(rt; slept);
+    Ok(())
+}
+
+// The time at which the wait saw the rise, or none if the rise came before the wait.
+fn nap<R: Wait + Clock>(rt: &R, gate: &Gate<Sum>, seat: &mut Seat<Sum>) -> Option<u64>
+    requires { seat.old.gate ≡ gate.now }
+    ensures { seat.new.gate ≡ gate.now }
+{
+    if gate.arrived(seat) > 0 {
+        return None;
+    }
+    match gate.arrived_within(rt, seat, 1) {
+        Some(Awaited::Reached(_)) => millis(rt),
+        _ => None,
+    }
+}
+
+// The time at which the wait saw the rise, or none if the rise came before the wait.
+fn nap_and_pass_on<R: Wait + Clock>(rt: &R, gate: &Gate<Sum>, seat: &mut Seat<Sum>) -> Option<u64>
+    requires { seat.old.gate ≡ gate.now }
+    ensures { seat.new.gate ≡ gate.now }
+{
+    let seen = nap(rt, gate, seat);
+    gate.pass_on();
+    seen
+}
+
+// The time before its turn.
+fn raise_arrived<R: Wait + Clock>(rt: &R, gate: &Gate<Sum>, seat: &mut Seat<Sum>) -> Option<u64>
+    requires { seat.old.gate ≡ gate.now }
+    ensures { seat.new.gate ≡ gate.now }
+{
+    thread::sleep(rt, Duration::from_millis(300));
+    let before = millis(rt);
+    gate.call(rt, seat, 1).ok()?;
+    before
+}
+
+// Whether each of two bounded waits was over promptly after the rise, or none if one came too late.
+fn prompt<R: Threads + Wait + Clock + Sync>(
+    rt: &R,
+    gate: &Gate<Sum>,
+    seat: &mut Seat<Sum>,
+    role: Role,
+) -> Option<(bool, bool)>
+    requires { seat.old.gate ≡ gate.now }
+    ensures { seat.new.gate ≡ gate.now }
+{
+    let roles = [role, role, Role::RaisesArrived, Role::Idle];
+    let [one, two, raised, _] = told_to_four(rt, gate, seat, roles);
+    let late = raised?.saturating_add(PROMPT);
+    Some((one? < late, two? < late))
+}
+
+// Whether a trial had one of these results.
+fn tried<R: Threads + Wait + Clock + Sync>(
+    rt: &R,
+    alloc: Global,
+    role: Role,
+    wanted: [(bool, bool); 2],
+) -> Option<bool> {
+    for _ in 0..TRIALS {
+        let (gate, mut seat) = Gate::open(alloc, Sum::new(0)).ok()?;
+        let found = prompt(rt, &gate, &mut seat, role);
+        gate.close(seat);
+        if found.is_some_and(|found| wanted.contains(&found)) {
+            return Some(true);
+        }
+    }
+    Some(false)
+}
+
+#[test]
+fn a_thread_that_passes_on_wakes_the_next(rt: HostRuntime) {
+    let both = tried(&rt, rt.alloc(), Role::NapsAndPassesOn, [(true, true); 2]);
+    assert_eq!(rt; both, Some(true));
+}
+
+#[test]
+fn a_rise_wakes_one_bounded_wait(rt: HostRuntime) {
+    let one = tried(&rt, rt.alloc(), Role::Naps, [(true, false), (false, true)]);
+    assert_eq!(rt; one, Some(true));
+}
+
+// Makes a slow turn by a try, and then wakes all.
+fn try_slowly_and_wake<R: Wait + Clock>(rt: &R, gate: &Gate<Slow>, mut seat: Seat<Slow>) -> bool
+    requires { seat.gate ≡ gate.now }
+{
+    let tried = gate.try_call(&mut seat, 1).is_ok();
+    thread::sleep(rt, Duration::from_millis(50));
+    gate.wake(rt);
+    tried
+}
+
+// Calls while the other turn lasts.
+fn call_meanwhile<R: Wait + Clock>(rt: &R, gate: &Gate<Slow>, mut seat: Seat<Slow>) -> bool
+    requires { seat.gate ≡ gate.now }
+{
+    thread::sleep(rt, Duration::from_millis(50));
+    gate.call(rt, &mut seat, 0).is_ok()
+}
+
+fn wait_out_a_try<R: Threads + Wait + Clock + Sync>(
+    rt: &R,
+    gate: &Gate<Slow>,
+    slow: Seat<Slow>,
+    waiting: Seat<Slow>,
+) -> (bool, bool)
+    requires slow { slow.gate ≡ gate.now }
+    requires waiting { waiting.gate ≡ gate.now }
+{
+    join(
+        rt,
+        || try_slowly_and_wake(rt, gate, slow),
+        || call_meanwhile(rt, gate, waiting),
+    )
+}
+
+// No turn ends after the try, so only the wake ends a wait for the turn. A try that comes too late may be busy.
+#[test]
+fn a_wake_ends_the_wait_for_a_turn(rt: HostRuntime) -> Result<(), Fail> {
+    let Ok((gate, mut seat)) = Gate::open(rt.alloc(), Slow { slow: 0 }) else {
+        return Err("no memory".into());
+    };
+    let slow = gate.split(&mut seat);
+    let waiting = gate.split(&mut seat);
+    let (tried, called) = wait_out_a_try(&rt, &gate, slow, waiting);
+    let turns = gate.close(seat).turns;
+    assert!(rt; called);
+    assert_eq!(rt; turns, if tried { 2 } else { 1 });
     Ok(())
 }

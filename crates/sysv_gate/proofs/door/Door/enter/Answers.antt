@@ -3,6 +3,7 @@ use Rattle.sysv_gate.specs.History.{Moves, IsLegal, HasItsOwn}
 use Rattle.sysv_gate.specs.Steps.{entered}
 use Rattle.sysv_gate.specs.Turns.{Looked, SawMore}
 use Rattle.sysv_gate.specs.Halls.{me_at}
+use Rattle.sysv_gate.proofs.Counting.{unmarked}
 use Rattle.sysv_gate.proofs.Turning.{unweighed, idle_look, look_count, look_legal, look_own, came_at_once}
 use Rattle.sysv_gate.proofs.Entering.{same_trans}
 use Rattle.sysv_gate.proofs.door.Door.enter.Goals as goal
@@ -37,6 +38,7 @@ returns-then-found-served-clause-entered g c =
       subst (SawMore m.0) (sym lost) (idle_look moves counted o m n m' c.requires.idle.1 look),
       subst (λ x. IsLegal moves o x.0.seen) (sym lost) (look_legal moves counted o m n m' c.requires.idle.1 look),
       subst (λ x. HasItsOwn x.0.numbers x.0.own x.0.seen) (sym lost) (look_own moves counted o m n m' c.requires.idle.1 look),
+      unmarked m.0.worn c.weigh-next.result c.weigh-next.ensures.weighed.1 (omega arith),
     )
 
 pub returns-clause-same : goal.returns-clause-same
@@ -68,5 +70,9 @@ returns-then-served-next-clause-entered g c =
     let m' = me_at c.args.self.now.place c.look-served.new.token.me in
     let n = c.look-served.result in
     let still = unweighed m (me_at c.args.self.now.place c.weigh-next.new.token.me) c.weigh-next.result c.weigh-next.ensures.weighed.0 (omega arith) in
-    let look = subst (λ x. Looked moves counted o x n m') still c.look-served.ensures.looked in
-    (idle_look moves counted o m n m' c.requires.idle.1 look, look_legal moves counted o m n m' c.requires.idle.1 look, look_own moves counted o m n m' c.requires.idle.1 look)
+    let look = subst (λ x. Looked moves counted o x n m') still c.look-served.ensures.looked in (
+      idle_look moves counted o m n m' c.requires.idle.1 look,
+      look_legal moves counted o m n m' c.requires.idle.1 look,
+      look_own moves counted o m n m' c.requires.idle.1 look,
+      unmarked m.0.worn c.weigh-next.result c.weigh-next.ensures.weighed.1 (omega arith),
+    )
