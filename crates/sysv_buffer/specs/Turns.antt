@@ -55,7 +55,7 @@ module _ {T : Type 0} where
   Looked slots m (Empty count) m' = (m' ≡ m) × (count ≡ m.0.taken) × (length m.0.put ≤ m.0.taken) × (m.0.taken < 2 ^ 62)
   Looked slots m Spent m' = (m' ≡ m) × (2 ^ 62 ≤ m.0.taken)
 
-  -- The end cannot go on while the word has the value that was found. A producer found this value in
+  -- The end cannot go on while the word has the value that was found. A producer found the value in
   -- OUT: every cell has an item while no more items are taken. A consumer found it in IN: it has
   -- taken all items while no more are put.
   abbrev pub IsStuck : ℕ → ℕ → ℕ → Mine T → Type 0
