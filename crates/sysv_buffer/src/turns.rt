@@ -1,5 +1,5 @@
 //! The parts of a call of a `OneBuffer`. Each makes some steps on the table.
-ghost use Rattle.std.specs.Prelude.{◌≡◌, ℕ, ◌+◌, ◌%◌, ◌^◌, ◌<◌, ◌≤◌, true, false, List, [], ◌∷◌, ◌++◌, length, Some, None, IfSome, IfNone};
+ghost use Rattle.std.specs.Prelude.{◌≡◌, ◌+◌, ◌%◌, ◌^◌, ◌≤◌, true, false, [], ◌∷◌, ◌++◌, length, Some, None, IfSome, IfNone};
 ghost use Rattle.sysv_buffer.specs.Turns.{IsOf, IsSame, HasPut, HasRoom, IsIdleProducer, IsIdleConsumer, Reached, Looked, IsStuck};
 ghost use Rattle.sysv_buffer.specs.declared.turns.Found.TheVariants.{Item, Spent};
 ghost use Rattle.sysv_buffer.specs.declared.view.Role.TheVariants.{Producer, Consumer};
