@@ -175,7 +175,7 @@ module _ {T : Type 0} where
         keeps,
         tt,
         on_in s g n g.put s.homes (set s.views id me.0) g.p me.0 g.in_word (second_view s g id me.0 w.1) r,
-        ((λ waits. absurd (omega arith)), λ _. (refl, let long = ap length r.seen.1 ∙ length-append me.0.put r.seen.0 in omega (arith, g.in_word))),
+        ((λ waits. absurd (omega arith)), λ _. (refl, omega (arith, g.in_word, r.order, r.takes), let long = ap length r.seen.1 ∙ length-append me.0.put r.seen.0 in omega (arith, g.in_word))),
       ))
       (λ waits.
       let k : ℕ = me.0.taken % slots in

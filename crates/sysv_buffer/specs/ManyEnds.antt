@@ -71,17 +71,18 @@ module _ {T : Type 0} where
     pub takes : after.takes ≡ before.takes ++ place ∷ []
     pub at : get_elem? after.seen place ≡ some item
 
-  -- The refusal holds the item. It is `Full` only if, by the counts that were loaded, every cell
-  -- had an item and fewer than 2^62 items were put, and `Worn` only if the count that was loaded
-  -- had reached 2^62.
+  -- The refusal holds the item. It describes the buffer by the counts that were loaded. It is
+  -- `Full` only if every cell had an item, and `Busy` only if a cell was empty; in both cases fewer
+  -- than 2^62 items were put. It is `Worn` only if 2^62 items were put.
   abbrev pub GivesBack : T → Holding T → ManyPutRefused T → Type 0
   GivesBack item after (refused.Full back) = (back ≡ item) × (after.gone + after.buffer.room ≤ length after.seen) × (length after.seen < 2 ^ 62)
-  GivesBack item after (refused.Busy back) = back ≡ item
+  GivesBack item after (refused.Busy back) = (back ≡ item) × (length after.seen < after.gone + after.buffer.room) × (length after.seen < 2 ^ 62)
   GivesBack item after (refused.Worn back) = (back ≡ item) × (2 ^ 62 ≤ length after.seen)
 
-  -- The refusal is `Empty` only if, by the counts that were loaded, all items put were taken and
-  -- fewer than 2^62 were taken, and `Worn` only if the count that was loaded had reached 2^62.
+  -- The refusal describes the buffer by the counts that were loaded. It is `Empty` only if all
+  -- items put were taken, and `Busy` only if an item was left; in both cases fewer than 2^62 were
+  -- taken. It is `Worn` only if 2^62 were taken.
   abbrev pub Misses : Holding T → ManyTakeRefused → Type 0
   Misses after missed.Empty = (length after.seen ≤ after.gone) × (after.gone < 2 ^ 62)
-  Misses after missed.Busy = Unit {0}
+  Misses after missed.Busy = (after.gone < length after.seen) × (after.gone < 2 ^ 62)
   Misses after missed.Worn = 2 ^ 62 ≤ after.gone

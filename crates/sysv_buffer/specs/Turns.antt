@@ -1,6 +1,6 @@
 -- What the parts of a call require of an end of a `OneBuffer`, and what they leave. This project's
 -- profile.
-use Rattle.std.specs.Prelude.{Option, ◌≡◌, ℕ, ◌+◌, ◌%◌, ◌<◌, ◌≤◌, ◌^◌, true, false, List, [], ◌∷◌, length, None}
+use Rattle.std.specs.Prelude.{Option, ◌≡◌, ◌⊎◌, ℕ, ◌+◌, ◌%◌, ◌<◌, ◌≤◌, ◌^◌, true, false, List, [], ◌∷◌, length, None}
 use Rattle.atomic_table.specs.declared.shared.Seat.{Seat}
 use Rattle.sysv_buffer.specs.declared.view.View.{View}
 use Rattle.sysv_buffer.specs.declared.view.Role.TheVariants.{Producer, Consumer}
@@ -42,15 +42,23 @@ module _ {T : Type 0} where
     pub put : m.0.put ≡ items
 
   -- What the producer found: it holds the next cell; or every cell has an item, as far as it has
-  -- seen items taken; or the buffer is worn out.
+  -- seen items taken, and the number found is the number of those; or the buffer is worn out.
   abbrev pub Reached : ℕ → List T → Reach → Mine T → Type 0
   Reached slots put (Room cell) m = HasRoom slots cell put m
-  Reached slots put (Full out) m = HasPut put m × (m.0.taken + slots ≤ length put) × (length put < 2 ^ 62)
+  Reached slots put (Full out) m = HasPut put m × (out ≡ m.0.taken) × (m.0.taken + slots ≤ length put) × (length put < 2 ^ 62)
   Reached slots put WornOut m = HasPut put m × (2 ^ 62 ≤ length put)
 
-  -- What the consumer found: it holds the cell of the next item; or it has taken all items put that
-  -- it has seen; or the buffer is worn out.
+  -- What the consumer found: it holds the cell of the next item; or it has taken all items put, and
+  -- the number found is the number of those; or the buffer is worn out.
   abbrev pub Looked : ℕ → Mine T → Found → Mine T → Type 0
   Looked slots m (Item cell) m' = Grabs slots m m' × (cell ≡ m.0.taken % slots)
-  Looked slots m (Empty count) m' = (m' ≡ m) × (length m.0.put ≤ m.0.taken) × (m.0.taken < 2 ^ 62)
+  Looked slots m (Empty count) m' = (m' ≡ m) × (count ≡ m.0.taken) × (length m.0.put ≤ m.0.taken) × (m.0.taken < 2 ^ 62)
   Looked slots m Spent m' = (m' ≡ m) × (2 ^ 62 ≤ m.0.taken)
+
+  -- The end cannot go on while the word has the value that was found. A producer found the value in
+  -- OUT: every cell has an item while no more items are taken. A consumer found it in IN: it has
+  -- taken all items while no more are put.
+  abbrev pub IsStuck : ℕ → ℕ → ℕ → Mine T → Type 0
+  IsStuck slots word found m =
+      (found ≡ m.0.taken)
+      × (((word ≡ 16) × (m.0.role ≡ Producer) × (m.0.taken + slots ≤ length m.0.put)) ⊎ ((word ≡ 0) × (m.0.role ≡ Consumer)))

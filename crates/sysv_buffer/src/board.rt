@@ -1,5 +1,5 @@
 //! The table of a `OneBuffer`.
-ghost use Rattle.std.specs.Prelude.{◌≡◌, ◌<◌, [], length, slice_index, None, IfSome, replicate};
+ghost use Rattle.std.specs.Prelude.{◌≡◌, ◌<◌, [], None, IfSome, replicate};
 ghost use Rattle.sysv_buffer.specs.Ring.{start};
 
 use crate::rule::Buffering;

@@ -121,7 +121,8 @@ impl<T: Drop> ManyBuffer<T> {
     /// Nothing is put, and the error holds the item.
     ///
     /// - `Full` only if every cell had an item when the counts were loaded.
-    /// - `Busy` if another seat has the turn.
+    /// - `Busy` if another seat has the turn, and only if a cell was empty when the counts were
+    ///   loaded.
     /// - `Worn` only if 2^62 items were put.
     ///
     /// # Conditions
@@ -153,7 +154,8 @@ impl<T: Drop> ManyBuffer<T> {
     /// Nothing is taken.
     ///
     /// - `Empty` only if no item was in the buffer when the counts were loaded.
-    /// - `Busy` if another seat has the turn.
+    /// - `Busy` if another seat has the turn, and only if an item was in the buffer when the counts
+    ///   were loaded.
     /// - `Worn` only if 2^62 items were taken.
     ///
     /// # Conditions

@@ -1,6 +1,6 @@
 //! The parts of a call of a `ManyBuffer`. Each makes some steps on the table.
-ghost use Rattle.std.specs.Prelude.{◌≡◌, [], ◌∷◌, length, Some};
-ghost use Rattle.sysv_buffer.specs.ManyTurns.{IsOf, IsSame, Waits, Keeps, HasRoom, HasItem, FindsRoom, FindsItem, HasPut, HasTaken};
+ghost use Rattle.std.specs.Prelude.{◌≡◌, [], ◌∷◌, Some};
+ghost use Rattle.sysv_buffer.specs.ManyTurns.{IsOf, IsSame, Waits, HasRoom, HasItem, FindsRoom, FindsItem, HasPut, HasTaken};
 
 use crate::board::{IN, LIMIT, OUT};
 use crate::many::ManyBuffer;

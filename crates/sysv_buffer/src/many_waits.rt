@@ -1,7 +1,7 @@
 //! Puts and takes that wait for their turn.
 ghost use Rattle.std.specs.Prelude.{◌≡◌, ◌≤◌, ◌^◌, IfOk, IfErr, OnOk, OnErr, IfSome, IfNone, [], length};
 ghost use Rattle.sysv_buffer.specs.ManyEnds.{Looks, Puts, Takes};
-ghost use Rattle.sysv_buffer.specs.ManyTurns.{IsOf, IsSame, Waits, Keeps, HasRoom, HasItem};
+ghost use Rattle.sysv_buffer.specs.ManyTurns.{IsOf, IsSame, Waits, Keeps, HasRoom, HasItem, SawLast};
 
 use crate::board::{IN, OUT};
 use crate::many::ManyBuffer;
@@ -89,8 +89,8 @@ impl<T> ManyBuffer<T> {
             match self.find_room(token) {
                 Room::Cell(cell) => return Some(cell),
                 Room::Worn => return None,
-                Room::Full(out) => self.pause(rt, OUT, out),
-                Room::Busy(count) => self.pause(rt, IN, count),
+                Room::Full(out) => self.pause(rt, token, OUT, out),
+                Room::Busy(count) => self.pause(rt, token, IN, count),
             }
         }
         unreachable!()
@@ -110,8 +110,8 @@ impl<T> ManyBuffer<T> {
             match self.find_item(token) {
                 Next::Cell(cell) => return Some(cell),
                 Next::Worn => return None,
-                Next::Empty(put) => self.pause(rt, IN, put),
-                Next::Busy(count) => self.pause(rt, OUT, count),
+                Next::Empty(put) => self.pause(rt, token, IN, put),
+                Next::Busy(count) => self.pause(rt, token, OUT, count),
             }
         }
         unreachable!()
@@ -127,9 +127,10 @@ impl<T> ManyBuffer<T> {
     }
 
     // Looks a number of times whether the word has changed from `found`, and then sleeps until a
-    // wake. It registers as a sleeper before it sleeps, so that other threads wake it.
-    fn pause(&self, rt: &impl Wait, word: usize, found: u64)
-        requires { word ≤ 16 }
+    // wake. It registers as a sleeper before it sleeps, so that other threads wake it. The condition
+    // rules out a sleep on a value that the seat did not see last in this word.
+    fn pause(&self, rt: &impl Wait, token: &Token<T>, word: usize, found: u64)
+        requires saw { SawLast word found token.now.me }
     {
         for _ in 0..LOOKS {
             if self.table.shared.peek(word) != found {

@@ -1,6 +1,6 @@
 //! The parts of a call of a `OneBuffer`. Each makes some steps on the table.
-ghost use Rattle.std.specs.Prelude.{◌≡◌, ℕ, ◌+◌, ◌%◌, ◌^◌, ◌<◌, ◌≤◌, true, false, List, [], ◌∷◌, ◌++◌, length, Some, None, IfSome, IfNone};
-ghost use Rattle.sysv_buffer.specs.Turns.{IsOf, IsSame, HasPut, HasRoom, IsIdleProducer, IsIdleConsumer, Reached, Looked};
+ghost use Rattle.std.specs.Prelude.{◌≡◌, ◌+◌, ◌%◌, ◌^◌, ◌≤◌, true, false, [], ◌∷◌, ◌++◌, length, Some, None, IfSome, IfNone};
+ghost use Rattle.sysv_buffer.specs.Turns.{IsOf, IsSame, HasPut, HasRoom, IsIdleProducer, IsIdleConsumer, Reached, Looked, IsStuck};
 ghost use Rattle.sysv_buffer.specs.declared.turns.Found.TheVariants.{Item, Spent};
 ghost use Rattle.sysv_buffer.specs.declared.view.Role.TheVariants.{Producer, Consumer};
 
@@ -147,7 +147,7 @@ impl<T> OneBuffer<T> {
             match self.spin_room(token) {
                 Reach::Room(cell) => return Some(cell),
                 Reach::WornOut => return None,
-                Reach::Full(out) => self.sleep(rt, OUT, out),
+                Reach::Full(out) => self.sleep(rt, token, OUT, out),
             }
         }
         unreachable!()
@@ -185,16 +185,17 @@ impl<T> OneBuffer<T> {
             match self.spin_item(token) {
                 Found::Item(cell) => return Some(cell),
                 Found::Spent => return None,
-                Found::Empty(put) => self.sleep(rt, IN, put),
+                Found::Empty(put) => self.sleep(rt, token, IN, put),
             }
         }
         unreachable!()
     }
 
     // Sleeps until a wake if the word still has the value that was found. It registers as a sleeper
-    // before it sleeps, so that the other end wakes it.
-    fn sleep(&self, rt: &impl Wait, word: usize, found: u64)
-        requires { word ≤ 16 }
+    // before it sleeps, so that the other end wakes it. The condition rules out a sleep on another
+    // word or value.
+    fn sleep(&self, rt: &impl Wait, token: &Token<T>, word: usize, found: u64)
+        requires stuck { IsStuck self.now.room word found token.now.me }
     {
         self.sleepers.fetch_add(1, SeqCst);
         self.table.shared.park(rt, word, (found & LOW_BITS) as u32);

@@ -101,7 +101,7 @@ impl Word<Advances> {
         for _ in rt.forever() {
             match self.await_turns(seat, goal, SPINS) {
                 Awaited::Reached(value) => return value,
-                Awaited::Short(value) => self.park(rt, value),
+                Awaited::Short(value) => self.park(rt, seat, goal, value),
             }
         }
         unreachable!()
@@ -109,8 +109,8 @@ impl Word<Advances> {
 
     /// Wakes every thread that sleeps on this eventcount. A thread whose goal has not been reached
     /// sleeps again.
-    pub fn wake(&self, _rt: &impl Wait) {
-        self.wake_all();
+    pub fn wake(&self, rt: &impl Wait) {
+        self.wake_all(rt);
     }
 }
 

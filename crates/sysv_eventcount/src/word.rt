@@ -1,5 +1,5 @@
 //! The word of an eventcount or a sequencer, and all steps on it.
-ghost use Rattle.std.specs.Prelude.{◌≡◌, ◌+◌, ◌^◌, ◌<◌, ◌≤◌, IfOk, OnOk, OnErr, IsErr, IsErrOf, ◌↔◌};
+ghost use Rattle.std.specs.Prelude.{◌≡◌, ◌+◌, ◌^◌, ◌<◌, IfOk, OnOk, OnErr, IsErr, IsErrOf, ◌↔◌};
 ghost use Rattle.sysv_lists.specs.Numbers.{NoneTwice};
 ghost use Rattle.sysv_eventcount.specs.Counter.{opened, saw, added, after_split, split_off, after_join, Learns, MeetsWear};
 
@@ -150,13 +150,18 @@ impl<K> Word<K> {
     }
 
     /// Sleeps until a wake if the low 32 bits of the word are still those of `value`. It may also
-    /// return early without a wake.
-    pub(crate) fn park(&self, rt: &impl Wait, value: u64) {
+    /// return early without a wake. The conditions rule out a sleep on another value than the one
+    /// that the seat saw last, and one after the goal was seen.
+    pub(crate) fn park(&self, rt: &impl Wait, seat: &Seat, goal: u64, value: u64)
+        requires last { value ≡ seat.now.seen }
+        requires short { value < goal }
+    {
         self.table.shared.park(rt, 0, (value & LOW_BITS) as u32);
     }
 
-    /// Wakes every thread that sleeps on the word.
-    pub(crate) fn wake_all(&self) {
+    /// Wakes every thread that sleeps on the word. It takes the handle so that no function without
+    /// one, as `advance`, wakes threads.
+    pub(crate) fn wake_all(&self, _rt: &impl Wait) {
         self.table.shared.wake_all(0);
     }
 }

@@ -13,7 +13,7 @@ use Rattle.sysv_workers.specs.Feeding.{counted, Reads, items_in, HasFed}
 use Rattle.sysv_workers.specs.Parts.{Part, Leads}
 use Rattle.sysv_workers.specs.Causes.{Told, HasCause}
 use Rattle.sysv_workers.specs.Running.{GivesBack, LeavesSource, Ends, Fails}
-use Rattle.sysv_workers.specs.Sources.{GivesAll}
+use Rattle.sysv_workers.specs.Sources.{GivesAll, Returned}
 use Rattle.sysv_workers.specs.declared.refusals.WorkersFault.{WorkersFault}
 use Rattle.sysv_workers.specs.declared.refusals.WorkersFault.TheVariants.{BadCount, NoMemory, Thread, Worn, Missed}
 use Rattle.sysv_workers.proofs.Feeds.{reads_longer, reads_length, looks_longer}
@@ -139,13 +139,13 @@ module _ {W T : Type 0} (runs : W → T → W → Type 0) (fits : W → Type 0) 
     memory = λ is. ⊎_elim (λ (e : why ≡ Thread). let z : Thread ≡ NoMemory = sym e ∙ is in cc) (λ (e : why ≡ Missed). let z : Missed ≡ NoMemory = sym e ∙ is in cc) cause;
   }
 
-  pub fails_late : {S : Type 0} (gives : S → Option T → S → Type 0) (before after : List W) (source source' : S) (why : WorkersFault) → (why ≡ Worn) ⊎ ((why ≡ Missed) × ((given : List T) × GivesAll gives source given source')) → (parts : List (Part W T)) × Leads runs before parts after → All fits after → Fails {T = T} runs fits gives before source why after source'
+  pub fails_late : {S : Type 0} (gives : S → Option T → S → Type 0) (before after : List W) (source source' : S) (why : WorkersFault) → ((why ≡ Worn) × ((given : List T) × Returned gives source given source')) ⊎ ((why ≡ Missed) × ((given : List T) × GivesAll gives source given source')) → (parts : List (Part W T)) × Leads runs before parts after → All fits after → Fails {T = T} runs fits gives before source why after source'
   fails_late gives before after source source' why cause led all = record {
-    back = ⊎_elim (λ (e : why ≡ Worn). subst (λ (y : WorkersFault). GivesBack {T = T} runs before y after) (sym e) led) (λ e. subst (λ (y : WorkersFault). GivesBack {T = T} runs before y after) (sym e.0) led) cause;
+    back = ⊎_elim (λ e. subst (λ (y : WorkersFault). GivesBack {T = T} runs before y after) (sym e.0) led) (λ e. subst (λ (y : WorkersFault). GivesBack {T = T} runs before y after) (sym e.0) led) cause;
     still = all;
-    asked = ⊎_elim (λ (e : why ≡ Worn). subst (λ (y : WorkersFault). LeavesSource gives source y source') (sym e) tt) (λ e. subst (λ (y : WorkersFault). LeavesSource gives source y source') (sym e.0) (e.1.0, inl e.1.1)) cause;
-    count = λ is. ⊎_elim (λ (e : why ≡ Worn). let z : Worn ≡ BadCount = sym e ∙ is in cc) (λ e. let z : Missed ≡ BadCount = sym e.0 ∙ is in cc) cause;
-    memory = λ is. ⊎_elim (λ (e : why ≡ Worn). let z : Worn ≡ NoMemory = sym e ∙ is in cc) (λ e. let z : Missed ≡ NoMemory = sym e.0 ∙ is in cc) cause;
+    asked = ⊎_elim (λ e. subst (λ (y : WorkersFault). LeavesSource gives source y source') (sym e.0) e.1) (λ e. subst (λ (y : WorkersFault). LeavesSource gives source y source') (sym e.0) (e.1.0, inl e.1.1)) cause;
+    count = λ is. ⊎_elim (λ e. let z : Worn ≡ BadCount = sym e.0 ∙ is in cc) (λ e. let z : Missed ≡ BadCount = sym e.0 ∙ is in cc) cause;
+    memory = λ is. ⊎_elim (λ e. let z : Worn ≡ NoMemory = sym e.0 ∙ is in cc) (λ e. let z : Missed ≡ NoMemory = sym e.0 ∙ is in cc) cause;
   }
 
   module _ {S : Type 0} (gives : S → Option T → S → Type 0) (before after : List W) (source source' : S) (seat : Holding (Feed T)) (marks : ℕ) where
@@ -178,15 +178,22 @@ module _ {W T : Type 0} (runs : W → T → W → Type 0) (fits : W → Type 0) 
           differs = ⊎_elim (λ d. inl (λ e. d (omega arith))) (λ d. inr (λ e. d (omega arith))) told.2;
         }
 
+    -- The items that the source returned if not all of them were put, or if all were.
+    returned : (items : Option ℕ) → (items ≡ None → (given : List T) × FoldsTo (λ s x s'. gives s (Some x) s') source given source')
+        → ((n : ℕ) → items ≡ Some n → (given : List T) × GivesAll gives source given source' × (n ≡ counted (length given))) → (given : List T) × Returned gives source given source'
+    returned None early gave = let e = early refl in (e.0, inl e.1)
+    returned (Some n) early gave = let s = gave n refl in (s.0, inr s.1)
+
     -- What is known of the source after all workers have ended.
     pub late : (why : WorkersFault) (items : Option ℕ) (marked ended : Bool) (ran put m : ℕ) → Told items marked ended ran put m why
+        → (items ≡ None → (given : List T) × FoldsTo (λ s x s'. gives s (Some x) s') source given source')
         → ((n : ℕ) → items ≡ Some n → (given : List T) × GivesAll gives source given source' × (n ≡ counted (length given)))
-        → (why ≡ Worn) ⊎ ((why ≡ Missed) × ((given : List T) × GivesAll gives source given source'))
-    late BadCount items marked ended ran put m told gave = absurd told
-    late NoMemory items marked ended ran put m told gave = absurd told
-    late Thread items marked ended ran put m told gave = absurd told
-    late Worn items marked ended ran put m told gave = inl refl
-    late Missed items marked ended ran put m told gave = let s = gave told.0 told.1 in inr (refl, (s.0, s.1))
+        → ((why ≡ Worn) × ((given : List T) × Returned gives source given source')) ⊎ ((why ≡ Missed) × ((given : List T) × GivesAll gives source given source'))
+    late BadCount items marked ended ran put m told early gave = absurd told
+    late NoMemory items marked ended ran put m told early gave = absurd told
+    late Thread items marked ended ran put m told early gave = absurd told
+    late Worn items marked ended ran put m told early gave = inl (refl, returned items early gave)
+    late Missed items marked ended ran put m told early gave = let s = gave told.0 told.1 in inr (refl, (s.0, s.1))
 
   -- A thread could not be started.
   pub gives_up : (others rest : List W) (state : W) (part : Part W T) (more : List (Part W T)) (h : Holding (Feed T)) (states : List W) (ran : ℕ) (ended : Bool)

@@ -2,7 +2,7 @@
 use Rattle.std.specs.Prelude.{◌≡◌, ◌≢◌, List, Option}
 use Rattle.std.specs.List.{All}
 use Rattle.sysv_workers.specs.Parts.{Part, Leads, AreDealt}
-use Rattle.sysv_workers.specs.Sources.{GivesAll, Gave}
+use Rattle.sysv_workers.specs.Sources.{GivesAll, Gave, Returned}
 use Rattle.sysv_workers.specs.declared.refusals.WorkersFault.{WorkersFault}
 use Rattle.sysv_workers.specs.declared.refusals.WorkersFault.TheVariants.{BadCount, NoMemory, Thread, Worn, Missed}
 
@@ -27,12 +27,13 @@ module _ {W T : Type 0} where
   GivesBack runs before Missed after = (parts : List (Part W T)) × Leads runs before parts after
 
 -- What a refused run leaves of the source. After `BadCount`, `NoMemory` and `Thread` the source was
--- not read. After `Missed` it is at its end or was not read. After `Worn` nothing is stated.
+-- not read. After `Worn` it has returned some items, and may have reported its end. After `Missed`
+-- it is at its end or was not read.
 abbrev pub LeavesSource : {S T : Type 0} → (S → Option T → S → Type 0) → S → WorkersFault → S → Type 0
 LeavesSource gives source BadCount source' = source' ≡ source
 LeavesSource gives source NoMemory source' = source' ≡ source
 LeavesSource gives source Thread source' = source' ≡ source
-LeavesSource gives source Worn source' = Unit {0}
+LeavesSource {T = T} gives source Worn source' = (given : List T) × Returned gives source given source'
 LeavesSource {T = T} gives source Missed source' = (given : List T) × Gave gives source given source'
 
 module _ {W T S : Type 0} where

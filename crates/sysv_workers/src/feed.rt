@@ -1,5 +1,6 @@
 //! The side of the buffer that the source feeds.
-ghost use Rattle.std.specs.Prelude.{◌≡◌, ℕ, ◌+◌, ◌^◌, ◌≤◌, true, false, List, length, IfSome, IfNone};
+ghost use Rattle.std.specs.Prelude.{◌≡◌, ◌^◌, ◌≤◌, true, false, List, length, Some, IfSome, IfNone};
+ghost use Rattle.std.specs.List.{FoldsTo};
 ghost use Rattle.sysv_workers.specs.Feeding.{counted, HasFed};
 ghost use Rattle.sysv_workers.specs.Sources.{GivesAll};
 
@@ -30,6 +31,8 @@ pub(crate) fn put_all<T: Drop, S: Source<T>, R: Wait>(
         × GivesAll S.gives source.old given source.new × HasFed given 0 seat.new
         × (n ≡ counted (length given))) }
     ensures worn { IfNone result (2 ^ 62 ≤ length seat.new.seen) }
+    ensures returned { IfNone result ((given : List T)
+        × FoldsTo (λ s x s'. S.gives s (Some x) s') source.old given source.new) }
 {
     let mut items = 0_u64;
     for _ in rt.forever() {

@@ -50,8 +50,9 @@ pub const MAX_CROWD: usize = 256;
 ///   be put.
 ///
 /// After `BadCount`, `NoMemory` and `Thread` the states are unchanged, and the source was not read.
-/// After `Worn` and `Missed` each state is one to which runs over some items lead. After `Missed`
-/// the source is at its end or was not read.
+/// After `Worn` and `Missed` each state is one to which runs over some items lead. After `Worn` the
+/// source has returned some items, and may have reported its end. After `Missed` it is at its end or
+/// was not read.
 ///
 /// # Conditions
 ///
@@ -140,13 +141,13 @@ where
         return Err(WorkersRefused { why, states });
     }
     let why = WorkersFault::NoMemory;
-    let Ok((buffer, seat)) = ManyBuffer::open(alloc, count) else {
+    let Ok((buffer, mut seat)) = ManyBuffer::open(alloc, count) else {
         return Err(WorkersRefused { why, states });
     };
     let Ok(handles) = Vec::with_capacity(alloc, count) else {
         return Err(WorkersRefused { why, states });
     };
-    run_scoped(rt, &buffer, job, source, seat, states, handles)
+    run_scoped(rt, &buffer, job, source, &mut seat, states, handles)
 }
 
 // Runs everything in one scope of threads.
@@ -155,13 +156,14 @@ fn run_scoped<W: Send, T: Drop + Send, S: Source<T>, J: Job<W, T> + Sync, R>(
     buffer: &ManyBuffer<Feed<T>>,
     job: &J,
     source: &mut S,
-    seat: Seat<Feed<T>>,
+    seat: &mut Seat<Feed<T>>,
     states: Vec<W>,
     handles: Vec<Handle<W, T, J>>,
 ) -> Result<Vec<W>, WorkersRefused<W>>
 where
     R: Threads + Wait + Sync,
-    requires seat { (seat.buffer ≡ buffer.now) × (seat.takes ≡ []) }
+    requires seat { (seat.old.buffer ≡ buffer.now) × (seat.old.takes ≡ []) }
+    requires cells { buffer.now.room ≡ vec_len states }
     requires fits { All (J.fits job.now) states.items }
     requires handles { handles.items ≡ [] }
     requires room { (1 ≤ vec_len states) × (vec_len states ≤ MAX_CROWD)
@@ -171,18 +173,26 @@ where
     ensures err { IfErr result (λ e.
         Fails (J.runs job.now) (J.fits job.now) S.gives states.items source.old e.why e.states.items
         source.new) }
+    ensures cause { IfErr result (λ e.
+        HasCause (J.runs job.now) S.gives states.items source.old
+        (vec_len states) e.why e.states.items source.new seat.new) }
 {
     let kept = unsafe { ManuallyDrop::new_unchecked(states) };
-    let (outcome, asked) = thread::scope(
+    let (outcome, asked, used) = thread::scope(
         thread::scope_env(),
         rt,
-        move |scope| -> (Result<Vec<W>, WorkersRefused<W>>, &mut S)
-            requires { IsSync R.row × (seat.buffer ≡ buffer.now) × (seat.takes ≡ [])
+        move |scope| -> (
+            Result<Vec<W>, WorkersRefused<W>>,
+            &mut S,
+            &mut Seat<Feed<T>>,
+        )
+            requires { IsSync R.row × (seat.now.buffer ≡ buffer.now) × (seat.now.takes ≡ [])
                 × All (J.fits job.now) (manually_drop_value kept).items × (handles.items ≡ [])
                 × (1 ≤ vec_len (manually_drop_value kept))
                 × (vec_len (manually_drop_value kept) ≤ MAX_CROWD)
                 × (vec_len (manually_drop_value kept) ≤ vec_capacity handles) }
             ensures source { result.1.ghost_name ≡ source.entry.ghost_name }
+            ensures seat { result.2.ghost_name ≡ seat.entry.ghost_name }
             ensures ok { IfOk result.0 (λ v.
                 Ends (J.runs job.entry.now) (J.fits job.entry.now) S.gives
                 (manually_drop_value kept).items source.entry.now v.items result.1.now) }
@@ -190,14 +200,18 @@ where
                 Fails (J.runs job.entry.now) (J.fits job.entry.now) S.gives
                 (manually_drop_value kept).items source.entry.now e.why e.states.items
                 result.1.now) }
+            ensures cause { IfErr result.0 (λ e.
+                HasCause (J.runs job.entry.now) S.gives (manually_drop_value kept).items
+                source.entry.now (vec_len (manually_drop_value kept)) e.why e.states.items
+                result.1.now result.2.now) }
         {
             let states = ManuallyDrop::into_inner(kept);
-            let mut seat = seat;
-            let outcome = run_in(rt, scope, buffer, job, source, &mut seat, states, handles);
-            (outcome, source)
+            let outcome = run_in(rt, scope, buffer, job, source, seat, states, handles);
+            (outcome, source, seat)
         },
     );
     given_back(asked);
+    given_back(used);
     outcome
 }
 

@@ -20,3 +20,9 @@ loop-preserved g c =
         let n = i.4.3 in omega (arith, length-append given (x ∷ [])),
       ),
     )
+
+pub returns-in-Err-clause-returned : goal.returns-in-Err-clause-returned
+returns-in-Err-clause-returned g c =
+    let given = c.loop.invariant.4 in
+    let x = c.in-Some-next.item in
+    (given.0 ++ x ∷ [], FoldsTo-push _ _ given.0 _ x _ given.1 c.in-Some-next.ensures)

@@ -69,7 +69,7 @@ returns-clause-err g c =
     let Q : ℕ → Type 0 = λ n. (given : List _) × GivesAll g.S.Source.gives c.args.source.now given c.put_all-items.new.source × HasFed given 0 c.put_all-items.new.seat × (n ≡ counted (length given)) in
     let gave : (n : ℕ) → c.put_all-items.result ≡ Some n → (given : List _) × GivesAll g.S.Source.gives c.args.source.now given c.put_all-items.new.source × (n ≡ counted (length given)) = λ n is. let q : Q n = at_some Q c.put_all-items.result n is c.put_all-items.ensures.gave in (q.0, q.1, q.3) in
     fails_late runs fits g.S.Source.gives c.args.states.items c.join_all.new.states.items c.args.source.now c.put_all-items.new.source _
-    (late runs fits g.S.Source.gives c.args.states.items c.join_all.new.states.items c.args.source.now c.put_all-items.new.source c.put_count-put.new.seat c.len-count.result _ _ _ _ _ _ _ c.in-Some-fault.ensures.some gave)
+    (late runs fits g.S.Source.gives c.args.states.items c.join_all.new.states.items c.args.source.now c.put_all-items.new.source c.put_count-put.new.seat c.len-count.result _ _ _ _ _ _ _ c.in-Some-fault.ensures.some (λ e. at_none _ c.put_all-items.result e c.put_all-items.ensures.returned) gave)
     (led.0, led.1) all.2.still
 
 pub returns-clause-cause : goal.returns-clause-cause
