@@ -1,6 +1,9 @@
 //! Laws that are statements over definitions alone.
 
+ghost use Rattle.std.specs.Prelude.{◌≡◌};
 ghost use Rattle.sysv_lines.specs.OneLine.{OneSaying, EachLineIsDecided};
+ghost use Rattle.sysv_lines.specs.declared.actor.TheConstants.{SCRIPT_ACTORS};
+ghost use Rattle.sysv_lines.specs.declared.line.TheConstants.{LINE_BYTES};
 
 use sysv_words::words_are_read;
 
@@ -17,3 +20,9 @@ pub fn each_line_is_decided()
 {
     words_are_read();
 }
+
+/// States how many actors a script has, and how many bytes a line may have.
+pub fn numerals_of_lines()
+    ensures actors { SCRIPT_ACTORS ≡ 16 }
+    ensures line { LINE_BYTES ≡ 9000 }
+{}

@@ -14,7 +14,7 @@ mod told;
 pub use actor::{Actor, SCRIPT_ACTORS};
 pub use blocks::Blocks;
 pub use head::Head;
-pub use laws::{each_line_is_decided, one_saying};
+pub use laws::{each_line_is_decided, numerals_of_lines, one_saying};
 pub use line::{LINE_BYTES, Line, line_of};
 pub use names::{Operation, Step};
 pub use request::{Request, Text};

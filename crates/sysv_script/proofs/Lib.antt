@@ -7,3 +7,4 @@ pub mod Ran
 pub mod Opening
 pub mod OneText
 pub mod EachText
+pub mod ScriptRun

@@ -316,16 +316,16 @@ module _ (split : OneSplit) (saying : OneSaying) where
         (ap (λ l. first ++ l) same.0 ∙ sym on.whole, same.1)
 
     -- What was printed before a line is a prefix of all that is printed.
-    prefix_of : (s : Scene) (n : ℕ) (text out other : List ℕ) (end : Ending) → IsSound s.world → PrintsSofar s n text out → Prints s n text other end → IsPrefixOf out other
-    prefix_of s n text out other end sound (Here _ _ _) k = (other, refl)
-    prefix_of s n text out other end sound (Past _ _ _ line rest first after more few begins does p) k =
+    prefix_of : (s : Scene) (n : ℕ) (text out left other : List ℕ) (there : Scene) (end : Ending) → IsSound s.world → PrintsSofar s n text out left there → Prints s n text other end → IsPrefixOf out other
+    prefix_of s n text out left other there end sound (Here _ _ _) k = (other, refl)
+    prefix_of s n text out left other there end sound (Past _ _ _ line rest first after more _ _ few begins does p) k =
         let on = goes_same s n text line rest first after other end sound few begins does (opens s n text other end k) in
-        let behind = prefix_of after (n + 1) rest more on.behind end (does_sound s line first after sound does) p on.prints in
+        let behind = prefix_of after (n + 1) rest more left on.behind there end (does_sound s line first after sound does) p on.prints in
         (behind.0, on.whole ∙ (ap (λ l. first ++ l) behind.1 ∙ sym (append_assoc first more behind.0)))
 
 pub one_text : OneSplit → OneSaying → OneStep → OnePreset → StaysSound → OpensSound → OneText
 one_text split saying one preset stays openings = record {
   sound = opening_sound openings 1024;
   once = λ s n text out other ending end sound h k. agrees split saying one preset stays openings s n text out other ending end sound h k;
-  sofar = λ s n text out other end sound h k. prefix_of split saying one preset stays openings s n text out other end sound h k;
+  sofar = λ s n text out left other there end sound h k. prefix_of split saying one preset stays openings s n text out left other there end sound h k;
 }

@@ -20,7 +20,7 @@ use Rattle.sysv_lists.specs.Prefix.{IsPrefixOf}
 use Rattle.sysv_model.specs.Writing.{AppendsPrefix}
 use Rattle.sysv_script.specs.ScriptText.{BeginsWith, LineDoes, IsBad, Whole, BadLine, TooMany, Prints, Ends, Exceeds, Fails, Goes}
 use Rattle.sysv_script.specs.Sofar.{PrintsSofar, Here, Past}
-use Rattle.sysv_script.specs.ScriptSofar.{Halt, AtEnd, Before, Runs, IsText, RunsOn, LeavesAll, LeavesPrefix}
+use Rattle.sysv_script.specs.ScriptSofar.{Halt, AtEnd, Before, Runs, IsText, RunsOn, LeavesAll, LeavesPrefix, LeavesRead}
 use Rattle.sysv_streams.specs.declared.lines.Found.{Found}
 
 pub begins_text : (s : Scene) (now : Stage) (text waiting : List ℕ) (left old : Option (List ℕ)) (composed : List ℕ) → composed ≡ [] → IsSceneOf s now → IsText waiting left text →
@@ -92,7 +92,7 @@ joined_more handed composed out more = sym (append_assoc (handed ++ composed) ou
 past_line : (s : Scene) (n : ℕ) (text line rest out : List ℕ) (after : Scene) (more : List ℕ) (halt : Halt) → n ≤ 1000000 → BeginsWith text line rest → LineDoes s line out after →
     Runs after (n + 1) rest more halt → Runs s n text (out ++ more) halt
 past_line s n text line rest out after more (AtEnd ending) few begins does p = Goes s n text line rest out after more ending few begins does p
-past_line s n text line rest out after more Before few begins does p = Past s n text line rest out after more few begins does p
+past_line s n text line rest out after more (Before left there) few begins does p = Past s n text line rest out after more left there few begins does p
 
 pub runs_line : (s : Scene) (text : List ℕ) (old : Option (List ℕ)) (n : ℕ) (now then : Stage) (waiting behind : List ℕ) (left new : Option (List ℕ)) (composed told : List ℕ) (len : ℕ) →
     n ≤ 1000000 → IsFirstLine len waiting → behind ≡ drop (len + 1) waiting →
@@ -146,9 +146,9 @@ ends_text s text old n now waiting left new composed none on =
     (on.handed ++ composed, subst (λ l. Prints s 1 text l Whole) (append-nil (on.handed ++ composed)) printed, (on.handed, on.grown, refl))
 
 stops_here : (s : Scene) (text : List ℕ) (old : Option (List ℕ)) (n : ℕ) (now : Stage) (waiting : List ℕ) (left new : Option (List ℕ)) (composed : List ℕ) →
-    (on : RunsOn s text old n now waiting left new composed) → PrintsSofar s 1 text (on.handed ++ composed)
+    (on : RunsOn s text old n now waiting left new composed) → PrintsSofar s 1 text (on.handed ++ composed) on.rest on.mid
 stops_here s text old n now waiting left new composed on =
-    subst (PrintsSofar s 1 text) (append-nil (on.handed ++ composed)) (on.prints [] Before (Here on.mid n on.rest))
+    subst (λ out. PrintsSofar s 1 text out on.rest on.mid) (append-nil (on.handed ++ composed)) (on.prints [] (Before on.rest on.mid) (Here on.mid n on.rest))
 
 pub stops_part : (s : Scene) (text : List ℕ) (old : Option (List ℕ)) (n : ℕ) (now : Stage) (waiting : List ℕ) (left new newer : Option (List ℕ)) (composed none : List ℕ) →
     AppendsPrefix new newer composed → none ≡ [] → RunsOn s text old n now waiting left new composed → LeavesPrefix s text old newer none
@@ -157,6 +157,8 @@ stops_part s text old n now waiting left new newer composed none part e on =
     let joined : front ++ none ≡ front = ap (λ l. front ++ l) e ∙ append-nil front in
     let prefix : IsPrefixOf front (on.handed ++ composed) = prefix_after on.handed part.0 composed part.1 in (
       on.handed ++ composed,
+      on.rest,
+      on.mid,
       stops_here s text old n now waiting left new composed on,
       (front, Appends-trans old new newer on.handed part.0 on.grown part.2, subst (λ l. IsPrefixOf l (on.handed ++ composed)) (sym joined) prefix),
     )
@@ -165,9 +167,28 @@ pub stops_front : (s : Scene) (text : List ℕ) (old : Option (List ℕ)) (n : �
     IsPrefixOf fewer composed → RunsOn s text old n now waiting left new composed → LeavesPrefix s text old new fewer
 stops_front s text old n now waiting left new composed fewer front on = (
   on.handed ++ composed,
+  on.rest,
+  on.mid,
   stops_here s text old n now waiting left new composed on,
   (on.handed, on.grown, prefix_after on.handed fewer composed front),
 )
+
+-- All was written, and the reader failed before the end of the next line.
+pub stops_read : (s : Scene) (text : List ℕ) (old : Option (List ℕ)) (n : ℕ) (now : Stage) (waiting : List ℕ) (left new newer : Option (List ℕ)) (composed none : List ℕ) →
+    HasNoEnd waiting → Appends new newer composed → none ≡ [] → RunsOn s text old n now waiting left new composed → LeavesRead s text old newer none left
+stops_read s text old n now waiting left new newer composed none endless all e on =
+    let whole = on.handed ++ composed in
+    let joined : whole ≡ whole ++ none = sym (ap (λ l. whole ++ l) e ∙ append-nil whole) in (
+      whole,
+      on.rest,
+      on.mid,
+      stops_here s text old n now waiting left new composed on,
+      (waiting, on.text_is.0, endless, on.text_is.1, on.text_is.2),
+      (whole, Appends-trans old new newer on.handed composed on.grown all, joined),
+    )
+
+pub no_end_in_none : (old new : List ℕ) → length old ≤ 0 → new ≡ old → HasNoEnd new
+no_end_in_none old new none same = λ has. omega (arith, none, ap length same, has.1)
 
 -- A line that is too long is bad as soon as that is known, whatever follows.
 overruns : OneSplit → (m : Scene) (n : ℕ) (front rest : List ℕ) → n ≤ 1000000 → 9000 < length front → HasNoEnd front → Prints m n (front ++ rest) (bad_line_text n) (BadLine n)

@@ -10,3 +10,4 @@ pub mod OneText
 pub mod EachText
 pub mod Written
 pub mod ScriptSofar
+pub mod ScriptRun

@@ -7,7 +7,7 @@ use Rattle.sysv_lists.specs.Prefix.{IsPrefixOf}
 use Rattle.sysv_stage.specs.Staged.{IsSceneOf}
 use Rattle.sysv_stage.specs.declared.stage.Stage.{Stage}
 use Rattle.sysv_script.specs.ScriptText.{LineDoes, IsBad, Ending, Whole, BadLine, TooMany, Prints}
-use Rattle.sysv_script.specs.Sofar.{PrintsSofar}
+use Rattle.sysv_script.specs.Sofar.{PrintsSofar, IsUnended}
 use Rattle.sysv_streams.specs.declared.fault.ScriptFault.{ScriptFault}
 use Rattle.sysv_streams.specs.declared.fault.ScriptFault.TheVariants.{Line, Read, Write, NoMemory, Bound}
 
@@ -15,15 +15,15 @@ use Rattle.sysv_streams.specs.declared.fault.ScriptFault.TheVariants.{Line, Read
 abbrev pub IsText : List ℕ → Option (List ℕ) → List ℕ → Type 0
 IsText waiting left text = (behind : List ℕ) × (left ≡ Some behind) × (text ≡ waiting ++ behind)
 
--- How far a run has come: to an ending, or before a line.
+-- How far a run has come: to an ending, or before a line, with this text left and on this scene.
 pub data Halt : Type 0 where
   AtEnd : (ending : Ending) → Halt
-  Before : Halt
+  Before : (left : List ℕ) (there : Scene) → Halt
 
 -- The text prints this up to there.
 abbrev pub Runs : Scene → ℕ → List ℕ → List ℕ → Halt → Type 0
 Runs s n text out (AtEnd ending) = Prints s n text out ending
-Runs s n text out Before = PrintsSofar s n text out
+Runs s n text out (Before left there) = PrintsSofar s n text out left there
 
 -- A line does what it means, or is bad.
 abbrev pub LineEnds : Scene → List ℕ → Bool → List ℕ → Scene → Type 0
@@ -48,23 +48,29 @@ LeavesAll s text ending old new composed =
 -- What was written, followed by what is composed, is a prefix of what the text has printed so far.
 abbrev pub LeavesPrefix : Scene → List ℕ → Option (List ℕ) → Option (List ℕ) → List ℕ → Type 0
 LeavesPrefix s text old new composed =
-    (out : List ℕ) × PrintsSofar s 1 text out × ((handed : List ℕ) × Appends old new handed × IsPrefixOf (handed ++ composed) out)
+    (out : List ℕ) × (rest : List ℕ) × (there : Scene) × PrintsSofar s 1 text out rest there × ((handed : List ℕ) × Appends old new handed × IsPrefixOf (handed ++ composed) out)
 
--- What was written and is composed after this fault.
-abbrev pub LeavesAtFault : ScriptFault → Scene → List ℕ → Option (List ℕ) → Option (List ℕ) → List ℕ → Type 0
-LeavesAtFault (Line n) s text old new composed = LeavesAll s text (BadLine n) old new composed
-LeavesAtFault Bound s text old new composed = LeavesAll s text TooMany old new composed
-LeavesAtFault NoMemory s text old new composed = LeavesPrefix s text old new composed
-LeavesAtFault Read s text old new composed = LeavesPrefix s text old new composed
-LeavesAtFault Write s text old new composed = LeavesPrefix s text old new composed
+-- All that the text has printed before a line was written or is composed. Of the text from that line
+-- on, only a part of one line was read.
+abbrev pub LeavesRead : Scene → List ℕ → Option (List ℕ) → Option (List ℕ) → List ℕ → Option (List ℕ) → Type 0
+LeavesRead s text old new composed left =
+    (out : List ℕ) × (rest : List ℕ) × (there : Scene) × PrintsSofar s 1 text out rest there × IsUnended left rest × ((handed : List ℕ) × Appends old new handed × (out ≡ handed ++ composed))
 
--- What was written and is composed after this result of a run.
-abbrev pub Leaves : Result ⊤ ScriptFault → Scene → List ℕ → Option (List ℕ) → Option (List ℕ) → List ℕ → Type 0
-Leaves (Ok done) s text old new composed = LeavesAll s text Whole old new composed
-Leaves (Err fault) s text old new composed = LeavesAtFault fault s text old new composed
+-- What was written and is composed after this fault, with what the reader has left.
+abbrev pub LeavesAtFault : ScriptFault → Scene → List ℕ → Option (List ℕ) → Option (List ℕ) → List ℕ → Option (List ℕ) → Type 0
+LeavesAtFault (Line n) s text old new composed left = LeavesAll s text (BadLine n) old new composed
+LeavesAtFault Bound s text old new composed left = LeavesAll s text TooMany old new composed
+LeavesAtFault NoMemory s text old new composed left = LeavesPrefix s text old new composed
+LeavesAtFault Read s text old new composed left = LeavesRead s text old new composed left
+LeavesAtFault Write s text old new composed left = LeavesPrefix s text old new composed
+
+-- What was written and is composed after this result of a run, with what the reader has left.
+abbrev pub Leaves : Result ⊤ ScriptFault → Scene → List ℕ → Option (List ℕ) → Option (List ℕ) → List ℕ → Option (List ℕ) → Type 0
+Leaves (Ok done) s text old new composed left = LeavesAll s text Whole old new composed
+Leaves (Err fault) s text old new composed left = LeavesAtFault fault s text old new composed left
 
 -- After one more line, the run is before the line that follows, or at its end.
 abbrev pub RunsNext : Result Bool ScriptFault → Scene → List ℕ → Option (List ℕ) → ℕ → Stage → List ℕ → Option (List ℕ) → Option (List ℕ) → List ℕ → Type 0
 RunsNext (Ok true) s text old n now waiting left new composed = RunsOn s text old (n + 1) now waiting left new composed
 RunsNext (Ok false) s text old n now waiting left new composed = LeavesAll s text Whole old new composed
-RunsNext (Err fault) s text old n now waiting left new composed = LeavesAtFault fault s text old new composed
+RunsNext (Err fault) s text old n now waiting left new composed = LeavesAtFault fault s text old new composed left

@@ -1,7 +1,8 @@
-//! Laws about what a text prints.
+//! Laws about what a text prints, and about the worlds to which it leads.
 
 ghost use Rattle.sysv_script.specs.EachText.{EachTextPrints};
 ghost use Rattle.sysv_script.specs.OneText.{OneText};
+ghost use Rattle.sysv_script.specs.ScriptRun.{EachScriptIsARun};
 
 use sysv_core::{each_world_is_sound, one_step, some_step};
 use sysv_lines::{each_line_is_decided, one_saying};
@@ -29,3 +30,9 @@ pub fn each_text_prints()
     each_line_is_decided();
     one_split();
 }
+
+/// States that the world before and after each line of a script is one to which a run leads from an
+/// opening, so that what is stated of each run is stated of it.
+pub fn each_script_is_a_run()
+    ensures { EachScriptIsARun }
+{}

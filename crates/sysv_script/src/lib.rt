@@ -14,6 +14,6 @@
 mod laws;
 mod script;
 
-pub use laws::{each_text_prints, one_text};
+pub use laws::{each_script_is_a_run, each_text_prints, one_text};
 pub use script::run_script;
 pub use sysv_streams::{SCRIPT_LINES, ScriptFault};

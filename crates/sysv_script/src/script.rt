@@ -10,7 +10,9 @@ ghost use Rattle.sysv_script.specs.ScriptText.{LineDoes, IsBad};
 ghost use Rattle.sysv_script.specs.Written.{WritesScript};
 ghost use Rattle.sysv_script.specs.ScriptSofar.{LineEnds, Leaves, IsText, RunsOn, RunsNext};
 ghost use Rattle.sysv_stage.specs.Staged.{IsSceneOf};
+ghost use Rattle.sysv_streams.specs.Found.{IsFirstLine};
 ghost use Rattle.sysv_streams.specs.declared.fault.TheConstants.{SCRIPT_LINES};
+ghost use Rattle.sysv_streams.specs.declared.output.TheConstants.{MOST_COMPOSED};
 ghost use Rattle.sysv_lines.specs.declared.line.TheConstants.{LINE_BYTES};
 
 use crate::laws::{each_text_prints, one_text};
@@ -38,18 +40,19 @@ use sysv_words::one_split;
 /// - `Write` if the writer fails or takes no byte.
 /// - `NoMemory` if memory is refused.
 ///
-/// After `Line(n)` and `Bound`, all that the script prints was written. After `Read`, `Write` and
-/// `NoMemory`, a prefix of what the script prints was written.
+/// After `Line(n)` and `Bound`, all that the script prints was written. After `Read`, all that the
+/// lines print that were read to their ends was written. After `Write` and `NoMemory`, a prefix of
+/// what the script prints was written.
 pub fn run_script<R: Read, W: Write>(
     alloc: Global,
     reader: &mut Watched<'_, R>,
     writer: &mut Watched<'_, W>,
 ) -> Result<(), ScriptFault>
-    // What the writer took is what the text prints. After a fault of a stream or of memory, it is a
-    // prefix of that.
+    // What the writer took is what the text prints. After a fault of the writer or of memory, it is
+    // a prefix of that. After a fault of the reader, it is what the lines print that were read.
     ensures prints { (text : List ℕ) → R.remaining (stream_of reader.old) ≡ Some text →
         WritesScript result text (W.contents (stream_of writer.old))
-        (W.contents (stream_of writer.new)) }
+        (W.contents (stream_of writer.new)) (R.remaining (stream_of reader.new)) }
     // A script that ends well was read to its end.
     ensures whole { OnOk result (IsAtEnd (R.remaining (stream_of reader.new))) }
     // What the writer had taken before stays. If a line is bad, the last line that it took states
@@ -111,7 +114,8 @@ impl Run {
         ensures prints { (s : Scene) → IsSceneOf s self.old.stage → (text : List ℕ) →
             IsText self.old.input (R.remaining (stream_of reader.old)) text →
             Leaves result s text (W.contents (stream_of writer.old))
-            (W.contents (stream_of writer.new)) self.new.output }
+            (W.contents (stream_of writer.new)) self.new.output
+            (R.remaining (stream_of reader.new)) }
         ensures whole { OnOk result (IsAtEnd (R.remaining (stream_of reader.new))) }
         ensures grows { Grows (W.contents (stream_of writer.old))
             (W.contents (stream_of writer.new)) }
@@ -151,6 +155,8 @@ impl Run {
             RunsNext result s text old number self.new.stage self.new.input
             (R.remaining (stream_of reader.new))
             (W.contents (stream_of writer.new)) self.new.output }
+        // A line that was read is run before more is read.
+        ensures at_once { (len : ℕ) → IsFirstLine len self.old.input → reader.new ≡ reader.old }
         ensures whole { IfOk result (λ more. more ≡ false →
             IsAtEnd (R.remaining (stream_of reader.new))) }
         ensures grows { Grows (W.contents (stream_of writer.old))
@@ -177,6 +183,7 @@ impl Run {
     fn run_found(&mut self, alloc: Global, found: Found, number: u32) -> Result<(), ScriptFault>
         requires front { found.len ≤ length self.old.input }
         requires behind { found.is_last ≡ false → found.len < length self.old.input }
+        requires room { length self.old.output ≤ MOST_COMPOSED }
         ensures short { OnOk result (found.len ≤ LINE_BYTES) }
         ensures rest { OnOk result (found.is_last ≡ false →
             self.new.input ≡ drop (found.len + 1) self.old.input) }
@@ -212,7 +219,8 @@ impl Run {
             RunsOn s text old number self.old.stage self.old.input
             (R.remaining (stream_of reader.old))
             (W.contents (stream_of writer.old)) self.old.output →
-            Leaves result s text old (W.contents (stream_of writer.new)) self.new.output }
+            Leaves result s text old (W.contents (stream_of writer.new)) self.new.output
+            (R.remaining (stream_of reader.new)) }
         ensures whole { OnOk result (IsAtEnd (R.remaining (stream_of reader.new))) }
         ensures grows { Grows (W.contents (stream_of writer.old))
             (W.contents (stream_of writer.new)) }

@@ -2,6 +2,8 @@
 //! by one. `specs/` defines what a line does there and what it prints.
 #![tactic(auto)]
 
+mod laws;
 mod stage;
 
+pub use laws::numerals_of_stages;
 pub use stage::Stage;

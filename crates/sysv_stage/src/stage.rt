@@ -1,4 +1,4 @@
-ghost use Rattle.std.specs.Prelude.{false, ◌≡◌, ◌+◌, ◌<◌, ◌++◌, List, ℕ, replicate, map, IfOk, OnOk, OnErr, [], ◌∷◌, ◌≤◌, length, Some};
+ghost use Rattle.std.specs.Prelude.{false, ◌≡◌, ◌+◌, ◌<◌, ◌++◌, List, ℕ, replicate, map, IfOk, IsOk, OnOk, OnErr, [], ◌∷◌, ◌≤◌, length, Some};
 ghost use Rattle.std.specs.List.{range_with_len};
 ghost use Rattle.sysv_lists.specs.Prefix.{IsPrefixOf};
 ghost use Rattle.sysv_model.specs.declared.limits.TheConstants.{BLOCK_BYTES, BODY_ROOM};
@@ -298,6 +298,7 @@ impl Stage {
     /// Returns a spare body, or a new one if there is none.
     fn spare_body(&mut self, alloc: Global) -> Result<Body, NoMemory>
         ensures empty { IfOk result (λ body. body ≡ []) }
+        ensures spared { 0 < length self.old.spares.items → IsOk result }
         ensures kept { self.new ≡ record self.old { spares = self.new.spares } }
     {
         match self.spares.pop() {

@@ -25,3 +25,8 @@ IsFirstLine-behind text seen more p first =
       ends = slice_get_read text (length text) (seen + more) 10 refl fits here;
       one_line = subst HasNoEnd (sym (take-add seen more text)) (HasNoEnd-append (take seen text) (take more rest) p first.one_line);
     }
+
+-- A text with a first line contains an LF.
+pub first_line_ends : (len : ℕ) (text : List ℕ) → IsFirstLine len text → HasNoEnd text → ⊥
+first_line_ends len text first none =
+    none (len, slice_get_within text len 10 first.ends, get_or_from_slice_get text len 10 10 first.ends)

@@ -19,6 +19,10 @@ pub HandsOn-all : (a b c : Option (List ℕ)) (waiting rest none : List ℕ) →
 HandsOn-all a b c waiting rest none before all e =
     (waiting, sym (ap (λ l. waiting ++ l) e ∙ append-nil waiting), subst (Appends a c) (sym before.1) (Appends-trans a b c before.0 rest before.2 all))
 
+-- Some bytes are written, and then the rest of them.
+pub HandsOn-whole : (a b c : Option (List ℕ)) (waiting rest : List ℕ) → HandsOn a waiting b rest → Appends b c rest → Appends a c waiting
+HandsOn-whole a b c waiting rest before all = subst (Appends a c) (sym before.1) (Appends-trans a b c before.0 rest before.2 all)
+
 pub HandsOn-part : (a b c : Option (List ℕ)) (waiting rest : List ℕ) → HandsOn a waiting b rest → AppendsPrefix b c rest → AppendsPrefix a c waiting
 HandsOn-part a b c waiting rest before part =
     let joined : IsPrefixOf (before.0 ++ part.0) (before.0 ++ rest) = prefix_after before.0 part.0 rest part.1 in

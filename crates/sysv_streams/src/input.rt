@@ -1,5 +1,5 @@
 //! The bytes of a script that were read and not yet run.
-ghost use Rattle.std.specs.Prelude.{◌≡◌, ◌+◌, ◌<◌, ◌≤◌, [], ◌++◌, length, take, drop, slice_range, vec_len, IfOk, IfErr, OnOk};
+ghost use Rattle.std.specs.Prelude.{◌≡◌, ◌+◌, ◌<◌, ◌≤◌, [], ◌++◌, length, take, drop, slice_range, vec_len, IfOk, IfErr, OnErr};
 ghost use Rattle.std.specs.Io.KnownBytes.{Consumes, IsAtEnd};
 ghost use Rattle.sysv_model.specs.Watched.{failures_of, failures_after, stream_name, stream_of};
 ghost use Rattle.sysv_streams.specs.Faults.{is_read_fault};
@@ -86,15 +86,16 @@ impl Input {
     ///
     /// # Errors
     ///
-    /// `Read` if the reader fails.
+    /// `Read` if the reader fails. The pending bytes are then the same.
     ///
     /// # Conditions
     ///
     /// Fewer than `INPUT_ROOM` bytes must be pending.
     pub fn read_from<R: Read>(&mut self, reader: &mut Watched<'_, R>) -> Result<usize, ScriptFault>
         requires { length self.old < INPUT_ROOM }
-        ensures text { OnOk result (TakesIn (R.remaining (stream_of reader.old)) self.old
-            (R.remaining (stream_of reader.new)) self.new) }
+        ensures text { TakesIn (R.remaining (stream_of reader.old)) self.old
+            (R.remaining (stream_of reader.new)) self.new }
+        ensures kept { OnErr result (self.new ≡ self.old) }
         ensures count { IfOk result (λ count. length self.new ≡ length self.old + count) }
         ensures end { IfOk result (λ count. count ≡ 0 →
             IsAtEnd (R.remaining (stream_of reader.new))) }

@@ -3,10 +3,12 @@
 
 mod fault;
 mod input;
+mod laws;
 mod lines;
 mod output;
 
 pub use fault::{SCRIPT_LINES, ScriptFault};
 pub use input::{INPUT_ROOM, Input};
+pub use laws::numerals_of_streams;
 pub use lines::{Found, next_line, read_on};
-pub use output::Output;
+pub use output::{MOST_COMPOSED, Output};

@@ -1,5 +1,5 @@
 //! Finds the next line of a script, and reads more if its end is not there yet.
-ghost use Rattle.std.specs.Prelude.{false, true, ◌≡◌, ◌+◌, ◌<◌, ◌≤◌, [], length, take, MatchOption, IfOk, IfErr, OnOk, OnErr, IfSome};
+ghost use Rattle.std.specs.Prelude.{ℕ, false, true, ◌≡◌, ◌+◌, ◌<◌, ◌≤◌, [], length, take, MatchOption, IfOk, IfErr, OnOk, OnErr, IfSome};
 ghost use Rattle.std.specs.Io.KnownBytes.{Appends, IsAtEnd};
 ghost use Rattle.sysv_model.specs.Watched.{failures_of, failures_after, stream_name, stream_of};
 ghost use Rattle.sysv_model.specs.Writing.{AppendsPrefix};
@@ -29,27 +29,38 @@ pub struct Found {
 /// Finds the next line, and reads more if its end is not there yet. Before each read the composed
 /// lines are written. Returns `None` if there is no line.
 ///
+/// If the end of a line is pending, nothing is read and nothing is written.
+///
 /// # Errors
 ///
-/// - `Read` if the reader fails.
-/// - `Write` if the writer fails or takes no byte.
+/// - `Read` if the reader fails. The writer took all composed lines.
+/// - `Write` if the writer fails or takes no byte. The writer took a prefix of the composed lines.
 ///
-/// After an error no line is composed, and the writer took a prefix of the composed lines.
+/// After an error no line is composed, and the pending bytes contain no LF.
 pub fn next_line<R: Read, W: Write>(
     input: &mut Input,
     output: &mut Output,
     reader: &mut Watched<'_, R>,
     writer: &mut Watched<'_, W>,
 ) -> Result<Option<Found>, ScriptFault>
-    ensures text { OnOk result (TakesIn (R.remaining (stream_of reader.old)) input.old
-        (R.remaining (stream_of reader.new)) input.new) }
+    ensures text { TakesIn (R.remaining (stream_of reader.old)) input.old
+        (R.remaining (stream_of reader.new)) input.new }
     ensures answers { OnOk result
         (HandsOn (W.contents (stream_of writer.old)) output.old
         (W.contents (stream_of writer.new)) output.new) }
     ensures found { IfOk result (λ found.
         FindsLine found input.new (R.remaining (stream_of reader.new))) }
+    // A line that is there is found before anything is read or written.
+    ensures at_once { (len : ℕ) → IsFirstLine len input.old →
+        (input.new ≡ input.old) × (output.new ≡ output.old)
+        × (reader.new ≡ reader.old) × (writer.new ≡ writer.old) }
+    // No line is there if a stream fails. If the reader fails, all composed lines were written.
+    ensures endless { OnErr result (HasNoEnd input.new) }
     ensures none_left { OnErr result (output.new ≡ []) }
     ensures err { OnErr result (AppendsPrefix (W.contents (stream_of writer.old))
+        (W.contents (stream_of writer.new)) output.old) }
+    ensures read_last { IfErr result (λ fault. fault ≡ ScriptFault.Read →
+        Appends (W.contents (stream_of writer.old))
         (W.contents (stream_of writer.new)) output.old) }
     ensures fault { IfErr result IsStreamFault }
     ensures same_reader { stream_name reader.new ≡ stream_name reader.old }
@@ -131,10 +142,11 @@ fn first_end(text: &[u8]) -> Option<usize>
 ///
 /// # Errors
 ///
-/// - `Write` if the writer fails or takes no byte.
-/// - `Read` if the reader fails.
+/// - `Write` if the writer fails or takes no byte. The writer took a prefix of the composed lines.
+/// - `Read` if the reader fails. The writer took all composed lines.
 ///
-/// No line is composed afterwards, also after an error.
+/// No line is composed afterwards, also after an error. After an error the pending bytes are the
+/// same.
 ///
 /// # Conditions
 ///
@@ -146,8 +158,9 @@ pub fn read_on<R: Read, W: Write>(
     writer: &mut Watched<'_, W>,
 ) -> Result<usize, ScriptFault>
     requires { length input.old < INPUT_ROOM }
-    ensures text { OnOk result (TakesIn (R.remaining (stream_of reader.old)) input.old
-        (R.remaining (stream_of reader.new)) input.new) }
+    ensures text { TakesIn (R.remaining (stream_of reader.old)) input.old
+        (R.remaining (stream_of reader.new)) input.new }
+    ensures kept { OnErr result (input.new ≡ input.old) }
     ensures count { IfOk result (λ count. length input.new ≡ length input.old + count) }
     ensures end { IfOk result (λ count. count ≡ 0 → IsAtEnd (R.remaining (stream_of reader.new))) }
     ensures answers { OnOk result
@@ -155,6 +168,9 @@ pub fn read_on<R: Read, W: Write>(
         (W.contents (stream_of writer.new)) output.old) }
     ensures none_left { output.new ≡ [] }
     ensures err { OnErr result (AppendsPrefix (W.contents (stream_of writer.old))
+        (W.contents (stream_of writer.new)) output.old) }
+    ensures read_last { IfErr result (λ fault. fault ≡ ScriptFault.Read →
+        Appends (W.contents (stream_of writer.old))
         (W.contents (stream_of writer.new)) output.old) }
     ensures fault { IfErr result IsStreamFault }
     ensures same_reader { stream_name reader.new ≡ stream_name reader.old }

@@ -1,11 +1,12 @@
 //! The lines that are composed and not yet written.
-ghost use Rattle.std.specs.Prelude.{◌≡◌, [], ◌∷◌, ◌++◌, IfOk, IfErr, IsOk, OnOk, OnErr};
+ghost use Rattle.std.specs.Prelude.{◌≡◌, ◌≤◌, [], ◌∷◌, ◌++◌, length, IfOk, IfErr, IsOk, OnOk, OnErr};
 ghost use Rattle.std.specs.Io.KnownBytes.{Appends};
 ghost use Rattle.sysv_lines.specs.Heads.{head_text};
 ghost use Rattle.sysv_model.specs.Watched.{failures_of, failures_after, stream_name, stream_of};
 ghost use Rattle.sysv_model.specs.Writing.{AppendsPrefix};
 ghost use Rattle.sysv_streams.specs.Faults.{is_write_fault};
 ghost use Rattle.sysv_streams.specs.Streams.{HandsOn};
+ghost use Rattle.sysv_streams.specs.declared.output.TheConstants.{MOST_COMPOSED};
 
 use crate::fault::ScriptFault;
 use std::alloc::Global;
@@ -17,8 +18,12 @@ use sysv_model::{BLOCK_BYTES, Body, NoMemory, Watched, WriteFault};
 /// The capacity of the output in bytes.
 const OUTPUT_ROOM: usize = 65536;
 
-/// An upper bound of the length of a line: a head, a message body and an LF.
+/// More bytes than any line of output needs. That of a receive is a head of at most 40 bytes, a body
+/// of at most 8,192 and an LF; that of a stat has at most 245.
 const LONGEST: usize = 8400;
+
+/// The maximum number of composed bytes before a line is run: one more line then fits.
+pub const MOST_COMPOSED: usize = OUTPUT_ROOM - LONGEST;
 
 /// Lines that are composed and not yet written.
 #[derive(Drop)]
@@ -88,7 +93,7 @@ impl Output {
         }
     }
 
-    /// Writes the composed lines if there might be no room for one more.
+    /// Writes the composed lines if there might be no room for one more. An `all` may compose 16.
     ///
     /// # Errors
     ///
@@ -97,6 +102,7 @@ impl Output {
     pub fn make_room<W: Write>(&mut self, writer: &mut Watched<'_, W>) -> Result<(), ScriptFault>
         ensures ok { OnOk result (HandsOn (W.contents (stream_of writer.old)) self.old
             (W.contents (stream_of writer.new)) self.new) }
+        ensures room { OnOk result (length self.new ≤ MOST_COMPOSED) }
         ensures none_left { OnErr result (self.new ≡ []) }
         ensures err { OnErr result (AppendsPrefix (W.contents (stream_of writer.old))
             (W.contents (stream_of writer.new)) self.old) }
@@ -105,7 +111,7 @@ impl Output {
         ensures failed { failures_of writer.new
             ≡ failures_after (is_write_fault result) (failures_of writer.old) }
     {
-        if self.bytes.len() <= OUTPUT_ROOM - LONGEST {
+        if self.bytes.len() <= MOST_COMPOSED {
             return Ok(());
         }
         self.write_to(writer)

@@ -13,9 +13,9 @@ returns-in_default-clause-prints g c = λ text known. writes_none c.one_text.ens
 
 pub returns-clause-prints : goal.returns-clause-prints
 returns-clause-prints g c = λ text known.
-    subst (λ r. WritesScript r text (g.W.Write.contents (stream_of c.args.writer.now)) (g.W.Write.contents (stream_of c.end.new.writer))) (sym c.and.ensures)
-    (writes_end c.one_text.ensures c.each_text_prints.ensures c.end.result c.run_lines-ended.result text _ _ _ _ c.end.ensures.ok c.end.ensures.err c.end.ensures.fault
-    (script_runs c.run_lines-ended.result _ _ text _ _ _ _ c.in-Ok.ensures.0 c.in-Ok.ensures.1 known c.run_lines-ended.ensures.prints))
+    subst (λ r. WritesScript r text (g.W.Write.contents (stream_of c.args.writer.now)) (g.W.Write.contents (stream_of c.end.new.writer)) (g.R.Read.remaining (stream_of c.run_lines-ended.new.reader))) (sym c.and.ensures)
+    (writes_end c.one_text.ensures c.each_text_prints.ensures c.end.result c.run_lines-ended.result text _ _ _ _ _ c.end.ensures.ok c.end.ensures.err c.end.ensures.fault
+    (script_runs c.run_lines-ended.result _ _ text _ _ _ _ _ c.in-Ok.ensures.0 c.in-Ok.ensures.1 known c.run_lines-ended.ensures.prints))
 
 pub returns-clause-grows : goal.returns-clause-grows
 returns-clause-grows g c =

@@ -1,6 +1,6 @@
-use Rattle.std.proofs.Common.{◌≡◌, ◌-◌, ◌≤◌, length, take}
+use Rattle.std.proofs.Common.{◌≡◌, ℕ, ◌-◌, ◌≤◌, length, take}
 use Rattle.sysv_model.specs.Watched.{failures_of, stream_name, stream_of}
-use Rattle.sysv_streams.specs.Found.{HasNoEnd}
+use Rattle.sysv_streams.specs.Found.{HasNoEnd, IsFirstLine}
 use Rattle.sysv_streams.specs.Streams.{HandsOn, TakesIn}
 use Rattle.sysv_streams.specs.declared.input.TheConstants.{INPUT_ROOM}
 use Rattle.sysv_streams.proofs.lines.next_line.Given as goal
@@ -9,6 +9,8 @@ abbrev pub invariant-loop-found : goal.invariant-loop-found
 invariant-loop-found g l = record {
   within : l.seen ≤ length l.input;
   before : HasNoEnd (take l.seen l.input);
+  -- If the end of a line was pending at the start, no read was made.
+  at_once : (len : ℕ) → IsFirstLine len l.initial.input → (l.input ≡ l.initial.input) × (l.output ≡ l.initial.output) × (l.reader ≡ l.initial.reader) × (l.writer ≡ l.initial.writer);
   text : TakesIn (g.R.Read.remaining (stream_of l.initial.reader)) l.initial.input (g.R.Read.remaining (stream_of l.reader)) l.input;
   answers : HandsOn (g.W.Write.contents (stream_of l.initial.writer)) l.initial.output (g.W.Write.contents (stream_of l.writer)) l.output;
   same_reader : stream_name l.reader ≡ stream_name l.initial.reader;

@@ -1,6 +1,6 @@
 use Rattle.std.proofs.Common.{rules}
 use Rattle.sysv_script.proofs.FaultLemmas.{LeavesBadLine-stream}
-use Rattle.sysv_script.proofs.Scripting.{takes_more, hands_all, read_none, ends_text, stops_part, exceeds_at}
+use Rattle.sysv_script.proofs.Scripting.{takes_more, hands_all, read_none, ends_text, stops_part, stops_read, no_end_in_none, exceeds_at}
 use Rattle.sysv_script.proofs.ScriptEnds.{at_stream_fault}
 use Rattle.sysv_script.proofs.StreamLemmas.{Grows-part}
 use Rattle.sysv_script.proofs.script.Run.expect_end.Goals as goal
@@ -11,7 +11,9 @@ returns-then-not-is_empty-clause-runs g c = λ s text old number many on.
 
 pub returns-in-Err-clause-runs : goal.returns-in-Err-clause-runs
 returns-in-Err-clause-runs g c = λ s text old number many on.
-    at_stream_fault c.in-Err.fault s text _ _ _ c.in-Err.ensures.fault
+    at_stream_fault c.in-Err.fault s text _ _ _ _ c.in-Err.ensures.fault
+    (λ reads. stops_read _ _ _ _ _ _ _ _ _ _ _ (no_end_in_none _ _ (search rules) c.in-Err.ensures.kept) (c.in-Err.ensures.read_last reads) c.in-Err.ensures.none_left
+    (takes_more _ _ _ _ _ _ _ _ _ _ _ c.in-Err.ensures.text on))
     (stops_part _ _ _ _ _ _ _ _ _ _ _ c.in-Err.ensures.err c.in-Err.ensures.none_left on)
 
 pub returns-in-Err-clause-grows : goal.returns-in-Err-clause-grows

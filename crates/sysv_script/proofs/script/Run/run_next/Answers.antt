@@ -1,12 +1,11 @@
-use Rattle.std.proofs.Common.{◌≡◌, ℕ, List, Option, Some, rules, subst, sym}
+use Rattle.std.proofs.Common.{◌≡◌, ℕ, List, Option, Some, rules, subst}
 use Rattle.sysv_model.specs.Watched.{stream_of}
 use Rattle.sysv_streams.specs.declared.lines.Found.{Found}
 use Rattle.sysv_streams.specs.Found.{FindsLine, IsNextLine}
 use Rattle.sysv_script.proofs.LineLemmas.{IsNextLine-front, IsNextLine-behind}
-use Rattle.sysv_streams.specs.Faults.{IsStreamFault}
 use Rattle.sysv_script.proofs.FaultLemmas.{IfErr-stream}
-use Rattle.sysv_script.proofs.Scripting.{takes_more, hands_more, runs_line, runs_last, ends_text, stops_part}
-use Rattle.sysv_script.proofs.ScriptEnds.{at_stream_fault, at_line_fault, RunsNext-passed, RunsNext-line}
+use Rattle.sysv_script.proofs.Scripting.{takes_more, hands_more, runs_line, runs_last, ends_text, stops_part, stops_read}
+use Rattle.sysv_script.proofs.ScriptEnds.{at_stream_fault, at_write_fault, at_line_fault, RunsNext-passed, RunsNext-line}
 use Rattle.sysv_script.proofs.StreamLemmas.{Grows-trans, Grows-handed, Grows-part}
 use Rattle.sysv_script.proofs.script.Run.run_next.Goals as goal
 
@@ -48,7 +47,9 @@ returns-clause-grows g c =
 pub returns-in_err-found-clause-runs : goal.returns-in_err-found-clause-runs
 returns-in_err-found-clause-runs g c = λ s text old on.
     RunsNext-passed c.from_residual.result c.in_err-found.field-0.0 s text _ _ _ _ _ _ _ c.from_residual.ensures.1
-    (at_stream_fault c.in_err-found.field-0.0 s text _ _ _ c.in_err-found.ensures.fault
+    (at_stream_fault c.in_err-found.field-0.0 s text _ _ _ _ c.in_err-found.ensures.fault
+    (λ reads. stops_read _ _ _ _ _ _ _ _ _ _ _ c.in_err-found.ensures.endless (c.in_err-found.ensures.read_last reads) c.in_err-found.ensures.none_left
+    (takes_more _ _ _ _ _ _ _ _ _ _ _ c.in_err-found.ensures.text on))
     (stops_part _ _ _ _ _ _ _ _ _ _ _ c.in_err-found.ensures.err c.in_err-found.ensures.none_left on))
 
 pub returns-in_default-clause-runs : goal.returns-in_default-clause-runs
@@ -61,7 +62,7 @@ returns-in_default-clause-runs g c = λ s text old on.
 pub returns-in_err-make_room-clause-runs : goal.returns-in_err-make_room-clause-runs
 returns-in_err-make_room-clause-runs g c = λ s text old on.
     RunsNext-passed c.from_residual-in_err-make_room.result c.in_err-make_room.field-0.0 s text _ _ _ _ _ _ _ c.from_residual-in_err-make_room.ensures.1
-    (at_stream_fault c.in_err-make_room.field-0.0 s text _ _ _ (subst IsStreamFault (sym c.in_err-make_room.ensures.fault) tt)
+    (at_write_fault c.in_err-make_room.field-0.0 s text _ _ _ _ c.in_err-make_room.ensures.fault
     (stops_part _ _ _ _ _ _ _ _ _ _ _ c.in_err-make_room.ensures.err c.in_err-make_room.ensures.none_left
     (hands_more _ _ _ _ _ _ _ _ _ _ _ c.in_ok-found.ensures.answers
     (takes_more _ _ _ _ _ _ _ _ _ _ _ c.in_ok-found.ensures.text on))))
