@@ -1,6 +1,6 @@
 //! The kernel of a session over a service.
 
-ghost use Rattle.std.specs.Prelude.{◌≡◌, ◌≤◌, ℕ, List, [], Some};
+ghost use Rattle.std.specs.Prelude.{◌≡◌, ◌≢◌, ◌≤◌, ℕ, List, [], Some};
 ghost use Rattle.sysv_gated.specs.Seats.{AreOf};
 ghost use Rattle.sysv_session.specs.Answers.{MayAnswer};
 ghost use Rattle.sysv_session.specs.Course.{Course, Follows, Takes};
@@ -13,7 +13,7 @@ use std::sync::Wait;
 use sysv_keys::SLOTS;
 use sysv_model::{Body, Cred, Errno, Flags, Row, SetTo, Stat};
 use sysv_service::{Caller, Clock, Pass, Service, Stays};
-use sysv_session::{Kernel, Outcome, Served, Texts, serve, serve_with};
+use sysv_session::{End, Kernel, Outcome, Served, Texts, serve, serve_with};
 use sysv_wire::{Ask, MAX_MODE, Op, Outcome as Told, Reply, Request, Version};
 
 /// A service as one session asks it: with a pass of its own, the moments of a clock, the handle to wait, and the caller that
@@ -90,6 +90,8 @@ impl<'a, C: Clock, R: Wait, K: Caller + Copy> ServiceKernel<'a, C, R, K> {
         // It ends as its input tells, unless it is cut short.
         ensures only { (input : List ℕ) (course : Course) → I.remaining reader.old ≡ Some input →
             Takes input course → Follows course result }
+        ensures memory { result.«end» ≡ End.NoMemory → (reader.new ≡ reader.old)
+            × (writer.new ≡ writer.old) }
         ensures service { self.new.service ≡ self.old.service }
         ensures clock { self.new.clock ≡ self.old.clock }
         ensures caller { self.new.caller ≡ self.old.caller }
@@ -111,6 +113,7 @@ impl<'a, C: Clock, R: Wait, K: Caller + Copy> ServiceKernel<'a, C, R, K> {
         // It ends as its input tells, unless it is cut short.
         ensures only { (input : List ℕ) (course : Course) → I.remaining reader.old ≡ Some input →
             Takes input course → Follows course result }
+        ensures memory { result.«end» ≢ End.NoMemory }
         ensures service { self.new.service ≡ self.old.service }
         ensures clock { self.new.clock ≡ self.old.clock }
         ensures caller { self.new.caller ≡ self.old.caller }
