@@ -1,5 +1,5 @@
 //! The server.
-ghost use Rattle.std.specs.Prelude.{◌≡◌, ◌≢◌, ◌≤◌, IfOk, IfErr};
+ghost use Rattle.std.specs.Prelude.{◌≡◌, ◌≢◌, ◌≤◌, IfOk, IfErr, IsNone};
 ghost use Rattle.sysv_model.specs.declared.limits.TheConstants.{MIN_BLOCKS, MAX_BLOCKS};
 ghost use Rattle.sysv_workers.specs.declared.workers.TheConstants.{MAX_CROWD, MAX_WORKERS};
 ghost use Rattle.sysv_gated.specs.Seats.{AreOf};
@@ -35,8 +35,8 @@ use sysv_workers::{Source, WorkersFault, WorkersRefused, run_crowd};
 /// refused is counted, and gets no reply.
 ///
 /// # Errors
-/// `NoMemory` if memory for the service, the passes or the workers is refused, and `Thread` if a
-/// thread cannot be started: then nothing was accepted. `Worn` if 2^62 connections had gone to the
+/// `NoMemory` if memory for the service or the workers is refused, and `Thread` if a thread cannot be
+/// started: then nothing was accepted. `Worn` if 2^62 connections had gone to the
 /// workers, and `Missed` if the number of sessions that were run is not that of the accepted
 /// connections.
 pub fn serve_on<R: Threads + Wait + Sync>(
@@ -67,7 +67,8 @@ fn lent(listener: &UnixListener, sessions: u64) -> Accepting<'_, UnixStream>
 ///
 /// The listener is closed once no more is accepted, before the last sessions are over. If there is
 /// an input, no more is accepted once it has ended; what it gives before is dropped. `fault` is left
-/// as why an accept failed, or `None` if none did.
+/// as why an accept failed, or `None` if none did. Without an input and without a `fault`, exactly
+/// as many sessions were run as the terms name.
 ///
 /// # Errors
 /// As for `serve_on`.
@@ -82,6 +83,8 @@ pub fn serve_listener<I: Read + AsRawFd + Drop, R: Threads + Wait + Sync>(
     requires blocks { (MIN_BLOCKS ≤ terms.blocks) × (terms.blocks ≤ MAX_BLOCKS) }
     requires at_once { (1 ≤ terms.at_once) × (terms.at_once ≤ MAX_CROWD) }
     ensures ok { IfOk result (λ ended. EndsOn terms.blocks terms.at_once terms.sessions ended) }
+    ensures exact { IfOk result (λ ended. IsNone input → IsNone fault.new →
+        (terms.sessions ≢ 0) × (ended.sums.sessions ≡ terms.sessions)) }
     ensures balance { IfOk result (λ ended. IsBalanced ended.sums) }
 {
     let Terms {
@@ -167,10 +170,7 @@ fn serve_with<S: Source<UnixStream>, R: Threads + Wait + Sync>(
     let Ok(mut workers) = Vec::with_capacity(alloc, count) else {
         return Err(ServeFault::NoMemory);
     };
-    let Ok(()) = hire(rt, alloc, service, pass, count, &mut workers) else {
-        dismiss(service, pass, workers);
-        return Err(ServeFault::NoMemory);
-    };
+    hire(rt, alloc, service, pass, count, &mut workers);
     let job = Sessions {
         alloc,
         service,
