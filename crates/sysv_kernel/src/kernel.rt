@@ -17,8 +17,8 @@ use sysv_session::{End, Kernel, Outcome, Served, Texts, serve, serve_with};
 use sysv_wire::{Ask, MAX_MODE, Op, Outcome as Told, Reply, Request, Version};
 
 /// A service as one session asks it: with a pass of its own, the moments of a clock, the handle to wait, and the caller that
-/// is asked whether it is still there while its call waits. Each request is one call of the service. It can be neither dropped
-/// nor copied: it ends by `into_pass`.
+/// is asked whether it is still there while its call waits. Each request but one for a row is one call of the service. It can be
+/// neither dropped nor copied: it ends by `into_pass`.
 pub struct ServiceKernel<'a, C: Clock, R: Wait, K: Caller + Copy = Stays> {
     rt: &'a R,
     service: &'a Service,

@@ -1,5 +1,5 @@
-//! A service of message queues as the kernel of a session: each request is one call of the service, and its reply tells how
-//! that call ended.
+//! A service of message queues as the kernel of a session. Each request but one for a row is one call of the service, and its
+//! reply tells how that call ended.
 #![tactic(auto)]
 
 mod kernel;

@@ -63,6 +63,8 @@ pub(super) enum Moment<'a> {
     Still,
     /// It says how often it was asked.
     Counts(&'a Board),
+    /// Its time is how many things were said.
+    Rises(&'a Board),
     /// It says that it was asked, and holds the call until so many things were said.
     Holds(&'a Board, u64),
 }
@@ -74,6 +76,7 @@ impl Clock for Moment<'_> {
         match self {
             Moment::Still => {}
             Moment::Counts(board) => board.say(),
+            Moment::Rises(board) => return board.said(),
             Moment::Holds(board, goal) => {
                 board.say();
                 board.look_for(*goal);
