@@ -1,7 +1,7 @@
 -- Not more is accepted than may be, and not less if nothing ends it before.
 use mathlib.Core.Bool.{true≢false}
-use Rattle.std.proofs.Common.{◌≡◌, ◌≢◌, inl, inr, Bool, ℕ, ◌+◌, ◌≤◌, ◌<◌, List, [], ◌∷◌, length, map, Option, Some, None, refl, arith, sym, ap, ◌∙◌}
-use Rattle.std.specs.Prelude.{Result, Ok, Err, IfOk, IsNone, ◌^◌, ◌-◌, ◌⊎◌, false, is_some, min}
+use Rattle.std.proofs.Common.{◌≡◌, ◌≢◌, inl, inr, Bool, ℕ, ◌+◌, ◌≤◌, ◌<◌, List, [], ◌∷◌, length, map, Option, Some, refl, arith, sym, ap, ◌∙◌}
+use Rattle.std.specs.Prelude.{Result, Ok, Err, IfOk, IsNone, ◌^◌, ◌-◌, false, is_some, min}
 use Rattle.std.specs.List.{FoldsTo, sum_by}
 use Rattle.std.proofs.lemmas.List.Sums.{sum_by-cons}
 use Rattle.sysv_session.specs.declared.served.Served.{Served}
@@ -12,7 +12,7 @@ use Rattle.sysv_server.specs.declared.sums.Sums.{Sums}
 use Rattle.sysv_server.specs.declared.terms.Ended.{Ended}
 use Rattle.sysv_server.specs.Accepts.{Accepts, is_closed}
 use Rattle.sysv_server.specs.Added.{capped, one_session}
-use Rattle.sysv_server.specs.Handled.{sums_of, tally_of, told_in}
+use Rattle.sysv_server.specs.Handled.{tally_of, told_in}
 use Rattle.sysv_server.specs.Serving.{EndsAll, EndsOn, ServesAll, ServesOn}
 
 room : (m a a' n : ℕ) → m ≤ 2 ^ 64 - 1 → a < m → a' ≡ min (a + 1) (2 ^ 64 - 1) → (a' ≤ m → a' + n ≤ m) → a + (n + 1) ≤ m

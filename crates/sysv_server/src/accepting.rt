@@ -1,5 +1,5 @@
 //! Connections as they are accepted.
-ghost use Rattle.std.specs.Prelude.{◌≡◌, ◌≢◌, ◌<◌, ◌≤◌, ◌-◌, ◌^◌, ◌⊎◌, false, true, is_some, IfSome, IfNone, IsSome};
+ghost use Rattle.std.specs.Prelude.{◌≡◌, ◌≢◌, ◌<◌, ◌≤◌, ◌-◌, ◌^◌, ◌⊎◌, true, is_some, IfSome, IfNone, IsSome};
 ghost use Rattle.sysv_server.specs.Accepts.{is_closed, IsFull};
 
 use crate::patient::seconds_long;

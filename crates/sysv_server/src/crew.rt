@@ -28,8 +28,7 @@ pub(crate) fn hire<'a, R: Wait>(
     ensures workers { All (λ w. (w.kernel.service.now ≡ service.now)
         × IsNew service.now w.kernel.pass w.sums) workers.new.items }
     ensures count { vec_len workers.new ≡ count }
-    ensures gives {
-        FoldsTo Gives pass.old (map (λ w. w.kernel.pass) workers.new.items) pass.new }
+    ensures gives { FoldsTo Gives pass.old (map (λ w. w.kernel.pass) workers.new.items) pass.new }
 {
     for _ in 0..count {
         let Ok(theirs) = service.split_pass(alloc, pass) else {
