@@ -1,5 +1,5 @@
 //! Banks.
-ghost use Rattle.std.specs.Prelude.{◌≡◌, ◌^◌, ◌≤◌, [], ◌∷◌, length, map, IfOk, IfErr, OnErr};
+ghost use Rattle.std.specs.Prelude.{◌≡◌, ◌^◌, ◌≤◌, [], ◌∷◌, length, map, IfOk, IfErr, IsOk};
 ghost use Rattle.std.specs.List.{All};
 ghost use Rattle.sysv_gate.specs.History.{Moves, AreUpTo};
 ghost use Rattle.sysv_gate.specs.Gates.{opened, parted, IsSplit, Joins};
@@ -112,8 +112,7 @@ impl<O: Object> Bank<O> {
     ///
     /// # Errors
     ///
-    /// - `NoMemory` is never returned by this implementation, which allocates nothing. If it were,
-    ///   `seat` would be unchanged.
+    /// `NoMemory` is never returned: this implementation allocates nothing.
     ///
     /// # Conditions
     ///
@@ -124,7 +123,7 @@ impl<O: Object> Bank<O> {
         ensures ok { IfOk result (λ s. (gates_of s.seats ≡ self.now)
             × (seat.new.seats ≡ map parted seat.old.seats) × Each2 IsSplit seat.old.seats s.seats) }
         ensures order { IfOk result (λ s. SplitsOff seat.old seat.new s) }
-        ensures err { OnErr result (seat.new ≡ seat.old) }
+        ensures always { IsOk result }
     {
         let token = split_pass(&self.hall, &mut seat.token);
         Ok(BankSeat {

@@ -1,4 +1,4 @@
-//! The error of a call that fails only if memory is refused.
+//! The error of a split, which this implementation never returns.
 
 /// There is no memory for another seat.
 #[derive(Debug, Clone, Copy, PartialEq, Eq)]

@@ -1,6 +1,6 @@
 //! Sharing the gates among threads: splitting and joining seats, and closing the gates.
 
-ghost use Rattle.std.specs.Prelude.{◌≡◌, length, IfOk, OnErr, IfSome, option_map};
+ghost use Rattle.std.specs.Prelude.{◌≡◌, length, IfOk, IsOk, IfSome, option_map};
 ghost use Rattle.sysv_keys.specs.declared.identifier.TheConstants.{SLOTS};
 ghost use Rattle.sysv_gated.specs.Kinds.{IsClosingAs};
 ghost use Rattle.sysv_gated.specs.Gated.{IsSlot, IsRegistry, IsPool, slot_in, registry_in, pool_in, as_slot, as_registry, as_pool};
@@ -25,8 +25,7 @@ impl Gates {
     ///
     /// # Errors
     ///
-    /// - `NoMemory` is never returned by this implementation, which allocates nothing here. If it
-    ///   were, `seats` would be unchanged.
+    /// `NoMemory` is never returned: this implementation allocates nothing here.
     ///
     /// # Conditions
     ///
@@ -36,12 +35,12 @@ impl Gates {
         ensures seats { AreOf self.now seats.new }
         ensures ok { IfOk result (λ other. AreOf self.now other
             × AreSplit seats.old seats.new other) }
-        ensures err { OnErr result (seats.new ≡ seats.old) }
+        ensures always { IsOk result }
     {
-        match self.bank.split(alloc, &mut seats.seat) {
-            Ok(seat) => Ok(Seats { seat }),
-            Err(_refused) => Err(NoMemory),
-        }
+        let Ok(seat) = self.bank.split(alloc, &mut seats.seat) else {
+            unreachable!()
+        };
+        Ok(Seats { seat })
     }
 
     /// Merges `other` into `seats`, object by object: what both have seen, and the turns of both.

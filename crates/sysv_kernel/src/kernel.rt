@@ -1,6 +1,6 @@
 //! The kernel of a session over a service.
 
-ghost use Rattle.std.specs.Prelude.{◌≡◌, ◌≤◌, ℕ, List, [], Some};
+ghost use Rattle.std.specs.Prelude.{◌≡◌, ◌≢◌, ◌≤◌, ℕ, List, [], Some};
 ghost use Rattle.sysv_gated.specs.Seats.{AreOf};
 ghost use Rattle.sysv_session.specs.Answers.{MayAnswer};
 ghost use Rattle.sysv_session.specs.Course.{Course, Follows, Takes};
@@ -13,10 +13,11 @@ use std::sync::Wait;
 use sysv_keys::SLOTS;
 use sysv_model::{Body, Cred, Errno, Flags, Row, SetTo, Stat};
 use sysv_service::{Caller, Clock, Pass, Service, Stays};
-use sysv_session::{Kernel, Outcome, Served, Texts, serve, serve_with};
+use sysv_session::{End, Kernel, Outcome, Served, Texts, serve, serve_with};
 use sysv_wire::{Ask, MAX_MODE, Op, Outcome as Told, Reply, Request, Version};
 
-/// The kernel of one session over a service.
+/// The kernel of one session over a service. Each request, except one for a row, is one call of the
+/// service.
 ///
 /// It has a pass of its own, a clock for the times of its calls, the handle to wait, and a caller
 /// that is checked while a call waits: if the caller has left, the call is left. A kernel can be
@@ -103,6 +104,8 @@ impl<'a, C: Clock, R: Wait, K: Caller + Copy> ServiceKernel<'a, C, R, K> {
         // The session ends as its input determines, unless it is cut short.
         ensures only { (input : List ℕ) (course : Course) → I.remaining reader.old ≡ Some input →
             Takes input course → Follows course result }
+        ensures memory { result.«end» ≡ End.NoMemory → (reader.new ≡ reader.old)
+            × (writer.new ≡ writer.old) }
         ensures service { self.new.service ≡ self.old.service }
         ensures clock { self.new.clock ≡ self.old.clock }
         ensures caller { self.new.caller ≡ self.old.caller }
@@ -125,6 +128,7 @@ impl<'a, C: Clock, R: Wait, K: Caller + Copy> ServiceKernel<'a, C, R, K> {
         // The session ends as its input determines, unless it is cut short.
         ensures only { (input : List ℕ) (course : Course) → I.remaining reader.old ≡ Some input →
             Takes input course → Follows course result }
+        ensures memory { result.«end» ≢ End.NoMemory }
         ensures service { self.new.service ≡ self.old.service }
         ensures clock { self.new.clock ≡ self.old.clock }
         ensures caller { self.new.caller ≡ self.old.caller }

@@ -1,5 +1,6 @@
 //! A source of accepted connections.
-ghost use Rattle.std.specs.Prelude.{◌≡◌, ◌≢◌, ◌<◌, ◌≤◌, ◌-◌, ◌^◌, IfSome};
+ghost use Rattle.std.specs.Prelude.{◌≡◌, ◌≢◌, ◌<◌, ◌≤◌, ◌-◌, ◌^◌, ◌⊎◌, true, is_some, IfSome, IfNone, IsSome};
+ghost use Rattle.sysv_server.specs.Accepts.{is_closed, IsFull};
 
 use crate::patient::seconds_long;
 use libc::net::{POLLIN, poll};
@@ -27,7 +28,9 @@ pub(crate) enum Listening<'a> {
 
 impl Listening<'_> {
     /// Returns the listener, if there is still one.
-    fn listener(&self) -> Option<&UnixListener> {
+    fn listener(&self) -> Option<&UnixListener>
+        ensures { IfNone result (is_closed self.now ≡ true) }
+    {
         match self {
             Listening::Lent(listener) => Some(listener),
             Listening::Own(listener) => Some(listener),
@@ -63,6 +66,7 @@ impl<'a, I: Read + AsRawFd + Drop> Accepting<'a, I> {
     ) -> Accepting<'a, I>
         ensures begun { (result.most ≡ most) × (result.accepted ≡ 0) }
         ensures range { result.most ≤ 2 ^ 64 - 1 }
+        ensures given { (result.listening ≡ listening.entry) × (result.input ≡ input) }
     {
         Accepting {
             listening,
@@ -75,15 +79,21 @@ impl<'a, I: Read + AsRawFd + Drop> Accepting<'a, I> {
     }
 
     /// Returns why an accept failed, if one did.
-    pub(crate) fn into_fault(self) -> Option<io::Error> {
+    pub(crate) fn into_fault(self) -> Option<io::Error>
+        ensures { result ≡ self.entry.fault }
+    {
         self.fault
     }
 
     /// Accepts the next connection. Returns `None` if no more connections are to be accepted.
     fn accept(&mut self) -> Option<io::Result<UnixStream>>
         ensures same { (self.new.most ≡ self.old.most) × (self.new.accepted ≡ self.old.accepted) }
+        ensures stays { (self.new.listening ≡ self.old.listening)
+            × (is_some self.new.input ≡ is_some self.old.input) }
         ensures bounded { IfSome result (λ _. self.old.most ≢ 0 →
             self.old.accepted < self.old.most) }
+        ensures ended { IfNone result ((is_closed self.old.listening ≡ true)
+            ⊎ IsFull self.old.most self.old.accepted ⊎ IsSome self.old.input) }
     {
         if self.most != 0 && self.accepted >= self.most {
             return None;
@@ -101,7 +111,7 @@ impl<'a, I: Read + AsRawFd + Drop> Accepting<'a, I> {
 impl<I: Read + AsRawFd + Drop> Source<UnixStream> for Accepting<'_, I> {
     ghost use Rattle.sysv_server.specs.Accepts.{Accepts};
 
-    ghost gives = { λ old given new. Accepts old.most old.accepted given new.most new.accepted };
+    ghost gives = { Accepts };
 
     fn next(&mut self) -> Option<UnixStream> {
         match self.accept() {

@@ -1,5 +1,5 @@
 //! The workers of a server: a pass is split off for each, and joined back at the end.
-ghost use Rattle.std.specs.Prelude.{◌≡◌, ◌≤◌, map, reverse, vec_len, vec_capacity, OnOk, []};
+ghost use Rattle.std.specs.Prelude.{◌≡◌, ◌≤◌, map, reverse, vec_len, vec_capacity, []};
 ghost use Rattle.std.specs.List.{All, FoldsTo};
 ghost use Rattle.sysv_gated.specs.Seats.{AreOf};
 ghost use Rattle.sysv_service.specs.Hiring.{Gives, TakesIn};
@@ -10,7 +10,7 @@ use crate::session::Worker;
 use crate::sums::Sums;
 use std::alloc::Global;
 use std::sync::Wait;
-use sysv_service::{NoMemory, Pass, Service};
+use sysv_service::{Pass, Service};
 
 /// Adds `count` workers, each with a pass that is split off from `pass`.
 pub(crate) fn hire<'a, R: Wait>(
@@ -20,22 +20,22 @@ pub(crate) fn hire<'a, R: Wait>(
     pass: &mut Pass,
     count: usize,
     workers: &mut Vec<Worker<'a, R>>,
-) -> Result<(), NoMemory>
+)
     requires pass { AreOf service.now pass.old.seats }
     requires none { workers.old.items ≡ [] }
     requires room { count ≤ vec_capacity workers.old }
     ensures pass { AreOf service.now pass.new.seats }
     ensures workers { All (λ w. (w.kernel.service.now ≡ service.now)
         × IsNew service.now w.kernel.pass w.sums) workers.new.items }
-    ensures count { OnOk result (vec_len workers.new ≡ count) }
-    ensures gives { OnOk result
-        (FoldsTo Gives pass.old (map (λ w. w.kernel.pass) workers.new.items) pass.new) }
+    ensures count { vec_len workers.new ≡ count }
+    ensures gives { FoldsTo Gives pass.old (map (λ w. w.kernel.pass) workers.new.items) pass.new }
 {
     for _ in 0..count {
-        let theirs = service.split_pass(alloc, pass)?;
+        let Ok(theirs) = service.split_pass(alloc, pass) else {
+            unreachable!()
+        };
         workers.push_reserved(Worker::new(rt, service, theirs));
     }
-    Ok(())
 }
 
 /// Joins the passes of all workers into `pass`, and returns the sum of their sums.

@@ -5,7 +5,7 @@ use thiserror::Error;
 /// Why a server did not serve to its end.
 #[derive(Clone, Copy, PartialEq, Eq, Debug, Error)]
 pub enum ServeFault {
-    /// Memory for the queues, the passes or the workers was refused. No connection was accepted.
+    /// Memory for the queues or the workers was refused. No connection was accepted.
     #[error("no memory")]
     NoMemory,
     /// A thread could not be started. No connection was accepted.

@@ -1,5 +1,5 @@
 //! The server.
-ghost use Rattle.std.specs.Prelude.{◌≡◌, ◌≢◌, ◌≤◌, IfOk, IfErr};
+ghost use Rattle.std.specs.Prelude.{◌≡◌, ◌≢◌, ◌≤◌, IfOk, IfErr, IsNone};
 ghost use Rattle.sysv_model.specs.declared.limits.TheConstants.{MIN_BLOCKS, MAX_BLOCKS};
 ghost use Rattle.sysv_workers.specs.declared.workers.TheConstants.{MAX_CROWD, MAX_WORKERS};
 ghost use Rattle.sysv_gated.specs.Seats.{AreOf};
@@ -39,7 +39,7 @@ use sysv_workers::{Source, WorkersFault, WorkersRefused, run_crowd};
 ///
 /// After `NoMemory` and `Thread` no connection was accepted.
 ///
-/// - `NoMemory` if memory for the service, the passes or the workers is refused.
+/// - `NoMemory` if memory for the service or the workers is refused.
 /// - `Thread` if a thread cannot be started.
 /// - `Worn` if 2^62 connections have gone to the workers.
 /// - `Missed` if the number of sessions that were run differs from the number of accepted
@@ -78,7 +78,8 @@ fn lent(listener: &UnixListener, sessions: u64) -> Accepting<'_, UnixStream>
 /// The listener is closed when no more connections are to be accepted, before the last sessions are
 /// over. If there is an `input`, no more connections are accepted after it has ended; the bytes
 /// that it returns before its end are dropped. `fault` is set to the reason if an accept failed,
-/// and to `None` otherwise.
+/// and to `None` otherwise. Without an `input` and without a `fault`, exactly `terms.sessions`
+/// sessions were run.
 ///
 /// # Errors
 ///
@@ -99,6 +100,8 @@ pub fn serve_listener<I: Read + AsRawFd + Drop, R: Threads + Wait + Sync>(
     requires blocks { (MIN_BLOCKS ≤ terms.blocks) × (terms.blocks ≤ MAX_BLOCKS) }
     requires at_once { (1 ≤ terms.at_once) × (terms.at_once ≤ MAX_CROWD) }
     ensures ok { IfOk result (λ ended. EndsOn terms.blocks terms.at_once terms.sessions ended) }
+    ensures exact { IfOk result (λ ended. IsNone input → IsNone fault.new →
+        (terms.sessions ≢ 0) × (ended.sums.sessions ≡ terms.sessions)) }
     ensures balance { IfOk result (λ ended. IsBalanced ended.sums) }
 {
     let Terms {
@@ -188,10 +191,7 @@ fn serve_with<S: Source<UnixStream>, R: Threads + Wait + Sync>(
     let Ok(mut workers) = Vec::with_capacity(alloc, count) else {
         return Err(ServeFault::NoMemory);
     };
-    let Ok(()) = hire(rt, alloc, service, pass, count, &mut workers) else {
-        dismiss(service, pass, workers);
-        return Err(ServeFault::NoMemory);
-    };
+    hire(rt, alloc, service, pass, count, &mut workers);
     let job = Sessions {
         alloc,
         service,

@@ -2,24 +2,14 @@
 -- it made, in order, at whatever objects. The step table, taken along these turns, leads to the
 -- state of the call, together with what the call does at a gate that it found worn out
 -- (POSIX.1-2017, msgget, msgsnd, msgrcv and msgctl; the order is this project's profile).
-use Rattle.std.specs.Prelude.{◌≡◌, ℕ, List}
-use mathlib.Core.Option.{some}
-use lib.ListN.{get_elem?}
+use Rattle.std.specs.Prelude.{ℕ, List}
 use Rattle.sysv_model.specs.Turn.{Deed}
 use Rattle.sysv_crew.specs.Members.{Does}
 use Rattle.sysv_steps.specs.State.{State}
 use Rattle.sysv_steps.specs.Played.{Plays}
-use Rattle.sysv_gate.specs.History.{HasItsOwn}
-use Rattle.sysv_gated.specs.Seats.{SlotSeat, Seats}
 use Rattle.sysv_service.specs.Marks.{IsUnmarked}
 use Rattle.sysv_service.specs.PlayedWorn.{PlaysWorn}
 use Rattle.sysv_service.specs.Ran.{Pass, Ran, FindsTurns}
-
--- Each seat knows exactly its own turns in what it has seen.
-pub record KnowTheirOwn (seats : Seats) : Type 0 where
-  pub slots : (slot : ℕ) (seat : SlotSeat) → get_elem? seats.slots slot ≡ some seat → HasItsOwn seat.numbers seat.own seat.seen
-  pub registry : HasItsOwn seats.registry.numbers seats.registry.own seats.registry.seen
-  pub pool : HasItsOwn seats.pool.numbers seats.pool.own seats.pool.seen
 
 -- What is known of the turns of one call.
 pub record PlaysItsOwn {may : ℕ → Type 0} {from : State} {old : Pass} {deeds : List Deed} {state : State} {new : Pass} (ran : Ran may from old deeds state new) : Type 0 where

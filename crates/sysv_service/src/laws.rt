@@ -1,9 +1,9 @@
 //! Laws over the definitions alone. Each function's contract is its law.
 
-ghost use Rattle.sysv_gated.specs.SeenHistories.{ObeysIfOpen};
+ghost use Rattle.sysv_gated.specs.SeenHistories.{EachKnowsItsOwn, ObeysIfOpen};
 ghost use Rattle.sysv_service.specs.Hiring.{EveryHiringObeys, EveryStopRemoves};
 ghost use Rattle.sysv_service.specs.Life.{EachRunIsAtAnyMoment, EveryServiceObeys};
-ghost use Rattle.sysv_service.specs.OwnTurns.{EachPlaysItsOwn, KnowTheirOwn};
+ghost use Rattle.sysv_service.specs.OwnTurns.{EachPlaysItsOwn};
 ghost use Rattle.sysv_service.specs.PoolWhole.{EveryHiringLeavesThePoolWhole, EveryPoolIsWhole, NoHiringLeavesAGateHeld};
 ghost use Rattle.sysv_service.specs.RightAnswers.{EachRunAnswersRight};
 ghost use Rattle.sysv_driver.specs.Stepping.{no_moment};
@@ -15,12 +15,12 @@ use sysv_free::every_service_that_came_home_is_a_run;
 use sysv_gated::{each_seat_obeys, seen_histories};
 use sysv_steps::each_answer_is_right;
 
-/// States that each seat of a pass knows exactly its own turns in what it has seen, whatever calls
-/// were made with the pass, and whether it was opened, split off or joined. If nothing had happened
-/// at the objects when the service was opened, what the seat has seen of its object obeys the law
-/// of that object.
+/// States that what each seat of a pass has seen is legal, and that the seat knows exactly its own
+/// turns in it, whatever calls were made with the pass, and whether it was opened, split off or
+/// joined. If nothing had happened at the objects when the service was opened, what the seat has
+/// seen of its object obeys the law of that object.
 pub fn each_pass_obeys(pass: &Pass)
-    ensures knows { KnowTheirOwn pass.now.seats }
+    ensures knows { EachKnowsItsOwn pass.now.seats }
     ensures obeys { ObeysIfOpen pass.now.seats }
 {
     each_seat_obeys(&pass.seats);

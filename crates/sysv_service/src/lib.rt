@@ -36,5 +36,5 @@ pub use service::Service;
 // The types that the signatures use.
 pub use sysv_driver::Clock;
 pub use sysv_gated::OpenRefused;
-pub use sysv_model::{Body, Cred, Errno, Flags, NoMemory, Row, SetTo, Stat};
+pub use sysv_model::{Body, Cred, Errno, Flags, NoMemory, Perm, Row, SetTo, Stat};
 pub use sysv_queue::{Delivery, Tally};

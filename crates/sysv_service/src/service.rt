@@ -1,6 +1,6 @@
 //! The service.
 
-ghost use Rattle.std.specs.Prelude.{◌≡◌, ◌<◌, ◌+◌, ◌⊎◌, ◌↔◌, ◌^◌, IfOk, OnErr, Err};
+ghost use Rattle.std.specs.Prelude.{◌≡◌, ◌<◌, ◌+◌, ◌⊎◌, ◌↔◌, ◌^◌, IfOk, IsOk, Err};
 ghost use Rattle.sysv_model.specs.declared.limits.TheConstants.{MIN_BLOCKS as least_blocks, MAX_BLOCKS as most_blocks};
 ghost use Rattle.sysv_keys.specs.declared.identifier.TheConstants.{GENERATION_LAST};
 ghost use Rattle.sysv_gated.specs.Seats.{AreOf};
@@ -81,8 +81,7 @@ impl Service {
     ///
     /// # Errors
     ///
-    /// - `NoMemory` is never returned by this implementation, which allocates nothing here. If it
-    ///   were, `pass` would be unchanged.
+    /// `NoMemory` is never returned: this implementation allocates nothing here.
     ///
     /// # Conditions
     ///
@@ -92,10 +91,12 @@ impl Service {
         ensures pass { AreOf self.now pass.new.seats }
         ensures ok { IfOk result (λ other. AreOf self.now other.seats
             × AreSplit pass.old.seats pass.new.seats other.seats × (other.held ≡ 0)) }
-        ensures err { OnErr result (pass.new.seats ≡ pass.old.seats) }
+        ensures always { IsOk result }
         ensures held { pass.new.held ≡ pass.old.held }
     {
-        let seats = self.gates.split(alloc, &mut pass.seats)?;
+        let Ok(seats) = self.gates.split(alloc, &mut pass.seats) else {
+            unreachable!()
+        };
         Ok(Pass {
             seats,
             held: Chain::empty(),

@@ -46,6 +46,8 @@ impl Service {
         ensures pass { AreOf self.now pass.new.seats }
         ensures ended { (text : List ℕ) →
             EndsWait (wait_of wait text) pass.old (state_of result text) pass.new }
+        ensures unmet { result ≡ State.Waits wait → (text : List ℕ) →
+            IsUnmet (wait_of wait text) pass.old pass.new }
     {
         match self.wait_for(rt, pass, &Stays, wait) {
             Some(state) => state,

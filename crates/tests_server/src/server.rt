@@ -153,8 +153,9 @@ fn listing(rt: &impl Net, path: &str) -> bool {
     if !asks(&mut stream, &[HELLO], &[KNOWN]) {
         return false;
     }
-    for slot in 0..64u8 {
-        let request: &[u8] = &[0x00, 0x00, 0x00, 0x06, 0x01, 0x07, 0x00, 0x00, 0x00, slot];
+    for slot in 0..SLOTS as u32 {
+        let [a, b, c, d] = slot.to_be_bytes();
+        let request: &[u8] = &[0x00, 0x00, 0x00, 0x06, 0x01, 0x07, a, b, c, d];
         let reply = if slot == 0 { ROW } else { NO_ROW };
         if !asks(&mut stream, &[request], &[reply]) {
             return false;

@@ -15,7 +15,7 @@ use std::sync::Wait;
 use sysv_gate::{Awaited, Closing};
 use sysv_gated::{GatedPool, GatedSlot, Gates, GatesClosed, OpenRefused, Seats};
 use sysv_keys::Begun;
-use sysv_model::{Errno, IPC_PRIVATE, MESSAGE_BYTES, NoMemory, Selector, SetTo};
+use sysv_model::{Errno, IPC_PRIVATE, MESSAGE_BYTES, Selector, SetTo};
 use sysv_pool::Chain;
 use sysv_queue::{Look, Probe, Tally};
 use sysv_turns::Letter;
@@ -307,26 +307,22 @@ fn a_queue_is_told_changed_and_removed(rt: HostRuntime) {
 #[test]
 fn seats_are_split_and_joined(rt: HostRuntime) {
     let (gates, mut seats) = gates_at(&rt, rt.alloc(), 100);
-    match gates.split(rt.alloc(), &mut seats) {
-        Ok(mut other) => {
-            let made = install(&rt, &gates, &mut other, 0, 7, USER, 0o600, 50);
-            assert_is(&rt, made, Ok(true));
-            let again = install(&rt, &gates, &mut seats, 0, 7, USER, 0o600, 50);
-            assert_is(&rt, again, Ok(false));
-            let made = begin(&rt, &gates, &mut other, 7, creating());
-            assert_is(&rt, made, Ok(Begun::Made { id: 0 }));
-            let busy = begin(&rt, &gates, &mut seats, 7, creating());
-            assert_is(&rt, busy, Ok(Begun::Busy { settled: 0 }));
-            match reserve(&rt, &gates, &mut other, 65) {
-                Ok(Some(chain)) => assert_is(&rt, chain.end(), 2),
-                Ok(None) => panic!(rt; "no blocks"),
-                Err(_) => panic!(rt; "worn"),
-            }
-            gates.join(&mut seats, other);
-            assert_is(&rt, ended(&rt, gates.close(seats)), (2, 2, 1));
-        }
-        Err(NoMemory) => assert_is(&rt, ended(&rt, gates.close(seats)), (0, 0, 0)),
+    let mut other = gates.split(rt.alloc(), &mut seats).expect(&rt, "a split");
+    let made = install(&rt, &gates, &mut other, 0, 7, USER, 0o600, 50);
+    assert_is(&rt, made, Ok(true));
+    let again = install(&rt, &gates, &mut seats, 0, 7, USER, 0o600, 50);
+    assert_is(&rt, again, Ok(false));
+    let made = begin(&rt, &gates, &mut other, 7, creating());
+    assert_is(&rt, made, Ok(Begun::Made { id: 0 }));
+    let busy = begin(&rt, &gates, &mut seats, 7, creating());
+    assert_is(&rt, busy, Ok(Begun::Busy { settled: 0 }));
+    match reserve(&rt, &gates, &mut other, 65) {
+        Ok(Some(chain)) => assert_is(&rt, chain.end(), 2),
+        Ok(None) => panic!(rt; "no blocks"),
+        Err(_) => panic!(rt; "worn"),
     }
+    gates.join(&mut seats, other);
+    assert_is(&rt, ended(&rt, gates.close(seats)), (2, 2, 1));
 }
 
 #[test]

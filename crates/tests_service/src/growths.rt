@@ -32,18 +32,18 @@ fn service_starting_at(rt: HostRuntime) {
     }
 }
 
-// The first pass removes the queue that it has made, with another pass present and without one.
+// The other pass finds the queue that the first pass has made, and the first pass removes it.
 #[test]
 fn split_of_pass(rt: HostRuntime) {
     let (service, mut pass) = opened(&rt, rt.alloc(), 128, 0);
     let id = service.msgget(&rt, &mut pass, &CLOCK, USER, 7, creating());
     assert_is(&rt, id, Ok(0));
     let _marked = mark(rt.alloc());
-    if let Ok(mut other) = service.split_pass(rt.alloc(), &mut pass) {
-        let found = service.msgget(&rt, &mut other, &CLOCK, USER, 7, creating());
-        assert_is(&rt, found, Ok(0));
-        service.join_pass(&mut pass, other);
-    }
+    let other = service.split_pass(rt.alloc(), &mut pass);
+    let mut other = other.expect(&rt, "a split");
+    let found = service.msgget(&rt, &mut other, &CLOCK, USER, 7, creating());
+    assert_is(&rt, found, Ok(0));
+    service.join_pass(&mut pass, other);
     let removed = service.msgctl_rmid(&rt, &mut pass, USER, 0);
     assert_is(&rt, removed, Ok(()));
     assert_is(&rt, service.list_row(&rt, &mut pass, 0), Ok(None));

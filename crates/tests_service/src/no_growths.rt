@@ -62,10 +62,8 @@ fn control<R: Abort + Wait>(rt: &R, service: &Service, pass: &mut Pass)
 #[test]
 fn service(rt: HostRuntime) {
     let (service, mut pass) = opened(&rt, rt.alloc(), 128, 0);
-    let Ok(mut other) = service.split_pass(rt.alloc(), &mut pass) else {
-        assert_is(&rt, service.close(pass), closed(0, 128));
-        return;
-    };
+    let other = service.split_pass(rt.alloc(), &mut pass);
+    let mut other = other.expect(&rt, "a split");
     let text = body_of(&rt, rt.alloc(), b"ping");
     let mut out = empty_body(&rt, rt.alloc());
     let _marked = mark(rt.alloc());

@@ -12,7 +12,7 @@ use crate::parts::{LIMIT, assert_is};
 use crate::sum::Sum;
 use std::alloc::Global;
 use std::test::Fail;
-use sysv_bank::{Bank, BankSeat, NoMemory};
+use sysv_bank::{Bank, BankSeat};
 use sysv_gate::{Awaited, Closing, OpenRefused, TryRefused};
 
 // Opens a bank of three sums, of 10, 20 and 30.
@@ -91,17 +91,13 @@ fn a_bounded_wait_at_a_place_comes_back(rt: HostRuntime) -> Result<(), Fail> {
 #[test]
 fn seats_are_split_and_joined_together(rt: HostRuntime) -> Result<(), Fail> {
     let (bank, mut seat) = opened(rt.alloc(), 0).ok_or("no memory")?;
-    match bank.split(rt.alloc(), &mut seat) {
-        Ok(mut other) => {
-            assert!(rt; matches!(&bank.call(&rt, 0, &mut other, 1), Ok(10)));
-            assert!(rt; matches!(&bank.call(&rt, 0, &mut seat, 2), Ok(11)));
-            assert!(rt; matches!(&bank.try_call(2, &mut other, 3), Ok(30)));
-            assert_is(&rt, bank.arrived(2, &mut seat), 1);
-            bank.join(&mut seat, other);
-            assert_is(&rt, turns_of(bank.close(seat)), 3);
-        }
-        Err(NoMemory) => assert_is(&rt, turns_of(bank.close(seat)), 0),
-    }
+    let mut other = bank.split(rt.alloc(), &mut seat).expect(&rt, "a split");
+    assert!(rt; matches!(&bank.call(&rt, 0, &mut other, 1), Ok(10)));
+    assert!(rt; matches!(&bank.call(&rt, 0, &mut seat, 2), Ok(11)));
+    assert!(rt; matches!(&bank.try_call(2, &mut other, 3), Ok(30)));
+    assert_is(&rt, bank.arrived(2, &mut seat), 1);
+    bank.join(&mut seat, other);
+    assert_is(&rt, turns_of(bank.close(seat)), 3);
     Ok(())
 }
 

@@ -4,7 +4,7 @@
 use crate::parts::{LIMIT, assert_is};
 use crate::sum::Sum;
 use std::process::Abort;
-use sysv_bank::{Bank, NoMemory};
+use sysv_bank::Bank;
 use sysv_buffer::{ManyBuffer, OneBuffer, OpenRefused as BufferRefused};
 use sysv_eventcount::{Eventcount, OpenRefused as CountRefused, Sequencer};
 use sysv_gate::{Gate, Object, OpenRefused};
@@ -108,7 +108,7 @@ fn bank_open(rt: HostRuntime) {
     }
 }
 
-// The seat works as before, and all its turns are counted.
+// The seat works as before, and its turns and those of the other seat are counted.
 #[test]
 fn bank_split(rt: HostRuntime) {
     let Ok(objects) = Vec::from_array(rt.alloc(), [Sum::new(10), Sum::new(20)]) else {
@@ -118,18 +118,13 @@ fn bank_split(rt: HostRuntime) {
         return;
     };
     let _marked = mark(rt.alloc());
-    let wanted = match bank.split(rt.alloc(), &mut seat) {
-        Ok(mut other) => {
-            assert!(rt; matches!(&bank.try_call(1, &mut other, 5), Ok(20)));
-            bank.join(&mut seat, other);
-            25
-        }
-        Err(NoMemory) => 20,
-    };
-    assert!(rt; matches!(&bank.try_call(1, &mut seat, 1), Ok(sum) if *sum == wanted));
+    let mut other = bank.split(rt.alloc(), &mut seat).expect(&rt, "a split");
+    assert!(rt; matches!(&bank.try_call(1, &mut other, 5), Ok(20)));
+    bank.join(&mut seat, other);
+    assert!(rt; matches!(&bank.try_call(1, &mut seat, 1), Ok(25)));
     assert!(rt; matches!(&bank.try_call(0, &mut seat, 1), Ok(10)));
     let closings = bank.close(seat);
     let mut turns = closings.iter().map(|closing| closing.turns);
     let found = (turns.next(), turns.next(), turns.next());
-    assert_is(&rt, found, (Some(1), Some(wanted / 5 - 3), None));
+    assert_is(&rt, found, (Some(1), Some(2), None));
 }

@@ -28,6 +28,10 @@ pub(super) enum Ask {
     /// Sets these attributes, as this user.
     Set(i32, Cred, SetTo),
     Remove(i32),
+    /// The time of the last send.
+    SentAt(i32),
+    /// The time of the last receive.
+    ReceivedAt(i32),
     Stop,
 }
 
@@ -36,8 +40,8 @@ pub(super) fn waiting() -> Flags {
     flags(0)
 }
 
-/// The result of a call: an identifier, the length of the body that was received, the number of
-/// queues that were removed, or 0. It is `LEFT` if the call was left.
+/// The result of a call: an identifier, the length of the body that was received, a time, the
+/// number of queues that were removed, or 0. It is `LEFT` if the call was left.
 pub(super) type Told = Result<i64, Errno>;
 
 /// The result of a call that was left.
@@ -75,6 +79,14 @@ pub(super) fn make<R: Abort + Wait>(
         Ask::Remove(id) => {
             service.msgctl_rmid(rt, pass, USER, id)?;
             Ok(0)
+        }
+        Ask::SentAt(id) => {
+            let stat = service.msgctl_stat(rt, pass, USER, id)?;
+            Ok(stat.stime as i64)
+        }
+        Ask::ReceivedAt(id) => {
+            let stat = service.msgctl_stat(rt, pass, USER, id)?;
+            Ok(stat.rtime as i64)
         }
         Ask::Stop => {
             let removed = service.stop(rt, pass)?;

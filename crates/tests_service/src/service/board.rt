@@ -63,6 +63,8 @@ pub(super) enum Moment<'a> {
     Still,
     /// Makes a report whenever it is called.
     Counts(&'a Board),
+    /// Makes a report whenever it is called. Its time is the number of reports made so far.
+    Rises(&'a Board),
     /// Makes a report, and holds the call until this number of reports was made.
     Holds(&'a Board, u64),
 }
@@ -74,6 +76,7 @@ impl Clock for Moment<'_> {
         match self {
             Moment::Still => {}
             Moment::Counts(board) => board.say(),
+            Moment::Rises(board) => return board.said(),
             Moment::Holds(board, goal) => {
                 board.say();
                 board.look_for(*goal);

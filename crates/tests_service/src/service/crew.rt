@@ -115,7 +115,7 @@ fn split_one<'a>(
     ensures pass { AreOf service.now pass.new.seats }
     ensures member { AreOf service.now result.pass.seats }
 {
-    let pass = service.split_pass(alloc, pass).expect(rt, "memory");
+    let pass = service.split_pass(alloc, pass).expect(rt, "a split");
     Member { pass, part }
 }
 

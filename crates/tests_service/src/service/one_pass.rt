@@ -379,19 +379,13 @@ fn passes_are_split_and_joined(rt: HostRuntime) {
     let (service, mut pass) = opened(&rt, rt.alloc(), 128, 0);
     let id = service.msgget(&rt, &mut pass, &CLOCK, USER, 7, creating());
     assert_is(&rt, id, Ok(0));
-    if let Ok(mut other) = service.split_pass(rt.alloc(), &mut pass) {
-        assert_is(
-            &rt,
-            send(&rt, rt.alloc(), &service, &mut other, 0, 5, b"ping"),
-            Ok(()),
-        );
-        service.join_pass(&mut pass, other);
-        assert_is(
-            &rt,
-            receive(&rt, rt.alloc(), &service, &mut pass, 0, 0),
-            Ok((5, 4)),
-        );
-    }
+    let other = service.split_pass(rt.alloc(), &mut pass);
+    let mut other = other.expect(&rt, "a split");
+    let sent = send(&rt, rt.alloc(), &service, &mut other, 0, 5, b"ping");
+    assert_is(&rt, sent, Ok(()));
+    service.join_pass(&mut pass, other);
+    let given = receive(&rt, rt.alloc(), &service, &mut pass, 0, 0);
+    assert_is(&rt, given, Ok((5, 4)));
     assert_is(&rt, service.close(pass), closed(0, 128));
 }
 

@@ -3,7 +3,7 @@
 use super::ask::{Ask, LEFT, Told};
 use super::board::{Board, Moment};
 use super::crew::run;
-use super::part::{Part, Turn, add, told_of};
+use super::part::{Part, Turn, add, answered_at, told_of};
 use crate::parts::closed;
 use std::alloc::Global;
 use std::process::Abort;
@@ -15,6 +15,13 @@ use tests_kit::{ROOT, USER};
 
 /// How often a wait is tried if the other call may be first.
 const TRIES: u32 = 50;
+
+/// How often a wake is tried. A busy machine may be late, and a lost wake costs up to a second each
+/// time.
+const WAKES: u32 = 8;
+
+/// The number of gets that wait for one key.
+const GETS: usize = 4;
 
 /// The attributes of a queue of user 1000 with this mode and limit.
 fn to(mode: u32, qbytes: u32) -> SetTo {
@@ -186,4 +193,107 @@ fn a_get_waits_for_a_key_that_is_made(rt: HostRuntime) {
     assert_eq!(rt; told_of(&rt, &left.parts, 0), (Ok(0), 3));
     assert_eq!(rt; told_of(&rt, &left.parts, 1), (Ok(0), 3));
     assert_eq!(rt; told_of(&rt, &left.parts, 2).0, Ok(1));
+}
+
+/// How many milliseconds after the first get, which makes the queue, the last of the others is answered, which wait until it
+/// is settled.
+fn settled<R: Threads + Abort + Wait + Clock + Sync>(rt: &R, alloc: Global) -> u128 {
+    let board = Board::new();
+    let goal = GETS as u64 + 2;
+    let makes = Turn {
+        runs: false,
+        clock: Moment::Holds(&board, goal),
+        ..Turn::at_once(&board, Ask::Get(7))
+    };
+    let releases = Turn {
+        runs: false,
+        after: goal - 1,
+        begins: true,
+        ..Turn::at_once(&board, Ask::Get(8))
+    };
+    let mut parts = Vec::new(alloc);
+    add(rt, &mut parts, Part::Asks(makes));
+    add(rt, &mut parts, Part::Asks(releases));
+    for _ in 0..GETS {
+        let waits = Turn {
+            runs: false,
+            after: 1,
+            begins: true,
+            ..Turn::at_once(&board, Ask::Get(7))
+        };
+        add(rt, &mut parts, Part::Asks(waits));
+    }
+    let left = run(rt, alloc, 128, &[], parts);
+    assert_eq!(rt; left.closed, closed(0, 128));
+    let made = answered_at(rt, &left.parts, 0);
+    let mut longest = 0;
+    for place in 0..GETS {
+        let place = place + 2;
+        assert_eq!(rt; told_of(rt, &left.parts, place), (Ok(0), goal));
+        let late = answered_at(rt, &left.parts, place).saturating_duration_since(made);
+        if late.as_millis() > longest {
+            longest = late.as_millis();
+        }
+    }
+    longest
+}
+
+/// The settle wakes one get, which wakes the next: none looks again only after a second.
+#[test]
+fn one_settle_wakes_all_gets_that_wait(rt: HostRuntime) {
+    for _ in 0..WAKES {
+        if settled(&rt, rt.alloc()) < 400 {
+            return;
+        }
+    }
+    panic!(rt; "a get is late each time")
+}
+
+/// The time of a call that waited, as the queue shows it. Two things were said when the wait could end, and one when the call
+/// began.
+fn stamped<R: Threads + Abort + Wait + Clock + Sync>(
+    rt: &R,
+    alloc: Global,
+    before: [Ask; 3],
+    calls: [Ask; 3],
+) -> Told {
+    let board = Board::new();
+    let [waits, ends, tells] = calls;
+    let waits = Turn {
+        clock: Moment::Rises(&board),
+        ends: true,
+        ..Turn::at_once(&board, waits)
+    };
+    let ends = Turn {
+        runs: false,
+        after: 1,
+        begins: true,
+        ..Turn::at_once(&board, ends)
+    };
+    let tells = Turn {
+        runs: false,
+        after: 3,
+        ..Turn::at_once(&board, tells)
+    };
+    let mut parts = Vec::new(alloc);
+    for turn in [waits, ends, tells] {
+        add(rt, &mut parts, Part::Asks(turn));
+    }
+    let left = run(rt, alloc, 128, &before, parts);
+    told_of(rt, &left.parts, 2).0
+}
+
+/// A call that waited is stamped with a time that its clock gave after the wait, and not with that of its start.
+#[test]
+fn a_call_that_waited_is_stamped_after_its_wait(rt: HostRuntime) {
+    let before = [
+        Ask::Get(1),
+        Ask::Set(0, USER, to(0o600, 1)),
+        Ask::Send(0, 1),
+    ];
+    let calls = [Ask::Send(0, 1), Ask::Receive(0), Ask::SentAt(0)];
+    assert_eq!(rt; stamped(&rt, rt.alloc(), before, calls), Ok(2));
+    let before = [Ask::Get(1), Ask::Get(2), Ask::Get(3)];
+    let calls = [Ask::Receive(0), Ask::Send(0, 5), Ask::ReceivedAt(0)];
+    assert_eq!(rt; stamped(&rt, rt.alloc(), before, calls), Ok(2));
 }

@@ -1,15 +1,10 @@
 use Rattle.std.proofs.Common.{subst}
 use Rattle.sysv_gated.specs.SeenHistories.{EachKnowsItsOwn, ObeysIfOpen}
-use Rattle.sysv_gated.specs.Seats.{Seats}
-use Rattle.sysv_service.specs.OwnTurns.{KnowTheirOwn}
 use Rattle.sysv_service.specs.Ran.{Pass}
 use Rattle.sysv_service.proofs.laws.each_pass_obeys.Goals as goal
 
-known : (seats : Seats) → EachKnowsItsOwn seats → KnowTheirOwn seats
-known seats each = record { slots = λ slot seat at. (each.slots slot seat at).own; registry = each.registry.own; pool = each.pool.own }
-
 pub returns-clause-knows : goal.returns-clause-knows
-returns-clause-knows c = subst (λ (p : Pass). KnowTheirOwn p.seats) c.pass.view_is (known _ c.each_seat_obeys.ensures.knows)
+returns-clause-knows c = subst (λ (p : Pass). EachKnowsItsOwn p.seats) c.pass.view_is c.each_seat_obeys.ensures.knows
 
 pub returns-clause-obeys : goal.returns-clause-obeys
 returns-clause-obeys c = subst (λ (p : Pass). ObeysIfOpen p.seats) c.pass.view_is c.each_seat_obeys.ensures.obeys
