@@ -57,10 +57,16 @@ const MAX_MODE: u32 = 0o777;
 /// which is 0.
 const MAX_PATH: usize = 107;
 
+/// The maximum number of bytes in a socket's path that has a `--mode`. The socket is created under
+/// a name that is four bytes longer.
+const MAX_PATH_WITH_MODE: usize = 103;
+
 /// Why a word is not valid.
 type Bad = &'static str;
 
 const BAD_PATH: Bad = "a PATH has 1 to 107 bytes";
+
+const BAD_PATH_WITH_MODE: Bad = "with --mode a PATH has 1 to 103 bytes";
 
 const BAD_KEY: Bad =
     "a KEY is 1 to 2147483647, or 0x and one to eight hexadecimal digits that are not all 0";
@@ -162,13 +168,23 @@ fn server<'a>(words: &ArgMatches<'a>) -> Result<Serving<'a>, Bad>
     ensures { IfOk result HasLimits }
 {
     Ok(Serving {
-        file: SocketFile {
-            path: path_of(words)?,
-            mode: mode_of(words)?,
-            replace: words.get_flag("replace"),
-        },
+        file: file_of(words)?,
         terms: terms_of(words)?,
         until_eof: words.get_flag("until-eof"),
+    })
+}
+
+/// Returns the file of a server's socket.
+fn file_of<'a>(words: &ArgMatches<'a>) -> Result<SocketFile<'a>, Bad> {
+    let path = path_of(words)?;
+    let mode = mode_of(words)?;
+    if mode.is_some() && path.len() > MAX_PATH_WITH_MODE {
+        return Err(BAD_PATH_WITH_MODE);
+    }
+    Ok(SocketFile {
+        path,
+        mode,
+        replace: words.get_flag("replace"),
     })
 }
 
