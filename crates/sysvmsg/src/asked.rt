@@ -75,19 +75,19 @@ const BAD_ID: Bad = "an ID is 0 to 2147483647";
 
 const BAD_TYPE: Bad = "a type is 1 to 9223372036854775807";
 
-const BAD_BLOCKS: Bad = "the blocks are 128 to 65536";
+const BAD_BLOCKS: Bad = "the number of blocks is 128 to 65536";
 
-const BAD_WORKERS: Bad = "the workers are 1 to 16";
+const BAD_WORKERS: Bad = "the number of workers is 1 to 16";
 
-const BAD_AT_ONCE: Bad = "the sessions at once are 1 to 256";
+const BAD_AT_ONCE: Bad = "the number of sessions at once is 1 to 256";
 
-const BAD_SECONDS: Bad = "the seconds are 0 to 4294967295";
+const BAD_SECONDS: Bad = "the number of seconds is 0 to 4294967295";
 
 const BAD_MODE: Bad = "a mode is 0 to 777 in octal";
 
-const BAD_SESSIONS: Bad = "the sessions are 0 to 18446744073709551615";
+const BAD_SESSIONS: Bad = "the number of sessions is 0 to 18446744073709551615";
 
-const BAD_NUMBER: Bad = "a size, a user, a group and a process are 0 to 4294967295";
+const BAD_NUMBER: Bad = "a size, user ID, group ID or process ID is 0 to 4294967295";
 
 const LONG_TEXT: Bad = "a TEXT has at most 8256 bytes";
 
