@@ -1,9 +1,10 @@
 //! Connections whose clients may be silent for a limited time.
+ghost use Rattle.std.specs.Io.{ReadsAtMost};
 
 use crate::framing::Framing;
 use crate::terms::Patience;
 use std::io;
-use std::io::Read;
+use std::io::{ErrorKind, Read};
 use std::os::unix::net::UnixStream;
 use std::time::Duration;
 
@@ -41,6 +42,21 @@ impl<'a> Patient<'a> {
         }
         Ok(())
     }
+
+    /// Reads from the connection, and again after each interruption. The system interrupts a read
+    /// that has a time limit when the process is stopped and continued.
+    fn read_again(&self, buf: &mut [u8]) -> io::Result<usize>
+        ensures { ReadsAtMost result buf.new }
+    {
+        let mut stream = self.stream;
+        for _ in 0..u64::MAX {
+            match stream.read(buf) {
+                Err(why) if why.kind() == ErrorKind::Interrupted => {}
+                outcome => return outcome,
+            }
+        }
+        stream.read(buf)
+    }
 }
 
 impl Read for Patient<'_> {
@@ -49,7 +65,7 @@ impl Read for Patient<'_> {
             return self.stream.read(buf);
         }
         self.bound()?;
-        let count = self.stream.read(buf)?;
+        let count = self.read_again(buf)?;
         self.framing.take(&buf[..count]);
         Ok(count)
     }

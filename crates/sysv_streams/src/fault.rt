@@ -17,7 +17,7 @@ pub enum ScriptFault {
     #[error("the script cannot be read")]
     Read,
     /// The writer failed, or took no byte.
-    #[error("an answer cannot be written")]
+    #[error("a result cannot be written")]
     Write,
     /// Memory was refused.
     #[error("no memory")]

@@ -57,10 +57,16 @@ const MAX_MODE: u32 = 0o777;
 /// which is 0.
 const MAX_PATH: usize = 107;
 
+/// The maximum number of bytes in a socket's path that has a `--mode`. The socket is created under
+/// a name that is four bytes longer.
+const MAX_PATH_WITH_MODE: usize = 103;
+
 /// Why a word is not valid.
 type Bad = &'static str;
 
 const BAD_PATH: Bad = "a PATH has 1 to 107 bytes";
+
+const BAD_PATH_WITH_MODE: Bad = "with --mode a PATH has 1 to 103 bytes";
 
 const BAD_KEY: Bad =
     "a KEY is 1 to 2147483647, or 0x and one to eight hexadecimal digits that are not all 0";
@@ -69,19 +75,19 @@ const BAD_ID: Bad = "an ID is 0 to 2147483647";
 
 const BAD_TYPE: Bad = "a type is 1 to 9223372036854775807";
 
-const BAD_BLOCKS: Bad = "the blocks are 128 to 65536";
+const BAD_BLOCKS: Bad = "the number of blocks is 128 to 65536";
 
-const BAD_WORKERS: Bad = "the workers are 1 to 16";
+const BAD_WORKERS: Bad = "the number of workers is 1 to 16";
 
-const BAD_AT_ONCE: Bad = "the sessions at once are 1 to 256";
+const BAD_AT_ONCE: Bad = "the number of sessions at once is 1 to 256";
 
-const BAD_SECONDS: Bad = "the seconds are 0 to 4294967295";
+const BAD_SECONDS: Bad = "the number of seconds is 0 to 4294967295";
 
 const BAD_MODE: Bad = "a mode is 0 to 777 in octal";
 
-const BAD_SESSIONS: Bad = "the sessions are 0 to 18446744073709551615";
+const BAD_SESSIONS: Bad = "the number of sessions is 0 to 18446744073709551615";
 
-const BAD_NUMBER: Bad = "a size, a user, a group and a process are 0 to 4294967295";
+const BAD_NUMBER: Bad = "a size, user ID, group ID or process ID is 0 to 4294967295";
 
 const LONG_TEXT: Bad = "a TEXT has at most 8256 bytes";
 
@@ -162,13 +168,23 @@ fn server<'a>(words: &ArgMatches<'a>) -> Result<Serving<'a>, Bad>
     ensures { IfOk result HasLimits }
 {
     Ok(Serving {
-        file: SocketFile {
-            path: path_of(words)?,
-            mode: mode_of(words)?,
-            replace: words.get_flag("replace"),
-        },
+        file: file_of(words)?,
         terms: terms_of(words)?,
         until_eof: words.get_flag("until-eof"),
+    })
+}
+
+/// Returns the file of a server's socket.
+fn file_of<'a>(words: &ArgMatches<'a>) -> Result<SocketFile<'a>, Bad> {
+    let path = path_of(words)?;
+    let mode = mode_of(words)?;
+    if mode.is_some() && path.len() > MAX_PATH_WITH_MODE {
+        return Err(BAD_PATH_WITH_MODE);
+    }
+    Ok(SocketFile {
+        path,
+        mode,
+        replace: words.get_flag("replace"),
     })
 }
 

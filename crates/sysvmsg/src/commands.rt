@@ -56,15 +56,23 @@ struct Either {
 
 const SERVER: Argument = ("path", Form::Word("PATH"), "The server's socket");
 
-const USER: Argument = ("uid", Form::Value("N"), "The caller's user [default: 1000]");
+const USER: Argument = (
+    "uid",
+    Form::Value("N"),
+    "The caller's user ID [default: 1000]",
+);
 
 const GROUP: Argument = (
     "gid",
     Form::Value("N"),
-    "The caller's group [default: 1000]",
+    "The caller's group ID [default: 1000]",
 );
 
-const PROCESS: Argument = ("pid", Form::Value("N"), "The caller's process [default: 1]");
+const PROCESS: Argument = (
+    "pid",
+    Form::Value("N"),
+    "The caller's process ID [default: 1]",
+);
 
 const KEY: Argument = ("key", Form::Word("KEY"), KEY_HELP);
 
@@ -197,7 +205,7 @@ Example:
         (
             "size",
             Form::Value("S"),
-            "The greatest body that is wanted, in bytes [default: 8192]",
+            "The largest body to accept, in bytes [default: 8192]",
         ),
         (
             "nowait",

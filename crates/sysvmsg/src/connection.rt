@@ -4,19 +4,20 @@ ghost use Rattle.sysv_clients.specs.Run.{HasShortText};
 use crate::{FAULT, say};
 use std::alloc::Global;
 use std::io;
-use std::io::{BufReader, BufWriter, Write};
+use std::io::{BufReader, BufWriter, Eprint, Write};
 use std::net::Net;
 use std::os::unix::net::UnixStream;
 use std::process::ExitCode;
 use sysv_clients::{ClientFault, Command, run_client};
 
-/// Connects to the server at `path` and runs a command there.
+/// Connects to the server at `path` and runs a command there. If no connection can be made, the
+/// reason is reported on standard error.
 ///
 /// # Conditions
 ///
 /// - The body of a `snd` has at most 8,256 bytes.
 pub(crate) fn run_at(
-    rt: &(impl Net + Print + AllocGlobal),
+    rt: &(impl Net + Print + Eprint + AllocGlobal),
     path: &str,
     command: &Command<'_>,
 ) -> ExitCode
@@ -24,7 +25,10 @@ pub(crate) fn run_at(
 {
     match UnixStream::connect(rt, path) {
         Ok(stream) => run_over(rt.alloc(), &stream, command, &mut io::writer(rt)),
-        Err(_) => say(rt, "no server"),
+        Err(why) => {
+            let _ = eprintln!(rt; "sysvmsg: {path}: {why}");
+            say(rt, "no server")
+        }
     }
 }
 

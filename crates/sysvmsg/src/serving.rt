@@ -2,7 +2,7 @@
 ghost use Rattle.sysvmsg.specs.Asked.{HasLimits};
 
 use crate::asked::Serving;
-use crate::socket::listen_at;
+use crate::socket::{Unbound, listen_at};
 use crate::{FAULT, say};
 use std::io::{Eprint, Read};
 use std::net::Net;
@@ -31,8 +31,8 @@ pub(crate) fn serve_at<
             let input = serving.until_eof.then_some(input);
             serve_over(rt, listener, input, serving)
         }
-        Err(why) => {
-            let _ = eprintln!(rt; "sysvmsg: {}: {why}", serving.file.path);
+        Err(Unbound { end, why }) => {
+            let _ = eprintln!(rt; "sysvmsg: {}{end}: {why}", serving.file.path);
             say(rt, "cannot bind")
         }
     }
