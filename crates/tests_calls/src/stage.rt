@@ -4,6 +4,7 @@ use sysv_lines::line_of;
 use sysv_model::{NoMemory, Watched};
 use sysv_stage::Stage;
 use sysv_streams::Output;
+use tests_kit::mark;
 
 // Runs one line. Returns false if the line is bad.
 fn run(
@@ -53,4 +54,26 @@ fn a_message_goes_through_the_stage(rt: HostRuntime) {
     let mut writer = Watched::new(&mut written);
     assert!(rt; output.write_to(&mut writer).is_ok());
     assert!(rt; written.as_slice() == b"1 snd = 0\n2 rcv = 5 type 5 =hello\n".as_slice());
+}
+
+// The bodies of the first send and the first receive are used again, and the output has its memory from the start.
+#[test]
+fn no_growths_after_the_first_messages(rt: HostRuntime) {
+    let Ok(mut output) = Output::open(rt.alloc()) else {
+        return;
+    };
+    let Ok(mut stage) = Stage::open(rt.alloc()) else {
+        return;
+    };
+    if send_and_receive(&mut stage, rt.alloc(), &mut output) == Err(NoMemory) {
+        stage.end();
+        return;
+    }
+    let _marked = mark(rt.alloc());
+    for _ in 0..100 {
+        let sent = run(&mut stage, rt.alloc(), b"1 snd 0 5 - =hello", &mut output);
+        let received = run(&mut stage, rt.alloc(), b"2 rcv 0 9 0 -", &mut output);
+        assert_eq!(rt; (sent, received), (Ok(true), Ok(true)));
+    }
+    stage.end();
 }

@@ -324,6 +324,21 @@ fn the_body_of_a_send_comes_back_once(rt: HostRuntime) {
 }
 
 #[test]
+fn the_answer_of_another_call_leaves_the_body_of_a_send(rt: HostRuntime) {
+    let alloc = rt.alloc();
+    let mut world = world_with_queue(&rt, alloc, 2);
+    assert_nothing(&rt, world.step(send(&rt, alloc, 1, 5, b"kept")));
+    assert_ends(&rt, &mut world, (1, Outcome::Zero, None));
+    match make(&rt, &mut world, 2, Call::Stat { id: 0 }) {
+        Outcome::Stat(stat) => assert_eq!(rt; (stat.qnum, stat.lspid), (1, 101)),
+        _ => panic!(rt; "no attributes"),
+    }
+    assert!(rt; world.spare().is_some());
+    assert!(rt; world.spare().is_none());
+    assert_is(&rt, world.end(), 1024);
+}
+
+#[test]
 fn each_message_that_is_answered_is_counted_as_written(rt: HostRuntime) {
     let alloc = rt.alloc();
     let mut world = world_with_queue(&rt, alloc, 2);

@@ -448,7 +448,7 @@ fn calls_tell_their_slot_and_hand_back_their_chain(rt: HostRuntime) {
 #[test]
 fn a_generation_or_a_size_out_of_range_is_refused(rt: HostRuntime) {
     let refused = [
-        (33_554_432, 128, ObjectsRefused::BadStart),
+        (8_388_608, 128, ObjectsRefused::BadStart),
         (0, 127, ObjectsRefused::BadSize),
         (0, 65_537, ObjectsRefused::BadSize),
     ];

@@ -20,11 +20,14 @@ impl Read for Endless {
     }
 }
 
-/// A reader that returns one line at a time, and counts how often an answer is missing when more is
-/// read. The first line has no answer, and each other line has one.
+/// A reader that returns some lines at a time, and counts how often an answer is missing when more
+/// is read. The first line has no answer, and each other line has one.
 #[derive(Drop)]
 pub(super) struct Asker<'a> {
     pub(super) rest: &'a [u8],
+    /// The number of lines that a read gives.
+    pub(super) at_once: u32,
+    /// The number of lines that were given.
     pub(super) lines: u32,
     pub(super) answers: &'a Cell<u32>,
     pub(super) missing: u32,
@@ -35,13 +38,19 @@ impl Read for Asker<'_> {
         if self.answers.get() != self.lines.saturating_sub(1) {
             self.missing = self.missing.saturating_add(1);
         }
-        let end = self.rest.iter().position(|byte| *byte == b'\n');
+        let ends = Cell::new(0u32);
+        let end = self.rest.iter().position(|byte| {
+            if *byte == b'\n' {
+                ends.set(ends.get().saturating_add(1));
+            }
+            ends.get() == self.at_once
+        });
         let count = end.map_or(self.rest.len(), |end| end.saturating_add(1));
         let count = count.min(buf.len()).min(self.rest.len());
         let (front, rest) = self.rest.split_at(count);
         buf[..count].copy_from_slice(front);
         self.rest = rest;
-        self.lines = self.lines.saturating_add(1);
+        self.lines = self.lines.saturating_add(ends.get());
         Ok(count)
     }
 }

@@ -101,20 +101,36 @@ fn says_that_the_writer_failed(rt: HostRuntime) -> Result<(), Fail> {
 
 #[test]
 fn holds_a_conversation(rt: HostRuntime) -> Result<(), Fail> {
-    let answers = Cell::new(0u32);
-    let mut reader = Asker {
-        rest: SCRIPT,
-        lines: 0,
-        answers: &answers,
-        missing: 0,
-    };
-    let mut writer = Counter { answers: &answers };
-    let end = run(&rt, rt.alloc(), &mut reader, &mut writer);
-    assert_eq!(rt; end, Ok(()));
-    assert_eq!(rt; reader.missing, 0);
-    assert_eq!(rt; reader.lines, 8);
-    assert_eq!(rt; answers.get(), 6);
+    for at_once in [1, 2, 3] {
+        let answers = Cell::new(0u32);
+        let mut reader = Asker {
+            rest: SCRIPT,
+            at_once,
+            lines: 0,
+            answers: &answers,
+            missing: 0,
+        };
+        let mut writer = Counter { answers: &answers };
+        let end = run(&rt, rt.alloc(), &mut reader, &mut writer);
+        assert_eq!(rt; end, Ok(()));
+        assert_eq!(rt; reader.missing, 0, "{at_once}");
+        assert_eq!(rt; reader.lines, 7);
+        assert_eq!(rt; answers.get(), 6);
+    }
     Ok(())
+}
+
+#[test]
+fn the_writer_is_not_flushed(rt: HostRuntime) {
+    let mut reader = SCRIPT;
+    let mut writer = Page::new();
+    writer.flushes = 0;
+    let end = run(&rt, rt.alloc(), &mut reader, &mut writer);
+    if end != Err(ScriptFault::NoMemory) {
+        assert_eq!(rt; end, Ok(()));
+        assert!(rt; writer.written() == ANSWERS);
+        assert!(rt; writer.flushed().is_empty());
+    }
 }
 
 #[test]

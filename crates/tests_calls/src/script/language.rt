@@ -334,3 +334,72 @@ fn gives_long_texts_back(rt: HostRuntime) -> Result<(), Fail> {
     assert_runs(&rt, script.as_slice(), Ok(()), answers.as_slice());
     Ok(())
 }
+
+// Eight messages of 128 blocks each are all that the first pool has room for.
+#[test]
+fn the_first_pool_has_1024_blocks(rt: HostRuntime) {
+    let script = b"1 get 0 0600
+1 get 0 0600
+1 get 0 0600
+1 get 0 0600
+1 get 0 0600
+1 snd 0 1 NOWAIT *8192
+1 snd 0 1 NOWAIT *8192
+1 snd 1 1 NOWAIT *8192
+1 snd 1 1 NOWAIT *8192
+1 snd 2 1 NOWAIT *8192
+1 snd 2 1 NOWAIT *8192
+1 snd 3 1 NOWAIT *8192
+1 snd 3 1 NOWAIT *8192
+1 snd 4 1 NOWAIT =a
+1 rm 0
+1 snd 4 1 NOWAIT =a
+"
+        .as_slice();
+    let written = b"1 get = 0
+1 get = 1
+1 get = 2
+1 get = 3
+1 get = 4
+1 snd = 0
+1 snd = 0
+1 snd = 0
+1 snd = 0
+1 snd = 0
+1 snd = 0
+1 snd = 0
+1 snd = 0
+1 snd ! EAGAIN
+1 rm = 0
+1 snd = 0
+"
+        .as_slice();
+    assert_runs(&rt, script, Ok(()), written);
+}
+
+// Its giveback, the end of its wait, a look, a reserve and a place.
+#[test]
+fn a_line_makes_five_steps_of_a_send(rt: HostRuntime) {
+    let script = b"preset
+1 set 0 1000 1000 600 1
++2 snd 0 1 - =a
+step 2
+step 2
+1 snd 0 1 - =b
+step 2
+3 rcv 0 9 0 -
+go 2
+"
+        .as_slice();
+    let written = b"1 set = 0
+2 snd at look
+2 snd at reserve
+2 snd at place
+1 snd = 0
+2 snd at giveback
+3 rcv = 1 type 1 =b
+2 snd = 0
+"
+        .as_slice();
+    assert_runs(&rt, script, Ok(()), written);
+}
