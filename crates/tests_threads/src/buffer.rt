@@ -5,15 +5,13 @@ use crate::parts::assert_is;
 use std::alloc::Global;
 use std::process::Abort;
 use std::sync::Wait;
-use sysv_buffer::{
-    Consumer, ManyBuffer, ManyPutRefused, ManyTakeRefused, OneBuffer, OpenRefused, Producer,
-    PutRefused, Seat, TakeRefused, TakeWorn,
-};
+use sysv_buffer::{Consumer, OneBuffer, OpenRefused, Producer, PutRefused, TakeRefused, TakeWorn};
 
 mod drops;
 mod many;
 mod many_threads;
 mod threads;
+mod wakes;
 
 /// An item that cannot be copied.
 #[derive(Drop)]
