@@ -81,6 +81,20 @@ fn two_cells_hold_two_items(rt: HostRuntime) {
     );
 }
 
+#[test]
+fn a_full_buffer_and_an_empty_one_go_on(rt: HostRuntime) {
+    let (buffer, mut puts, mut takes) = opened(&rt, rt.alloc(), 1);
+    let first = came_back(buffer.try_put(&mut puts, Ware { number: 1 }));
+    let full = came_back(buffer.try_put(&mut puts, Ware { number: 2 }));
+    assert_is(&rt, (first, full), (None, Some(2)));
+    assert_is(&rt, number_of(buffer.try_take(&mut takes)), Ok(1));
+    let empty = number_of(buffer.try_take(&mut takes));
+    assert_is(&rt, empty, Err(TakeRefused::Empty));
+    let third = came_back(buffer.try_put(&mut puts, Ware { number: 3 }));
+    assert_is(&rt, third, None);
+    assert_is(&rt, number_of(buffer.try_take(&mut takes)), Ok(3));
+}
+
 /// Puts an item and takes one, and asserts that it is the same item.
 fn put_and_take<R: Abort + Wait>(
     rt: &R,

@@ -95,6 +95,33 @@ fn seats_come_and_go(rt: HostRuntime) {
 }
 
 #[test]
+fn a_full_buffer_of_many_and_an_empty_one_go_on(rt: HostRuntime) {
+    let (buffer, mut seat) = opened(&rt, rt.alloc(), 1);
+    let first = came_back(buffer.try_put(&mut seat, Ware { number: 1 }));
+    let full = came_back(buffer.try_put(&mut seat, Ware { number: 2 }));
+    assert_is(&rt, (first, full), (None, Some(2)));
+    assert_is(&rt, number_of(buffer.try_take(&mut seat)), Ok(1));
+    let empty = number_of(buffer.try_take(&mut seat));
+    assert_is(&rt, empty, Err(ManyTakeRefused::Empty));
+    let third = came_back(buffer.try_put(&mut seat, Ware { number: 3 }));
+    assert_is(&rt, third, None);
+    assert_is(&rt, number_of(buffer.try_take(&mut seat)), Ok(3));
+}
+
+#[test]
+fn puts_of_all_seats_are_counted(rt: HostRuntime) {
+    let (buffer, mut one) = opened(&rt, rt.alloc(), 2);
+    let mut two = buffer.split(&mut one);
+    assert_is(&rt, buffer.put_count(&mut one), 0);
+    let first = came_back(buffer.try_put(&mut one, Ware { number: 1 }));
+    let second = came_back(buffer.try_put(&mut two, Ware { number: 2 }));
+    assert_is(&rt, (first, second), (None, None));
+    assert_is(&rt, number_of(buffer.try_take(&mut one)), Ok(1));
+    assert_is(&rt, buffer.put_count(&mut one), 2);
+    assert_is(&rt, buffer.put_count(&mut two), 2);
+}
+
+#[test]
 fn sizes_of_many_out_of_range(rt: HostRuntime) {
     for cells in [0, 1025, usize::MAX] {
         match ManyBuffer::<Ware>::open(rt.alloc(), cells) {

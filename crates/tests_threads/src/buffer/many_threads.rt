@@ -1,6 +1,5 @@
 //! Two threads put items, and two take them.
 ghost use Rattle.std.specs.Prelude.{◌≡◌, ◌≤◌};
-ghost use Rattle.std.specs.Thread.{IsSync};
 
 use super::Ware;
 use super::many::opened;

@@ -1,6 +1,5 @@
 //! One thread puts items, and another takes them.
 ghost use Rattle.std.specs.Prelude.{◌≡◌};
-ghost use Rattle.std.specs.Thread.{IsSync};
 
 use super::{Ware, opened};
 use std::sync::Wait;

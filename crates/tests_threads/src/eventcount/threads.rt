@@ -302,6 +302,65 @@ fn three_waiters_are_woken_at_their_goals(rt: HostRuntime) -> Result<(), Fail> {
     Ok(())
 }
 
+// Waits for the first advance, and then sets the mark.
+fn wait_and_mark(rt: &impl Wait, count: &Eventcount, mut seat: Seat, mark: &AtomicU64)
+    requires { seat.counter ≡ count.now }
+{
+    count.await_at_least(rt, &mut seat, 1);
+    mark.store(1, SeqCst);
+}
+
+// Advances when the other thread has gone to sleep, and wakes that thread some time later. Returns
+// whether it still slept by then.
+fn advance_and_look<R: Wait + Clock>(
+    rt: &R,
+    count: &Eventcount,
+    mut seat: Seat,
+    mark: &AtomicU64,
+) -> bool
+    requires { seat.counter ≡ count.now }
+{
+    thread::sleep(rt, Duration::from_millis(20));
+    let advanced = count.advance(&mut seat).is_ok();
+    thread::sleep(rt, Duration::from_millis(20));
+    let sleeps = mark.load(SeqCst) == 0;
+    count.wake(rt);
+    advanced && sleeps
+}
+
+// Returns whether a thread that waited for an advance slept on after it.
+fn sleeps_on<R: Threads + Wait + Clock + Sync>(
+    rt: &R,
+    count: &Eventcount,
+    seats: Pair,
+    mark: &AtomicU64,
+) -> bool
+    requires waiting { seats.one.counter ≡ count.now }
+    requires advancing { seats.two.counter ≡ count.now }
+{
+    let Pair { one, two } = seats;
+    let ((), sleeps) = join(
+        rt,
+        || wait_and_mark(rt, count, one, mark),
+        || advance_and_look(rt, count, two, mark),
+    );
+    sleeps
+}
+
+// The thread that waits may begin late or wake early, so it has some tries to sleep on once.
+#[test]
+fn an_advance_wakes_no_thread(rt: HostRuntime) -> Result<(), Fail> {
+    for _ in 0..10 {
+        let (count, mut one) = Eventcount::open(rt.alloc(), 0)?;
+        let two = count.split(&mut one)?;
+        let mark = AtomicU64::new(0);
+        if sleeps_on(&rt, &count, Pair { one, two }, &mark) {
+            return Ok(());
+        }
+    }
+    Err("each advance woke the thread that waited".into())
+}
+
 /// How often a bounded wait is tried. A single wait could begin after the other thread has
 /// advanced.
 const TRIES: u64 = 100;
