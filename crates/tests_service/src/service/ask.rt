@@ -82,16 +82,24 @@ pub(super) fn make<R: Abort + Wait>(
         }
         Ask::SentAt(id) => {
             let stat = service.msgctl_stat(rt, pass, USER, id)?;
-            Ok(stat.stime as i64)
+            Ok(seconds(stat.stime))
         }
         Ask::ReceivedAt(id) => {
             let stat = service.msgctl_stat(rt, pass, USER, id)?;
-            Ok(stat.rtime as i64)
+            Ok(seconds(stat.rtime))
         }
         Ask::Stop => {
             let removed = service.stop(rt, pass)?;
             Ok(i64::from(removed))
         }
+    }
+}
+
+/// Returns a time as a result. A later time than results can hold is the latest one.
+fn seconds(time: u64) -> i64 {
+    match i64::try_from(time) {
+        Ok(time) => time,
+        Err(_) => i64::MAX,
     }
 }
 
