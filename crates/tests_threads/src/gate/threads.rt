@@ -13,7 +13,7 @@ use std::{hint, thread};
 use sysv_gate::{Awaited, Gate, Object, Seat};
 
 /// How often each thread repeats its task.
-const TIMES: u64 = 10_000;
+const TIMES: u64 = 2_000;
 
 /// The number of rounds in which the two counts rise in turn.
 const ROUNDS: u64 = 500;
@@ -157,12 +157,12 @@ fn four_threads_take_all_their_turns(rt: HostRuntime) -> Result<(), Fail> {
     let told = told_to_four(&rt, &gate, &mut seat, [Role::Adds; 4]);
     let closing = gate.close(seat);
     let sum = closing.object.ok_or("the object is at home")?.sum;
-    assert!(rt; told.contains(&Some(119_997)));
+    assert!(rt; told.contains(&Some(23_997)));
     assert!(rt;
         told.iter()
-            .all(|last| last.is_some_and(|last| last <= 119_997))
+            .all(|last| last.is_some_and(|last| last <= 23_997))
     );
-    assert_eq!(rt; (closing.turns, sum), (40_000, 120_000));
+    assert_eq!(rt; (closing.turns, sum), (8_000, 24_000));
     Ok(())
 }
 
