@@ -1,7 +1,14 @@
-//! Laws about all ends and seats of a buffer together. Each function does nothing: its contract is
-//! the law.
+//! Laws: about all ends and seats of a buffer together, and the numeral of its limit. Each function
+//! does nothing: its contract is the law.
+ghost use Rattle.std.specs.Prelude.{◌≡◌};
+ghost use Rattle.sysv_buffer.specs.declared.buffer.TheConstants.{MAX_CELLS};
 ghost use Rattle.sysv_buffer.specs.Laws.{TakenIsABeginning};
 ghost use Rattle.sysv_buffer.specs.ManyLaws.{OneList, NoPlaceTwice};
+
+/// States the maximum number of cells of a buffer.
+pub fn numeral_of_cells()
+    ensures { MAX_CELLS ≡ 1024 }
+{}
 
 /// States that the items taken from a `OneBuffer` are a prefix of the items put, shorter by at most
 /// the number of cells.

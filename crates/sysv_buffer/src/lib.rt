@@ -30,7 +30,7 @@ mod view;
 
 pub use buffer::OneBuffer;
 pub use ends::{Consumer, Producer};
-pub use laws::{no_place_twice, one_list_of_many, taken_is_a_beginning};
+pub use laws::{no_place_twice, numeral_of_cells, one_list_of_many, taken_is_a_beginning};
 pub use many::ManyBuffer;
 pub use refusals::{
     ManyPutRefused, ManyTakeRefused, OpenRefused, PutRefused, PutWorn, TakeRefused, TakeWorn,

@@ -17,10 +17,10 @@ IsFull most accepted = (most ≢ 0) × (most ≤ accepted)
 -- The source returned a connection or none, and its counts changed accordingly. It returns a
 -- connection only below the limit, if there is one. It returns none only if the listener is closed,
 -- the limit is reached, an accept failed, whose reason is kept, or there is an input, which may have
--- ended.
+-- ended. Then the listener is closed.
 abbrev pub Accepts : {I T : Type 0} → Accepting I → Option T → Accepting I → Type 0
 Accepts old None new =
-    (new.most ≡ old.most) × (new.accepted ≡ old.accepted)
+    (new.most ≡ old.most) × (new.accepted ≡ old.accepted) × (is_closed new.listening ≡ true)
     × ((is_closed old.listening ≡ true) ⊎ IsFull old.most old.accepted ⊎ IsSome new.fault ⊎ IsSome old.input)
 Accepts old (Some stream) new =
     (new.most ≡ old.most) × (old.most ≢ 0 → old.accepted < old.most) × (new.accepted ≡ capped (old.accepted + 1))

@@ -1,6 +1,6 @@
 -- What a server does (this project's profile). Its workers share one service, each worker has a
 -- pass of its own, and there is one session for each connection.
-use Rattle.std.specs.Prelude.{◌≡◌, ◌≢◌, ◌≤◌, ℕ, List, Option, Result, length, ⊤}
+use Rattle.std.specs.Prelude.{◌≡◌, ◌≢◌, ◌≤◌, ℕ, List, Option, Result, length}
 use Rattle.std.specs.List.{AllByRecursion}
 use Rattle.sysv_gated.specs.Opened.{AreOpen}
 use Rattle.sysv_gated.specs.Seats.{Gates, AreOf}
@@ -9,7 +9,7 @@ use Rattle.sysv_service.specs.Hiring.{Hires}
 use Rattle.sysv_service.specs.Ran.{Pass}
 use Rattle.sysv_workers.specs.declared.refusals.WorkersFault.{WorkersFault}
 use Rattle.sysv_workers.specs.declared.refusals.WorkersFault.TheVariants as workers
-use Rattle.sysv_workers.specs.Sources.{GivesAll}
+use Rattle.sysv_workers.specs.Sources.{GivesAll, Gave, Returned}
 use Rattle.sysv_server.specs.declared.fault.ServeFault.{ServeFault}
 use Rattle.sysv_server.specs.declared.fault.ServeFault.TheVariants.{NoMemory, Thread, Worn, Missed}
 use Rattle.sysv_server.specs.declared.sums.Sums.{Sums}
@@ -78,12 +78,13 @@ pub record EndsOn (blocks workers most : ℕ) (ended : Ended) : Type 0 where
   pub closed : ended.closed ≡ served.lived.closed
 
 -- After a fault that keeps the server from running any session, the source of connections is
--- unchanged. After the other faults nothing is stated.
-abbrev pub LeavesConnections : {S : Type 0} → S → ServeFault → S → Type 0
-LeavesConnections source NoMemory source' = source' ≡ source
-LeavesConnections source Thread source' = source' ≡ source
-LeavesConnections source Worn source' = ⊤
-LeavesConnections source Missed source' = ⊤
+-- unchanged. After `Worn` it has returned some connections, and may have reported its end. After
+-- `Missed` it is at its end or was not read.
+abbrev pub LeavesConnections : {S T : Type 0} → (S → Option T → S → Type 0) → S → ServeFault → S → Type 0
+LeavesConnections gives source NoMemory source' = source' ≡ source
+LeavesConnections gives source Thread source' = source' ≡ source
+LeavesConnections {T = T} gives source Worn source' = (given : List T) × Returned gives source given source'
+LeavesConnections {T = T} gives source Missed source' = (given : List T) × Gave gives source given source'
 
 -- The server's fault has the name of the workers' refusal. A bad count does not occur.
 abbrev pub FaultOf : WorkersFault → ServeFault → Type 0

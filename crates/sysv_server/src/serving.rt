@@ -129,7 +129,7 @@ fn serve_source<S: Source<UnixStream>, R: Threads + Wait + Sync>(
     requires workers { (1 ≤ workers) × (workers ≤ MAX_CROWD) }
     ensures ok { IfOk result (λ sums. ServesAll S.gives blocks workers source.old sums source.new) }
     ensures balance { IfOk result IsBalanced }
-    ensures err { IfErr result (λ why. LeavesConnections source.old why source.new) }
+    ensures err { IfErr result (λ why. LeavesConnections S.gives source.old why source.new) }
 {
     match serve_all(rt, alloc, source, blocks, workers, Patience::UNBOUNDED) {
         Ok(ended) => Ok(ended.sums),
@@ -151,7 +151,7 @@ fn serve_all<S: Source<UnixStream>, R: Threads + Wait + Sync>(
     requires workers { (1 ≤ workers) × (workers ≤ MAX_CROWD) }
     ensures ok { IfOk result (λ ended. EndsAll S.gives blocks workers source.old ended source.new) }
     ensures balance { IfOk result (λ ended. IsBalanced ended.sums) }
-    ensures err { IfErr result (λ why. LeavesConnections source.old why source.new) }
+    ensures err { IfErr result (λ why. LeavesConnections S.gives source.old why source.new) }
 {
     let Ok((service, mut pass)) = Service::open(alloc, blocks) else {
         return Err(ServeFault::NoMemory);
@@ -186,7 +186,7 @@ fn serve_with<S: Source<UnixStream>, R: Threads + Wait + Sync>(
     ensures pass { AreOf service.now pass.new.seats }
     ensures ok { IfOk result (λ sums.
         WorkedFrom S.gives service.now count pass.old source.old sums pass.new source.new) }
-    ensures err { IfErr result (λ why. LeavesConnections source.old why source.new) }
+    ensures err { IfErr result (λ why. LeavesConnections S.gives source.old why source.new) }
 {
     let Ok(mut workers) = Vec::with_capacity(alloc, count) else {
         return Err(ServeFault::NoMemory);

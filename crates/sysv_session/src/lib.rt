@@ -4,10 +4,12 @@
 #![tactic(auto)]
 
 mod kernel;
+mod laws;
 mod served;
 mod session;
 mod turn;
 
 pub use kernel::{Kernel, Outcome};
+pub use laws::numeral_of_requests;
 pub use served::{End, SESSION_REQUESTS, Served};
 pub use session::{Texts, serve, serve_watched, serve_with};

@@ -1,6 +1,17 @@
 //! Laws about the definitions.
+ghost use Rattle.std.specs.Prelude.{◌≡◌};
+ghost use Rattle.sysv_wire.specs.declared.frame.TheConstants.{MAX_MODE, MAX_REPLY, MAX_REQUEST, MIN_REPLY, MIN_REQUEST};
 ghost use Rattle.sysv_wire.specs.OneAnswer.{OneAnswerToReplies, OneAnswerToRequests};
 ghost use Rattle.sysv_wire.specs.OneSpelling.{OneRequest, OneReply};
+
+/// States the limits of the length of a frame, and the maximum mode.
+pub fn numerals_of_frames()
+    ensures shortest_request { MIN_REQUEST ≡ 2 }
+    ensures longest_request { MAX_REQUEST ≡ 8274 }
+    ensures shortest_reply { MIN_REPLY ≡ 3 }
+    ensures longest_reply { MAX_REPLY ≡ 8203 }
+    ensures mode { MAX_MODE ≡ 0o777 }
+{}
 
 /// States that each spelling of a request is that of one request, and that none is a prefix of
 /// another request's spelling.

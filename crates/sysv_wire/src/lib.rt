@@ -27,7 +27,9 @@ mod requests;
 
 pub use fault::Fault;
 pub use frame::{MAX_MODE, MAX_REPLY, MAX_REQUEST, MIN_REPLY, MIN_REQUEST, Op, Version};
-pub use laws::{one_answer_to_replies, one_answer_to_requests, one_reply, one_request};
+pub use laws::{
+    numerals_of_frames, one_answer_to_replies, one_answer_to_requests, one_reply, one_request,
+};
 pub use replies::{read_reply, write_reply};
 pub use reply::{Outcome, Reply};
 pub use request::{Ask, Request};

@@ -175,7 +175,7 @@ module _ {W T : Type 0} (runs : W → T → W → Type 0) (fits : W → Type 0) 
           given = s.0;
           leads = led;
           gave = inl s.1;
-          differs = ⊎_elim (λ d. inl (λ e. d (omega arith))) (λ d. inr (λ e. d (omega arith))) told.2;
+          differs = ⊎_elim (λ d. inl (λ e. d (omega arith))) (λ d. inr (λ e. d (omega arith))) told.4;
         }
 
     -- The items that the source returned if not all of them were put, or if all were.

@@ -1,12 +1,13 @@
 -- How the list of items put grows, and what is read of it.
-use Rattle.std.proofs.Common.{◌≡◌, ℕ, zero, suc, ◌+◌, ◌≤◌, List, [], ◌∷◌, ◌++◌, length, map, replicate, refl, sym, ap, ◌∙◌, arith, add-one, length-append, append_assoc}
+use Rattle.std.proofs.Common.{◌≡◌, inl, inr, ℕ, zero, suc, ◌+◌, ◌≤◌, Bool, false, true, List, [], ◌∷◌, ◌++◌, length, map, replicate, refl, sym, ap, ◌∙◌, arith, add-one, length-append, append_assoc}
 use Rattle.std.proofs.lemmas.List.{append-nil, map-append}
 use mathlib.Core.Option.{some, some-ne-none}
 use lib.ListN.{get_elem?}
 use Rattle.sysv_buffer.specs.ManyEnds.{Holding, Puts, Looks}
 use Rattle.sysv_workers.specs.declared.feed.Feed.{Feed}
 use Rattle.sysv_workers.specs.declared.feed.Feed.TheVariants.{Item, End}
-use Rattle.sysv_workers.specs.Feeding.{Reads, fed, HasFed}
+use Rattle.std.specs.Prelude.{◌^◌}
+use Rattle.sysv_workers.specs.Feeding.{Reads, fed, HasFed, IsMarked}
 
 module _ {A : Type 0} where
   pub nil_of : (xs : List A) → length xs ≡ 0 → xs ≡ []
@@ -97,3 +98,8 @@ module _ {T : Type 0} where
             let none : more ≡ [] = nil_of more (omega arith) in
             is ∙ (ap (λ l. h.seen ++ l) none ∙ (append-nil h.seen ∙ f.all (omega arith)));
       }
+
+  -- If no mark was refused, there are as many as were to be put.
+  pub marked : (put : Bool) (n : ℕ) (h h' : Holding (Feed T)) → (put ≡ true → (given : List T) → HasFed given 0 h → HasFed given n h') → (put ≡ false → 2 ^ 62 ≤ length h'.seen) → IsMarked n h'
+  marked true n h h' all worn = inl (all refl [] (record { most = omega arith; all = λ e. nil_of h.seen e }))
+  marked false n h h' all worn = inr (worn refl)

@@ -1,7 +1,7 @@
 -- The causes of a refused run. The seat is the one that fed the workers, after all of them were
 -- joined. It has seen all that was put into the buffer, each item and each end mark. This project's
 -- profile.
-use Rattle.std.specs.Prelude.{◌≡◌, ◌≢◌, ◌⊎◌, ℕ, ◌+◌, ◌^◌, ◌≤◌, Bool, false, List, length, Option, Some, None}
+use Rattle.std.specs.Prelude.{◌≡◌, ◌≢◌, ◌⊎◌, ℕ, ◌+◌, ◌^◌, ◌≤◌, Bool, false, true, List, length, Option, Some, None}
 use Rattle.std.specs.List.{flat_map}
 use Rattle.sysv_buffer.specs.ManyEnds.{Holding}
 use Rattle.sysv_workers.specs.declared.feed.Feed.{Feed}
@@ -13,14 +13,15 @@ use Rattle.sysv_workers.specs.declared.refusals.WorkersFault.TheVariants.{BadCou
 
 -- What the counts at the end of a run show. `Worn` is the cause only if a put or a take was
 -- refused: not all items were put, or not all end marks were put, or some worker took no end mark.
--- `Missed` is the cause only if the source's items were all put and a count differs: the number of
--- items run, or the number of items and end marks put.
+-- `Missed` is the cause only if none was refused and a count differs: the number of items run, or
+-- the number of items and end marks put.
 abbrev pub Told : Option ℕ → Bool → Bool → ℕ → ℕ → ℕ → WorkersFault → Type 0
 Told items marked ended ran put marks BadCount = ⊥
 Told items marked ended ran put marks NoMemory = ⊥
 Told items marked ended ran put marks Thread = ⊥
 Told items marked ended ran put marks Worn = (items ≡ None) ⊎ ((marked ≡ false) ⊎ (ended ≡ false))
-Told items marked ended ran put marks Missed = (n : ℕ) × (items ≡ Some n) × ((ran ≢ n) ⊎ (put ≢ counted (n + marks)))
+Told items marked ended ran put marks Missed =
+    (n : ℕ) × (items ≡ Some n) × (marked ≡ true) × (ended ≡ true) × ((ran ≢ n) ⊎ (put ≢ counted (n + marks)))
 
 module _ {W T S : Type 0} where
   -- The number of items run differs from the number of items of the source, or the number of items

@@ -1,6 +1,6 @@
 -- What is in the buffer that feeds the workers: the items of the source, and then one end mark per
 -- worker. This project's profile.
-use Rattle.std.specs.Prelude.{◌≡◌, ℕ, ◌+◌, ◌-◌, ◌^◌, ◌≤◌, min, Bool, true, false, List, [], ◌∷◌, ◌++◌, length, map, replicate}
+use Rattle.std.specs.Prelude.{◌≡◌, ℕ, ◌+◌, ◌-◌, ◌^◌, ◌≤◌, ◌⊎◌, min, Bool, true, false, List, [], ◌∷◌, ◌++◌, length, map, replicate}
 use mathlib.Core.Option.{some}
 use lib.ListN.{get_elem?}
 use Rattle.sysv_buffer.specs.ManyEnds.{Holding}
@@ -40,3 +40,8 @@ module _ {T : Type 0} where
   pub record HasFed (items : List T) (marks : ℕ) (seat : Holding (Feed T)) : Type 0 where
     pub most : length items + marks ≤ length seat.seen
     pub all : length seat.seen ≡ length items + marks → seat.seen ≡ fed items marks
+
+  -- At least this number of puts were made, and all of them were end marks if no more were made; or
+  -- the buffer is worn out.
+  abbrev pub IsMarked : ℕ → Holding (Feed T) → Type 0
+  IsMarked marks seat = HasFed [] marks seat ⊎ (2 ^ 62 ≤ length seat.seen)

@@ -1,11 +1,12 @@
 //! The threads of all workers.
-ghost use Rattle.std.specs.Prelude.{◌≡◌, ◌+◌, ◌-◌, ◌^◌, ◌≤◌, ◌<◌, ◌&&◌, true, min, List, [], ◌∷◌, ◌++◌, length, map, vec_len, vec_capacity, IfOk, IfErr, MatchOption};
+ghost use Rattle.std.specs.Prelude.{◌≡◌, ◌+◌, ◌-◌, ◌^◌, ◌≤◌, ◌<◌, ◌&&◌, true, min, List, [], ◌∷◌, ◌++◌, length, map, vec_len, vec_capacity, IfOk, IfErr, IfSome, MatchOption};
 ghost use Rattle.std.specs.List.{All};
 ghost use Rattle.std.specs.Mem.{manually_drop_value};
 ghost use Rattle.std.specs.Thread.{IsSync};
 ghost use Rattle.sysv_buffer.specs.ManyEnds.{Joins};
 ghost use Rattle.sysv_workers.specs.Crews.{AreOn};
 ghost use Rattle.sysv_workers.specs.Doing.{Did, Gathered};
+ghost use Rattle.sysv_workers.specs.Feeding.{IsMarked};
 ghost use Rattle.sysv_workers.specs.declared.feed.Feed.{Feed};
 ghost use Rattle.sysv_workers.specs.Parts.{Part};
 ghost use Rattle.sysv_workers.specs.declared.workers.TheConstants.{MAX_CROWD};
@@ -72,6 +73,7 @@ pub(crate) fn start<
     ensures err { IfErr result (λ d.
         Did (J.runs job.now) (J.fits job.now) buffer.now state d.ended
         (manually_drop_value d.state) d.seat d.ran) }
+    ensures marked { IfErr result (λ _. IsMarked (started + 1) seat.new) }
 {
     let theirs = buffer.split(seat);
     let promise = Working {
@@ -129,6 +131,7 @@ pub(crate) fn start_all<
         × AreOn job.now buffer.now rest handles.new.items
         × Did (J.runs job.now) (J.fits job.now) buffer.now state d.ended
         (manually_drop_value d.state) d.seat d.ran) }
+    ensures marked { IfSome result (λ _. IsMarked (vec_len handles.new + 1) seat.new) }
 {
     while let Some(state) = states.pop() {
         match start(rt, scope, buffer, job, seat, state, handles.len()) {

@@ -5,12 +5,14 @@
 mod crew;
 mod feed;
 mod job;
+mod laws;
 mod refusals;
 mod source;
 mod worker;
 mod workers;
 
 pub use job::Job;
+pub use laws::numerals_of_workers;
 pub use refusals::{WorkersFault, WorkersRefused};
 pub use source::Source;
 pub use workers::{MAX_CROWD, MAX_WORKERS, run_crowd, run_workers};
