@@ -2,4 +2,5 @@ pub mod Accepted
 pub mod Adding
 pub mod Crossing
 pub mod Living
+pub mod Refusing
 pub mod Shifts

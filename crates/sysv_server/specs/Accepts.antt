@@ -20,8 +20,9 @@ IsFull most accepted = (most ≢ 0) × (most ≤ accepted)
 -- ended. Then the listener is closed.
 abbrev pub Accepts : {I T : Type 0} → Accepting I → Option T → Accepting I → Type 0
 Accepts old None new =
-    (new.most ≡ old.most) × (new.accepted ≡ old.accepted) × (is_closed new.listening ≡ true)
+    (new.most ≡ old.most) × (new.accepted ≡ old.accepted)
     × ((is_closed old.listening ≡ true) ⊎ IsFull old.most old.accepted ⊎ IsSome new.fault ⊎ IsSome old.input)
+    × (is_closed new.listening ≡ true)
 Accepts old (Some stream) new =
     (new.most ≡ old.most) × (old.most ≢ 0 → old.accepted < old.most) × (new.accepted ≡ capped (old.accepted + 1))
     × (new.listening ≡ old.listening) × (is_some new.input ≡ is_some old.input)
