@@ -303,7 +303,7 @@ static int exchange(struct connection *connection, struct frame *frame, const st
 {
     ssize_t got;
     if (!write_all(connection->fd, frame))
-        return broken(connection, call, "the server is gone");
+        return broken(connection, call, "the server closed the connection");
     if (call->may_wait && call->may_be_cancelled)
         got = await_cancellable(connection, frame);
     else
@@ -313,7 +313,7 @@ static int exchange(struct connection *connection, struct frame *frame, const st
         return EINTR;
     }
     if (got <= 0)
-        return broken(connection, call, "the server is gone");
+        return broken(connection, call, "the server closed the connection");
     frame->length = (size_t)got;
     if (!read_rest(connection->fd, frame))
         return broken(connection, call, "the server did not complete a reply");

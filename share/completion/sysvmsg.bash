@@ -15,9 +15,13 @@ _sysvmsg_words() {
 }
 
 _sysvmsg() {
-    local word=${COMP_WORDS[COMP_CWORD]} command=
+    local word=${COMP_WORDS[COMP_CWORD]} command="" before
     [ "$COMP_CWORD" -gt 1 ] && command=${COMP_WORDS[1]}
     COMPREPLY=()
+    # After -- a word is never an option.
+    for before in "${COMP_WORDS[@]:1:COMP_CWORD-1}"; do
+        [ "$before" != -- ] || return 0
+    done
     if [ -z "$command" ] || [[ $word == -* ]]; then
         mapfile -t COMPREPLY < <(compgen -W "$(_sysvmsg_words "$command")" -- "$word")
     fi
