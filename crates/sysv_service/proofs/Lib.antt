@@ -14,4 +14,5 @@ pub mod Marking
 pub mod Wearing
 pub mod Playing
 pub mod Answering
+pub mod Overflowing
 pub mod Hiring

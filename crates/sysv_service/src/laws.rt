@@ -3,6 +3,7 @@
 ghost use Rattle.sysv_gated.specs.SeenHistories.{EachKnowsItsOwn, ObeysIfOpen};
 ghost use Rattle.sysv_service.specs.Hiring.{EveryHiringObeys, EveryStopRemoves};
 ghost use Rattle.sysv_service.specs.Life.{EachRunIsAtAnyMoment, EveryServiceObeys};
+ghost use Rattle.sysv_service.specs.Overflows.{EachOverflowIsAtAWornGate, EachStopOverflowsAtAWornGate};
 ghost use Rattle.sysv_service.specs.OwnTurns.{EachPlaysItsOwn};
 ghost use Rattle.sysv_service.specs.PoolWhole.{EveryHiringLeavesThePoolWhole, EveryPoolIsWhole, NoHiringLeavesAGateHeld};
 ghost use Rattle.sysv_service.specs.RightAnswers.{EachRunAnswersRight};
@@ -12,7 +13,7 @@ ghost use Rattle.sysv_service.specs.Retried.{EachRetryIsAtItsGoal};
 use crate::pass::Pass;
 use sysv_driver::Clock;
 use sysv_free::every_service_that_came_home_is_a_run;
-use sysv_gated::{each_seat_obeys, seen_histories};
+use sysv_gated::{each_seat_obeys, own_turns_are_last, seen_histories};
 use sysv_steps::each_answer_is_right;
 
 /// States that what each seat of a pass has seen is legal, and that the seat knows exactly its own
@@ -32,6 +33,22 @@ pub fn each_run_answers_right<C: Clock>(clock: &C)
     ensures stamped { EachRunAnswersRight (C.may clock.now) }
     ensures unstamped { EachRunAnswersRight no_moment }
 {
+    each_answer_is_right();
+}
+
+/// States that a call that fails with `EOVERFLOW` has found the gate of an object worn out, and that
+/// the pass's seat there is marked. A get must be made with a pass of a service at whose objects
+/// nothing had happened when it was opened.
+///
+/// The clause `stops` states that a stop fails with `EOVERFLOW` if and only if it found the gate of
+/// a slot worn out, and that the pass's seat at a slot is marked then.
+pub fn each_overflow_is_at_a_worn_gate<C: Clock>(clock: &C)
+    ensures stamped { EachOverflowIsAtAWornGate (C.may clock.now) }
+    ensures unstamped { EachOverflowIsAtAWornGate no_moment }
+    ensures stops { EachStopOverflowsAtAWornGate }
+{
+    seen_histories();
+    own_turns_are_last();
     each_answer_is_right();
 }
 
