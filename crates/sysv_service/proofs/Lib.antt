@@ -5,6 +5,7 @@ pub mod Delivering
 pub mod Opening
 pub mod SlotBySlot
 pub mod Retrying
+pub mod Resuming
 pub mod Doing
 pub mod Living
 pub mod NoneKept

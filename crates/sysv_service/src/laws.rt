@@ -8,7 +8,7 @@ ghost use Rattle.sysv_service.specs.OwnTurns.{EachPlaysItsOwn};
 ghost use Rattle.sysv_service.specs.PoolWhole.{EveryHiringLeavesThePoolWhole, EveryPoolIsWhole, NoHiringLeavesAGateHeld};
 ghost use Rattle.sysv_service.specs.RightAnswers.{EachRunAnswersRight};
 ghost use Rattle.sysv_driver.specs.Stepping.{no_moment};
-ghost use Rattle.sysv_service.specs.Retried.{EachRetryIsAtItsGoal};
+ghost use Rattle.sysv_service.specs.Retried.{EachRetryIsAtItsGoal, EachRunRetriesAtItsGoal};
 
 use crate::pass::Pass;
 use sysv_driver::Clock;
@@ -67,6 +67,13 @@ pub fn each_plays_its_own<C: Clock>(clock: &C)
 /// nothing.
 pub fn each_retry_is_at_its_goal<C: Clock>(clock: &C)
     ensures { EachRetryIsAtItsGoal (C.may clock.now) }
+{}
+
+/// States the same of every run of a call: a call whose wait for room, for a message or for a settled
+/// key ended, and which has only read counts since, makes its next turn at an object whose count is
+/// at least the goal of the wait.
+pub fn each_run_retries_at_its_goal<C: Clock>(clock: &C)
+    ensures { EachRunRetriesAtItsGoal (C.may clock.now) }
 {}
 
 /// States that the calls of all passes of a service are one run of a world. The service was opened,
