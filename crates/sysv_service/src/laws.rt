@@ -36,9 +36,9 @@ pub fn each_run_answers_right<C: Clock>(clock: &C)
     each_answer_is_right();
 }
 
-/// States that a call that fails with `EOVERFLOW` has found the gate of an object worn out, and that
-/// the pass's seat there is marked. A get must be made with a pass of a service at whose objects
-/// nothing had happened when it was opened.
+/// States that a call that fails with `EOVERFLOW` has found the gate of an object worn out, and
+/// that the pass's seat there is marked. A get must be made with a pass of a service at whose
+/// objects nothing had happened when it was opened.
 ///
 /// The clause `stops` states that a stop fails with `EOVERFLOW` if and only if it found the gate of
 /// a slot worn out, and that the pass's seat at a slot is marked then.
@@ -69,9 +69,9 @@ pub fn each_retry_is_at_its_goal<C: Clock>(clock: &C)
     ensures { EachRetryIsAtItsGoal (C.may clock.now) }
 {}
 
-/// States the same of every run of a call: a call whose wait for room, for a message or for a settled
-/// key ended, and which has only read counts since, makes its next turn at an object whose count is
-/// at least the goal of the wait.
+/// States the same of each run of a call: a call whose wait for room, for a message or for a
+/// settled key ended, and which has only read counts since, makes its next turn at an object whose
+/// count is at least the goal of the wait.
 pub fn each_run_retries_at_its_goal<C: Clock>(clock: &C)
     ensures { EachRunRetriesAtItsGoal (C.may clock.now) }
 {}
