@@ -5,6 +5,7 @@ pub mod Delivering
 pub mod Opening
 pub mod SlotBySlot
 pub mod Retrying
+pub mod Resuming
 pub mod Doing
 pub mod Living
 pub mod NoneKept
@@ -14,4 +15,5 @@ pub mod Marking
 pub mod Wearing
 pub mod Playing
 pub mod Answering
+pub mod Overflowing
 pub mod Hiring

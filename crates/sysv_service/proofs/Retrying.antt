@@ -27,12 +27,12 @@ set_there (x ∷ xs) (suc i) a b at = set_there xs i a b at
 pub is_there : {how : SlotSeat → SlotSeat → Type 0} (place : ℕ) (before after : List SlotSeat) (changes : ChangesAt place before after how) → get_elem? after place ≡ some changes.is
 is_there place before after changes = subst (λ xs. get_elem? xs place ≡ some changes.is) (sym changes.others) (set_there before place changes.was changes.is changes.at)
 
-all_but : {A : Type 0} (xs : List A) (y : A) → all_but_last (xs ++ y ∷ []) ≡ xs
+pub all_but : {A : Type 0} (xs : List A) (y : A) → all_but_last (xs ++ y ∷ []) ≡ xs
 all_but [] y = refl
 all_but (x ∷ []) y = refl
 all_but (x ∷ z ∷ zs) y = ap (λ rest. x ∷ rest) (all_but (z ∷ zs) y)
 
-just_read : (count : OfObject) (value : ℕ) (pair : ℕ × ℕ) → of_count count (with_count count value pair) ≡ value
+pub just_read : (count : OfObject) (value : ℕ) (pair : ℕ × ℕ) → of_count count (with_count count value pair) ≡ value
 just_read Arrived value pair = refl
 just_read Freed value pair = refl
 
@@ -47,7 +47,7 @@ module _ {O C R E : Type 0} (moves : O → C → R → O → Type 0) (counted : 
 
 -- ---- the slot of the request
 
-abbrev slot_asked : Ask → ℕ
+abbrev pub slot_asked : Ask → ℕ
 slot_asked (OfSlot slot call) = slot
 slot_asked ask = 0
 

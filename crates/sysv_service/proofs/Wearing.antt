@@ -40,7 +40,7 @@ mark_stays slot k before after keeps c is =
 
 module _ (before after : Seats) where
   -- The seats keep the marks that they have.
-  abbrev KeepsMarks : Type 0
+  abbrev pub KeepsMarks : Type 0
   KeepsMarks = (place : Place) → IsMarkedAt place before → IsMarkedAt place after
 
   at_a_slot : {how : SlotSeat → SlotSeat → Type 0} (slot : ℕ) → ((was is : SlotSeat) → how was is → was.worn ≡ true → is.worn ≡ true) →
@@ -59,23 +59,23 @@ module _ (before after : Seats) where
   at_the_pool keeps slots registry AtTheRegistry is = ap (λ (s : RegistrySeat). s.worn) registry ∙ is
   at_the_pool keeps slots registry AtThePool is = keeps is
 
-  turn_keeps : (deed : Deed) → MakesTurnAt before deed after → KeepsMarks
+  pub turn_keeps : (deed : Deed) → MakesTurnAt before deed after → KeepsMarks
   turn_keeps (AtSlot slot call reply) makes = at_a_slot slot (λ was is took marked. never (sym marked ∙ took.fresh)) makes.0 makes.1 makes.2
   turn_keeps (AtRegistry call reply) makes = at_the_registry (λ marked. never (sym marked ∙ makes.0.fresh)) makes.1 makes.2
   turn_keeps (AtPool call reply) makes = at_the_pool (λ marked. never (sym marked ∙ makes.0.fresh)) makes.1 makes.2
 
-  worn_keeps : (ask : Ask) → FindsWorn before ask after → KeepsMarks
+  pub worn_keeps : (ask : Ask) → FindsWorn before ask after → KeepsMarks
   worn_keeps (OfSlot slot call) finds = at_a_slot slot (λ was is found marked. ap (λ (s : SlotSeat). s.worn) found) finds.0 finds.1 finds.2
   worn_keeps (OfRegistry call) finds = at_the_registry (λ marked. ap (λ (s : RegistrySeat). s.worn) finds.0) finds.1 finds.2
   worn_keeps (OfPool call) finds = at_the_pool (λ marked. ap (λ (s : PoolSeat). s.worn) finds.0) finds.1 finds.2
 
-  read_keeps : (count : Count) (value : ℕ) → Reads count value before after → KeepsMarks
+  pub read_keeps : (count : Count) (value : ℕ) → Reads count value before after → KeepsMarks
   read_keeps (ArrivedOf slot) value r = at_a_slot slot (λ was is found marked. ap (λ (s : SlotSeat). s.worn) found.0 ∙ marked) r.0 r.1 r.2
   read_keeps (FreedOf slot) value r = at_a_slot slot (λ was is found marked. ap (λ (s : SlotSeat). s.worn) found.0 ∙ marked) r.0 r.1 r.2
   read_keeps Settled value r = at_the_registry (λ marked. ap (λ (s : RegistrySeat). s.worn) r.0.0 ∙ marked) r.1 r.2
   read_keeps Released value r = at_the_pool (λ marked. ap (λ (s : PoolSeat). s.worn) r.0.0 ∙ marked) r.1 r.2
 
-  end_keeps : (count : Count) (value : ℕ) → GivesUp count value before after → KeepsMarks
+  pub end_keeps : (count : Count) (value : ℕ) → GivesUp count value before after → KeepsMarks
   end_keeps (ArrivedOf slot) value r = at_a_slot slot (λ was is found marked. ap (λ (s : SlotSeat). s.worn) found.1) r.0 r.1 r.2
   end_keeps (FreedOf slot) value r = at_a_slot slot (λ was is found marked. ap (λ (s : SlotSeat). s.worn) found.1) r.0 r.1 r.2
   end_keeps Settled value r = at_the_registry (λ marked. ap (λ (s : RegistrySeat). s.worn) r.0.1) r.1 r.2
@@ -84,12 +84,12 @@ module _ (before after : Seats) where
   -- ---- a mark is made
 
   -- A gate that is found worn out leaves a mark.
-  is_marked : (ask : Ask) → FindsWorn before ask after → IsMarkedAt (place_of ask) after
+  pub is_marked : (ask : Ask) → FindsWorn before ask after → IsMarkedAt (place_of ask) after
   is_marked (OfSlot slot call) finds = (finds.0.is, is_there slot before.slots after.slots finds.0, ap (λ (s : SlotSeat). s.worn) finds.0.change)
   is_marked (OfRegistry call) finds = ap (λ (s : RegistrySeat). s.worn) finds.0
   is_marked (OfPool call) finds = ap (λ (s : PoolSeat). s.worn) finds.0
 
-  is_marked_by_wait : (count : Count) (value : ℕ) → GivesUp count value before after → IsMarkedAt (place_of_count count) after
+  pub is_marked_by_wait : (count : Count) (value : ℕ) → GivesUp count value before after → IsMarkedAt (place_of_count count) after
   is_marked_by_wait (ArrivedOf slot) value r = (r.0.is, is_there slot before.slots after.slots r.0, ap (λ (s : SlotSeat). s.worn) r.0.change.1)
   is_marked_by_wait (FreedOf slot) value r = (r.0.is, is_there slot before.slots after.slots r.0, ap (λ (s : SlotSeat). s.worn) r.0.change.1)
   is_marked_by_wait Settled value r = ap (λ (s : RegistrySeat). s.worn) r.0.1

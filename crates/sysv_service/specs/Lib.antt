@@ -22,5 +22,6 @@ pub mod PoolWhole
 pub mod Marks
 pub mod PlayedWorn
 pub mod OwnTurns
+pub mod Overflows
 pub mod Working
 pub mod Hiring

@@ -2,10 +2,11 @@
 -- object whose count is at least the goal of the wait (POSIX.1-2017, msgsnd and msgrcv: the calling
 -- thread waits until ..; the goals are this project's profile). The goal of a wait for blocks is
 -- compared with a count that was read, and not at a turn of the pool.
-use Rattle.std.specs.Prelude.{◌≡◌, ℕ, ◌≤◌, List, [], ◌∷◌}
+use Rattle.std.specs.Prelude.{◌≡◌, ℕ, ◌≤◌, List, [], ◌∷◌, Option, Some, None}
 use mathlib.Core.Option.{some}
 use lib.ListN.{get_elem?}
-use Rattle.sysv_steps.specs.State.{State, Wait}
+use Rattle.sysv_model.specs.Turn.{Deed}
+use Rattle.sysv_steps.specs.State.{State, Phase, Wait, Goes}
 use Rattle.sysv_steps.specs.Resume.{Count, ArrivedOf, FreedOf, Settled, Released, awaited, goal_of, resume}
 use Rattle.sysv_gate.specs.declared.count.Count.{Count as OfObject}
 use Rattle.sysv_gate.specs.declared.count.Count.TheVariants.{Arrived, Freed}
@@ -16,7 +17,7 @@ use Rattle.sysv_gated.specs.Counts.{slot_counts}
 use Rattle.sysv_gated.specs.Counts.{registry_counts}
 use Rattle.sysv_gated.specs.Seats.{SlotSeat, Seats}
 use Rattle.sysv_gated.specs.Reading.{Reads}
-use Rattle.sysv_service.specs.Ran.{Pass, Steps}
+use Rattle.sysv_service.specs.Ran.{Pass, Steps, Ran, begins, steps, turns_back, reads, resumes, gives_up}
 
 -- The list without its last element.
 abbrev pub all_but_last : {A : Type 0} → List A → List A
@@ -41,3 +42,18 @@ abbrev pub EachRetryIsAtItsGoal : (ℕ → Type 0) → Type 0
 EachRetryIsAtItsGoal may = (wait : Wait) (value : ℕ) (waited read : Pass) (state : State) (after : Pass) →
     goal_of wait ≤ value → Reads (awaited wait) value waited.seats read.seats → Steps may (resume wait value) read state after →
     IsFoundAt (awaited wait) (goal_of wait) after.seats
+
+-- The wait of the call that ended last, if the call has only read counts since.
+abbrev pub resumed : {may : ℕ → Type 0} {from : State} {old : Pass} {deeds : List Deed} {state : State} {new : Pass} → Ran may from old deeds state new → Option Wait
+resumed begins = None
+resumed (steps state new ran step) = None
+resumed (turns_back state new ran step) = None
+resumed (reads count value new ran read same) = resumed ran
+resumed (resumes {wait} value new ran reached read same) = Some wait
+resumed (gives_up value new ran below read same) = None
+
+-- A call whose wait ended, and which has only read counts since, made its next turn.
+abbrev pub EachRunRetriesAtItsGoal : (ℕ → Type 0) → Type 0
+EachRunRetriesAtItsGoal may = (from : State) (old : Pass) (deeds : List Deed) (phase : Phase) (mid : Pass) (state : State) (new : Pass)
+    (ran : Ran may from old deeds (Goes phase) mid) → Steps may phase mid state new → (wait : Wait) → resumed ran ≡ Some wait →
+    IsFoundAt (awaited wait) (goal_of wait) new.seats

@@ -3,16 +3,17 @@
 ghost use Rattle.sysv_gated.specs.SeenHistories.{EachKnowsItsOwn, ObeysIfOpen};
 ghost use Rattle.sysv_service.specs.Hiring.{EveryHiringObeys, EveryStopRemoves};
 ghost use Rattle.sysv_service.specs.Life.{EachRunIsAtAnyMoment, EveryServiceObeys};
+ghost use Rattle.sysv_service.specs.Overflows.{EachOverflowIsAtAWornGate, EachStopOverflowsAtAWornGate};
 ghost use Rattle.sysv_service.specs.OwnTurns.{EachPlaysItsOwn};
 ghost use Rattle.sysv_service.specs.PoolWhole.{EveryHiringLeavesThePoolWhole, EveryPoolIsWhole, NoHiringLeavesAGateHeld};
 ghost use Rattle.sysv_service.specs.RightAnswers.{EachRunAnswersRight};
 ghost use Rattle.sysv_driver.specs.Stepping.{no_moment};
-ghost use Rattle.sysv_service.specs.Retried.{EachRetryIsAtItsGoal};
+ghost use Rattle.sysv_service.specs.Retried.{EachRetryIsAtItsGoal, EachRunRetriesAtItsGoal};
 
 use crate::pass::Pass;
 use sysv_driver::Clock;
 use sysv_free::every_service_that_came_home_is_a_run;
-use sysv_gated::{each_seat_obeys, seen_histories};
+use sysv_gated::{each_seat_obeys, own_turns_are_last, seen_histories};
 use sysv_steps::each_answer_is_right;
 
 /// States that what each seat of a pass has seen is legal, and that the seat knows exactly its own
@@ -35,6 +36,22 @@ pub fn each_run_answers_right<C: Clock>(clock: &C)
     each_answer_is_right();
 }
 
+/// States that a call that fails with `EOVERFLOW` has found the gate of an object worn out, and
+/// that the pass's seat there is marked. A get must be made with a pass of a service at whose
+/// objects nothing had happened when it was opened.
+///
+/// The clause `stops` states that a stop fails with `EOVERFLOW` if and only if it found the gate of
+/// a slot worn out, and that the pass's seat at a slot is marked then.
+pub fn each_overflow_is_at_a_worn_gate<C: Clock>(clock: &C)
+    ensures stamped { EachOverflowIsAtAWornGate (C.may clock.now) }
+    ensures unstamped { EachOverflowIsAtAWornGate no_moment }
+    ensures stops { EachStopOverflowsAtAWornGate }
+{
+    seen_histories();
+    own_turns_are_last();
+    each_answer_is_right();
+}
+
 /// States that a call adds to its pass's turns, in the one order of all turns, exactly the turns
 /// that it made, in order, and that it is played along them. A step or a wait at a worn gate occurs
 /// only if the call has no turn left at that object and the pass's seat there is marked. If the
@@ -50,6 +67,13 @@ pub fn each_plays_its_own<C: Clock>(clock: &C)
 /// nothing.
 pub fn each_retry_is_at_its_goal<C: Clock>(clock: &C)
     ensures { EachRetryIsAtItsGoal (C.may clock.now) }
+{}
+
+/// States the same of each run of a call: a call whose wait for room, for a message or for a
+/// settled key ended, and which has only read counts since, makes its next turn at an object whose
+/// count is at least the goal of the wait.
+pub fn each_run_retries_at_its_goal<C: Clock>(clock: &C)
+    ensures { EachRunRetriesAtItsGoal (C.may clock.now) }
 {}
 
 /// States that the calls of all passes of a service are one run of a world. The service was opened,

@@ -27,7 +27,8 @@ mod waiting;
 pub use caller::{Caller, Stays};
 pub use closing::Closed;
 pub use laws::{
-    each_pass_obeys, each_plays_its_own, each_retry_is_at_its_goal, each_run_answers_right,
+    each_overflow_is_at_a_worn_gate, each_pass_obeys, each_plays_its_own,
+    each_retry_is_at_its_goal, each_run_answers_right, each_run_retries_at_its_goal,
     every_hiring_obeys, every_pool_is_whole, every_service_obeys,
 };
 pub use pass::Pass;
