@@ -1,6 +1,8 @@
 //! An end or a seat that waits sleeps, and the tries, puts and takes of another wake it.
 ghost use Rattle.std.specs.Prelude.{◌≡◌};
 
+mod no_wakes;
+
 use super::{Ware, many, opened};
 use std::sync::Wait;
 use std::thread;
