@@ -1,5 +1,7 @@
-//! An end or a seat that waits sleeps, and the tries of another wake it.
+//! An end or a seat that waits sleeps, and the tries, puts and takes of another wake it.
 ghost use Rattle.std.specs.Prelude.{◌≡◌};
+
+mod no_wakes;
 
 use super::{Ware, many, opened};
 use std::sync::Wait;
@@ -156,6 +158,39 @@ fn a_try_put_wakes_a_seat(rt: HostRuntime) {
     assert_eq!(rt; (slept(told), put), (Some(7), true));
 }
 
+fn put_late_to_many<R: Wait + Clock>(
+    rt: &R,
+    buffer: &ManyBuffer<Ware>,
+    mut seat: Seat<Ware>,
+) -> bool
+    requires { seat.buffer ≡ buffer.now }
+{
+    thread::sleep(rt, Duration::from_millis(LATE));
+    buffer.put(rt, &mut seat, Ware { number: 7 }).is_ok()
+}
+
+fn take_and_put_of_many<R: Threads + Wait + Clock + CpuClock + Sync>(
+    rt: &R,
+    buffer: &ManyBuffer<Ware>,
+    mut seat: Seat<Ware>,
+) -> (Option<(u64, Duration)>, bool)
+    requires { seat.buffer ≡ buffer.now }
+{
+    let other = buffer.split(&mut seat);
+    join(
+        rt,
+        || take_of_many(rt, buffer, seat),
+        || put_late_to_many(rt, buffer, other),
+    )
+}
+
+#[test]
+fn a_put_wakes_a_seat(rt: HostRuntime) {
+    let (buffer, seat) = many::opened(&rt, rt.alloc(), 1);
+    let (told, put) = take_and_put_of_many(&rt, &buffer, seat);
+    assert_eq!(rt; (slept(told), put), (Some(7), true));
+}
+
 fn put_to_many<R: Wait + CpuClock>(
     rt: &R,
     buffer: &ManyBuffer<Ware>,
@@ -202,5 +237,40 @@ fn a_try_take_wakes_a_seat(rt: HostRuntime) {
     let first = buffer.try_put(&mut seat, Ware { number: 7 });
     assert!(rt; first.is_ok());
     let (told, taken) = put_and_try_take_of_many(&rt, &buffer, seat);
+    assert_eq!(rt; (slept(told), taken), (Some(8), Some(7)));
+}
+
+fn take_late_of_many<R: Wait + Clock>(
+    rt: &R,
+    buffer: &ManyBuffer<Ware>,
+    mut seat: Seat<Ware>,
+) -> Option<u64>
+    requires { seat.buffer ≡ buffer.now }
+{
+    thread::sleep(rt, Duration::from_millis(LATE));
+    Some(buffer.take(rt, &mut seat).ok()?.number)
+}
+
+fn put_and_take_of_many<R: Threads + Wait + Clock + CpuClock + Sync>(
+    rt: &R,
+    buffer: &ManyBuffer<Ware>,
+    mut seat: Seat<Ware>,
+) -> (Option<(u64, Duration)>, Option<u64>)
+    requires { seat.buffer ≡ buffer.now }
+{
+    let other = buffer.split(&mut seat);
+    join(
+        rt,
+        || put_to_many(rt, buffer, seat, 8),
+        || take_late_of_many(rt, buffer, other),
+    )
+}
+
+#[test]
+fn a_take_wakes_a_seat(rt: HostRuntime) {
+    let (buffer, mut seat) = many::opened(&rt, rt.alloc(), 1);
+    let first = buffer.try_put(&mut seat, Ware { number: 7 });
+    assert!(rt; first.is_ok());
+    let (told, taken) = put_and_take_of_many(&rt, &buffer, seat);
     assert_eq!(rt; (slept(told), taken), (Some(8), Some(7)));
 }

@@ -1,6 +1,8 @@
 //! Seats in several threads.
 ghost use Rattle.std.specs.Prelude.{◌≡◌};
 
+mod no_wakes;
+
 use super::opened;
 use crate::parts::{LIMIT, millis};
 use crate::sum::Sum;
