@@ -534,19 +534,19 @@ fn raise_arrived<R: Wait + Clock>(rt: &R, gate: &Gate<Sum>, seat: &mut Seat<Sum>
     before
 }
 
-// Whether each of two bounded waits was over promptly after the rise, or none if one came too late.
+// Whether each of two waits was over promptly after what the waker does, or none if one came too late.
 fn prompt<R: Threads + Wait + Clock + Sync>(
     rt: &R,
     gate: &Gate<Sum>,
     seat: &mut Seat<Sum>,
     role: Role,
+    waker: Role,
 ) -> Option<(bool, bool)>
     requires { seat.old.gate ≡ gate.now }
     ensures { seat.new.gate ≡ gate.now }
 {
-    let roles = [role, role, Role::RaisesArrived, Role::Idle];
-    let [one, two, raised, _] = told_to_four(rt, gate, seat, roles);
-    let late = raised?.saturating_add(PROMPT);
+    let [one, two, woken, _] = told_to_four(rt, gate, seat, [role, role, waker, Role::Idle]);
+    let late = woken?.saturating_add(PROMPT);
     Some((one? < late, two? < late))
 }
 
@@ -555,11 +555,12 @@ fn tried<R: Threads + Wait + Clock + Sync>(
     rt: &R,
     alloc: Global,
     role: Role,
+    waker: Role,
     wanted: [(bool, bool); 2],
 ) -> Option<bool> {
     for _ in 0..TRIALS {
         let (gate, mut seat) = Gate::open(alloc, Sum::new(0)).ok()?;
-        let found = prompt(rt, &gate, &mut seat, role);
+        let found = prompt(rt, &gate, &mut seat, role, waker);
         gate.close(seat);
         if found.is_some_and(|found| wanted.contains(&found)) {
             return Some(true);
@@ -570,14 +571,43 @@ fn tried<R: Threads + Wait + Clock + Sync>(
 
 #[test]
 fn a_thread_that_passes_on_wakes_the_next(rt: HostRuntime) {
-    let both = tried(&rt, rt.alloc(), Role::NapsAndPassesOn, [(true, true); 2]);
+    let waker = Role::RaisesArrived;
+    let both = tried(
+        &rt,
+        rt.alloc(),
+        Role::NapsAndPassesOn,
+        waker,
+        [(true, true); 2],
+    );
     assert_eq!(rt; both, Some(true));
 }
 
 #[test]
 fn a_rise_wakes_one_bounded_wait(rt: HostRuntime) {
-    let one = tried(&rt, rt.alloc(), Role::Naps, [(true, false), (false, true)]);
+    let waker = Role::RaisesArrived;
+    let one = tried(
+        &rt,
+        rt.alloc(),
+        Role::Naps,
+        waker,
+        [(true, false), (false, true)],
+    );
     assert_eq!(rt; one, Some(true));
+}
+
+// These waits have no bound: a thread that is not woken would sleep for ever.
+#[test]
+fn a_rise_wakes_all_who_wait_for_arrived(rt: HostRuntime) {
+    let waker = Role::RaisesArrived;
+    let both = tried(&rt, rt.alloc(), Role::NotesTime, waker, [(true, true); 2]);
+    assert_eq!(rt; both, Some(true));
+}
+
+#[test]
+fn a_wake_ends_bounded_waits(rt: HostRuntime) {
+    let waker = Role::TriesAndWakes;
+    let both = tried(&rt, rt.alloc(), Role::Naps, waker, [(true, true); 2]);
+    assert_eq!(rt; both, Some(true));
 }
 
 // Makes a slow turn by a try, and then wakes all.
