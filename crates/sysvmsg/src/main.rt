@@ -4,6 +4,7 @@
 mod asked;
 mod commands;
 mod connection;
+mod input;
 mod serving;
 mod socket;
 
