@@ -1,2 +1,6 @@
 -- The definitions of the command line.
 pub mod Asked
+pub mod Words
+pub mod Tasks
+pub mod Servers
+pub mod Requests

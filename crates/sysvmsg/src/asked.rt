@@ -1,7 +1,15 @@
 //! The request that a command line makes.
-ghost use Rattle.std.specs.Prelude.{IfOk, OnOk};
+ghost use Rattle.std.specs.Prelude.{◌≡◌, IfOk, MatchOption, OnOk, codes, map};
+ghost use Rattle.clap.specs.Words.{app_of, subcommand_rows_of};
 ghost use Rattle.sysvmsg.specs.Asked.{AreAtOnce, AreBlocks, AreTerms, AreWorkers, HasLimits, IsWithinLimits};
+ghost use Rattle.sysvmsg.specs.Requests.{AsksFor, ClientAsks, IsAskedBy, IsMeant};
+ghost use Rattle.sysvmsg.specs.Servers.{AsksForAtOnce, AsksForBlocks, AsksForFile, AsksForTerms};
+ghost use Rattle.sysvmsg.specs.Servers.{AsksForWorkers, AsksToServe, HasPath};
+ghost use Rattle.sysvmsg.specs.Tasks.{AsksToReceive, AsksToRemove, AsksToSend, HasTask, StatesCred};
+ghost use Rattle.sysvmsg.specs.Words.{Has, HasFlag, HasOr, IsMode, IsRead, WantsType, word_of, words_in};
+ghost use Rattle.sysv_words.specs.Words.{IsNat32, IsNat64};
 ghost use Rattle.sysv_clients.specs.Run.{HasShortText};
+ghost use Rattle.sysv_clients.specs.Words.{IsKey};
 
 use crate::commands::command;
 use clap::error::ErrorKind;
@@ -100,7 +108,8 @@ const NO_COMMAND: Bad = "a command is missing";
 /// Fails with the error to print if the words are not valid, and with the help or the version if
 /// the words request it.
 pub(crate) fn read_words<'a, S: AsStr>(alloc: Global, words: &'a [S]) -> Result<Asked<'a>, Error>
-    ensures { IfOk result IsWithinLimits }
+    ensures limits { IfOk result IsWithinLimits }
+    ensures meaning { IfOk result IsMeant }
 {
     let mut line: CommandLine<'a> = command(alloc)?;
     read_line(&mut line, words)
@@ -108,7 +117,8 @@ pub(crate) fn read_words<'a, S: AsStr>(alloc: Global, words: &'a [S]) -> Result<
 
 /// Parses the words like `read_words`, with this command line.
 fn read_line<'a, S: AsStr>(line: &mut CommandLine<'a>, words: &'a [S]) -> Result<Asked<'a>, Error>
-    ensures { IfOk result IsWithinLimits }
+    ensures limits { IfOk result IsWithinLimits }
+    ensures meaning { IfOk result (IsAskedBy (app_of line.old) (map S.text words.entry.now)) }
 {
     let matches = line.try_get_matches_from_mut(words)?;
     match task_of(&matches) {
@@ -132,20 +142,25 @@ fn fault(alloc: Global, text: &str) -> Result<Error, AllocError> {
 
 /// Returns the request of the parsed command.
 fn task_of<'a>(matches: &ArgMatches<'a>) -> Result<Asked<'a>, Bad>
-    ensures { IfOk result IsWithinLimits }
+    ensures limits { IfOk result IsWithinLimits }
+    ensures meaning { IsRead result (AsksFor (subcommand_rows_of matches.now)) }
 {
-    let Some((name, words)) = matches.subcommand() else {
+    let Some((name, words)) = command_in(matches) else {
         return Err(NO_COMMAND);
     };
-    let task = match name {
-        "script" => return Ok(Asked::Script),
-        "serve" => return Ok(Asked::Serve(server(words)?)),
-        "ipcs" => Task::List,
-        "ipcrm" => removal(words)?,
-        "snd" => sending(words)?,
-        "rcv" => receiving(words)?,
-        _ => return Err(NO_COMMAND),
-    };
+    match name {
+        "script" => Ok(Asked::Script),
+        "serve" => Ok(Asked::Serve(server(words)?)),
+        _ => client(name, words),
+    }
+}
+
+/// Returns the request of a client's command.
+fn client<'a>(name: &str, words: &ArgMatches<'a>) -> Result<Asked<'a>, Bad>
+    ensures limits { IfOk result IsWithinLimits }
+    ensures meaning { IsRead result (ClientAsks name.now (words_in words.now)) }
+{
+    let task = client_task(name, words)?;
     let path = path_of(words)?;
     let cred = cred_of(words)?;
     Ok(Asked::Client {
@@ -154,10 +169,26 @@ fn task_of<'a>(matches: &ArgMatches<'a>) -> Result<Asked<'a>, Bad>
     })
 }
 
+/// Returns the task of a client's command.
+fn client_task<'a>(name: &str, words: &ArgMatches<'a>) -> Result<Task<'a>, Bad>
+    ensures limits { IfOk result HasShortText }
+    ensures meaning { IsRead result (HasTask name.now (words_in words.now)) }
+{
+    match name {
+        "ipcs" => Ok(Task::List),
+        "ipcrm" => removal(words),
+        "snd" => sending(words),
+        "rcv" => receiving(words),
+        _ => Err(NO_COMMAND),
+    }
+}
+
 /// Returns the path of the socket. An empty path is refused: it would create a socket without a
 /// name, which no file's mode protects.
-fn path_of<'a>(words: &ArgMatches<'a>) -> Result<&'a str, Bad> {
-    match words.get_str("path") {
+fn path_of<'a>(words: &ArgMatches<'a>) -> Result<&'a str, Bad>
+    ensures { IsRead result (λ path. HasPath (words_in words.now) path.now) }
+{
+    match word_in(words, "path") {
         Some(path) if !path.is_empty() && path.len() <= MAX_PATH => Ok(path),
         _ => Err(BAD_PATH),
     }
@@ -165,17 +196,20 @@ fn path_of<'a>(words: &ArgMatches<'a>) -> Result<&'a str, Bad> {
 
 /// Returns the request of a `serve`.
 fn server<'a>(words: &ArgMatches<'a>) -> Result<Serving<'a>, Bad>
-    ensures { IfOk result HasLimits }
+    ensures limits { IfOk result HasLimits }
+    ensures meaning { IsRead result (AsksToServe (words_in words.now)) }
 {
     Ok(Serving {
         file: file_of(words)?,
         terms: terms_of(words)?,
-        until_eof: words.get_flag("until-eof"),
+        until_eof: has_flag(words, "until-eof"),
     })
 }
 
 /// Returns the file of a server's socket.
-fn file_of<'a>(words: &ArgMatches<'a>) -> Result<SocketFile<'a>, Bad> {
+fn file_of<'a>(words: &ArgMatches<'a>) -> Result<SocketFile<'a>, Bad>
+    ensures { IsRead result (AsksForFile (words_in words.now)) }
+{
     let path = path_of(words)?;
     let mode = mode_of(words)?;
     if mode.is_some() && path.len() > MAX_PATH_WITH_MODE {
@@ -184,13 +218,14 @@ fn file_of<'a>(words: &ArgMatches<'a>) -> Result<SocketFile<'a>, Bad> {
     Ok(SocketFile {
         path,
         mode,
-        replace: words.get_flag("replace"),
+        replace: has_flag(words, "replace"),
     })
 }
 
 /// Returns the terms of a server.
 fn terms_of(words: &ArgMatches<'_>) -> Result<Terms, Bad>
-    ensures { IfOk result AreTerms }
+    ensures limits { IfOk result AreTerms }
+    ensures meaning { IsRead result (AsksForTerms (words_in words.now)) }
 {
     Ok(Terms {
         blocks: blocks_of(words)?,
@@ -206,9 +241,10 @@ fn terms_of(words: &ArgMatches<'_>) -> Result<Terms, Bad>
 /// Returns the number of sessions that run at once. Without an `--at-once` it is the number of
 /// workers.
 fn at_once_of(words: &ArgMatches<'_>) -> Result<u32, Bad>
-    ensures { IfOk result AreAtOnce }
+    ensures limits { IfOk result AreAtOnce }
+    ensures meaning { IsRead result (AsksForAtOnce (words_in words.now)) }
 {
-    let Some(word) = words.get_str("at-once") else {
+    let Some(word) = word_in(words, "at-once") else {
         return workers_of(words);
     };
     match u32::read(word.as_bytes()) {
@@ -218,16 +254,20 @@ fn at_once_of(words: &ArgMatches<'_>) -> Result<u32, Bad>
 }
 
 /// Returns the number of seconds that a client may be silent, 0 for no limit.
-fn seconds_of(words: &ArgMatches<'_>, id: &str) -> Result<u32, Bad> {
-    match words.get_str(id) {
+fn seconds_of(words: &ArgMatches<'_>, id: &str) -> Result<u32, Bad>
+    ensures { IsRead result (HasOr IsNat32 0 (word_of (words_in words.now) id.now)) }
+{
+    match word_in(words, id) {
         Some(word) => u32::read(word.as_bytes()).ok_or(BAD_SECONDS),
         None => Ok(0),
     }
 }
 
 /// Returns the mode of a socket file, if the command has one.
-fn mode_of(words: &ArgMatches<'_>) -> Result<Option<u32>, Bad> {
-    let Some(word) = words.get_str("mode") else {
+fn mode_of(words: &ArgMatches<'_>) -> Result<Option<u32>, Bad>
+    ensures { IsRead result (IsMode (word_of (words_in words.now) (codes "mode"))) }
+{
+    let Some(word) = word_in(words, "mode") else {
         return Ok(None);
     };
     match u32::from_str_radix(word, 8) {
@@ -238,7 +278,8 @@ fn mode_of(words: &ArgMatches<'_>) -> Result<Option<u32>, Bad> {
 
 /// Returns the number of blocks in a pool.
 fn blocks_of(words: &ArgMatches<'_>) -> Result<u32, Bad>
-    ensures { IfOk result AreBlocks }
+    ensures limits { IfOk result AreBlocks }
+    ensures meaning { IsRead result (AsksForBlocks (words_in words.now)) }
 {
     let blocks = number(words, "blocks", 1024)?;
     if (MIN_BLOCKS..=MAX_BLOCKS).contains(&blocks) {
@@ -250,7 +291,8 @@ fn blocks_of(words: &ArgMatches<'_>) -> Result<u32, Bad>
 
 /// Returns the number of workers.
 fn workers_of(words: &ArgMatches<'_>) -> Result<u32, Bad>
-    ensures { IfOk result AreWorkers }
+    ensures limits { IfOk result AreWorkers }
+    ensures meaning { IsRead result (AsksForWorkers (words_in words.now)) }
 {
     let workers = number(words, "workers", 4)?;
     if (1..=MAX_WORKERS).contains(&workers) {
@@ -261,8 +303,10 @@ fn workers_of(words: &ArgMatches<'_>) -> Result<u32, Bad>
 }
 
 /// Returns the number of sessions after which a server ends, 0 for no limit.
-fn sessions_of(words: &ArgMatches<'_>) -> Result<u64, Bad> {
-    match words.get_str("sessions") {
+fn sessions_of(words: &ArgMatches<'_>) -> Result<u64, Bad>
+    ensures { IsRead result (HasOr IsNat64 0 (word_of (words_in words.now) (codes "sessions"))) }
+{
+    match word_in(words, "sessions") {
         Some(word) => u64::read(word.as_bytes()).ok_or(BAD_SESSIONS),
         None => Ok(0),
     }
@@ -270,9 +314,10 @@ fn sessions_of(words: &ArgMatches<'_>) -> Result<u64, Bad> {
 
 /// Returns the task of an `ipcrm`.
 fn removal<'a>(words: &ArgMatches<'a>) -> Result<Task<'a>, Bad>
-    ensures { IfOk result HasShortText }
+    ensures limits { IfOk result HasShortText }
+    ensures meaning { IsRead result (AsksToRemove (words_in words.now)) }
 {
-    let target = match words.get_str("id") {
+    let target = match word_in(words, "id") {
         Some(id) => Target::Id(id_of(id.as_bytes()).ok_or(BAD_ID)?),
         None => Target::Key(key(words)?),
     };
@@ -281,14 +326,15 @@ fn removal<'a>(words: &ArgMatches<'a>) -> Result<Task<'a>, Bad>
 
 /// Returns the task of a `snd`.
 fn sending<'a>(words: &ArgMatches<'a>) -> Result<Task<'a>, Bad>
-    ensures { IfOk result HasShortText }
+    ensures limits { IfOk result HasShortText }
+    ensures meaning { IsRead result (AsksToSend (words_in words.now)) }
 {
     let key = key(words)?;
-    let text = words.get_str("text").unwrap_or("").as_bytes();
+    let text = word_in(words, "text").unwrap_or("").as_bytes();
     if text.len() > BODY_ROOM {
         return Err(LONG_TEXT);
     }
-    let mtype = match words.get_str("type") {
+    let mtype = match word_in(words, "type") {
         Some(word) => type_of(word.as_bytes()).ok_or(BAD_TYPE)?,
         None => 1,
     };
@@ -296,27 +342,31 @@ fn sending<'a>(words: &ArgMatches<'a>) -> Result<Task<'a>, Bad>
         key,
         text,
         mtype,
-        nowait: words.get_flag("nowait"),
+        nowait: has_flag(words, "nowait"),
     })
 }
 
 /// Returns the task of a `rcv`.
 fn receiving<'a>(words: &ArgMatches<'a>) -> Result<Task<'a>, Bad>
-    ensures { IfOk result HasShortText }
+    ensures limits { IfOk result HasShortText }
+    ensures meaning { IsRead result (AsksToReceive (words_in words.now)) }
 {
     Ok(Task::Receive {
         key: key(words)?,
         size: number(words, "size", 8192)?,
         mtype: wanted_type(words)?,
-        nowait: words.get_flag("nowait"),
-        noerror: words.get_flag("noerror"),
+        nowait: has_flag(words, "nowait"),
+        noerror: has_flag(words, "noerror"),
     })
 }
 
 /// Returns the type argument of a `rcv`: 0 for any type, a positive number for one type, or a
 /// negative number for the lowest type up to its absolute value.
-fn wanted_type(words: &ArgMatches<'_>) -> Result<i64, Bad> {
-    match (words.get_str("type"), words.get_str("upto")) {
+fn wanted_type(words: &ArgMatches<'_>) -> Result<i64, Bad>
+    ensures { IsRead result (WantsType (word_of (words_in words.now) (codes "type"))
+        (word_of (words_in words.now) (codes "upto"))) }
+{
+    match (word_in(words, "type"), word_in(words, "upto")) {
         (Some(word), _) => type_of(word.as_bytes()).ok_or(BAD_TYPE),
         (None, Some(word)) => Ok(-type_of(word.as_bytes()).ok_or(BAD_TYPE)?),
         (None, None) => Ok(0),
@@ -324,7 +374,9 @@ fn wanted_type(words: &ArgMatches<'_>) -> Result<i64, Bad> {
 }
 
 /// Returns the credentials that a client states.
-fn cred_of(words: &ArgMatches<'_>) -> Result<Cred, Bad> {
+fn cred_of(words: &ArgMatches<'_>) -> Result<Cred, Bad>
+    ensures { IsRead result (StatesCred (words_in words.now)) }
+{
     Ok(Cred {
         uid: number(words, "uid", 1000)?,
         gid: number(words, "gid", 1000)?,
@@ -333,17 +385,44 @@ fn cred_of(words: &ArgMatches<'_>) -> Result<Cred, Bad> {
 }
 
 /// Returns the key.
-fn key(words: &ArgMatches<'_>) -> Result<i32, Bad> {
-    words
-        .get_str("key")
-        .and_then(|word| key_of(word.as_bytes()))
-        .ok_or(BAD_KEY)
+fn key(words: &ArgMatches<'_>) -> Result<i32, Bad>
+    ensures { IsRead result (Has IsKey (word_of (words_in words.now) (codes "key"))) }
+{
+    match word_in(words, "key") {
+        Some(word) => key_of(word.as_bytes()).ok_or(BAD_KEY),
+        None => Err(BAD_KEY),
+    }
 }
 
 /// Returns the number that an option has, or its default.
-fn number(words: &ArgMatches<'_>, id: &str, default: u32) -> Result<u32, Bad> {
-    match words.get_str(id) {
+fn number(words: &ArgMatches<'_>, id: &str, default: u32) -> Result<u32, Bad>
+    ensures { IsRead result (HasOr IsNat32 default (word_of (words_in words.now) id.now)) }
+{
+    match word_in(words, id) {
         Some(word) => u32::read(word.as_bytes()).ok_or(BAD_NUMBER),
         None => Ok(default),
     }
+}
+
+/// Returns the word that a command has under a name.
+fn word_in<'a>(words: &ArgMatches<'a>, name: &str) -> Option<&'a str>
+    ensures { MatchOption result (word_of (words_in words.now) name.now ≡ None)
+        (λ word. word_of (words_in words.now) name.now ≡ Some word.now) }
+{
+    words.get_str(name)
+}
+
+/// Returns whether a command has a flag.
+fn has_flag(words: &ArgMatches<'_>, name: &str) -> bool
+    ensures { HasFlag (words_in words.now) name.now result }
+{
+    words.get_flag(name)
+}
+
+/// Returns the name of the parsed command, and its words.
+fn command_in<'m, 'a>(matches: &'m ArgMatches<'a>) -> Option<(&'a str, &'m ArgMatches<'a>)>
+    ensures { MatchOption result (subcommand_rows_of matches.now ≡ None)
+        (λ found. subcommand_rows_of matches.now ≡ Some (found.0.now, words_in found.1.now)) }
+{
+    matches.subcommand()
 }

@@ -1,0 +1,3 @@
+-- The lemmas of the command line.
+pub mod WordLemmas
+pub mod AskedLemmas

@@ -1,0 +1,57 @@
+-- What a `serve` asks for (this project's programs): its socket file and its terms.
+use Rattle.std.specs.Prelude.{◌≡◌, ◌≤◌, ⊤, ℕ, List, codes, length, Option, Some, None}
+use Rattle.clap.specs.Words.{Row}
+use Rattle.sysv_server.specs.declared.terms.Terms.{Terms}
+use Rattle.sysv_words.specs.Words.{IsNat32, IsNat64}
+use Rattle.sysvmsg.specs.declared.asked.Serving.{Serving}
+use Rattle.sysvmsg.specs.declared.asked.SocketFile.{SocketFile}
+use Rattle.sysvmsg.specs.declared.asked.TheConstants.{MAX_PATH, MAX_PATH_WITH_MODE}
+use Rattle.sysvmsg.specs.Asked.{AreAtOnce, AreBlocks, AreWorkers}
+use Rattle.sysvmsg.specs.Words.{HasFlag, HasOr, IsMode, word_of}
+
+-- A command with these words asks for this number of blocks.
+abbrev pub AsksForBlocks : List Row → ℕ → Type 0
+AsksForBlocks words blocks = HasOr IsNat32 1024 (word_of words (codes "blocks")) blocks × AreBlocks blocks
+
+-- A command with these words asks for this number of workers.
+abbrev pub AsksForWorkers : List Row → ℕ → Type 0
+AsksForWorkers words workers = HasOr IsNat32 4 (word_of words (codes "workers")) workers × AreWorkers workers
+
+-- The word after `--at-once`, or else the number of workers, is this number of sessions at once.
+abbrev pub CountsAtOnce : Option (List ℕ) → List Row → ℕ → Type 0
+CountsAtOnce (Some word) words at_once = IsNat32 word at_once × AreAtOnce at_once
+CountsAtOnce None words at_once = AsksForWorkers words at_once
+
+-- A command with these words asks for this number of sessions at once.
+abbrev pub AsksForAtOnce : List Row → ℕ → Type 0
+AsksForAtOnce words at_once = CountsAtOnce (word_of words (codes "at-once")) words at_once
+
+-- A `serve` with these words has these terms.
+pub record AsksForTerms (words : List Row) (terms : Terms) : Type 0 where
+  pub blocks : AsksForBlocks words terms.blocks
+  pub at_once : AsksForAtOnce words terms.at_once
+  pub sessions : HasOr IsNat64 0 (word_of words (codes "sessions")) terms.sessions
+  pub idle : HasOr IsNat32 0 (word_of words (codes "idle")) terms.patience.idle
+  pub stall : HasOr IsNat32 0 (word_of words (codes "stall")) terms.patience.stall
+
+-- A command with these words has this path.
+abbrev pub HasPath : List Row → List ℕ → Type 0
+HasPath words path = (word_of words (codes "path") ≡ Some path) × (1 ≤ length path) × (length path ≤ MAX_PATH)
+
+-- A path with this mode is not too long.
+abbrev pub HasRoom : List ℕ → Option ℕ → Type 0
+HasRoom path (Some mode) = length path ≤ MAX_PATH_WITH_MODE
+HasRoom path None = ⊤
+
+-- A `serve` with these words has this socket file.
+pub record AsksForFile (words : List Row) (file : SocketFile) : Type 0 where
+  pub path : HasPath words file.path.now
+  pub mode : IsMode (word_of words (codes "mode")) file.mode
+  pub room : HasRoom file.path.now file.mode
+  pub replace : HasFlag words (codes "replace") file.replace
+
+-- A `serve` with these words is this one.
+pub record AsksToServe (words : List Row) (serving : Serving) : Type 0 where
+  pub file : AsksForFile words serving.file
+  pub terms : AsksForTerms words serving.terms
+  pub until_eof : HasFlag words (codes "until-eof") serving.until_eof
