@@ -29,7 +29,12 @@ pub(crate) enum Asked<'a> {
     /// Serve at a path.
     Serve(Serving<'a>),
     /// Run a client command at the server at `path`.
-    Client { path: &'a str, command: Command<'a> },
+    Client {
+        path: &'a str,
+        command: Command<'a>,
+        /// Whether the body of a `snd` is the standard input, in place of that of `command`.
+        from_input: bool,
+    },
 }
 
 /// The socket file and the terms of a server.
@@ -166,6 +171,7 @@ fn client<'a>(name: &str, words: &ArgMatches<'a>) -> Result<Asked<'a>, Bad>
     Ok(Asked::Client {
         path,
         command: Command { cred, task },
+        from_input: has_flag(words, "stdin"),
     })
 }
 

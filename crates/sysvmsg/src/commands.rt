@@ -38,6 +38,8 @@ type Argument = (&'static str, Form, &'static str);
 enum Form {
     /// A required argument, known by its position.
     Word(&'static str),
+    /// An argument known by its position, which may be missing.
+    OptionalWord(&'static str),
     /// As `--id VALUE`.
     Value(&'static str),
     /// As `-l VALUE`.
@@ -162,8 +164,13 @@ Example:
         KEY,
         (
             "text",
-            Form::Word("TEXT"),
-            "The bytes of the message, at most 8256",
+            Form::OptionalWord("TEXT"),
+            "The message's body, at most 8192 bytes",
+        ),
+        (
+            "stdin",
+            Form::Flag,
+            "Sends the bytes of standard input in place of TEXT",
         ),
         (
             "type",
@@ -179,7 +186,11 @@ Example:
         GROUP,
         PROCESS,
     ],
-    either: None,
+    either: Some(Either {
+        one: "text",
+        other: "stdin",
+        required: true,
+    }),
 };
 
 const RCV: Known = Known {
@@ -315,6 +326,7 @@ fn argument_of<'a>(alloc: Global, given: Argument) -> Arg<'a> {
     let argument = Arg::new(alloc, id).help(help);
     match form {
         Form::Word(name) => valued(argument, name).required(true),
+        Form::OptionalWord(name) => valued(argument, name),
         Form::Value(name) => valued(argument, name).long(id),
         Form::Letter(letter, name) => valued(argument, name).short(letter),
         Form::Flag => argument.action(ArgAction::SetTrue).long(id),
