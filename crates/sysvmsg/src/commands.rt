@@ -28,6 +28,8 @@ struct Known {
     example: &'static str,
     arguments: &'static [Argument],
     either: Option<Either>,
+    /// The usage, if not the one that clap composes, which names `either` first if it is required.
+    usage: Option<&'static str>,
 }
 
 /// An argument of a command: its name, its form, and its help.
@@ -151,6 +153,7 @@ Example:
         other: "at-once",
         required: false,
     }),
+    usage: None,
 };
 
 const SND: Known = Known {
@@ -191,6 +194,7 @@ Example:
         other: "stdin",
         required: true,
     }),
+    usage: Some("sysvmsg snd [OPTIONS] <PATH> <KEY> <TEXT|--stdin>"),
 };
 
 const RCV: Known = Known {
@@ -237,6 +241,7 @@ Example:
         other: "upto",
         required: false,
     }),
+    usage: None,
 };
 
 const IPCS: Known = Known {
@@ -249,6 +254,7 @@ Example:
   0x00000007          0       1000   600      5        1",
     arguments: &[SERVER, USER, GROUP, PROCESS],
     either: None,
+    usage: None,
 };
 
 const IPCRM: Known = Known {
@@ -274,6 +280,7 @@ Example:
         other: "key",
         required: true,
     }),
+    usage: None,
 };
 
 const SCRIPT: Known = Known {
@@ -286,6 +293,7 @@ Example:
   1 snd = 0",
     arguments: &[],
     either: None,
+    usage: None,
 };
 
 /// Returns the whole command line.
@@ -303,6 +311,17 @@ pub(crate) fn command<'a>(alloc: Global) -> Result<Command<'a>, AllocError> {
     Ok(line)
 }
 
+/// Returns the command of this name, or the whole command line if there is no such command.
+pub(crate) fn command_named<'a>(alloc: Global, name: &str) -> Result<Command<'a>, AllocError> {
+    for known in COMMANDS {
+        if known.name == name {
+            let words = format!(in alloc; "sysvmsg {name}")?;
+            return command_of(alloc, known)?.bin_name(&words);
+        }
+    }
+    command(alloc)
+}
+
 fn command_of<'a>(alloc: Global, known: Known) -> Result<Command<'a>, AllocError> {
     let command = with_arguments(alloc, known)?;
     match known.either {
@@ -318,7 +337,10 @@ fn with_arguments<'a>(alloc: Global, known: Known) -> Result<Command<'a>, AllocE
     for given in known.arguments {
         command = command.arg(argument_of(alloc, *given))?;
     }
-    Ok(command)
+    Ok(match known.usage {
+        Some(usage) => command.override_usage(usage),
+        None => command,
+    })
 }
 
 fn argument_of<'a>(alloc: Global, given: Argument) -> Arg<'a> {
