@@ -8,7 +8,7 @@ _sysvmsg_words() {
     serve) echo "--mode --replace --blocks --workers --at-once --sessions --until-eof --idle --stall --help --version" ;;
     ipcs) echo "$credentials --help --version" ;;
     ipcrm) echo "-q -Q $credentials --help --version" ;;
-    snd) echo "--type --nowait $credentials --help --version" ;;
+    snd) echo "--stdin --type --nowait $credentials --help --version" ;;
     rcv) echo "--type --upto --size --nowait --noerror $credentials --help --version" ;;
     *) echo "serve snd rcv ipcs ipcrm script --help --version" ;;
     esac

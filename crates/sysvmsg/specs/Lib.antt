@@ -1,5 +1,6 @@
 -- The definitions of the command line.
 pub mod Asked
+pub mod Bodies
 pub mod Words
 pub mod Tasks
 pub mod Servers

@@ -11,7 +11,7 @@ ghost use Rattle.sysv_words.specs.Words.{IsNat32, IsNat64};
 ghost use Rattle.sysv_clients.specs.Run.{HasShortText};
 ghost use Rattle.sysv_clients.specs.Words.{IsKey};
 
-use crate::commands::command;
+use crate::commands::{command, command_named};
 use clap::error::ErrorKind;
 use clap::{ArgMatches, Command as CommandLine, Error};
 use std::alloc::{AllocError, Global};
@@ -29,7 +29,12 @@ pub(crate) enum Asked<'a> {
     /// Serve at a path.
     Serve(Serving<'a>),
     /// Run a client command at the server at `path`.
-    Client { path: &'a str, command: Command<'a> },
+    Client {
+        path: &'a str,
+        command: Command<'a>,
+        /// Whether the body of a `snd` is the standard input, in place of that of `command`.
+        from_input: bool,
+    },
 }
 
 /// The socket file and the terms of a server.
@@ -112,19 +117,29 @@ pub(crate) fn read_words<'a, S: AsStr>(alloc: Global, words: &'a [S]) -> Result<
     ensures meaning { IfOk result IsMeant }
 {
     let mut line: CommandLine<'a> = command(alloc)?;
-    read_line(&mut line, words)
+    read_line(alloc, &mut line, words)
 }
 
 /// Parses the words like `read_words`, with this command line.
-fn read_line<'a, S: AsStr>(line: &mut CommandLine<'a>, words: &'a [S]) -> Result<Asked<'a>, Error>
+fn read_line<'a, S: AsStr>(
+    alloc: Global,
+    line: &mut CommandLine<'a>,
+    words: &'a [S],
+) -> Result<Asked<'a>, Error>
     ensures limits { IfOk result IsWithinLimits }
     ensures meaning { IfOk result (IsAskedBy (app_of line.old) (map S.text words.entry.now)) }
 {
     let matches = line.try_get_matches_from_mut(words)?;
     match task_of(&matches) {
         Ok(task) => Ok(task),
-        Err(bad) => Err(line.error(ErrorKind::ValueValidation, bad)?),
+        Err(bad) => Err(bad_value(alloc, &matches, bad)?),
     }
+}
+
+/// Returns the error that a value is not valid, with the usage of the parsed command.
+fn bad_value(alloc: Global, matches: &ArgMatches<'_>, bad: Bad) -> Result<Error, AllocError> {
+    let name = matches.subcommand_name().unwrap_or("");
+    command_named(alloc, name)?.error(ErrorKind::ValueValidation, bad)
 }
 
 /// Returns the error that a word is not UTF-8.
@@ -166,6 +181,7 @@ fn client<'a>(name: &str, words: &ArgMatches<'a>) -> Result<Asked<'a>, Bad>
     Ok(Asked::Client {
         path,
         command: Command { cred, task },
+        from_input: has_flag(words, "stdin"),
     })
 }
 

@@ -28,6 +28,8 @@ struct Known {
     example: &'static str,
     arguments: &'static [Argument],
     either: Option<Either>,
+    /// The usage, if not the one that clap composes, which names `either` first if it is required.
+    usage: Option<&'static str>,
 }
 
 /// An argument of a command: its name, its form, and its help.
@@ -38,6 +40,8 @@ type Argument = (&'static str, Form, &'static str);
 enum Form {
     /// A required argument, known by its position.
     Word(&'static str),
+    /// An argument known by its position, which may be missing.
+    OptionalWord(&'static str),
     /// As `--id VALUE`.
     Value(&'static str),
     /// As `-l VALUE`.
@@ -149,6 +153,7 @@ Example:
         other: "at-once",
         required: false,
     }),
+    usage: None,
 };
 
 const SND: Known = Known {
@@ -162,8 +167,13 @@ Example:
         KEY,
         (
             "text",
-            Form::Word("TEXT"),
-            "The bytes of the message, at most 8256",
+            Form::OptionalWord("TEXT"),
+            "The message's body, at most 8192 bytes",
+        ),
+        (
+            "stdin",
+            Form::Flag,
+            "Sends the bytes of standard input in place of TEXT",
         ),
         (
             "type",
@@ -179,7 +189,12 @@ Example:
         GROUP,
         PROCESS,
     ],
-    either: None,
+    either: Some(Either {
+        one: "text",
+        other: "stdin",
+        required: true,
+    }),
+    usage: Some("sysvmsg snd [OPTIONS] <PATH> <KEY> <TEXT|--stdin>"),
 };
 
 const RCV: Known = Known {
@@ -226,6 +241,7 @@ Example:
         other: "upto",
         required: false,
     }),
+    usage: None,
 };
 
 const IPCS: Known = Known {
@@ -238,6 +254,7 @@ Example:
   0x00000007          0       1000   600      5        1",
     arguments: &[SERVER, USER, GROUP, PROCESS],
     either: None,
+    usage: None,
 };
 
 const IPCRM: Known = Known {
@@ -263,6 +280,7 @@ Example:
         other: "key",
         required: true,
     }),
+    usage: None,
 };
 
 const SCRIPT: Known = Known {
@@ -275,6 +293,7 @@ Example:
   1 snd = 0",
     arguments: &[],
     either: None,
+    usage: None,
 };
 
 /// Returns the whole command line.
@@ -292,6 +311,17 @@ pub(crate) fn command<'a>(alloc: Global) -> Result<Command<'a>, AllocError> {
     Ok(line)
 }
 
+/// Returns the command of this name, or the whole command line if there is no such command.
+pub(crate) fn command_named<'a>(alloc: Global, name: &str) -> Result<Command<'a>, AllocError> {
+    for known in COMMANDS {
+        if known.name == name {
+            let words = format!(in alloc; "sysvmsg {name}")?;
+            return command_of(alloc, known)?.bin_name(&words);
+        }
+    }
+    command(alloc)
+}
+
 fn command_of<'a>(alloc: Global, known: Known) -> Result<Command<'a>, AllocError> {
     let command = with_arguments(alloc, known)?;
     match known.either {
@@ -307,7 +337,10 @@ fn with_arguments<'a>(alloc: Global, known: Known) -> Result<Command<'a>, AllocE
     for given in known.arguments {
         command = command.arg(argument_of(alloc, *given))?;
     }
-    Ok(command)
+    Ok(match known.usage {
+        Some(usage) => command.override_usage(usage),
+        None => command,
+    })
 }
 
 fn argument_of<'a>(alloc: Global, given: Argument) -> Arg<'a> {
@@ -315,6 +348,7 @@ fn argument_of<'a>(alloc: Global, given: Argument) -> Arg<'a> {
     let argument = Arg::new(alloc, id).help(help);
     match form {
         Form::Word(name) => valued(argument, name).required(true),
+        Form::OptionalWord(name) => valued(argument, name),
         Form::Value(name) => valued(argument, name).long(id),
         Form::Letter(letter, name) => valued(argument, name).short(letter),
         Form::Flag => argument.action(ArgAction::SetTrue).long(id),

@@ -4,13 +4,14 @@
 mod asked;
 mod commands;
 mod connection;
+mod input;
 mod serving;
 mod socket;
 
 use asked::{Asked, no_text, read_words};
 use clap::Error;
 use clap::error::ErrorKind;
-use connection::run_at;
+use connection::{run_at, run_with_input};
 use serving::serve_at;
 use std::fs::File;
 use std::os::fd::{AsRawFd, RawFd};
@@ -53,7 +54,20 @@ fn main(rt: HostRuntime) -> ExitCode {
             }
         }
         Ok(Asked::Serve(serving)) => serve_at(&rt, rt.stdin(), &serving),
-        Ok(Asked::Client { path, command }) => run_at(&rt, path, &command),
+        Ok(
+            Asked::Client {
+                path,
+                command,
+                from_input: false,
+            },
+        ) => run_at(&rt, path, &command),
+        Ok(
+            Asked::Client {
+                path,
+                command,
+                from_input: true,
+            },
+        ) => run_with_input(&rt, &mut rt.stdin(), path, &command),
         Err(error) => tell(&rt, &error),
     }
 }
