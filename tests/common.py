@@ -102,12 +102,15 @@ class Server:
         self.listening = self.process.stderr.readline().decode()
 
     def is_asleep(self):
-        """Whether all its threads sleep: what was asked of it is answered, or waits."""
+        """Whether all its threads sleep: what was asked of it is answered, or waits. A thread that ends meanwhile is awake."""
         tasks = "/proc/%d/task" % self.process.pid
-        for task in os.listdir(tasks):
-            with open("%s/%s/stat" % (tasks, task), encoding="ascii") as stat:
-                if stat.read().rsplit(")", 1)[1].split()[0] != "S":
-                    return False
+        try:
+            for task in os.listdir(tasks):
+                with open("%s/%s/stat" % (tasks, task), encoding="ascii") as stat:
+                    if stat.read().rsplit(")", 1)[1].split()[0] != "S":
+                        return False
+        except (FileNotFoundError, ProcessLookupError):
+            return False
         return True
 
     def ended(self):
