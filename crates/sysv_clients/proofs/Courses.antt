@@ -14,8 +14,8 @@ use Rattle.sysv_model.specs.declared.errno.Errno.TheVariants.{EPERM, ENOENT, E2B
 use Rattle.sysv_model.specs.Errors.{number_of}
 use Rattle.sysv_wire.specs.declared.fault.Fault.{Fault}
 use Rattle.sysv_wire.specs.declared.fault.Fault.TheVariants.{Truncated, TooLong, BadOp, BadField, Read}
-use Rattle.sysv_wire.specs.declared.reply.Outcome.{Outcome}
-use Rattle.sysv_wire.specs.declared.reply.Outcome.TheVariants as Told
+use Rattle.sysv_wire.specs.declared.reply.ReplyContent.{ReplyContent}
+use Rattle.sysv_wire.specs.declared.reply.ReplyContent.TheVariants as content
 use Rattle.sysv_wire.specs.declared.reply.Reply.{Reply}
 use Rattle.sysv_wire.specs.declared.request.Ask.{Ask}
 use Rattle.sysv_wire.specs.declared.request.Ask.TheVariants.{Hello, Get, Snd, Rcv, Stat, Set, Rm, Row}
@@ -36,7 +36,7 @@ apart_none a same = cc
 apart_fault : (a : Reply) (why : Fault) → (let x : Result (Option Reply) Fault = Ok (Some a) in let y : Result (Option Reply) Fault = Err why in x ≡ y) → ⊥
 apart_fault a why same = cc
 
-same_refusal : (a b : Errno) → (let x : Outcome = Told.Refused a in let y : Outcome = Told.Refused b in x ≡ y)
+same_refusal : (a b : Errno) → (let x : ReplyContent = content.Refused a in let y : ReplyContent = content.Refused b in x ≡ y)
     → (let x : Result ⊤ ClientFault = Err (fault.Refused a) in let y : Result ⊤ ClientFault = Err (fault.Refused b) in x ≡ y)
 same_refusal a b same = let e : a ≡ b = cc in ap (λ (x : Errno). let r : Result ⊤ ClientFault = Err (fault.Refused x) in r) e
 
@@ -63,13 +63,13 @@ same_ask command exchanges a b x y = let e : Some a ≡ Some b = sym x ∙ y in 
 
 -- A reply to a request that was done is no reply with an error.
 no_refusal : (one : OneAnswerToReplies) (e : Exchange) (ask : Ask) (error : Errno) (input : List ℕ) → IsDone e.ask e.answer e.given → ReplyAt input (Ok (Some (reply_to e.ask e.answer)))
-    → ReplyAt input (Ok (Some (reply_to ask (Told.Refused error)))) → ⊥
+    → ReplyAt input (Ok (Some (reply_to ask (content.Refused error)))) → ⊥
 no_refusal one e ask error input done here there =
-    let same : e.answer ≡ Told.Refused error = ap (λ (r : Reply). r.result) (one_reply (reply_to e.ask e.answer) (reply_to ask (Told.Refused error)) (one input _ _ here there)) in
+    let same : e.answer ≡ content.Refused error = ap (λ (r : Reply). r.result) (one_reply (reply_to e.ask e.answer) (reply_to ask (content.Refused error)) (one input _ _ here there)) in
     error_above error (sym (ap error_number same) ∙ done.done)
 
 -- A reply to the request is not another reply.
-not_other : (ask : Ask) (answer : Outcome) (reply : Reply) → reply_to ask answer ≡ reply → IsOther ask reply → ⊥
+not_other : (ask : Ask) (answer : ReplyContent) (reply : Reply) → reply_to ask answer ≡ reply → IsOther ask reply → ⊥
 not_other ask answer reply same (inl version) = version (sym (ap (λ (r : Reply). r.version) same))
 not_other ask answer reply same (inr op) = op (sym (ap (λ (r : Reply). r.op) same))
 
@@ -92,7 +92,7 @@ goes_on one command before e (Err fault.NoMemory) input next is_done here ends =
 same_exchange : (e m : Exchange) → e.ask ≡ m.ask → e.answer ≡ m.answer → e.given ≡ m.given → e ≡ m
 same_exchange e m asks answers givens =
     ap (λ (x : Ask). let one : Exchange = record { ask = x; answer = e.answer; given = e.given } in one) asks
-    ∙ ap (λ (x : Outcome). let one : Exchange = record { ask = m.ask; answer = x; given = e.given } in one) answers
+    ∙ ap (λ (x : ReplyContent). let one : Exchange = record { ask = m.ask; answer = x; given = e.given } in one) answers
     ∙ ap (λ (x : List ℕ). let one : Exchange = record { ask = m.ask; answer = m.answer; given = x } in one) givens
 
 -- The exchanges that remain of those that an input makes, after those that were made.
@@ -154,7 +154,7 @@ all_asked command made all [] (Err fault.NoReply) done behind rest none parts fo
 all_asked command made all [] (Err fault.NoMemory) done behind rest none parts follows ends = absurd ends
 
 -- A reply to the request is not a lack of a reply to it.
-is_answer : (one : OneAnswerToReplies) (ask other : Ask) (told : Outcome) (answer : Result (Option Reply) Fault) (input : List ℕ) → other ≡ ask → ReplyAt input (Ok (Some (reply_to ask told)))
+is_answer : (one : OneAnswerToReplies) (ask other : Ask) (told : ReplyContent) (answer : Result (Option Reply) Fault) (input : List ℕ) → other ≡ ask → ReplyAt input (Ok (Some (reply_to ask told)))
     → ReplyAt input answer → IsNoReplyTo other answer → ⊥
 is_answer one ask other told (Ok (Some reply)) input same here there denies =
     not_other ask told reply (one_reply (reply_to ask told) reply (one input _ _ here there)) (subst (λ (a : Ask). IsOther a reply) same denies)
@@ -162,19 +162,19 @@ is_answer one ask other told (Ok None) input same here there denies = apart_none
 is_answer one ask other told (Err why) input same here there denies = apart_fault (reply_to ask told) why (one input _ _ here there)
 
 refused : (one : OneAnswerToReplies) (command : Command) (made all more : List Exchange) (ended : Result ⊤ ClientFault) (ask : Ask) (error : Errno) (behind rest : List ℕ)
-    → next_ask command made ≡ Some ask → ReplyAt behind (Ok (Some (reply_to ask (Told.Refused error)))) → all ≡ made ++ more → Follows command made more
+    → next_ask command made ≡ Some ask → ReplyAt behind (Ok (Some (reply_to ask (content.Refused error)))) → all ≡ made ++ more → Follows command made more
     → behind ≡ answered_spelling more ++ rest → EndsOn command all ended rest → IsWhole made all (Err (fault.Refused error)) ended
 refused one command made all (m ∷ ms) ended ask error behind rest next here parts follows left ends =
     absurd (no_refusal one m ask error behind follows.1 (first_left made all made m ms behind rest left follows.1) here)
 refused one command made all [] (Ok done) ask error behind rest next here parts follows left ends =
     absurd (no_next command made ask (ap (next_ask command) (sym (parts ∙ append-nil made)) ∙ ends) next)
 refused one command made all [] (Err (fault.Refused other)) ask error behind rest next here parts follows left ends =
-    let there = subst (λ (l : List ℕ). ReplyAt l (Ok (Some (reply_to ends.0 (Told.Refused other))))) (sym left) ends.2 in
-    let answers = ap (λ (r : Reply). r.result) (one_reply (reply_to ends.0 (Told.Refused other)) (reply_to ask (Told.Refused error)) (one behind _ _ there here)) in
+    let there = subst (λ (l : List ℕ). ReplyAt l (Ok (Some (reply_to ends.0 (content.Refused other))))) (sym left) ends.2 in
+    let answers = ap (λ (r : Reply). r.result) (one_reply (reply_to ends.0 (content.Refused other)) (reply_to ask (content.Refused error)) (one behind _ _ there here)) in
     record { exchanges = parts ∙ append-nil made; ending = same_refusal other error answers }
 refused one command made all [] (Err fault.NoReply) ask error behind rest next here parts follows left ends =
     let asked : ends.0 ≡ ask = same_ask command made ends.0 ask (ap (next_ask command) (sym (parts ∙ append-nil made)) ∙ ends.2) next in
-    absurd (is_answer one ask ends.0 (Told.Refused error) ends.1 behind asked here (subst (λ (l : List ℕ). ReplyAt l ends.1) (sym left) ends.4) ends.3)
+    absurd (is_answer one ask ends.0 (content.Refused error) ends.1 behind asked here (subst (λ (l : List ℕ). ReplyAt l ends.1) (sym left) ends.4) ends.3)
 refused one command made all [] (Err fault.NoMemory) ask error behind rest next here parts follows left ends = absurd ends
 
 unanswered : (one : OneAnswerToReplies) (command : Command) (made all more : List Exchange) (ended : Result ⊤ ClientFault) (ask : Ask) (heard : Result (Option Reply) Fault) (behind rest : List ℕ)
@@ -186,7 +186,7 @@ unanswered one command made all [] (Ok done) ask heard behind rest next here den
     absurd (no_next command made ask (ap (next_ask command) (sym (parts ∙ append-nil made)) ∙ ends) next)
 unanswered one command made all [] (Err (fault.Refused other)) ask heard behind rest next here denies parts follows left ends =
     let asked : ask ≡ ends.0 = same_ask command made ask ends.0 next (ap (next_ask command) (sym (parts ∙ append-nil made)) ∙ ends.1) in
-    absurd (is_answer one ends.0 ask (Told.Refused other) heard behind asked (subst (λ (l : List ℕ). ReplyAt l (Ok (Some (reply_to ends.0 (Told.Refused other))))) (sym left) ends.2) here denies)
+    absurd (is_answer one ends.0 ask (content.Refused other) heard behind asked (subst (λ (l : List ℕ). ReplyAt l (Ok (Some (reply_to ends.0 (content.Refused other))))) (sym left) ends.2) here denies)
 unanswered one command made all [] (Err fault.NoReply) ask heard behind rest next here denies parts follows left ends = record { exchanges = parts ∙ append-nil made; ending = refl }
 unanswered one command made all [] (Err fault.NoMemory) ask heard behind rest next here denies parts follows left ends = absurd ends
 
@@ -231,8 +231,8 @@ few_ops (Set id to) = omega arith
 few_ops (Rm id) = omega arith
 few_ops (Row slot) = omega arith
 
-refusal_heard : (ask : Ask) (error : Errno) (behind : List ℕ) (rest : Option (List ℕ)) → Consumes (Some behind) rest (reply_spelling (reply_to ask (Told.Refused error)) [])
-    → ReplyAt behind (Ok (Some (reply_to ask (Told.Refused error))))
+refusal_heard : (ask : Ask) (error : Errno) (behind : List ℕ) (rest : Option (List ℕ)) → Consumes (Some behind) rest (reply_spelling (reply_to ask (content.Refused error)) [])
+    → ReplyAt behind (Ok (Some (reply_to ask (content.Refused error))))
 refusal_heard ask error behind None took = absurd took
 refusal_heard ask error behind (Some left) took = ([], left, (few_ops ask, tt, omega arith), took)
 

@@ -19,8 +19,8 @@ use Rattle.sysv_clients.specs.Run.{Runs, Shows, TalksThrough}
 use Rattle.sysv_clients.specs.Table.{table_head}
 use Rattle.sysv_clients.specs.Talk.{EndsTalk, Exchange, Exchanges, Follows, IsDone, Talked, answered_spelling, ask_spelling, asked_spelling, found_in, id_after, is_row, next_ask, reply_to, slots_after, slots_in}
 use Rattle.sysv_wire.specs.declared.frame.Version.TheVariants.{Two}
-use Rattle.sysv_wire.specs.declared.reply.Outcome.{Outcome}
-use Rattle.sysv_wire.specs.declared.reply.Outcome.TheVariants as Told
+use Rattle.sysv_wire.specs.declared.reply.ReplyContent.{ReplyContent}
+use Rattle.sysv_wire.specs.declared.reply.ReplyContent.TheVariants as content
 use Rattle.sysv_wire.specs.declared.request.Ask.{Ask}
 use Rattle.sysv_wire.specs.declared.request.Ask.TheVariants as asks
 use Rattle.sysv_wire.specs.Frames.{op_number}
@@ -96,7 +96,7 @@ is_next command left rest taken more page place slots id found so_far asked =
     ∙ ap (λ (n : ℕ). slice_get (asks_of command (slots_in so_far.exchanges) (found_in so_far.exchanges)) n) so_far.counts)
 
 -- One more exchange.
-pub goes_on : (command : Command) (ask : Ask) (answer : Outcome) (given : List ℕ) (left mid rest taken more most : Option (List ℕ)) (page text : List ℕ) (place slots : ℕ) (id : ℤ)
+pub goes_on : (command : Command) (ask : Ask) (answer : ReplyContent) (given : List ℕ) (left mid rest taken more most : Option (List ℕ)) (page text : List ℕ) (place slots : ℕ) (id : ℤ)
     → Talking command left mid taken more page place slots id → Some ask ≡ slice_get (asks_of command slots id) place → text ≡ text_of command.task
     → Exchanges (request_spelling (request_of ask) text) ask (Ok answer) mid rest more most given
     → Talking command left rest taken most (page ++ answer_text answer given) (place + 1) (slots_after slots answer) (id_after id answer)
@@ -158,7 +158,7 @@ breaks_off command why ask given left mid rest taken more most page last text pl
 )
 
 -- Memory for the line of a row is refused.
-pub no_line : (command : Command) (ask : Ask) (answer : Outcome) (given : List ℕ) (left mid rest taken more most : Option (List ℕ)) (page last text : List ℕ) (place slots : ℕ) (id : ℤ)
+pub no_line : (command : Command) (ask : Ask) (answer : ReplyContent) (given : List ℕ) (left mid rest taken more most : Option (List ℕ)) (page last text : List ℕ) (place slots : ℕ) (id : ℤ)
     → Talking command left mid taken more page place slots id → Some ask ≡ slice_get (asks_of command slots id) place → text ≡ text_of command.task
     → Exchanges (request_spelling (request_of ask) text) ask (Ok answer) mid rest more most given → is_row answer ≡ true → TalksThrough command (Err NoMemory) last left rest taken most
 no_line command ask answer given left mid rest taken more most page last text place slots id so_far asked sent exchange row =
@@ -195,7 +195,7 @@ refused command status left taken shown after shows = record {
 }
 
 -- Only a receive has a reply with a message.
-answers_receive : (ask : Ask) (mtype : ℤ) → IsAnswer Two (op_number (op_of ask)) (Told.Rcv mtype) → is_receive ask ≡ true
+answers_receive : (ask : Ask) (mtype : ℤ) → IsAnswer Two (op_number (op_of ask)) (content.Rcv mtype) → is_receive ask ≡ true
 answers_receive (asks.Rcv id size wanted flags) mtype fits = refl
 answers_receive (asks.Hello cred) mtype fits = absurd (omega (arith, fits))
 answers_receive (asks.Get key flags) mtype fits = absurd (omega (arith, fits))
@@ -206,44 +206,44 @@ answers_receive (asks.Rm id) mtype fits = absurd (omega (arith, fits))
 answers_receive (asks.Row slot) mtype fits = absurd (omega (arith, fits))
 
 -- The maximum number of bytes that a result adds, by the number of exchanges before it.
-most_at : (place : ℕ) (ask : Ask) (answer : Outcome) → IsAnswer Two (op_number (op_of ask)) answer → (is_receive ask ≡ true → place ≡ 2)
+most_at : (place : ℕ) (ask : Ask) (answer : ReplyContent) → IsAnswer Two (op_number (op_of ask)) answer → (is_receive ask ≡ true → place ≡ 2)
     → (answer_most answer ≤ 62) ⊎ ((answer_most answer ≡ 8193) × (place ≡ 2))
-most_at place ask (Told.Rcv mtype) fits third = inr (refl, third (answers_receive ask mtype fits))
-most_at place ask (Told.Row row) fits third = inl (omega arith)
-most_at place ask (Told.Refused error) fits third = inl (omega arith)
-most_at place ask Told.Hello fits third = inl (omega arith)
-most_at place ask (Told.HelloSlots slots) fits third = inl (omega arith)
-most_at place ask (Told.Get id) fits third = inl (omega arith)
-most_at place ask Told.Snd fits third = inl (omega arith)
-most_at place ask (Told.Stat stat) fits third = inl (omega arith)
-most_at place ask Told.Set fits third = inl (omega arith)
-most_at place ask Told.Rm fits third = inl (omega arith)
+most_at place ask (content.Rcv mtype) fits third = inr (refl, third (answers_receive ask mtype fits))
+most_at place ask (content.Row row) fits third = inl (omega arith)
+most_at place ask (content.Refused error) fits third = inl (omega arith)
+most_at place ask content.Hello fits third = inl (omega arith)
+most_at place ask (content.HelloSlots slots) fits third = inl (omega arith)
+most_at place ask (content.Get id) fits third = inl (omega arith)
+most_at place ask content.Snd fits third = inl (omega arith)
+most_at place ask (content.Stat stat) fits third = inl (omega arith)
+most_at place ask content.Set fits third = inl (omega arith)
+most_at place ask content.Rm fits third = inl (omega arith)
 
 page_most_more : (place : ℕ) → page_most place + 62 ≤ page_most (place + 1)
 page_most_more place = grind (arith, nat_tests)
 
 -- A message is in the third exchange.
-third_one : (place : ℕ) (ask : Ask) (answer : Outcome) → IsAnswer Two (op_number (op_of ask)) answer → (is_receive ask ≡ true → place ≡ 2) → gives_text answer ≡ true → place ≡ 2
-third_one place ask (Told.Rcv mtype) fits third gives = third (answers_receive ask mtype fits)
-third_one place ask (Told.Row row) fits third gives = absurd cc
-third_one place ask (Told.Refused error) fits third gives = absurd cc
-third_one place ask Told.Hello fits third gives = absurd cc
-third_one place ask (Told.HelloSlots slots) fits third gives = absurd cc
-third_one place ask (Told.Get id) fits third gives = absurd cc
-third_one place ask Told.Snd fits third gives = absurd cc
-third_one place ask (Told.Stat stat) fits third gives = absurd cc
-third_one place ask Told.Set fits third gives = absurd cc
-third_one place ask Told.Rm fits third gives = absurd cc
+third_one : (place : ℕ) (ask : Ask) (answer : ReplyContent) → IsAnswer Two (op_number (op_of ask)) answer → (is_receive ask ≡ true → place ≡ 2) → gives_text answer ≡ true → place ≡ 2
+third_one place ask (content.Rcv mtype) fits third gives = third (answers_receive ask mtype fits)
+third_one place ask (content.Row row) fits third gives = absurd cc
+third_one place ask (content.Refused error) fits third gives = absurd cc
+third_one place ask content.Hello fits third gives = absurd cc
+third_one place ask (content.HelloSlots slots) fits third gives = absurd cc
+third_one place ask (content.Get id) fits third gives = absurd cc
+third_one place ask content.Snd fits third gives = absurd cc
+third_one place ask (content.Stat stat) fits third gives = absurd cc
+third_one place ask content.Set fits third gives = absurd cc
+third_one place ask content.Rm fits third gives = absurd cc
 
 -- There is space for a message.
-pub has_room : (place : ℕ) (ask : Ask) (answer : Outcome) (given : List ℕ) (held : ℕ) → IsDone ask answer given → (is_receive ask ≡ true → place ≡ 2) → held ≤ page_most place → gives_text answer ≡ true
+pub has_room : (place : ℕ) (ask : Ask) (answer : ReplyContent) (given : List ℕ) (held : ℕ) → IsDone ask answer given → (is_receive ask ≡ true → place ≡ 2) → held ≤ page_most place → gives_text answer ≡ true
     → held + 8192 + 1 ≤ 8372
 has_room place ask answer given held done third room gives =
     let at : held ≤ page_most 2 = subst (λ (n : ℕ). held ≤ page_most n) (third_one place ask answer done.fits.0 third gives) room in
     omega (arith, at)
 
 -- What is collected stays within its bound.
-pub stays_within : (place : ℕ) (ask : Ask) (answer : Outcome) (given : List ℕ) (held more : ℕ) → IsDone ask answer given → (is_receive ask ≡ true → place ≡ 2) → held ≤ page_most place
+pub stays_within : (place : ℕ) (ask : Ask) (answer : ReplyContent) (given : List ℕ) (held more : ℕ) → IsDone ask answer given → (is_receive ask ≡ true → place ≡ 2) → held ≤ page_most place
     → more ≤ held + answer_most answer → more ≤ page_most (place + 1)
 stays_within place ask answer given held more done third room grown = elim (most_at place ask answer done.fits.0 third) [
   | inl small ↦ omega (arith, page_most_more place)

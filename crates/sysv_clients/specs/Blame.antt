@@ -9,7 +9,7 @@ use Rattle.sysv_clients.specs.Run.{Shows, shown_text, status_of}
 use Rattle.sysv_clients.specs.Talk.{Exchange, IsOther, Talked, Talks, answered_spelling, next_ask}
 use Rattle.sysv_model.specs.Watched.{failures_after}
 use Rattle.sysv_wire.specs.declared.fault.Fault.{Fault}
-use Rattle.sysv_wire.specs.declared.reply.Outcome.{Outcome}
+use Rattle.sysv_wire.specs.declared.reply.ReplyContent.{ReplyContent}
 use Rattle.sysv_wire.specs.declared.reply.Reply.{Reply}
 use Rattle.sysv_wire.specs.declared.request.Ask.{Ask}
 use Rattle.sysv_wire.specs.Faults.{Faults, is_read}
@@ -26,7 +26,7 @@ Unheard ask had has left rest =
     ⊎ ((reply : Reply) × (text : List ℕ) × FitsReply reply text × IsOther ask reply × Consumes left rest (reply_spelling reply text) × (has ≡ had))
 
 -- What was read as the reply, by the reader's count of failures.
-abbrev pub HeardBy : Ask → Result Outcome ClientFault → (had has : ℕ) → (left rest : Option (List ℕ)) → Type 0
+abbrev pub HeardBy : Ask → Result ReplyContent ClientFault → (had has : ℕ) → (left rest : Option (List ℕ)) → Type 0
 HeardBy ask (Ok answer) had has left rest = has ≡ had
 HeardBy ask (Err (fault.Refused error)) had has left rest = has ≡ had
 HeardBy ask (Err fault.NoReply) had has left rest = Unheard ask had has left rest
@@ -40,7 +40,7 @@ Unanswered ask had has wrote writes left rest =
     ⊎ ((writes ≡ wrote) × Unheard ask had has left rest)
 
 -- The result of a request, by the reader's and the writer's counts of failures.
-abbrev pub ExchangedBy : Ask → Result Outcome ClientFault → (had has wrote writes : ℕ) → (left rest : Option (List ℕ)) → Type 0
+abbrev pub ExchangedBy : Ask → Result ReplyContent ClientFault → (had has wrote writes : ℕ) → (left rest : Option (List ℕ)) → Type 0
 ExchangedBy ask (Ok answer) had has wrote writes left rest = (has ≡ had) × (writes ≡ wrote)
 ExchangedBy ask (Err (fault.Refused error)) had has wrote writes left rest = (has ≡ had) × (writes ≡ wrote)
 ExchangedBy ask (Err fault.NoReply) had has wrote writes left rest = Unanswered ask had has wrote writes left rest

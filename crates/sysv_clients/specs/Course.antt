@@ -9,7 +9,7 @@ use Rattle.sysv_clients.specs.Faults.{fault_line}
 use Rattle.sysv_clients.specs.Run.{Shows, shown_text, status_of}
 use Rattle.sysv_clients.specs.Talk.{Exchange, IsOther, Talked, answered_spelling, next_ask, reply_to}
 use Rattle.sysv_wire.specs.declared.fault.Fault.{Fault}
-use Rattle.sysv_wire.specs.declared.reply.Outcome.TheVariants.{Refused}
+use Rattle.sysv_wire.specs.declared.reply.ReplyContent.TheVariants.{Refused}
 use Rattle.sysv_wire.specs.declared.reply.Reply.{Reply}
 use Rattle.sysv_wire.specs.declared.request.Ask.{Ask}
 use Rattle.sysv_wire.specs.Frames.{op_number}

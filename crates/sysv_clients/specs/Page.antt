@@ -5,12 +5,12 @@ use Rattle.sysv_clients.specs.declared.command.Task.TheVariants.{List as Table, 
 use Rattle.sysv_clients.specs.declared.line.TheConstants.{MAX_LINE}
 use Rattle.sysv_clients.specs.Table.{row_line, table_head}
 use Rattle.sysv_clients.specs.Talk.{Exchange}
-use Rattle.sysv_wire.specs.declared.reply.Outcome.{Outcome}
-use Rattle.sysv_wire.specs.declared.reply.Outcome.TheVariants.{Refused, Hello, HelloSlots, Get, Snd, Rcv, Stat, Set, Rm, Row}
+use Rattle.sysv_wire.specs.declared.reply.ReplyContent.{ReplyContent}
+use Rattle.sysv_wire.specs.declared.reply.ReplyContent.TheVariants.{Refused, Hello, HelloSlots, Get, Snd, Rcv, Stat, Set, Rm, Row}
 
 -- What a result adds to what is shown: for a row with a queue its line, and for a message its body
 -- and an LF.
-abbrev pub answer_text : Outcome → List ℕ → List ℕ
+abbrev pub answer_text : ReplyContent → List ℕ → List ℕ
 answer_text (Row (Some row)) given = row_line row
 answer_text (Rcv mtype) given = given ++ 10 ∷ []
 answer_text (Row None) given = []
@@ -35,7 +35,7 @@ abbrev pub page_text : Task → List Exchange → List ℕ
 page_text task exchanges = task_head task ++ flat_map (λ exchange. answer_text exchange.answer exchange.given) exchanges
 
 -- The maximum number of bytes that a result adds.
-abbrev pub answer_most : Outcome → ℕ
+abbrev pub answer_most : ReplyContent → ℕ
 answer_most (Rcv mtype) = 8193
 answer_most (Row row) = MAX_LINE
 answer_most (Refused error) = MAX_LINE

@@ -8,13 +8,13 @@ use Rattle.sysv_clients.specs.declared.fault.ClientFault.TheVariants as fault
 use Rattle.sysv_clients.specs.Asks.{asks_of, request_of, text_of}
 use Rattle.sysv_wire.specs.declared.fault.Fault.{Fault}
 use Rattle.sysv_wire.specs.declared.frame.Version.TheVariants.{Two}
-use Rattle.sysv_wire.specs.declared.reply.Outcome.{Outcome}
-use Rattle.sysv_wire.specs.declared.reply.Outcome.TheVariants.{Refused, Hello, HelloSlots, Get, Snd, Rcv, Stat, Set, Rm, Row}
+use Rattle.sysv_wire.specs.declared.reply.ReplyContent.{ReplyContent}
+use Rattle.sysv_wire.specs.declared.reply.ReplyContent.TheVariants.{Refused, Hello, HelloSlots, Get, Snd, Rcv, Stat, Set, Rm, Row}
 use Rattle.sysv_wire.specs.declared.reply.Reply.{Reply}
 use Rattle.sysv_wire.specs.declared.request.Ask.{Ask}
 use Rattle.sysv_wire.specs.Faults.{Faults}
 use Rattle.sysv_wire.specs.Frames.{op_number}
-use Rattle.sysv_wire.specs.Replies.{FitsReply, error_number, outcome_text, reply_spelling}
+use Rattle.sysv_wire.specs.Replies.{FitsReply, error_number, content_text, reply_spelling}
 use Rattle.sysv_wire.specs.ReplyFaults.{ReplyFault}
 use Rattle.sysv_wire.specs.Requests.{op_of, request_spelling}
 use Rattle.sysv_model.specs.Writing.{AppendsPrefix}
@@ -22,17 +22,17 @@ use Rattle.sysv_model.specs.Writing.{AppendsPrefix}
 -- A request, and the result in its reply with the body.
 pub record Exchange : Type 0 where
   pub ask : Ask
-  pub answer : Outcome
+  pub answer : ReplyContent
   pub given : List ℕ
 
 -- The reply to a request with this result, in the version that clients use.
-abbrev pub reply_to : Ask → Outcome → Reply
+abbrev pub reply_to : Ask → ReplyContent → Reply
 reply_to ask answer = record { version = Two; op = op_number (op_of ask); result = answer }
 
 -- The request was done: the result is one that the operation may have, and is no error.
-pub record IsDone (ask : Ask) (answer : Outcome) (given : List ℕ) : Type 0 where
+pub record IsDone (ask : Ask) (answer : ReplyContent) (given : List ℕ) : Type 0 where
   pub fits : FitsReply (reply_to ask answer) given
-  pub text : given ≡ outcome_text answer given
+  pub text : given ≡ content_text answer given
   pub done : error_number answer ≡ 0
 
 -- The frame of a request. That of a send has the command's body.
@@ -48,7 +48,7 @@ abbrev pub answered_spelling : List Exchange → List ℕ
 answered_spelling exchanges = flat_map (λ exchange. reply_spelling (reply_to exchange.ask exchange.answer) exchange.given) exchanges
 
 -- The identifier that the last msgget returned, 0 before one.
-abbrev pub id_after : ℤ → Outcome → ℤ
+abbrev pub id_after : ℤ → ReplyContent → ℤ
 id_after found (Get id) = id
 id_after found (Refused error) = found
 id_after found Hello = found
@@ -61,7 +61,7 @@ id_after found Rm = found
 id_after found (Row row) = found
 
 -- The number of slots that the reply to the hello states, 0 before it.
-abbrev pub slots_after : ℕ → Outcome → ℕ
+abbrev pub slots_after : ℕ → ReplyContent → ℕ
 slots_after slots (HelloSlots told) = told
 slots_after slots (Refused error) = slots
 slots_after slots Hello = slots
@@ -108,7 +108,7 @@ HasNoReply ask left rest =
     ⊎ ((reply : Reply) × (text : List ℕ) × FitsReply reply text × IsOther ask reply × Consumes left rest (reply_spelling reply text))
 
 -- What was read as the reply to a request.
-abbrev pub Hears : Ask → Result Outcome ClientFault → (left rest : Option (List ℕ)) → List ℕ → Type 0
+abbrev pub Hears : Ask → Result ReplyContent ClientFault → (left rest : Option (List ℕ)) → List ℕ → Type 0
 Hears ask (Ok answer) left rest given = Consumes left rest (reply_spelling (reply_to ask answer) given) × IsDone ask answer given
 Hears ask (Err (fault.Refused error)) left rest given = Consumes left rest (reply_spelling (reply_to ask (Refused error)) [])
 Hears ask (Err fault.NoReply) left rest given = HasNoReply ask left rest
@@ -119,7 +119,7 @@ abbrev pub IsUnwritten : List ℕ → (left rest taken more : Option (List ℕ))
 IsUnwritten frame left rest taken more = AppendsPrefix taken more frame × (rest ≡ left)
 
 -- A request was written and its reply read, or there is no reply to it.
-abbrev pub Exchanges : List ℕ → Ask → Result Outcome ClientFault → (left rest taken more : Option (List ℕ)) → List ℕ → Type 0
+abbrev pub Exchanges : List ℕ → Ask → Result ReplyContent ClientFault → (left rest taken more : Option (List ℕ)) → List ℕ → Type 0
 Exchanges frame ask (Ok answer) left rest taken more given = Appends taken more frame × Hears ask (Ok answer) left rest given
 Exchanges frame ask (Err (fault.Refused error)) left rest taken more given = Appends taken more frame × Hears ask (Err (fault.Refused error)) left rest given
 Exchanges frame ask (Err fault.NoReply) left rest taken more given =
@@ -132,7 +132,7 @@ BreaksOff command exchanges why left rest taken more =
     (ask : Ask) × (next_ask command exchanges ≡ Some ask) × Exchanges (ask_spelling command ask) ask (Err why) left rest taken more []
 
 -- The result is a row with a queue.
-abbrev pub is_row : Outcome → Bool
+abbrev pub is_row : ReplyContent → Bool
 is_row (Row (Some row)) = true
 is_row (Row None) = false
 is_row (Rcv mtype) = false

@@ -17,7 +17,7 @@ use crate::screen::show;
 use std::alloc::Global;
 use std::io::{Read, Write};
 use sysv_model::{Body, NoMemory, Watched};
-use sysv_wire::{Outcome, one_answer_to_replies, one_reply};
+use sysv_wire::{ReplyContent, one_answer_to_replies, one_reply};
 
 /// Runs a command against a server, and shows the result on `screen`. Returns the exit status: 0 if
 /// everything was done and shown, otherwise 1.
@@ -137,21 +137,21 @@ fn show_fault<S: Write>(screen: &mut S, fault: ClientFault) -> i32
 }
 
 /// Returns the identifier that the last `msgget` returned, after one more result.
-fn found(id: i32, answer: &Outcome) -> i32
+fn found(id: i32, answer: &ReplyContent) -> i32
     ensures { result ≡ id_after id answer.now }
 {
     match answer {
-        Outcome::Get { id: found } => *found,
+        ReplyContent::Get { id: found } => *found,
         _ => id,
     }
 }
 
 /// Returns the number of slots that the reply to the hello states, after one more result.
-fn told_slots(slots: u32, answer: &Outcome) -> u32
+fn told_slots(slots: u32, answer: &ReplyContent) -> u32
     ensures { result ≡ slots_after slots answer.now }
 {
     match answer {
-        Outcome::HelloSlots { slots: told } => *told,
+        ReplyContent::HelloSlots { slots: told } => *told,
         _ => slots,
     }
 }

@@ -11,7 +11,7 @@ ghost use Rattle.sysv_wire.specs.Requests.{request_spelling};
 use crate::fault::ClientFault;
 use std::io::{Read, Write};
 use sysv_model::{Body, Watched};
-use sysv_wire::{Ask, Outcome, Request, Version, WriteFault, read_reply, write_request};
+use sysv_wire::{Ask, ReplyContent, Request, Version, WriteFault, read_reply, write_request};
 
 /// The version in which clients write their requests.
 const SPOKEN: Version = Version::Two;
@@ -24,7 +24,7 @@ pub(crate) fn exchange<R: Read, W: Write>(
     ask: Ask,
     text: &Body,
     given: &mut Body,
-) -> Result<Outcome, ClientFault>
+) -> Result<ReplyContent, ClientFault>
     ensures exchanges { Exchanges (request_spelling (request_of ask) text.now) ask result
         (R.remaining (stream_of reader.old)) (R.remaining (stream_of reader.new))
         (W.contents (stream_of writer.old)) (W.contents (stream_of writer.new)) given.new }
@@ -66,7 +66,7 @@ fn hear<R: Read>(
     reader: &mut Watched<'_, R>,
     ask: Ask,
     given: &mut Body,
-) -> Result<Outcome, ClientFault>
+) -> Result<ReplyContent, ClientFault>
     ensures hears { Hears ask result (R.remaining (stream_of reader.old))
         (R.remaining (stream_of reader.new)) given.new }
     ensures same { stream_name reader.new ≡ stream_name reader.old }
@@ -76,7 +76,7 @@ fn hear<R: Read>(
     match read_reply(reader, given) {
         Ok(Some(reply)) if reply.version == SPOKEN && reply.op == ask.op().number() =>
             match reply.result {
-                Outcome::Refused(error) => Err(ClientFault::Refused(error)),
+                ReplyContent::Refused(error) => Err(ClientFault::Refused(error)),
                 answer => Ok(answer),
             },
         _ => Err(ClientFault::NoReply),

@@ -11,7 +11,7 @@ use crate::line::Line;
 use std::alloc::Global;
 use std::marker::Model;
 use sysv_model::{BLOCK_BYTES, Body, NoMemory, Row};
-use sysv_wire::Outcome;
+use sysv_wire::ReplyContent;
 
 /// The number of bytes that a page has space for from the start: a message of the maximum size with
 /// its LF, and 179 bytes before it.
@@ -86,7 +86,7 @@ impl Page {
 
     /// Appends what a result adds to the page: the line of a row, or a message and its LF. Fails
     /// with `NoMemory` if memory for the line is refused.
-    pub(crate) fn tell(&mut self, answer: &Outcome, given: &Body) -> Result<(), NoMemory>
+    pub(crate) fn tell(&mut self, answer: &ReplyContent, given: &Body) -> Result<(), NoMemory>
         requires text { length given.now ≤ MESSAGE_BYTES }
         requires room { gives_text answer.now ≡ true →
             length self.old + MESSAGE_BYTES + 1 ≤ PAGE_ROOM }
@@ -95,8 +95,8 @@ impl Page {
         ensures row { OnErr result (is_row answer.now ≡ true) }
     {
         match answer {
-            Outcome::Row(Some(row)) => self.row(row),
-            Outcome::Rcv { .. } => {
+            ReplyContent::Row(Some(row)) => self.row(row),
+            ReplyContent::Rcv { .. } => {
                 self.message(given);
                 Ok(())
             }

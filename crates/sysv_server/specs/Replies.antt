@@ -10,28 +10,28 @@ use Rattle.sysv_session.specs.declared.kernel.Outcome.TheVariants.{Reply, Got}
 use Rattle.sysv_wire.specs.declared.frame.Op.{Op}
 use Rattle.sysv_wire.specs.declared.frame.Op.TheVariants as op
 use Rattle.sysv_wire.specs.declared.frame.Version.{Version}
-use Rattle.sysv_wire.specs.declared.reply.Outcome.{Outcome as Told}
-use Rattle.sysv_wire.specs.declared.reply.Outcome.TheVariants as told
+use Rattle.sysv_wire.specs.declared.reply.ReplyContent.{ReplyContent}
+use Rattle.sysv_wire.specs.declared.reply.ReplyContent.TheVariants as content
 use Rattle.sysv_wire.specs.Frames.{op_number}
 
 -- The reply of an operation, in the version of its request.
-abbrev pub reply : Version → Op → Told → Outcome
+abbrev pub reply : Version → Op → ReplyContent → Outcome
 reply version o answer = Reply (record { version = version; op = op_number o; result = answer })
 
 -- The reply with an identifier or an error.
 abbrev pub id_reply : Version → Result ℤ Errno → Outcome
-id_reply version (Ok id) = reply version op.Get (told.Get id)
-id_reply version (Err why) = reply version op.Get (told.Refused why)
+id_reply version (Ok id) = reply version op.Get (content.Get id)
+id_reply version (Err why) = reply version op.Get (content.Refused why)
 
 -- The reply that the operation was done, or the reply with an error.
-abbrev pub done_reply : Version → Op → Told → Result ⊤ Errno → Outcome
+abbrev pub done_reply : Version → Op → ReplyContent → Result ⊤ Errno → Outcome
 done_reply version o done (Ok zero) = reply version o done
-done_reply version o done (Err why) = reply version o (told.Refused why)
+done_reply version o done (Err why) = reply version o (content.Refused why)
 
 -- The outcome of a receive: its message is passed on, and an error is a reply.
 abbrev pub given_reply : Version → Result Given Errno → Outcome
 given_reply version (Ok delivery) = Got delivery
-given_reply version (Err why) = reply version op.Rcv (told.Refused why)
+given_reply version (Err why) = reply version op.Rcv (content.Refused why)
 
 -- The attributes with only the low nine bits of the mode.
 abbrev pub shown_stat : Attributes → Attributes
@@ -39,8 +39,8 @@ shown_stat stat = record stat { perm = record stat.perm { mode = low_nine stat.p
 
 -- The reply with attributes or an error.
 abbrev pub stat_reply : Version → Result Attributes Errno → Outcome
-stat_reply version (Ok stat) = reply version op.Stat (told.Stat (shown_stat stat))
-stat_reply version (Err why) = reply version op.Stat (told.Refused why)
+stat_reply version (Ok stat) = reply version op.Stat (content.Stat (shown_stat stat))
+stat_reply version (Err why) = reply version op.Stat (content.Refused why)
 
 -- The row with only the low nine bits of the mode.
 abbrev pub shown_row : Line → Line
@@ -48,5 +48,5 @@ shown_row row = record row { mode = low_nine row.mode }
 
 -- The reply with a row, with the report that the slot has no queue, or with an error.
 abbrev pub row_reply : Version → Result (Option Line) Errno → Outcome
-row_reply version (Ok row) = reply version op.Row (told.Row (option_map shown_row row))
-row_reply version (Err why) = reply version op.Row (told.Refused why)
+row_reply version (Ok row) = reply version op.Row (content.Row (option_map shown_row row))
+row_reply version (Err why) = reply version op.Row (content.Refused why)

@@ -17,7 +17,7 @@ use Rattle.sysv_steps.specs.Call.{SystemCall, Msgget, Msgsnd, Msgrcv, MsgctlStat
 use Rattle.sysv_steps.specs.State.{Ending, State, Wait, Waits, Over}
 use Rattle.sysv_wire.specs.declared.frame.Op.TheVariants as op
 use Rattle.sysv_wire.specs.declared.frame.Version.{Version}
-use Rattle.sysv_wire.specs.declared.reply.Outcome.TheVariants as told
+use Rattle.sysv_wire.specs.declared.reply.ReplyContent.TheVariants as content
 use Rattle.sysv_wire.specs.declared.request.Ask.{Ask}
 use Rattle.sysv_wire.specs.declared.request.Ask.TheVariants.{Hello, Get, Snd, Rcv, Stat, Set, Rm, Row}
 use Rattle.sysv_server.specs.Replies.{reply, id_reply, done_reply, given_reply, stat_reply, row_reply}
@@ -48,13 +48,13 @@ module _ {K : Type 0} (Comes : Going K) (ReadsReleased : ℕ → K → K → Typ
   abbrev pub SendIsOver : (ℕ → Type 0) → Version → Cred → ℤ → ℤ → Flags → List ℕ → ℕ → K → Outcome → K → Type 0
   SendIsOver may version cred id mtype flags text released mid outcome after = (answer : Result ⊤ Errno) × (ending : Ending)
       × Ends may cred (Msgsnd id mtype flags text) released mid ending after × TellsZero ending answer
-      × (outcome ≡ done_reply version op.Snd told.Snd answer)
+      × (outcome ≡ done_reply version op.Snd content.Snd answer)
 
   -- The caller left a `msgsnd` while it waited, and the outcome is the reply of `IPC_NOWAIT`.
   abbrev pub SendIsLeft : (ℕ → Type 0) → Type 0 → Version → Cred → ℤ → ℤ → Flags → List ℕ → ℕ → K → Outcome → K → Type 0
   SendIsLeft may may_leave version cred id mtype flags text released mid outcome after =
       IsLeft may_leave may cred (Msgsnd id mtype flags text) released mid after
-      × (outcome ≡ reply version op.Snd (told.Refused EAGAIN))
+      × (outcome ≡ reply version op.Snd (content.Refused EAGAIN))
 
   -- A `msgsnd` read the released count at its start, and then ended or was left.
   abbrev pub Sends : (ℕ → Type 0) → Type 0 → Version → Cred → ℤ → ℤ → Flags → List ℕ → K → Outcome → K → Type 0
@@ -75,7 +75,7 @@ module _ {K : Type 0} (Comes : Going K) (ReadsReleased : ℕ → K → K → Typ
   abbrev pub ReceiveIsLeft : (ℕ → Type 0) → Type 0 → Version → Cred → ℤ → ℕ → ℤ → Flags → K → Outcome → List ℕ → K → Type 0
   ReceiveIsLeft may may_leave version cred id size mtype flags before outcome given after =
       IsLeft may_leave may cred (Msgrcv id size mtype flags) 0 before after
-      × (given ≡ []) × (outcome ≡ reply version op.Rcv (told.Refused ENOMSG))
+      × (given ≡ []) × (outcome ≡ reply version op.Rcv (content.Refused ENOMSG))
 
   -- A `msgrcv` ended or was left.
   abbrev pub Receives : (ℕ → Type 0) → Type 0 → Version → Cred → ℤ → ℕ → ℤ → Flags → K → Outcome → List ℕ → K → Type 0
@@ -92,14 +92,14 @@ module _ {K : Type 0} (Comes : Going K) (ReadsReleased : ℕ → K → K → Typ
   -- A `msgctl` with `IPC_SET` ended, and the outcome is the reply with its result.
   abbrev pub Sets : (ℕ → Type 0) → Version → Cred → ℤ → SetTo → K → Outcome → K → Type 0
   Sets may version cred id to before outcome after = (answer : Result ⊤ Errno) × (ending : Ending)
-      × Ends may cred (MsgctlSet id to) 0 before ending after × TellsZero ending answer × (outcome ≡ done_reply version op.Set told.Set answer)
+      × Ends may cred (MsgctlSet id to) 0 before ending after × TellsZero ending answer × (outcome ≡ done_reply version op.Set content.Set answer)
 
   -- A `msgctl` with `IPC_RMID` ended, and the outcome is the reply with its result. Its steps have
   -- no time.
   abbrev pub Removes : Version → Cred → ℤ → K → Outcome → K → Type 0
   Removes version cred id before outcome after = (answer : Result ⊤ Errno) × (ending : Ending)
       × Ends no_moment cred (MsgctlRmid id) 0 before ending after × TellsZero ending answer
-      × (outcome ≡ done_reply version op.Rm told.Rm answer)
+      × (outcome ≡ done_reply version op.Rm content.Rm answer)
 
   -- The row of a slot was requested, and the outcome is the reply with the result.
   abbrev pub Shows : Version → ℕ → K → Outcome → K → Type 0

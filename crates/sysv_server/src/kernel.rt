@@ -14,7 +14,7 @@ use sysv_keys::SLOTS;
 use sysv_model::{Body, Cred, Errno, Flags, Row, SetTo, Stat};
 use sysv_service::{Caller, Clock, Pass, Service, Stays};
 use sysv_session::{End, Kernel, Outcome, Served, Texts, serve, serve_with};
-use sysv_wire::{Ask, MAX_MODE, Op, Outcome as Told, Reply, Request, Version};
+use sysv_wire::{Ask, MAX_MODE, Op, Reply, ReplyContent, Request, Version};
 
 /// The kernel of one session over a service. Each request, except one for a row, is one call of the
 /// service.
@@ -164,8 +164,8 @@ impl<'a, C: Clock, R: Wait, K: Caller + Copy> ServiceKernel<'a, C, R, K> {
             .service
             .msgget(self.rt, &mut self.pass, self.clock, cred, key, flags);
         match told {
-            Ok(id) => reply(version, Op::Get, Told::Get { id }),
-            Err(why) => reply(version, Op::Get, Told::Refused(why)),
+            Ok(id) => reply(version, Op::Get, ReplyContent::Get { id }),
+            Err(why) => reply(version, Op::Get, ReplyContent::Refused(why)),
         }
     }
 
@@ -193,11 +193,11 @@ impl<'a, C: Clock, R: Wait, K: Caller + Copy> ServiceKernel<'a, C, R, K> {
             self.rt, pass, self.clock, caller, cred, id, mtype, text, flags,
         );
         let Some(told) = told else {
-            return reply(version, Op::Snd, Told::Refused(Errno::EAGAIN));
+            return reply(version, Op::Snd, ReplyContent::Refused(Errno::EAGAIN));
         };
         match told {
-            Ok(()) => reply(version, Op::Snd, Told::Snd),
-            Err(why) => reply(version, Op::Snd, Told::Refused(why)),
+            Ok(()) => reply(version, Op::Snd, ReplyContent::Snd),
+            Err(why) => reply(version, Op::Snd, ReplyContent::Refused(why)),
         }
     }
 
@@ -226,11 +226,11 @@ impl<'a, C: Clock, R: Wait, K: Caller + Copy> ServiceKernel<'a, C, R, K> {
             self.rt, pass, self.clock, caller, cred, id, given, size, mtype, flags,
         );
         let Some(told) = told else {
-            return reply(version, Op::Rcv, Told::Refused(Errno::ENOMSG));
+            return reply(version, Op::Rcv, ReplyContent::Refused(Errno::ENOMSG));
         };
         match told {
             Ok(delivery) => Outcome::Got(delivery),
-            Err(why) => reply(version, Op::Rcv, Told::Refused(why)),
+            Err(why) => reply(version, Op::Rcv, ReplyContent::Refused(why)),
         }
     }
 
@@ -244,8 +244,8 @@ impl<'a, C: Clock, R: Wait, K: Caller + Copy> ServiceKernel<'a, C, R, K> {
     {
         let told = self.service.msgctl_stat(self.rt, &mut self.pass, cred, id);
         match told {
-            Ok(stat) => reply(version, Op::Stat, Told::Stat(shown_stat(stat))),
-            Err(why) => reply(version, Op::Stat, Told::Refused(why)),
+            Ok(stat) => reply(version, Op::Stat, ReplyContent::Stat(shown_stat(stat))),
+            Err(why) => reply(version, Op::Stat, ReplyContent::Refused(why)),
         }
     }
 
@@ -262,8 +262,8 @@ impl<'a, C: Clock, R: Wait, K: Caller + Copy> ServiceKernel<'a, C, R, K> {
             .service
             .msgctl_set(self.rt, &mut self.pass, self.clock, cred, id, to);
         match told {
-            Ok(()) => reply(version, Op::Set, Told::Set),
-            Err(why) => reply(version, Op::Set, Told::Refused(why)),
+            Ok(()) => reply(version, Op::Set, ReplyContent::Set),
+            Err(why) => reply(version, Op::Set, ReplyContent::Refused(why)),
         }
     }
 
@@ -277,8 +277,8 @@ impl<'a, C: Clock, R: Wait, K: Caller + Copy> ServiceKernel<'a, C, R, K> {
     {
         let told = self.service.msgctl_rmid(self.rt, &mut self.pass, cred, id);
         match told {
-            Ok(()) => reply(version, Op::Rm, Told::Rm),
-            Err(why) => reply(version, Op::Rm, Told::Refused(why)),
+            Ok(()) => reply(version, Op::Rm, ReplyContent::Rm),
+            Err(why) => reply(version, Op::Rm, ReplyContent::Refused(why)),
         }
     }
 
@@ -292,9 +292,9 @@ impl<'a, C: Clock, R: Wait, K: Caller + Copy> ServiceKernel<'a, C, R, K> {
     {
         let told = self.service.list_row(self.rt, &mut self.pass, slot);
         match told {
-            Ok(Some(row)) => reply(version, Op::Row, Told::Row(Some(shown_row(row)))),
-            Ok(None) => reply(version, Op::Row, Told::Row(None)),
-            Err(why) => reply(version, Op::Row, Told::Refused(why)),
+            Ok(Some(row)) => reply(version, Op::Row, ReplyContent::Row(Some(shown_row(row)))),
+            Ok(None) => reply(version, Op::Row, ReplyContent::Row(None)),
+            Err(why) => reply(version, Op::Row, ReplyContent::Refused(why)),
         }
     }
 }
@@ -337,13 +337,13 @@ impl<C: Clock, R: Wait, K: Caller + Copy> Kernel for ServiceKernel<'_, C, R, K> 
 }
 
 /// Returns the reply of an operation, in the version of its request.
-fn reply(version: Version, op: Op, told: Told) -> Outcome
-    ensures { result ≡ the_reply version op told }
+fn reply(version: Version, op: Op, content: ReplyContent) -> Outcome
+    ensures { result ≡ the_reply version op content }
 {
     Outcome::Reply(Reply {
         version,
         op: op.number(),
-        result: told,
+        result: content,
     })
 }
 

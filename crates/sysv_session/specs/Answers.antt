@@ -6,7 +6,7 @@ use Rattle.sysv_session.specs.declared.kernel.Outcome.{Outcome}
 use Rattle.sysv_session.specs.declared.kernel.Outcome.TheVariants.{Reply, Got}
 use Rattle.sysv_wire.specs.declared.frame.Op.TheVariants as op
 use Rattle.sysv_wire.specs.declared.frame.Version.{Version}
-use Rattle.sysv_wire.specs.declared.reply.Outcome.TheVariants.{Rcv}
+use Rattle.sysv_wire.specs.declared.reply.ReplyContent.TheVariants.{Rcv}
 use Rattle.sysv_wire.specs.declared.reply.Reply.{Reply as Answer}
 use Rattle.sysv_wire.specs.declared.request.Ask.{Ask}
 use Rattle.sysv_wire.specs.declared.request.Request.{Request}

@@ -11,21 +11,21 @@ use Rattle.sysv_session.specs.Calls.{Call, messages_of}
 use Rattle.sysv_wire.specs.declared.frame.Op.TheVariants as op
 use Rattle.sysv_wire.specs.declared.frame.Version.{Version}
 use Rattle.sysv_wire.specs.declared.frame.Version.TheVariants.{One, Two}
-use Rattle.sysv_wire.specs.declared.reply.Outcome.{Outcome}
-use Rattle.sysv_wire.specs.declared.reply.Outcome.TheVariants.{Hello, HelloSlots}
+use Rattle.sysv_wire.specs.declared.reply.ReplyContent.{ReplyContent}
+use Rattle.sysv_wire.specs.declared.reply.ReplyContent.TheVariants.{Hello, HelloSlots}
 use Rattle.sysv_wire.specs.declared.reply.Reply.{Reply}
 use Rattle.sysv_wire.specs.Frames.{op_number}
 use Rattle.sysv_wire.specs.Replies.{reply_spelling}
 use Rattle.sysv_model.specs.Writing.{AppendsPrefix}
 
--- The outcome of a hello of this version, with this number of slots.
-abbrev pub hello_outcome : Version → ℕ → Outcome
-hello_outcome One slots = Hello
-hello_outcome Two slots = HelloSlots slots
+-- The result of a hello of this version, with this number of slots.
+abbrev pub hello_content : Version → ℕ → ReplyContent
+hello_content One slots = Hello
+hello_content Two slots = HelloSlots slots
 
 -- The reply to a hello of this version, with this number of slots.
 abbrev pub hello_reply : Version → ℕ → Reply
-hello_reply version slots = record { version = version; op = op_number op.Hello; result = hello_outcome version slots }
+hello_reply version slots = record { version = version; op = op_number op.Hello; result = hello_content version slots }
 
 -- The frame of the reply to a hello.
 abbrev pub hello_frame : Version → ℕ → List ℕ

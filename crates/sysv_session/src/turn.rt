@@ -19,7 +19,7 @@ use std::io::{Read, Write};
 use sysv_model::{Body, Cred, Watched};
 use sysv_queue::{Delivery, Tally};
 use sysv_wire::{
-    Ask, Fault, Op, Outcome as Told, Reply, Request, Version, WriteFault, read_request, write_reply,
+    Ask, Fault, Op, Reply, ReplyContent, Request, Version, WriteFault, read_request, write_reply,
 };
 
 /// Reads the first request. Returns the version and the credentials of the hello.
@@ -52,8 +52,8 @@ pub(crate) fn hello_reply(version: Version, slots: u32) -> Reply
     ensures answer { IsAnswer result.version result.op result.result }
 {
     let result = match version {
-        Version::One => Told::Hello,
-        Version::Two => Told::HelloSlots { slots },
+        Version::One => ReplyContent::Hello,
+        Version::Two => ReplyContent::HelloSlots { slots },
     };
     Reply {
         version,
@@ -116,7 +116,7 @@ fn message_reply(version: Version, delivery: &Delivery) -> Reply
     Reply {
         version,
         op: Op::Rcv.number(),
-        result: Told::Rcv {
+        result: ReplyContent::Rcv {
             mtype: delivery.mtype(),
         },
     }

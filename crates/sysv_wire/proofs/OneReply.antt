@@ -4,18 +4,18 @@ use Rattle.std.specs.Prelude.{ℤ}
 use Rattle.sysv_model.specs.Errors.{number_of}
 use Rattle.sysv_model.specs.declared.attributes.Perm.{Perm}
 use Rattle.sysv_model.specs.declared.attributes.Row.{Row as Line}
-use Rattle.sysv_model.specs.declared.attributes.Stat.{Stat as Told}
+use Rattle.sysv_model.specs.declared.attributes.Stat.{Stat as Attributes}
 use Rattle.sysv_model.specs.declared.errno.Errno.{Errno}
 use Rattle.sysv_model.specs.declared.errno.Errno.TheVariants.{EPERM, ENOENT, E2BIG, EAGAIN, EACCES, EEXIST, EINVAL, ENOSPC, ENOMSG, EIDRM, EOVERFLOW}
 use Rattle.sysv_wire.specs.declared.frame.Version.{Version}
 use Rattle.sysv_wire.specs.declared.frame.Version.TheVariants.{One, Two}
 use Rattle.sysv_wire.specs.Frames.{version_number}
-use Rattle.sysv_wire.specs.declared.reply.Outcome.{Outcome}
-use Rattle.sysv_wire.specs.declared.reply.Outcome.TheVariants.{Refused, Hello, HelloSlots, Get, Snd, Rcv, Stat, Set, Rm, Row}
+use Rattle.sysv_wire.specs.declared.reply.ReplyContent.{ReplyContent}
+use Rattle.sysv_wire.specs.declared.reply.ReplyContent.TheVariants.{Refused, Hello, HelloSlots, Get, Snd, Rcv, Stat, Set, Rm, Row}
 use Rattle.sysv_wire.specs.declared.reply.Reply.{Reply}
 use Rattle.sysv_wire.specs.Numbers.{u16_bytes, u32_bytes, u64_bytes, i32_bytes, i64_bytes}
 use Rattle.sysv_wire.specs.OneSpelling.{OneReply}
-use Rattle.sysv_wire.specs.Replies.{FitsPerm, FitsStat, FitsRow, FitsOutcome, IsAnswer, error_number, perm_fields, count_fields, time_fields, stat_fields, row_fields, outcome_fields, outcome_text, gives_text}
+use Rattle.sysv_wire.specs.Replies.{FitsPerm, FitsStat, FitsRow, FitsContent, IsAnswer, error_number, perm_fields, count_fields, time_fields, stat_fields, row_fields, content_fields, content_text, gives_text}
 use Rattle.sysv_wire.proofs.OneRequest.{version_same}
 use Rattle.sysv_wire.proofs.Apart.{fronts_alike, rests_alike, frames_alike, u16_same, u32_same, u64_same, u16_step, u32_step, u64_step, i32_step, i64_step}
 
@@ -57,7 +57,7 @@ some_error EOVERFLOW h = omega (arith, h)
 abbrev perm : ℕ → ℕ → ℕ → ℕ → ℕ → Perm
 perm u g c d m = record { uid = u; gid = g; cuid = c; cgid = d; mode = m }
 
-abbrev told : ℤ → Perm → ℕ → ℕ → ℕ → ℕ → ℕ → ℕ → ℕ → ℕ → Told
+abbrev told : ℤ → Perm → ℕ → ℕ → ℕ → ℕ → ℕ → ℕ → ℕ → ℕ → Attributes
 told k p cb qn qb ls lr st rt ct = record { key = k; perm = p; cbytes = cb; qnum = qn; qbytes = qb; lspid = ls; lrpid = lr; stime = st; rtime = rt; ctime = ct }
 
 abbrev line : ℤ → ℤ → ℕ → ℕ → ℕ → ℕ → Line
@@ -67,7 +67,7 @@ length-perm_fields : (p q : Perm) → length (perm_fields p) ≡ length (perm_fi
 unfolding perm_fields u32_bytes u16_bytes
 length-perm_fields p q = refl
 
-length-count_fields : (s t : Told) → length (count_fields s) ≡ length (count_fields t)
+length-count_fields : (s t : Attributes) → length (count_fields s) ≡ length (count_fields t)
 unfolding count_fields u32_bytes
 length-count_fields s t = refl
 
@@ -82,14 +82,14 @@ perm_same a b p q e =
     ap (λ n. perm n a.gid a.cuid a.cgid a.mode) v.0 ∙ ap (λ n. perm b.uid n a.cuid a.cgid a.mode) w.0 ∙ ap (λ n. perm b.uid b.gid n a.cgid a.mode) x.0
     ∙ ap (λ n. perm b.uid b.gid b.cuid n a.mode) y.0 ∙ ap (λ n. perm b.uid b.gid b.cuid b.cgid n) z
 
-record Counts (s t : Told) : Type 0 where
+record Counts (s t : Attributes) : Type 0 where
   cbytes : s.cbytes ≡ t.cbytes
   qnum : s.qnum ≡ t.qnum
   qbytes : s.qbytes ≡ t.qbytes
   lspid : s.lspid ≡ t.lspid
   lrpid : s.lrpid ≡ t.lrpid
 
-counts_same : (s t : Told) → FitsStat s → FitsStat t → count_fields s ≡ count_fields t → Counts s t
+counts_same : (s t : Attributes) → FitsStat s → FitsStat t → count_fields s ≡ count_fields t → Counts s t
 unfolding count_fields
 counts_same s t p q e =
     let v = u32_step s.cbytes t.cbytes _ _ p.cbytes q.cbytes e in
@@ -98,19 +98,19 @@ counts_same s t p q e =
     let y = u32_step s.lspid t.lspid _ _ p.lspid q.lspid x.1 in
     record { cbytes = v.0; qnum = w.0; qbytes = x.0; lspid = y.0; lrpid = u32_same s.lrpid t.lrpid p.lrpid q.lrpid y.1 }
 
-record Times (s t : Told) : Type 0 where
+record Times (s t : Attributes) : Type 0 where
   stime : s.stime ≡ t.stime
   rtime : s.rtime ≡ t.rtime
   ctime : s.ctime ≡ t.ctime
 
-times_same : (s t : Told) → FitsStat s → FitsStat t → time_fields s ≡ time_fields t → Times s t
+times_same : (s t : Attributes) → FitsStat s → FitsStat t → time_fields s ≡ time_fields t → Times s t
 unfolding time_fields
 times_same s t p q e =
     let v = u64_step s.stime t.stime _ _ p.stime q.stime e in
     let w = u64_step s.rtime t.rtime _ _ p.rtime q.rtime v.1 in
     record { stime = v.0; rtime = w.0; ctime = u64_same s.ctime t.ctime p.ctime q.ctime w.1 }
 
-stat_same : (s t : Told) → FitsStat s → FitsStat t → stat_fields s ≡ stat_fields t → s ≡ t
+stat_same : (s t : Attributes) → FitsStat s → FitsStat t → stat_fields s ≡ stat_fields t → s ≡ t
 unfolding stat_fields
 stat_same s t p q e =
     let k = i32_step s.key t.key _ _ p.key q.key e in
@@ -148,38 +148,38 @@ row_number v n None h = h
 row_number v n (Some r) h = h.0
 
 -- A reply's operation, its error and the bytes after it determine the result and the body.
-outcome_same : (v : Version) (n : ℕ) (a b : Outcome) (text other : List ℕ) → IsAnswer v n a → IsAnswer v n b → FitsOutcome a → FitsOutcome b → error_number a ≡ error_number b
-    → outcome_fields a ++ outcome_text a text ≡ outcome_fields b ++ outcome_text b other → (a ≡ b) × (outcome_text a text ≡ outcome_text b other)
-outcome_same v n (Refused e) (Refused f) text other h k p q err same = (ap Refused (errno_same e f err), refl)
-outcome_same v n (Refused e) b text other h k p q err same = absurd (some_error e err)
-outcome_same v n a (Refused f) text other h k p q err same = absurd (some_error f (sym err))
-outcome_same v n Hello Hello text other h k p q err same = (refl, refl)
-outcome_same v n (HelloSlots i) (HelloSlots j) text other h k p q err same = (ap HelloSlots (u32_step i j [] [] p q same).0, refl)
-outcome_same v n Hello (HelloSlots j) text other h k p q err same = let both : One ≡ Two = sym h.0 ∙ k.0 in absurd cc
-outcome_same v n (HelloSlots i) Hello text other h k p q err same = let both : One ≡ Two = sym k.0 ∙ h.0 in absurd cc
-outcome_same v n (Get i) (Get j) text other h k p q err same = (ap Get (i32_step i j [] [] p q same).0, refl)
-outcome_same v n Snd Snd text other h k p q err same = (refl, refl)
-outcome_same v n (Rcv i) (Rcv j) text other h k p q err same = let s = i64_step i j text other p q same in (ap Rcv s.0, s.1)
-outcome_same v n (Stat s) (Stat t) text other h k p q err same =
+content_same : (v : Version) (n : ℕ) (a b : ReplyContent) (text other : List ℕ) → IsAnswer v n a → IsAnswer v n b → FitsContent a → FitsContent b → error_number a ≡ error_number b
+    → content_fields a ++ content_text a text ≡ content_fields b ++ content_text b other → (a ≡ b) × (content_text a text ≡ content_text b other)
+content_same v n (Refused e) (Refused f) text other h k p q err same = (ap Refused (errno_same e f err), refl)
+content_same v n (Refused e) b text other h k p q err same = absurd (some_error e err)
+content_same v n a (Refused f) text other h k p q err same = absurd (some_error f (sym err))
+content_same v n Hello Hello text other h k p q err same = (refl, refl)
+content_same v n (HelloSlots i) (HelloSlots j) text other h k p q err same = (ap HelloSlots (u32_step i j [] [] p q same).0, refl)
+content_same v n Hello (HelloSlots j) text other h k p q err same = let both : One ≡ Two = sym h.0 ∙ k.0 in absurd cc
+content_same v n (HelloSlots i) Hello text other h k p q err same = let both : One ≡ Two = sym k.0 ∙ h.0 in absurd cc
+content_same v n (Get i) (Get j) text other h k p q err same = (ap Get (i32_step i j [] [] p q same).0, refl)
+content_same v n Snd Snd text other h k p q err same = (refl, refl)
+content_same v n (Rcv i) (Rcv j) text other h k p q err same = let s = i64_step i j text other p q same in (ap Rcv s.0, s.1)
+content_same v n (Stat s) (Stat t) text other h k p q err same =
     (ap Stat (stat_same s t p q (sym (append-nil (stat_fields s)) ∙ same ∙ append-nil (stat_fields t))), refl)
-outcome_same v n Set Set text other h k p q err same = (refl, refl)
-outcome_same v n Rm Rm text other h k p q err same = (refl, refl)
-outcome_same v n (Row None) (Row None) text other h k p q err same = (refl, refl)
-outcome_same v n (Row (Some r)) (Row (Some s)) text other h k p q err same =
+content_same v n Set Set text other h k p q err same = (refl, refl)
+content_same v n Rm Rm text other h k p q err same = (refl, refl)
+content_same v n (Row None) (Row None) text other h k p q err same = (refl, refl)
+content_same v n (Row (Some r)) (Row (Some s)) text other h k p q err same =
     let tails : row_fields r ++ [] ≡ row_fields s ++ [] = cc (same) in
     (ap (λ x. Row (Some x)) (row_same r s p q (sym (append-nil (row_fields r)) ∙ tails ∙ append-nil (row_fields s))), refl)
-outcome_same v n (Row None) (Row (Some s)) text other h k p q err same =
+content_same v n (Row None) (Row (Some s)) text other h k p q err same =
     let marks : ◌≡◌ {A = ℕ} 0 1 = cc (same) in absurd (omega (arith, marks))
-outcome_same v n (Row (Some r)) (Row None) text other h k p q err same =
+content_same v n (Row (Some r)) (Row None) text other h k p q err same =
     let marks : ◌≡◌ {A = ℕ} 1 0 = cc (same) in absurd (omega (arith, marks))
-outcome_same v n (Row r) b text other h k p q err same = let w = row_number v n r h in absurd (omega (arith, w, k))
-outcome_same v n a (Row s) text other h k p q err same = let w = row_number v n s k in absurd (omega (arith, h, w))
-outcome_same v n a b text other h k p q err same = absurd (omega (arith, h, k))
+content_same v n (Row r) b text other h k p q err same = let w = row_number v n r h in absurd (omega (arith, w, k))
+content_same v n a (Row s) text other h k p q err same = let w = row_number v n s k in absurd (omega (arith, h, w))
+content_same v n a b text other h k p q err same = absurd (omega (arith, h, k))
 
-short_text : (a : Outcome) (text : List ℕ) → length text ≤ 8192 → length (outcome_text a text) ≤ 8192
+short_text : (a : ReplyContent) (text : List ℕ) → length text ≤ 8192 → length (content_text a text) ≤ 8192
 short_text a text h = elim (gives_text a) as (λ b. length (cond b text []) ≤ 8192) [ true ↦ h | false ↦ omega arith ]
 
-short_fields : (a : Outcome) → length (outcome_fields a) ≤ 66
+short_fields : (a : ReplyContent) → length (content_fields a) ≤ 66
 unfolding stat_fields perm_fields count_fields time_fields row_fields u16_bytes u32_bytes u64_bytes i32_bytes i64_bytes
 short_fields (Refused e) = omega arith
 short_fields Hello = omega arith
@@ -193,21 +193,21 @@ short_fields Rm = omega arith
 short_fields (Row None) = omega arith
 short_fields (Row (Some r)) = omega arith
 
-pub short_reply : (v : Version) (n : ℕ) (a : Outcome) (text : List ℕ) → length text ≤ 8192 → length (version_number v ∷ n ∷ error_number a ∷ (outcome_fields a ++ outcome_text a text)) < 2 ^ 32
+pub short_reply : (v : Version) (n : ℕ) (a : ReplyContent) (text : List ℕ) → length text ≤ 8192 → length (version_number v ∷ n ∷ error_number a ∷ (content_fields a ++ content_text a text)) < 2 ^ 32
 short_reply v n a text h =
-    omega (arith, length-append (outcome_fields a) (outcome_text a text), short_fields a, short_text a text h)
+    omega (arith, length-append (content_fields a) (content_text a text), short_fields a, short_text a text h)
 
-abbrev replied : Version → ℕ → Outcome → Reply
+abbrev replied : Version → ℕ → ReplyContent → Reply
 replied v n a = record { version = v; op = n; result = a }
 
 pub one_reply : OneReply
 one_reply a b text other behind rest p q e =
-    let f = frames_alike (version_number a.version ∷ a.op ∷ error_number a.result ∷ (outcome_fields a.result ++ outcome_text a.result text)) (version_number b.version ∷ b.op ∷ error_number b.result ∷ (outcome_fields b.result ++ outcome_text b.result other)) behind rest
+    let f = frames_alike (version_number a.version ∷ a.op ∷ error_number a.result ∷ (content_fields a.result ++ content_text a.result text)) (version_number b.version ∷ b.op ∷ error_number b.result ∷ (content_fields b.result ++ content_text b.result other)) behind rest
     (short_reply a.version a.op a.result text p.2) (short_reply b.version b.op b.result other q.2) e in
     let versions : a.version ≡ b.version = version_same a.version b.version (cc (f.0)) in
     let ops : a.op ≡ b.op = cc (f.0) in
     let errors : error_number a.result ≡ error_number b.result = cc (f.0) in
-    let contents : outcome_fields a.result ++ outcome_text a.result text ≡ outcome_fields b.result ++ outcome_text b.result other = cc (f.0) in
+    let contents : content_fields a.result ++ content_text a.result text ≡ content_fields b.result ++ content_text b.result other = cc (f.0) in
     let answers : IsAnswer a.version a.op b.result = subst (λ (n : ℕ). IsAnswer a.version n b.result) (sym ops) (subst (λ (v : Version). IsAnswer v b.op b.result) (sym versions) q.0) in
-    let same = outcome_same a.version a.op a.result b.result text other p.0 answers p.1 q.1 errors contents in
+    let same = content_same a.version a.op a.result b.result text other p.0 answers p.1 q.1 errors contents in
     (ap (λ (v : Version). replied v a.op a.result) versions ∙ ap (λ (n : ℕ). replied b.version n a.result) ops ∙ ap (λ x. replied b.version b.op x) same.0, same.1, f.1)

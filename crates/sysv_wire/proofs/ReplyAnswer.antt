@@ -13,14 +13,14 @@ use Rattle.sysv_wire.specs.declared.frame.Op.{Op}
 use Rattle.sysv_wire.specs.declared.frame.Op.TheVariants as op
 use Rattle.sysv_wire.specs.declared.frame.Version.{Version}
 use Rattle.sysv_wire.specs.declared.frame.Version.TheVariants.{One, Two}
-use Rattle.sysv_wire.specs.declared.reply.Outcome.{Outcome}
-use Rattle.sysv_wire.specs.declared.reply.Outcome.TheVariants.{Refused, Hello, HelloSlots, Get, Snd, Rcv, Stat, Set, Rm, Row}
+use Rattle.sysv_wire.specs.declared.reply.ReplyContent.{ReplyContent}
+use Rattle.sysv_wire.specs.declared.reply.ReplyContent.TheVariants.{Refused, Hello, HelloSlots, Get, Snd, Rcv, Stat, Set, Rm, Row}
 use Rattle.sysv_wire.specs.declared.reply.Reply.{Reply}
 use Rattle.sysv_wire.specs.Frames.{op_number, version_number, frame}
 use Rattle.sysv_wire.specs.Numbers.{u16_bytes, u32_bytes, u64_bytes, i32_bytes, i64_bytes}
 use Rattle.sysv_wire.specs.OneAnswer.{ReplyAt, OneAnswerToReplies}
 use Rattle.sysv_wire.specs.Reading.{ReadsReply}
-use Rattle.sysv_wire.specs.Replies.{FitsReply, FitsOutcome, IsAnswer, IsAnswerLength, IsRestLength, error_number, hello_len, perm_fields, count_fields, time_fields, stat_fields, row_fields, outcome_fields, outcome_text, reply_spelling}
+use Rattle.sysv_wire.specs.Replies.{FitsReply, FitsContent, IsAnswer, IsAnswerLength, IsRestLength, error_number, hello_len, perm_fields, count_fields, time_fields, stat_fields, row_fields, content_fields, content_text, reply_spelling}
 use Rattle.sysv_wire.specs.ReplyFaults.{IsNoError, IsWideAt, IsBadMark, IsBadAnswer, IsReplyRest, ReplyFault}
 use Rattle.sysv_wire.proofs.Apart.{rests_alike, frames_alike, u16_step}
 use Rattle.sysv_wire.proofs.OneRequest.{op_at, op_back, version_at, version_back}
@@ -160,7 +160,7 @@ verdict_op n v o e rest most =
     verdict_head n (v ∷ o ∷ e ∷ rest) (omega arith) ∙ ap (λ l. verdict_of l n v o e) len
 
 -- A reply has a length that its operation may have with its error.
-reply_fits : (v : Version) (m : ℕ) (a : Outcome) (text : List ℕ) → IsAnswer v m a → length text ≤ 8192 → fits_rest v (op_at m) (error_number a) (length (outcome_fields a ++ outcome_text a text)) ≡ true
+reply_fits : (v : Version) (m : ℕ) (a : ReplyContent) (text : List ℕ) → IsAnswer v m a → length text ≤ 8192 → fits_rest v (op_at m) (error_number a) (length (content_fields a ++ content_text a text)) ≡ true
 unfolding fits_rest fits_answer stat_fields perm_fields count_fields time_fields row_fields u16_bytes u32_bytes u64_bytes i32_bytes i64_bytes
 reply_fits v m (Refused e) text h k = ap (λ b. cond b (fits_answer v (op_at m) 0) true) (not_the_same (number_of e) 0 (some_error e))
 reply_fits v m Hello text h k = ap (λ w. fits_rest w (op_at m) 0 0) h.0 ∙ ap (λ x. fits_rest One (op_at x) 0 0) h.1
@@ -175,12 +175,12 @@ reply_fits v m Rm text h k = ap (λ x. fits_rest v (op_at x) 0 0) h
 reply_fits v m (Row None) text h k = ap (λ x. fits_rest v (op_at x) 0 1) h
 reply_fits v m (Row (Some r)) text h k = ap (λ x. fits_rest v (op_at x) 0 23) h.0
 
-number_fits : (v : Version) (m : ℕ) (a : Outcome) → IsAnswer v m a → m ≤ 7
+number_fits : (v : Version) (m : ℕ) (a : ReplyContent) → IsAnswer v m a → m ≤ 7
 number_fits v m (Refused e) h = h
 number_fits v m (Row r) h = omega (arith, row_number v m r h)
 number_fits v m a h = omega (arith, h)
 
-reply_small : (a : Outcome) (text : List ℕ) → length text ≤ 8192 → length (outcome_fields a ++ outcome_text a text) ≤ 8200
+reply_small : (a : ReplyContent) (text : List ℕ) → length text ≤ 8192 → length (content_fields a ++ content_text a text) ≤ 8200
 unfolding stat_fields perm_fields count_fields time_fields row_fields u16_bytes u32_bytes u64_bytes i32_bytes i64_bytes
 reply_small (Rcv t) text k = omega (arith, k)
 reply_small (HelloSlots i) text k = omega arith
@@ -188,7 +188,7 @@ reply_small (Row None) text k = omega arith
 reply_small (Row (Some r)) text k = omega arith
 reply_small a text k = omega arith
 
-whole_fits : (r : Reply) (text : List ℕ) (n : ℕ) → n ≡ length (outcome_fields r.result ++ outcome_text r.result text) → FitsReply r text
+whole_fits : (r : Reply) (text : List ℕ) (n : ℕ) → n ≡ length (content_fields r.result ++ content_text r.result text) → FitsReply r text
     → rest_at (version_number r.version) r.op (error_number r.result) n ≡ true
 unfolding rest_at
 whole_fits r text n left h =
@@ -200,7 +200,7 @@ unfolding frame
 whole_verdict r text rest h =
     let v = version_number r.version in
     let e = error_number r.result in
-    let behind = outcome_fields r.result ++ outcome_text r.result text in
+    let behind = content_fields r.result ++ content_text r.result text in
     let n = 3 + length behind in
     let len : length (v ∷ r.op ∷ e ∷ behind) ≡ n = omega arith in
     let most : n ≤ 8203 = omega (arith, reply_small r.result text h.2) in
@@ -234,7 +234,7 @@ short_not wide =
     let len = wide.4 in
     omega (arith, all, len, length-append wide.0 (u16_bytes wide.1 ++ wide.2))
 
-bad_not : (v : Version) (o : Op) (a : Outcome) (text bytes : List ℕ) → IsAnswer v (op_number o) a → FitsOutcome a → error_number a ≡ 0 → bytes ≡ outcome_fields a ++ outcome_text a text → IsBadAnswer o bytes → ⊥
+bad_not : (v : Version) (o : Op) (a : ReplyContent) (text bytes : List ℕ) → IsAnswer v (op_number o) a → FitsContent a → error_number a ≡ 0 → bytes ≡ content_fields a ++ content_text a text → IsBadAnswer o bytes → ⊥
 bad_not v op.Hello a text bytes h fits err same bad = bad
 bad_not v op.Get a text bytes h fits err same bad = bad
 bad_not v op.Snd a text bytes h fits err same bad = bad
@@ -254,11 +254,11 @@ bad_not v op.Row (Row (Some r)) text bytes h fits err same (inr wide) =
     wide_not 13 (1 ∷ (row_fields r ++ [])) r.mode (row_mode r 1 (row_fields r ++ []) (append-nil (row_fields r))) h.1 fits.mode (subst (IsWideAt 13) same wide)
 bad_not v op.Row a text bytes h fits err same bad = absurd (omega (arith, h))
 
-no_error_not : (a : Outcome) (e : ℕ) → e ≡ error_number a → IsNoError e → ⊥
+no_error_not : (a : ReplyContent) (e : ℕ) → e ≡ error_number a → IsNoError e → ⊥
 no_error_not (Refused f) e same h = h.1 f (sym same)
 no_error_not a e same h = h.0 same
 
-late_case : (v : Version) (o : Op) (e : ℕ) (a : Outcome) (text bytes : List ℕ) → IsAnswer v (op_number o) a → FitsOutcome a → e ≡ error_number a → bytes ≡ outcome_fields a ++ outcome_text a text
+late_case : (v : Version) (o : Op) (e : ℕ) (a : ReplyContent) (text bytes : List ℕ) → IsAnswer v (op_number o) a → FitsContent a → e ≡ error_number a → bytes ≡ content_fields a ++ content_text a text
     → IsNoError e ⊎ ((e ≡ 0) × IsBadAnswer o bytes) → ⊥
 late_case v o e a text bytes h fits errors fields (inl unknown) = no_error_not a e errors unknown
 late_case v o e a text bytes h fits errors fields (inr bad) = bad_not v o a text bytes h fits (sym errors ∙ bad.0) fields bad.1
@@ -267,11 +267,11 @@ late_not : (r : Reply) (text rest taken behind : List ℕ) → FitsReply r text 
 late_not r text rest taken behind fits (n, v, o, e, bytes, low, high, wanted, why, spelled) both =
     let len : n ≡ length (version_number v ∷ op_number o ∷ e ∷ bytes) = omega (arith, why.0) in
     let whole : taken ≡ frame (version_number v ∷ op_number o ∷ e ∷ bytes) = spelled ∙ frame_whole n (version_number v ∷ op_number o ∷ e ∷ bytes) len in
-    let f = frames_alike (version_number v ∷ op_number o ∷ e ∷ bytes) (version_number r.version ∷ r.op ∷ error_number r.result ∷ (outcome_fields r.result ++ outcome_text r.result text)) behind rest
+    let f = frames_alike (version_number v ∷ op_number o ∷ e ∷ bytes) (version_number r.version ∷ r.op ∷ error_number r.result ∷ (content_fields r.result ++ content_text r.result text)) behind rest
     (omega (arith, len, high)) (short_reply r.version r.op r.result text fits.2) (sym (ap (λ l. l ++ behind) whole) ∙ both) in
     let ops : op_number o ≡ r.op = cc (f.0) in
     let errors : e ≡ error_number r.result = cc (f.0) in
-    let fields : bytes ≡ outcome_fields r.result ++ outcome_text r.result text = cc (f.0) in
+    let fields : bytes ≡ content_fields r.result ++ content_text r.result text = cc (f.0) in
     late_case r.version o e r.result text bytes (subst (λ (x : ℕ). IsAnswer r.version x r.result) (sym ops) fits.0) fits.1 errors fields why.1
 
 -- ---- the results

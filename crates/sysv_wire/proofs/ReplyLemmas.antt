@@ -5,17 +5,17 @@ use Rattle.std.proofs.KnownBytes.{Consumes-trans}
 use Rattle.sysv_wire.specs.declared.fault.Fault.{Fault}
 use Rattle.sysv_wire.specs.declared.fault.Fault.TheVariants.{Truncated, TooLong, BadOp, BadField, Read}
 use Rattle.sysv_wire.specs.declared.frame.Op.{Op}
-use Rattle.sysv_wire.specs.declared.reply.Outcome.{Outcome}
-use Rattle.sysv_wire.specs.declared.reply.Outcome.TheVariants.{Refused, Hello, HelloSlots, Get, Snd, Rcv, Stat, Set, Rm, Row}
+use Rattle.sysv_wire.specs.declared.reply.ReplyContent.{ReplyContent}
+use Rattle.sysv_wire.specs.declared.reply.ReplyContent.TheVariants.{Refused, Hello, HelloSlots, Get, Snd, Rcv, Stat, Set, Rm, Row}
 use Rattle.sysv_wire.specs.Faults.{Faults, Breaks, IsShorter}
 use Rattle.sysv_wire.specs.Frames.{op_number, version_number, frame}
 use Rattle.sysv_wire.specs.Reading.{ReadsReply}
 use Rattle.sysv_model.specs.declared.attributes.Row.{Row as Line}
-use Rattle.sysv_model.specs.declared.attributes.Stat.{Stat as Told}
+use Rattle.sysv_model.specs.declared.attributes.Stat.{Stat as Attributes}
 use Rattle.sysv_wire.specs.declared.frame.TheConstants.{MAX_REPLY, MAX_MODE}
 use Rattle.sysv_wire.specs.declared.frame.Version.{Version}
 use Rattle.sysv_wire.specs.Numbers.{u16_bytes, u32_bytes, i32_bytes, i64_bytes}
-use Rattle.sysv_wire.specs.Replies.{FitsOutcome, IsAnswer, IsRestLength, perm_fields, count_fields, time_fields, stat_fields, row_fields, outcome_fields, outcome_text, gives_text, error_number, reply_spelling}
+use Rattle.sysv_wire.specs.Replies.{FitsContent, IsAnswer, IsRestLength, perm_fields, count_fields, time_fields, stat_fields, row_fields, content_fields, content_text, gives_text, error_number, reply_spelling}
 use Rattle.sysv_wire.specs.ReplyFaults.{AnswerFault, IsWideAt, RestFault, ReplyFault}
 use Rattle.sysv_wire.proofs.RequestLemmas.{frame_whole}
 use Rattle.sysv_wire.proofs.StreamLemmas.{Faults-after}
@@ -41,7 +41,7 @@ row_mode row mark rest e =
     let len : length front ≡ 12 = omega (arith, length-append (i32_bytes row.id) (i32_bytes row.key ++ u32_bytes row.uid), length-append (i32_bytes row.key) (u32_bytes row.uid), length-i32_bytes row.id, length-i32_bytes row.key, length-u32_bytes row.uid) in
     (mark ∷ front, after, ap (λ l. mark ∷ l) parts, omega (arith, len))
 
-pub stat_mode : (stat : Told) (fields : List ℕ) → fields ≡ stat_fields stat → HasModeAt 20 fields stat.perm.mode
+pub stat_mode : (stat : Attributes) (fields : List ℕ) → fields ≡ stat_fields stat → HasModeAt 20 fields stat.perm.mode
 unfolding stat_fields perm_fields
 stat_mode stat fields e =
     let perm = stat.perm in
@@ -57,7 +57,7 @@ wide_at place fields mode h wide fits = (h.0, mode, h.1, h.2, h.3, wide, fits)
 pub wide_row : (row : Line) (mark : ℕ) (rest : List ℕ) → rest ≡ row_fields row → MAX_MODE < row.mode → row.mode < 2 ^ 16 → IsWideAt 13 (mark ∷ rest)
 wide_row row mark rest e wide fits = wide_at 13 (mark ∷ rest) row.mode (row_mode row mark rest e) wide fits
 
-pub wide_stat : (stat : Told) (fields : List ℕ) → fields ≡ stat_fields stat → MAX_MODE < stat.perm.mode → stat.perm.mode < 2 ^ 16 → IsWideAt 20 fields
+pub wide_stat : (stat : Attributes) (fields : List ℕ) → fields ≡ stat_fields stat → MAX_MODE < stat.perm.mode → stat.perm.mode < 2 ^ 16 → IsWideAt 20 fields
 wide_stat stat fields e wide fits = wide_at 20 fields stat.perm.mode (stat_mode stat fields e) wide fits
 
 -- A part of the rest that is too short is a rest that is too short.
@@ -113,7 +113,7 @@ triple_is (a ∷ b ∷ d ∷ []) e = refl
 triple_is (a ∷ b ∷ d ∷ x ∷ rest) e = absurd (omega (arith, e))
 
 -- The body in a reply is one that a message may have.
-text_short : (a : Outcome) (text : List ℕ) (n : ℕ) → text ≡ outcome_text a text → n ≡ length (outcome_fields a ++ outcome_text a text) → n ≤ 8200 → length text ≤ 8192
+text_short : (a : ReplyContent) (text : List ℕ) (n : ℕ) → text ≡ content_text a text → n ≡ length (content_fields a ++ content_text a text) → n ≤ 8200 → length text ≤ 8192
 unfolding i64_bytes
 text_short (Rcv t) text n empty len most = omega (arith, len, most, length-append (i64_bytes t) text)
 text_short (Refused e) text n empty len most = let none = ap length empty in omega (arith, none)
@@ -127,11 +127,11 @@ text_short Rm text n empty len most = let none = ap length empty in omega (arith
 text_short (Row r) text n empty len most = let none = ap length empty in omega (arith, none)
 
 -- A reply that was read is spelled by what was taken.
-pub reply_read : (result : Outcome) (n rest : ℕ) (version : Version) (op : Op) (byte number error told : ℕ) (head text : List ℕ) (a b c : Option (List ℕ)) → head ≡ byte ∷ number ∷ error ∷ [] → version_number version ≡ byte → op_number op ≡ number
-    → 3 ≤ n → n ≤ MAX_REPLY → rest ≡ n - 3 → told ≡ op_number op → rest ≡ length (outcome_fields result ++ outcome_text result text) → IsAnswer version (op_number op) result → FitsOutcome result → error_number result ≡ error → text ≡ outcome_text result text
-    → Consumes a b (u32_bytes n ++ head) → Consumes b c (outcome_fields result ++ outcome_text result text) → ReadsReply a c (Ok (Some record { version = version; op = told; result = result })) text
+pub reply_read : (result : ReplyContent) (n rest : ℕ) (version : Version) (op : Op) (byte number error told : ℕ) (head text : List ℕ) (a b c : Option (List ℕ)) → head ≡ byte ∷ number ∷ error ∷ [] → version_number version ≡ byte → op_number op ≡ number
+    → 3 ≤ n → n ≤ MAX_REPLY → rest ≡ n - 3 → told ≡ op_number op → rest ≡ length (content_fields result ++ content_text result text) → IsAnswer version (op_number op) result → FitsContent result → error_number result ≡ error → text ≡ content_text result text
+    → Consumes a b (u32_bytes n ++ head) → Consumes b c (content_fields result ++ content_text result text) → ReadsReply a c (Ok (Some record { version = version; op = told; result = result })) text
 reply_read result n rest version op byte number error told head text a b c h v o low high e t len answer fits err empty first second =
-    let behind = outcome_fields result ++ outcome_text result text in
+    let behind = content_fields result ++ content_text result text in
     let whole : (u32_bytes n ++ head) ++ behind ≡ frame (version_number version ∷ told ∷ error_number result ∷ behind) =
     head_then n version op byte number error head behind h v o ∙ ap (λ x. u32_bytes n ++ (version_number version ∷ op_number op ∷ x ∷ behind)) (sym err)
     ∙ ap (λ x. u32_bytes n ++ (version_number version ∷ x ∷ error_number result ∷ behind)) (sym t)
@@ -144,22 +144,22 @@ spelled_head version number error fields text =
     append_assoc (u32_bytes (3 + length fields + length text)) (version ∷ number ∷ error ∷ fields) text
     ∙ frame_whole (3 + length fields + length text) (version ∷ number ∷ error ∷ (fields ++ text)) (omega (arith, length-append fields text))
 
-reply_is : (version : Version) (number : ℕ) (result : Outcome) (fields text head : List ℕ) → fields ≡ outcome_fields result
-    → head ≡ u32_bytes (3 + length fields + length (outcome_text result text)) ++ (version_number version ∷ number ∷ error_number result ∷ fields) → head ++ outcome_text result text ≡ reply_spelling record { version = version; op = number; result = result } text
+reply_is : (version : Version) (number : ℕ) (result : ReplyContent) (fields text head : List ℕ) → fields ≡ content_fields result
+    → head ≡ u32_bytes (3 + length fields + length (content_text result text)) ++ (version_number version ∷ number ∷ error_number result ∷ fields) → head ++ content_text result text ≡ reply_spelling record { version = version; op = number; result = result } text
 reply_is version number result fields text head f h =
-    ap (λ l. l ++ outcome_text result text) h ∙ spelled_head (version_number version) number (error_number result) fields (outcome_text result text)
-    ∙ ap (λ l. frame (version_number version ∷ number ∷ error_number result ∷ (l ++ outcome_text result text))) f
+    ap (λ l. l ++ content_text result text) h ∙ spelled_head (version_number version) number (error_number result) fields (content_text result text)
+    ∙ ap (λ l. frame (version_number version ∷ number ∷ error_number result ∷ (l ++ content_text result text))) f
 
-pub reply_with_text : (version : Version) (number : ℕ) (result : Outcome) (fields text head bytes : List ℕ) (size : ℕ) → fields ≡ outcome_fields result → gives_text result ≡ true
+pub reply_with_text : (version : Version) (number : ℕ) (result : ReplyContent) (fields text head bytes : List ℕ) (size : ℕ) → fields ≡ content_fields result → gives_text result ≡ true
     → bytes ≡ head → size ≡ length text → head ≡ u32_bytes (3 + length fields + size) ++ (version_number version ∷ number ∷ error_number result ∷ fields) → bytes ++ text ≡ reply_spelling record { version = version; op = number; result = result } text
 reply_with_text version number result fields text head bytes size f has b s h =
-    let kept : outcome_text result text ≡ text = ap (λ x. cond x text []) has in
-    let all : head ≡ u32_bytes (3 + length fields + length (outcome_text result text)) ++ (version_number version ∷ number ∷ error_number result ∷ fields) = rw kept (rw (← s) h) in
+    let kept : content_text result text ≡ text = ap (λ x. cond x text []) has in
+    let all : head ≡ u32_bytes (3 + length fields + length (content_text result text)) ++ (version_number version ∷ number ∷ error_number result ∷ fields) = rw kept (rw (← s) h) in
     ap (λ l. l ++ text) b ∙ ap (λ l. head ++ l) (sym kept) ∙ reply_is version number result fields text head f all
 
-pub reply_without_text : (version : Version) (number : ℕ) (result : Outcome) (fields text head bytes : List ℕ) → fields ≡ outcome_fields result → gives_text result ≡ false
+pub reply_without_text : (version : Version) (number : ℕ) (result : ReplyContent) (fields text head bytes : List ℕ) → fields ≡ content_fields result → gives_text result ≡ false
     → bytes ≡ head → head ≡ u32_bytes (3 + length fields + 0) ++ (version_number version ∷ number ∷ error_number result ∷ fields) → bytes ≡ reply_spelling record { version = version; op = number; result = result } text
 reply_without_text version number result fields text head bytes f has b h =
-    let none : outcome_text result text ≡ [] = ap (λ x. cond x text []) has in
-    let all : head ≡ u32_bytes (3 + length fields + length (outcome_text result text)) ++ (version_number version ∷ number ∷ error_number result ∷ fields) = rw none h in
+    let none : content_text result text ≡ [] = ap (λ x. cond x text []) has in
+    let all : head ≡ u32_bytes (3 + length fields + length (content_text result text)) ++ (version_number version ∷ number ∷ error_number result ∷ fields) = rw none h in
     b ∙ sym (append-nil head) ∙ ap (λ l. head ++ l) (sym none) ∙ reply_is version number result fields text head f all

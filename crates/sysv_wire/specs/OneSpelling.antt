@@ -4,7 +4,7 @@
 use Rattle.std.specs.Prelude.{◌≡◌, List, ℕ, ◌++◌}
 use Rattle.sysv_wire.specs.declared.reply.Reply.{Reply}
 use Rattle.sysv_wire.specs.declared.request.Request.{Request}
-use Rattle.sysv_wire.specs.Replies.{FitsReply, outcome_text, reply_spelling}
+use Rattle.sysv_wire.specs.Replies.{FitsReply, content_text, reply_spelling}
 use Rattle.sysv_wire.specs.Requests.{FitsRequest, ask_text, op_of, request_spelling}
 
 -- If the spellings of two requests begin the same bytes, the requests are equal, and so are their
@@ -19,4 +19,4 @@ OneRequest = (a b : Request) (text other behind rest : List ℕ) → FitsRequest
 abbrev pub OneReply : Type 0
 OneReply = (a b : Reply) (text other behind rest : List ℕ) → FitsReply a text → FitsReply b other
     → reply_spelling a text ++ behind ≡ reply_spelling b other ++ rest
-    → (a ≡ b) × (outcome_text a.result text ≡ outcome_text b.result other) × (behind ≡ rest)
+    → (a ≡ b) × (content_text a.result text ≡ content_text b.result other) × (behind ≡ rest)

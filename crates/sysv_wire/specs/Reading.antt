@@ -5,7 +5,7 @@ use Rattle.sysv_wire.specs.declared.fault.Fault.{Fault}
 use Rattle.sysv_wire.specs.declared.reply.Reply.{Reply}
 use Rattle.sysv_wire.specs.declared.request.Request.{Request}
 use Rattle.sysv_wire.specs.Faults.{Faults, RequestFault}
-use Rattle.sysv_wire.specs.Replies.{FitsReply, outcome_text, reply_spelling}
+use Rattle.sysv_wire.specs.Replies.{FitsReply, content_text, reply_spelling}
 use Rattle.sysv_wire.specs.ReplyFaults.{ReplyFault}
 use Rattle.sysv_wire.specs.Requests.{FitsRequest, op_of, ask_text, request_spelling}
 
@@ -21,6 +21,6 @@ ReadsRequest old new (Err fault) text = Faults RequestFault fault old new
 -- or none, and the input is at its end; or a fault.
 abbrev pub ReadsReply : Option (List ℕ) → Option (List ℕ) → Result (Option Reply) Fault → List ℕ → Type 0
 ReadsReply old new (Ok (Some reply)) text =
-    Consumes old new (reply_spelling reply text) × FitsReply reply text × (text ≡ outcome_text reply.result text)
+    Consumes old new (reply_spelling reply text) × FitsReply reply text × (text ≡ content_text reply.result text)
 ReadsReply old new (Ok None) text = Consumes old new [] × IsAtEnd new × (text ≡ [])
 ReadsReply old new (Err fault) text = Faults ReplyFault fault old new

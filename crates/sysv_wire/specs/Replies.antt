@@ -7,15 +7,15 @@ use Rattle.std.specs.Int.RustNames.{FitsSigned}
 use Rattle.sysv_model.specs.Errors.{number_of}
 use Rattle.sysv_model.specs.declared.attributes.Perm.{Perm}
 use Rattle.sysv_model.specs.declared.attributes.Row.{Row as Line}
-use Rattle.sysv_model.specs.declared.attributes.Stat.{Stat as Told}
+use Rattle.sysv_model.specs.declared.attributes.Stat.{Stat as Attributes}
 use Rattle.sysv_model.specs.declared.limits.TheConstants.{MESSAGE_BYTES}
 use Rattle.sysv_wire.specs.declared.frame.Op.{Op}
 use Rattle.sysv_wire.specs.declared.frame.Op.TheVariants as op
 use Rattle.sysv_wire.specs.declared.frame.TheConstants.{MAX_MODE}
 use Rattle.sysv_wire.specs.declared.frame.Version.{Version}
 use Rattle.sysv_wire.specs.declared.frame.Version.TheVariants.{One, Two}
-use Rattle.sysv_wire.specs.declared.reply.Outcome.{Outcome}
-use Rattle.sysv_wire.specs.declared.reply.Outcome.TheVariants.{Refused, Hello, HelloSlots, Get, Snd, Rcv, Stat, Set, Rm, Row}
+use Rattle.sysv_wire.specs.declared.reply.ReplyContent.{ReplyContent}
+use Rattle.sysv_wire.specs.declared.reply.ReplyContent.TheVariants.{Refused, Hello, HelloSlots, Get, Snd, Rcv, Stat, Set, Rm, Row}
 use Rattle.sysv_wire.specs.declared.reply.Reply.{Reply}
 use Rattle.sysv_wire.specs.Frames.{op_number, version_number, frame}
 use Rattle.sysv_wire.specs.Numbers.{u16_bytes, u32_bytes, u64_bytes, i32_bytes, i64_bytes}
@@ -29,7 +29,7 @@ pub record FitsPerm (perm : Perm) : Type 0 where
   pub mode : perm.mode < 2 ^ 16
 
 -- The numbers of the attributes are in the ranges of their types.
-pub record FitsStat (stat : Told) : Type 0 where
+pub record FitsStat (stat : Attributes) : Type 0 where
   pub key : FitsSigned w32 stat.key
   pub perm : FitsPerm stat.perm
   pub cbytes : stat.cbytes < 2 ^ 32
@@ -51,7 +51,7 @@ pub record FitsRow (row : Line) : Type 0 where
   pub qnum : row.qnum < 2 ^ 32
 
 -- The number of the error, 0 if there is none.
-abbrev pub error_number : Outcome → ℕ
+abbrev pub error_number : ReplyContent → ℕ
 error_number (Refused error) = number_of error
 error_number Hello = 0
 error_number (HelloSlots slots) = 0
@@ -69,15 +69,15 @@ perm_fields perm = u32_bytes perm.uid ++ (u32_bytes perm.gid ++ (u32_bytes perm.
 
 -- The fields of the counts: queued bytes and messages, the maximum number of bytes, and the
 -- processes that sent and received last.
-unfoldable pub count_fields : Told → List ℕ
+unfoldable pub count_fields : Attributes → List ℕ
 count_fields stat = u32_bytes stat.cbytes ++ (u32_bytes stat.qnum ++ (u32_bytes stat.qbytes ++ (u32_bytes stat.lspid ++ u32_bytes stat.lrpid)))
 
 -- The fields of the timestamps.
-unfoldable pub time_fields : Told → List ℕ
+unfoldable pub time_fields : Attributes → List ℕ
 time_fields stat = u64_bytes stat.stime ++ (u64_bytes stat.rtime ++ u64_bytes stat.ctime)
 
 -- The fields of a queue's attributes.
-unfoldable pub stat_fields : Told → List ℕ
+unfoldable pub stat_fields : Attributes → List ℕ
 stat_fields stat = i32_bytes stat.key ++ (perm_fields stat.perm ++ (count_fields stat ++ time_fields stat))
 
 -- The fields of a row with a queue.
@@ -86,21 +86,21 @@ row_fields row = i32_bytes row.id ++ (i32_bytes row.key ++ (u32_bytes row.uid ++
 
 -- The fields of a result without its body. A row with a queue is marked by 1, and a row without one
 -- by 0.
-abbrev pub outcome_fields : Outcome → List ℕ
-outcome_fields (Refused error) = []
-outcome_fields Hello = []
-outcome_fields (HelloSlots slots) = u32_bytes slots
-outcome_fields (Get id) = i32_bytes id
-outcome_fields Snd = []
-outcome_fields (Rcv mtype) = i64_bytes mtype
-outcome_fields (Stat stat) = stat_fields stat
-outcome_fields Set = []
-outcome_fields Rm = []
-outcome_fields (Row None) = 0 ∷ []
-outcome_fields (Row (Some row)) = 1 ∷ row_fields row
+abbrev pub content_fields : ReplyContent → List ℕ
+content_fields (Refused error) = []
+content_fields Hello = []
+content_fields (HelloSlots slots) = u32_bytes slots
+content_fields (Get id) = i32_bytes id
+content_fields Snd = []
+content_fields (Rcv mtype) = i64_bytes mtype
+content_fields (Stat stat) = stat_fields stat
+content_fields Set = []
+content_fields Rm = []
+content_fields (Row None) = 0 ∷ []
+content_fields (Row (Some row)) = 1 ∷ row_fields row
 
 -- The reply has a body after its fields: only that of a receive.
-abbrev pub gives_text : Outcome → Bool
+abbrev pub gives_text : ReplyContent → Bool
 gives_text (Rcv mtype) = true
 gives_text (Refused error) = false
 gives_text Hello = false
@@ -113,18 +113,18 @@ gives_text Rm = false
 gives_text (Row row) = false
 
 -- The body, if there is one.
-abbrev pub outcome_text : Outcome → List ℕ → List ℕ
-outcome_text outcome text = if gives_text outcome then text else []
+abbrev pub content_text : ReplyContent → List ℕ → List ℕ
+content_text content text = if gives_text content then text else []
 
 -- The one spelling of a reply.
 abbrev pub reply_spelling : Reply → List ℕ → List ℕ
 reply_spelling reply text =
-    frame (version_number reply.version ∷ reply.op ∷ error_number reply.result ∷ (outcome_fields reply.result ++ outcome_text reply.result text))
+    frame (version_number reply.version ∷ reply.op ∷ error_number reply.result ∷ (content_fields reply.result ++ content_text reply.result text))
 
 -- The operation with this number may have this result in this version. Any operation may fail with
 -- an error, the reply to a hello has the number of slots only in version 2, and modes have nine
 -- bits.
-abbrev pub IsAnswer : Version → ℕ → Outcome → Type 0
+abbrev pub IsAnswer : Version → ℕ → ReplyContent → Type 0
 IsAnswer version number (Refused error) = number ≤ 7
 IsAnswer version number Hello = (version ≡ One) × (number ≡ op_number op.Hello)
 IsAnswer version number (HelloSlots slots) = (version ≡ Two) × (number ≡ op_number op.Hello)
@@ -160,19 +160,19 @@ abbrev pub IsRestLength : Version → Op → ℕ → ℕ → Type 0
 IsRestLength version o error n = MatchBool (error == 0) (IsAnswerLength version o n) (n ≡ 0)
 
 -- The numbers are in the ranges of their types.
-abbrev pub FitsOutcome : Outcome → Type 0
-FitsOutcome (Refused error) = ⊤
-FitsOutcome Hello = ⊤
-FitsOutcome (HelloSlots slots) = slots < 2 ^ 32
-FitsOutcome (Get id) = FitsSigned w32 id
-FitsOutcome Snd = ⊤
-FitsOutcome (Rcv mtype) = FitsSigned w64 mtype
-FitsOutcome (Stat stat) = FitsStat stat
-FitsOutcome Set = ⊤
-FitsOutcome Rm = ⊤
-FitsOutcome (Row None) = ⊤
-FitsOutcome (Row (Some row)) = FitsRow row
+abbrev pub FitsContent : ReplyContent → Type 0
+FitsContent (Refused error) = ⊤
+FitsContent Hello = ⊤
+FitsContent (HelloSlots slots) = slots < 2 ^ 32
+FitsContent (Get id) = FitsSigned w32 id
+FitsContent Snd = ⊤
+FitsContent (Rcv mtype) = FitsSigned w64 mtype
+FitsContent (Stat stat) = FitsStat stat
+FitsContent Set = ⊤
+FitsContent Rm = ⊤
+FitsContent (Row None) = ⊤
+FitsContent (Row (Some row)) = FitsRow row
 
 -- The reply is one that its operation may have, and the reply and its body can be sent.
 abbrev pub FitsReply : Reply → List ℕ → Type 0
-FitsReply reply text = IsAnswer reply.version reply.op reply.result × FitsOutcome reply.result × (length text ≤ MESSAGE_BYTES)
+FitsReply reply text = IsAnswer reply.version reply.op reply.result × FitsContent reply.result × (length text ≤ MESSAGE_BYTES)

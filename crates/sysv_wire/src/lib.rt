@@ -12,13 +12,13 @@
 //! ```
 #![tactic(auto)]
 
+mod content;
 mod fault;
 mod fields;
 mod frame;
 mod input;
 mod laws;
 mod number;
-mod outcome;
 mod output;
 mod replies;
 mod reply;
@@ -31,7 +31,7 @@ pub use laws::{
     numerals_of_frames, one_answer_to_replies, one_answer_to_requests, one_reply, one_request,
 };
 pub use replies::{read_reply, write_reply};
-pub use reply::{Outcome, Reply};
+pub use reply::{Reply, ReplyContent};
 pub use request::{Ask, Request};
 pub use requests::{read_request, write_request};
 pub use sysv_model::WriteFault;

@@ -9,17 +9,17 @@ ghost use Rattle.sysv_wire.specs.declared.frame.Version.{Version as Versions};
 ghost use Rattle.sysv_wire.specs.Numbers.{u32_bytes};
 ghost use Rattle.sysv_wire.specs.OneAnswer.{ReplyAt};
 ghost use Rattle.sysv_wire.specs.Reading.{ReadsReply};
-ghost use Rattle.sysv_wire.specs.Replies.{FitsOutcome, IsAnswer, IsAnswerLength, IsRestLength, count_fields, error_number, gives_text, hello_len as the_hello_len, outcome_fields, outcome_text, perm_fields, reply_spelling, row_fields, stat_fields, time_fields};
+ghost use Rattle.sysv_wire.specs.Replies.{FitsContent, IsAnswer, IsAnswerLength, IsRestLength, count_fields, error_number, gives_text, hello_len as the_hello_len, content_fields, content_text, perm_fields, reply_spelling, row_fields, stat_fields, time_fields};
 ghost use Rattle.sysv_wire.specs.ReplyFaults.{AnswerFault, RestFault};
 
+use crate::content::{content_of, errno_of};
 use crate::fault::Fault;
 use crate::fields::Fields;
 use crate::frame::{MAX_REPLY, Op, Version};
 use crate::input::{fill_all, read_head, read_text};
 use crate::number::only_i64;
-use crate::outcome::{errno_of, outcome_of};
 use crate::output::write_both;
-use crate::reply::{Outcome, Reply};
+use crate::reply::{Reply, ReplyContent};
 use std::io::{Read, Write};
 use sysv_model::{Body, MESSAGE_BYTES, Perm, Row, Stat, Watched, WriteFault};
 
@@ -91,17 +91,17 @@ fn read_fields<R: Read>(
     version: Version,
     op: Op,
     rest: usize,
-) -> Result<Outcome, Fault>
+) -> Result<ReplyContent, Fault>
     requires len { IsAnswerLength version op rest }
     requires other { op ≢ Op.Rcv }
-    ensures taken { IfOk result (λ outcome.
+    ensures taken { IfOk result (λ content.
         Consumes (R.remaining (stream_of reader.old)) (R.remaining (stream_of reader.new))
-        (outcome_fields outcome)) }
-    ensures len { IfOk result (λ outcome. length (outcome_fields outcome) ≡ rest) }
-    ensures answer { IfOk result (λ outcome. IsAnswer version (op_number op) outcome) }
-    ensures fits { IfOk result FitsOutcome }
-    ensures error { IfOk result (λ outcome. error_number outcome ≡ 0) }
-    ensures text { IfOk result (λ outcome. gives_text outcome ≡ false) }
+        (content_fields content)) }
+    ensures len { IfOk result (λ content. length (content_fields content) ≡ rest) }
+    ensures answer { IfOk result (λ content. IsAnswer version (op_number op) content) }
+    ensures fits { IfOk result FitsContent }
+    ensures error { IfOk result (λ content. error_number content ≡ 0) }
+    ensures text { IfOk result (λ content. gives_text content ≡ false) }
     ensures fault { IfErr result (λ fault.
         Faults (RestFault op 0 rest) fault (R.remaining (stream_of reader.old))
         (R.remaining (stream_of reader.new))) }
@@ -112,7 +112,7 @@ fn read_fields<R: Read>(
     let mut fields = [0; MAX_FIELDS];
     let fields = &mut fields[..rest];
     fill_all(reader, fields)?;
-    outcome_of(version, op, fields)
+    content_of(version, op, fields)
 }
 
 /// Reads `rest` bytes, the type and the body of a message.
@@ -120,18 +120,18 @@ fn read_message<R: Read>(
     reader: &mut Watched<'_, R>,
     rest: usize,
     text: &mut Body,
-) -> Result<Outcome, Fault>
+) -> Result<ReplyContent, Fault>
     requires least { 8 ≤ rest }
     requires most { rest ≤ MAX_REST }
     requires empty { text.old ≡ [] }
-    ensures taken { IfOk result (λ outcome.
+    ensures taken { IfOk result (λ content.
         Consumes (R.remaining (stream_of reader.old)) (R.remaining (stream_of reader.new))
-        (outcome_fields outcome ++ text.new)) }
-    ensures len { IfOk result (λ outcome. length (outcome_fields outcome ++ text.new) ≡ rest) }
-    ensures answer { (version : Versions) → IfOk result (λ outcome. IsAnswer version 3 outcome) }
-    ensures fits { IfOk result FitsOutcome }
-    ensures error { IfOk result (λ outcome. error_number outcome ≡ 0) }
-    ensures text { IfOk result (λ outcome. gives_text outcome ≡ true) }
+        (content_fields content ++ text.new)) }
+    ensures len { IfOk result (λ content. length (content_fields content ++ text.new) ≡ rest) }
+    ensures answer { (version : Versions) → IfOk result (λ content. IsAnswer version 3 content) }
+    ensures fits { IfOk result FitsContent }
+    ensures error { IfOk result (λ content. error_number content ≡ 0) }
+    ensures text { IfOk result (λ content. gives_text content ≡ true) }
     ensures fault { IfErr result (λ fault.
         Faults (RestFault Op.Rcv 0 rest) fault (R.remaining (stream_of reader.old))
         (R.remaining (stream_of reader.new))) }
@@ -143,7 +143,7 @@ fn read_message<R: Read>(
     fill_all(reader, &mut bytes)?;
     let mtype = only_i64(&bytes);
     read_text(reader, rest - 8, text)?;
-    Ok(Outcome::Rcv { mtype })
+    Ok(ReplyContent::Rcv { mtype })
 }
 
 /// Reads what follows the error of a reply.
@@ -154,19 +154,19 @@ fn read_rest<R: Read>(
     error: u8,
     rest: usize,
     text: &mut Body,
-) -> Result<Outcome, Fault>
+) -> Result<ReplyContent, Fault>
     requires len { IsRestLength version op error rest }
     requires most { rest ≤ MAX_REST }
     requires empty { text.old ≡ [] }
-    ensures taken { IfOk result (λ outcome.
+    ensures taken { IfOk result (λ content.
         Consumes (R.remaining (stream_of reader.old)) (R.remaining (stream_of reader.new))
-        (outcome_fields outcome ++ outcome_text outcome text.new)) }
-    ensures len { IfOk result (λ outcome.
-        rest ≡ length (outcome_fields outcome ++ outcome_text outcome text.new)) }
-    ensures answer { IfOk result (λ outcome. IsAnswer version (op_number op) outcome) }
-    ensures fits { IfOk result FitsOutcome }
-    ensures error { IfOk result (λ outcome. error_number outcome ≡ error) }
-    ensures text { IfOk result (λ outcome. text.new ≡ outcome_text outcome text.new) }
+        (content_fields content ++ content_text content text.new)) }
+    ensures len { IfOk result (λ content.
+        rest ≡ length (content_fields content ++ content_text content text.new)) }
+    ensures answer { IfOk result (λ content. IsAnswer version (op_number op) content) }
+    ensures fits { IfOk result FitsContent }
+    ensures error { IfOk result (λ content. error_number content ≡ error) }
+    ensures text { IfOk result (λ content. text.new ≡ content_text content text.new) }
     ensures fault { IfErr result (λ fault.
         Faults (RestFault op error rest) fault (R.remaining (stream_of reader.old))
         (R.remaining (stream_of reader.new))) }
@@ -176,7 +176,7 @@ fn read_rest<R: Read>(
 {
     if error != 0 {
         let error = errno_of(error)?;
-        return Ok(Outcome::Refused(error));
+        return Ok(ReplyContent::Refused(error));
     }
     match op {
         Op::Rcv => read_message(reader, rest, text),
@@ -283,27 +283,27 @@ pub fn write_reply<W: Write>(
 }
 
 /// Returns whether a reply has a body after its fields.
-fn takes_text(outcome: &Outcome) -> bool
-    ensures { result ≡ gives_text outcome.now }
+fn takes_text(content: &ReplyContent) -> bool
+    ensures { result ≡ gives_text content.now }
 {
-    matches!(outcome, Outcome::Rcv { .. })
+    matches!(content, ReplyContent::Rcv { .. })
 }
 
 /// Returns the number of the error, 0 if there is none.
-fn error_of(outcome: &Outcome) -> u8
-    ensures { result ≡ error_number outcome.now }
+fn error_of(content: &ReplyContent) -> u8
+    ensures { result ≡ error_number content.now }
 {
-    match outcome {
-        Outcome::Refused(error) => error.number(),
-        Outcome::Hello => 0,
-        Outcome::HelloSlots { .. } => 0,
-        Outcome::Get { .. } => 0,
-        Outcome::Snd => 0,
-        Outcome::Rcv { .. } => 0,
-        Outcome::Stat(_) => 0,
-        Outcome::Set => 0,
-        Outcome::Rm => 0,
-        Outcome::Row(_) => 0,
+    match content {
+        ReplyContent::Refused(error) => error.number(),
+        ReplyContent::Hello => 0,
+        ReplyContent::HelloSlots { .. } => 0,
+        ReplyContent::Get { .. } => 0,
+        ReplyContent::Snd => 0,
+        ReplyContent::Rcv { .. } => 0,
+        ReplyContent::Stat(_) => 0,
+        ReplyContent::Set => 0,
+        ReplyContent::Rm => 0,
+        ReplyContent::Row(_) => 0,
     }
 }
 
@@ -326,23 +326,23 @@ fn head_of(reply: &Reply, fields: &Fields, text_len: usize) -> Fields
 }
 
 /// Returns the fields of a result.
-fn fields_of(outcome: &Outcome) -> Fields
-    ensures fields { result ≡ outcome_fields outcome.now }
+fn fields_of(content: &ReplyContent) -> Fields
+    ensures fields { result ≡ content_fields content.now }
     ensures most { length result ≤ MAX_FIELDS }
 {
     let mut fields = Fields::new();
-    match *outcome {
-        Outcome::Refused(_) => {}
-        Outcome::Hello => {}
-        Outcome::HelloSlots { slots } => fields.put_u32(slots),
-        Outcome::Get { id } => fields.put_i32(id),
-        Outcome::Snd => {}
-        Outcome::Rcv { mtype } => fields.put_i64(mtype),
-        Outcome::Stat(stat) => put_stat(&mut fields, stat),
-        Outcome::Set => {}
-        Outcome::Rm => {}
-        Outcome::Row(None) => fields.put_u8(0),
-        Outcome::Row(Some(row)) => {
+    match *content {
+        ReplyContent::Refused(_) => {}
+        ReplyContent::Hello => {}
+        ReplyContent::HelloSlots { slots } => fields.put_u32(slots),
+        ReplyContent::Get { id } => fields.put_i32(id),
+        ReplyContent::Snd => {}
+        ReplyContent::Rcv { mtype } => fields.put_i64(mtype),
+        ReplyContent::Stat(stat) => put_stat(&mut fields, stat),
+        ReplyContent::Set => {}
+        ReplyContent::Rm => {}
+        ReplyContent::Row(None) => fields.put_u8(0),
+        ReplyContent::Row(Some(row)) => {
             fields.put_u8(1);
             put_row(&mut fields, row);
         }

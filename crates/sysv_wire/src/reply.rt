@@ -10,13 +10,13 @@ pub struct Reply {
     /// The number of the request's operation, 0 to 7.
     pub op: u8,
     /// The result of the operation.
-    pub result: Outcome,
+    pub result: ReplyContent,
 }
 
 /// The result of an operation: an error, which any operation may have, or the operation's own
 /// result.
 #[derive(Clone, Copy, PartialEq, Eq, Debug)]
-pub enum Outcome {
+pub enum ReplyContent {
     /// The operation failed with this error.
     Refused(Errno),
     /// The server knows the caller's credentials, in version 1.

@@ -5,7 +5,7 @@ use std::io;
 use std::io::Write;
 use std::time::{Clock, CpuClock};
 use sysv_model::{Body, Watched};
-use sysv_wire::{Op, Outcome, Reply, Version, read_request, write_reply};
+use sysv_wire::{Op, Reply, ReplyContent, Version, read_request, write_reply};
 
 /// The head and the fields of a send of 64 bytes.
 const HEAD: [u8; 22] = [
@@ -54,7 +54,7 @@ fn turn(frame: &[u8], text: &mut Body, slate: &mut Slate) -> bool {
     let reply = Reply {
         version: Version::One,
         op: Op::Snd.number(),
-        result: Outcome::Snd,
+        result: ReplyContent::Snd,
     };
     text.len() == 64 && write_reply(&mut Watched::new(slate), &reply, text).is_ok()
 }

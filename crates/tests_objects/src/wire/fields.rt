@@ -2,7 +2,7 @@
 use crate::parts::open_body;
 use std::process::Abort;
 use sysv_model::{Body, Watched};
-use sysv_wire::{Fault, Outcome, Reply, Request, read_reply, read_request};
+use sysv_wire::{Fault, Reply, ReplyContent, Request, read_reply, read_request};
 use tests_kit::Pieces;
 
 /// The number of bytes in the fields of each request, by its operation. A send has no body.
@@ -129,7 +129,7 @@ fn errors_of_replies(rt: HostRuntime) {
                 Ok(
                     Some(
                         Reply {
-                            result: Outcome::Refused(why),
+                            result: ReplyContent::Refused(why),
                             ..
                         },
                     ),

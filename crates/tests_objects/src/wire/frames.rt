@@ -5,7 +5,8 @@ use std::alloc::Global;
 use std::process::Abort;
 use sysv_model::{Cred, Errno, Flags, MESSAGE_BYTES, Perm, Row, SetTo, Stat, Watched};
 use sysv_wire::{
-    Ask, Outcome, Reply, Request, Version, read_reply, read_request, write_reply, write_request,
+    Ask, Reply, ReplyContent, Request, Version, read_reply, read_request, write_reply,
+    write_request,
 };
 use tests_kit::worked::{ANSWERS, SESSION};
 use tests_kit::{Page, Pieces};
@@ -115,16 +116,16 @@ fn a_session(rt: HostRuntime) {
         RECEIVE,
     ];
     let replies = [
-        (0, Outcome::Hello),
-        (1, Outcome::Get { id: 0 }),
-        (2, Outcome::Snd),
-        (3, Outcome::Rcv { mtype: 5 }),
-        (3, Outcome::Refused(Errno::ENOMSG)),
+        (0, ReplyContent::Hello),
+        (1, ReplyContent::Get { id: 0 }),
+        (2, ReplyContent::Snd),
+        (3, ReplyContent::Rcv { mtype: 5 }),
+        (3, ReplyContent::Refused(Errno::ENOMSG)),
     ]
-    .map(|(op, outcome)| Reply {
+    .map(|(op, result)| Reply {
         version: Version::One,
         op,
-        result: outcome,
+        result,
     });
     for piece in [1, 2, 3, 5, 200] {
         reads_and_writes(&rt, rt.alloc(), Version::One, SESSION, &asks, piece);
@@ -160,15 +161,15 @@ fn a_session_of_version_2(rt: HostRuntime) {
         },
     ];
     let replies = [
-        (0, Outcome::HelloSlots { slots: 256 }),
-        (1, Outcome::Get { id: 0 }),
-        (0, Outcome::HelloSlots { slots: u32::MAX }),
-        (0, Outcome::Refused(Errno::EPERM)),
+        (0, ReplyContent::HelloSlots { slots: 256 }),
+        (1, ReplyContent::Get { id: 0 }),
+        (0, ReplyContent::HelloSlots { slots: u32::MAX }),
+        (0, ReplyContent::Refused(Errno::EPERM)),
     ]
-    .map(|(op, outcome)| Reply {
+    .map(|(op, result)| Reply {
         version: Version::Two,
         op,
-        result: outcome,
+        result,
     });
     for piece in [1, 2, 3, 5, 200] {
         reads_and_writes(&rt, rt.alloc(), Version::Two, SECOND, &asks, piece);
@@ -239,17 +240,17 @@ const ROW: Row = Row {
 #[test]
 fn attributes_and_rows(rt: HostRuntime) {
     let replies = [
-        (4, Outcome::Stat(STAT)),
-        (7, Outcome::Row(Some(ROW))),
-        (7, Outcome::Row(None)),
-        (5, Outcome::Set),
-        (6, Outcome::Rm),
-        (7, Outcome::Refused(Errno::EAGAIN)),
+        (4, ReplyContent::Stat(STAT)),
+        (7, ReplyContent::Row(Some(ROW))),
+        (7, ReplyContent::Row(None)),
+        (5, ReplyContent::Set),
+        (6, ReplyContent::Rm),
+        (7, ReplyContent::Refused(Errno::EAGAIN)),
     ]
-    .map(|(op, outcome)| Reply {
+    .map(|(op, result)| Reply {
         version: Version::One,
         op,
-        result: outcome,
+        result,
     });
     for piece in [1, 7, 200] {
         reads_and_writes_replies(&rt, rt.alloc(), TOLD, &replies, piece);

@@ -4,7 +4,7 @@ use bitflags::Flags as Set;
 use std::process::Abort;
 use sysv_model::{Body, Flags, Watched};
 use sysv_wire::{
-    Ask, Fault, Outcome, Reply, Request, Version, WriteFault, read_reply, read_request,
+    Ask, Fault, Reply, ReplyContent, Request, Version, WriteFault, read_reply, read_request,
     write_reply, write_request,
 };
 use tests_kit::worked::{ANSWERS, SESSION};
@@ -100,7 +100,7 @@ fn a_writer_fails_within_a_reply(rt: HostRuntime) {
     let reply = Reply {
         version: Version::One,
         op: 3,
-        result: Outcome::Rcv { mtype: 5 },
+        result: ReplyContent::Rcv { mtype: 5 },
     };
     for room in 0..17 {
         let mut page = Page::taking(3, room, false);

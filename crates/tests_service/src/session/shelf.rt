@@ -14,7 +14,7 @@ use sysv_model::{Body, Cred, Errno, Flags, MESSAGE_BYTES, Selector};
 use sysv_pool::{Chain, Pool};
 use sysv_queue::{PlaceRefused, QueueSlot, TakeRefused, Unplaced};
 use sysv_session::{Kernel, Outcome};
-use sysv_wire::{Ask, Op, Outcome as Told, Reply, Request, Version};
+use sysv_wire::{Ask, Op, Reply, ReplyContent, Request, Version};
 use tests_kit::open_pool;
 
 /// The maximum of each count here.
@@ -64,43 +64,43 @@ impl Shelf {
         free
     }
 
-    fn get(&mut self, cred: Cred, key: i32, flags: Flags) -> Told
+    fn get(&mut self, cred: Cred, key: i32, flags: Flags) -> ReplyContent
         ensures answer { (version : Version) → IsAnswer version (op_number Op.Get) result }
         ensures text { gives_text result ≡ false }
     {
         match self.registry.begin(key, flags) {
-            Begun::Found { id, .. } => Told::Get { id },
+            Begun::Found { id, .. } => ReplyContent::Get { id },
             Begun::Made { id } => {
                 if self.slot.install(id, key, cred, flags.bits(), 0) && self.registry.settle(id) {
-                    Told::Get { id }
+                    ReplyContent::Get { id }
                 } else {
-                    Told::Refused(Errno::ENOSPC)
+                    ReplyContent::Refused(Errno::ENOSPC)
                 }
             }
-            Begun::Busy { .. } => Told::Refused(Errno::EAGAIN),
-            Begun::Refused(why) => Told::Refused(why),
+            Begun::Busy { .. } => ReplyContent::Refused(Errno::EAGAIN),
+            Begun::Refused(why) => ReplyContent::Refused(why),
         }
     }
 
-    fn send(&mut self, cred: Cred, id: i32, mtype: i64, text: &Body) -> Told
+    fn send(&mut self, cred: Cred, id: i32, mtype: i64, text: &Body) -> ReplyContent
         ensures answer { (version : Version) → IsAnswer version (op_number Op.Snd) result }
         ensures text { gives_text result ≡ false }
     {
         if text.len() > MESSAGE_BYTES || self.slot.counts().0 > MAX_COUNT {
-            return Told::Refused(Errno::EINVAL);
+            return ReplyContent::Refused(Errno::EINVAL);
         }
         let Some(mut chain) = self.pool.reserve(text.len()) else {
-            return Told::Refused(Errno::EAGAIN);
+            return ReplyContent::Refused(Errno::EAGAIN);
         };
         chain.fill(text);
         match self.slot.place(id, cred, mtype, chain, text.len(), 0) {
-            Ok(_) => Told::Snd,
+            Ok(_) => ReplyContent::Snd,
             Err(PlaceRefused { why, chain }) => {
                 give_back(&mut self.pool, chain);
                 match why {
-                    Unplaced::Gone => Told::Refused(Errno::EINVAL),
-                    Unplaced::Denied => Told::Refused(Errno::EACCES),
-                    Unplaced::Full { .. } => Told::Refused(Errno::EAGAIN),
+                    Unplaced::Gone => ReplyContent::Refused(Errno::EINVAL),
+                    Unplaced::Denied => ReplyContent::Refused(Errno::EACCES),
+                    Unplaced::Full { .. } => ReplyContent::Refused(Errno::EAGAIN),
                 }
             }
         }
@@ -180,12 +180,12 @@ impl Kernel for Shelf {
 /// Returns the reply that refuses an operation.
 fn refusal(version: Version, op: Op, why: Errno) -> Outcome
     ensures { result ≡ Outcome.Reply
-        (record { version = version; op = op_number op; result = Told.Refused why }) }
+        (record { version = version; op = op_number op; result = ReplyContent.Refused why }) }
 {
     Outcome::Reply(Reply {
         version,
         op: op.number(),
-        result: Told::Refused(why),
+        result: ReplyContent::Refused(why),
     })
 }
 

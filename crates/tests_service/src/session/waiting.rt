@@ -3,7 +3,7 @@ use super::served::counts_of;
 use std::sync::{Mutex, Wait};
 use sysv_model::{Body, Cred, Errno};
 use sysv_session::{End, Kernel, Outcome, serve};
-use sysv_wire::{Outcome as Told, Reply, Request};
+use sysv_wire::{Reply, ReplyContent, Request};
 use tests_kit::worked::SESSION;
 use tests_kit::{Page, Pieces};
 
@@ -31,7 +31,7 @@ impl<R: Wait> Kernel for Locked<'_, R> {
         Outcome::Reply(Reply {
             version: request.version,
             op: request.ask.op().number(),
-            result: Told::Refused(Errno::ENOMSG),
+            result: ReplyContent::Refused(Errno::ENOMSG),
         })
     }
 }

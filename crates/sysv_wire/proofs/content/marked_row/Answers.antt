@@ -1,6 +1,6 @@
 use Rattle.std.proofs.Common.{refl, inr, arith}
 use Rattle.sysv_wire.proofs.ReplyLemmas.{wide_row}
-use Rattle.sysv_wire.proofs.outcome.marked_row.Goals as goal
+use Rattle.sysv_wire.proofs.content.marked_row.Goals as goal
 
 pub returns-then-row-gt-MAX_MODE-clause-err : goal.returns-then-row-gt-MAX_MODE-clause-err
 returns-then-row-gt-MAX_MODE-clause-err c =

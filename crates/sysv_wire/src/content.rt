@@ -3,13 +3,13 @@ ghost use Rattle.std.specs.Prelude.{◌≡◌, ◌≢◌, ◌≤◌, ◌+◌, �
 ghost use Rattle.sysv_model.specs.Errors.{number_of};
 ghost use Rattle.sysv_wire.specs.Frames.{op_number};
 ghost use Rattle.sysv_wire.specs.declared.frame.Version.{Version as Versions};
-ghost use Rattle.sysv_wire.specs.Replies.{FitsOutcome, FitsPerm, FitsRow, FitsStat, IsAnswer, IsAnswerLength, error_number, gives_text, outcome_fields, perm_fields, row_fields, stat_fields};
+ghost use Rattle.sysv_wire.specs.Replies.{FitsContent, FitsPerm, FitsRow, FitsStat, IsAnswer, IsAnswerLength, error_number, gives_text, content_fields, perm_fields, row_fields, stat_fields};
 ghost use Rattle.sysv_wire.specs.ReplyFaults.{IsBadAnswer, IsBadMark, IsNoError, IsWideAt};
 
 use crate::fault::Fault;
 use crate::frame::{MAX_MODE, Op, Version};
 use crate::number::{only_i32, only_u32, only_u64, take_i32, take_u16, take_u32, take_u64};
-use crate::reply::Outcome;
+use crate::reply::ReplyContent;
 use sysv_model::{Errno, Perm, Row, Stat};
 
 /// Returns the error with this number, which is not 0.
@@ -35,32 +35,32 @@ pub(crate) fn errno_of(number: u8) -> Result<Errno, Fault>
 }
 
 /// Returns the result of an operation whose reply has no body, from its fields.
-pub(crate) fn outcome_of(version: Version, op: Op, fields: &[u8]) -> Result<Outcome, Fault>
+pub(crate) fn content_of(version: Version, op: Op, fields: &[u8]) -> Result<ReplyContent, Fault>
     requires len { IsAnswerLength version op (length fields.now) }
     requires other { op ≢ Op.Rcv }
-    ensures answer { IfOk result (λ outcome. IsAnswer version (op_number op) outcome) }
-    ensures fits { IfOk result FitsOutcome }
-    ensures error { IfOk result (λ outcome. error_number outcome ≡ 0) }
-    ensures text { IfOk result (λ outcome. gives_text outcome ≡ false) }
-    ensures spelled { IfOk result (λ outcome. fields.now ≡ outcome_fields outcome) }
+    ensures answer { IfOk result (λ content. IsAnswer version (op_number op) content) }
+    ensures fits { IfOk result FitsContent }
+    ensures error { IfOk result (λ content. error_number content ≡ 0) }
+    ensures text { IfOk result (λ content. gives_text content ≡ false) }
+    ensures spelled { IfOk result (λ content. fields.now ≡ content_fields content) }
     ensures err { IfErr result (λ fault. (fault ≡ Fault.BadField) × IsBadAnswer op fields.now) }
 {
     match op {
         Op::Hello => Ok(hello_of(version, fields)),
-        Op::Get => Ok(Outcome::Get {
+        Op::Get => Ok(ReplyContent::Get {
             id: only_i32(fields),
         }),
-        Op::Snd => Ok(Outcome::Snd),
+        Op::Snd => Ok(ReplyContent::Snd),
         Op::Rcv => unreachable!(),
         Op::Stat => {
             let stat = stat_of(fields);
             if stat.perm.mode > MAX_MODE {
                 return Err(Fault::BadField);
             }
-            Ok(Outcome::Stat(stat))
+            Ok(ReplyContent::Stat(stat))
         }
-        Op::Set => Ok(Outcome::Set),
-        Op::Rm => Ok(Outcome::Rm),
+        Op::Set => Ok(ReplyContent::Set),
+        Op::Rm => Ok(ReplyContent::Rm),
         Op::Row => match fields {
             [] => unreachable!(),
             [mark, rest @ ..] => marked_row(*mark, rest),
@@ -69,36 +69,36 @@ pub(crate) fn outcome_of(version: Version, op: Op, fields: &[u8]) -> Result<Outc
 }
 
 /// Returns the result of a hello in this version, from its fields.
-fn hello_of(version: Version, fields: &[u8]) -> Outcome
+fn hello_of(version: Version, fields: &[u8]) -> ReplyContent
     requires { IsAnswerLength version Op.Hello (length fields.now) }
     ensures answer { IsAnswer version 0 result }
-    ensures fits { FitsOutcome result }
+    ensures fits { FitsContent result }
     ensures error { error_number result ≡ 0 }
     ensures text { gives_text result ≡ false }
-    ensures spelled { fields.now ≡ outcome_fields result }
+    ensures spelled { fields.now ≡ content_fields result }
 {
     match version {
-        Version::One => Outcome::Hello,
-        Version::Two => Outcome::HelloSlots {
+        Version::One => ReplyContent::Hello,
+        Version::Two => ReplyContent::HelloSlots {
             slots: only_u32(fields),
         },
     }
 }
 
 /// Returns the result of a request for a row, from the mark and the bytes after it.
-fn marked_row(mark: u8, rest: &[u8]) -> Result<Outcome, Fault>
+fn marked_row(mark: u8, rest: &[u8]) -> Result<ReplyContent, Fault>
     requires { (length rest.now ≡ 0) ⊎ (length rest.now ≡ 22) }
-    ensures answer { (version : Versions) → IfOk result (λ outcome. IsAnswer version 7 outcome) }
-    ensures fits { IfOk result FitsOutcome }
-    ensures error { IfOk result (λ outcome. error_number outcome ≡ 0) }
-    ensures text { IfOk result (λ outcome. gives_text outcome ≡ false) }
-    ensures spelled { IfOk result (λ outcome. mark ∷ rest.now ≡ outcome_fields outcome) }
+    ensures answer { (version : Versions) → IfOk result (λ content. IsAnswer version 7 content) }
+    ensures fits { IfOk result FitsContent }
+    ensures error { IfOk result (λ content. error_number content ≡ 0) }
+    ensures text { IfOk result (λ content. gives_text content ≡ false) }
+    ensures spelled { IfOk result (λ content. mark ∷ rest.now ≡ content_fields content) }
     ensures err { IfErr result (λ fault. (fault ≡ Fault.BadField)
         × (IsBadMark (mark ∷ rest.now) ⊎ IsWideAt 13 (mark ∷ rest.now))) }
 {
     if rest.is_empty() {
         return if mark == 0 {
-            Ok(Outcome::Row(None))
+            Ok(ReplyContent::Row(None))
         } else {
             Err(Fault::BadField)
         };
@@ -110,7 +110,7 @@ fn marked_row(mark: u8, rest: &[u8]) -> Result<Outcome, Fault>
     if row.mode > MAX_MODE {
         return Err(Fault::BadField);
     }
-    Ok(Outcome::Row(Some(row)))
+    Ok(ReplyContent::Row(Some(row)))
 }
 
 /// Returns the row with these fields.

@@ -4,7 +4,7 @@ use Rattle.sysv_wire.specs.Frames.{op_number}
 use Rattle.sysv_wire.specs.Replies.{IsAnswer}
 use Rattle.sysv_wire.specs.ReplyFaults.{IsBadAnswer}
 use Rattle.sysv_wire.proofs.ReplyLemmas.{wide_stat}
-use Rattle.sysv_wire.proofs.outcome.outcome_of.Goals as goal
+use Rattle.sysv_wire.proofs.content.content_of.Goals as goal
 
 pub returns-then-stat-gt-MAX_MODE-clause-err : goal.returns-then-stat-gt-MAX_MODE-clause-err
 returns-then-stat-gt-MAX_MODE-clause-err c =
@@ -13,5 +13,5 @@ returns-then-stat-gt-MAX_MODE-clause-err c =
 
 pub returns-in-len1-up-clause-answer : goal.returns-in-len1-up-clause-answer
 returns-in-len1-up-clause-answer c =
-    subst (λ (o : Op). IfOk c.marked_row.result (λ outcome. IsAnswer c.args.version (op_number o) outcome)) (sym c.in-Row.is)
+    subst (λ (o : Op). IfOk c.marked_row.result (λ content. IsAnswer c.args.version (op_number o) content)) (sym c.in-Row.is)
     (c.marked_row.ensures.answer c.args.version)
