@@ -11,7 +11,7 @@ use crate::worn::{give_back, overflow};
 use sysv_model::Body;
 use sysv_pool::Chain;
 use sysv_steps::{Phase, Receiving, State};
-use sysv_turns::{ObjectCall, ObjectReply, SlotAsk, SlotCall, SlotReply, Turns};
+use sysv_turns::{ObjectCall, ObjectReply, SlotCall, SlotReply, Turns};
 
 /// Makes one step of a receive and returns the state that follows. The bytes of the message that it
 /// takes are written to `out`.
@@ -73,7 +73,7 @@ fn take<T: Turns, C: Clock>(
         noerror,
         ..
     } = receive;
-    let ask = SlotAsk::Take {
+    let call = SlotCall::Take {
         id,
         cred,
         selector,
@@ -81,7 +81,7 @@ fn take<T: Turns, C: Clock>(
         noerror,
         now: clock.now(),
     };
-    match turns.make(at, ObjectCall::Slot(SlotCall::Ask(ask))) {
+    match turns.make(at, ObjectCall::Slot(call)) {
         Ok(ObjectReply::Slot(SlotReply::Taken(Ok(taken)))) => {
             let (delivery, chain) = taken.finish(size, out);
             receive.given(delivery, chain)

@@ -14,8 +14,7 @@ use sysv_pool::Chain;
 use sysv_queue::PlaceRefused;
 use sysv_steps::{Afterwards, Phase, Sending, State};
 use sysv_turns::{
-    Letter, ObjectCall, ObjectReply, PoolCall, PoolReply, SlotAsk, SlotCall, SlotReply, TextSize,
-    Turns,
+    Letter, ObjectCall, ObjectReply, PoolCall, PoolReply, SlotCall, SlotReply, TextSize, Turns,
 };
 
 /// Makes one step of a send whose body is `text` and returns the state that follows.
@@ -68,8 +67,8 @@ fn look<T: Turns>(turns: &T, at: &mut T::At, text: &Body, send: Sending) -> Stat
 {
     let Sending { id, cred, .. } = send;
     let size = text.len();
-    let ask = SlotAsk::Look { id, cred, size };
-    match turns.make(at, ObjectCall::Slot(SlotCall::Ask(ask))) {
+    let call = SlotCall::Look { id, cred, size };
+    match turns.make(at, ObjectCall::Slot(call)) {
         Ok(ObjectReply::Slot(SlotReply::Looked(found))) => send.looked(found),
         Err(back) => overflow(back),
         _other => unreachable!(),

@@ -20,7 +20,7 @@ use sysv_gated::AtGates;
 use sysv_keys::SLOTS;
 use sysv_model::{Cred, Errno, Row, SetTo, Stat};
 use sysv_steps::{Ending, Phase, State, begin_remove, begin_set, begin_stat};
-use sysv_turns::{ObjectCall, ObjectReply, SlotAsk, SlotCall, SlotReply};
+use sysv_turns::{ObjectCall, ObjectReply, SlotCall, SlotReply};
 
 impl Service {
     /// Returns the attributes of the queue `id`, the number of queued messages and the number of
@@ -211,8 +211,7 @@ impl Service {
         if slot >= SLOTS {
             return Err(Errno::EINVAL);
         }
-        let ask = SlotAsk::Row { slot };
-        let call = ObjectCall::Slot(SlotCall::Ask(ask));
+        let call = ObjectCall::Slot(SlotCall::Row { slot });
         match self.gates.make(rt, &mut pass.seats, call) {
             Ok(ObjectReply::Slot(SlotReply::Shown(row))) => Ok(row),
             Err(back) => {

@@ -12,4 +12,4 @@ pub use letter::Letter;
 pub use object::{ObjectCall, ObjectReply, Turns};
 pub use pool::{PoolCall, PoolReply, TextSize};
 pub use registry::{RegistryCall, RegistryReply};
-pub use slot::{SlotAsk, SlotCall, SlotReply};
+pub use slot::{SlotCall, SlotReply};
