@@ -13,8 +13,9 @@ ghost use Rattle.sysv_core.specs.Preset.{MakesPreset};
 use bitflags::Flags as _;
 use sysv_keys::{Begun, one_legal_reply, unused_slots};
 use sysv_model::{Cred, Flags, IPC_PRIVATE};
-use sysv_objects::Objects;
-use sysv_turns::{ObjectCall, ObjectReply, RegistryCall, RegistryReply, SlotCall, SlotReply};
+use sysv_objects::{
+    ObjectCall, ObjectReply, Objects, RegistryCall, RegistryReply, SlotCall, SlotReply,
+};
 
 /// The credentials with which the preset queue is made.
 const PRESET: Cred = Cred {
