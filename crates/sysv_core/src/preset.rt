@@ -14,7 +14,7 @@ use bitflags::Flags as _;
 use sysv_keys::{Begun, one_legal_reply, unused_slots};
 use sysv_model::{Cred, Flags, IPC_PRIVATE};
 use sysv_objects::{
-    ObjectCall, ObjectReply, Objects, RegistryCall, RegistryReply, SlotAsk, SlotCall, SlotReply,
+    ObjectCall, ObjectReply, Objects, RegistryCall, RegistryReply, SlotCall, SlotReply,
 };
 
 /// The credentials with which the preset queue is made.
@@ -57,14 +57,14 @@ fn install(objects: &mut Objects, id: i32, mode: u32) -> bool
     ensures { MakesTurn objects.old (AtSlot (slot_of_id id)
         (Install id private preset_cred mode 0) (Installed result)) objects.new }
 {
-    let ask = SlotAsk::Install {
+    let call = SlotCall::Install {
         id,
         key: IPC_PRIVATE,
         cred: PRESET,
         mode,
         now: 0,
     };
-    match objects.make(ObjectCall::Slot(SlotCall::Ask(ask))) {
+    match objects.make(ObjectCall::Slot(call)) {
         ObjectReply::Slot(SlotReply::Installed(made)) => made,
         _other => unreachable!(),
     }

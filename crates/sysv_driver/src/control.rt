@@ -9,7 +9,7 @@ ghost use Rattle.sysv_driver.specs.Stepping.{StepsOn, no_moment};
 use crate::clock::Clock;
 use crate::worn::{forget, give_back, overflow};
 use sysv_model::{Cred, SetTo};
-use sysv_objects::{ObjectCall, ObjectReply, SlotAsk, SlotCall, SlotReply, Turns};
+use sysv_objects::{ObjectCall, ObjectReply, SlotCall, SlotReply, Turns};
 use sysv_pool::Chain;
 use sysv_steps::{Phase, State, forgotten, given_back, removed, set_done, stat_told};
 
@@ -32,8 +32,8 @@ pub fn stat_step<T: Turns>(turns: &T, at: &mut T::At, phase: Phase) -> State
     let Phase::Stat { cred, id } = phase else {
         unreachable!()
     };
-    let ask = SlotAsk::Stat { id, cred };
-    match turns.make(at, ObjectCall::Slot(SlotCall::Ask(ask))) {
+    let call = SlotCall::Stat { id, cred };
+    match turns.make(at, ObjectCall::Slot(call)) {
         Ok(ObjectReply::Slot(SlotReply::Told(told))) => stat_told(told),
         Err(back) => overflow(back),
         _other => unreachable!(),
@@ -89,8 +89,8 @@ fn set<T: Turns, C: Clock>(
         at.old kept (state_of result []) at.new kept }
 {
     let now = clock.now();
-    let ask = SlotAsk::Set { id, cred, to, now };
-    match turns.make(at, ObjectCall::Slot(SlotCall::Ask(ask))) {
+    let call = SlotCall::Set { id, cred, to, now };
+    match turns.make(at, ObjectCall::Slot(call)) {
         Ok(ObjectReply::Slot(SlotReply::Set(done))) => set_done(done),
         Err(back) => overflow(back),
         _other => unreachable!(),
@@ -137,8 +137,8 @@ fn remove<T: Turns>(turns: &T, at: &mut T::At, cred: Cred, id: i32) -> State
     ensures steps { (kept : ℕ) → StepsOn T.takes T.misses no_moment (AtRemove cred id)
         at.old kept (state_of result []) at.new kept }
 {
-    let ask = SlotAsk::Remove { id, cred };
-    match turns.make(at, ObjectCall::Slot(SlotCall::Ask(ask))) {
+    let call = SlotCall::Remove { id, cred };
+    match turns.make(at, ObjectCall::Slot(call)) {
         Ok(ObjectReply::Slot(SlotReply::Removed(done))) => removed(id, done),
         Err(back) => overflow(back),
         _other => unreachable!(),

@@ -10,7 +10,7 @@ use crate::clock::Clock;
 use crate::worn::{forget, overflow};
 use bitflags::Flags as _;
 use sysv_objects::{
-    ObjectCall, ObjectReply, RegistryCall, RegistryReply, SlotAsk, SlotCall, SlotReply, Turns,
+    ObjectCall, ObjectReply, RegistryCall, RegistryReply, SlotCall, SlotReply, Turns,
 };
 use sysv_steps::{Getting, Phase, State};
 
@@ -69,14 +69,14 @@ fn install<T: Turns, C: Clock>(turns: &T, at: &mut T::At, clock: &C, get: Gettin
     ensures steps { (kept : ℕ) → StepsOn T.takes T.misses (C.may clock.now)
         (AtInstall (getting get) id) at.old kept (state_of result []) at.new kept }
 {
-    let ask = SlotAsk::Install {
+    let call = SlotCall::Install {
         id,
         key: get.key,
         cred: get.cred,
         mode: get.flags.bits(),
         now: clock.now(),
     };
-    match turns.make(at, ObjectCall::Slot(SlotCall::Ask(ask))) {
+    match turns.make(at, ObjectCall::Slot(call)) {
         Ok(ObjectReply::Slot(SlotReply::Installed(made))) => Getting::installed(id, made),
         Err(back) => {
             forget(turns, at, id);
@@ -110,8 +110,8 @@ fn probe<T: Turns>(turns: &T, at: &mut T::At, get: Getting, id: i32, settled: u6
         (AtProbe (getting get) id settled) at.old kept (state_of result []) at.new kept }
 {
     let Getting { cred, flags, .. } = get;
-    let ask = SlotAsk::Probe { id, cred, flags };
-    match turns.make(at, ObjectCall::Slot(SlotCall::Ask(ask))) {
+    let call = SlotCall::Probe { id, cred, flags };
+    match turns.make(at, ObjectCall::Slot(call)) {
         Ok(ObjectReply::Slot(SlotReply::Probed(found))) => get.probed(id, settled, found),
         Err(back) => overflow(back),
         _other => unreachable!(),

@@ -9,7 +9,7 @@ ghost use Rattle.sysv_driver.specs.Giving.{StepsGiving};
 use crate::clock::Clock;
 use crate::worn::{give_back, overflow};
 use sysv_model::Body;
-use sysv_objects::{ObjectCall, ObjectReply, SlotAsk, SlotCall, SlotReply, Turns};
+use sysv_objects::{ObjectCall, ObjectReply, SlotCall, SlotReply, Turns};
 use sysv_pool::Chain;
 use sysv_steps::{Phase, Receiving, State};
 
@@ -73,7 +73,7 @@ fn take<T: Turns, C: Clock>(
         noerror,
         ..
     } = receive;
-    let ask = SlotAsk::Take {
+    let call = SlotCall::Take {
         id,
         cred,
         selector,
@@ -81,7 +81,7 @@ fn take<T: Turns, C: Clock>(
         noerror,
         now: clock.now(),
     };
-    match turns.make(at, ObjectCall::Slot(SlotCall::Ask(ask))) {
+    match turns.make(at, ObjectCall::Slot(call)) {
         Ok(ObjectReply::Slot(SlotReply::Taken(Ok(taken)))) => {
             let (delivery, chain) = taken.finish(size, out);
             receive.given(delivery, chain)

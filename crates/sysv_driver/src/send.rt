@@ -11,8 +11,7 @@ use crate::clock::Clock;
 use crate::worn::{give_back, overflow};
 use sysv_model::{Body, Errno};
 use sysv_objects::{
-    Letter, ObjectCall, ObjectReply, PoolCall, PoolReply, SlotAsk, SlotCall, SlotReply, TextSize,
-    Turns,
+    Letter, ObjectCall, ObjectReply, PoolCall, PoolReply, SlotCall, SlotReply, TextSize, Turns,
 };
 use sysv_pool::Chain;
 use sysv_queue::PlaceRefused;
@@ -68,8 +67,8 @@ fn look<T: Turns>(turns: &T, at: &mut T::At, text: &Body, send: Sending) -> Stat
 {
     let Sending { id, cred, .. } = send;
     let size = text.len();
-    let ask = SlotAsk::Look { id, cred, size };
-    match turns.make(at, ObjectCall::Slot(SlotCall::Ask(ask))) {
+    let call = SlotCall::Look { id, cred, size };
+    match turns.make(at, ObjectCall::Slot(call)) {
         Ok(ObjectReply::Slot(SlotReply::Looked(found))) => send.looked(found),
         Err(back) => overflow(back),
         _other => unreachable!(),

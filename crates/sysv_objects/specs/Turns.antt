@@ -3,14 +3,13 @@
 use Rattle.std.specs.Prelude.{[], ⊤}
 use Rattle.sysv_model.specs.Turn.{Ask, OfSlot, OfRegistry, OfPool, Deed, AtSlot, AtRegistry, AtPool}
 use Rattle.sysv_queue.specs.Slot.{Slot}
-use Rattle.sysv_objects.specs.declared.slot.SlotCall.TheVariants.{Ask as Asks, Place}
 use Rattle.sysv_objects.specs.declared.pool.PoolCall.TheVariants.{Reserve, Release}
 use Rattle.sysv_objects.specs.declared.object.ObjectCall.{ObjectCall}
 use Rattle.sysv_objects.specs.declared.object.ObjectCall.TheVariants as asked
 use Rattle.sysv_objects.specs.declared.object.ObjectReply.{ObjectReply}
 use Rattle.sysv_objects.specs.declared.object.ObjectReply.TheVariants as told
 use Rattle.sysv_pool.specs.Chain.{Chained}
-use Rattle.sysv_objects.specs.SlotTurns.{IsThere, MayRaise, slot_asked, slot_call, slot_reply, FitsSlotCall, LeavesSlot}
+use Rattle.sysv_objects.specs.SlotTurns.{IsThere, MayRaise, chain_handed, slot_asked, slot_call, slot_reply, FitsSlotCall, LeavesSlot}
 use Rattle.sysv_objects.specs.RegistryTurns.{registry_call, registry_reply, FitsRegistryCall, LeavesRegistry}
 use Rattle.sysv_objects.specs.PoolTurns.{MayRelease, pool_call, pool_reply, FitsPoolCall, LeavesPool}
 
@@ -28,8 +27,7 @@ IsOfSomeSlot (asked.Pool call) = ⊤
 
 -- The chain that the request hands over, or an empty one.
 abbrev pub chain_asked : ObjectCall → Chained
-chain_asked (asked.Slot (Asks ask)) = record { blocks = 0; bytes = [] }
-chain_asked (asked.Slot (Place id cred mtype letter now)) = letter
+chain_asked (asked.Slot call) = chain_handed call
 chain_asked (asked.Registry call) = record { blocks = 0; bytes = [] }
 chain_asked (asked.Pool (Reserve size)) = record { blocks = 0; bytes = [] }
 chain_asked (asked.Pool (Release chain)) = chain

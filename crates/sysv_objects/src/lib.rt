@@ -23,4 +23,4 @@ pub use object::{ObjectCall, ObjectReply, Turns};
 pub use objects::{Objects, ObjectsRefused};
 pub use pool::{PoolCall, PoolReply, TextSize};
 pub use registry::{RegistryCall, RegistryReply};
-pub use slot::{SlotAsk, SlotCall, SlotReply};
+pub use slot::{SlotCall, SlotReply};

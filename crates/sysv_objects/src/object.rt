@@ -29,18 +29,9 @@ impl ObjectCall {
         ensures { result ≡ chain_asked self }
     {
         match self {
-            ObjectCall::Slot(
-                SlotCall::Place {
-                    id: _,
-                    cred: _,
-                    mtype: _,
-                    letter,
-                    now: _,
-                },
-            ) => letter.into_chain(),
-            ObjectCall::Pool(PoolCall::Release(chain)) => chain,
-            ObjectCall::Slot(SlotCall::Ask(_)) => Chain::empty(),
+            ObjectCall::Slot(call) => call.into_chain(),
             ObjectCall::Registry(_) => Chain::empty(),
+            ObjectCall::Pool(PoolCall::Release(chain)) => chain,
             ObjectCall::Pool(PoolCall::Reserve(_)) => Chain::empty(),
         }
     }

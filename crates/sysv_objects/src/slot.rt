@@ -1,18 +1,17 @@
 //! Turns at a slot.
 
 ghost use Rattle.std.specs.Prelude.{◌≡◌, ◌^◌, ◌<◌};
-ghost use Rattle.sysv_objects.specs.SlotTurns.{SlotMoves, IsThere, IsThereFor, MayRaise, slot_of_ask, slot_asked};
+ghost use Rattle.sysv_objects.specs.SlotTurns.{SlotMoves, IsThere, MayRaise, slot_asked, chain_handed};
 ghost use Rattle.sysv_keys.specs.declared.identifier.TheConstants.{SLOTS};
 
 use crate::letter::Letter;
 use sysv_keys::slot_of_id;
 use sysv_model::{Cred, Errno, Flags, Row, Selector, SetTo, Stat};
+use sysv_pool::Chain;
 use sysv_queue::{Discarded, Look, PlaceRefused, Probe, QueueSlot, TakeRefused, Taken};
 
-/// The requests to a slot that hand over no message body. Each is the call of `QueueSlot` with the
-/// same name.
-#[derive(Clone, Copy, PartialEq, Eq, Debug)]
-pub enum SlotAsk {
+/// The requests to a slot. Each is the call of `QueueSlot` with the same name.
+pub enum SlotCall {
     Install {
         id: i32,
         key: i32,
@@ -29,6 +28,13 @@ pub enum SlotAsk {
         id: i32,
         cred: Cred,
         size: usize,
+    },
+    Place {
+        id: i32,
+        cred: Cred,
+        mtype: i64,
+        letter: Letter,
+        now: u64,
     },
     Take {
         id: i32,
@@ -58,19 +64,6 @@ pub enum SlotAsk {
     },
 }
 
-/// The requests to a slot: `QueueSlot::place`, which hands over a body, and the requests without
-/// one.
-pub enum SlotCall {
-    Ask(SlotAsk),
-    Place {
-        id: i32,
-        cred: Cred,
-        mtype: i64,
-        letter: Letter,
-        now: u64,
-    },
-}
-
 /// The replies of a slot: the results of `install`, `probe`, `look`, `place`, `take`, `stat`,
 /// `set`, `remove` and `row`, in this order.
 pub enum SlotReply {
@@ -85,60 +78,6 @@ pub enum SlotReply {
     Shown(Option<Row>),
 }
 
-impl SlotAsk {
-    /// Returns the number of the slot that the request goes to: the slot of its identifier, or the
-    /// slot whose row it reads. It is below `SLOTS` unless the request reads the row of a slot that
-    /// does not exist.
-    pub fn slot(&self) -> usize
-        ensures number { result ≡ slot_of_ask self.now }
-        ensures within { IsThereFor self.now → result < SLOTS }
-    {
-        let id = match *self {
-            SlotAsk::Install { id, .. } => id,
-            SlotAsk::Probe { id, .. } => id,
-            SlotAsk::Look { id, .. } => id,
-            SlotAsk::Take { id, .. } => id,
-            SlotAsk::Stat { id, .. } => id,
-            SlotAsk::Set { id, .. } => id,
-            SlotAsk::Remove { id, .. } => id,
-            SlotAsk::Row { slot } => return slot,
-        };
-        slot_of_id(id)
-    }
-
-    // Makes the turn at this slot. Its counts must be below 2^63 if the turn may raise one.
-    #[inline(always)]
-    fn make(self, slot: &mut QueueSlot) -> SlotReply
-        requires arrived { MayRaise (SlotCall.Ask self) → slot.old.arrived < 2 ^ 63 }
-        requires freed { MayRaise (SlotCall.Ask self) → slot.old.freed < 2 ^ 63 }
-        ensures { SlotMoves slot.old (SlotCall.Ask self) result slot.new }
-    {
-        match self {
-            SlotAsk::Install {
-                id,
-                key,
-                cred,
-                mode,
-                now,
-            } => SlotReply::Installed(slot.install(id, key, cred, mode, now)),
-            SlotAsk::Probe { id, cred, flags } => SlotReply::Probed(slot.probe(id, cred, flags)),
-            SlotAsk::Look { id, cred, size } => SlotReply::Looked(slot.look(id, cred, size)),
-            SlotAsk::Take {
-                id,
-                cred,
-                selector,
-                size,
-                noerror,
-                now,
-            } => SlotReply::Taken(slot.take(id, cred, selector, size, noerror, now)),
-            SlotAsk::Stat { id, cred } => SlotReply::Told(slot.stat(id, cred)),
-            SlotAsk::Set { id, cred, to, now } => SlotReply::Set(slot.set(id, cred, to, now)),
-            SlotAsk::Remove { id, cred } => SlotReply::Removed(slot.remove(id, cred)),
-            SlotAsk::Row { .. } => SlotReply::Shown(slot.row()),
-        }
-    }
-}
-
 impl SlotCall {
     /// Returns the number of the slot that the request goes to: the slot of its identifier, or the
     /// slot whose row it reads. It is below `SLOTS` unless the request reads the row of a slot that
@@ -147,9 +86,66 @@ impl SlotCall {
         ensures number { result ≡ slot_asked self.now }
         ensures within { IsThere self.now → result < SLOTS }
     {
+        let id = match self {
+            SlotCall::Install { id, .. } => *id,
+            SlotCall::Probe { id, .. } => *id,
+            SlotCall::Look { id, .. } => *id,
+            SlotCall::Place { id, .. } => *id,
+            SlotCall::Take { id, .. } => *id,
+            SlotCall::Stat { id, .. } => *id,
+            SlotCall::Set { id, .. } => *id,
+            SlotCall::Remove { id, .. } => *id,
+            SlotCall::Row { slot } => return *slot,
+        };
+        slot_of_id(id)
+    }
+
+    /// Returns the chain that the request hands over, or an empty chain if it hands over none.
+    pub(crate) fn into_chain(self) -> Chain
+        ensures { result ≡ chain_handed self }
+    {
         match self {
-            SlotCall::Ask(ask) => ask.slot(),
-            SlotCall::Place { id, .. } => slot_of_id(*id),
+            SlotCall::Place {
+                id: _,
+                cred: _,
+                mtype: _,
+                letter,
+                now: _,
+            } => letter.into_chain(),
+            SlotCall::Install {
+                id: _,
+                key: _,
+                cred: _,
+                mode: _,
+                now: _,
+            }
+            | SlotCall::Probe {
+                id: _,
+                cred: _,
+                flags: _,
+            }
+            | SlotCall::Look {
+                id: _,
+                cred: _,
+                size: _,
+            }
+            | SlotCall::Take {
+                id: _,
+                cred: _,
+                selector: _,
+                size: _,
+                noerror: _,
+                now: _,
+            }
+            | SlotCall::Stat { id: _, cred: _ }
+            | SlotCall::Set {
+                id: _,
+                cred: _,
+                to: _,
+                now: _,
+            }
+            | SlotCall::Remove { id: _, cred: _ }
+            | SlotCall::Row { slot: _ } => Chain::empty(),
         }
     }
 
@@ -166,7 +162,15 @@ impl SlotCall {
         ensures { SlotMoves slot.old self result slot.new }
     {
         match self {
-            SlotCall::Ask(ask) => ask.make(slot),
+            SlotCall::Install {
+                id,
+                key,
+                cred,
+                mode,
+                now,
+            } => SlotReply::Installed(slot.install(id, key, cred, mode, now)),
+            SlotCall::Probe { id, cred, flags } => SlotReply::Probed(slot.probe(id, cred, flags)),
+            SlotCall::Look { id, cred, size } => SlotReply::Looked(slot.look(id, cred, size)),
             SlotCall::Place {
                 id,
                 cred,
@@ -177,6 +181,18 @@ impl SlotCall {
                 let size = letter.size();
                 SlotReply::Placed(slot.place(id, cred, mtype, letter.into_chain(), size, now))
             }
+            SlotCall::Take {
+                id,
+                cred,
+                selector,
+                size,
+                noerror,
+                now,
+            } => SlotReply::Taken(slot.take(id, cred, selector, size, noerror, now)),
+            SlotCall::Stat { id, cred } => SlotReply::Told(slot.stat(id, cred)),
+            SlotCall::Set { id, cred, to, now } => SlotReply::Set(slot.set(id, cred, to, now)),
+            SlotCall::Remove { id, cred } => SlotReply::Removed(slot.remove(id, cred)),
+            SlotCall::Row { slot: _ } => SlotReply::Shown(slot.row()),
         }
     }
 }

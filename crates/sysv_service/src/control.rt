@@ -18,7 +18,7 @@ use std::sync::Wait as MayWait;
 use sysv_driver::{Clock, remove_step, set_step, stat_step};
 use sysv_keys::SLOTS;
 use sysv_model::{Cred, Errno, Row, SetTo, Stat};
-use sysv_objects::{ObjectCall, ObjectReply, SlotAsk, SlotCall, SlotReply};
+use sysv_objects::{ObjectCall, ObjectReply, SlotCall, SlotReply};
 use sysv_shared::AtGates;
 use sysv_steps::{Ending, Phase, State, begin_remove, begin_set, begin_stat};
 
@@ -211,8 +211,7 @@ impl Service {
         if slot >= SLOTS {
             return Err(Errno::EINVAL);
         }
-        let ask = SlotAsk::Row { slot };
-        let call = ObjectCall::Slot(SlotCall::Ask(ask));
+        let call = ObjectCall::Slot(SlotCall::Row { slot });
         match self.gates.make(rt, &mut pass.seats, call) {
             Ok(ObjectReply::Slot(SlotReply::Shown(row))) => Ok(row),
             Err(back) => {

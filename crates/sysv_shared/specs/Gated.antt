@@ -4,9 +4,8 @@ use Rattle.std.specs.Prelude.{ℕ, ◌+◌, pos, true, None, [], ⊤}
 use Rattle.sysv_queue.specs.Slot.{Slot}
 use Rattle.sysv_keys.specs.StandsFor.{Registry}
 use Rattle.sysv_pool.specs.State.{State}
-use Rattle.sysv_objects.specs.declared.slot.SlotAsk.TheVariants.{Row}
 use Rattle.sysv_objects.specs.declared.slot.SlotCall.{SlotCall}
-use Rattle.sysv_objects.specs.declared.slot.SlotCall.TheVariants.{Ask}
+use Rattle.sysv_objects.specs.declared.slot.SlotCall.TheVariants.{Row}
 use Rattle.sysv_objects.specs.declared.slot.SlotReply.{SlotReply}
 use Rattle.sysv_objects.specs.declared.slot.SlotReply.TheVariants.{Shown}
 use Rattle.sysv_objects.specs.declared.registry.RegistryCall.{RegistryCall}
@@ -64,8 +63,8 @@ slot_in (gated.Pool pool) = record { live = None; messages = []; arrived = 0; fr
 -- The call, as one of a slot.
 abbrev pub slot_call_in : ObjectCall → SlotCall
 slot_call_in (asked.Slot call) = call
-slot_call_in (asked.Registry call) = Ask (Row 0)
-slot_call_in (asked.Pool call) = Ask (Row 0)
+slot_call_in (asked.Registry call) = Row 0
+slot_call_in (asked.Pool call) = Row 0
 
 -- The reply, as one of a slot.
 abbrev pub slot_reply_in : ObjectReply → SlotReply

@@ -12,7 +12,7 @@ use sysv_keys::Begun;
 use sysv_model::{Errno, Row, Selector, SetTo, Stat};
 use sysv_objects::{
     Letter, ObjectCall, ObjectReply, Objects, ObjectsRefused, PoolCall, PoolReply, RegistryCall,
-    RegistryReply, SlotAsk, SlotCall, SlotReply, TextSize,
+    RegistryReply, SlotCall, SlotReply, TextSize,
 };
 use sysv_pool::Chain;
 use sysv_queue::{Look, Probe, TakeRefused, Tally};
@@ -103,14 +103,14 @@ fn install(objects: &mut Objects, id: i32, key: i32, raised: u64) -> bool
     requires few { raised < 100 }
     ensures { CountsUpTo (raised + 1) objects.new }
 {
-    let ask = SlotAsk::Install {
+    let call = SlotCall::Install {
         id,
         key,
         cred: USER,
         mode: 0o600,
         now: 50,
     };
-    match turn(objects, ObjectCall::Slot(SlotCall::Ask(ask)), raised) {
+    match turn(objects, ObjectCall::Slot(call), raised) {
         ObjectReply::Slot(SlotReply::Installed(made)) => made,
         _other => unreachable!(),
     }
@@ -132,12 +132,12 @@ fn probe(objects: &mut Objects, id: i32, raised: u64) -> Probe
     requires few { raised < 100 }
     ensures { CountsUpTo (raised + 1) objects.new }
 {
-    let ask = SlotAsk::Probe {
+    let call = SlotCall::Probe {
         id,
         cred: USER,
         flags: creating(),
     };
-    match turn(objects, ObjectCall::Slot(SlotCall::Ask(ask)), raised) {
+    match turn(objects, ObjectCall::Slot(call), raised) {
         ObjectReply::Slot(SlotReply::Probed(found)) => found,
         _other => unreachable!(),
     }
@@ -148,12 +148,12 @@ fn look(objects: &mut Objects, id: i32, raised: u64) -> Look
     requires few { raised < 100 }
     ensures { CountsUpTo (raised + 1) objects.new }
 {
-    let ask = SlotAsk::Look {
+    let call = SlotCall::Look {
         id,
         cred: USER,
         size: 2,
     };
-    match turn(objects, ObjectCall::Slot(SlotCall::Ask(ask)), raised) {
+    match turn(objects, ObjectCall::Slot(call), raised) {
         ObjectReply::Slot(SlotReply::Looked(found)) => found,
         _other => unreachable!(),
     }
@@ -164,8 +164,8 @@ fn stat(objects: &mut Objects, id: i32, raised: u64) -> Result<Stat, Errno>
     requires few { raised < 100 }
     ensures { CountsUpTo (raised + 1) objects.new }
 {
-    let ask = SlotAsk::Stat { id, cred: USER };
-    match turn(objects, ObjectCall::Slot(SlotCall::Ask(ask)), raised) {
+    let call = SlotCall::Stat { id, cred: USER };
+    match turn(objects, ObjectCall::Slot(call), raised) {
         ObjectReply::Slot(SlotReply::Told(told)) => told,
         _other => unreachable!(),
     }
@@ -178,8 +178,8 @@ fn row(objects: &mut Objects, slot: usize, raised: u64) -> Option<Row>
     requires there { slot < 256 }
     ensures { CountsUpTo (raised + 1) objects.new }
 {
-    let ask = SlotAsk::Row { slot };
-    match turn(objects, ObjectCall::Slot(SlotCall::Ask(ask)), raised) {
+    let call = SlotCall::Row { slot };
+    match turn(objects, ObjectCall::Slot(call), raised) {
         ObjectReply::Slot(SlotReply::Shown(row)) => row,
         _other => unreachable!(),
     }
@@ -218,14 +218,14 @@ fn place(rt: &impl Abort, alloc: Global, objects: &mut Objects, id: i32, raised:
 fn taking(id: i32) -> ObjectCall
     ensures { IsOfSomeSlot result }
 {
-    ObjectCall::Slot(SlotCall::Ask(SlotAsk::Take {
+    ObjectCall::Slot(SlotCall::Take {
         id,
         cred: USER,
         selector: Selector::Any,
         size: 9,
         noerror: false,
         now: 70,
-    }))
+    })
 }
 
 /// Takes an empty message of type 5 from its queue.
@@ -269,13 +269,13 @@ fn set(objects: &mut Objects, id: i32, raised: u64) -> Result<(), Errno>
     requires few { raised < 100 }
     ensures { CountsUpTo (raised + 1) objects.new }
 {
-    let ask = SlotAsk::Set {
+    let call = SlotCall::Set {
         id,
         cred: USER,
         to: TO,
         now: 80,
     };
-    match turn(objects, ObjectCall::Slot(SlotCall::Ask(ask)), raised) {
+    match turn(objects, ObjectCall::Slot(call), raised) {
         ObjectReply::Slot(SlotReply::Set(done)) => done,
         _other => unreachable!(),
     }
@@ -287,8 +287,8 @@ fn remove(objects: &mut Objects, id: i32, raised: u64) -> Result<Chain, Errno>
     requires few { raised < 100 }
     ensures { CountsUpTo (raised + 1) objects.new }
 {
-    let ask = SlotAsk::Remove { id, cred: USER };
-    match turn(objects, ObjectCall::Slot(SlotCall::Ask(ask)), raised) {
+    let call = SlotCall::Remove { id, cred: USER };
+    match turn(objects, ObjectCall::Slot(call), raised) {
         ObjectReply::Slot(SlotReply::Removed(Ok(discarded))) => Ok(discarded.into_chain()),
         ObjectReply::Slot(SlotReply::Removed(Err(why))) => Err(why),
         _other => unreachable!(),
@@ -420,13 +420,13 @@ fn blocks_are_reserved_and_released(rt: HostRuntime) {
 
 #[test]
 fn calls_tell_their_slot_and_hand_back_their_chain(rt: HostRuntime) {
-    let ask = SlotAsk::Stat {
+    let call = SlotCall::Row { slot: 5 };
+    assert_is(&rt, call.slot(), 5);
+    assert_is(&rt, ObjectCall::Slot(call).into_chain().end(), 0);
+    let call = SlotCall::Stat {
         id: 257,
         cred: USER,
     };
-    assert_is(&rt, ask.slot(), 1);
-    assert_is(&rt, SlotAsk::Row { slot: 5 }.slot(), 5);
-    let call = SlotCall::Ask(ask);
     assert_is(&rt, call.slot(), 1);
     assert_is(&rt, ObjectCall::Slot(call).into_chain().end(), 0);
     let letter = empty_letter(&rt, rt.alloc());

@@ -10,8 +10,8 @@ use std::sync::Wait;
 use sysv_keys::Begun;
 use sysv_model::{Cred, Errno, Flags, Row, Selector, SetTo, Stat};
 use sysv_objects::{
-    Letter, ObjectCall, ObjectReply, PoolCall, PoolReply, RegistryCall, RegistryReply, SlotAsk,
-    SlotCall, SlotReply, TextSize,
+    Letter, ObjectCall, ObjectReply, PoolCall, PoolReply, RegistryCall, RegistryReply, SlotCall,
+    SlotReply, TextSize,
 };
 use sysv_pool::Chain;
 use sysv_queue::{Discarded, Look, PlaceRefused, Probe, TakeRefused, Taken};
@@ -41,14 +41,14 @@ pub(crate) fn install(
     requires { AreOf gates.now seats.old }
     ensures { AreOf gates.now seats.new }
 {
-    let ask = SlotAsk::Install {
+    let call = SlotCall::Install {
         id,
         key,
         cred,
         mode,
         now,
     };
-    match gates.make(rt, seats, ObjectCall::Slot(SlotCall::Ask(ask))) {
+    match gates.make(rt, seats, ObjectCall::Slot(call)) {
         Ok(ObjectReply::Slot(SlotReply::Installed(made))) => Ok(made),
         Err(back) => Err(came_back(back)),
         _other => unreachable!(),
@@ -67,8 +67,8 @@ pub(crate) fn probe(
     requires { AreOf gates.now seats.old }
     ensures { AreOf gates.now seats.new }
 {
-    let ask = SlotAsk::Probe { id, cred, flags };
-    match gates.make(rt, seats, ObjectCall::Slot(SlotCall::Ask(ask))) {
+    let call = SlotCall::Probe { id, cred, flags };
+    match gates.make(rt, seats, ObjectCall::Slot(call)) {
         Ok(ObjectReply::Slot(SlotReply::Probed(found))) => Ok(found),
         Err(back) => Err(came_back(back)),
         _other => unreachable!(),
@@ -87,8 +87,8 @@ pub(crate) fn look(
     requires { AreOf gates.now seats.old }
     ensures { AreOf gates.now seats.new }
 {
-    let ask = SlotAsk::Look { id, cred, size };
-    match gates.make(rt, seats, ObjectCall::Slot(SlotCall::Ask(ask))) {
+    let call = SlotCall::Look { id, cred, size };
+    match gates.make(rt, seats, ObjectCall::Slot(call)) {
         Ok(ObjectReply::Slot(SlotReply::Looked(found))) => Ok(found),
         Err(back) => Err(came_back(back)),
         _other => unreachable!(),
@@ -110,7 +110,7 @@ pub(crate) fn take(
     requires { AreOf gates.now seats.old }
     ensures { AreOf gates.now seats.new }
 {
-    let ask = SlotAsk::Take {
+    let call = SlotCall::Take {
         id,
         cred,
         selector,
@@ -118,7 +118,7 @@ pub(crate) fn take(
         noerror,
         now,
     };
-    match gates.make(rt, seats, ObjectCall::Slot(SlotCall::Ask(ask))) {
+    match gates.make(rt, seats, ObjectCall::Slot(call)) {
         Ok(ObjectReply::Slot(SlotReply::Taken(taken))) => Ok(taken),
         Err(back) => Err(came_back(back)),
         _other => unreachable!(),
@@ -136,8 +136,8 @@ pub(crate) fn stat(
     requires { AreOf gates.now seats.old }
     ensures { AreOf gates.now seats.new }
 {
-    let ask = SlotAsk::Stat { id, cred };
-    match gates.make(rt, seats, ObjectCall::Slot(SlotCall::Ask(ask))) {
+    let call = SlotCall::Stat { id, cred };
+    match gates.make(rt, seats, ObjectCall::Slot(call)) {
         Ok(ObjectReply::Slot(SlotReply::Told(told))) => Ok(told),
         Err(back) => Err(came_back(back)),
         _other => unreachable!(),
@@ -157,8 +157,8 @@ pub(crate) fn set(
     requires { AreOf gates.now seats.old }
     ensures { AreOf gates.now seats.new }
 {
-    let ask = SlotAsk::Set { id, cred, to, now };
-    match gates.make(rt, seats, ObjectCall::Slot(SlotCall::Ask(ask))) {
+    let call = SlotCall::Set { id, cred, to, now };
+    match gates.make(rt, seats, ObjectCall::Slot(call)) {
         Ok(ObjectReply::Slot(SlotReply::Set(done))) => Ok(done),
         Err(back) => Err(came_back(back)),
         _other => unreachable!(),
@@ -176,8 +176,8 @@ pub(crate) fn remove(
     requires { AreOf gates.now seats.old }
     ensures { AreOf gates.now seats.new }
 {
-    let ask = SlotAsk::Remove { id, cred };
-    match gates.make(rt, seats, ObjectCall::Slot(SlotCall::Ask(ask))) {
+    let call = SlotCall::Remove { id, cred };
+    match gates.make(rt, seats, ObjectCall::Slot(call)) {
         Ok(ObjectReply::Slot(SlotReply::Removed(done))) => Ok(done),
         Err(back) => Err(came_back(back)),
         _other => unreachable!(),
@@ -195,8 +195,8 @@ pub(crate) fn row(
     requires slot { slot < slot_count }
     ensures { AreOf gates.now seats.new }
 {
-    let ask = SlotAsk::Row { slot };
-    match gates.make(rt, seats, ObjectCall::Slot(SlotCall::Ask(ask))) {
+    let call = SlotCall::Row { slot };
+    match gates.make(rt, seats, ObjectCall::Slot(call)) {
         Ok(ObjectReply::Slot(SlotReply::Shown(row))) => Ok(row),
         Err(back) => Err(came_back(back)),
         _other => unreachable!(),

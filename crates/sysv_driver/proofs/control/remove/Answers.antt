@@ -9,9 +9,8 @@ use Rattle.sysv_queue.specs.Replies.{remove_reply}
 use Rattle.sysv_queue.specs.Slot.{Slot}
 use Rattle.sysv_steps.specs.State.{AtRemove}
 use Rattle.sysv_steps.specs.Seen.{state_of}
-use Rattle.sysv_objects.specs.SlotTurns.{FitsAsk}
+use Rattle.sysv_objects.specs.SlotTurns.{FitsSlotCall}
 use Rattle.sysv_objects.specs.declared.slot.SlotCall.TheVariants as called
-use Rattle.sysv_objects.specs.declared.slot.SlotAsk.TheVariants as asked
 use Rattle.sysv_objects.specs.declared.slot.SlotReply.TheVariants as told
 use Rattle.sysv_driver.specs.Stepping.{no_moment}
 use Rattle.sysv_driver.proofs.Staying.{remove_removes}
@@ -20,14 +19,14 @@ use Rattle.sysv_driver.specs.Telling.{slot_told}
 use Rattle.sysv_driver.proofs.control.remove.Goals as goal
 
 -- The discarded messages were queued in the slot.
-of_slot : (slot : Slot) (cred : _) (id : _) (done : Result _ Errno) → FitsAsk slot (asked.Remove id cred) (told.Removed done) → IfOk done (λ discarded. discarded ≡ blocks_of slot.messages)
+of_slot : (slot : Slot) (cred : _) (id : _) (done : Result _ Errno) → FitsSlotCall slot (called.Remove id cred) (told.Removed done) → IfOk done (λ discarded. discarded ≡ blocks_of slot.messages)
 of_slot slot cred id (Ok discarded) fits = fits
 of_slot slot cred id (Err why) fits = tt
 
 pub returns-in-Ok-Slot-Removed-clause-removes : goal.returns-in-Ok-Slot-Removed-clause-removes
 returns-in-Ok-Slot-Removed-clause-removes g c =
     let w = c.in-Ok-Slot-Removed in
-    let told = slot_told g.T.Turns.takes c.args.at.now c.make.new.at (called.Ask (asked.Remove (to_z w32 (of_z w32 c.args.id)) c.args.cred)) w.field-0 w.field-0-0 _ w.field-0-is w.field-0-0-is w.ensures.ok in
+    let told = slot_told g.T.Turns.takes c.args.at.now c.make.new.at (called.Remove (to_z w32 (of_z w32 c.args.id)) c.args.cred) w.field-0 w.field-0-0 _ w.field-0-is w.field-0-0-is w.ensures.ok in
     let done = c.in-Ok-Slot-Removed.done in
     remove_removes _ told.0.messages done _ (c.removed.ensures [] told.0.messages (of_slot told.0 c.args.cred (to_z w32 (of_z w32 c.args.id)) done told.2))
 
@@ -35,7 +34,7 @@ pub returns-in-Ok-Slot-Removed-clause-steps : goal.returns-in-Ok-Slot-Removed-cl
 returns-in-Ok-Slot-Removed-clause-steps g c =
     let id = c.ranges.id in
     let w = c.in-Ok-Slot-Removed in
-    let told = slot_told g.T.Turns.takes c.args.at.now c.make.new.at (called.Ask (asked.Remove (to_z w32 (of_z w32 c.args.id)) c.args.cred)) w.field-0 w.field-0-0 _ w.field-0-is w.field-0-0-is w.ensures.ok in
+    let told = slot_told g.T.Turns.takes c.args.at.now c.make.new.at (called.Remove (to_z w32 (of_z w32 c.args.id)) c.args.cred) w.field-0 w.field-0-0 _ w.field-0-is w.field-0-0-is w.ensures.ok in
     let done = c.in-Ok-Slot-Removed.done in
     let on = c.removed.ensures [] told.0.messages (of_slot told.0 c.args.cred (to_z w32 (of_z w32 c.args.id)) done told.2) in
     let goes = simp to_z-of_z at on in

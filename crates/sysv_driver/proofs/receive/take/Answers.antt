@@ -8,7 +8,6 @@ use Rattle.sysv_queue.specs.Replies.{untaken_reply}
 use Rattle.sysv_steps.specs.declared.state.Phase.TheVariants as phase
 use Rattle.sysv_steps.specs.State.{AtTake}
 use Rattle.sysv_steps.specs.Seen.{state_of, receiving}
-use Rattle.sysv_objects.specs.declared.slot.SlotAsk.TheVariants as asked
 use Rattle.sysv_objects.specs.declared.slot.SlotCall.TheVariants as called
 use Rattle.sysv_objects.specs.declared.slot.SlotReply.TheVariants as reply
 use Rattle.sysv_driver.specs.Giving.{HasWhatItGives, nothing_is_sized}
@@ -25,7 +24,7 @@ returns-in-Ok-Slot-Taken-Ok-clause-steps g c = λ kept.
     let id : FitsSigned w32 r.id = search rules in
     let w = c.in-Ok-Slot-Taken-Ok in
     let taken = w.taken in
-    let told = slot_told g.T.Turns.takes c.args.at.now c.make.new.at (called.Ask (asked.Take (to_z w32 (of_z w32 r.id)) r.cred r.selector r.size r.noerror c.now.result)) w.field-0 w.field-0-0 (reply.Taken (Ok taken)) w.field-0-is (w.field-0-0-is ∙ ap reply.Taken w.field-0-0-0-is) w.ensures.ok in
+    let told = slot_told g.T.Turns.takes c.args.at.now c.make.new.at (called.Take (to_z w32 (of_z w32 r.id)) r.cred r.selector r.size r.noerror c.now.result) w.field-0 w.field-0-0 (reply.Taken (Ok taken)) w.field-0-is (w.field-0-0-is ∙ ap reply.Taken w.field-0-0-0-is) w.ensures.ok in
     let made = told.1 in
     let turn = simp to_z-of_z at made in
     let out = c.finish-delivery.new.out in
@@ -52,7 +51,7 @@ returns-in-Ok-Slot-Taken-Err-clause-steps g c = λ kept.
     let r = c.args.receive in
     let id : FitsSigned w32 r.id = search rules in
     let w = c.in-Ok-Slot-Taken-Err in
-    let told = slot_told g.T.Turns.takes c.args.at.now c.make.new.at (called.Ask (asked.Take (to_z w32 (of_z w32 r.id)) r.cred r.selector r.size r.noerror c.now.result)) w.field-0 w.field-0-0 (reply.Taken (Err w.why)) w.field-0-is (w.field-0-0-is ∙ ap reply.Taken w.field-0-0-0-is) w.ensures.ok in
+    let told = slot_told g.T.Turns.takes c.args.at.now c.make.new.at (called.Take (to_z w32 (of_z w32 r.id)) r.cred r.selector r.size r.noerror c.now.result) w.field-0 w.field-0-0 (reply.Taken (Err w.why)) w.field-0-is (w.field-0-0-is ∙ ap reply.Taken w.field-0-0-0-is) w.ensures.ok in
     let made = told.1 in
     let turn = simp to_z-of_z at made in
     let out = c.args.out.now in
