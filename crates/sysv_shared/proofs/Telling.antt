@@ -147,13 +147,13 @@ module _ (before after : GatedPass) (kinds : AreByKind (gates_of before.seats)) 
 
   -- ---- at the object that has the count
 
-  abbrev Finding : Count → ℕ → Mark → Mark → Type 0
-  Finding there n b a = (a ≡ read_to there n b) × Learns gated_counts there b n
+  abbrev ReadThere : Count → ℕ → Mark → Mark → Type 0
+  ReadThere there n b a = (a ≡ read_to there n b) × Learns gated_counts there b n
 
-  abbrev Ending : Count → ℕ → Option Awaited → Mark → Mark → Type 0
-  Ending there goal awaited b a = WaitedWithin gated_counts there goal b awaited a
+  abbrev WaitedThere : Count → ℕ → Option Awaited → Mark → Mark → Type 0
+  WaitedThere there goal awaited b a = WaitedWithin gated_counts there goal b awaited a
 
-  found : (count : SharedCount) (n : ℕ) → ChangesAt (place_with count) before.seats after.seats (Finding (count_there count) n)
+  found : (count : SharedCount) (n : ℕ) → ChangesAt (place_with count) before.seats after.seats (ReadThere (count_there count) n)
       → Reads (count_of count) n (seats_seen before) (seats_seen after)
   found shared.Settled n c = finds as_registry IsRegistry registry_counts 0 before.seats after.seats RegistryChanges registry_seen registry_learn Arrived n c
   found shared.Released n c = finds as_pool IsPool pool_counts 1 before.seats after.seats PoolChanges pool_seen pool_learn Arrived n c
@@ -164,7 +164,7 @@ module _ (before after : GatedPass) (kinds : AreByKind (gates_of before.seats)) 
       let slot = slot_of_id id in
       finds as_slot IsSlot slot_counts (slot + 2) before.seats after.seats (SlotChanges slot) (slot_seen slot) (slot_learn slot) Freed n c
 
-  ended : (count : SharedCount) (goal : ℕ) (awaited : Option Awaited) → ChangesAt (place_with count) before.seats after.seats (Ending (count_there count) goal awaited)
+  ended : (count : SharedCount) (goal : ℕ) (awaited : Option Awaited) → ChangesAt (place_with count) before.seats after.seats (WaitedThere (count_there count) goal awaited)
       → AwaitsWithin (count_of count) goal (seats_seen before) awaited (seats_seen after)
   ended shared.Settled goal awaited c = settled_within goal awaited c
   ended shared.Released goal awaited c = released_within goal awaited c
@@ -172,12 +172,12 @@ module _ (before after : GatedPass) (kinds : AreByKind (gates_of before.seats)) 
   ended (shared.Freed id) goal awaited c = freed_within (slot_of_id id) goal awaited c
 
   module _ (count : SharedCount) (place : ℕ) (there : Count) (at : place ≡ place_with count) (which : there ≡ count_there count) where
-    pub reads : (n : ℕ) → ChangesAt place before.seats after.seats (Finding there n) → Reads (count_of count) n (seats_seen before) (seats_seen after)
+    pub reads : (n : ℕ) → ChangesAt place before.seats after.seats (ReadThere there n) → Reads (count_of count) n (seats_seen before) (seats_seen after)
     reads n c =
-        let one = subst (λ k. ChangesAt place before.seats after.seats (Finding k n)) which c in
-        found count n (subst (λ p. ChangesAt p before.seats after.seats (Finding (count_there count) n)) at one)
+        let one = subst (λ k. ChangesAt place before.seats after.seats (ReadThere k n)) which c in
+        found count n (subst (λ p. ChangesAt p before.seats after.seats (ReadThere (count_there count) n)) at one)
 
-    pub awaits_within : (goal : ℕ) (awaited : Option Awaited) → ChangesAt place before.seats after.seats (Ending there goal awaited) → AwaitsWithin (count_of count) goal (seats_seen before) awaited (seats_seen after)
+    pub awaits_within : (goal : ℕ) (awaited : Option Awaited) → ChangesAt place before.seats after.seats (WaitedThere there goal awaited) → AwaitsWithin (count_of count) goal (seats_seen before) awaited (seats_seen after)
     awaits_within goal awaited c =
-        let one = subst (λ k. ChangesAt place before.seats after.seats (Ending k goal awaited)) which c in
-        ended count goal awaited (subst (λ p. ChangesAt p before.seats after.seats (Ending (count_there count) goal awaited)) at one)
+        let one = subst (λ k. ChangesAt place before.seats after.seats (WaitedThere k goal awaited)) which c in
+        ended count goal awaited (subst (λ p. ChangesAt p before.seats after.seats (WaitedThere (count_there count) goal awaited)) at one)
