@@ -4,7 +4,6 @@ ghost use Rattle.sysv_gate.specs.History.{Moves};
 ghost use Rattle.sysv_gate.specs.Gates.{Answers, Learns, read_to, marked};
 ghost use Rattle.sysv_gate.specs.Refusals.{Refuses};
 ghost use Rattle.sysv_gate.specs.Waits.{Waited, WaitedWithin};
-ghost use Rattle.sysv_gate.specs.declared.count.Count.TheVariants.{Arrived, Freed};
 ghost use Rattle.sysv_bank.specs.Banks.{gates_of, ChangesAt, AcceptsAt};
 ghost use Rattle.sysv_bank.specs.Passes.{GoesOn, AddsToOrder};
 
@@ -95,7 +94,8 @@ impl<O: Object> Bank<O> {
         self.doors[place].wake(rt);
     }
 
-    /// Wakes the next thread that sleeps in `arrived_within` at `place`, like `Gate::pass_on`.
+    /// Wakes the next thread that sleeps in `await_within` for the first count at `place`, like
+    /// `Gate::pass_on`.
     ///
     /// # Conditions
     ///
@@ -106,50 +106,36 @@ impl<O: Object> Bank<O> {
         self.doors[place].pass_on();
     }
 
-    /// Returns the first count of the object at `place`, like `Gate::arrived`.
+    /// Returns a count of the object at `place`, like `Gate::arrived` for the first count and
+    /// `Gate::freed` for the second.
     ///
     /// # Conditions
     ///
     /// - `seat` is a seat of this bank, and `place` is below the number of its objects.
-    pub fn arrived(&self, place: usize, seat: &mut BankSeat<O>) -> u64
+    pub fn count(&self, place: usize, seat: &mut BankSeat<O>, count: Count) -> u64
         requires seat { gates_of seat.old.seats ≡ self.now }
         requires place { place < length self.now }
         ensures gates { gates_of seat.new.seats ≡ self.now }
         ensures longer { GoesOn seat.old seat.new }
         ensures read { ChangesAt place seat.old.seats seat.new.seats
-            (λ before after. (after ≡ read_to Arrived result before)
-            × Learns O.counted Arrived before result) }
+            (λ before after. (after ≡ read_to count result before)
+            × Learns O.counted count before result) }
     {
-        self.doors[place].count(&self.hall, &mut seat.token, Count::Arrived)
+        self.doors[place].count(&self.hall, &mut seat.token, count)
     }
 
-    /// Returns the second count of the object at `place`, like `Gate::freed`.
+    /// Waits until a count at `place` is at least `goal`, like `Gate::await_arrived` for the first
+    /// count and `Gate::await_freed` for the second.
     ///
     /// # Conditions
     ///
     /// - `seat` is a seat of this bank, and `place` is below the number of its objects.
-    pub fn freed(&self, place: usize, seat: &mut BankSeat<O>) -> u64
-        requires seat { gates_of seat.old.seats ≡ self.now }
-        requires place { place < length self.now }
-        ensures gates { gates_of seat.new.seats ≡ self.now }
-        ensures longer { GoesOn seat.old seat.new }
-        ensures read { ChangesAt place seat.old.seats seat.new.seats
-            (λ before after. (after ≡ read_to Freed result before)
-            × Learns O.counted Freed before result) }
-    {
-        self.doors[place].count(&self.hall, &mut seat.token, Count::Freed)
-    }
-
-    /// Waits until the first count at `place` is at least `goal`, like `Gate::await_arrived`.
-    ///
-    /// # Conditions
-    ///
-    /// - `seat` is a seat of this bank, and `place` is below the number of its objects.
-    pub fn await_arrived(
+    pub fn await_count(
         &self,
         rt: &impl Wait,
         place: usize,
         seat: &mut BankSeat<O>,
+        count: Count,
         goal: u64,
     ) -> Awaited
         requires seat { gates_of seat.old.seats ≡ self.now }
@@ -157,44 +143,23 @@ impl<O: Object> Bank<O> {
         ensures gates { gates_of seat.new.seats ≡ self.now }
         ensures longer { GoesOn seat.old seat.new }
         ensures waited { ChangesAt place seat.old.seats seat.new.seats
-            (λ before after. Waited O.counted Arrived goal before result after) }
+            (λ before after. Waited O.counted count goal before result after) }
     {
-        self.doors[place].await_count(rt, &self.hall, &mut seat.token, Count::Arrived, goal)
+        self.doors[place].await_count(rt, &self.hall, &mut seat.token, count, goal)
     }
 
-    /// Waits until the second count at `place` is at least `goal`, like `Gate::await_freed`.
+    /// Waits for a count at `place`, but sleeps only once, and for a second at most, like
+    /// `Gate::arrived_within` for the first count and `Gate::freed_within` for the second.
     ///
     /// # Conditions
     ///
     /// - `seat` is a seat of this bank, and `place` is below the number of its objects.
-    pub fn await_freed(
+    pub fn await_within(
         &self,
         rt: &impl Wait,
         place: usize,
         seat: &mut BankSeat<O>,
-        goal: u64,
-    ) -> Awaited
-        requires seat { gates_of seat.old.seats ≡ self.now }
-        requires place { place < length self.now }
-        ensures gates { gates_of seat.new.seats ≡ self.now }
-        ensures longer { GoesOn seat.old seat.new }
-        ensures waited { ChangesAt place seat.old.seats seat.new.seats
-            (λ before after. Waited O.counted Freed goal before result after) }
-    {
-        self.doors[place].await_count(rt, &self.hall, &mut seat.token, Count::Freed, goal)
-    }
-
-    /// Waits for the first count at `place`, but sleeps only once, and for a second at most, like
-    /// `Gate::arrived_within`.
-    ///
-    /// # Conditions
-    ///
-    /// - `seat` is a seat of this bank, and `place` is below the number of its objects.
-    pub fn arrived_within(
-        &self,
-        rt: &impl Wait,
-        place: usize,
-        seat: &mut BankSeat<O>,
+        count: Count,
         goal: u64,
     ) -> Option<Awaited>
         requires seat { gates_of seat.old.seats ≡ self.now }
@@ -202,31 +167,8 @@ impl<O: Object> Bank<O> {
         ensures gates { gates_of seat.new.seats ≡ self.now }
         ensures longer { GoesOn seat.old seat.new }
         ensures waited { ChangesAt place seat.old.seats seat.new.seats
-            (λ before after. WaitedWithin O.counted Arrived goal before result after) }
+            (λ before after. WaitedWithin O.counted count goal before result after) }
     {
-        self.doors[place].await_within(rt, &self.hall, &mut seat.token, Count::Arrived, goal)
-    }
-
-    /// Waits for the second count at `place`, but sleeps only once, and for a second at most, like
-    /// `Gate::freed_within`.
-    ///
-    /// # Conditions
-    ///
-    /// - `seat` is a seat of this bank, and `place` is below the number of its objects.
-    pub fn freed_within(
-        &self,
-        rt: &impl Wait,
-        place: usize,
-        seat: &mut BankSeat<O>,
-        goal: u64,
-    ) -> Option<Awaited>
-        requires seat { gates_of seat.old.seats ≡ self.now }
-        requires place { place < length self.now }
-        ensures gates { gates_of seat.new.seats ≡ self.now }
-        ensures longer { GoesOn seat.old seat.new }
-        ensures waited { ChangesAt place seat.old.seats seat.new.seats
-            (λ before after. WaitedWithin O.counted Freed goal before result after) }
-    {
-        self.doors[place].await_within(rt, &self.hall, &mut seat.token, Count::Freed, goal)
+        self.doors[place].await_within(rt, &self.hall, &mut seat.token, count, goal)
     }
 }

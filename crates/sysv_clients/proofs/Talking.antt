@@ -12,7 +12,7 @@ use Rattle.sysv_clients.specs.declared.command.Task.TheVariants.{List as Table, 
 use Rattle.sysv_clients.specs.declared.fault.ClientFault.{ClientFault}
 use Rattle.sysv_clients.specs.declared.fault.ClientFault.TheVariants.{Refused, NoReply, NoMemory}
 use Rattle.sysv_clients.specs.Asks.{asks_of, is_receive, request_of, text_of}
-use Rattle.sysv_clients.specs.Blame.{Blames, ExchangedBy, RunsBlaming}
+use Rattle.sysv_clients.specs.Blame.{Blames, ExchangedBy, Streams, RunsBlaming}
 use Rattle.sysv_clients.specs.Faults.{fault_line}
 use Rattle.sysv_clients.specs.Page.{answer_most, answer_text, page_text, task_head}
 use Rattle.sysv_clients.specs.Run.{Runs, Shows, TalksThrough}
@@ -277,18 +277,17 @@ blamed command why ask had held has wrote written writes left mid rest taken mor
     blames command why ask had has wrote writes left mid rest taken more page place slots id so_far asked
     (subst (λ (n : ℕ). ExchangedBy ask (Err why) n has wrote writes mid rest) reads (subst (λ (n : ℕ). ExchangedBy ask (Err why) held has n writes mid rest) writ found))
 
-pub runs_of : (command : Command) (status : ℤ) (left rest taken more shown after : Option (List ℕ)) (had has wrote writes : ℕ)
-    → RunsBlaming command status left rest taken more shown after had has wrote writes → Runs command status left rest taken more shown after
-runs_of command status left rest taken more shown after had has wrote writes runs =
-    record { exchanges = runs.exchanges; ended = runs.ended; talks = runs.talks; shows = runs.shows }
+pub runs_of : (command : Command) (status : ℤ) (before after : Streams) → RunsBlaming command status before after
+    → Runs command status before.left after.left before.taken after.taken before.shown after.shown
+runs_of command status before after runs = record { exchanges = runs.exchanges; ended = runs.ended; talks = runs.talks; shows = runs.shows }
 
-pub refused_so : (command : Command) (status : ℤ) (left taken shown after : Option (List ℕ)) (had wrote : ℕ) → Shows status (pos 1) (fault_line NoMemory) shown after
-    → RunsBlaming command status left left taken taken shown after had had wrote wrote
+pub refused_so : (command : Command) (status : ℤ) (before : Streams) (shown : Option (List ℕ)) → Shows status (pos 1) (fault_line NoMemory) before.shown shown
+    → RunsBlaming command status before (record before { shown = shown })
 unfolding refused
-refused_so command status left taken shown after had wrote shows = record {
+refused_so command status before shown shows = record {
   exchanges = [];
   ended = Err NoMemory;
-  talks = (refused command status left taken shown after shows).talks;
+  talks = (refused command status before.left before.taken before.shown shown shows).talks;
   shows = shows;
   blames = (refl, refl);
 }

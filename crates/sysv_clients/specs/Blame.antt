@@ -7,7 +7,8 @@ use Rattle.sysv_clients.specs.declared.fault.ClientFault.{ClientFault}
 use Rattle.sysv_clients.specs.declared.fault.ClientFault.TheVariants as fault
 use Rattle.sysv_clients.specs.Run.{Shows, shown_text, status_of}
 use Rattle.sysv_clients.specs.Talk.{Exchange, IsOther, Talked, Talks, answered_spelling, next_ask}
-use Rattle.sysv_model.specs.Watched.{failures_after}
+use Rattle.sysv_model.specs.declared.watched.Watched.{Watched}
+use Rattle.sysv_model.specs.Watched.{failures_after, failures_of, stream_of}
 use Rattle.sysv_wire.specs.declared.fault.Fault.{Fault}
 use Rattle.sysv_wire.specs.declared.reply.ReplyContent.{ReplyContent}
 use Rattle.sysv_wire.specs.declared.reply.Reply.{Reply}
@@ -56,10 +57,29 @@ Blames command (Err fault.NoReply) had has wrote writes left rest =
     (exchanges : List Exchange) × (ask : Ask) × (unread : Option (List ℕ)) × Talked command exchanges × Consumes left unread (answered_spelling exchanges)
     × (next_ask command exchanges ≡ Some ask) × Unanswered ask had has wrote writes unread rest
 
+-- The streams of a client at one time: what the reader has left, what the writer and the screen
+-- have taken, and how often the reader and the writer have failed.
+pub record Streams : Type 0 where
+  pub left : Option (List ℕ)
+  pub taken : Option (List ℕ)
+  pub shown : Option (List ℕ)
+  pub failed_reads : ℕ
+  pub failed_writes : ℕ
+
+-- The streams of a client, by what each of their types has left or has taken.
+abbrev pub streams_of : {R W S : Type 0} → (R → Option (List ℕ)) → (W → Option (List ℕ)) → (S → Option (List ℕ)) → Watched R → Watched W → S → Streams
+streams_of remaining contents shown reader writer screen = record {
+  left = remaining (stream_of reader);
+  taken = contents (stream_of writer);
+  shown = shown screen;
+  failed_reads = failures_of reader;
+  failed_writes = failures_of writer;
+}
+
 -- What a client that ended with this status did, as in `Runs`, and which stream failed.
-pub record RunsBlaming (command : Command) (status : ℤ) (left rest taken more shown after : Option (List ℕ)) (had has wrote writes : ℕ) : Type 0 where
+pub record RunsBlaming (command : Command) (status : ℤ) (before after : Streams) : Type 0 where
   pub exchanges : List Exchange
   pub ended : Result ⊤ ClientFault
-  pub talks : Talks command exchanges ended left rest taken more
-  pub shows : Shows status (status_of ended) (shown_text command.task exchanges ended) shown after
-  pub blames : Blames command ended had has wrote writes left rest
+  pub talks : Talks command exchanges ended before.left after.left before.taken after.taken
+  pub shows : Shows status (status_of ended) (shown_text command.task exchanges ended) before.shown after.shown
+  pub blames : Blames command ended before.failed_reads after.failed_reads before.failed_writes after.failed_writes before.left after.left

@@ -1,7 +1,7 @@
 //! A client, from its first request to what it shows.
 ghost use Rattle.std.specs.Prelude.{◌≡◌, ⊤, ℕ, pos, List, Result, Some, IfOk};
 ghost use Rattle.sysv_clients.specs.Asks.{text_of};
-ghost use Rattle.sysv_clients.specs.Blame.{Blames, RunsBlaming};
+ghost use Rattle.sysv_clients.specs.Blame.{Blames, RunsBlaming, streams_of};
 ghost use Rattle.sysv_clients.specs.Course.{Makes, ShowsCourse};
 ghost use Rattle.sysv_clients.specs.Faults.{fault_line};
 ghost use Rattle.sysv_clients.specs.Page.{task_head};
@@ -81,11 +81,9 @@ pub fn run_client_watched<R: Read, W: Write, S: Write>(
     screen: &mut S,
 ) -> i32
     requires { HasShortText command.now.task }
-    ensures runs { RunsBlaming command.now result (R.remaining (stream_of reader.old))
-        (R.remaining (stream_of reader.new)) (W.contents (stream_of writer.old))
-        (W.contents (stream_of writer.new)) (S.contents screen.old) (S.contents screen.new)
-        (failures_of reader.old) (failures_of reader.new)
-        (failures_of writer.old) (failures_of writer.new) }
+    ensures runs { RunsBlaming command.now result
+        (streams_of R.remaining W.contents S.contents reader.old writer.old screen.old)
+        (streams_of R.remaining W.contents S.contents reader.new writer.new screen.new) }
     // It shows what its input makes of the command, unless a stream fails or memory is refused.
     ensures only { (input : List ℕ) (exchanges : List Exchange) (ended : Result ⊤ ClientFault) →
         R.remaining (stream_of reader.old) ≡ Some input
@@ -111,11 +109,9 @@ fn talk_and_show<R: Read, W: Write, S: Write>(
     screen: &mut S,
 ) -> i32
     requires { HasShortText command.now.task }
-    ensures runs { RunsBlaming command.now result (R.remaining (stream_of reader.old))
-        (R.remaining (stream_of reader.new)) (W.contents (stream_of writer.old))
-        (W.contents (stream_of writer.new)) (S.contents screen.old) (S.contents screen.new)
-        (failures_of reader.old) (failures_of reader.new)
-        (failures_of writer.old) (failures_of writer.new) }
+    ensures runs { RunsBlaming command.now result
+        (streams_of R.remaining W.contents S.contents reader.old writer.old screen.old)
+        (streams_of R.remaining W.contents S.contents reader.new writer.new screen.new) }
     ensures same_reader { stream_name reader.new ≡ stream_name reader.old }
     ensures same_writer { stream_name writer.new ≡ stream_name writer.old }
 {

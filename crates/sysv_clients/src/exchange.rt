@@ -4,7 +4,7 @@ ghost use Rattle.std.specs.Io.KnownBytes.{Appends};
 ghost use Rattle.sysv_clients.specs.Asks.{request_of};
 ghost use Rattle.sysv_clients.specs.Blame.{ExchangedBy, HeardBy};
 ghost use Rattle.sysv_clients.specs.Talk.{Exchanges, Hears};
-ghost use Rattle.sysv_model.specs.Watched.{failures_after, failures_of, stream_name, stream_of};
+ghost use Rattle.sysv_model.specs.Watched.{failures_of, stream_name, stream_of, KeepsStream};
 ghost use Rattle.sysv_model.specs.Writing.{AppendsPrefix};
 ghost use Rattle.sysv_wire.specs.Requests.{request_spelling};
 
@@ -46,9 +46,7 @@ fn send<W: Write>(writer: &mut Watched<'_, W>, ask: Ask, text: &Body) -> Result<
         (W.contents (stream_of writer.new)) (request_spelling (request_of ask) text.now)) }
     ensures err { OnErr result (AppendsPrefix (W.contents (stream_of writer.old))
         (W.contents (stream_of writer.new)) (request_spelling (request_of ask) text.now)) }
-    ensures same { stream_name writer.new ≡ stream_name writer.old }
-    ensures failed { failures_of writer.new
-        ≡ failures_after (is_err result) (failures_of writer.old) }
+    ensures stream { KeepsStream writer.old writer.new (is_err result) }
 {
     let request = Request {
         version: SPOKEN,

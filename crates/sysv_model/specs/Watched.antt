@@ -23,6 +23,12 @@ abbrev pub failures_after : Bool → ℕ → ℕ
 failures_after true failures = (failures + 1) % 2 ^ 64
 failures_after false failures = failures
 
+-- It is the same stream after a call that failed (true) or did not fail (false), and that failure
+-- was counted.
+pub record KeepsStream {S : Type 0} (before after : Watched S) (fails : Bool) : Type 0 where
+  pub same : stream_name after ≡ stream_name before
+  pub failed : failures_of after ≡ failures_after fails (failures_of before)
+
 -- A write was given some bytes and took none of them.
 abbrev pub takes_none : ℕ → List ℕ → Bool
 takes_none count bytes = (count == 0) && not (length bytes == 0)

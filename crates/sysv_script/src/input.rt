@@ -1,7 +1,7 @@
 //! The bytes of a script that were read and not yet run.
 ghost use Rattle.std.specs.Prelude.{◌≡◌, ◌+◌, ◌<◌, ◌≤◌, [], ◌++◌, length, take, drop, slice_range, vec_len, IfOk, IfErr, OnErr};
 ghost use Rattle.std.specs.Io.KnownBytes.{Consumes, IsAtEnd};
-ghost use Rattle.sysv_model.specs.Watched.{failures_of, failures_after, stream_name, stream_of};
+ghost use Rattle.sysv_model.specs.Watched.{stream_of, KeepsStream};
 ghost use Rattle.sysv_script.specs.Faults.{is_read_fault};
 ghost use Rattle.sysv_script.specs.Streams.{TakesIn};
 ghost use Rattle.sysv_script.specs.declared.input.TheConstants.{INPUT_ROOM};
@@ -100,9 +100,7 @@ impl Input {
         ensures end { IfOk result (λ count. count ≡ 0 →
             IsAtEnd (R.remaining (stream_of reader.new))) }
         ensures err { IfErr result (λ fault. fault ≡ ScriptFault.Read) }
-        ensures same { stream_name reader.new ≡ stream_name reader.old }
-        ensures failed { failures_of reader.new
-            ≡ failures_after (is_read_fault result) (failures_of reader.old) }
+        ensures stream { KeepsStream reader.old reader.new (is_read_fault result) }
     {
         let len = self.end - self.start;
         self.buffer.copy_within(self.start..self.end, 0);

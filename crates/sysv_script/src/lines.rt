@@ -1,7 +1,7 @@
 //! Finds the next line of a script, and reads more if its end is not there yet.
 ghost use Rattle.std.specs.Prelude.{ℕ, false, true, ◌≡◌, ◌+◌, ◌<◌, ◌≤◌, [], length, take, MatchOption, IfOk, IfErr, OnOk, OnErr, IfSome};
 ghost use Rattle.std.specs.Io.KnownBytes.{Appends, IsAtEnd};
-ghost use Rattle.sysv_model.specs.Watched.{failures_of, failures_after, stream_name, stream_of};
+ghost use Rattle.sysv_model.specs.Watched.{stream_of, KeepsStream};
 ghost use Rattle.sysv_model.specs.Writing.{AppendsPrefix};
 ghost use Rattle.sysv_script.specs.Faults.{IsStreamFault, is_read_fault, is_write_fault};
 ghost use Rattle.sysv_script.specs.Found.{HasNoEnd, IsFirstLine, IsNextLine, FindsLine};
@@ -63,12 +63,8 @@ pub fn next_line<R: Read, W: Write>(
         Appends (W.contents (stream_of writer.old))
         (W.contents (stream_of writer.new)) output.old) }
     ensures fault { IfErr result IsStreamFault }
-    ensures same_reader { stream_name reader.new ≡ stream_name reader.old }
-    ensures same_writer { stream_name writer.new ≡ stream_name writer.old }
-    ensures reader_failed { failures_of reader.new
-        ≡ failures_after (is_read_fault result) (failures_of reader.old) }
-    ensures writer_failed { failures_of writer.new
-        ≡ failures_after (is_write_fault result) (failures_of writer.old) }
+    ensures reader { KeepsStream reader.old reader.new (is_read_fault result) }
+    ensures writer { KeepsStream writer.old writer.new (is_write_fault result) }
 {
     let mut seen = 0;
     loop {
@@ -173,12 +169,8 @@ pub fn read_on<R: Read, W: Write>(
         Appends (W.contents (stream_of writer.old))
         (W.contents (stream_of writer.new)) output.old) }
     ensures fault { IfErr result IsStreamFault }
-    ensures same_reader { stream_name reader.new ≡ stream_name reader.old }
-    ensures same_writer { stream_name writer.new ≡ stream_name writer.old }
-    ensures reader_failed { failures_of reader.new
-        ≡ failures_after (is_read_fault result) (failures_of reader.old) }
-    ensures writer_failed { failures_of writer.new
-        ≡ failures_after (is_write_fault result) (failures_of writer.old) }
+    ensures reader { KeepsStream reader.old reader.new (is_read_fault result) }
+    ensures writer { KeepsStream writer.old writer.new (is_write_fault result) }
 {
     match output.write_to(writer) {
         Ok(()) => input.read_from(reader),

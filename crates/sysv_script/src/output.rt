@@ -2,7 +2,7 @@
 ghost use Rattle.std.specs.Prelude.{◌≡◌, ◌≤◌, [], ◌∷◌, ◌++◌, length, IfOk, IfErr, IsOk, OnOk, OnErr};
 ghost use Rattle.std.specs.Io.KnownBytes.{Appends};
 ghost use Rattle.sysv_lines.specs.Heads.{head_text};
-ghost use Rattle.sysv_model.specs.Watched.{failures_of, failures_after, stream_name, stream_of};
+ghost use Rattle.sysv_model.specs.Watched.{stream_of, KeepsStream};
 ghost use Rattle.sysv_model.specs.Writing.{AppendsPrefix};
 ghost use Rattle.sysv_script.specs.Faults.{is_write_fault};
 ghost use Rattle.sysv_script.specs.Streams.{HandsOn};
@@ -107,9 +107,7 @@ impl Output {
         ensures err { OnErr result (AppendsPrefix (W.contents (stream_of writer.old))
             (W.contents (stream_of writer.new)) self.old) }
         ensures fault { IfErr result (λ fault. fault ≡ ScriptFault.Write) }
-        ensures same { stream_name writer.new ≡ stream_name writer.old }
-        ensures failed { failures_of writer.new
-            ≡ failures_after (is_write_fault result) (failures_of writer.old) }
+        ensures stream { KeepsStream writer.old writer.new (is_write_fault result) }
     {
         if self.bytes.len() <= MOST_COMPOSED {
             return Ok(());
@@ -132,9 +130,7 @@ impl Output {
             (W.contents (stream_of writer.new)) self.old) }
         ensures fault { IfErr result (λ fault. fault ≡ ScriptFault.Write) }
         ensures empty { self.old ≡ [] → IsOk result }
-        ensures same { stream_name writer.new ≡ stream_name writer.old }
-        ensures failed { failures_of writer.new
-            ≡ failures_after (is_write_fault result) (failures_of writer.old) }
+        ensures stream { KeepsStream writer.old writer.new (is_write_fault result) }
     {
         if self.bytes.is_empty() {
             return Ok(());

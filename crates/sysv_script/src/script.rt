@@ -2,7 +2,7 @@
 ghost use Rattle.std.specs.Prelude.{false, true, ◌≡◌, ◌+◌, ◌<◌, ◌≤◌, ◌++◌, [], ℕ, List, Option, Some, length, take, drop, IfOk, IfErr, IsOk, OnOk, OnErr};
 ghost use Rattle.std.specs.Io.KnownBytes.{Appends, IsAtEnd};
 ghost use Rattle.sysv_lists.specs.Prefix.{IsPrefixOf};
-ghost use Rattle.sysv_model.specs.Watched.{failures_of, failures_after, stream_name, stream_of};
+ghost use Rattle.sysv_model.specs.Watched.{stream_of, KeepsStream};
 ghost use Rattle.sysv_model.specs.Writing.{AppendsPrefix};
 ghost use Rattle.sysv_script.specs.Faults.{Grows, IsLineFault, IsStreamFault, EndsAtLine, LeavesBadLine, TellsBadLine, is_read_fault, is_write_fault};
 ghost use Rattle.sysv_script.specs.Scene.{Scene, opening_scene};
@@ -66,12 +66,8 @@ pub fn run_script<R: Read, W: Write>(
         (W.contents (stream_of writer.new))) }
     // The streams are the same ones, and each has failed in this call if and only if the fault says
     // so.
-    ensures same_reader { stream_name reader.new ≡ stream_name reader.old }
-    ensures same_writer { stream_name writer.new ≡ stream_name writer.old }
-    ensures reader_failed { failures_of reader.new
-        ≡ failures_after (is_read_fault result) (failures_of reader.old) }
-    ensures writer_failed { failures_of writer.new
-        ≡ failures_after (is_write_fault result) (failures_of writer.old) }
+    ensures reader { KeepsStream reader.old reader.new (is_read_fault result) }
+    ensures writer { KeepsStream writer.old writer.new (is_write_fault result) }
 {
     one_text();
     each_text_prints();
@@ -124,12 +120,8 @@ impl Run {
             (W.contents (stream_of writer.new)) }
         ensures bad { IfErr result (λ fault. LeavesBadLine fault self.new.output) }
         ensures none_left { IfErr result (λ fault. IsStreamFault fault → self.new.output ≡ []) }
-        ensures same_reader { stream_name reader.new ≡ stream_name reader.old }
-        ensures same_writer { stream_name writer.new ≡ stream_name writer.old }
-        ensures reader_failed { failures_of reader.new
-            ≡ failures_after (is_read_fault result) (failures_of reader.old) }
-        ensures writer_failed { failures_of writer.new
-            ≡ failures_after (is_write_fault result) (failures_of writer.old) }
+        ensures reader { KeepsStream reader.old reader.new (is_read_fault result) }
+        ensures writer { KeepsStream writer.old writer.new (is_write_fault result) }
     {
         for passed in 0..SCRIPT_LINES {
             match self.run_next(alloc, reader, writer, passed + 1) {
@@ -166,12 +158,8 @@ impl Run {
             (W.contents (stream_of writer.new)) }
         ensures bad { IfErr result (λ fault. LeavesBadLine fault self.new.output) }
         ensures none_left { IfErr result (λ fault. IsStreamFault fault → self.new.output ≡ []) }
-        ensures same_reader { stream_name reader.new ≡ stream_name reader.old }
-        ensures same_writer { stream_name writer.new ≡ stream_name writer.old }
-        ensures reader_failed { failures_of reader.new
-            ≡ failures_after (is_read_fault result) (failures_of reader.old) }
-        ensures writer_failed { failures_of writer.new
-            ≡ failures_after (is_write_fault result) (failures_of writer.old) }
+        ensures reader { KeepsStream reader.old reader.new (is_read_fault result) }
+        ensures writer { KeepsStream writer.old writer.new (is_write_fault result) }
     {
         one_split();
         let Some(found) = next_line(&mut self.input, &mut self.output, reader, writer)? else {
@@ -229,12 +217,8 @@ impl Run {
             (W.contents (stream_of writer.new)) }
         ensures bad { IfErr result (λ fault. LeavesBadLine fault self.new.output) }
         ensures none_left { IfErr result (λ fault. IsStreamFault fault → self.new.output ≡ []) }
-        ensures same_reader { stream_name reader.new ≡ stream_name reader.old }
-        ensures same_writer { stream_name writer.new ≡ stream_name writer.old }
-        ensures reader_failed { failures_of reader.new
-            ≡ failures_after (is_read_fault result) (failures_of reader.old) }
-        ensures writer_failed { failures_of writer.new
-            ≡ failures_after (is_write_fault result) (failures_of writer.old) }
+        ensures reader { KeepsStream reader.old reader.new (is_read_fault result) }
+        ensures writer { KeepsStream writer.old writer.new (is_write_fault result) }
     {
         if !self.input.waiting().is_empty() {
             return Err(ScriptFault::Bound);
@@ -254,9 +238,7 @@ impl Run {
             (W.contents (stream_of writer.new)) self.output) }
         ensures fault { IfErr result (λ fault. fault ≡ ScriptFault.Write) }
         ensures empty { self.output ≡ [] → IsOk result }
-        ensures same { stream_name writer.new ≡ stream_name writer.old }
-        ensures failed { failures_of writer.new
-            ≡ failures_after (is_write_fault result) (failures_of writer.old) }
+        ensures stream { KeepsStream writer.old writer.new (is_write_fault result) }
     {
         let Run {
             stage,

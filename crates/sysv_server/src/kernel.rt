@@ -48,6 +48,8 @@ impl<'a, C: Clock, R: Wait> ServiceKernel<'a, C, R, Stays> {
 }
 
 impl<'a, C: Clock, R: Wait, K: Caller + Copy> ServiceKernel<'a, C, R, K> {
+    ghost use Rattle.sysv_server.specs.Handles.{KeepsHandles};
+
     /// Creates a kernel that calls `service` with `pass`, for a caller that may leave.
     ///
     /// A call that the caller leaves while it waits takes no message and sends none. Its reply,
@@ -106,9 +108,7 @@ impl<'a, C: Clock, R: Wait, K: Caller + Copy> ServiceKernel<'a, C, R, K> {
             Takes input course → Follows course result }
         ensures memory { result.«end» ≡ End.NoMemory → (reader.new ≡ reader.old)
             × (writer.new ≡ writer.old) }
-        ensures service { self.new.service ≡ self.old.service }
-        ensures clock { self.new.clock ≡ self.old.clock }
-        ensures caller { self.new.caller ≡ self.old.caller }
+        ensures handles { KeepsHandles self.old self.new }
     {
         serve(alloc, reader, writer, self)
     }
@@ -129,9 +129,7 @@ impl<'a, C: Clock, R: Wait, K: Caller + Copy> ServiceKernel<'a, C, R, K> {
         ensures only { (input : List ℕ) (course : Course) → I.remaining reader.old ≡ Some input →
             Takes input course → Follows course result }
         ensures memory { result.«end» ≢ End.NoMemory }
-        ensures service { self.new.service ≡ self.old.service }
-        ensures clock { self.new.clock ≡ self.old.clock }
-        ensures caller { self.new.caller ≡ self.old.caller }
+        ensures handles { KeepsHandles self.old self.new }
     {
         serve_with(texts, reader, writer, self)
     }
@@ -156,9 +154,7 @@ impl<'a, C: Clock, R: Wait, K: Caller + Copy> ServiceKernel<'a, C, R, K> {
         ensures gets { Gets (C.may self.old.clock.now) version cred key flags self.old.pass result
             self.new.pass }
         ensures answer { MayAnswer version (Ask.Get key flags) result [] }
-        ensures service { self.new.service ≡ self.old.service }
-        ensures clock { self.new.clock ≡ self.old.clock }
-        ensures caller { self.new.caller ≡ self.old.caller }
+        ensures handles { KeepsHandles self.old self.new }
     {
         let told = self
             .service
@@ -184,9 +180,7 @@ impl<'a, C: Clock, R: Wait, K: Caller + Copy> ServiceKernel<'a, C, R, K> {
             (K.may_leave self.old.caller) version cred id mtype flags text.now self.old.pass result
             self.new.pass }
         ensures answer { MayAnswer version (Ask.Snd id mtype flags) result [] }
-        ensures service { self.new.service ≡ self.old.service }
-        ensures clock { self.new.clock ≡ self.old.clock }
-        ensures caller { self.new.caller ≡ self.old.caller }
+        ensures handles { KeepsHandles self.old self.new }
     {
         let (pass, caller) = (&mut self.pass, &self.caller);
         let told = self.service.msgsnd_for(
@@ -217,9 +211,7 @@ impl<'a, C: Clock, R: Wait, K: Caller + Copy> ServiceKernel<'a, C, R, K> {
             (K.may_leave self.old.caller) version cred id size mtype flags self.old.pass result
             given.new self.new.pass }
         ensures answer { MayAnswer version (Ask.Rcv id size mtype flags) result given.new }
-        ensures service { self.new.service ≡ self.old.service }
-        ensures clock { self.new.clock ≡ self.old.clock }
-        ensures caller { self.new.caller ≡ self.old.caller }
+        ensures handles { KeepsHandles self.old self.new }
     {
         let (pass, caller) = (&mut self.pass, &self.caller);
         let told = self.service.msgrcv_for(
@@ -238,9 +230,7 @@ impl<'a, C: Clock, R: Wait, K: Caller + Copy> ServiceKernel<'a, C, R, K> {
     fn stat(&mut self, version: Version, cred: Cred, id: i32) -> Outcome
         ensures stats { Stats version cred id self.old.pass result self.new.pass }
         ensures answer { MayAnswer version (Ask.Stat id) result [] }
-        ensures service { self.new.service ≡ self.old.service }
-        ensures clock { self.new.clock ≡ self.old.clock }
-        ensures caller { self.new.caller ≡ self.old.caller }
+        ensures handles { KeepsHandles self.old self.new }
     {
         let told = self.service.msgctl_stat(self.rt, &mut self.pass, cred, id);
         match told {
@@ -254,9 +244,7 @@ impl<'a, C: Clock, R: Wait, K: Caller + Copy> ServiceKernel<'a, C, R, K> {
         ensures sets { Sets (C.may self.old.clock.now) version cred id to self.old.pass result
             self.new.pass }
         ensures answer { MayAnswer version (Ask.Set id to) result [] }
-        ensures service { self.new.service ≡ self.old.service }
-        ensures clock { self.new.clock ≡ self.old.clock }
-        ensures caller { self.new.caller ≡ self.old.caller }
+        ensures handles { KeepsHandles self.old self.new }
     {
         let told = self
             .service
@@ -271,9 +259,7 @@ impl<'a, C: Clock, R: Wait, K: Caller + Copy> ServiceKernel<'a, C, R, K> {
     fn remove(&mut self, version: Version, cred: Cred, id: i32) -> Outcome
         ensures removes { Removes version cred id self.old.pass result self.new.pass }
         ensures answer { MayAnswer version (Ask.Rm id) result [] }
-        ensures service { self.new.service ≡ self.old.service }
-        ensures clock { self.new.clock ≡ self.old.clock }
-        ensures caller { self.new.caller ≡ self.old.caller }
+        ensures handles { KeepsHandles self.old self.new }
     {
         let told = self.service.msgctl_rmid(self.rt, &mut self.pass, cred, id);
         match told {
@@ -286,9 +272,7 @@ impl<'a, C: Clock, R: Wait, K: Caller + Copy> ServiceKernel<'a, C, R, K> {
     fn row(&mut self, version: Version, slot: u32) -> Outcome
         ensures shows { Shows version slot self.old.pass result self.new.pass }
         ensures answer { MayAnswer version (Ask.Row slot) result [] }
-        ensures service { self.new.service ≡ self.old.service }
-        ensures clock { self.new.clock ≡ self.old.clock }
-        ensures caller { self.new.caller ≡ self.old.caller }
+        ensures handles { KeepsHandles self.old self.new }
     {
         let told = self.service.list_row(self.rt, &mut self.pass, slot);
         match told {

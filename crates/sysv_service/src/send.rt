@@ -20,7 +20,7 @@ use crate::waiting::zero_of;
 use std::sync::Wait as MayWait;
 use sysv_driver::{Clock, send_step};
 use sysv_model::{Body, Cred, Errno, Flags};
-use sysv_shared::AtGates;
+use sysv_shared::{AtGates, SharedCount};
 use sysv_steps::{Phase, Sending, State};
 
 impl Service {
@@ -109,7 +109,7 @@ impl Service {
             × IsLeft (K.may_leave caller.now) (C.may clock.now)
             (begins cred (Msgsnd id mtype flags text.now) released) mid pass.new) }
     {
-        let released = self.gates.released(&mut pass.seats);
+        let released = self.gates.count(&mut pass.seats, SharedCount::Released);
         let begun = Sending::begin(cred, id, mtype, flags, text.len(), released);
         self.send(rt, pass, clock, caller, text, begun)
     }

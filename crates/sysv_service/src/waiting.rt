@@ -5,6 +5,7 @@ ghost use Rattle.sysv_steps.specs.Resume.{awaited, goal_of};
 ghost use Rattle.sysv_steps.specs.Seen.{wait_of, state_of, ending_of};
 ghost use Rattle.sysv_shared.specs.Seats.{AreOf};
 ghost use Rattle.sysv_shared.specs.Reading.{AwaitsWithin};
+ghost use Rattle.sysv_shared.specs.SharedCounts.{count_of};
 ghost use Rattle.sysv_steps.specs.State.{Over, Waits};
 ghost use Rattle.sysv_driver.specs.Kinds.{EndsInZero};
 ghost use Rattle.sysv_service.specs.Told.{TellsZero};
@@ -16,6 +17,7 @@ use crate::service::Service;
 use std::mem;
 use std::sync::Wait as MayWait;
 use sysv_gate::Awaited;
+use sysv_shared::SharedCount;
 use sysv_model::Errno;
 use sysv_pool::Chain;
 use sysv_steps::{Ending, State, Wait};
@@ -102,25 +104,22 @@ impl Service {
         ensures waited { (text : List ℕ) → AwaitsWithin (awaited (wait_of wait.now text))
             (goal_seen (goal_of (wait_of wait.now text))) pass.old.seats result pass.new.seats }
     {
-        let seats = &mut pass.seats;
-        match *wait {
-            Wait::Settled { above, .. } => {
-                self.gates
-                    .settled_within(rt, seats, above.saturating_add(1))
-            }
-            Wait::Freed { above, send } => {
-                self.gates
-                    .freed_within(rt, seats, send.id, above.saturating_add(1))
-            }
-            Wait::Released { above, .. } => {
-                self.gates
-                    .released_within(rt, seats, above.saturating_add(1))
-            }
-            Wait::Arrived { above, receive } => {
-                self.gates
-                    .arrived_within(rt, seats, receive.id, above.saturating_add(1))
-            }
-        }
+        let (count, above) = awaited_by(wait);
+        self.gates
+            .await_within(rt, &mut pass.seats, count, above.saturating_add(1))
+    }
+}
+
+/// Returns the count of the wait, and the value above which it must rise.
+fn awaited_by(wait: &Wait) -> (SharedCount, u64)
+    ensures count { (text : List ℕ) → count_of result.0 ≡ awaited (wait_of wait.now text) }
+    ensures above { (text : List ℕ) → goal_of (wait_of wait.now text) ≡ result.1 + 1 }
+{
+    match *wait {
+        Wait::Settled { above, .. } => (SharedCount::Settled, above),
+        Wait::Freed { above, send } => (SharedCount::Freed { id: send.id }, above),
+        Wait::Released { above, .. } => (SharedCount::Released, above),
+        Wait::Arrived { above, receive } => (SharedCount::Arrived { id: receive.id }, above),
     }
 }
 

@@ -1,6 +1,6 @@
 //! A session, from its hello to its end.
 ghost use Rattle.std.specs.Prelude.{◌≡◌, ◌≢◌, ◌<◌, ◌-◌, ◌^◌, List, ℕ, [], Some};
-ghost use Rattle.sysv_model.specs.Watched.{failures_after, failures_of, stream_name, stream_of};
+ghost use Rattle.sysv_model.specs.Watched.{stream_of, KeepsStream};
 ghost use Rattle.sysv_queue.specs.Tally.{taken_in};
 ghost use Rattle.sysv_session.specs.Failing.{ends_by_read, ends_by_write, is_failed_read, is_failed_write};
 ghost use Rattle.sysv_session.specs.Session.{Serves, ServesBy};
@@ -97,12 +97,8 @@ pub fn serve_watched<R: Read, W: Write, K: Kernel>(
         Follows course result }
     ensures memory { result.«end» ≢ End.NoMemory }
     // The streams stay the same, and each fails in this call if and only if the end says so.
-    ensures same_reader { stream_name reader.new ≡ stream_name reader.old }
-    ensures same_writer { stream_name writer.new ≡ stream_name writer.old }
-    ensures reader_failed { failures_of reader.new
-        ≡ failures_after (is_failed_read result.«end») (failures_of reader.old) }
-    ensures writer_failed { failures_of writer.new
-        ≡ failures_after (is_failed_write result.«end») (failures_of writer.old) }
+    ensures reader { KeepsStream reader.old reader.new (is_failed_read result.«end») }
+    ensures writer { KeepsStream writer.old writer.new (is_failed_write result.«end») }
 {
     one_request();
     one_answer_to_requests();
@@ -171,12 +167,8 @@ impl Session {
             kernel.new (R.remaining (stream_of reader.old)) (R.remaining (stream_of reader.new))
             (W.contents (stream_of writer.old)) (W.contents (stream_of writer.new)) }
         ensures memory { result ≢ End.NoMemory }
-        ensures same_reader { stream_name reader.new ≡ stream_name reader.old }
-        ensures same_writer { stream_name writer.new ≡ stream_name writer.old }
-        ensures reader_failed { failures_of reader.new
-            ≡ failures_after (is_failed_read result) (failures_of reader.old) }
-        ensures writer_failed { failures_of writer.new
-            ≡ failures_after (is_failed_write result) (failures_of writer.old) }
+        ensures reader { KeepsStream reader.old reader.new (is_failed_read result) }
+        ensures writer { KeepsStream writer.old writer.new (is_failed_write result) }
     {
         match self.greet(slots, texts, reader, writer) {
             Ok((version, cred)) => {
@@ -199,12 +191,8 @@ impl Session {
             (R.remaining (stream_of reader.new)) (W.contents (stream_of writer.old))
             (W.contents (stream_of writer.new)) self.new.requests }
         ensures tally { self.new.tally ≡ self.old.tally }
-        ensures same_reader { stream_name reader.new ≡ stream_name reader.old }
-        ensures same_writer { stream_name writer.new ≡ stream_name writer.old }
-        ensures reader_failed { failures_of reader.new
-            ≡ failures_after (ends_by_read result) (failures_of reader.old) }
-        ensures writer_failed { failures_of writer.new
-            ≡ failures_after (ends_by_write result) (failures_of writer.old) }
+        ensures reader { KeepsStream reader.old reader.new (ends_by_read result) }
+        ensures writer { KeepsStream writer.old writer.new (ends_by_write result) }
     {
         let (version, cred) = read_hello(reader, &mut texts.asked)?;
         self.requests = 1;
@@ -230,12 +218,8 @@ impl Session {
             (R.remaining (stream_of reader.old)) (R.remaining (stream_of reader.new))
             (W.contents (stream_of writer.old))
             (W.contents (stream_of writer.new)) self.new.tally self.new.requests }
-        ensures same_reader { stream_name reader.new ≡ stream_name reader.old }
-        ensures same_writer { stream_name writer.new ≡ stream_name writer.old }
-        ensures reader_failed { failures_of reader.new
-            ≡ failures_after (is_failed_read result) (failures_of reader.old) }
-        ensures writer_failed { failures_of writer.new
-            ≡ failures_after (is_failed_write result) (failures_of writer.old) }
+        ensures reader { KeepsStream reader.old reader.new (is_failed_read result) }
+        ensures writer { KeepsStream writer.old writer.new (is_failed_write result) }
     {
         for _ in 1..SESSION_REQUESTS {
             if let Err(end) = self.serve_next(version, cred, texts, reader, writer, kernel) {
@@ -262,12 +246,8 @@ impl Session {
             (W.contents (stream_of writer.old))
             (W.contents (stream_of writer.new)) self.old.tally self.new.tally self.old.requests
             self.new.requests }
-        ensures same_reader { stream_name reader.new ≡ stream_name reader.old }
-        ensures same_writer { stream_name writer.new ≡ stream_name writer.old }
-        ensures reader_failed { failures_of reader.new
-            ≡ failures_after (ends_by_read result) (failures_of reader.old) }
-        ensures writer_failed { failures_of writer.new
-            ≡ failures_after (ends_by_write result) (failures_of writer.old) }
+        ensures reader { KeepsStream reader.old reader.new (ends_by_read result) }
+        ensures writer { KeepsStream writer.old writer.new (ends_by_write result) }
     {
         let Some(request) = read_asked(reader, version, &mut texts.asked)? else {
             return Err(End::Ended);

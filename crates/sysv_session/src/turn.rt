@@ -4,7 +4,7 @@ ghost use Rattle.std.specs.Io.KnownBytes.{Appends};
 ghost use Rattle.sysv_model.specs.declared.limits.TheConstants.{MESSAGE_BYTES};
 ghost use Rattle.sysv_queue.specs.Tally.{taken_in};
 ghost use Rattle.sysv_session.specs.Answers.{reply_of, message_reply as the_reply};
-ghost use Rattle.sysv_model.specs.Watched.{failures_after, failures_of, stream_name, stream_of};
+ghost use Rattle.sysv_model.specs.Watched.{stream_of, KeepsStream};
 ghost use Rattle.sysv_session.specs.Failing.{ends_by_read, ends_by_write};
 ghost use Rattle.sysv_session.specs.Input.{Greets, ReadsAsked};
 ghost use Rattle.sysv_session.specs.Output.{hello_reply as the_hello_reply};
@@ -29,9 +29,7 @@ pub(crate) fn read_hello<R: Read>(
 ) -> Result<(Version, Cred), End>
     ensures greets { Greets result (R.remaining (stream_of reader.old))
         (R.remaining (stream_of reader.new)) }
-    ensures same { stream_name reader.new ≡ stream_name reader.old }
-    ensures failed { failures_of reader.new
-        ≡ failures_after (ends_by_read result) (failures_of reader.old) }
+    ensures stream { KeepsStream reader.old reader.new (ends_by_read result) }
     ensures write { ends_by_write result ≡ false }
 {
     match read_request(reader, text)? {
@@ -70,9 +68,7 @@ pub(crate) fn read_asked<R: Read>(
 ) -> Result<Option<Request>, Fault>
     ensures reads { ReadsAsked version (R.remaining (stream_of reader.old))
         (R.remaining (stream_of reader.new)) result text.new }
-    ensures same { stream_name reader.new ≡ stream_name reader.old }
-    ensures failed { failures_of reader.new
-        ≡ failures_after (is_read_fault result) (failures_of reader.old) }
+    ensures stream { KeepsStream reader.old reader.new (is_read_fault result) }
 {
     match read_request(reader, text)? {
         Some(request) if request.version != version => Err(Fault::BadField),
@@ -98,9 +94,7 @@ pub(crate) fn send<W: Write>(
         (W.contents (stream_of writer.new)) (reply_spelling reply.now text.now)) }
     ensures err { OnErr result (AppendsPrefix (W.contents (stream_of writer.old))
         (W.contents (stream_of writer.new)) (reply_spelling reply.now text.now)) }
-    ensures same { stream_name writer.new ≡ stream_name writer.old }
-    ensures failed { failures_of writer.new
-        ≡ failures_after (is_err result) (failures_of writer.old) }
+    ensures stream { KeepsStream writer.old writer.new (is_err result) }
 {
     write_reply(writer, reply, text)?;
     match writer.flush() {
@@ -136,9 +130,7 @@ fn deliver<W: Write>(
     ensures answers { Answers result version (Outcome.Got delivery) given.now
         (W.contents (stream_of writer.old))
         (W.contents (stream_of writer.new)) tally.old tally.new }
-    ensures same { stream_name writer.new ≡ stream_name writer.old }
-    ensures failed { failures_of writer.new
-        ≡ failures_after (ends_by_write result) (failures_of writer.old) }
+    ensures stream { KeepsStream writer.old writer.new (ends_by_write result) }
     ensures read { ends_by_read result ≡ false }
 {
     let reply = message_reply(version, &delivery);
@@ -168,9 +160,7 @@ pub(crate) fn answer<W: Write>(
     requires room { taken_in tally.old < 2 ^ 64 - 1 }
     ensures answers { Answers result version outcome given.now (W.contents (stream_of writer.old))
         (W.contents (stream_of writer.new)) tally.old tally.new }
-    ensures same { stream_name writer.new ≡ stream_name writer.old }
-    ensures failed { failures_of writer.new
-        ≡ failures_after (ends_by_write result) (failures_of writer.old) }
+    ensures stream { KeepsStream writer.old writer.new (ends_by_write result) }
     ensures read { ends_by_read result ≡ false }
 {
     match outcome {

@@ -1,9 +1,10 @@
 -- What a read of a count, or a wait for it, at a place of the bank shows of the object that has the
 -- count.
-use Rattle.std.proofs.Common.{◌≡◌, ℕ, ◌+◌, ◌<◌, ◌≤◌, List, Option, Some, None, ap}
+use Rattle.std.proofs.Common.{◌≡◌, ℕ, ◌+◌, ◌<◌, ◌≤◌, List, Option, Some, None, ap, subst}
 use mathlib.Core.Option.{some}
 use lib.ListN.{get_elem?}
 use Rattle.sysv_passes.specs.Members.{SeesMore}
+use Rattle.sysv_keys.specs.Identifier.{slot_of_id}
 use Rattle.sysv_steps.specs.Resume.{ArrivedOf, FreedOf, Settled, Released}
 use Rattle.sysv_queue.specs.Slot.{Slot}
 use Rattle.sysv_keys.specs.StandsFor.{Registry}
@@ -33,6 +34,9 @@ use Rattle.sysv_objects.specs.PoolTurns.{PoolMoves}
 use Rattle.sysv_shared.specs.Counts.{pool_counts}
 use Rattle.sysv_shared.specs.Gated.{IsSlot, IsRegistry, IsPool, as_slot, as_registry, as_pool, GatedMoves, gated_counts}
 use Rattle.sysv_shared.specs.Kinds.{Kind, seat_as}
+use Rattle.sysv_shared.specs.declared.shared_count.SharedCount.{SharedCount}
+use Rattle.sysv_shared.specs.declared.shared_count.SharedCount.TheVariants as shared
+use Rattle.sysv_shared.specs.SharedCounts.{count_of, place_with, count_there}
 use Rattle.sysv_shared.specs.Reading.{Finds, FindsAndGivesUp, Reads, Awaits, AwaitsWithin}
 use Rattle.sysv_shared.specs.Order.{GatedPass}
 use Rattle.sysv_shared.specs.Banked.{AreByKind, seats_seen}
@@ -83,19 +87,19 @@ module _ (before after : GatedPass) (kinds : AreByKind (gates_of before.seats)) 
     slot_learn count b n at is learns =
         learns_as as_slot IsSlot (Moves GatedMoves gated_counts) gated_counts (Moves SlotMoves slot_counts) slot_counts keeps_slot count b n is (known (slot + 2) b at).legal learns
 
-    pub awaits_arrived : (goal : ℕ) (awaited : Awaited) → ChangesAt (slot + 2) before.seats after.seats (λ b a. Waited gated_counts Arrived goal b awaited a) → Awaits (ArrivedOf slot) goal (seats_seen before) awaited (seats_seen after)
+    awaits_arrived : (goal : ℕ) (awaited : Awaited) → ChangesAt (slot + 2) before.seats after.seats (λ b a. Waited gated_counts Arrived goal b awaited a) → Awaits (ArrivedOf slot) goal (seats_seen before) awaited (seats_seen after)
     awaits_arrived goal (Reached n) c = reached as_slot IsSlot slot_counts (slot + 2) before.seats after.seats SlotChanges slot_seen slot_learn Arrived goal n c
     awaits_arrived goal Worn c = gave_up as_slot IsSlot slot_counts (slot + 2) before.seats after.seats SlotChanges slot_seen slot_learn Arrived goal c
 
-    pub awaits_freed : (goal : ℕ) (awaited : Awaited) → ChangesAt (slot + 2) before.seats after.seats (λ b a. Waited gated_counts Freed goal b awaited a) → Awaits (FreedOf slot) goal (seats_seen before) awaited (seats_seen after)
+    awaits_freed : (goal : ℕ) (awaited : Awaited) → ChangesAt (slot + 2) before.seats after.seats (λ b a. Waited gated_counts Freed goal b awaited a) → Awaits (FreedOf slot) goal (seats_seen before) awaited (seats_seen after)
     awaits_freed goal (Reached n) c = reached as_slot IsSlot slot_counts (slot + 2) before.seats after.seats SlotChanges slot_seen slot_learn Freed goal n c
     awaits_freed goal Worn c = gave_up as_slot IsSlot slot_counts (slot + 2) before.seats after.seats SlotChanges slot_seen slot_learn Freed goal c
 
-    pub arrived_within : (goal : ℕ) (awaited : Option Awaited) → ChangesAt (slot + 2) before.seats after.seats (λ b a. WaitedWithin gated_counts Arrived goal b awaited a) → AwaitsWithin (ArrivedOf slot) goal (seats_seen before) awaited (seats_seen after)
+    arrived_within : (goal : ℕ) (awaited : Option Awaited) → ChangesAt (slot + 2) before.seats after.seats (λ b a. WaitedWithin gated_counts Arrived goal b awaited a) → AwaitsWithin (ArrivedOf slot) goal (seats_seen before) awaited (seats_seen after)
     arrived_within goal (Some a) c = awaits_arrived goal a c
     arrived_within goal None c = came_back as_slot IsSlot slot_counts (slot + 2) before.seats after.seats SlotChanges slot_seen slot_learn Arrived goal c
 
-    pub freed_within : (goal : ℕ) (awaited : Option Awaited) → ChangesAt (slot + 2) before.seats after.seats (λ b a. WaitedWithin gated_counts Freed goal b awaited a) → AwaitsWithin (FreedOf slot) goal (seats_seen before) awaited (seats_seen after)
+    freed_within : (goal : ℕ) (awaited : Option Awaited) → ChangesAt (slot + 2) before.seats after.seats (λ b a. WaitedWithin gated_counts Freed goal b awaited a) → AwaitsWithin (FreedOf slot) goal (seats_seen before) awaited (seats_seen after)
     freed_within goal (Some a) c = awaits_freed goal a c
     freed_within goal None c = came_back as_slot IsSlot slot_counts (slot + 2) before.seats after.seats SlotChanges slot_seen slot_learn Freed goal c
 
@@ -112,11 +116,11 @@ module _ (before after : GatedPass) (kinds : AreByKind (gates_of before.seats)) 
   registry_learn count b n at is learns =
       learns_as as_registry IsRegistry (Moves GatedMoves gated_counts) gated_counts (Moves RegistryMoves registry_counts) registry_counts keeps_registry count b n is (known 0 b at).legal learns
 
-  pub awaits_settled : (goal : ℕ) (awaited : Awaited) → ChangesAt 0 before.seats after.seats (λ b a. Waited gated_counts Arrived goal b awaited a) → Awaits Settled goal (seats_seen before) awaited (seats_seen after)
+  awaits_settled : (goal : ℕ) (awaited : Awaited) → ChangesAt 0 before.seats after.seats (λ b a. Waited gated_counts Arrived goal b awaited a) → Awaits Settled goal (seats_seen before) awaited (seats_seen after)
   awaits_settled goal (Reached n) c = reached as_registry IsRegistry registry_counts 0 before.seats after.seats RegistryChanges registry_seen registry_learn Arrived goal n c
   awaits_settled goal Worn c = gave_up as_registry IsRegistry registry_counts 0 before.seats after.seats RegistryChanges registry_seen registry_learn Arrived goal c
 
-  pub settled_within : (goal : ℕ) (awaited : Option Awaited) → ChangesAt 0 before.seats after.seats (λ b a. WaitedWithin gated_counts Arrived goal b awaited a) → AwaitsWithin Settled goal (seats_seen before) awaited (seats_seen after)
+  settled_within : (goal : ℕ) (awaited : Option Awaited) → ChangesAt 0 before.seats after.seats (λ b a. WaitedWithin gated_counts Arrived goal b awaited a) → AwaitsWithin Settled goal (seats_seen before) awaited (seats_seen after)
   settled_within goal (Some a) c = awaits_settled goal a c
   settled_within goal None c = came_back as_registry IsRegistry registry_counts 0 before.seats after.seats RegistryChanges registry_seen registry_learn Arrived goal c
 
@@ -133,13 +137,47 @@ module _ (before after : GatedPass) (kinds : AreByKind (gates_of before.seats)) 
   pool_learn count b n at is learns =
       learns_as as_pool IsPool (Moves GatedMoves gated_counts) gated_counts (Moves PoolMoves pool_counts) pool_counts keeps_pool count b n is (known 1 b at).legal learns
 
-  pub reads_released : (n : ℕ) → ChangesAt 1 before.seats after.seats (λ b a. (a ≡ read_to Arrived n b) × Learns gated_counts Arrived b n) → Reads Released n (seats_seen before) (seats_seen after)
-  reads_released n c = finds as_pool IsPool pool_counts 1 before.seats after.seats PoolChanges pool_seen pool_learn Arrived n c
-
-  pub awaits_released : (goal : ℕ) (awaited : Awaited) → ChangesAt 1 before.seats after.seats (λ b a. Waited gated_counts Arrived goal b awaited a) → Awaits Released goal (seats_seen before) awaited (seats_seen after)
+  awaits_released : (goal : ℕ) (awaited : Awaited) → ChangesAt 1 before.seats after.seats (λ b a. Waited gated_counts Arrived goal b awaited a) → Awaits Released goal (seats_seen before) awaited (seats_seen after)
   awaits_released goal (Reached n) c = reached as_pool IsPool pool_counts 1 before.seats after.seats PoolChanges pool_seen pool_learn Arrived goal n c
   awaits_released goal Worn c = gave_up as_pool IsPool pool_counts 1 before.seats after.seats PoolChanges pool_seen pool_learn Arrived goal c
 
-  pub released_within : (goal : ℕ) (awaited : Option Awaited) → ChangesAt 1 before.seats after.seats (λ b a. WaitedWithin gated_counts Arrived goal b awaited a) → AwaitsWithin Released goal (seats_seen before) awaited (seats_seen after)
+  released_within : (goal : ℕ) (awaited : Option Awaited) → ChangesAt 1 before.seats after.seats (λ b a. WaitedWithin gated_counts Arrived goal b awaited a) → AwaitsWithin Released goal (seats_seen before) awaited (seats_seen after)
   released_within goal (Some a) c = awaits_released goal a c
   released_within goal None c = came_back as_pool IsPool pool_counts 1 before.seats after.seats PoolChanges pool_seen pool_learn Arrived goal c
+
+  -- ---- at the object that has the count
+
+  abbrev ReadThere : Count → ℕ → Mark → Mark → Type 0
+  ReadThere there n b a = (a ≡ read_to there n b) × Learns gated_counts there b n
+
+  abbrev WaitedThere : Count → ℕ → Option Awaited → Mark → Mark → Type 0
+  WaitedThere there goal awaited b a = WaitedWithin gated_counts there goal b awaited a
+
+  found : (count : SharedCount) (n : ℕ) → ChangesAt (place_with count) before.seats after.seats (ReadThere (count_there count) n)
+      → Reads (count_of count) n (seats_seen before) (seats_seen after)
+  found shared.Settled n c = finds as_registry IsRegistry registry_counts 0 before.seats after.seats RegistryChanges registry_seen registry_learn Arrived n c
+  found shared.Released n c = finds as_pool IsPool pool_counts 1 before.seats after.seats PoolChanges pool_seen pool_learn Arrived n c
+  found (shared.Arrived id) n c =
+      let slot = slot_of_id id in
+      finds as_slot IsSlot slot_counts (slot + 2) before.seats after.seats (SlotChanges slot) (slot_seen slot) (slot_learn slot) Arrived n c
+  found (shared.Freed id) n c =
+      let slot = slot_of_id id in
+      finds as_slot IsSlot slot_counts (slot + 2) before.seats after.seats (SlotChanges slot) (slot_seen slot) (slot_learn slot) Freed n c
+
+  ended : (count : SharedCount) (goal : ℕ) (awaited : Option Awaited) → ChangesAt (place_with count) before.seats after.seats (WaitedThere (count_there count) goal awaited)
+      → AwaitsWithin (count_of count) goal (seats_seen before) awaited (seats_seen after)
+  ended shared.Settled goal awaited c = settled_within goal awaited c
+  ended shared.Released goal awaited c = released_within goal awaited c
+  ended (shared.Arrived id) goal awaited c = arrived_within (slot_of_id id) goal awaited c
+  ended (shared.Freed id) goal awaited c = freed_within (slot_of_id id) goal awaited c
+
+  module _ (count : SharedCount) (place : ℕ) (there : Count) (at : place ≡ place_with count) (which : there ≡ count_there count) where
+    pub reads : (n : ℕ) → ChangesAt place before.seats after.seats (ReadThere there n) → Reads (count_of count) n (seats_seen before) (seats_seen after)
+    reads n c =
+        let one = subst (λ k. ChangesAt place before.seats after.seats (ReadThere k n)) which c in
+        found count n (subst (λ p. ChangesAt p before.seats after.seats (ReadThere (count_there count) n)) at one)
+
+    pub awaits_within : (goal : ℕ) (awaited : Option Awaited) → ChangesAt place before.seats after.seats (WaitedThere there goal awaited) → AwaitsWithin (count_of count) goal (seats_seen before) awaited (seats_seen after)
+    awaits_within goal awaited c =
+        let one = subst (λ k. ChangesAt place before.seats after.seats (WaitedThere k goal awaited)) which c in
+        ended count goal awaited (subst (λ p. ChangesAt p before.seats after.seats (WaitedThere (count_there count) goal awaited)) at one)

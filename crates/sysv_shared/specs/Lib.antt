@@ -14,6 +14,7 @@ pub mod Order
 pub mod Seats
 pub mod Banked
 pub mod Reading
+pub mod SharedCounts
 pub mod Opened
 pub mod Fresh
 pub mod SeenHistories

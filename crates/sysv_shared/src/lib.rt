@@ -11,6 +11,7 @@ mod opening;
 mod pool;
 mod registry;
 mod seats;
+mod shared_count;
 mod sharing;
 mod slot;
 
@@ -23,4 +24,5 @@ pub use opening::{GatesClosed, OpenRefused};
 pub use pool::GatedPool;
 pub use registry::GatedRegistry;
 pub use seats::Seats;
+pub use shared_count::SharedCount;
 pub use slot::GatedSlot;

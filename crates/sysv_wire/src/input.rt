@@ -1,7 +1,7 @@
 //! Reads bytes from a reader, only by its `read`.
 ghost use Rattle.std.specs.Prelude.{◌≡◌, ◌<◌, ◌≤◌, ◌++◌, [], ℕ, List, take, length, ⊤, IfOk, IfErr, OnOk, MatchOption};
 ghost use Rattle.std.specs.Io.KnownBytes.{Consumes, IsAtEnd};
-ghost use Rattle.sysv_model.specs.Watched.{failures_of, failures_after, stream_name, stream_of};
+ghost use Rattle.sysv_model.specs.Watched.{stream_of, KeepsStream};
 ghost use Rattle.sysv_wire.specs.Faults.{Faults, Breaks, HeadFault, LengthFault, IsPartLength, IsShorter, is_read_fault};
 ghost use Rattle.sysv_wire.specs.Numbers.{u32_bytes};
 
@@ -21,9 +21,7 @@ pub(crate) fn fill<R: Read>(reader: &mut Watched<'_, R>, bytes: &mut [u8]) -> Re
     ensures fault { IfErr result (λ fault.
         Faults (Breaks (λ _. ⊥)) fault (R.remaining (stream_of reader.old))
         (R.remaining (stream_of reader.new))) }
-    ensures same { stream_name reader.new ≡ stream_name reader.old }
-    ensures failed { failures_of reader.new
-        ≡ failures_after (is_read_fault result) (failures_of reader.old) }
+    ensures stream { KeepsStream reader.old reader.new (is_read_fault result) }
 {
     let mut count = 0;
     while count < bytes.len() {
@@ -43,9 +41,7 @@ pub(crate) fn fill_all<R: Read>(reader: &mut Watched<'_, R>, bytes: &mut [u8]) -
     ensures fault { IfErr result (λ fault.
         Faults (Breaks (IsShorter (length bytes.old))) fault (R.remaining (stream_of reader.old))
         (R.remaining (stream_of reader.new))) }
-    ensures same { stream_name reader.new ≡ stream_name reader.old }
-    ensures failed { failures_of reader.new
-        ≡ failures_after (is_read_fault result) (failures_of reader.old) }
+    ensures stream { KeepsStream reader.old reader.new (is_read_fault result) }
 {
     let len = bytes.len();
     if fill(reader, bytes)? < len {
@@ -64,9 +60,7 @@ fn read_length<R: Read>(reader: &mut Watched<'_, R>) -> Result<Option<u32>, Faul
     ensures fault { IfErr result (λ fault.
         Faults (Breaks IsPartLength) fault (R.remaining (stream_of reader.old))
         (R.remaining (stream_of reader.new))) }
-    ensures same { stream_name reader.new ≡ stream_name reader.old }
-    ensures failed { failures_of reader.new
-        ≡ failures_after (is_read_fault result) (failures_of reader.old) }
+    ensures stream { KeepsStream reader.old reader.new (is_read_fault result) }
 {
     let mut bytes = [0; 4];
     match fill(reader, &mut bytes)? {
@@ -108,9 +102,7 @@ pub(crate) fn read_head<R: Read>(
     ensures fault { IfErr result (λ fault.
         Faults (HeadFault (length head.old) most) fault (R.remaining (stream_of reader.old))
         (R.remaining (stream_of reader.new))) }
-    ensures same { stream_name reader.new ≡ stream_name reader.old }
-    ensures failed { failures_of reader.new
-        ≡ failures_after (is_read_fault result) (failures_of reader.old) }
+    ensures stream { KeepsStream reader.old reader.new (is_read_fault result) }
 {
     let Some(length) = read_length(reader)? else {
         return Ok(None);
@@ -133,9 +125,7 @@ pub(crate) fn read_text<R: Read>(
     ensures fault { IfErr result (λ fault.
         Faults (Breaks (IsShorter len)) fault (R.remaining (stream_of reader.old))
         (R.remaining (stream_of reader.new))) }
-    ensures same { stream_name reader.new ≡ stream_name reader.old }
-    ensures failed { failures_of reader.new
-        ≡ failures_after (is_read_fault result) (failures_of reader.old) }
+    ensures stream { KeepsStream reader.old reader.new (is_read_fault result) }
 {
     let mut piece = [0; BLOCK_BYTES];
     let mut left = len;

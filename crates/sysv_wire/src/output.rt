@@ -1,7 +1,7 @@
 //! Writes message bodies, and frames that end with a body.
-ghost use Rattle.std.specs.Prelude.{◌≡◌, ◌++◌, is_err, OnOk, OnErr};
+ghost use Rattle.std.specs.Prelude.{◌++◌, is_err, OnOk, OnErr};
 ghost use Rattle.std.specs.Io.KnownBytes.{Appends};
-ghost use Rattle.sysv_model.specs.Watched.{failures_of, failures_after, stream_name, stream_of};
+ghost use Rattle.sysv_model.specs.Watched.{stream_of, KeepsStream};
 ghost use Rattle.sysv_model.specs.Writing.{AppendsPrefix};
 
 use std::io::Write;
@@ -16,9 +16,7 @@ pub(crate) fn write_text<W: Write>(
         (W.contents (stream_of writer.new)) text.now) }
     ensures err { OnErr result (AppendsPrefix (W.contents (stream_of writer.old))
         (W.contents (stream_of writer.new)) text.now) }
-    ensures same { stream_name writer.new ≡ stream_name writer.old }
-    ensures failed { failures_of writer.new
-        ≡ failures_after (is_err result) (failures_of writer.old) }
+    ensures stream { KeepsStream writer.old writer.new (is_err result) }
 {
     let blocks = text.len().div_ceil(BLOCK_BYTES) as u32;
     for k in 0..blocks {
@@ -37,9 +35,7 @@ pub(crate) fn write_both<W: Write>(
         (W.contents (stream_of writer.new)) (front.now ++ text.now)) }
     ensures err { OnErr result (AppendsPrefix (W.contents (stream_of writer.old))
         (W.contents (stream_of writer.new)) (front.now ++ text.now)) }
-    ensures same { stream_name writer.new ≡ stream_name writer.old }
-    ensures failed { failures_of writer.new
-        ≡ failures_after (is_err result) (failures_of writer.old) }
+    ensures stream { KeepsStream writer.old writer.new (is_err result) }
 {
     writer.write_out(front)?;
     write_text(writer, text)

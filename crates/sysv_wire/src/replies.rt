@@ -1,7 +1,7 @@
 //! Reads and writes replies.
 ghost use Rattle.std.specs.Prelude.{◌≡◌, ◌≢◌, ◌≤◌, ◌+◌, ◌-◌, ◌++◌, ◌∷◌, ◌⊎◌, [], ℕ, List, Option, Some, Result, Err, length, ◌==◌, ◌↔◌, true, false, IsTrue, is_err, IfOk, IfErr, OnOk, OnErr};
 ghost use Rattle.std.specs.Io.KnownBytes.{Appends, Consumes};
-ghost use Rattle.sysv_model.specs.Watched.{failures_of, failures_after, stream_name, stream_of};
+ghost use Rattle.sysv_model.specs.Watched.{stream_of, KeepsStream};
 ghost use Rattle.sysv_model.specs.Writing.{AppendsPrefix};
 ghost use Rattle.sysv_wire.specs.Faults.{Faults, is_read_fault};
 ghost use Rattle.sysv_wire.specs.Frames.{op_number, version_number};
@@ -105,9 +105,7 @@ fn read_fields<R: Read>(
     ensures fault { IfErr result (λ fault.
         Faults (RestFault op 0 rest) fault (R.remaining (stream_of reader.old))
         (R.remaining (stream_of reader.new))) }
-    ensures same { stream_name reader.new ≡ stream_name reader.old }
-    ensures failed { failures_of reader.new
-        ≡ failures_after (is_read_fault result) (failures_of reader.old) }
+    ensures stream { KeepsStream reader.old reader.new (is_read_fault result) }
 {
     let mut fields = [0; MAX_FIELDS];
     let fields = &mut fields[..rest];
@@ -135,9 +133,7 @@ fn read_message<R: Read>(
     ensures fault { IfErr result (λ fault.
         Faults (RestFault Op.Rcv 0 rest) fault (R.remaining (stream_of reader.old))
         (R.remaining (stream_of reader.new))) }
-    ensures same { stream_name reader.new ≡ stream_name reader.old }
-    ensures failed { failures_of reader.new
-        ≡ failures_after (is_read_fault result) (failures_of reader.old) }
+    ensures stream { KeepsStream reader.old reader.new (is_read_fault result) }
 {
     let mut bytes = [0; 8];
     fill_all(reader, &mut bytes)?;
@@ -170,9 +166,7 @@ fn read_rest<R: Read>(
     ensures fault { IfErr result (λ fault.
         Faults (RestFault op error rest) fault (R.remaining (stream_of reader.old))
         (R.remaining (stream_of reader.new))) }
-    ensures same { stream_name reader.new ≡ stream_name reader.old }
-    ensures failed { failures_of reader.new
-        ≡ failures_after (is_read_fault result) (failures_of reader.old) }
+    ensures stream { KeepsStream reader.old reader.new (is_read_fault result) }
 {
     if error != 0 {
         let error = errno_of(error)?;
@@ -215,9 +209,7 @@ pub fn read_reply<R: Read>(
         R.remaining (stream_of reader.old) ≡ Some input → ReplyAt input answer →
         (result ≡ answer) ⊎ (result ≡ Err Fault.Read) }
     // The reader stays the same, and fails in this call if and only if the result is `Read`.
-    ensures same { stream_name reader.new ≡ stream_name reader.old }
-    ensures failed { failures_of reader.new
-        ≡ failures_after (is_read_fault result) (failures_of reader.old) }
+    ensures stream { KeepsStream reader.old reader.new (is_read_fault result) }
 {
     next_reply(reader, text)
 }
@@ -226,9 +218,7 @@ pub fn read_reply<R: Read>(
 fn next_reply<R: Read>(reader: &mut Watched<'_, R>, text: &mut Body) -> Result<Option<Reply>, Fault>
     ensures reads { ReadsReply (R.remaining (stream_of reader.old))
         (R.remaining (stream_of reader.new)) result text.new }
-    ensures same { stream_name reader.new ≡ stream_name reader.old }
-    ensures failed { failures_of reader.new
-        ≡ failures_after (is_read_fault result) (failures_of reader.old) }
+    ensures stream { KeepsStream reader.old reader.new (is_read_fault result) }
 {
     text.clear();
     let mut head = [0; 3];
@@ -268,9 +258,7 @@ pub fn write_reply<W: Write>(
     ensures err { OnErr result (AppendsPrefix (W.contents (stream_of writer.old))
         (W.contents (stream_of writer.new)) (reply_spelling reply.now text.now)) }
     // The writer stays the same, and fails in this call if and only if the result is an error.
-    ensures same { stream_name writer.new ≡ stream_name writer.old }
-    ensures failed { failures_of writer.new
-        ≡ failures_after (is_err result) (failures_of writer.old) }
+    ensures stream { KeepsStream writer.old writer.new (is_err result) }
 {
     let fields = fields_of(&reply.result);
     if takes_text(&reply.result) {

@@ -1,7 +1,7 @@
 //! Reads and writes requests.
 ghost use Rattle.std.specs.Prelude.{◌≡◌, ◌≤◌, ◌+◌, ◌-◌, ◌<◌, ◌++◌, ◌∷◌, ◌⊎◌, [], ℕ, List, Option, Some, Result, Err, length, is_err, IfOk, IfErr, OnOk, OnErr};
 ghost use Rattle.std.specs.Io.KnownBytes.{Appends, Consumes};
-ghost use Rattle.sysv_model.specs.Watched.{failures_of, failures_after, stream_name, stream_of};
+ghost use Rattle.sysv_model.specs.Watched.{stream_of, KeepsStream};
 ghost use Rattle.sysv_model.specs.Writing.{AppendsPrefix};
 ghost use Rattle.sysv_wire.specs.Faults.{Faults, Breaks, IsShorter, OpFault, is_read_fault};
 ghost use Rattle.sysv_wire.specs.Frames.{op_number, version_number};
@@ -225,9 +225,7 @@ fn read_ask<R: Read>(
     ensures fault { IfErr result (λ fault.
         Faults (Breaks (IsShorter (whole - 2))) fault (R.remaining (stream_of reader.old))
         (R.remaining (stream_of reader.new))) }
-    ensures same { stream_name reader.new ≡ stream_name reader.old }
-    ensures failed { failures_of reader.new
-        ≡ failures_after (is_read_fault result) (failures_of reader.old) }
+    ensures stream { KeepsStream reader.old reader.new (is_read_fault result) }
 {
     let mut fields = [0; MAX_FIELDS];
     let len = len_of(op);
@@ -268,9 +266,7 @@ pub fn read_request<R: Read>(
         R.remaining (stream_of reader.old) ≡ Some input → RequestAt input answer →
         (result ≡ answer) ⊎ (result ≡ Err Fault.Read) }
     // The reader stays the same, and fails in this call if and only if the result is `Read`.
-    ensures same { stream_name reader.new ≡ stream_name reader.old }
-    ensures failed { failures_of reader.new
-        ≡ failures_after (is_read_fault result) (failures_of reader.old) }
+    ensures stream { KeepsStream reader.old reader.new (is_read_fault result) }
 {
     next_request(reader, text)
 }
@@ -282,9 +278,7 @@ fn next_request<R: Read>(
 ) -> Result<Option<Request>, Fault>
     ensures reads { ReadsRequest (R.remaining (stream_of reader.old))
         (R.remaining (stream_of reader.new)) result text.new }
-    ensures same { stream_name reader.new ≡ stream_name reader.old }
-    ensures failed { failures_of reader.new
-        ≡ failures_after (is_read_fault result) (failures_of reader.old) }
+    ensures stream { KeepsStream reader.old reader.new (is_read_fault result) }
 {
     text.clear();
     let mut head = [0; 2];
@@ -313,9 +307,7 @@ pub fn write_request<W: Write>(
     ensures err { OnErr result (AppendsPrefix (W.contents (stream_of writer.old))
         (W.contents (stream_of writer.new)) (request_spelling request.now text.now)) }
     // The writer stays the same, and fails in this call if and only if the result is an error.
-    ensures same { stream_name writer.new ≡ stream_name writer.old }
-    ensures failed { failures_of writer.new
-        ≡ failures_after (is_err result) (failures_of writer.old) }
+    ensures stream { KeepsStream writer.old writer.new (is_err result) }
 {
     let op = request.ask.op();
     let fields = fields_of(&request.ask);

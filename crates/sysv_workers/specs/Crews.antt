@@ -1,7 +1,9 @@
 -- The threads that run, by the states on which they were started. This project's profile.
 use Rattle.std.specs.Prelude.{◌≡◌, List, map, reverse}
+use Rattle.std.specs.Mem.{manually_drop_value}
 use Rattle.std.specs.declared.thread.PromisedHandle.{PromisedHandle}
 use Rattle.sysv_buffer.specs.Ends.{Buffered}
+use Rattle.sysv_workers.specs.Doing.{Did}
 use Rattle.sysv_workers.specs.declared.worker.Done.{Done}
 use Rattle.sysv_workers.specs.declared.worker.Working.{Working}
 
@@ -20,3 +22,7 @@ module _ {W T J : Type 0} where
   -- the first state.
   abbrev pub AreOn : J → Buffered → List W → List (PromisedHandle (Done W T) (Working W T J)) → Type 0
   AreOn job buffer states handles = map assigned_to handles ≡ map (λ w. record { state = w; job = job; buffer = buffer }) (reverse states)
+
+  -- A worker that began with this state leaves what it did.
+  abbrev pub HasDone : (W → T → W → Type 0) → (W → Type 0) → Buffered → W → Done W T → Type 0
+  HasDone runs fits buffer before done = Did runs fits buffer before done.ended (manually_drop_value done.state) done.seat done.ran

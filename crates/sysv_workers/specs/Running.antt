@@ -1,6 +1,6 @@
 -- What a run of workers does, and what is handed back if it is refused. This project's profile.
-use Rattle.std.specs.Prelude.{◌≡◌, ◌≢◌, List, Option}
-use Rattle.std.specs.List.{All}
+use Rattle.std.specs.Prelude.{◌≡◌, ◌≢◌, ◌≤◌, List, length, Option}
+use Rattle.std.specs.List.{All, flat_map}
 use Rattle.sysv_workers.specs.Parts.{Part, Leads, AreDealt}
 use Rattle.sysv_workers.specs.Sources.{GivesAll, Gave, Returned}
 use Rattle.sysv_workers.specs.declared.refusals.WorkersFault.{WorkersFault}
@@ -25,6 +25,13 @@ module _ {W T : Type 0} where
   GivesBack runs before Thread after = after ≡ before
   GivesBack runs before Worn after = (parts : List (Part W T)) × Leads runs before parts after
   GivesBack runs before Missed after = (parts : List (Part W T)) × Leads runs before parts after
+
+  -- What a run hands back that was given up since a thread could not be started. After `Missed` some
+  -- worker has run over an item.
+  pub record GivesUp (runs : W → T → W → Type 0) (fits : W → Type 0) (before : List W) (why : WorkersFault) (after : List W) : Type 0 where
+    pub back : GivesBack runs before why after
+    pub still : All fits after
+    pub missed : why ≡ Missed → (parts : List (Part W T)) × Leads runs before parts after × (1 ≤ length (flat_map (λ p. p.items) parts))
 
 -- What a refused run leaves of the source. After `BadCount`, `NoMemory` and `Thread` the source was
 -- not read. After `Worn` it has returned some items, and may have reported its end. After `Missed`

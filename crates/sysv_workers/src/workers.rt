@@ -1,13 +1,11 @@
 //! Runs of workers.
-ghost use Rattle.std.specs.Prelude.{◌≡◌, ◌+◌, ◌-◌, ◌^◌, ◌<◌, ◌≤◌, ◌⊎◌, ◌↔◌, ◌≢◌, true, min, List, [], ◌∷◌, ◌++◌, length, vec_len, vec_capacity, IfOk, IfErr, IfSome, IfNone, OnOk, Some};
-ghost use Rattle.std.specs.List.{All, flat_map};
+ghost use Rattle.std.specs.Prelude.{◌≡◌, ◌+◌, ◌-◌, ◌^◌, ◌<◌, ◌≤◌, ◌⊎◌, ◌↔◌, true, min, List, [], ◌∷◌, ◌++◌, vec_len, vec_capacity, IfOk, IfErr, IfSome, IfNone, OnOk, Some};
+ghost use Rattle.std.specs.List.{All};
 ghost use Rattle.std.specs.Mem.{manually_drop_value};
 ghost use Rattle.std.specs.Thread.{IsSync};
-ghost use Rattle.sysv_workers.specs.Crews.{AreOn};
-ghost use Rattle.sysv_workers.specs.Doing.{Did};
+ghost use Rattle.sysv_workers.specs.Crews.{AreOn, HasDone};
 ghost use Rattle.sysv_workers.specs.Causes.{Told, HasCause};
-ghost use Rattle.sysv_workers.specs.Parts.{Part, Leads};
-ghost use Rattle.sysv_workers.specs.Running.{RunsAll, GivesBack, LeavesSource, Ends, Fails};
+ghost use Rattle.sysv_workers.specs.Running.{RunsAll, GivesBack, GivesUp, LeavesSource, Ends, Fails};
 ghost use Rattle.sysv_workers.specs.declared.workers.TheConstants.{MAX_WORKERS, MAX_CROWD};
 
 use crate::crew::{Handle, Tally, collect, join_all, start_all};
@@ -284,13 +282,9 @@ fn give_up<W, T: Drop, J: Job<W, T>, R: Threads>(
     requires room { vec_len states + 1 + vec_len handles ≤ vec_capacity states }
     ensures back { (job : J) (state : W) (rest : List W) → AreOn job buffer.now rest handles.items →
         All (J.fits job) states.items →
-        Did (J.runs job) (J.fits job) buffer.now state done.ended
-        (manually_drop_value done.state) done.seat done.ran
-        → GivesBack (J.runs job) (states.items ++ state ∷ rest) result.why result.states.items
-        × All (J.fits job) result.states.items
-        × (result.why ≡ WorkersFault.Missed → (parts : List (Part W T))
-        × Leads (J.runs job) (states.items ++ state ∷ rest) parts result.states.items
-        × (1 ≤ length (flat_map (λ p. p.items) parts))) }
+        HasDone (J.runs job) (J.fits job) buffer.now state done →
+        GivesUp (J.runs job) (J.fits job) (states.items ++ state ∷ rest) result.why
+        result.states.items }
     ensures why { (result.why ≡ WorkersFault.Thread) ⊎ (result.why ≡ WorkersFault.Missed) }
 {
     let mut tally = Tally::new();

@@ -18,7 +18,7 @@ use sysv_model::{Errno, IPC_PRIVATE, MESSAGE_BYTES, Selector, SetTo};
 use sysv_objects::Letter;
 use sysv_pool::Chain;
 use sysv_queue::{Look, Probe, Tally};
-use sysv_shared::{GatedPool, GatedSlot, Gates, GatesClosed, OpenRefused, Seats};
+use sysv_shared::{GatedPool, GatedSlot, Gates, GatesClosed, OpenRefused, Seats, SharedCount};
 use tests_kit::{USER, creating};
 
 const LIMIT: u64 = 1 << 62;
@@ -167,8 +167,8 @@ fn a_key_is_made_settled_and_forgotten(rt: HostRuntime) {
     assert_is(&rt, settle(&rt, &gates, &mut seats, 1), Ok(true));
     assert_is(
         &rt,
-        gates.await_settled(&rt, &mut seats, 1),
-        Awaited::Reached(1),
+        gates.await_within(&rt, &mut seats, SharedCount::Settled, 1),
+        Some(Awaited::Reached(1)),
     );
     let found = begin(&rt, &gates, &mut seats, 7, creating());
     assert_is(&rt, found, Ok(Begun::Found { id: 1, settled: 1 }));
@@ -176,8 +176,8 @@ fn a_key_is_made_settled_and_forgotten(rt: HostRuntime) {
     assert_is(&rt, forget(&rt, &gates, &mut seats, 1), Ok(false));
     assert_is(
         &rt,
-        gates.await_settled(&rt, &mut seats, 2),
-        Awaited::Reached(2),
+        gates.await_within(&rt, &mut seats, SharedCount::Settled, 2),
+        Some(Awaited::Reached(2)),
     );
     assert_is(&rt, ended(&rt, gates.close(seats)), (0, 6, 0));
 }
@@ -188,27 +188,27 @@ fn bounded_waits_come_back(rt: HostRuntime) {
     let (gates, mut seats) = gates_at(&rt, rt.alloc(), 0);
     let made = begin(&rt, &gates, &mut seats, 7, creating());
     assert_is(&rt, made, Ok(Begun::Made { id: 0 }));
-    assert_is(&rt, gates.settled_within(&rt, &mut seats, 1), None);
+    assert_is(&rt, gates.await_within(&rt, &mut seats, SharedCount::Settled, 1), None);
     assert_is(&rt, settle(&rt, &gates, &mut seats, 0), Ok(true));
-    let settled = gates.settled_within(&rt, &mut seats, 1);
+    let settled = gates.await_within(&rt, &mut seats, SharedCount::Settled, 1);
     assert_is(&rt, settled, Some(Awaited::Reached(1)));
     let made = install(&rt, &gates, &mut seats, 1, 7, USER, 0o600, 50);
     assert_is(&rt, made, Ok(true));
-    assert_is(&rt, gates.arrived_within(&rt, &mut seats, 1, 1), None);
+    assert_is(&rt, gates.await_within(&rt, &mut seats, SharedCount::Arrived { id: 1 }, 1), None);
     let letter = letter_of(&rt, rt.alloc(), &gates, &mut seats, b"hello");
     assert_is(&rt, placed(&rt, &gates, &mut seats, letter), 0);
-    let arrived = gates.arrived_within(&rt, &mut seats, 1, 1);
+    let arrived = gates.await_within(&rt, &mut seats, SharedCount::Arrived { id: 1 }, 1);
     assert_is(&rt, arrived, Some(Awaited::Reached(1)));
-    assert_is(&rt, gates.freed_within(&rt, &mut seats, 1, 1), None);
-    assert_is(&rt, gates.released_within(&rt, &mut seats, 1), None);
+    assert_is(&rt, gates.await_within(&rt, &mut seats, SharedCount::Freed { id: 1 }, 1), None);
+    assert_is(&rt, gates.await_within(&rt, &mut seats, SharedCount::Released, 1), None);
     match remove(&rt, &gates, &mut seats, 1, USER) {
         Ok(Ok(discarded)) => give_back(&rt, &gates, &mut seats, discarded.into_chain()),
         Ok(Err(_)) => panic!(rt; "no removal"),
         Err(_) => panic!(rt; "worn"),
     }
-    let freed = gates.freed_within(&rt, &mut seats, 1, 1);
+    let freed = gates.await_within(&rt, &mut seats, SharedCount::Freed { id: 1 }, 1);
     assert_is(&rt, freed, Some(Awaited::Reached(1)));
-    let released = gates.released_within(&rt, &mut seats, 1);
+    let released = gates.await_within(&rt, &mut seats, SharedCount::Released, 1);
     assert_is(&rt, released, Some(Awaited::Reached(1)));
     assert_is(&rt, ended(&rt, gates.close(seats)), (3, 2, 2));
 }
@@ -225,8 +225,8 @@ fn a_message_goes_through_its_slot(rt: HostRuntime) {
         Ok(Look::Fits),
     );
     assert_is(&rt, placed(&rt, &gates, &mut seats, letter), 0);
-    let arrived = gates.await_arrived(&rt, &mut seats, 1, 1);
-    assert_is(&rt, arrived, Awaited::Reached(1));
+    let arrived = gates.await_within(&rt, &mut seats, SharedCount::Arrived { id: 1 }, 1);
+    assert_is(&rt, arrived, Some(Awaited::Reached(1)));
     let mut out = empty_body(&rt, rt.alloc());
     match take(
         &rt,
@@ -243,20 +243,20 @@ fn a_message_goes_through_its_slot(rt: HostRuntime) {
             let (delivery, chain) = taken.finish(9, &mut out);
             assert_is(&rt, (delivery.mtype(), delivery.sender()), (9, 101));
             delivery.written(&mut Tally::open());
-            assert_is(&rt, gates.released(&mut seats), 0);
+            assert_is(&rt, gates.count(&mut seats, SharedCount::Released), 0);
             give_back(&rt, &gates, &mut seats, chain);
         }
         Ok(Err(_)) => panic!(rt; "no message"),
         Err(_) => panic!(rt; "worn"),
     }
     assert!(rt; out.block(0) == b"hello".as_slice());
-    let freed = gates.await_freed(&rt, &mut seats, 1, 1);
-    assert_is(&rt, freed, Awaited::Reached(1));
-    assert_is(&rt, gates.released(&mut seats), 1);
+    let freed = gates.await_within(&rt, &mut seats, SharedCount::Freed { id: 1 }, 1);
+    assert_is(&rt, freed, Some(Awaited::Reached(1)));
+    assert_is(&rt, gates.count(&mut seats, SharedCount::Released), 1);
     assert_is(
         &rt,
-        gates.await_released(&rt, &mut seats, 1),
-        Awaited::Reached(1),
+        gates.await_within(&rt, &mut seats, SharedCount::Released, 1),
+        Some(Awaited::Reached(1)),
     );
     assert_is(&rt, ended(&rt, gates.close(seats)), (4, 0, 2));
 }
@@ -382,10 +382,10 @@ fn worn_gates_of_slots_serve_nothing(rt: HostRuntime) {
     }
     assert_is(
         &rt,
-        gates.await_arrived(&rt, &mut seats, 1, 1),
-        Awaited::Worn,
+        gates.await_within(&rt, &mut seats, SharedCount::Arrived { id: 1 }, 1),
+        Some(Awaited::Worn),
     );
-    assert_is(&rt, gates.await_freed(&rt, &mut seats, 1, 1), Awaited::Worn);
+    assert_is(&rt, gates.await_within(&rt, &mut seats, SharedCount::Freed { id: 1 }, 1), Some(Awaited::Worn));
     assert_is(&rt, ended(&rt, gates.close(seats)), (0, 0, 0));
 }
 
@@ -396,7 +396,7 @@ fn worn_gates_of_registry_and_pool_serve_nothing(rt: HostRuntime) {
     assert_is(&rt, made, Err(Worn));
     assert_is(&rt, settle(&rt, &gates, &mut seats, 0), Err(Worn));
     assert_is(&rt, forget(&rt, &gates, &mut seats, 0), Err(Worn));
-    assert_is(&rt, gates.await_settled(&rt, &mut seats, 1), Awaited::Worn);
+    assert_is(&rt, gates.await_within(&rt, &mut seats, SharedCount::Settled, 1), Some(Awaited::Worn));
     match reserve(&rt, &gates, &mut seats, 65) {
         Err(Worn) => {}
         Ok(_) => panic!(rt; "a turn"),
@@ -405,7 +405,7 @@ fn worn_gates_of_registry_and_pool_serve_nothing(rt: HostRuntime) {
         Err(chain) => assert_is(&rt, chain.end(), 0),
         Ok(_) => panic!(rt; "a turn"),
     }
-    assert_is(&rt, gates.released(&mut seats), 0);
-    assert_is(&rt, gates.await_released(&rt, &mut seats, 1), Awaited::Worn);
+    assert_is(&rt, gates.count(&mut seats, SharedCount::Released), 0);
+    assert_is(&rt, gates.await_within(&rt, &mut seats, SharedCount::Released, 1), Some(Awaited::Worn));
     assert_is(&rt, ended(&rt, gates.close(seats)), (0, 0, 0));
 }

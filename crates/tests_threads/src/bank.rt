@@ -13,7 +13,7 @@ use crate::sum::Sum;
 use std::alloc::Global;
 use std::test::Fail;
 use sysv_bank::{Bank, BankSeat};
-use sysv_gate::{Awaited, Closing, OpenRefused, TryRefused};
+use sysv_gate::{Awaited, Closing, Count, OpenRefused, TryRefused};
 
 // Opens a bank of three sums, of 10, 20 and 30.
 fn opened(alloc: Global, first: u64) -> Option<(Bank<Sum>, BankSeat<Sum>)>
@@ -39,22 +39,22 @@ fn each_place_has_its_own_turns(rt: HostRuntime) -> Result<(), Fail> {
     bank.wake(&rt, 1);
     assert_is(
         &rt,
-        (bank.arrived(0, &mut seat), bank.freed(0, &mut seat)),
+        (bank.count(0, &mut seat, Count::Arrived), bank.count(0, &mut seat, Count::Freed)),
         (0, 0),
     );
     assert_is(
         &rt,
-        (bank.arrived(1, &mut seat), bank.freed(1, &mut seat)),
+        (bank.count(1, &mut seat, Count::Arrived), bank.count(1, &mut seat, Count::Freed)),
         (1, 1),
     );
     assert_is(
         &rt,
-        bank.await_arrived(&rt, 2, &mut seat, 1),
+        bank.await_count(&rt, 2, &mut seat, Count::Arrived, 1),
         Awaited::Reached(1),
     );
     assert_is(
         &rt,
-        bank.await_freed(&rt, 1, &mut seat, 1),
+        bank.await_count(&rt, 1, &mut seat, Count::Freed, 1),
         Awaited::Reached(1),
     );
     let mut sums = Vec::new(rt.alloc());
@@ -74,16 +74,16 @@ fn a_bounded_wait_at_a_place_comes_back(rt: HostRuntime) -> Result<(), Fail> {
     assert!(rt; matches!(&bank.call(&rt, 2, &mut seat, 4), Ok(30)));
     assert_is(
         &rt,
-        bank.arrived_within(&rt, 1, &mut seat, 1),
+        bank.await_within(&rt, 1, &mut seat, Count::Arrived, 1),
         Some(Awaited::Reached(1)),
     );
-    assert_is(&rt, bank.arrived_within(&rt, 2, &mut seat, 1), None);
+    assert_is(&rt, bank.await_within(&rt, 2, &mut seat, Count::Arrived, 1), None);
     assert_is(
         &rt,
-        bank.freed_within(&rt, 2, &mut seat, 1),
+        bank.await_within(&rt, 2, &mut seat, Count::Freed, 1),
         Some(Awaited::Reached(1)),
     );
-    assert_is(&rt, bank.freed_within(&rt, 1, &mut seat, 1), None);
+    assert_is(&rt, bank.await_within(&rt, 1, &mut seat, Count::Freed, 1), None);
     assert_is(&rt, turns_of(bank.close(seat)), 2);
     Ok(())
 }
@@ -95,7 +95,7 @@ fn seats_are_split_and_joined_together(rt: HostRuntime) -> Result<(), Fail> {
     assert!(rt; matches!(&bank.call(&rt, 0, &mut other, 1), Ok(10)));
     assert!(rt; matches!(&bank.call(&rt, 0, &mut seat, 2), Ok(11)));
     assert!(rt; matches!(&bank.try_call(2, &mut other, 3), Ok(30)));
-    assert_is(&rt, bank.arrived(2, &mut seat), 1);
+    assert_is(&rt, bank.count(2, &mut seat, Count::Arrived), 1);
     bank.join(&mut seat, other);
     assert_is(&rt, turns_of(bank.close(seat)), 3);
     Ok(())
@@ -107,7 +107,7 @@ fn a_worn_place_serves_nothing(rt: HostRuntime) -> Result<(), Fail> {
     assert!(rt; matches!(&bank.call(&rt, 2, &mut seat, 5), Ok(30)));
     assert!(rt; matches!(&bank.call(&rt, 2, &mut seat, 5), Err(worn) if worn.call == 5));
     assert!(rt; matches!(&bank.try_call(2, &mut seat, 6), Err(TryRefused::Worn(6))));
-    assert!(rt; matches!(&bank.await_freed(&rt, 2, &mut seat, 1), Awaited::Worn));
+    assert!(rt; matches!(&bank.await_count(&rt, 2, &mut seat, Count::Freed, 1), Awaited::Worn));
     assert!(rt; matches!(&bank.try_call(1, &mut seat, 6), Ok(20)));
     assert_is(&rt, turns_of(bank.close(seat)), 2);
     Ok(())

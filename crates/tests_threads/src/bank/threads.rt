@@ -11,14 +11,14 @@ use std::thread;
 use std::thread::{Threads, join};
 use std::time::{Clock, Duration};
 use sysv_bank::{Bank, BankSeat};
-use sysv_gate::Awaited;
+use sysv_gate::{Awaited, Count};
 
 // Waits for the first count at place 1.
 fn await_there(rt: &impl Wait, bank: &Bank<Sum>, mut seat: BankSeat<Sum>) -> Awaited
     requires seat { gates_of seat.seats ≡ bank.now }
     requires three { length bank.now ≡ 3 }
 {
-    bank.await_arrived(rt, 1, &mut seat, 1)
+    bank.await_count(rt, 1, &mut seat, Count::Arrived, 1)
 }
 
 // Raises the first count at place 1 by a try once the other thread sleeps, and then wakes all who sleep there.

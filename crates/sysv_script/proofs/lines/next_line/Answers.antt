@@ -52,8 +52,8 @@ loop-found-preserved g c =
       at_once = λ len first. absurd (first_line_ends len old (subst (IsFirstLine len) (sym (c.loop-found.invariant.at_once len first).0) first) none);
       text = TakesIn-trans _ _ _ _ _ _ c.loop-found.invariant.text taken;
       answers = HandsOn-all _ _ _ _ _ _ c.loop-found.invariant.answers c.in-Ok.ensures.answers c.in-Ok.ensures.none_left;
-      same_reader = c.in-Ok.ensures.same_reader ∙ c.loop-found.invariant.same_reader;
-      same_writer = c.in-Ok.ensures.same_writer ∙ c.loop-found.invariant.same_writer;
-      reader_failed = c.in-Ok.ensures.reader_failed ∙ c.loop-found.invariant.reader_failed;
-      writer_failed = c.in-Ok.ensures.writer_failed ∙ c.loop-found.invariant.writer_failed;
+      same_reader = c.in-Ok.ensures.reader.same ∙ c.loop-found.invariant.same_reader;
+      same_writer = c.in-Ok.ensures.writer.same ∙ c.loop-found.invariant.same_writer;
+      reader_failed = c.in-Ok.ensures.reader.failed ∙ c.loop-found.invariant.reader_failed;
+      writer_failed = c.in-Ok.ensures.writer.failed ∙ c.loop-found.invariant.writer_failed;
     }

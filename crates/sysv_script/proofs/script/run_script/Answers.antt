@@ -1,4 +1,4 @@
-use Rattle.std.proofs.Common.{◌≡◌, Result, sym, subst}
+use Rattle.std.proofs.Common.{◌≡◌, ◌∙◌, Result, sym, subst}
 use Rattle.std.specs.Prelude.{IfErr, ⊤}
 use Rattle.sysv_model.specs.Watched.{failures_of, failures_after, stream_of}
 use Rattle.sysv_script.specs.declared.fault.ScriptFault.{ScriptFault}
@@ -26,12 +26,16 @@ returns-clause-bad g c =
     subst (λ r. IfErr r (λ fault. TellsBadLine fault (g.W.Write.contents (stream_of c.args.writer.now)) (g.W.Write.contents (stream_of c.end.new.writer)))) (sym c.and.ensures)
     (tells_end c.end.result c.run_lines-ended.result _ _ _ _ c.run_lines-ended.ensures.grows c.end.ensures.ok c.end.ensures.fault c.run_lines-ended.ensures.bad)
 
-pub returns-clause-reader_failed : goal.returns-clause-reader_failed
-returns-clause-reader_failed g c =
-    subst (λ (r : Result ⊤ ScriptFault). failures_of c.run_lines-ended.new.reader ≡ failures_after (is_read_fault r) (failures_of c.args.reader.now)) (sym c.and.ensures)
-    (reader_ended c.end.result c.run_lines-ended.result _ _ _ c.end.ensures.fault c.end.ensures.empty c.run_lines-ended.ensures.none_left c.run_lines-ended.ensures.reader_failed)
+pub returns-clause-reader : goal.returns-clause-reader
+returns-clause-reader g c = record {
+  same = c.run_lines-ended.ensures.reader.same;
+  failed = subst (λ (r : Result ⊤ ScriptFault). failures_of c.run_lines-ended.new.reader ≡ failures_after (is_read_fault r) (failures_of c.args.reader.now)) (sym c.and.ensures)
+      (reader_ended c.end.result c.run_lines-ended.result _ _ _ c.end.ensures.fault c.end.ensures.empty c.run_lines-ended.ensures.none_left c.run_lines-ended.ensures.reader.failed);
+}
 
-pub returns-clause-writer_failed : goal.returns-clause-writer_failed
-returns-clause-writer_failed g c =
-    subst (λ (r : Result ⊤ ScriptFault). failures_of c.end.new.writer ≡ failures_after (is_write_fault r) (failures_of c.args.writer.now)) (sym c.and.ensures)
-    (writer_ended c.end.result c.run_lines-ended.result _ _ _ _ c.end.ensures.empty c.run_lines-ended.ensures.none_left c.run_lines-ended.ensures.writer_failed c.end.ensures.failed)
+pub returns-clause-writer : goal.returns-clause-writer
+returns-clause-writer g c = record {
+  same = c.end.ensures.stream.same ∙ c.run_lines-ended.ensures.writer.same;
+  failed = subst (λ (r : Result ⊤ ScriptFault). failures_of c.end.new.writer ≡ failures_after (is_write_fault r) (failures_of c.args.writer.now)) (sym c.and.ensures)
+      (writer_ended c.end.result c.run_lines-ended.result _ _ _ _ c.end.ensures.empty c.run_lines-ended.ensures.none_left c.run_lines-ended.ensures.writer.failed c.end.ensures.stream.failed);
+}

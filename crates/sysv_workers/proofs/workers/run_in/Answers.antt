@@ -17,7 +17,7 @@ returns-in-Some-clause-err g c =
     let s = c.in-Some.ensures.started in
     let back = c.give_up.ensures.back c.args.job.now s.0 s.1 s.3 c.start_all.ensures.fits s.4 in
     let P : List _ → Type 0 = λ l. GivesBack {T = g.row.T.Denot} runs l c.give_up.result.why c.give_up.result.states.items in
-    fails_early runs fits g.S.Source.gives _ _ _ _ c.give_up.ensures.why (subst P (sym s.2) back.0) back.1
+    fails_early runs fits g.S.Source.gives _ _ _ _ c.give_up.ensures.why (subst P (sym s.2) back.back) back.still
 
 pub join_all-requires-clause-room : goal.join_all-requires-clause-room
 join_all-requires-clause-room g c =
@@ -55,7 +55,7 @@ returns-in-Some-clause-cause g c =
     let s = c.in-Some.ensures.started in
     let back = c.give_up.ensures.back c.args.job.now s.0 s.1 s.3 c.start_all.ensures.fits s.4 in
     let P : List _ → Type 0 = λ l. c.give_up.result.why ≡ Missed → (parts : List (Part _ g.row.T.Denot)) × Leads runs l parts c.give_up.result.states.items × (1 ≤ length (flat_map (λ p. p.items) parts)) in
-    cause_early runs fits g.S.Source.gives _ _ _ _ _ _ _ refl c.give_up.ensures.why (subst P (sym s.2) back.2)
+    cause_early runs fits g.S.Source.gives _ _ _ _ _ _ _ refl c.give_up.ensures.why (subst P (sym s.2) back.missed)
 
 pub returns-clause-err : goal.returns-clause-err
 returns-clause-err g c =

@@ -19,10 +19,10 @@ pub loop-passed-preserved : goal.loop-passed-preserved
 loop-passed-preserved g c = record {
   grows = Grows-trans _ _ _ c.loop-passed.invariant.grows c.in-Ok-true.ensures.grows;
   runs = λ s seen text t. RunsNext-on c.in-Ok-true.field-0 _ _ _ _ _ _ _ _ _ c.in-Ok-true.field-0-test (c.in-Ok-true.ensures.runs s text _ (c.loop-passed.invariant.runs s seen text t));
-  same_reader = c.in-Ok-true.ensures.same_reader ∙ c.loop-passed.invariant.same_reader;
-  same_writer = c.in-Ok-true.ensures.same_writer ∙ c.loop-passed.invariant.same_writer;
-  reader_failed = c.in-Ok-true.ensures.reader_failed ∙ c.loop-passed.invariant.reader_failed;
-  writer_failed = c.in-Ok-true.ensures.writer_failed ∙ c.loop-passed.invariant.writer_failed;
+  same_reader = c.in-Ok-true.ensures.reader.same ∙ c.loop-passed.invariant.same_reader;
+  same_writer = c.in-Ok-true.ensures.writer.same ∙ c.loop-passed.invariant.same_writer;
+  reader_failed = c.in-Ok-true.ensures.reader.failed ∙ c.loop-passed.invariant.reader_failed;
+  writer_failed = c.in-Ok-true.ensures.writer.failed ∙ c.loop-passed.invariant.writer_failed;
 }
 
 pub returns-in-Ok-false-clause-prints : goal.returns-in-Ok-false-clause-prints

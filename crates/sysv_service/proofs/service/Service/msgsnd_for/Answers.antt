@@ -17,11 +17,11 @@ use Rattle.sysv_service.proofs.service.Service.msgsnd_for.Goals as goal
 pub send-requires-clause-sends : goal.send-requires-clause-sends
 send-requires-clause-sends g c =
     let starts = c.begin-begun.ensures c.args.text.now (sym c.len.ensures.value) in
-    subst Sends starts (begin_sends c.args.cred (to_z w32 (of_z w32 c.args.id)) (to_z w64 (of_z w64 c.args.mtype)) c.args.flags c.args.text.now c.released-released.result)
+    subst Sends starts (begin_sends c.args.cred (to_z w32 (of_z w32 c.args.id)) (to_z w64 (of_z w64 c.args.mtype)) c.args.flags c.args.text.now c.count-released.result)
 
 pub returns-clause-ran : goal.returns-clause-ran
 returns-clause-ran g c =
-    let mid : Pass = record { seats = c.released-released.new.seats; held = c.pass.inside.held.blocks } in
+    let mid : Pass = record { seats = c.count-released.new.seats; held = c.pass.inside.held.blocks } in
     let may = g.C.Clock.may c.args.clock.now in
     let id = c.ranges.id in
     let mtype = c.ranges.mtype in
@@ -31,11 +31,11 @@ returns-clause-ran g c =
     let comes = simp to_z-of_z at from in
     subst (λ (b : Pass). (released : ℕ) × (m : Pass) × Reads Released released b.seats m.seats × (m.held ≡ b.held) × (ending : Ending)
     × Comes may (begins c.args.cred (Msgsnd c.args.id c.args.mtype c.args.flags c.args.text.now) released) m (Over ending) c.send.new.pass × TellsZero ending told) c.pass.view_is
-    (c.released-released.result, mid, c.released-released.ensures.read, refl, ran.0, comes, ran.2))
+    (c.count-released.result, mid, c.count-released.ensures.read, refl, ran.0, comes, ran.2))
 
 pub returns-clause-left : goal.returns-clause-left
 returns-clause-left g c =
-    let mid : Pass = record { seats = c.released-released.new.seats; held = c.pass.inside.held.blocks } in
+    let mid : Pass = record { seats = c.count-released.new.seats; held = c.pass.inside.held.blocks } in
     let may = g.C.Clock.may c.args.clock.now in
     let may_leave = g.K.Caller.may_leave c.args.caller.now in
     let id = c.ranges.id in
@@ -46,4 +46,4 @@ returns-clause-left g c =
     let comes = simp to_z-of_z at from in
     subst (λ (b : Pass). (released : ℕ) × (m : Pass) × Reads Released released b.seats m.seats × (m.held ≡ b.held)
     × IsLeft may_leave may (begins c.args.cred (Msgsnd c.args.id c.args.mtype c.args.flags c.args.text.now) released) m c.send.new.pass) c.pass.view_is
-    (c.released-released.result, mid, c.released-released.ensures.read, refl, (left.0, left.1, comes)))
+    (c.count-released.result, mid, c.count-released.ensures.read, refl, (left.0, left.1, comes)))

@@ -19,10 +19,10 @@ loop-preserved g c =
       talking = goes_on g.K.Kernel.meaning c.args.version c.args.cred c.args.kernel.now c.loop.kernel c.serve_next.new.kernel _ _ _ _ _ _ c.loop.self.tally c.serve_next.new.self.tally
           c.loop.self.requests c.serve_next.new.self.requests c.loop.invariant.talking turn;
       counted = turn.counts ∙ ap (λ n. n + 1) c.loop.invariant.counted;
-      same_reader = c.serve_next.ensures.same_reader ∙ c.loop.invariant.same_reader;
-      same_writer = c.serve_next.ensures.same_writer ∙ c.loop.invariant.same_writer;
-      reader_failed = (rw c.in_default.is at c.serve_next.ensures.reader_failed) ∙ c.loop.invariant.reader_failed;
-      writer_failed = (rw c.in_default.is at c.serve_next.ensures.writer_failed) ∙ c.loop.invariant.writer_failed;
+      same_reader = c.serve_next.ensures.reader.same ∙ c.loop.invariant.same_reader;
+      same_writer = c.serve_next.ensures.writer.same ∙ c.loop.invariant.same_writer;
+      reader_failed = (rw c.in_default.is at c.serve_next.ensures.reader.failed) ∙ c.loop.invariant.reader_failed;
+      writer_failed = (rw c.in_default.is at c.serve_next.ensures.writer.failed) ∙ c.loop.invariant.writer_failed;
     }
 
 pub serve_next-requires-clause-room : goal.serve_next-requires-clause-room
