@@ -13,9 +13,8 @@ ghost use Rattle.sysv_core.specs.Preset.{MakesPreset};
 use bitflags::Flags as _;
 use sysv_keys::{Begun, one_legal_reply, unused_slots};
 use sysv_model::{Cred, Flags, IPC_PRIVATE};
-use sysv_objects::Objects;
-use sysv_turns::{
-    ObjectCall, ObjectReply, RegistryCall, RegistryReply, SlotAsk, SlotCall, SlotReply,
+use sysv_objects::{
+    ObjectCall, ObjectReply, Objects, RegistryCall, RegistryReply, SlotAsk, SlotCall, SlotReply,
 };
 
 /// The credentials with which the preset queue is made.

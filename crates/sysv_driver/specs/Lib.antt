@@ -1,6 +1,6 @@
 pub use Rattle.sysv_steps.specs.State
 pub use Rattle.sysv_steps.specs.Seen
-pub use Rattle.sysv_turns.specs.Turns
+pub use Rattle.sysv_objects.specs.Turns
 pub mod Kinds
 pub mod Stepping
 pub mod Giving

@@ -2,16 +2,16 @@
 use Rattle.std.proofs.Common.{◌≡◌, ap, subst, ◌∙◌}
 use Rattle.sysv_model.specs.Turn.{Deed, AtSlot, AtRegistry}
 use Rattle.sysv_queue.specs.Slot.{Slot}
-use Rattle.sysv_turns.specs.declared.slot.SlotCall.{SlotCall}
-use Rattle.sysv_turns.specs.declared.slot.SlotReply.{SlotReply}
-use Rattle.sysv_turns.specs.declared.registry.RegistryCall.{RegistryCall}
-use Rattle.sysv_turns.specs.declared.registry.RegistryReply.{RegistryReply}
-use Rattle.sysv_turns.specs.declared.object.ObjectCall.TheVariants as called
-use Rattle.sysv_turns.specs.declared.object.ObjectReply.{ObjectReply}
-use Rattle.sysv_turns.specs.declared.object.ObjectReply.TheVariants as told
-use Rattle.sysv_turns.specs.SlotTurns.{slot_asked, slot_call, slot_reply, FitsSlotCall}
-use Rattle.sysv_turns.specs.RegistryTurns.{registry_call, registry_reply}
-use Rattle.sysv_turns.specs.Turns.{Takes}
+use Rattle.sysv_objects.specs.declared.slot.SlotCall.{SlotCall}
+use Rattle.sysv_objects.specs.declared.slot.SlotReply.{SlotReply}
+use Rattle.sysv_objects.specs.declared.registry.RegistryCall.{RegistryCall}
+use Rattle.sysv_objects.specs.declared.registry.RegistryReply.{RegistryReply}
+use Rattle.sysv_objects.specs.declared.object.ObjectCall.TheVariants as called
+use Rattle.sysv_objects.specs.declared.object.ObjectReply.{ObjectReply}
+use Rattle.sysv_objects.specs.declared.object.ObjectReply.TheVariants as told
+use Rattle.sysv_objects.specs.SlotTurns.{slot_asked, slot_call, slot_reply, FitsSlotCall}
+use Rattle.sysv_objects.specs.RegistryTurns.{registry_call, registry_reply}
+use Rattle.sysv_objects.specs.Turns.{Takes}
 
 module _ {P : Type 0} (takes : P → Deed → P → Type 0) (before after : P) where
   pub slot_told : (call : SlotCall) (r : ObjectReply) (s reply : SlotReply) → r ≡ told.Slot s → s ≡ reply → Takes takes before (called.Slot call) r after →

@@ -9,9 +9,9 @@ ghost use Rattle.sysv_driver.specs.Stepping.{StepsOn, no_moment};
 use crate::clock::Clock;
 use crate::worn::{forget, give_back, overflow};
 use sysv_model::{Cred, SetTo};
+use sysv_objects::{ObjectCall, ObjectReply, SlotAsk, SlotCall, SlotReply, Turns};
 use sysv_pool::Chain;
 use sysv_steps::{Phase, State, forgotten, given_back, removed, set_done, stat_told};
-use sysv_turns::{ObjectCall, ObjectReply, SlotAsk, SlotCall, SlotReply, Turns};
 
 /// Makes one step of an IPC_STAT and returns the state that follows.
 ///

@@ -9,10 +9,10 @@ ghost use Rattle.sysv_driver.specs.Stepping.{StepsOn, no_moment};
 use crate::clock::Clock;
 use crate::worn::{forget, overflow};
 use bitflags::Flags as _;
-use sysv_steps::{Getting, Phase, State};
-use sysv_turns::{
+use sysv_objects::{
     ObjectCall, ObjectReply, RegistryCall, RegistryReply, SlotAsk, SlotCall, SlotReply, Turns,
 };
+use sysv_steps::{Getting, Phase, State};
 
 /// Makes one step of a msgget and returns the state that follows.
 ///

@@ -9,9 +9,9 @@ ghost use Rattle.sysv_driver.specs.Giving.{StepsGiving};
 use crate::clock::Clock;
 use crate::worn::{give_back, overflow};
 use sysv_model::Body;
+use sysv_objects::{ObjectCall, ObjectReply, SlotAsk, SlotCall, SlotReply, Turns};
 use sysv_pool::Chain;
 use sysv_steps::{Phase, Receiving, State};
-use sysv_turns::{ObjectCall, ObjectReply, SlotAsk, SlotCall, SlotReply, Turns};
 
 /// Makes one step of a receive and returns the state that follows. The bytes of the message that it
 /// takes are written to `out`.

@@ -10,13 +10,13 @@ ghost use Rattle.sysv_driver.specs.Stepping.{StepsOn, no_moment};
 use crate::clock::Clock;
 use crate::worn::{give_back, overflow};
 use sysv_model::{Body, Errno};
-use sysv_pool::Chain;
-use sysv_queue::PlaceRefused;
-use sysv_steps::{Afterwards, Phase, Sending, State};
-use sysv_turns::{
+use sysv_objects::{
     Letter, ObjectCall, ObjectReply, PoolCall, PoolReply, SlotAsk, SlotCall, SlotReply, TextSize,
     Turns,
 };
+use sysv_pool::Chain;
+use sysv_queue::PlaceRefused;
+use sysv_steps::{Afterwards, Phase, Sending, State};
 
 /// Makes one step of a send whose body is `text` and returns the state that follows.
 ///

@@ -6,9 +6,9 @@ ghost use Rattle.sysv_driver.specs.Stepping.{AsksToForget, GivesBack};
 
 use std::mem;
 use sysv_model::Errno;
+use sysv_objects::{ObjectCall, ObjectReply, PoolCall, PoolReply, RegistryCall, Turns};
 use sysv_pool::Chain;
 use sysv_steps::{Ending, State};
-use sysv_turns::{ObjectCall, ObjectReply, PoolCall, PoolReply, RegistryCall, Turns};
 
 /// Returns the state of a call whose turn was due at a worn-out gate: over with EOVERFLOW.
 pub(crate) fn overflow(back: ObjectCall) -> State

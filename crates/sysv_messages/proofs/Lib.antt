@@ -1,3 +1,8 @@
+pub mod EntryLists
+pub mod Removal
+pub mod Changes
+pub mod Halving
+pub mod Selection
 pub mod Lists
 pub mod Seen
 pub mod Putting

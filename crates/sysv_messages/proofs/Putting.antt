@@ -11,7 +11,7 @@ use Rattle.sysv_model.specs.Message.{Message}
 use Rattle.sysv_model.specs.Pool.{blocks_for}
 use Rattle.sysv_model.specs.declared.limits.TheConstants.{MESSAGE_BYTES as most_bytes}
 use Rattle.sysv_pool.specs.Chain.{Chained}
-use Rattle.sysv_index.specs.declared.entry.Entry.{Entry}
+use Rattle.sysv_messages.specs.declared.entry.Entry.{Entry}
 use Rattle.sysv_messages.specs.declared.head.Head.{Head}
 use Rattle.sysv_messages.specs.Texts.{chain_of, bytes_of, blocks_of, blocks_in, all_blocks}
 use Rattle.sysv_messages.specs.Kept.{chain_at, head_of, message_of, message_at, messages_of, keys_of, IsKeptAs, IsKept, IsStore}

@@ -9,9 +9,9 @@ use Rattle.sysv_model.specs.declared.selector.Selector.{Selector}
 use Rattle.sysv_rules.specs.Named.{IsNamed}
 use Rattle.sysv_rules.specs.Qualifies.{NoneQualifies}
 use Rattle.sysv_pool.specs.Chain.{Chained}
-use Rattle.sysv_index.specs.declared.entry.Entry.{Entry}
-use Rattle.sysv_index.specs.Entries.{types_of as types_in}
-use Rattle.sysv_index.specs.Selected.{IsSelected}
+use Rattle.sysv_messages.specs.declared.entry.Entry.{Entry}
+use Rattle.sysv_messages.specs.Entries.{types_of as types_in}
+use Rattle.sysv_messages.specs.Selected.{IsSelected}
 use Rattle.sysv_messages.specs.declared.head.Head.{Head}
 use Rattle.sysv_messages.specs.Texts.{chain_of, types_of}
 use Rattle.sysv_messages.specs.Taking.{IsTaken, IsTooLong}

@@ -7,8 +7,8 @@ use Rattle.std.proofs.lemmas.Option.{slice_get-map}
 use Rattle.slab.specs.Slab.{Slab, get}
 use Rattle.sysv_model.specs.Message.{Message}
 use Rattle.sysv_pool.specs.Chain.{Chained}
-use Rattle.sysv_index.specs.declared.entry.Entry.{Entry}
-use Rattle.sysv_index.specs.Entries.{types_of as types_in}
+use Rattle.sysv_messages.specs.declared.entry.Entry.{Entry}
+use Rattle.sysv_messages.specs.Entries.{types_of as types_in}
 use Rattle.sysv_messages.specs.declared.head.Head.{Head}
 use Rattle.sysv_messages.specs.Texts.{types_of}
 use Rattle.sysv_messages.specs.Kept.{chain_at, message_of, message_at, messages_of, IsKeptAs, IsKept}

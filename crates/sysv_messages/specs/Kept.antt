@@ -6,7 +6,7 @@ use Rattle.slab.specs.Slab.{Slab, get, slab_len, ContainsKey}
 use Rattle.sysv_model.specs.Message.{Message}
 use Rattle.sysv_model.specs.declared.limits.TheConstants.{QUEUE_MESSAGES, MESSAGE_BYTES as most_bytes}
 use Rattle.sysv_pool.specs.Chain.{Chained}
-use Rattle.sysv_index.specs.declared.entry.Entry.{Entry}
+use Rattle.sysv_messages.specs.declared.entry.Entry.{Entry}
 use Rattle.sysv_messages.specs.declared.head.Head.{Head}
 use Rattle.sysv_messages.specs.Texts.{chain_of, bytes_of, blocks_of, all_blocks}
 

@@ -4,18 +4,20 @@ ghost use Rattle.sysv_model.specs.declared.limits.TheConstants.{QUEUE_MESSAGES, 
 ghost use Rattle.sysv_model.specs.Message.{Message};
 ghost use Rattle.sysv_model.specs.Pool.{blocks_for};
 ghost use Rattle.sysv_rules.specs.Digits.{digits};
-ghost use Rattle.sysv_index.specs.Probes.{IsFoundByFew};
+ghost use Rattle.sysv_messages.specs.Probes.{IsFoundByFew};
 ghost use Rattle.sysv_messages.specs.Texts.{blocks_of, bytes_of};
 ghost use Rattle.sysv_messages.specs.Taking.{IsTaken, IsRefused};
 
 use crate::chains;
+use crate::entry::Entry;
 use crate::head::Head;
+use crate::index::Index;
+use crate::rows::steps::Steps;
 use crate::waiting::Waiting;
 use slab::Slab;
 use std::alloc::Global;
 use std::marker::Model;
 use std::sync::ledger::Ledger;
-use sysv_index::{Entry, Index, Steps};
 use sysv_model::{NoMemory, QUEUE_MESSAGES};
 use sysv_pool::Chain;
 use sysv_rules::Selector;

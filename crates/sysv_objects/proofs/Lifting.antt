@@ -12,11 +12,11 @@ use Rattle.sysv_pool.specs.StandsFor.{StandsFor as PoolStandsFor}
 use Rattle.sysv_pool.specs.LegalReply.{Legal as LegalAtPool}
 use Rattle.sysv_keys.specs.StandsFor.{Registry, StandsFor as RegistryStandsFor, MakesTurn as RegistryMakesTurn}
 use Rattle.std.proofs.lemmas.List.Sums.{sum_by-append}
-use Rattle.sysv_turns.specs.declared.pool.PoolCall.{PoolCall as Asked}
-use Rattle.sysv_turns.specs.declared.pool.PoolCall.TheVariants as asked
-use Rattle.sysv_turns.specs.declared.pool.PoolReply.{PoolReply as Told}
-use Rattle.sysv_turns.specs.declared.pool.PoolReply.TheVariants as told
-use Rattle.sysv_turns.specs.PoolTurns.{pool_call, pool_reply, FitsPoolCall, PoolMoves}
+use Rattle.sysv_objects.specs.declared.pool.PoolCall.{PoolCall as Asked}
+use Rattle.sysv_objects.specs.declared.pool.PoolCall.TheVariants as asked
+use Rattle.sysv_objects.specs.declared.pool.PoolReply.{PoolReply as Told}
+use Rattle.sysv_objects.specs.declared.pool.PoolReply.TheVariants as told
+use Rattle.sysv_objects.specs.PoolTurns.{pool_call, pool_reply, FitsPoolCall, PoolMoves}
 use Rattle.sysv_objects.specs.LegalDeed.{IsLegalDeed}
 use Rattle.sysv_objects.specs.Objects.{Objects, raises, pool_raises}
 use Rattle.sysv_objects.specs.StandsFor.{StandsFor, Stand, MakesTurn}

@@ -14,9 +14,9 @@ use Rattle.sysv_pool.specs.State.{State as Pool}
 use Rattle.sysv_pool.specs.StandsFor.{StandsFor as PoolStandsFor}
 use Rattle.sysv_queue.specs.Slot.{Slot}
 use Rattle.sysv_queue.specs.StandsFor.{StandsFor as SlotStandsFor, MakesTurn as SlotMakesTurn}
-use Rattle.sysv_turns.specs.declared.pool.PoolCall.{PoolCall as AskedOfPool}
-use Rattle.sysv_turns.specs.declared.pool.PoolReply.{PoolReply as ToldByPool}
-use Rattle.sysv_turns.specs.PoolTurns.{pool_call, pool_reply, PoolMoves}
+use Rattle.sysv_objects.specs.declared.pool.PoolCall.{PoolCall as AskedOfPool}
+use Rattle.sysv_objects.specs.declared.pool.PoolReply.{PoolReply as ToldByPool}
+use Rattle.sysv_objects.specs.PoolTurns.{pool_call, pool_reply, PoolMoves}
 use Rattle.sysv_objects.specs.Objects.{Objects, CountsUpTo}
 use Rattle.sysv_objects.specs.StandsFor.{StandsFor, Stand, AreVacant, MakesTurn}
 use Rattle.sysv_objects.proofs.Lists.{get_beside}

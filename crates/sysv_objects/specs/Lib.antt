@@ -1,3 +1,5 @@
+pub use Rattle.sysv_model.specs.Turn
+pub use Rattle.sysv_keys.specs.Identifier
 pub use Rattle.sysv_model.specs.Errors
 pub use Rattle.sysv_model.specs.Message
 pub use Rattle.sysv_model.specs.HasFlag
@@ -7,7 +9,10 @@ pub use Rattle.sysv_model.specs.Live
 pub use Rattle.sysv_model.specs.Waiting
 pub use Rattle.sysv_model.specs.Registry
 pub use Rattle.sysv_model.specs.Pool
-pub use Rattle.sysv_model.specs.Turn
+pub mod SlotTurns
+pub mod RegistryTurns
+pub mod PoolTurns
+pub mod Turns
 pub mod LegalDeed
 pub mod OneDeed
 pub mod Objects

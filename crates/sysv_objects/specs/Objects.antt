@@ -8,9 +8,9 @@ use Rattle.sysv_queue.specs.Slot.{Slot}
 use Rattle.sysv_queue.specs.Blocks.{blocks_of}
 use Rattle.sysv_keys.specs.StandsFor.{Registry}
 use Rattle.sysv_pool.specs.State.{State as Pool}
-use Rattle.sysv_turns.specs.declared.object.ObjectCall.{ObjectCall}
-use Rattle.sysv_turns.specs.declared.object.ObjectCall.TheVariants as asked
-use Rattle.sysv_turns.specs.SlotTurns.{slot_asked}
+use Rattle.sysv_objects.specs.declared.object.ObjectCall.{ObjectCall}
+use Rattle.sysv_objects.specs.declared.object.ObjectCall.TheVariants as asked
+use Rattle.sysv_objects.specs.SlotTurns.{slot_asked}
 
 -- The state of the objects.
 pub record Objects : Type 0 where

@@ -1,7 +1,7 @@
 //! Turns at the objects themselves.
 
+use crate::object::{ObjectCall, ObjectReply, Turns};
 use crate::objects::Objects;
-use sysv_turns::{ObjectCall, ObjectReply, Turns};
 
 /// Makes turns at the objects themselves. A turn is always made: no gate can be worn out.
 #[derive(Clone, Copy, PartialEq, Eq, Debug)]

@@ -9,22 +9,23 @@ ghost use Rattle.sysv_keys.specs.declared.identifier.TheConstants.{SLOTS, GENERA
 ghost use Rattle.sysv_keys.specs.Identifier.{slot_of_id};
 ghost use Rattle.sysv_keys.specs.Rows.{IsUnused};
 ghost use Rattle.sysv_model.specs.declared.limits.TheConstants.{MIN_BLOCKS as least_blocks, MAX_BLOCKS as most_blocks};
-ghost use Rattle.sysv_turns.specs.SlotTurns.{IsThere, MayRaise, LeavesSlot};
-ghost use Rattle.sysv_turns.specs.RegistryTurns.{LeavesRegistry};
-ghost use Rattle.sysv_turns.specs.PoolTurns.{MayRelease, LeavesPool};
-ghost use Rattle.sysv_turns.specs.Turns.{IsOfSomeSlot, MayCount, LeavesObject, Takes};
+ghost use Rattle.sysv_objects.specs.SlotTurns.{IsThere, MayRaise, LeavesSlot};
+ghost use Rattle.sysv_objects.specs.RegistryTurns.{LeavesRegistry};
+ghost use Rattle.sysv_objects.specs.PoolTurns.{MayRelease, LeavesPool};
+ghost use Rattle.sysv_objects.specs.Turns.{IsOfSomeSlot, MayCount, LeavesObject, Takes};
 ghost use Rattle.sysv_objects.specs.Objects.{CountsUpTo, OthersStay, blocks_in};
 ghost use Rattle.sysv_objects.specs.StandsFor.{StandsFor, MakesTurn, AreVacant};
 
+use crate::object::{ObjectCall, ObjectReply};
+use crate::pool::{PoolCall, PoolReply};
+use crate::registry::{RegistryCall, RegistryReply};
+use crate::slot::{SlotCall, SlotReply};
 use std::alloc::Global;
 use std::marker::Model;
 use sysv_keys::{GENERATION_LAST, Registry, SLOTS, slot_of_id};
 use sysv_model::{MAX_BLOCKS, MIN_BLOCKS};
 use sysv_pool::{Chain, Pool};
 use sysv_queue::QueueSlot;
-use sysv_turns::{
-    ObjectCall, ObjectReply, PoolCall, PoolReply, RegistryCall, RegistryReply, SlotCall, SlotReply,
-};
 
 /// Why the objects were not opened.
 #[derive(Clone, Copy, PartialEq, Eq, Debug)]

@@ -12,7 +12,7 @@ use Rattle.sysv_model.proofs.attributes.Attributes.TheSendSync as attributes
 use Rattle.sysv_pool.proofs.blocks.Block.TheLaws.TheKnot as knot
 use Rattle.sysv_pool.specs.contracts.blocks.Block as block
 use Rattle.sysv_pool.specs.contracts.chain.Chain as chain
-use Rattle.sysv_index.specs.contracts.index.Index as index
+use Rattle.sysv_messages.specs.contracts.index.Index as index
 use Rattle.sysv_messages.specs.contracts.messages.Messages as messages
 use Rattle.sysv_queue.specs.contracts.slot.QueueSlot as slot
 

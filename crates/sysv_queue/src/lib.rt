@@ -20,6 +20,6 @@ pub use laws::{
     worked_removal,
 };
 pub use slot::{Look, PlaceRefused, Probe, QueueSlot, TakeRefused, Unplaced};
-pub use sysv_index::Steps;
+pub use sysv_messages::Steps;
 pub use taken::Taken;
 pub use tally::Tally;

@@ -6,7 +6,7 @@ ghost use Rattle.sysv_model.specs.History.{Look as LookCall};
 ghost use Rattle.sysv_model.specs.Live.{HasId, sent_to, received_from};
 ghost use Rattle.sysv_model.specs.Pool.{blocks_for};
 ghost use Rattle.sysv_rules.specs.Digits.{digits};
-ghost use Rattle.sysv_index.specs.Probes.{IsFoundByFew};
+ghost use Rattle.sysv_messages.specs.Probes.{IsFoundByFew};
 ghost use Rattle.sysv_messages.specs.Taking.{IsTaken, IsRefused};
 ghost use Rattle.sysv_queue.specs.Blocks.{blocks_of};
 ghost use Rattle.sysv_queue.specs.Fits.{bytes_of};
@@ -23,8 +23,7 @@ use bitflags::Flags as _;
 use std::alloc::Global;
 use std::marker::{Brand, Model};
 use std::sync::ledger::{Blank, Ledger};
-use sysv_index::Steps;
-use sysv_messages::{Messages, NotTaken};
+use sysv_messages::{Messages, NotTaken, Steps};
 use sysv_model::{
     Attributes, Cred, Errno, Flags, MAX_QBYTES, MESSAGE_BYTES, NoMemory, Perm, QBYTES_AT_CREATION,
     QUEUE_MESSAGES, Row, SetTo, Stat,

@@ -14,15 +14,15 @@ use Rattle.sysv_core.specs.declared.event.Stepped.TheVariants as stepped
 use Rattle.sysv_core.specs.World.{World, actor_at, Presets}
 use Rattle.sysv_core.specs.Sound.{IsSound, OpensSound}
 use Rattle.sysv_core.specs.SomeRun.{SomeStep, SomePreset}
-use Rattle.sysv_streams.specs.Faults.{bad_line_text}
+use Rattle.sysv_script.specs.Faults.{bad_line_text}
 use Rattle.sysv_lines.specs.Heads.{head_text}
 use Rattle.sysv_lines.specs.declared.head.Head.TheVariants as head
 use Rattle.sysv_lines.specs.Lines.{Says}
 use Rattle.sysv_lines.specs.Said.{Said, Nothing, MakesPreset, GivesCred, GivesMoment, Starts, StepsOnce, Continues, AllContinue, GivesBlocks}
-use Rattle.sysv_stage.specs.Scene.{Scene, opening_scene, opening_world, begun_scene, first_cred, in_world, cred_at, with_cred, Advances, GoesOn, call_for, most_steps, CallRuns, StartRuns, StepsRun, OneRuns, AllRun, LineRuns, operation_of, under_way, printed}
+use Rattle.sysv_script.specs.Scene.{Scene, opening_scene, opening_world, begun_scene, first_cred, in_world, cred_at, with_cred, Advances, GoesOn, call_for, most_steps, CallRuns, StartRuns, StepsRun, OneRuns, AllRun, LineRuns, operation_of, under_way, printed}
 use Rattle.sysv_script.specs.ScriptText.{BeginsWith, LineDoes, IsBad, Ending, Whole, BadLine, TooMany, Prints, Ends, Exceeds, Fails, Goes}
 use Rattle.sysv_script.specs.EachText.{EachTextPrints}
-use Rattle.sysv_stage.specs.CredHeld.{cred_held}
+use Rattle.sysv_script.specs.CredHeld.{cred_held}
 use Rattle.sysv_script.proofs.Opening.{opening_sound}
 use Rattle.sysv_words.specs.OneSplit.{OneSplit}
 use Rattle.sysv_lines.specs.OneLine.{EachLineIsDecided}

@@ -4,12 +4,12 @@ use Rattle.std.specs.Prelude.{IfErr, IsOk, OnOk, OnErr, IsErrAnd, ⊤}
 use Rattle.std.specs.Result.{result_and}
 use Rattle.std.specs.Io.KnownBytes.{Appends}
 use Rattle.std.proofs.KnownBytes.{Appends-trans}
-use Rattle.sysv_streams.specs.declared.fault.ScriptFault.{ScriptFault}
-use Rattle.sysv_streams.specs.declared.fault.ScriptFault.TheVariants.{Line, Read, Write, NoMemory, Bound}
+use Rattle.sysv_script.specs.declared.fault.ScriptFault.{ScriptFault}
+use Rattle.sysv_script.specs.declared.fault.ScriptFault.TheVariants.{Line, Read, Write, NoMemory, Bound}
 use Rattle.sysv_model.specs.Watched.{failures_after}
 use Rattle.sysv_model.specs.Writing.{AppendsPrefix}
 use Rattle.sysv_script.proofs.StreamLemmas.{Grows-trans, Grows-part}
-use Rattle.sysv_streams.specs.Faults.{Grows, IsStreamFault, LeavesBadLine, TellsBadLine, bad_line_text, is_read_fault, is_write_fault}
+use Rattle.sysv_script.specs.Faults.{Grows, IsStreamFault, LeavesBadLine, TellsBadLine, bad_line_text, is_read_fault, is_write_fault}
 
 -- A fault of a stream states nothing about a line.
 pub LeavesBadLine-stream : (fault : ScriptFault) (composed : List ℕ) → IsStreamFault fault → LeavesBadLine fault composed

@@ -1,3 +1,13 @@
+pub mod CredLemmas
+pub mod Standing
+pub mod Going
+pub mod AllOn
+pub mod Kept
+pub mod Acting
+pub mod NoneLeft
+pub mod Prefixed
+pub mod FirstLines
+pub mod InputLemmas
 pub mod Scripting
 pub mod ScriptEnds
 pub mod LineLemmas

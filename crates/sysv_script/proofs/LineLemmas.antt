@@ -3,8 +3,8 @@ use Rattle.std.proofs.Common.{◌≡◌, ◌<◌, ℕ, List, length, arith}
 use Rattle.std.proofs.lemmas.Option.{slice_get_within}
 use Rattle.std.specs.Prelude.{refl}
 use Rattle.std.proofs.Common.{◌≤◌, Option, Bool, true, false}
-use Rattle.sysv_streams.specs.declared.lines.Found.{Found}
-use Rattle.sysv_streams.specs.Found.{IsNextLine}
+use Rattle.sysv_script.specs.declared.lines.Found.{Found}
+use Rattle.sysv_script.specs.Found.{IsNextLine}
 
 pub IsNextLine-behind : (found : Found) (text : List ℕ) (left : Option (List ℕ)) → IsNextLine found text left → found.is_last ≡ false → found.len < length text
 IsNextLine-behind found text left next whole = slice_get_within text found.len 10 (next.0 whole).ends

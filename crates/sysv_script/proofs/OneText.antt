@@ -15,9 +15,9 @@ use Rattle.sysv_core.specs.declared.event.Stepped.TheVariants as stepped
 use Rattle.sysv_model.specs.declared.cred.Cred.{Cred}
 use Rattle.sysv_core.specs.World.{World, Preset, actor_at, Presets}
 use Rattle.sysv_lines.specs.Said.{Said, Nothing, MakesPreset, GivesCred, GivesMoment, Starts, StepsOnce, Continues, AllContinue, GivesBlocks}
-use Rattle.sysv_stage.specs.Scene.{Scene, in_world, begun_scene, opening_world, LineActs, Advances, GoesOn, StartsAs, call_for, most_steps, CallRuns, StartRuns, StepsRun, OneRuns, AllRun, LineRuns, operation_of, under_way, printed}
+use Rattle.sysv_script.specs.Scene.{Scene, in_world, begun_scene, opening_world, LineActs, Advances, GoesOn, StartsAs, call_for, most_steps, CallRuns, StartRuns, StepsRun, OneRuns, AllRun, LineRuns, operation_of, under_way, printed}
 use Rattle.sysv_lists.specs.Prefix.{IsPrefixOf}
-use Rattle.sysv_streams.specs.Faults.{bad_line_text}
+use Rattle.sysv_script.specs.Faults.{bad_line_text}
 use Rattle.sysv_script.specs.ScriptText.{BeginsWith, LineDoes, IsBad, Ending, Whole, BadLine, TooMany, Prints, Ends, Exceeds, Fails, Goes}
 use Rattle.sysv_script.specs.Sofar.{PrintsSofar, Here, Past}
 use Rattle.sysv_script.specs.OneText.{OneText}

@@ -4,10 +4,10 @@ use Rattle.std.specs.Prelude.{Result, Ok, Err, IfOk}
 use Rattle.sysv_model.specs.declared.no_memory.NoMemory.{NoMemory}
 use Rattle.sysv_lines.specs.Said.{Said}
 use Rattle.sysv_lines.specs.Lines.{Says}
-use Rattle.sysv_stage.specs.Scene.{Scene, LineRuns}
+use Rattle.sysv_script.specs.Scene.{Scene, LineRuns}
 use Rattle.sysv_script.specs.ScriptSofar.{LineEnds}
-use Rattle.sysv_stage.specs.Staged.{IsSceneOf}
-use Rattle.sysv_stage.specs.declared.stage.Stage.{Stage}
+use Rattle.sysv_script.specs.Staged.{IsSceneOf}
+use Rattle.sysv_script.specs.declared.stage.Stage.{Stage}
 
 none_behind : (before out : List ℕ) → before ++ out ≡ before → out ≡ []
 none_behind before [] e = refl

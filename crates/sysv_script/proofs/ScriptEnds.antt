@@ -4,24 +4,24 @@ use Rattle.std.specs.Prelude.{IsErrAnd, IfErr, OnOk, OnErr, ⊤, Bool, true, fal
 use Rattle.std.specs.Result.{result_and}
 use Rattle.std.specs.Io.KnownBytes.{Appends}
 use Rattle.std.proofs.KnownBytes.{Appends-nil, Appends-trans}
-use Rattle.sysv_stage.specs.Scene.{Scene, opening_scene}
-use Rattle.sysv_stage.specs.declared.stage.Stage.{Stage}
-use Rattle.sysv_stage.specs.Staged.{IsSceneOf}
+use Rattle.sysv_script.specs.Scene.{Scene, opening_scene}
+use Rattle.sysv_script.specs.declared.stage.Stage.{Stage}
+use Rattle.sysv_script.specs.Staged.{IsSceneOf}
 use Rattle.sysv_lists.specs.Prefix.{IsPrefixOf}
 use Rattle.sysv_lists.proofs.Prefixes.{prefix_self, prefix_trans}
 use Rattle.sysv_model.specs.Writing.{AppendsPrefix}
-use Rattle.sysv_streams.proofs.StreamLemmas.{prefix_after}
-use Rattle.sysv_streams.specs.Found.{IsNextLine}
-use Rattle.sysv_streams.specs.Faults.{IsStreamFault, IsLineFault, EndsAtLine}
+use Rattle.sysv_script.proofs.Prefixed.{prefix_after}
+use Rattle.sysv_script.specs.Found.{IsNextLine}
+use Rattle.sysv_script.specs.Faults.{IsStreamFault, IsLineFault, EndsAtLine}
 use Rattle.sysv_script.specs.ScriptText.{IsBad, Ending, Whole, BadLine, TooMany, ScriptPrints}
 use Rattle.sysv_script.specs.Written.{WritesScript, WritesAll, WritesPrefix, WritesRead, WritesAtFault}
 use Rattle.sysv_words.specs.OneSplit.{OneSplit}
 use Rattle.sysv_script.specs.OneText.{OneText}
 use Rattle.sysv_script.specs.EachText.{EachTextPrints}
 use Rattle.sysv_script.specs.ScriptSofar.{Halt, AtEnd, Before, Runs, IsText, RunsOn, RunsNext, LeavesAll, LeavesPrefix, LeavesRead, LeavesAtFault, Leaves}
-use Rattle.sysv_streams.specs.declared.lines.Found.{Found}
-use Rattle.sysv_streams.specs.declared.fault.ScriptFault.{ScriptFault}
-use Rattle.sysv_streams.specs.declared.fault.ScriptFault.TheVariants.{Line, Read, Write, NoMemory, Bound}
+use Rattle.sysv_script.specs.declared.lines.Found.{Found}
+use Rattle.sysv_script.specs.declared.fault.ScriptFault.{ScriptFault}
+use Rattle.sysv_script.specs.declared.fault.ScriptFault.TheVariants.{Line, Read, Write, NoMemory, Bound}
 use Rattle.sysv_script.proofs.Scripting.{fails_at, stops_front}
 
 -- A fault of a stream.

@@ -12,7 +12,7 @@ use Rattle.sysv_lines.specs.Said.{Said, Nothing, MakesPreset, GivesCred, GivesMo
 use Rattle.sysv_lines.specs.declared.actor.TheConstants.{SCRIPT_ACTORS}
 use Rattle.sysv_lines.specs.declared.names.Operation.{Operation}
 use Rattle.sysv_steps.specs.Call.{SystemCall}
-use Rattle.sysv_stage.specs.Scene.{Scene, in_world, begun_scene, opening_world, LineActs, Advances, GoesOn, StartsAs, call_for, most_steps, StartRuns, StepsRun, OneRuns, AllRun, LineRuns, under_way}
+use Rattle.sysv_script.specs.Scene.{Scene, in_world, begun_scene, opening_world, LineActs, Advances, GoesOn, StartsAs, call_for, most_steps, StartRuns, StepsRun, OneRuns, AllRun, LineRuns, under_way}
 use Rattle.std.specs.List.{range_with_len}
 use Rattle.sysv_script.specs.ScriptText.{LineDoes}
 use Rattle.sysv_script.specs.Sofar.{PrintsSofar, Here, Past}

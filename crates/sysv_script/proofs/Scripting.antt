@@ -6,22 +6,22 @@ use Rattle.std.proofs.lemmas.List.{take-append-drop}
 use Rattle.std.proofs.lemmas.Option.{slice_get_within, get_or_from_slice_get}
 use Rattle.std.specs.Io.KnownBytes.{Appends, Consumes, IsAtEnd}
 use Rattle.std.proofs.KnownBytes.{Appends-nil, Appends-trans}
-use Rattle.sysv_stage.specs.Scene.{Scene}
-use Rattle.sysv_stage.specs.declared.stage.Stage.{Stage}
-use Rattle.sysv_stage.specs.Staged.{IsSceneOf}
+use Rattle.sysv_script.specs.Scene.{Scene}
+use Rattle.sysv_script.specs.declared.stage.Stage.{Stage}
+use Rattle.sysv_script.specs.Staged.{IsSceneOf}
 use Rattle.std.proofs.lemmas.List.Elements.{Contains-append_cases}
 use Rattle.sysv_words.specs.Words.{SplitsAt}
 use Rattle.sysv_words.specs.OneSplit.{OneSplit}
-use Rattle.sysv_streams.specs.Streams.{HandsOn, TakesIn}
-use Rattle.sysv_streams.specs.Found.{HasNoEnd, IsFirstLine, IsLastLine, IsNextLine, HasNoLine}
-use Rattle.sysv_streams.specs.Faults.{bad_line_text}
-use Rattle.sysv_streams.proofs.StreamLemmas.{prefix_after}
+use Rattle.sysv_script.specs.Streams.{HandsOn, TakesIn}
+use Rattle.sysv_script.specs.Found.{HasNoEnd, IsFirstLine, IsLastLine, IsNextLine, HasNoLine}
+use Rattle.sysv_script.specs.Faults.{bad_line_text}
+use Rattle.sysv_script.proofs.Prefixed.{prefix_after}
 use Rattle.sysv_lists.specs.Prefix.{IsPrefixOf}
 use Rattle.sysv_model.specs.Writing.{AppendsPrefix}
 use Rattle.sysv_script.specs.ScriptText.{BeginsWith, LineDoes, IsBad, Whole, BadLine, TooMany, Prints, Ends, Exceeds, Fails, Goes}
 use Rattle.sysv_script.specs.Sofar.{PrintsSofar, Here, Past}
 use Rattle.sysv_script.specs.ScriptSofar.{Halt, AtEnd, Before, Runs, IsText, RunsOn, LeavesAll, LeavesPrefix, LeavesRead}
-use Rattle.sysv_streams.specs.declared.lines.Found.{Found}
+use Rattle.sysv_script.specs.declared.lines.Found.{Found}
 
 pub begins_text : (s : Scene) (now : Stage) (text waiting : List ℕ) (left old : Option (List ℕ)) (composed : List ℕ) → composed ≡ [] → IsSceneOf s now → IsText waiting left text →
     RunsOn s text old 1 now waiting left old composed

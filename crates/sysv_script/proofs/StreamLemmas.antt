@@ -1,9 +1,9 @@
 -- What two reads return, and what two writes take, one after the other.
 use Rattle.std.proofs.Common.{ℕ, List, [], ◌++◌, Option}
 use Rattle.std.proofs.KnownBytes.{Appends-nil, Appends-trans}
-use Rattle.sysv_streams.specs.Faults.{Grows}
+use Rattle.sysv_script.specs.Faults.{Grows}
 use Rattle.sysv_model.specs.Writing.{AppendsPrefix}
-use Rattle.sysv_streams.specs.Streams.{HandsOn}
+use Rattle.sysv_script.specs.Streams.{HandsOn}
 
 pub Grows-none : (a : Option (List ℕ)) → Grows a a
 Grows-none a = ([], Appends-nil a)

@@ -4,7 +4,7 @@
 use Rattle.std.specs.Prelude.{◌≡◌, ℕ, List}
 use Rattle.sysv_core.specs.Sound.{IsSound}
 use Rattle.sysv_lists.specs.Prefix.{IsPrefixOf}
-use Rattle.sysv_stage.specs.Scene.{Scene, opening_scene}
+use Rattle.sysv_script.specs.Scene.{Scene, opening_scene}
 use Rattle.sysv_script.specs.ScriptText.{Ending, Prints}
 use Rattle.sysv_script.specs.Sofar.{PrintsSofar}
 

@@ -4,7 +4,7 @@ use Rattle.std.specs.Prelude.{ℕ, Bool, List}
 use Rattle.sysv_core.specs.Run.{Leads}
 use Rattle.sysv_core.specs.World.{World, Opening, Happening, Given, opening}
 use Rattle.sysv_lines.specs.Said.{Said}
-use Rattle.sysv_stage.specs.Scene.{Scene, opening_scene, LineRuns}
+use Rattle.sysv_script.specs.Scene.{Scene, opening_scene, LineRuns}
 use Rattle.sysv_script.specs.Sofar.{PrintsSofar}
 
 -- A run leads to the world from an opening.

@@ -2,14 +2,14 @@
 -- (this project's script language).
 use Rattle.std.specs.Prelude.{◌≡◌, ◌+◌, ℕ, Bool, true, false, List, [], ◌++◌, Option, Some, Result, Ok, Err, ⊤}
 use Rattle.std.specs.Io.KnownBytes.{Appends}
-use Rattle.sysv_stage.specs.Scene.{Scene}
+use Rattle.sysv_script.specs.Scene.{Scene}
 use Rattle.sysv_lists.specs.Prefix.{IsPrefixOf}
-use Rattle.sysv_stage.specs.Staged.{IsSceneOf}
-use Rattle.sysv_stage.specs.declared.stage.Stage.{Stage}
+use Rattle.sysv_script.specs.Staged.{IsSceneOf}
+use Rattle.sysv_script.specs.declared.stage.Stage.{Stage}
 use Rattle.sysv_script.specs.ScriptText.{LineDoes, IsBad, Ending, Whole, BadLine, TooMany, Prints}
 use Rattle.sysv_script.specs.Sofar.{PrintsSofar, IsUnended}
-use Rattle.sysv_streams.specs.declared.fault.ScriptFault.{ScriptFault}
-use Rattle.sysv_streams.specs.declared.fault.ScriptFault.TheVariants.{Line, Read, Write, NoMemory, Bound}
+use Rattle.sysv_script.specs.declared.fault.ScriptFault.{ScriptFault}
+use Rattle.sysv_script.specs.declared.fault.ScriptFault.TheVariants.{Line, Read, Write, NoMemory, Bound}
 
 -- The text is the pending bytes, followed by what the reader has left.
 abbrev pub IsText : List ℕ → Option (List ℕ) → List ℕ → Type 0

@@ -2,12 +2,12 @@
 -- each on the scene that the lines before it left, and what they print follows in their order.
 use Rattle.std.specs.Prelude.{◌≡◌, ◌<◌, ◌≤◌, ◌+◌, ◌⊎◌, ℕ, true, false, List, [], ◌++◌, length}
 use Rattle.sysv_lines.specs.Said.{Said}
-use Rattle.sysv_stage.specs.Scene.{Scene, opening_scene, LineRuns}
+use Rattle.sysv_script.specs.Scene.{Scene, opening_scene, LineRuns}
 use Rattle.sysv_lines.specs.Lines.{Says}
 use Rattle.sysv_words.specs.Words.{SplitsAt}
-use Rattle.sysv_streams.specs.Found.{HasNoEnd}
-use Rattle.sysv_streams.specs.Faults.{bad_line_text}
-use Rattle.sysv_streams.specs.declared.fault.TheConstants.{SCRIPT_LINES}
+use Rattle.sysv_script.specs.Found.{HasNoEnd}
+use Rattle.sysv_script.specs.Faults.{bad_line_text}
+use Rattle.sysv_script.specs.declared.fault.TheConstants.{SCRIPT_LINES}
 
 -- How the run of a text ends: with the text, at a bad line, or after line 1,000,000.
 pub data Ending : Type 0 where

@@ -1,9 +1,9 @@
 -- What the text of a script has printed before one of its lines (this project's script language).
 use Rattle.std.specs.Prelude.{◌≡◌, ◌≤◌, ◌+◌, ℕ, List, [], ◌++◌, Option, Some}
-use Rattle.sysv_stage.specs.Scene.{Scene}
+use Rattle.sysv_script.specs.Scene.{Scene}
 use Rattle.sysv_script.specs.ScriptText.{BeginsWith, LineDoes}
-use Rattle.sysv_streams.specs.Found.{HasNoEnd}
-use Rattle.sysv_streams.specs.declared.fault.TheConstants.{SCRIPT_LINES}
+use Rattle.sysv_script.specs.Found.{HasNoEnd}
+use Rattle.sysv_script.specs.declared.fault.TheConstants.{SCRIPT_LINES}
 
 -- What a text has printed before one of its lines, whichever that is, with the text that is left
 -- from that line on, and the scene on which that line runs.

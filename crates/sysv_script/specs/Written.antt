@@ -3,9 +3,9 @@
 use Rattle.std.specs.Prelude.{ℕ, List, Option, Result, Ok, Err, ⊤}
 use Rattle.std.specs.Io.KnownBytes.{Appends}
 use Rattle.sysv_model.specs.Writing.{AppendsPrefix}
-use Rattle.sysv_streams.specs.declared.fault.ScriptFault.{ScriptFault}
-use Rattle.sysv_streams.specs.declared.fault.ScriptFault.TheVariants.{Line, Read, Write, NoMemory, Bound}
-use Rattle.sysv_stage.specs.Scene.{Scene, opening_scene}
+use Rattle.sysv_script.specs.declared.fault.ScriptFault.{ScriptFault}
+use Rattle.sysv_script.specs.declared.fault.ScriptFault.TheVariants.{Line, Read, Write, NoMemory, Bound}
+use Rattle.sysv_script.specs.Scene.{Scene, opening_scene}
 use Rattle.sysv_script.specs.ScriptText.{Ending, Whole, BadLine, TooMany, ScriptPrints}
 use Rattle.sysv_script.specs.Sofar.{PrintsSofar, IsUnended}
 

@@ -4,24 +4,27 @@ ghost use Rattle.std.specs.Io.KnownBytes.{Appends, IsAtEnd};
 ghost use Rattle.sysv_lists.specs.Prefix.{IsPrefixOf};
 ghost use Rattle.sysv_model.specs.Watched.{failures_of, failures_after, stream_name, stream_of};
 ghost use Rattle.sysv_model.specs.Writing.{AppendsPrefix};
-ghost use Rattle.sysv_streams.specs.Faults.{Grows, IsLineFault, IsStreamFault, EndsAtLine, LeavesBadLine, TellsBadLine, is_read_fault, is_write_fault};
-ghost use Rattle.sysv_stage.specs.Scene.{Scene, opening_scene};
+ghost use Rattle.sysv_script.specs.Faults.{Grows, IsLineFault, IsStreamFault, EndsAtLine, LeavesBadLine, TellsBadLine, is_read_fault, is_write_fault};
+ghost use Rattle.sysv_script.specs.Scene.{Scene, opening_scene};
 ghost use Rattle.sysv_script.specs.ScriptText.{LineDoes, IsBad};
 ghost use Rattle.sysv_script.specs.Written.{WritesScript};
 ghost use Rattle.sysv_script.specs.ScriptSofar.{LineEnds, Leaves, IsText, RunsOn, RunsNext};
-ghost use Rattle.sysv_stage.specs.Staged.{IsSceneOf};
-ghost use Rattle.sysv_streams.specs.Found.{IsFirstLine};
-ghost use Rattle.sysv_streams.specs.declared.fault.TheConstants.{SCRIPT_LINES};
-ghost use Rattle.sysv_streams.specs.declared.output.TheConstants.{MOST_COMPOSED};
+ghost use Rattle.sysv_script.specs.Staged.{IsSceneOf};
+ghost use Rattle.sysv_script.specs.Found.{IsFirstLine};
+ghost use Rattle.sysv_script.specs.declared.fault.TheConstants.{SCRIPT_LINES};
+ghost use Rattle.sysv_script.specs.declared.output.TheConstants.{MOST_COMPOSED};
 ghost use Rattle.sysv_lines.specs.declared.line.TheConstants.{LINE_BYTES};
 
+use crate::fault::{SCRIPT_LINES, ScriptFault};
+use crate::input::Input;
 use crate::laws::{each_text_prints, one_text};
+use crate::lines::{Found, next_line, read_on};
+use crate::output::Output;
+use crate::stage::Stage;
 use std::alloc::Global;
 use std::io::{Read, Write};
 use sysv_lines::{Head, LINE_BYTES, line_of};
 use sysv_model::{NoMemory, Watched};
-use sysv_stage::Stage;
-use sysv_streams::{Found, Input, Output, SCRIPT_LINES, ScriptFault, next_line, read_on};
 use sysv_words::one_split;
 
 /// Runs the script that `reader` returns on a world of 16 actors, and writes what it prints to

@@ -9,7 +9,7 @@ use Rattle.std.proofs.option.Option.TheSendSync as options
 use Rattle.sysv_model.specs.contracts.body.Body as body
 use Rattle.sysv_session.specs.contracts.session.Texts as texts
 use Rattle.sysv_service.proofs.Crossing.{crossing, pass_send, service_sync}
-use Rattle.sysv_kernel.specs.contracts.kernel.ServiceKernel as kernel
+use Rattle.sysv_server.specs.contracts.kernel.ServiceKernel as kernel
 use Rattle.sysv_server.proofs.session.Zero.TheSendSync.{the_sync as zero_sync}
 use Rattle.sysv_server.proofs.peer.Peer.TheSendSync as peers
 use Rattle.sysv_server.proofs.sums.Sums.TheSendSync as sum

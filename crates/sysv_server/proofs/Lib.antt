@@ -1,3 +1,5 @@
+pub mod Sessions
+pub mod Making
 pub mod Accepted
 pub mod Adding
 pub mod Crossing

@@ -5,15 +5,15 @@ use Rattle.std.specs.List.{All, AllByRecursion, FoldsTo}
 use Rattle.std.proofs.lemmas.List.{append-nil, append_assoc}
 use Rattle.std.proofs.lemmas.List.Elements.{All-from_recursion}
 use Rattle.sysv_bank.specs.Banks.{Each2, Each3}
-use Rattle.sysv_free.specs.AtRest.{Rests}
-use Rattle.sysv_free.specs.Order.{Called}
+use Rattle.sysv_thread_laws.specs.AtRest.{Rests}
+use Rattle.sysv_thread_laws.specs.Order.{Called}
 use Rattle.sysv_session.specs.declared.served.Served.{Served}
 use Rattle.sysv_service.specs.Hiring.{all_of, IsRemoval, EveryHiringObeys, EveryStopRemoves}
 use Rattle.sysv_service.specs.PoolWhole.{EveryHiringLeavesThePoolWhole, NoHiringLeavesAGateHeld}
 use Rattle.sysv_service.specs.Ran.{Pass}
 use Rattle.sysv_service.specs.Working as working
 use Rattle.sysv_service.specs.Working.{Works}
-use Rattle.sysv_kernel.specs.Made.{trail, EachSessionMakesCalls}
+use Rattle.sysv_server.specs.Made.{trail, EachSessionMakesCalls}
 use Rattle.sysv_server.specs.Handled.{zero_moment, Shift, Talks, TalksIn, first_passes, last_passes, AreMadeBy}
 use Rattle.sysv_server.specs.OneRun.{EachLifeIsOneRun, EachLifeLeavesThePoolWhole, NoLifeLeavesAGateHeld}
 

@@ -4,7 +4,7 @@ use Rattle.std.specs.List.{All, AllByRecursion, FoldsTo, flat_map, slice_index_o
 use Rattle.std.proofs.lemmas.List.{append-nil, length-map, get_or_append_left}
 use Rattle.std.proofs.lemmas.List.Elements.{All-head, All-tail, All-cons}
 use Rattle.std.proofs.lemmas.List.Sorted.{length_permutation}
-use Rattle.sysv_gated.specs.Seats.{Gates, AreOf}
+use Rattle.sysv_shared.specs.Seats.{Gates, AreOf}
 use Rattle.sysv_service.specs.Hiring.{Gives, TakesIn}
 use Rattle.sysv_service.specs.Ran.{Pass}
 use Rattle.sysv_session.specs.declared.served.Served.{Served}

@@ -4,9 +4,9 @@ use Rattle.std.specs.List.{FoldsTo}
 use Rattle.sysv_queue.specs.Tally.{Tallied}
 use Rattle.sysv_session.specs.declared.served.Served.{Served}
 use Rattle.sysv_service.specs.Ran.{Pass}
-use Rattle.sysv_free.specs.Order.{Called}
-use Rattle.sysv_kernel.specs.Asked.{ServesPass}
-use Rattle.sysv_kernel.specs.Made.{Trail, trail, ServesTrail}
+use Rattle.sysv_thread_laws.specs.Order.{Called}
+use Rattle.sysv_server.specs.Asked.{ServesPass}
+use Rattle.sysv_server.specs.Made.{Trail, trail, ServesTrail}
 use Rattle.sysv_server.specs.declared.sums.Sums.{Sums}
 use Rattle.sysv_server.specs.Added.{added, all_added, one_session}
 

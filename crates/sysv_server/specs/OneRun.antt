@@ -2,11 +2,11 @@
 use Rattle.std.specs.Prelude.{◌≡◌, ℕ, Bool, List, ◌++◌, Result}
 use Rattle.std.specs.List.{AllByRecursion, sum_by}
 use Rattle.sysv_bank.specs.Banks.{Each2}
-use Rattle.sysv_crew.specs.Turns.{Numbered}
-use Rattle.sysv_free.specs.Order.{Called}
-use Rattle.sysv_free.specs.Crew.{IsServed}
-use Rattle.sysv_gated.specs.Opened.{AreOpen}
-use Rattle.sysv_gated.specs.Seats.{Gates, AreOf}
+use Rattle.sysv_passes.specs.Turns.{Numbered}
+use Rattle.sysv_thread_laws.specs.Order.{Called}
+use Rattle.sysv_thread_laws.specs.Crew.{IsServed}
+use Rattle.sysv_shared.specs.Opened.{AreOpen}
+use Rattle.sysv_shared.specs.Seats.{Gates, AreOf}
 use Rattle.sysv_keys.specs.declared.identifier.TheConstants.{SLOTS as slot_count}
 use Rattle.sysv_model.specs.declared.errno.Errno.{Errno}
 use Rattle.sysv_service.specs.declared.closing.Closed.{Closed}

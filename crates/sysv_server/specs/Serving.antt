@@ -2,8 +2,8 @@
 -- pass of its own, and there is one session for each connection.
 use Rattle.std.specs.Prelude.{◌≡◌, ◌≢◌, ◌≤◌, ℕ, List, Option, Result, length}
 use Rattle.std.specs.List.{AllByRecursion}
-use Rattle.sysv_gated.specs.Opened.{AreOpen}
-use Rattle.sysv_gated.specs.Seats.{Gates, AreOf}
+use Rattle.sysv_shared.specs.Opened.{AreOpen}
+use Rattle.sysv_shared.specs.Seats.{Gates, AreOf}
 use Rattle.sysv_model.specs.declared.errno.Errno.{Errno}
 use Rattle.sysv_service.specs.Hiring.{Hires}
 use Rattle.sysv_service.specs.Ran.{Pass}

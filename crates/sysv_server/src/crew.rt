@@ -1,7 +1,7 @@
 //! The workers of a server: a pass is split off for each, and joined back at the end.
 ghost use Rattle.std.specs.Prelude.{◌≡◌, ◌≤◌, map, reverse, vec_len, vec_capacity, []};
 ghost use Rattle.std.specs.List.{All, FoldsTo};
-ghost use Rattle.sysv_gated.specs.Seats.{AreOf};
+ghost use Rattle.sysv_shared.specs.Seats.{AreOf};
 ghost use Rattle.sysv_service.specs.Hiring.{Gives, TakesIn};
 ghost use Rattle.sysv_server.specs.Added.{all_added};
 ghost use Rattle.sysv_server.specs.Serving.{IsNew};

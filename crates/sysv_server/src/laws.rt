@@ -1,10 +1,21 @@
-//! A law about the definitions.
+//! Laws about the definitions.
+ghost use Rattle.sysv_server.specs.Made.{EachSessionMakesCalls};
 ghost use Rattle.sysv_server.specs.OneRun.{EachLifeIsOneRun, EachLifeLeavesThePoolWhole, NoLifeLeavesAGateHeld};
 
 use crate::peer::Peer;
 use crate::session::ZERO;
-use sysv_kernel::each_session_makes_calls;
-use sysv_service::{every_hiring_obeys, every_pool_is_whole};
+use sysv_service::{Caller, Clock, every_hiring_obeys, every_pool_is_whole, every_service_obeys};
+
+/// States which calls of a service a session makes.
+///
+/// It makes one call for each request, except for a request for a row, which is no call. Each
+/// request is answered as its call ended or was left. The session makes no other call with its
+/// pass.
+pub fn each_session_makes_calls<C: Clock, K: Caller>(clock: &C, caller: &K)
+    ensures { EachSessionMakesCalls (C.may clock.now) (K.may_leave caller.now) }
+{
+    every_service_obeys(clock);
+}
 
 /// States that the sessions of a server are one run of its service if no gate was found worn out.
 ///

@@ -1,11 +1,15 @@
 //! A server of message queues on a Unix socket. Each connection is a session. All sessions share
 //! one service, and worker threads run them.
+//!
+//! The service is the kernel of each session. Each request, except one for a row, is one call of
+//! the service, and its reply reports how that call ended.
 #![tactic(auto)]
 
 mod accepting;
 mod crew;
 mod fault;
 mod framing;
+mod kernel;
 mod laws;
 mod patient;
 mod peer;
@@ -15,7 +19,8 @@ mod sums;
 mod terms;
 
 pub use fault::ServeFault;
-pub use laws::each_life_is_one_run;
+pub use kernel::ServiceKernel;
+pub use laws::{each_life_is_one_run, each_session_makes_calls};
 pub use serving::{serve_listener, serve_on};
 pub use sums::Sums;
 pub use terms::{Ended, Patience, Terms};

@@ -2,7 +2,7 @@
 ghost use Rattle.std.specs.Prelude.{◌≡◌, ◌≢◌, ◌≤◌, IfOk, IfErr, IsNone};
 ghost use Rattle.sysv_model.specs.declared.limits.TheConstants.{MIN_BLOCKS, MAX_BLOCKS};
 ghost use Rattle.sysv_workers.specs.declared.workers.TheConstants.{MAX_CROWD, MAX_WORKERS};
-ghost use Rattle.sysv_gated.specs.Seats.{AreOf};
+ghost use Rattle.sysv_shared.specs.Seats.{AreOf};
 ghost use Rattle.sysv_server.specs.Added.{IsBalanced};
 ghost use Rattle.sysv_server.specs.Serving.{EndsAll, EndsOn, FaultOf, LeavesConnections, ServesAll, ServesOn, WorkedFrom};
 

@@ -1,9 +1,10 @@
 //! One session on a connection, and the workers that run sessions.
 ghost use Rattle.std.specs.Prelude.{◌≡◌, ℕ, List, Option, ⊤, IfSome, IfNone};
-ghost use Rattle.sysv_gated.specs.Seats.{AreOf};
-ghost use Rattle.sysv_kernel.specs.Asked.{ServesPass};
+ghost use Rattle.sysv_shared.specs.Seats.{AreOf};
+ghost use Rattle.sysv_server.specs.Asked.{ServesPass};
 ghost use Rattle.sysv_server.specs.Added.{nothing};
 
+use crate::kernel::ServiceKernel;
 use crate::patient::Patient;
 use crate::peer::Peer;
 use crate::sums::Sums;
@@ -12,7 +13,6 @@ use std::alloc::Global;
 use std::io::{BufReader, BufWriter};
 use std::os::unix::net::UnixStream;
 use std::sync::Wait;
-use sysv_kernel::ServiceKernel;
 use sysv_queue::Tally;
 use sysv_service::{Clock, Pass, Service};
 use sysv_session::{Served, Texts};

@@ -8,12 +8,12 @@ use denote.Param.SendFields.{FieldsHave, declared_send, declared_sync, as_row_se
 use Rattle.std.proofs.Crossing.{crosses}
 use Rattle.std.proofs.option.Option.TheSendSync as options
 use Rattle.sysv_queue.proofs.Crossing.{block_send, block_sync, chain_send, queue_send, queue_sync}
-use Rattle.sysv_gated.specs.contracts.slot.GatedSlot as gated_slot
-use Rattle.sysv_gated.specs.contracts.pool.GatedPool as gated_pool
-use Rattle.sysv_gated.proofs.registry.GatedRegistry.TheSendSync as registries
-use Rattle.sysv_gated.specs.contracts.kinds.Gated as gated
-use Rattle.sysv_gated.specs.contracts.seats.Seats as seats
-use Rattle.sysv_gated.specs.contracts.gates.Gates as gates
+use Rattle.sysv_shared.specs.contracts.slot.GatedSlot as gated_slot
+use Rattle.sysv_shared.specs.contracts.pool.GatedPool as gated_pool
+use Rattle.sysv_shared.proofs.registry.GatedRegistry.TheSendSync as registries
+use Rattle.sysv_shared.specs.contracts.kinds.Gated as gated
+use Rattle.sysv_shared.specs.contracts.seats.Seats as seats
+use Rattle.sysv_shared.specs.contracts.gates.Gates as gates
 use Rattle.sysv_service.specs.contracts.pass.Pass as pass
 use Rattle.sysv_service.specs.contracts.service.Service as service
 use Rattle.sysv_bank.proofs.Crossing.{bank_seat_send, bank_sync}

@@ -12,7 +12,7 @@ use Rattle.sysv_model.specs.History.{History}
 use Rattle.sysv_model.specs.Pool.{PoolEntry, PoolHistory, frees, released}
 use Rattle.sysv_model.specs.Turn.{Turn, slot_history, pool_history}
 use Rattle.sysv_model.specs.Waiting.{held as waiting_on}
-use Rattle.sysv_crew.specs.Turns.{turns_of}
+use Rattle.sysv_passes.specs.Turns.{turns_of}
 use Rattle.sysv_keys.specs.declared.identifier.TheConstants.{SLOTS}
 use Rattle.sysv_pool.specs.State.{State, state_of}
 use Rattle.sysv_pool.specs.StandsFor.{StandsFor as PoolStandsFor}
@@ -20,21 +20,21 @@ use Rattle.sysv_queue.specs.Slot.{Slot}
 use Rattle.sysv_queue.specs.Blocks.{blocks_of}
 use Rattle.sysv_queue.specs.StandsFor.{StandsFor as SlotStandsFor}
 use Rattle.sysv_core.specs.Conserved.{blocks_waiting}
-use Rattle.sysv_free.specs.Crew.{EveryServiceIsARun, EveryLastPassIsWhole}
+use Rattle.sysv_thread_laws.specs.Crew.{EveryServiceIsARun, EveryLastPassIsWhole}
 use Rattle.sysv_gate.specs.declared.closing.Closing.{Closing}
 use Rattle.sysv_gate.specs.declared.view.Turn.{Turn as GateTurn}
 use Rattle.sysv_gate.specs.History.{Moves, after_all}
 use Rattle.sysv_gate.specs.Gates.{Gateway}
 use Rattle.sysv_gate.specs.Closings.{IsBack, Closes}
 use Rattle.sysv_bank.specs.Banks.{gates_of}
-use Rattle.sysv_turns.specs.SlotTurns.{SlotMoves}
-use Rattle.sysv_gated.specs.Counts.{slot_counts}
-use Rattle.sysv_turns.specs.PoolTurns.{PoolMoves}
-use Rattle.sysv_gated.specs.Counts.{pool_counts}
-use Rattle.sysv_gated.specs.SeenHistories.{SeenHistories}
-use Rattle.sysv_gated.specs.Seats.{SlotSeat, PoolSeat, entries, slot_entry, pool_entry}
-use Rattle.sysv_gated.proofs.Closing.{as_long}
-use Rattle.sysv_gated.proofs.Histories.{pool_sized}
+use Rattle.sysv_objects.specs.SlotTurns.{SlotMoves}
+use Rattle.sysv_shared.specs.Counts.{slot_counts}
+use Rattle.sysv_objects.specs.PoolTurns.{PoolMoves}
+use Rattle.sysv_shared.specs.Counts.{pool_counts}
+use Rattle.sysv_shared.specs.SeenHistories.{SeenHistories}
+use Rattle.sysv_shared.specs.Seats.{SlotSeat, PoolSeat, entries, slot_entry, pool_entry}
+use Rattle.sysv_shared.proofs.Closing.{as_long}
+use Rattle.sysv_shared.proofs.Histories.{pool_sized}
 use Rattle.sysv_service.specs.Closing.{is_held, all_held, takes_back, with_chain, with_slot, with_slots, free_in}
 use Rattle.sysv_service.specs.PoolWhole.{NoHiringLeavesAGateHeld, EveryPoolIsWhole, EveryHiringLeavesThePoolWhole}
 use Rattle.sysv_service.specs.Hiring.{all_of}

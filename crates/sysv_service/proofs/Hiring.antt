@@ -8,10 +8,10 @@ use Rattle.sysv_model.specs.declared.errno.Errno.TheVariants.{EOVERFLOW}
 use Rattle.sysv_steps.specs.Begin.{begin}
 use Rattle.sysv_steps.specs.Call.{MsgctlRmid}
 use Rattle.sysv_steps.specs.State.{Over}
-use Rattle.sysv_free.specs.Order.{Called}
+use Rattle.sysv_thread_laws.specs.Order.{Called}
 use Rattle.sysv_bank.specs.Banks.{Each3}
-use Rattle.sysv_gated.specs.Opened.{AreOpen}
-use Rattle.sysv_gated.specs.Seats.{Gates}
+use Rattle.sysv_shared.specs.Opened.{AreOpen}
+use Rattle.sysv_shared.specs.Seats.{Gates}
 use Rattle.sysv_service.specs.Hiring.{first_pass, Hires, Gives, TakesIn, all_of, EveryHiringObeys, IsRemoval, removed_at, EveryStopRemoves}
 use Rattle.sysv_service.specs.Life as life
 use Rattle.sysv_service.specs.Life.{any_moment, EachRunIsAtAnyMoment, call_of, Lives, EveryServiceObeys}

@@ -7,12 +7,12 @@ use Rattle.sysv_model.specs.History.{ReadRow, Shown}
 use Rattle.sysv_model.specs.Turn.{OfSlot, AtSlot}
 use Rattle.sysv_steps.specs.State.{Phase, State, Goes, Waits}
 use Rattle.sysv_steps.specs.Begin.{begin}
-use Rattle.sysv_crew.specs.Members.{Member}
-use Rattle.sysv_free.specs.Order.{Called}
-use Rattle.sysv_free.specs.Crew as crew
-use Rattle.sysv_free.specs.Crew.{IsCrew, EveryServiceIsARun}
-use Rattle.sysv_gated.specs.Opened.{AreOpen}
-use Rattle.sysv_gated.specs.Seats.{Gates}
+use Rattle.sysv_passes.specs.Members.{Member}
+use Rattle.sysv_thread_laws.specs.Order.{Called}
+use Rattle.sysv_thread_laws.specs.Crew as crew
+use Rattle.sysv_thread_laws.specs.Crew.{IsCrew, EveryServiceIsARun}
+use Rattle.sysv_shared.specs.Opened.{AreOpen}
+use Rattle.sysv_shared.specs.Seats.{Gates}
 use Rattle.sysv_service.specs.Ran.{Pass, Steps, FindsNoTurn, begins, steps, turns_back, reads, resumes, gives_up}
 use Rattle.sysv_service.specs.Told.{TellsRow}
 use Rattle.sysv_service.specs.Life as life

@@ -12,11 +12,11 @@ use Rattle.sysv_model.specs.Pool.{Release, Foreign, PoolEntry}
 use Rattle.sysv_model.specs.Turn.{Deed, AtPool, pool_entry, pool_history}
 use Rattle.sysv_steps.specs.State.{State, Goes, Waits}
 use Rattle.sysv_steps.specs.Begin.{begin}
-use Rattle.sysv_crew.specs.Turns.{Numbered}
-use Rattle.sysv_free.specs.Order.{Called, is_in_call_of, deeds_by, deeds_in}
-use Rattle.sysv_free.specs.OrderIsRun.{Renamed, renamed_turn}
-use Rattle.sysv_free.specs.Crew.{IsServed}
-use Rattle.sysv_gated.specs.Seats.{Gates}
+use Rattle.sysv_passes.specs.Turns.{Numbered}
+use Rattle.sysv_thread_laws.specs.Order.{Called, is_in_call_of, deeds_by, deeds_in}
+use Rattle.sysv_thread_laws.specs.OrderIsRun.{Renamed, renamed_turn}
+use Rattle.sysv_thread_laws.specs.Crew.{IsServed}
+use Rattle.sysv_shared.specs.Seats.{Gates}
 use Rattle.sysv_driver.specs.Stepping.{refused_blocks}
 use Rattle.sysv_service.specs.Ran.{Pass, Ran, FindsTurns, begins, steps, turns_back, reads, resumes, gives_up}
 use Rattle.sysv_service.specs.Told.{TellsRow}

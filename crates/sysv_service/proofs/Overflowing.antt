@@ -25,13 +25,13 @@ use Rattle.sysv_driver.specs.Stepping.{no_moment}
 use Rattle.sysv_gate.specs.declared.view.Turn.{Turn}
 use Rattle.sysv_gate.specs.Gates.{Gateway}
 use Rattle.sysv_gate.specs.History.{Moves, IsLegal, after_all}
-use Rattle.sysv_gated.specs.Counts.{slot_counts, registry_counts}
-use Rattle.sysv_gated.specs.Reading.{Reads}
-use Rattle.sysv_gated.specs.Seats.{SlotSeat, RegistrySeat, Seats, TakesTurn, MakesTurnAt, FindsWorn, slot_entry, registry_entry, registry_seen}
-use Rattle.sysv_gated.specs.SeenHistories.{SeenHistories, OwnTurnsAreLast}
+use Rattle.sysv_shared.specs.Counts.{slot_counts, registry_counts}
+use Rattle.sysv_shared.specs.Reading.{Reads}
+use Rattle.sysv_shared.specs.Seats.{SlotSeat, RegistrySeat, Seats, TakesTurn, MakesTurnAt, FindsWorn, slot_entry, registry_entry, registry_seen}
+use Rattle.sysv_shared.specs.SeenHistories.{SeenHistories, OwnTurnsAreLast}
 use Rattle.sysv_keys.specs.StandsFor.{Registry}
-use Rattle.sysv_turns.specs.RegistryTurns.{RegistryMoves}
-use Rattle.sysv_turns.specs.SlotTurns.{SlotMoves, slot_call, slot_reply}
+use Rattle.sysv_objects.specs.RegistryTurns.{RegistryMoves}
+use Rattle.sysv_objects.specs.SlotTurns.{SlotMoves, slot_call, slot_reply}
 use Rattle.sysv_service.specs.Overflows.{FindsWornAt, IsOpenFor, EachOverflowIsAtAWornGate, FindsItWorn, FindsASlotWorn, IsMarkedAtASlot, EachStopOverflowsAtAWornGate}
 use Rattle.sysv_service.specs.PlayedWorn.{Place, AtTheSlot, IsMarkedAt, place_of, place_of_count}
 use Rattle.sysv_service.specs.Ran.{Pass, TurnsBack, Ran, FindsTurns, begins, steps, turns_back, reads, resumes, gives_up}

@@ -8,11 +8,11 @@ use Rattle.sysv_model.specs.declared.errno.Errno.{Errno}
 use Rattle.sysv_model.specs.History.{ReadRow, Shown}
 use Rattle.sysv_model.specs.Turn.{OfSlot, AtSlot}
 use Rattle.sysv_steps.specs.Begin.{begin}
-use Rattle.sysv_crew.specs.Members.{Member, AreWhole}
-use Rattle.sysv_crew.proofs.Sharing.{all_at_first, split_whole, does_shares}
-use Rattle.sysv_free.specs.Order.{Called}
+use Rattle.sysv_passes.specs.Members.{Member, AreWhole}
+use Rattle.sysv_passes.proofs.Sharing.{all_at_first, split_whole, does_shares}
+use Rattle.sysv_thread_laws.specs.Order.{Called}
 use Rattle.sysv_bank.specs.Banks.{Each3}
-use Rattle.sysv_gated.specs.Seats.{Gates}
+use Rattle.sysv_shared.specs.Seats.{Gates}
 use Rattle.sysv_service.specs.Hiring.{first_pass, Gives, TakesIn, Hires}
 use Rattle.sysv_service.specs.Life.{any_moment}
 use Rattle.sysv_service.specs.Ran.{Pass}

@@ -2,9 +2,9 @@
 -- returned. This project's profile.
 use Rattle.std.specs.Prelude.{◌≡◌, ℕ, ◌+◌, ◌^◌, ◌&&◌, nat_lt, nat_le, List, [], ◌∷◌, length, Option, Some, None, if◌then◌else◌}
 use Rattle.sysv_gate.specs.declared.closing.Closing.{Closing}
-use Rattle.sysv_gated.specs.declared.opening.GatesClosed.{GatesClosed}
-use Rattle.sysv_gated.specs.Seats.{Seats}
-use Rattle.sysv_gated.specs.Sharing.{AllClose}
+use Rattle.sysv_shared.specs.declared.opening.GatesClosed.{GatesClosed}
+use Rattle.sysv_shared.specs.Seats.{Seats}
+use Rattle.sysv_shared.specs.Sharing.{AllClose}
 use Rattle.sysv_pool.specs.State.{State}
 use Rattle.sysv_queue.specs.Blocks.{blocks_of}
 use Rattle.sysv_queue.specs.Slot.{Slot}

@@ -4,12 +4,12 @@ use Rattle.std.specs.Prelude.{◌≡◌, ◌+◌, ℕ, ℤ, Bool, List, ◌++◌
 use Rattle.std.specs.List.{AllByRecursion, FoldsTo, flat_map, sum_by}
 use Rattle.sysv_steps.specs.Call.{MsgctlRmid}
 use Rattle.sysv_steps.specs.State.{Ending, State, Over}
-use Rattle.sysv_free.specs.Order.{Called}
-use Rattle.sysv_free.specs.Crew.{IsServed}
+use Rattle.sysv_thread_laws.specs.Order.{Called}
+use Rattle.sysv_thread_laws.specs.Crew.{IsServed}
 use Rattle.sysv_bank.specs.Banks.{Each3}
-use Rattle.sysv_gated.specs.Opened.{AreOpen, all_opened}
-use Rattle.sysv_gated.specs.Seats.{Gates, AreOf}
-use Rattle.sysv_gated.specs.Sharing.{AreSplit, AreJoined}
+use Rattle.sysv_shared.specs.Opened.{AreOpen, all_opened}
+use Rattle.sysv_shared.specs.Seats.{Gates, AreOf}
+use Rattle.sysv_shared.specs.Sharing.{AreSplit, AreJoined}
 use Rattle.sysv_service.specs.declared.closing.Closed.{Closed}
 use Rattle.sysv_service.specs.Closing.{IsCounted}
 use Rattle.sysv_service.specs.Marks.{IsUnmarked}

@@ -6,8 +6,8 @@ pub use Rattle.sysv_steps.specs.Next
 pub use Rattle.sysv_driver.specs.Kinds
 pub use Rattle.sysv_driver.specs.Stepping
 pub use Rattle.sysv_driver.specs.Giving
-pub use Rattle.sysv_free.specs.Order
-pub use Rattle.sysv_free.specs.Crew
+pub use Rattle.sysv_thread_laws.specs.Order
+pub use Rattle.sysv_thread_laws.specs.Crew
 pub mod Ran
 pub mod Waited
 pub mod Left

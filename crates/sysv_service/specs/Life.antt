@@ -10,12 +10,12 @@ use Rattle.sysv_steps.specs.Call.{SystemCall}
 use Rattle.sysv_steps.specs.State.{State}
 use Rattle.sysv_steps.specs.Begin.{begin}
 use Rattle.sysv_steps.specs.Resume.{Count}
-use Rattle.sysv_free.specs.Order.{Called}
-use Rattle.sysv_free.specs.Crew.{IsServed}
-use Rattle.sysv_gated.specs.Opened.{AreOpen, all_opened}
-use Rattle.sysv_gated.specs.Reading.{Reads}
-use Rattle.sysv_gated.specs.Seats.{Gates, AreOf}
-use Rattle.sysv_gated.specs.Sharing.{AreSplit, AreJoined}
+use Rattle.sysv_thread_laws.specs.Order.{Called}
+use Rattle.sysv_thread_laws.specs.Crew.{IsServed}
+use Rattle.sysv_shared.specs.Opened.{AreOpen, all_opened}
+use Rattle.sysv_shared.specs.Reading.{Reads}
+use Rattle.sysv_shared.specs.Seats.{Gates, AreOf}
+use Rattle.sysv_shared.specs.Sharing.{AreSplit, AreJoined}
 use Rattle.sysv_service.specs.declared.closing.Closed.{Closed}
 use Rattle.sysv_service.specs.Closing.{IsCounted}
 use Rattle.sysv_service.specs.Ran.{Pass, Ran, FindsTurns}

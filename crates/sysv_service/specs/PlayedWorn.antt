@@ -13,7 +13,7 @@ use Rattle.sysv_steps.specs.Asks.{asks}
 use Rattle.sysv_steps.specs.Next.{next}
 use Rattle.sysv_steps.specs.Resume.{Count, ArrivedOf, FreedOf, Settled, Released, awaited, goal_of, resume}
 use Rattle.sysv_driver.specs.Stepping.{when_worn}
-use Rattle.sysv_gated.specs.Seats.{SlotSeat, Seats}
+use Rattle.sysv_shared.specs.Seats.{SlotSeat, Seats}
 
 -- An object.
 pub data Place : Type 0 where

@@ -2,11 +2,11 @@
 -- was left at a wait. No gate is held, and all blocks are free: the pool's own, and those of the
 -- queued messages. This project's profile.
 use Rattle.std.specs.Prelude.{◌≡◌, ℕ, List, [], ◌∷◌, ◌++◌, All}
-use Rattle.sysv_free.specs.Order.{Called}
-use Rattle.sysv_free.specs.AtRest.{Rests}
+use Rattle.sysv_thread_laws.specs.Order.{Called}
+use Rattle.sysv_thread_laws.specs.AtRest.{Rests}
 use Rattle.sysv_bank.specs.Banks.{Each3}
-use Rattle.sysv_gated.specs.Opened.{AreOpen}
-use Rattle.sysv_gated.specs.Seats.{Gates, AreOf}
+use Rattle.sysv_shared.specs.Opened.{AreOpen}
+use Rattle.sysv_shared.specs.Seats.{Gates, AreOf}
 use Rattle.sysv_service.specs.declared.closing.Closed.{Closed}
 use Rattle.sysv_service.specs.Closing.{IsCounted}
 use Rattle.sysv_service.specs.Hiring.{first_pass, Hires, all_of}

@@ -9,8 +9,8 @@ use Rattle.sysv_steps.specs.Call.{SystemCall}
 use Rattle.sysv_steps.specs.State.{State}
 use Rattle.sysv_steps.specs.Begin.{begin}
 use Rattle.sysv_steps.specs.Resume.{Count}
-use Rattle.sysv_free.specs.Order.{Called}
-use Rattle.sysv_gated.specs.Reading.{Reads}
+use Rattle.sysv_thread_laws.specs.Order.{Called}
+use Rattle.sysv_shared.specs.Reading.{Reads}
 use Rattle.sysv_service.specs.Ran.{Pass, Ran}
 use Rattle.sysv_service.specs.Told.{TellsRow}
 use Rattle.sysv_service.specs.Life.{any_moment, call_of}

@@ -5,7 +5,7 @@ ghost use Rattle.sysv_steps.specs.Call.{MsgctlStat, MsgctlSet, MsgctlRmid};
 ghost use Rattle.sysv_steps.specs.Begin.{begin as begins};
 ghost use Rattle.sysv_steps.specs.State.{Goes, Over, Ending as Ends};
 ghost use Rattle.sysv_steps.specs.Seen.{phase_of, state_of, ending_of};
-ghost use Rattle.sysv_gated.specs.Seats.{AreOf};
+ghost use Rattle.sysv_shared.specs.Seats.{AreOf};
 ghost use Rattle.sysv_driver.specs.Stepping.{no_moment};
 ghost use Rattle.sysv_service.specs.Ran.{StepsOn, Comes};
 ghost use Rattle.sysv_driver.specs.Kinds.{Stats, Sets, Removes};
@@ -16,11 +16,11 @@ use crate::service::Service;
 use crate::waiting::zero_of;
 use std::sync::Wait as MayWait;
 use sysv_driver::{Clock, remove_step, set_step, stat_step};
-use sysv_gated::AtGates;
 use sysv_keys::SLOTS;
 use sysv_model::{Cred, Errno, Row, SetTo, Stat};
+use sysv_objects::{ObjectCall, ObjectReply, SlotAsk, SlotCall, SlotReply};
+use sysv_shared::AtGates;
 use sysv_steps::{Ending, Phase, State, begin_remove, begin_set, begin_stat};
-use sysv_turns::{ObjectCall, ObjectReply, SlotAsk, SlotCall, SlotReply};
 
 impl Service {
     /// Returns the attributes of the queue `id`, the number of queued messages and the number of

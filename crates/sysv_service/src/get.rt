@@ -6,7 +6,7 @@ ghost use Rattle.sysv_steps.specs.Begin.{begin as begins};
 ghost use Rattle.sysv_steps.specs.State.{Goes, Over, Ending as Ends};
 ghost use Rattle.sysv_steps.specs.Seen.{phase_of, state_of, ending_of};
 ghost use Rattle.sysv_driver.specs.Kinds.{Gets};
-ghost use Rattle.sysv_gated.specs.Seats.{AreOf};
+ghost use Rattle.sysv_shared.specs.Seats.{AreOf};
 ghost use Rattle.sysv_service.specs.Ran.{StepsOn, Comes};
 ghost use Rattle.sysv_service.specs.Told.{TellsId};
 
@@ -14,8 +14,8 @@ use crate::pass::Pass;
 use crate::service::Service;
 use std::sync::Wait as MayWait;
 use sysv_driver::{Clock, get_step};
-use sysv_gated::AtGates;
 use sysv_model::{Cred, Errno, Flags};
+use sysv_shared::AtGates;
 use sysv_steps::{Ending, Getting, Phase, State};
 
 impl Service {

@@ -1,6 +1,6 @@
 //! Laws over the definitions alone. Each function's contract is its law.
 
-ghost use Rattle.sysv_gated.specs.SeenHistories.{EachKnowsItsOwn, ObeysIfOpen};
+ghost use Rattle.sysv_shared.specs.SeenHistories.{EachKnowsItsOwn, ObeysIfOpen};
 ghost use Rattle.sysv_service.specs.Hiring.{EveryHiringObeys, EveryStopRemoves};
 ghost use Rattle.sysv_service.specs.Life.{EachRunIsAtAnyMoment, EveryServiceObeys};
 ghost use Rattle.sysv_service.specs.Overflows.{EachOverflowIsAtAWornGate, EachStopOverflowsAtAWornGate};
@@ -12,9 +12,9 @@ ghost use Rattle.sysv_service.specs.Retried.{EachRetryIsAtItsGoal, EachRunRetrie
 
 use crate::pass::Pass;
 use sysv_driver::Clock;
-use sysv_free::every_service_that_came_home_is_a_run;
-use sysv_gated::{each_seat_obeys, own_turns_are_last, seen_histories};
+use sysv_shared::{each_seat_obeys, own_turns_are_last, seen_histories};
 use sysv_steps::each_answer_is_right;
+use sysv_thread_laws::every_service_that_came_home_is_a_run;
 
 /// States that what each seat of a pass has seen is legal, and that the seat knows exactly its own
 /// turns in it, whatever calls were made with the pass, and whether it was opened, split off or

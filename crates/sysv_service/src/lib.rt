@@ -36,6 +36,6 @@ pub use service::Service;
 
 // The types that the signatures use.
 pub use sysv_driver::Clock;
-pub use sysv_gated::OpenRefused;
 pub use sysv_model::{Body, Cred, Errno, Flags, NoMemory, Perm, Row, SetTo, Stat};
 pub use sysv_queue::{Delivery, Tally};
+pub use sysv_shared::OpenRefused;

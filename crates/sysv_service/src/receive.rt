@@ -6,7 +6,7 @@ ghost use Rattle.sysv_steps.specs.Call.{Msgrcv};
 ghost use Rattle.sysv_steps.specs.Begin.{begin as begins};
 ghost use Rattle.sysv_steps.specs.State.{Goes, Over, Ending as Ends};
 ghost use Rattle.sysv_steps.specs.Seen.{phase_of, state_of, ending_of};
-ghost use Rattle.sysv_gated.specs.Seats.{AreOf};
+ghost use Rattle.sysv_shared.specs.Seats.{AreOf};
 ghost use Rattle.sysv_service.specs.Ran.{Comes};
 ghost use Rattle.sysv_driver.specs.Kinds.{Receives, IsSized};
 ghost use Rattle.sysv_service.specs.Told.{TellsGot};
@@ -18,9 +18,9 @@ use crate::pass::Pass;
 use crate::service::Service;
 use std::sync::Wait as MayWait;
 use sysv_driver::{Clock, receive_step};
-use sysv_gated::AtGates;
 use sysv_model::{Body, Cred, Errno, Flags};
 use sysv_queue::Delivery;
+use sysv_shared::AtGates;
 use sysv_steps::{Ending, Phase, Receiving, State};
 
 impl Service {

@@ -6,8 +6,8 @@ ghost use Rattle.sysv_steps.specs.Begin.{begin as begins};
 ghost use Rattle.sysv_steps.specs.State.{Goes, Over, Ending as Ends};
 ghost use Rattle.sysv_steps.specs.Seen.{phase_of, state_of};
 ghost use Rattle.sysv_steps.specs.Resume.{Released};
-ghost use Rattle.sysv_gated.specs.Seats.{AreOf};
-ghost use Rattle.sysv_gated.specs.Reading.{Reads};
+ghost use Rattle.sysv_shared.specs.Seats.{AreOf};
+ghost use Rattle.sysv_shared.specs.Reading.{Reads};
 ghost use Rattle.sysv_service.specs.Ran.{Pass as Seen, StepsOn, Comes};
 ghost use Rattle.sysv_service.specs.Left.{IsLeft};
 ghost use Rattle.sysv_driver.specs.Kinds.{Sends};
@@ -19,8 +19,8 @@ use crate::service::Service;
 use crate::waiting::zero_of;
 use std::sync::Wait as MayWait;
 use sysv_driver::{Clock, send_step};
-use sysv_gated::AtGates;
 use sysv_model::{Body, Cred, Errno, Flags};
+use sysv_shared::AtGates;
 use sysv_steps::{Phase, Sending, State};
 
 impl Service {

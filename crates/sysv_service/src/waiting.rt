@@ -3,8 +3,8 @@
 ghost use Rattle.std.specs.Prelude.{◌≡◌, ◌+◌, ℕ, List, [], IfNone, IfSome};
 ghost use Rattle.sysv_steps.specs.Resume.{awaited, goal_of};
 ghost use Rattle.sysv_steps.specs.Seen.{wait_of, state_of, ending_of};
-ghost use Rattle.sysv_gated.specs.Seats.{AreOf};
-ghost use Rattle.sysv_gated.specs.Reading.{AwaitsWithin};
+ghost use Rattle.sysv_shared.specs.Seats.{AreOf};
+ghost use Rattle.sysv_shared.specs.Reading.{AwaitsWithin};
 ghost use Rattle.sysv_steps.specs.State.{Over, Waits};
 ghost use Rattle.sysv_driver.specs.Kinds.{EndsInZero};
 ghost use Rattle.sysv_service.specs.Told.{TellsZero};

@@ -2,8 +2,7 @@
 use std::alloc::Global;
 use sysv_lines::line_of;
 use sysv_model::{NoMemory, Watched};
-use sysv_stage::Stage;
-use sysv_streams::Output;
+use sysv_script::{Output, Stage};
 use tests_kit::mark;
 
 // Runs one line. Returns false if the line is bad.

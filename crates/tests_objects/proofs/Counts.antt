@@ -4,13 +4,13 @@ use Rattle.sysv_model.specs.History.{Call, Install, Probe, Look, Place, Take, Re
 use Rattle.sysv_model.specs.Pool.{PoolCall, Reserve, Release}
 use Rattle.sysv_model.specs.Turn.{Deed}
 use Rattle.sysv_queue.specs.Slot.{Slot}
-use Rattle.sysv_turns.specs.declared.object.ObjectCall.{ObjectCall}
-use Rattle.sysv_turns.specs.declared.object.ObjectCall.TheVariants as asked
-use Rattle.sysv_turns.specs.declared.object.ObjectReply.{ObjectReply}
-use Rattle.sysv_turns.specs.declared.object.ObjectReply.TheVariants as told
-use Rattle.sysv_turns.specs.SlotTurns.{slot_call}
-use Rattle.sysv_turns.specs.PoolTurns.{pool_call}
-use Rattle.sysv_turns.specs.Turns.{Takes}
+use Rattle.sysv_objects.specs.declared.object.ObjectCall.{ObjectCall}
+use Rattle.sysv_objects.specs.declared.object.ObjectCall.TheVariants as asked
+use Rattle.sysv_objects.specs.declared.object.ObjectReply.{ObjectReply}
+use Rattle.sysv_objects.specs.declared.object.ObjectReply.TheVariants as told
+use Rattle.sysv_objects.specs.SlotTurns.{slot_call}
+use Rattle.sysv_objects.specs.PoolTurns.{pool_call}
+use Rattle.sysv_objects.specs.Turns.{Takes}
 use Rattle.sysv_objects.specs.Objects.{Objects, CountsUpTo, raises, pool_raises, raises_by}
 use Rattle.sysv_objects.specs.StandsFor.{MakesTurn}
 

@@ -10,7 +10,7 @@ use std::marker::Brand;
 use std::process::Abort;
 use std::sync::ledger::{Blank, Ledger};
 use std::test::Fail;
-use sysv_index::{Entry, Index, Steps};
+use sysv_messages::{Entry, Index, Steps};
 use sysv_model::{NoMemory, QUEUE_MESSAGES, Selector};
 use sysv_rules::select_plain;
 

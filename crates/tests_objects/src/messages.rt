@@ -10,8 +10,7 @@ use std::alloc::Global;
 use std::marker::Brand;
 use std::process::Abort;
 use std::sync::ledger::{Blank, Ledger};
-use sysv_index::Steps;
-use sysv_messages::{Messages, NotTaken, Waiting};
+use sysv_messages::{Messages, NotTaken, Steps, Waiting};
 use sysv_model::{Body, NoMemory, QUEUE_MESSAGES, Selector};
 use sysv_pool::{Chain, Pool};
 

@@ -1,7 +1,7 @@
 //! Queues in two slots, with the registry and the pool beside them.
 
 ghost use Rattle.std.specs.Prelude.{◌+◌, ◌<◌};
-ghost use Rattle.sysv_turns.specs.Turns.{IsOfSomeSlot, Takes};
+ghost use Rattle.sysv_objects.specs.Turns.{IsOfSomeSlot, Takes};
 ghost use Rattle.sysv_objects.specs.Objects.{CountsUpTo};
 ghost use Rattle.sysv_objects.specs.StandsFor.{MakesTurn};
 
@@ -10,13 +10,12 @@ use std::alloc::Global;
 use std::process::Abort;
 use sysv_keys::Begun;
 use sysv_model::{Errno, Row, Selector, SetTo, Stat};
-use sysv_objects::{Objects, ObjectsRefused};
+use sysv_objects::{
+    Letter, ObjectCall, ObjectReply, Objects, ObjectsRefused, PoolCall, PoolReply, RegistryCall,
+    RegistryReply, SlotAsk, SlotCall, SlotReply, TextSize,
+};
 use sysv_pool::Chain;
 use sysv_queue::{Look, Probe, TakeRefused, Tally};
-use sysv_turns::{
-    Letter, ObjectCall, ObjectReply, PoolCall, PoolReply, RegistryCall, RegistryReply, SlotAsk,
-    SlotCall, SlotReply, TextSize,
-};
 use tests_kit::{USER, creating};
 
 const TO: SetTo = SetTo {

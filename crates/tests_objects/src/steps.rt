@@ -11,11 +11,10 @@ use std::alloc::Global;
 use std::process::Abort;
 use sysv_driver::{Clock, get_step, receive_step, remove_step, send_step, set_step, stat_step};
 use sysv_model::{Body, Selector, SetTo};
-use sysv_objects::Objects;
+use sysv_objects::{ObjectCall, ObjectReply, Objects, Turns};
 use sysv_pool::Chain;
 use sysv_queue::Tally;
 use sysv_steps::{Ending, Getting, Phase, Receiving, Sending, State};
-use sysv_turns::{ObjectCall, ObjectReply, Turns};
 use tests_kit::{USER, creating};
 
 pub(crate) const SEND: Sending = Sending {

@@ -4,18 +4,18 @@ ghost use Rattle.std.specs.Prelude.{◌≡◌, ◌≤◌, ◌<◌, [], IfOk, IfS
 ghost use Rattle.sysv_model.specs.Pool.{blocks_for};
 ghost use Rattle.sysv_model.specs.declared.limits.TheConstants.{MESSAGE_BYTES as most_bytes};
 ghost use Rattle.sysv_keys.specs.declared.identifier.TheConstants.{SLOTS as slot_count};
-ghost use Rattle.sysv_gated.specs.Seats.{AreOf};
+ghost use Rattle.sysv_shared.specs.Seats.{AreOf};
 
 use std::sync::Wait;
-use sysv_gated::{Gates, Seats};
 use sysv_keys::Begun;
 use sysv_model::{Cred, Errno, Flags, Row, Selector, SetTo, Stat};
-use sysv_pool::Chain;
-use sysv_queue::{Discarded, Look, PlaceRefused, Probe, TakeRefused, Taken};
-use sysv_turns::{
+use sysv_objects::{
     Letter, ObjectCall, ObjectReply, PoolCall, PoolReply, RegistryCall, RegistryReply, SlotAsk,
     SlotCall, SlotReply, TextSize,
 };
+use sysv_pool::Chain;
+use sysv_queue::{Discarded, Look, PlaceRefused, Probe, TakeRefused, Taken};
+use sysv_shared::{Gates, Seats};
 
 /// The gate is worn out.
 #[derive(Clone, Copy, PartialEq, Eq, Debug)]

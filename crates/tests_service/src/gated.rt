@@ -2,7 +2,7 @@
 
 ghost use Rattle.std.specs.Prelude.{◌≡◌, ◌≤◌, [], length};
 ghost use Rattle.sysv_model.specs.declared.limits.TheConstants.{MESSAGE_BYTES as most_bytes};
-ghost use Rattle.sysv_gated.specs.Seats.{AreOf};
+ghost use Rattle.sysv_shared.specs.Seats.{AreOf};
 
 use crate::asking::{
     Worn, begin, forget, install, look, place, probe, release, remove, reserve, row, set, settle,
@@ -13,12 +13,12 @@ use std::alloc::Global;
 use std::process::Abort;
 use std::sync::Wait;
 use sysv_gate::{Awaited, Closing};
-use sysv_gated::{GatedPool, GatedSlot, Gates, GatesClosed, OpenRefused, Seats};
 use sysv_keys::Begun;
 use sysv_model::{Errno, IPC_PRIVATE, MESSAGE_BYTES, Selector, SetTo};
+use sysv_objects::Letter;
 use sysv_pool::Chain;
 use sysv_queue::{Look, Probe, Tally};
-use sysv_turns::Letter;
+use sysv_shared::{GatedPool, GatedSlot, Gates, GatesClosed, OpenRefused, Seats};
 use tests_kit::{USER, creating};
 
 const LIMIT: u64 = 1 << 62;

@@ -1,6 +1,6 @@
 //! Helpers of all of these tests: a service, a clock, and bodies.
 ghost use Rattle.std.specs.Prelude.{◌≡◌, [], IfSome};
-ghost use Rattle.sysv_gated.specs.Seats.{AreOf};
+ghost use Rattle.sysv_shared.specs.Seats.{AreOf};
 
 use std::alloc::Global;
 use std::fmt::Debug;

@@ -4,7 +4,7 @@
 
 ghost use Rattle.std.specs.Prelude.{◌≡◌, ◌+◌, ◌^◌, ◌<◌, ◌≤◌, length};
 ghost use Rattle.sysv_model.specs.declared.limits.TheConstants.{QUEUE_MESSAGES};
-ghost use Rattle.sysv_index.specs.Probes.{IsFoundByFew};
+ghost use Rattle.sysv_messages.specs.Probes.{IsFoundByFew};
 
 use super::{SENDER, open_slot};
 use crate::parts::{give_back, open_body, open_pool, room};

@@ -1,5 +1,5 @@
 //! The tasks of threads.
-ghost use Rattle.sysv_gated.specs.Seats.{AreOf};
+ghost use Rattle.sysv_shared.specs.Seats.{AreOf};
 
 use super::ask::{Ask, Told, make};
 use super::board::{Board, Moment};

@@ -1,13 +1,13 @@
 //! Sessions over a service.
 ghost use Rattle.std.specs.Prelude.{◌≡◌};
-ghost use Rattle.sysv_gated.specs.Seats.{AreOf};
+ghost use Rattle.sysv_shared.specs.Seats.{AreOf};
 
 use super::served::assert_served;
 use crate::parts::{CLOCK, Still, closed, opened};
 use std::alloc::Global;
 use std::process::Abort;
 use std::sync::Wait;
-use sysv_kernel::ServiceKernel;
+use sysv_server::ServiceKernel;
 use sysv_service::{Caller, Pass, Service};
 use sysv_session::{End, Served};
 use tests_kit::worked::{ANSWERS, SESSION};

@@ -9,10 +9,10 @@ use Rattle.sysv_queue.specs.Replies.{remove_reply}
 use Rattle.sysv_queue.specs.Slot.{Slot}
 use Rattle.sysv_steps.specs.State.{AtRemove}
 use Rattle.sysv_steps.specs.Seen.{state_of}
-use Rattle.sysv_turns.specs.SlotTurns.{FitsAsk}
-use Rattle.sysv_turns.specs.declared.slot.SlotCall.TheVariants as called
-use Rattle.sysv_turns.specs.declared.slot.SlotAsk.TheVariants as asked
-use Rattle.sysv_turns.specs.declared.slot.SlotReply.TheVariants as told
+use Rattle.sysv_objects.specs.SlotTurns.{FitsAsk}
+use Rattle.sysv_objects.specs.declared.slot.SlotCall.TheVariants as called
+use Rattle.sysv_objects.specs.declared.slot.SlotAsk.TheVariants as asked
+use Rattle.sysv_objects.specs.declared.slot.SlotReply.TheVariants as told
 use Rattle.sysv_driver.specs.Stepping.{no_moment}
 use Rattle.sysv_driver.proofs.Staying.{remove_removes}
 use Rattle.sysv_driver.proofs.Stepping.{stepped}

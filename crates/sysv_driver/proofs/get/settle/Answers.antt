@@ -5,7 +5,7 @@ use Rattle.sysv_model.specs.Turn.{AtRegistry}
 use Rattle.sysv_steps.specs.Next.{after_settle}
 use Rattle.sysv_steps.specs.Seen.{state_of}
 use Rattle.sysv_steps.specs.State.{AtSettle}
-use Rattle.sysv_turns.specs.declared.registry.RegistryCall.TheVariants as asked
+use Rattle.sysv_objects.specs.declared.registry.RegistryCall.TheVariants as asked
 use Rattle.sysv_driver.specs.Stepping.{no_moment}
 use Rattle.sysv_driver.proofs.Staying.{settle_gets}
 use Rattle.sysv_driver.proofs.Stepping.{stepped}

@@ -8,9 +8,9 @@ use Rattle.sysv_queue.specs.Replies.{untaken_reply}
 use Rattle.sysv_steps.specs.declared.state.Phase.TheVariants as phase
 use Rattle.sysv_steps.specs.State.{AtTake}
 use Rattle.sysv_steps.specs.Seen.{state_of, receiving}
-use Rattle.sysv_turns.specs.declared.slot.SlotAsk.TheVariants as asked
-use Rattle.sysv_turns.specs.declared.slot.SlotCall.TheVariants as called
-use Rattle.sysv_turns.specs.declared.slot.SlotReply.TheVariants as reply
+use Rattle.sysv_objects.specs.declared.slot.SlotAsk.TheVariants as asked
+use Rattle.sysv_objects.specs.declared.slot.SlotCall.TheVariants as called
+use Rattle.sysv_objects.specs.declared.slot.SlotReply.TheVariants as reply
 use Rattle.sysv_driver.specs.Giving.{HasWhatItGives, nothing_is_sized}
 use Rattle.sysv_driver.proofs.Staying.{untaken_gives_nothing}
 use Rattle.sysv_driver.proofs.Stepping.{stepped}

@@ -6,8 +6,8 @@ use Rattle.sysv_model.specs.Turn.{AtSlot}
 use Rattle.sysv_pool.specs.Chain.{Chained}
 use Rattle.sysv_steps.specs.State.{AtPlace}
 use Rattle.sysv_steps.specs.Seen.{state_of, sending}
-use Rattle.sysv_turns.specs.declared.slot.SlotCall.TheVariants as called
-use Rattle.sysv_turns.specs.declared.slot.SlotReply.TheVariants as reply
+use Rattle.sysv_objects.specs.declared.slot.SlotCall.TheVariants as called
+use Rattle.sysv_objects.specs.declared.slot.SlotReply.TheVariants as reply
 use Rattle.sysv_driver.proofs.Staying.{place_sends}
 use Rattle.sysv_driver.proofs.Stepping.{stepped}
 use Rattle.sysv_driver.specs.Telling.{slot_told}

@@ -1,4 +1,4 @@
-use Rattle.sysv_streams.proofs.StreamLemmas.{prefix_none}
+use Rattle.sysv_script.proofs.Prefixed.{prefix_none}
 use Rattle.sysv_script.proofs.script.bad_line.Goals as goal
 
 pub returns-in-Err : goal.returns-in-Err

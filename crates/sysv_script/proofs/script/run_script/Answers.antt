@@ -1,8 +1,8 @@
 use Rattle.std.proofs.Common.{◌≡◌, Result, sym, subst}
 use Rattle.std.specs.Prelude.{IfErr, ⊤}
 use Rattle.sysv_model.specs.Watched.{failures_of, failures_after, stream_of}
-use Rattle.sysv_streams.specs.declared.fault.ScriptFault.{ScriptFault}
-use Rattle.sysv_streams.specs.Faults.{TellsBadLine, is_read_fault, is_write_fault}
+use Rattle.sysv_script.specs.declared.fault.ScriptFault.{ScriptFault}
+use Rattle.sysv_script.specs.Faults.{TellsBadLine, is_read_fault, is_write_fault}
 use Rattle.sysv_script.specs.Written.{WritesScript}
 use Rattle.sysv_script.proofs.FaultLemmas.{tells_end, grows_end, reader_ended, writer_ended}
 use Rattle.sysv_script.proofs.ScriptEnds.{writes_none, writes_end, script_runs}

@@ -1,6 +1,6 @@
 use Rattle.std.proofs.Common.{◌≡◌, map, reverse, vec_len}
 use Rattle.std.specs.List.{All, FoldsTo}
-use Rattle.sysv_gated.specs.Seats.{AreOf}
+use Rattle.sysv_shared.specs.Seats.{AreOf}
 use Rattle.sysv_service.specs.Hiring.{TakesIn}
 use Rattle.sysv_service.specs.Ran.{Pass}
 use Rattle.sysv_server.proofs.Adding.{Adding}

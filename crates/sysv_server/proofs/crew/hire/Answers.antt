@@ -3,7 +3,7 @@ use Rattle.std.proofs.Common.{◌≡◌, ◌∙◌, ◌+◌, ◌∷◌, [], map,
 use Rattle.std.proofs.lemmas.List.{map-append}
 use Rattle.std.proofs.lemmas.List.Elements.{All-push}
 use Rattle.std.specs.List.{All, FoldsTo}
-use Rattle.sysv_gated.specs.Seats.{AreOf}
+use Rattle.sysv_shared.specs.Seats.{AreOf}
 use Rattle.sysv_service.specs.Hiring.{Gives}
 use Rattle.sysv_service.specs.Ran.{Pass}
 use Rattle.sysv_server.specs.declared.session.Worker.{Worker}

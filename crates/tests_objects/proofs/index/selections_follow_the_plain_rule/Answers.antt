@@ -1,7 +1,7 @@
 use Rattle.std.proofs.Common.{◌≡◌, ℕ, Bool, ◌+◌, ◌<◌, List, [], ◌∷◌, ◌++◌, refl, sym, subst, ◌∙◌, arith}
 use Rattle.std.specs.List.{All, filter}
 use Rattle.std.proofs.lemmas.List.Elements.{All-push, All-filter}
-use Rattle.sysv_index.specs.declared.entry.Entry.{Entry}
+use Rattle.sysv_messages.specs.declared.entry.Entry.{Entry}
 use Rattle.tests_objects.proofs.index.selections_follow_the_plain_rule.Goals as goal
 use Rattle.tests_objects.proofs.index.selections_follow_the_plain_rule.Goals.{then-step-lt3+then-len-lt-QUEUE_MESSAGES+in_ok-push, else-step-lt3+in-Some, else-step-lt3+in_default}
 

@@ -1,6 +1,6 @@
 use Rattle.std.proofs.Common.{◌<◌, ◌≤◌}
 use Rattle.std.specs.List.{All}
-use Rattle.sysv_index.specs.declared.entry.Entry.{Entry}
+use Rattle.sysv_messages.specs.declared.entry.Entry.{Entry}
 use Rattle.tests_objects.proofs.index.selections_follow_the_plain_rule.Given as goal
 
 abbrev pub invariant-loop-step : goal.invariant-loop-step

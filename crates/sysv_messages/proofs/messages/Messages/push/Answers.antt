@@ -6,7 +6,7 @@ use Rattle.slab.specs.Slab.{Updates}
 use Rattle.sysv_model.specs.Message.{Message}
 use Rattle.sysv_model.specs.Pool.{blocks_for}
 use Rattle.sysv_pool.specs.Chain.{Chained}
-use Rattle.sysv_index.specs.declared.entry.Entry.{Entry}
+use Rattle.sysv_messages.specs.declared.entry.Entry.{Entry}
 use Rattle.sysv_messages.specs.Texts.{chain_of}
 use Rattle.sysv_messages.specs.Kept.{messages_of, head_of, IsStore}
 use Rattle.sysv_messages.proofs.Seen.{numbers_seen}

@@ -1,5 +1,5 @@
 use Rattle.std.proofs.Common.{◌^◌, ap, arith}
-use Rattle.sysv_turns.specs.SlotTurns.{slot_asked}
+use Rattle.sysv_objects.specs.SlotTurns.{slot_asked}
 use Rattle.sysv_objects.specs.Objects.{Objects}
 use Rattle.sysv_objects.proofs.Placed.{turned, stand_still, left, beside, low}
 use Rattle.sysv_objects.proofs.objects.Objects.at_slot.Goals as goal

@@ -1,8 +1,8 @@
 use Rattle.std.proofs.Common.{◌≡◌, ◌+◌, ℕ, List}
 use Rattle.sysv_model.specs.Watched.{failures_of, stream_name, stream_of}
-use Rattle.sysv_stage.specs.Scene.{Scene}
-use Rattle.sysv_stage.specs.Staged.{IsSceneOf}
-use Rattle.sysv_streams.specs.Faults.{Grows}
+use Rattle.sysv_script.specs.Scene.{Scene}
+use Rattle.sysv_script.specs.Staged.{IsSceneOf}
+use Rattle.sysv_script.specs.Faults.{Grows}
 use Rattle.sysv_script.specs.ScriptSofar.{IsText, RunsOn}
 use Rattle.sysv_script.proofs.script.Run.run_lines.Given as goal
 

@@ -1,7 +1,7 @@
 use Rattle.std.proofs.Common.{◌≡◌, ℕ, List, Option, Some, rules, subst}
 use Rattle.sysv_model.specs.Watched.{stream_of}
-use Rattle.sysv_streams.specs.declared.lines.Found.{Found}
-use Rattle.sysv_streams.specs.Found.{FindsLine, IsNextLine}
+use Rattle.sysv_script.specs.declared.lines.Found.{Found}
+use Rattle.sysv_script.specs.Found.{FindsLine, IsNextLine}
 use Rattle.sysv_script.proofs.LineLemmas.{IsNextLine-front, IsNextLine-behind}
 use Rattle.sysv_script.proofs.FaultLemmas.{IfErr-stream}
 use Rattle.sysv_script.proofs.Scripting.{takes_more, hands_more, runs_line, runs_last, ends_text, stops_part, stops_read}

@@ -2,7 +2,7 @@ use Rattle.std.proofs.Common.{[]}
 use Rattle.sysv_steps.specs.Call.{MsgctlStat}
 use Rattle.sysv_steps.specs.Begin.{begin as begins}
 use Rattle.sysv_steps.specs.Seen.{state_of}
-use Rattle.sysv_gated.specs.Seats.{AreOf}
+use Rattle.sysv_shared.specs.Seats.{AreOf}
 use Rattle.sysv_driver.specs.Stepping.{no_moment}
 use Rattle.sysv_service.specs.Ran.{Comes}
 use Rattle.sysv_driver.specs.Kinds.{Stats}

@@ -5,7 +5,7 @@ use Rattle.sysv_steps.specs.Call.{Msgsnd}
 use Rattle.sysv_steps.specs.Begin.{begin as begins}
 use Rattle.sysv_steps.specs.Resume.{Released}
 use Rattle.sysv_steps.specs.State.{Ending, Over, Waits}
-use Rattle.sysv_gated.specs.Reading.{Reads}
+use Rattle.sysv_shared.specs.Reading.{Reads}
 use Rattle.sysv_driver.specs.Kinds.{Sends}
 use Rattle.sysv_service.specs.Left.{IsLeft}
 use Rattle.sysv_service.specs.Ran.{Pass, Comes}

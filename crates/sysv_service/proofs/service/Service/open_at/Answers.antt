@@ -1,5 +1,5 @@
 use Rattle.std.proofs.Common.{sym, subst}
-use Rattle.sysv_gated.specs.Seats.{AreOf}
+use Rattle.sysv_shared.specs.Seats.{AreOf}
 use Rattle.sysv_service.proofs.Opening.{first_fits}
 use Rattle.sysv_service.proofs.service.Service.open_at.Goals as goal
 

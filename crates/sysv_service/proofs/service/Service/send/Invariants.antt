@@ -1,5 +1,5 @@
 use Rattle.sysv_steps.specs.Seen.{state_of}
-use Rattle.sysv_gated.specs.Seats.{AreOf}
+use Rattle.sysv_shared.specs.Seats.{AreOf}
 use Rattle.sysv_service.specs.Ran.{Comes}
 use Rattle.sysv_driver.specs.Kinds.{Sends}
 use Rattle.sysv_service.proofs.service.Service.send.Given as goal

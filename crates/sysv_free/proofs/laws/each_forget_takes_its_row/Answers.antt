@@ -1,4 +1,0 @@
-use Rattle.sysv_free.proofs.laws.each_forget_takes_its_row.Goals as goal
-
-pub returns : goal.returns
-returns c = λ o list given w led. (c.every_threaded_run_obeys.ensures o list given w led).forgets

@@ -1,5 +1,0 @@
-use Rattle.sysv_free.proofs.RowsApart as rows
-use Rattle.sysv_free.proofs.laws.no_call_reads_a_row.Goals as goal
-
-pub returns : goal.returns
-returns c = rows.no_call_reads_a_row

@@ -1,5 +1,0 @@
-use Rattle.sysv_free.proofs.Resting as rest
-use Rattle.sysv_free.proofs.laws.orders_at_rest.Goals as goal
-
-pub returns : goal.returns
-returns c = rest.orders_at_rest c.every_order_is_a_run.ensures

@@ -1,0 +1,506 @@
+ghost use Rattle.std.specs.Prelude.{false, ◌≡◌, ◌+◌, ◌<◌, ◌++◌, List, ℕ, replicate, map, IfOk, IsOk, OnOk, OnErr, [], ◌∷◌, ◌≤◌, length, Some};
+ghost use Rattle.std.specs.List.{range_with_len};
+ghost use Rattle.sysv_lists.specs.Prefix.{IsPrefixOf};
+ghost use Rattle.sysv_model.specs.declared.limits.TheConstants.{BLOCK_BYTES, BODY_ROOM};
+ghost use Rattle.sysv_lines.specs.Heads.{head_text};
+ghost use Rattle.sysv_script.specs.Scene.{Scene, opening_scene, Advances, LineRuns, LineActs, PoolGiven, StartRuns, StartsAs, call_for, GoesOn, StepsRun, OneRuns, AllRun, printed, standing_line};
+ghost use Rattle.sysv_core.specs.World.{actor_at};
+ghost use Rattle.sysv_lines.specs.declared.actor.TheConstants.{SCRIPT_ACTORS};
+ghost use Rattle.sysv_script.specs.Scene.{first_cred as script_cred, operation_of as call_operation, told_of as outcome_told, under_way as doing_at, most_steps as steps_at_start};
+ghost use Rattle.sysv_lines.specs.SaidBy.{FitsBody, RequestFits, LineFits, IsOfActors, IsPoolSize, text_bytes, call_asked, said_of};
+ghost use Rattle.sysv_script.specs.Staged.{IsSceneOf};
+
+use crate::output::Output;
+use std::alloc::Global;
+use std::mem;
+use sysv_core::{Answer, Call, Event, Outcome, Standing, Stepped, World};
+use sysv_lines::{Head, Line, Operation, Request, SCRIPT_ACTORS, Text, Told};
+use sysv_model::{BLOCK_BYTES, Body, Cred, NoMemory};
+
+/// The number of blocks of a script's world.
+const SCRIPT_BLOCKS: u32 = 1024;
+
+/// A block of letters, for a message body that is given by its length.
+const LETTERS: [u8; BLOCK_BYTES] = [b'x'; BLOCK_BYTES];
+
+/// The maximum number of steps of a call at one line.
+const MAX_STEPS: u32 = 16;
+
+/// The world of a script, the credentials of its actors, the time of each step, and the bodies that
+/// no call under way has.
+pub struct Stage {
+    world: World,
+    /// The credentials of actor A are at place A - 1.
+    creds: [Cred; SCRIPT_ACTORS as usize],
+    moment: u64,
+    /// Whether every line so far was skipped.
+    fresh: bool,
+    /// At most one body for each actor, because a body is opened only if there is no spare one.
+    spares: Vec<Body>,
+}
+
+impl Stage {
+    /// Opens a world of 16 actors in which nothing has happened, with the first credentials of each
+    /// actor.
+    ///
+    /// # Errors
+    ///
+    /// `NoMemory` if memory is refused.
+    pub fn open(alloc: Global) -> Result<Stage, NoMemory>
+        ensures { IfOk result (λ stage. IsSceneOf opening_scene stage) }
+    {
+        let spares = Vec::with_capacity(alloc, SCRIPT_ACTORS as usize).map_err(|_| NoMemory)?;
+        let world = World::open(alloc, SCRIPT_ACTORS, SCRIPT_BLOCKS).map_err(|_| NoMemory)?;
+        Ok(Stage {
+            world,
+            creds: first_creds(),
+            moment: 0,
+            fresh: true,
+            spares,
+        })
+    }
+
+    /// Ends the world of the script.
+    pub fn end(self) {
+        let Stage {
+            world,
+            creds: _creds,
+            moment: _moment,
+            fresh: _fresh,
+            spares: _spares,
+        } = self;
+        let _blocks = world.end();
+    }
+
+    /// Does what a line means, and composes what it prints. Returns `false` if the line is bad: a
+    /// `preset` or a `pool` that comes too late. A bad line composes nothing.
+    ///
+    /// # Errors
+    ///
+    /// `NoMemory` if memory is refused. A prefix of what was composed before is left.
+    ///
+    /// # Conditions
+    ///
+    /// An actor of the line must be 1 to 16, a body must have at most 8,256 bytes, and a number of
+    /// blocks must be one that a pool can have, as in each line that `line_of` returns.
+    pub fn run(
+        &mut self,
+        alloc: Global,
+        line: Line<'_>,
+        output: &mut Output,
+    ) -> Result<bool, NoMemory>
+        requires { LineFits line }
+        ensures runs { IfOk result (λ understood. (s : Scene) → IsSceneOf s self.old →
+            (after : Scene) × (out : List ℕ) × LineRuns s (said_of line.entry) understood out after
+            × IsSceneOf after self.new × (output.new ≡ output.old ++ out)) }
+        // A bad line composes nothing. If memory is refused, a prefix of what was composed is left.
+        ensures quiet { IfOk result (λ understood. understood ≡ false → output.new ≡ output.old) }
+        ensures err { OnErr result (IsPrefixOf output.new output.old) }
+    {
+        match line {
+            Line::Skipped => Ok(true),
+            Line::Pool { blocks } => self.size_pool(alloc, blocks),
+            _ => {
+                self.fresh = false;
+                self.act(alloc, line, output)
+            }
+        }
+    }
+
+    /// Opens a new world with `blocks` blocks, if every line so far was skipped.
+    fn size_pool(&mut self, alloc: Global, blocks: u32) -> Result<bool, NoMemory>
+        requires { IsPoolSize blocks }
+        ensures { IfOk result (λ understood. (s : Scene) → IsSceneOf s self.old →
+            (after : Scene) × PoolGiven s blocks understood after × IsSceneOf after self.new) }
+    {
+        if !self.fresh {
+            return Ok(false);
+        }
+        let world = World::open(alloc, SCRIPT_ACTORS, blocks).map_err(|_| NoMemory)?;
+        let _blocks = mem::replace(&mut self.world, world).end();
+        self.fresh = false;
+        Ok(true)
+    }
+
+    /// Does what a line means, if it is not the first one that sizes the pool, and composes what it
+    /// prints.
+    fn act(&mut self, alloc: Global, line: Line<'_>, output: &mut Output) -> Result<bool, NoMemory>
+        requires { LineFits line }
+        ensures runs { IfOk result (λ understood. (s : Scene) → IsSceneOf s self.old →
+            (after : Scene) × (out : List ℕ) × LineActs s (said_of line.entry) understood out after
+            × IsSceneOf after self.new × (output.new ≡ output.old ++ out)) }
+        ensures quiet { IfOk result (λ understood. understood ≡ false → output.new ≡ output.old) }
+        ensures err { OnErr result (IsPrefixOf output.new output.old) }
+    {
+        match line {
+            Line::Preset => return Ok(self.world.preset()),
+            Line::Pool { .. } => return Ok(false),
+            Line::Skipped => {}
+            Line::Cred { actor, cred } => self.creds[actor as usize - 1] = cred,
+            Line::Moment(moment) => self.moment = moment,
+            Line::Start {
+                actor,
+                request,
+                goes,
+            } => self.start(alloc, actor, request, goes, output)?,
+            Line::Step { actor } => self.take_on(actor, 1, output)?,
+            Line::Go { actor } => self.take_on(actor, MAX_STEPS, output)?,
+            Line::All => self.take_all_on(output)?,
+        }
+        Ok(true)
+    }
+
+    /// Starts a call of an actor, makes its steps if it continues, and composes the line that it
+    /// prints. An actor that is in a call starts no other one.
+    fn start(
+        &mut self,
+        alloc: Global,
+        actor: u32,
+        request: Request<'_>,
+        goes: bool,
+        output: &mut Output,
+    ) -> Result<(), NoMemory>
+        requires actor { IsOfActors actor }
+        requires fits { RequestFits request }
+        ensures runs { OnOk result ((s : Scene) → IsSceneOf s self.old → (after : Scene)
+            × (out : List ℕ)
+            × StartRuns s actor (call_asked request.entry) goes
+            (doing_at (actor_at s.world.actors actor)) out after
+            × IsSceneOf after self.new × (output.new ≡ output.old ++ out)) }
+        ensures err { OnErr result (IsPrefixOf output.new output.old) }
+    {
+        if let Some(_operation) = self.under_way(actor) {
+            return output.tell(Head::Busy { actor });
+        }
+        let operation = operation_of(request);
+        let call = self.call_of(alloc, request)?;
+        let first = self.begin(actor, call);
+        let given = self.go(actor, first, most_steps(goes));
+        self.tell(actor, operation, given, output)
+    }
+
+    /// Makes at most `steps` steps of an actor's call, and composes the line that it prints.
+    fn take_on(&mut self, actor: u32, steps: u32, output: &mut Output) -> Result<(), NoMemory>
+        ensures runs { OnOk result ((s : Scene) → IsSceneOf s self.old → (after : Scene)
+            × (out : List ℕ)
+            × StepsRun steps s actor (doing_at (actor_at s.world.actors actor)) out after
+            × IsSceneOf after self.new × (output.new ≡ output.old ++ out)) }
+        ensures err { OnErr result (output.new ≡ []) }
+    {
+        match self.under_way(actor) {
+            Some(operation) => self.go_on(actor, operation, steps, output),
+            None => output.tell(Head::Idle { actor }),
+        }
+    }
+
+    /// Continues each call under way, in the order of the actors.
+    fn take_all_on(&mut self, output: &mut Output) -> Result<(), NoMemory>
+        ensures runs { OnOk result ((s : Scene) → IsSceneOf s self.old → (after : Scene)
+            × (out : List ℕ)
+            × AllRun (range_with_len 1 SCRIPT_ACTORS) s out after
+            × IsSceneOf after self.new × (output.new ≡ output.old ++ out)) }
+        ensures err { OnErr result (IsPrefixOf output.new output.old) }
+    {
+        for actor in 1..SCRIPT_ACTORS + 1 {
+            self.take_one_on(actor, output)?;
+        }
+        Ok(())
+    }
+
+    /// Continues the call of an actor, if it is in one.
+    fn take_one_on(&mut self, actor: u32, output: &mut Output) -> Result<(), NoMemory>
+        ensures runs { OnOk result ((s : Scene) → IsSceneOf s self.old → (after : Scene)
+            × (out : List ℕ)
+            × OneRuns s actor (doing_at (actor_at s.world.actors actor)) out after
+            × IsSceneOf after self.new × (output.new ≡ output.old ++ out)) }
+        ensures err { OnErr result (output.new ≡ []) }
+    {
+        match self.under_way(actor) {
+            Some(operation) => self.go_on(actor, operation, MAX_STEPS, output),
+            None => Ok(()),
+        }
+    }
+
+    /// Makes at most `steps` steps of an actor's call, which is of the kind `operation`, and
+    /// composes the line that it prints.
+    fn go_on(
+        &mut self,
+        actor: u32,
+        operation: Operation,
+        steps: u32,
+        output: &mut Output,
+    ) -> Result<(), NoMemory>
+        ensures runs { OnOk result ((s : Scene) → IsSceneOf s self.old → (after : Scene)
+            × (out : List ℕ)
+            × StepsRun steps s actor (Some operation) out after
+            × IsSceneOf after self.new × (output.new ≡ output.old ++ out)) }
+        ensures err { OnErr result (output.new ≡ []) }
+    {
+        let given = self.go(actor, Stepped::Nothing, steps);
+        self.tell(actor, operation, given, output)
+    }
+
+    /// Returns the kind of the call that an actor is in, if it is in one.
+    fn under_way(&self, actor: u32) -> Option<Operation>
+        ensures { (s : Scene) → IsSceneOf s self.now →
+            result ≡ doing_at (actor_at s.world.actors actor) }
+    {
+        match self.world.standing(actor)? {
+            Standing::At(phase) => Some(Operation::of_phase(phase)),
+            Standing::Waits(wait) => Some(Operation::of_wait(*wait)),
+        }
+    }
+
+    /// Returns the call of a request, with a body of its own.
+    fn call_of(&mut self, alloc: Global, request: Request<'_>) -> Result<Call, NoMemory>
+        requires { RequestFits request }
+        ensures call { IfOk result (λ call. call ≡ call_for (call_asked request.entry)) }
+        ensures kept { self.new ≡ record self.old { spares = self.new.spares } }
+    {
+        match request {
+            Request::Get { key, flags } => Ok(Call::Get { key, flags }),
+            Request::Stat { id } => Ok(Call::Stat { id }),
+            Request::Set { id, to } => Ok(Call::Set { id, to }),
+            Request::Remove { id } => Ok(Call::Remove { id }),
+            Request::Send {
+                id,
+                mtype,
+                flags,
+                text,
+            } => {
+                let mut body = self.spare_body(alloc)?;
+                fill(&mut body, text);
+                Ok(Call::Send {
+                    id,
+                    mtype,
+                    flags,
+                    body,
+                })
+            }
+            Request::Receive {
+                id,
+                size,
+                mtype,
+                flags,
+            } => {
+                let body = self.spare_body(alloc)?;
+                Ok(Call::Receive {
+                    id,
+                    size,
+                    mtype,
+                    flags,
+                    body,
+                })
+            }
+        }
+    }
+
+    /// Returns a spare body, or a new one if there is none.
+    fn spare_body(&mut self, alloc: Global) -> Result<Body, NoMemory>
+        ensures empty { IfOk result (λ body. body ≡ []) }
+        ensures spared { 0 < length self.old.spares.items → IsOk result }
+        ensures kept { self.new ≡ record self.old { spares = self.new.spares } }
+    {
+        match self.spares.pop() {
+            Some(mut body) => {
+                body.clear();
+                Ok(body)
+            }
+            None => Body::open(alloc),
+        }
+    }
+
+    /// Starts a call with the present credentials of the actor.
+    fn begin(&mut self, actor: u32, call: Call) -> Stepped
+        requires { IsOfActors actor }
+        ensures { (s : Scene) → IsSceneOf s self.old →
+            (after : Scene) × StartsAs s actor call result after × IsSceneOf after self.new }
+    {
+        let cred = self.creds[actor as usize - 1];
+        self.step(Event::Start { actor, cred, call })
+    }
+
+    /// Makes at most `steps` steps of a call whose last result was `last`, until the call is over.
+    fn go(&mut self, actor: u32, last: Stepped, steps: u32) -> Stepped
+        ensures { (s : Scene) → IsSceneOf s self.old →
+            (after : Scene) × GoesOn steps s actor last result after × IsSceneOf after self.new }
+    {
+        let mut given = last;
+        for _ in 0..steps {
+            match given {
+                Stepped::Nothing => {
+                    let now = self.moment;
+                    given = self.step(Event::Step { actor, now });
+                }
+                _ => break,
+            }
+        }
+        given
+    }
+
+    /// Makes one event happen in the world.
+    fn step(&mut self, event: Event) -> Stepped
+        ensures { (s : Scene) → IsSceneOf s self.old →
+            (after : Scene) × Advances s event result after × IsSceneOf after self.new }
+    {
+        self.world.step(event)
+    }
+
+    /// Composes the line of a result, and keeps the body of a send or a receive that is over.
+    fn tell(
+        &mut self,
+        actor: u32,
+        operation: Operation,
+        stepped: Stepped,
+        output: &mut Output,
+    ) -> Result<(), NoMemory>
+        ensures told { OnOk result ((s : Scene) → IsSceneOf s self.old →
+            output.new ≡ output.old ++ printed s.world actor operation stepped) }
+        ensures err { OnErr result (output.new ≡ []) }
+        ensures kept { self.new ≡ record self.old { spares = self.new.spares } }
+    {
+        match stepped {
+            Stepped::Nothing => output.tell(self.stands(actor)),
+            Stepped::Worn => output.tell(Head::Worn { actor }),
+            Stepped::Answer(answer) => {
+                let Answer {
+                    actor,
+                    result: outcome,
+                    body,
+                } = answer;
+                let head = Head::Answers {
+                    actor,
+                    operation,
+                    told: told_of(outcome),
+                };
+                match body {
+                    None => {
+                        self.keep_spare();
+                        output.tell(head)
+                    }
+                    Some(body) => self.tell_body(head, body, output),
+                }
+            }
+        }
+    }
+
+    /// Returns the line for the present state of an actor's call.
+    fn stands(&self, actor: u32) -> Head
+        ensures { (s : Scene) → IsSceneOf s self.now →
+            head_text result ++ 10 ∷ [] ≡ standing_line actor (actor_at s.world.actors actor) }
+    {
+        match self.world.standing(actor) {
+            Some(Standing::At(phase)) => Head::at(actor, phase),
+            Some(Standing::Waits(wait)) => Head::waits(actor, *wait),
+            None => Head::Idle { actor },
+        }
+    }
+
+    /// Composes the line of a receive that is over, and keeps its body.
+    fn tell_body(&mut self, head: Head, body: Body, output: &mut Output) -> Result<(), NoMemory>
+        ensures told { OnOk result (output.new ≡ output.old
+            ++ (head_text head ++ (body ++ 10 ∷ []))) }
+        ensures err { OnErr result (output.new ≡ []) }
+        ensures kept { self.new ≡ record self.old { spares = self.new.spares } }
+    {
+        let told = output.tell_text(head, &body);
+        let _kept = self.spares.push(body);
+        told
+    }
+
+    /// Keeps the body of a send that is over.
+    fn keep_spare(&mut self)
+        ensures { self.new ≡ record self.old { spares = self.new.spares } }
+    {
+        if let Some(body) = self.world.spare() {
+            let _kept = self.spares.push(body);
+        }
+    }
+}
+
+/// Puts the bytes of a request into an empty body.
+fn fill(body: &mut Body, text: Text<'_>)
+    requires empty { body.old ≡ [] }
+    requires fits { FitsBody text }
+    ensures { body.new ≡ text_bytes text.entry }
+{
+    match text {
+        Text::Given(bytes) => {
+            let _fits = body.push_piece(bytes);
+        }
+        Text::Letters(count) => {
+            let mut left = count;
+            while left > 0 {
+                let piece = left.min(BLOCK_BYTES);
+                push_letters(body, piece);
+                left -= piece;
+            }
+        }
+    }
+}
+
+/// Appends at most one block of letters to a body.
+fn push_letters(body: &mut Body, count: usize)
+    requires block { count ≤ BLOCK_BYTES }
+    requires room { length body.old + count ≤ BODY_ROOM }
+    ensures { body.new ≡ body.old ++ replicate count 120 }
+{
+    let _fits = body.push_piece(&LETTERS[..count]);
+}
+
+/// Returns the first credentials of the actors 1 to 16.
+fn first_creds() -> [Cred; SCRIPT_ACTORS as usize]
+    ensures { result ≡ map script_cred (range_with_len 1 SCRIPT_ACTORS) }
+{
+    let mut creds = [first_cred(1); SCRIPT_ACTORS as usize];
+    for place in 1..SCRIPT_ACTORS {
+        creds[place as usize] = first_cred(place + 1);
+    }
+    creds
+}
+
+/// Returns the first credentials of an actor: user and group 1000, and a process of its own.
+fn first_cred(actor: u32) -> Cred
+    requires { actor ≤ SCRIPT_ACTORS }
+    ensures { result ≡ script_cred actor }
+{
+    Cred {
+        uid: 1000,
+        gid: 1000,
+        pid: 100 + actor,
+    }
+}
+
+/// Returns the maximum number of steps of a call at the line that starts it.
+fn most_steps(goes: bool) -> u32
+    ensures { result ≡ steps_at_start goes }
+{
+    if goes { MAX_STEPS } else { 0 }
+}
+
+/// Returns the kind of the call of a request.
+fn operation_of(request: Request<'_>) -> Operation
+    ensures { result ≡ call_operation (call_asked request.entry) }
+{
+    match request {
+        Request::Get { .. } => Operation::Get,
+        Request::Send { .. } => Operation::Send,
+        Request::Receive { .. } => Operation::Receive,
+        Request::Stat { .. } => Operation::Stat,
+        Request::Set { .. } => Operation::Set,
+        Request::Remove { .. } => Operation::Remove,
+    }
+}
+
+/// Returns how a script prints an outcome.
+fn told_of(outcome: Outcome) -> Told
+    ensures { result ≡ outcome_told outcome }
+{
+    match outcome {
+        Outcome::Id(id) => Told::Id(id),
+        Outcome::Zero => Told::Zero,
+        Outcome::Got { mtype, len } => Told::Got { len, mtype },
+        Outcome::Stat(stat) => Told::Stat(stat),
+        Outcome::Refused(why) => Told::Refused(why),
+    }
+}

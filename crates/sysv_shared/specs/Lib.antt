@@ -1,0 +1,21 @@
+-- The definitions of the objects behind gates, with those of other crates that they use. This
+-- project's profile.
+pub use Rattle.sysv_passes.specs.Turns
+pub use Rattle.sysv_passes.specs.Members
+pub use Rattle.sysv_objects.specs.LegalDeed
+pub use Rattle.sysv_model.specs.History
+pub use Rattle.sysv_model.specs.Registry
+pub use Rattle.sysv_model.specs.Pool
+pub use Rattle.sysv_model.specs.Turn
+pub mod Counts
+pub mod Kinds
+pub mod Gated
+pub mod Order
+pub mod Seats
+pub mod Banked
+pub mod Reading
+pub mod Opened
+pub mod Fresh
+pub mod SeenHistories
+pub mod Sharing
+pub mod Ordered

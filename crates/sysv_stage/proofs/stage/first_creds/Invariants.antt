@@ -1,6 +1,0 @@
-use Rattle.std.proofs.Common.{◌≡◌, length}
-use Rattle.sysv_stage.proofs.CredLemmas.{AreFirst}
-use Rattle.sysv_stage.proofs.stage.first_creds.Given as goal
-
-abbrev pub invariant-loop-place : goal.invariant-loop-place
-invariant-loop-place l = (length l.creds ≡ 16) × AreFirst l.creds l.place

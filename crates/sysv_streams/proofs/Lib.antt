@@ -1,3 +1,0 @@
-pub mod StreamLemmas
-pub mod LineLemmas
-pub mod InputLemmas

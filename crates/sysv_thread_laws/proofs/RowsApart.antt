@@ -1,0 +1,48 @@
+-- No call requests a row.
+use Rattle.std.proofs.Common.{◌≡◌, ℕ, Bool, true, false, List, refl, sym, ap, ◌∙◌}
+use Rattle.std.specs.List.{All}
+use Rattle.std.proofs.lemmas.List.Elements.{All-push, All-nil}
+use Rattle.sysv_model.specs.History.{ReadRow}
+use Rattle.sysv_model.specs.Turn.{Deed, OfSlot, asked_by}
+use Rattle.sysv_steps.specs.State.{Phase, State, AtBegin, AtInstall, AtSettle, AtProbe, AtUnmake, AtLook, AtReserve, AtPlace, AtSendGiveback, AtTake, AtReceiveGiveback, AtStat, AtSet, AtSetGiveback, AtRemove, AtForget, AtRemoveGiveback}
+use Rattle.sysv_steps.specs.Asks.{asks}
+use Rattle.sysv_steps.specs.Played.{Plays, begins, steps, resumes}
+use Rattle.sysv_thread_laws.specs.Order.{shows_row, NoCallReadsARow}
+use Rattle.sysv_thread_laws.proofs.Ordering.{row_form}
+
+abbrev IsQuiet : Deed → Type 0
+IsQuiet deed = shows_row deed ≡ false
+
+no_step : (phase : Phase) (now slot : ℕ) → ¬ (OfSlot slot ReadRow ≡ asks phase now)
+no_step (AtBegin get) now slot e = cc
+no_step (AtInstall get id) now slot e = cc
+no_step (AtSettle id) now slot e = cc
+no_step (AtProbe get id settled) now slot e = cc
+no_step (AtUnmake id) now slot e = cc
+no_step (AtLook send) now slot e = cc
+no_step (AtReserve send) now slot e = cc
+no_step (AtPlace send blocks) now slot e = cc
+no_step (AtSendGiveback blocks afterwards) now slot e = cc
+no_step (AtTake receive) now slot e = cc
+no_step (AtReceiveGiveback blocks mtype text) now slot e = cc
+no_step (AtStat cred id) now slot e = cc
+no_step (AtSet cred id to) now slot e = cc
+no_step AtSetGiveback now slot e = cc
+no_step (AtRemove cred id) now slot e = cc
+no_step (AtForget id blocks) now slot e = cc
+no_step (AtRemoveGiveback blocks) now slot e = cc
+
+quiet_step : (deed : Deed) (phase : Phase) (now : ℕ) (b : Bool) → asked_by deed ≡ asks phase now → shows_row deed ≡ b → b ≡ false
+quiet_step deed phase now false asked shows = refl
+quiet_step deed phase now true asked shows =
+    let form = row_form deed shows in
+    absurd (no_step phase now form.0 (sym (ap asked_by form.2) ∙ asked))
+
+quiet_play : {from state : State} {deeds : List Deed} → Plays from deeds state → All IsQuiet deeds
+quiet_play begins = All-nil IsQuiet
+quiet_play (steps {deeds = deeds} {phase = phase} deed now after plays asked goes) =
+    All-push IsQuiet deeds deed (quiet_play plays) (quiet_step deed phase now (shows_row deed) asked refl)
+quiet_play (resumes value plays reached) = quiet_play plays
+
+pub no_call_reads_a_row : NoCallReadsARow
+no_call_reads_a_row c played = quiet_play played

@@ -1,0 +1,39 @@
+-- The headline of threads. A free run obeys every law of the headline except one: that each call
+-- that waits has a reason to. That law compares a count with a wait at the same time, and a free
+-- run does not state when a waiting call reads its count. All else holds: every accepted message is
+-- delivered exactly once, discarded when its queue is removed, or still queued; each receive takes
+-- the message that its selector names; messages of one type leave in the order of acceptance; every
+-- result follows from the call's arguments and own turns; no block is made or lost; each install
+-- finds its slot vacant, each forget a row; after a removal nothing is accepted or delivered under
+-- that identifier, for good, and the sends and receives of that queue report the removal (what
+-- POSIX.1-2017 says of msgget, msgsnd, msgrcv and msgctl, in the steps of this project's profile).
+use Rattle.std.specs.Prelude.{◌≡◌, ◌⊎◌, ℕ, List, Contains}
+use Rattle.sysv_model.specs.History.{ReadRow, Reply}
+use Rattle.sysv_model.specs.Turn.{AtSlot, Turn}
+use Rattle.sysv_core.specs.World.{World, Opening, Started, Given, opening}
+use Rattle.sysv_core.specs.Forgotten.{AllTakeTheirRows}
+use Rattle.sysv_core.specs.Headline.{IsLawful}
+use Rattle.sysv_thread_laws.specs.FreeRun.{nobody, Moment, LeadsOnThreads}
+
+-- The turn reads a row and belongs to no call.
+abbrev pub IsRowRead : Turn → Type 0
+IsRowRead t = (t.who ≡ nobody) × ((slot : ℕ) × (reply : Reply) × (t.deed ≡ AtSlot slot ReadRow reply))
+
+-- The turn belongs to a call that was started, or reads a row.
+abbrev pub IsMadeOrRead : List Started → Turn → Type 0
+IsMadeOrRead calls t = IsRowRead t ⊎ ((call : Started) × Contains calls call × (t.who ≡ call.who))
+
+-- The laws of the headline but for that of waits. Each turn is made by one of the calls, or reads a
+-- row.
+abbrev pub ObeysOnThreads : Opening → World → List Given → Type 0
+ObeysOnThreads o w given = IsLawful IsMadeOrRead o w given
+
+-- Every list of moments leads from every opening only to worlds that obey these laws.
+abbrev pub EveryThreadedRunObeys : Type 0
+EveryThreadedRunObeys = (o : Opening) (list : List Moment) (given : List Given) (w : World) →
+    LeadsOnThreads (opening o) list given w → ObeysOnThreads o w given
+
+-- In every free run each forget takes a row away: that of the identifier that was removed.
+abbrev pub EachForgetTakesItsRow : Type 0
+EachForgetTakesItsRow = (o : Opening) (list : List Moment) (given : List Given) (w : World) →
+    LeadsOnThreads (opening o) list given w → AllTakeTheirRows w.turns

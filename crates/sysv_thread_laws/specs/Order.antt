@@ -1,0 +1,61 @@
+-- The calls that made the turns of one order. A pass makes one call at a time (this project's
+-- profile).
+use Rattle.std.specs.Prelude.{◌≡◌, ℕ, ◌==◌, ◌&&◌, Bool, true, false, not, List, [], All, filter, map, if◌then◌else◌}
+use Rattle.std.specs.List.{flat_map}
+use Rattle.sysv_model.specs.declared.cred.Cred.{Cred}
+use Rattle.sysv_model.specs.History.{ReadRow}
+use Rattle.sysv_model.specs.Turn.{Deed, AtSlot}
+use Rattle.sysv_passes.specs.Turns.{Numbered}
+use Rattle.sysv_steps.specs.Call.{SystemCall}
+use Rattle.sysv_steps.specs.State.{State}
+use Rattle.sysv_steps.specs.Begin.{begin}
+use Rattle.sysv_steps.specs.Played.{Plays}
+
+-- The turn reads the row of a slot. It belongs to no call: a pass makes it to list the queues, or
+-- to stop.
+abbrev pub shows_row : Deed → Bool
+shows_row (AtSlot slot ReadRow reply) = true
+shows_row deed = false
+
+-- ---- the calls
+
+-- A call of a pass: the number of the pass, the caller's credentials, the call's arguments, the
+-- released count that it read at its start, the turns that it made, in order, and its state. The
+-- call is over, or it was left at a wait and remains there for good, or it is still under way.
+pub record Called : Type 0 where
+  pub by : ℕ
+  pub cred : Cred
+  pub asked : SystemCall
+  pub released : ℕ
+  pub deeds : List Deed
+  pub state : State
+
+-- The step table, taken along the call's turns from its start, leads to its state. This does not
+-- hold of a call that found a gate worn out.
+abbrev pub IsPlayed : Called → Type 0
+IsPlayed c = Plays (begin c.cred c.asked c.released) c.deeds c.state
+
+-- The pass of this number made the turn in a call.
+abbrev pub is_in_call_of : ℕ → Numbered → Bool
+is_in_call_of number t = (t.by == number) && not (shows_row t.deed)
+
+-- The deeds of a pass in calls, by the order of all turns.
+abbrev pub deeds_by : ℕ → List Numbered → List Deed
+deeds_by number order = map (λ (t : Numbered). t.deed) (filter (is_in_call_of number) order)
+
+-- The deeds of a pass in calls, by its calls, one after the other.
+abbrev pub deeds_in : ℕ → List Called → List Deed
+deeds_in number calls = flat_map (λ (c : Called). if c.by == number then c.deeds else []) calls
+
+-- The calls are all that the passes made, with those of each pass in the order in which it made
+-- them.
+pub record AreAll (order : List Numbered) (calls : List Called) : Type 0 where
+  -- Each call is played along its turns.
+  pub played : All IsPlayed calls
+  -- Each pass made the turns of its calls, one call after the other, and no others except to read
+  -- rows.
+  pub whole : (number : ℕ) → deeds_by number order ≡ deeds_in number calls
+
+-- No call reads a row. So leaving those turns out removes no turn of a call.
+abbrev pub NoCallReadsARow : Type 0
+NoCallReadsARow = (c : Called) → IsPlayed c → All (λ (deed : Deed). shows_row deed ≡ false) c.deeds

@@ -1,0 +1,108 @@
+//! Laws of free runs.
+
+ghost use Rattle.sysv_thread_laws.specs.AtRest.{OrdersAtRest};
+ghost use Rattle.sysv_thread_laws.specs.Crew.{EveryLastPassIsWhole, EveryServiceIsARun};
+ghost use Rattle.sysv_thread_laws.specs.OnThreads.{EachForgetTakesItsRow, EveryThreadedRunObeys};
+ghost use Rattle.sysv_thread_laws.specs.Order.{NoCallReadsARow};
+ghost use Rattle.sysv_thread_laws.specs.OrderIsRun.{EveryOrderIsARun};
+ghost use Rattle.sysv_thread_laws.specs.RunIsFree.{EachRunIsFree};
+ghost use Rattle.sysv_thread_laws.specs.WorkedCrew.{WorkedCrew};
+ghost use Rattle.sysv_thread_laws.specs.WorkedOrder.{WorkedOrder};
+
+use sysv_core::each_world_is_sound;
+use sysv_keys::registry_law;
+use sysv_objects::legal_turns;
+use sysv_pool::pool_law;
+use sysv_queue::{blocks_kept, queue_law, removed_for_good};
+use sysv_steps::{
+    after_removal, each_answer_is_right, each_deed_is_asked_for, each_has_one_effect,
+    each_holds_its_blocks, one_answer,
+};
+
+/// States the headline of threads: every list of moments leads from every opening only to worlds
+/// that obey the laws of the headline, except that a call may wait without a reason. A call may
+/// read any released count at its start, and any value that is at least the goal may end a wait.
+pub fn every_threaded_run_obeys()
+    ensures { EveryThreadedRunObeys }
+{
+    each_world_is_sound();
+    legal_turns();
+    blocks_kept();
+    pool_law();
+    each_holds_its_blocks();
+    queue_law();
+    registry_law();
+    each_deed_is_asked_for();
+    each_answer_is_right();
+    each_has_one_effect();
+    removed_for_good();
+    after_removal();
+}
+
+/// States that each forget in a free run takes a row away: the row of the identifier that was
+/// removed, which exists until then.
+pub fn each_forget_takes_its_row()
+    ensures { EachForgetTakesItsRow }
+{
+    every_threaded_run_obeys();
+}
+
+/// States that each run of a world without a preset is a free run.
+pub fn each_run_is_free()
+    ensures { EachRunIsFree }
+{}
+
+/// States that every order of turns with legal replies, with the calls that its passes made, is a
+/// free run: a list of moments leads to a world that has the turns of the order and the calls with
+/// their results, and that obeys the laws.
+pub fn every_order_is_a_run()
+    ensures { EveryOrderIsARun }
+{
+    every_threaded_run_obeys();
+    one_answer();
+}
+
+/// States that no call reads a row, so a turn that reads one belongs to no call.
+pub fn no_call_reads_a_row()
+    ensures { NoCallReadsARow }
+{}
+
+/// States that, when no call of an order is under way, each block is free or under a queued
+/// message, and each row is settled and its queue is live.
+pub fn orders_at_rest()
+    ensures { OrdersAtRest }
+{
+    every_order_is_a_run();
+}
+
+/// States that, after all passes of a service were joined into one, the order of all turns that its
+/// close finds is a run with all calls that its passes made, if each reply in it is legal and no
+/// call found a gate worn out. The one pass that is left has the whole service.
+pub fn every_service_that_came_home_is_a_run()
+    ensures run { EveryServiceIsARun }
+    ensures whole { EveryLastPassIsWhole }
+{
+    every_order_is_a_run();
+    orders_at_rest();
+}
+
+/// States that an order in which the turns of three passes interleave, with a receive that waited
+/// and one that was left, is legal and is a run with the calls that made it. Calls that do not
+/// belong to the order are refused.
+pub fn worked_order()
+    ensures { WorkedOrder }
+{
+    legal_turns();
+    each_answer_is_right();
+    every_order_is_a_run();
+    orders_at_rest();
+}
+
+/// States that the worked order is that of a service of three passes: it is opened, two passes are
+/// split off, calls are made, and all passes come home. Without one of the calls, they do not.
+pub fn worked_crew()
+    ensures { WorkedCrew }
+{
+    worked_order();
+    every_service_that_came_home_is_a_run();
+}
