@@ -321,7 +321,12 @@ opening_counts o = record {
   home = λ k d low. absurd (omega (arith, low));
 }
 
--- The same in a world of which this holds.
+-- A run keeps the counts.
+pub run_counts : StaysSound → (o : Opening) (w : World) (list : List Happening) (given : List Given) →
+    IsSound (opening o) → Leads (opening o) list given w → Counts w
+run_counts sound o w list given s led = leads_counts sound (opening o) w list given s (opening_counts o) led
+
+-- In a world of which this holds, each removal is for good.
 pub good_of : RemovedForGood → (generation : ℕ) (turns : List Turn) (actors : List (Option Doing)) → Counted turns actors → RegistryLaw generation (registry_history turns) → ((slot : ℕ) → IsLegalHistory (slot_history slot turns)) → AreRemovedForGood turns
 good_of for_good generation turns actors c law legal =
     let once : (slot : ℕ) (id : ℤ) → IsInstalledOnce id (slot_history slot turns) = λ slot id.
@@ -332,8 +337,3 @@ good_of for_good generation turns actors c law legal =
       once = once;
       gone = λ slot id before after e same. for_good (slot_history slot turns) id (legal slot) (once slot id) before after e same;
     }
-
-pub removed_for_good : StaysSound → RemovedForGood → (o : Opening) (w : World) (list : List Happening) (given : List Given) → IsSound (opening o) → Leads (opening o) list given w →
-    RegistryLaw o.generation (registry_history w.turns) → ((slot : ℕ) → IsLegalHistory (slot_history slot w.turns)) → AreRemovedForGood w.turns
-removed_for_good sound for_good o w list given s led law legal =
-    good_of for_good o.generation w.turns w.actors (leads_counts sound (opening o) w list given s (opening_counts o) led) law legal

@@ -32,15 +32,18 @@ use Rattle.sysv_steps.specs.AfterRemoval.{EachIsToldOfRemoval}
 use Rattle.sysv_core.specs.World.{World, Opening, Started, Doing, Given, Happening, Preset, Start, Step, opening, doing_in, given_in, StaysWith, starting, begun, Turns, value_of, Looks, Continues, StartsAt, StepsAt, preset_who, preset_begin, preset_install, preset_settle, with_preset_turns, Presets, Makes}
 use Rattle.sysv_core.specs.Run.{Leads}
 use Rattle.sysv_core.specs.AnswerLaw.{endings_of, stands_in, standing_of, ended, standing, Fate, IsOfPreset, IsMade, AsksAsItWasAsked}
-use Rattle.sysv_core.specs.Headline.{Obeys}
+use Rattle.sysv_core.specs.Headline.{IsLawful, Obeys}
 use Rattle.sysv_core.specs.Conserved.{AreConserved}
+use Rattle.sysv_core.specs.Vacant.{AllFindVacant}
+use Rattle.sysv_core.specs.Forgotten.{AllTakeTheirRows}
+use Rattle.sysv_core.specs.Tending.{AreTended}
 use Rattle.sysv_core.specs.Sound.{IsSound, StaysSound}
 use Rattle.sysv_core.proofs.Histories.{turn_of}
 use Rattle.sysv_core.proofs.Sounding.{none_busy, opening_sound}
 use Rattle.sysv_core.proofs.Reserving.{are_short}
 use Rattle.sysv_core.proofs.Waking.{are_to_be_woken}
 use Rattle.sysv_core.proofs.Parking.{parked_rightly}
-use Rattle.sysv_core.proofs.Installing.{removed_for_good}
+use Rattle.sysv_core.proofs.Installing.{Counted, run_counts, good_of}
 use Rattle.sysv_core.proofs.Vacating.{all_find_vacant}
 use Rattle.sysv_core.proofs.Forgetting.{all_take_their_rows}
 use Rattle.sysv_core.proofs.Telling.{told_so}
@@ -302,6 +305,70 @@ right_now w given i right g has =
     is_right right g.call (deeds_of g.call.who w.turns) f.state g.ending f.plays
     (subst (IsAmong g.ending) f.answered (given_is g.call.who given g has (same_itself name.0 name.1 g.call.who name.2)))
 
+-- ---- the laws that need no waits
+
+-- The laws of the objects and of the calls, from which those of a world follow.
+pub record Laws : Type 0 where
+  pub queue : (h : History) → IsLegalHistory h → QueueLaw h
+  pub registry : (generation : ℕ) (h : RegistryHistory) → IsLegalRegistryHistory generation h →
+      RegistryLaw generation h
+  pub pool : (size : ℕ) (h : PoolHistory) → IsLegalPoolHistory size h → PoolLaw size h
+  pub for_good : RemovedForGood
+  pub asked : EachDeedIsAskedFor
+  pub right : EachAnswerIsRight
+  pub one_effect : EachHasOneEffect
+  pub told : EachIsToldOfRemoval
+
+module _ (laws : Laws) (o : Opening) (w : World) (given : List Given) (i : Inv w given)
+    (generation : w.generation ≡ o.generation) (blocks : w.blocks ≡ o.blocks) where
+  registry_lawful : RegistryLaw o.generation (registry_history w.turns)
+  registry_lawful = subst (λ g. RegistryLaw g (registry_history w.turns)) generation
+      (laws.registry w.generation (registry_history w.turns) i.sound.legal.registry)
+
+  deeds_asked : (c : Started) → Contains w.calls c → AsksAsItWasAsked w c
+  deeds_asked c has =
+      let f = i.fates c has in
+      laws.asked c.cred c.asked c.released (deeds_of c.who w.turns) f.state f.plays
+
+  few_effects : (c : Started) → Contains w.calls c → effects (deeds_of c.who w.turns) ≤ 1
+  few_effects c has =
+      let f = i.fates c has in
+      laws.one_effect c.cred c.asked c.released (deeds_of c.who w.turns) f.state f.plays
+
+  -- The laws hold of each turn's owner that is known.
+  pub lawful : (owned : List Started → Turn → Type 0) → All (owned w.calls) w.turns →
+      Counted w.turns w.actors → AreTended w → AllFindVacant w.turns → AllTakeTheirRows w.turns →
+      IsLawful owned o w given
+  lawful owned made counts tended vacant forgets =
+      let slots = i.sound.legal.slots in
+      let good = good_of laws.for_good o.generation w.turns w.actors counts registry_lawful slots in
+      record {
+        queues = λ slot. laws.queue (slot_history slot w.turns) (slots slot);
+        registry = registry_lawful;
+        pool = subst (λ n. PoolLaw n (pool_history w.turns)) blocks
+            (laws.pool w.blocks (pool_history w.turns) i.sound.legal.pool);
+        conserved = subst (λ n. AreConserved n w.turns w.actors) blocks i.sound.blocks;
+        calls = All-weaker (Contains w.calls) (Fate w given) i.fates w.calls (All-contains_itself w.calls);
+        apart = i.apart;
+        made = made;
+        asked = All-weaker (Contains w.calls) (AsksAsItWasAsked w) deeds_asked w.calls
+            (All-contains_itself w.calls);
+        known = i.known;
+        right = All-weaker (Contains given)
+            (λ (g : Given). IsRightAnswer g.call.asked (deeds_of g.call.who w.turns) g.ending)
+            (λ g has. right_now w given i laws.right g has) given (All-contains_itself given);
+        tended = tended;
+        vacant = vacant;
+        forgets = forgets;
+        removed = good;
+        told = λ id before after t call whole removal has q.
+            let f = i.fates call has in
+            told_so w given call f laws.told (deeds_asked call has) good id before after t whole removal q;
+        once = All-weaker (Contains w.calls) (λ (c : Started). effects (deeds_of c.who w.turns) ≤ 1)
+            few_effects w.calls (All-contains_itself w.calls);
+        under_way = i.doing;
+      }
+
 -- ---- what happens
 
 stays : (w after : World) (given one : List Given) → StaysWith w one after → Inv w given → Inv after (given ++ one)
@@ -499,40 +566,32 @@ module _ (sound : StaysSound) where
     doing = λ place d e. absurd (none_busy o.actors place d e);
   }
 
-  pub run_obeys : ((generation blocks : ℕ) → AreLegal generation blocks []) → ((h : History) → IsLegalHistory h → QueueLaw h) →
-      ((generation : ℕ) (h : RegistryHistory) → IsLegalRegistryHistory generation h → RegistryLaw generation h) → ((size : ℕ) (h : PoolHistory) → IsLegalPoolHistory size h → PoolLaw size h) → EachDeedIsAskedFor → EachAnswerIsRight → EachHasOneEffect →
-      NoMatchStays → FullStays → FullStaysForLook → CountsNeverFall → EachWaitsForItsRefusal → EachHoldsWhatItWasAsked → RemovedForGood → EachIsToldOfRemoval →
-      (o : Opening) (list : List Happening) (given : List Given) (w : World) → Leads (opening o) list given w → Obeys o w given
-  run_obeys none law registry_law pool_law asked right one_effect no_match full full_for_look counts refused holds for_good told o list given w led =
-      let opened : Inv (opening o) [] = opens o (none o.generation o.blocks) in
+  -- ---- all laws
+
+  pub run_obeys : ((generation blocks : ℕ) → AreLegal generation blocks []) → Laws → NoMatchStays → FullStays →
+      FullStaysForLook → CountsNeverFall → EachWaitsForItsRefusal → EachHoldsWhatItWasAsked →
+      (o : Opening) (list : List Happening) (given : List Given) (w : World) → Leads (opening o) list given w →
+      Obeys o w given
+  run_obeys none laws no_match full full_for_look counts refused holds o list given w led =
+      let legal = none o.generation o.blocks in
+      let opened : Inv (opening o) [] = opens o legal in
+      let first = opening_sound o legal in
       let i : Inv w given = leads_keeps (opening o) w list [] given opened led in
-      let own : All OwnIfPreset w.turns = leads_own (opening o) w list [] given opened led (λ k d low. absurd (omega (arith, low))) in
-      let same = leads_generation (opening o) w list given led in
-      let of_registry = subst (λ g. RegistryLaw g (registry_history w.turns)) same (registry_law w.generation (registry_history w.turns) i.sound.legal.registry) in
-      let good = removed_for_good sound for_good o w list given (opening_sound o (none o.generation o.blocks)) led of_registry i.sound.legal.slots in
-      let tended = are_tended sound o w list given (opening_sound o (none o.generation o.blocks)) led in
+      let nothing : All OwnIfPreset [] = λ k d low. absurd (omega (arith, low)) in
+      let own : All OwnIfPreset w.turns = leads_own (opening o) w list [] given opened led nothing in
+      let shared = lawful laws o w given i
+          (leads_generation (opening o) w list given led)
+          (leads_blocks (opening o) w list given led)
+          IsMade
+          (λ k d low. made_so w.calls (get_or w.turns k d) (i.made k d low) (own k d low))
+          (run_counts sound o w list given first led)
+          (are_tended sound o w list given first led)
+          (all_find_vacant laws.for_good laws.registry sound o w list given first led)
+          (all_take_their_rows laws.for_good laws.registry sound o w list given first led) in
       record {
-        queues = λ slot. law (slot_history slot w.turns) (i.sound.legal.slots slot);
-        pool = subst (λ n. PoolLaw n (pool_history w.turns)) (leads_blocks (opening o) w list given led) (pool_law w.blocks (pool_history w.turns) i.sound.legal.pool);
-        conserved = subst (λ n. AreConserved n w.turns w.actors) (leads_blocks (opening o) w list given led) i.sound.blocks;
-        registry = of_registry;
-        calls = All-weaker (Contains w.calls) (Fate w given) i.fates w.calls (All-contains_itself w.calls);
-        apart = i.apart;
-        made = λ k d low. made_so w.calls (get_or w.turns k d) (i.made k d low) (own k d low);
-        asked = All-weaker (Contains w.calls) (AsksAsItWasAsked w)
-            (λ c has. let f = i.fates c has in asked c.cred c.asked c.released (deeds_of c.who w.turns) f.state f.plays) w.calls (All-contains_itself w.calls);
-        known = i.known;
-        right = All-weaker (Contains given) (λ (g : Given). IsRightAnswer g.call.asked (deeds_of g.call.who w.turns) g.ending)
-            (λ g has. right_now w given i right g has) given (All-contains_itself given);
-        parked = parked_rightly w i.sound.legal (λ place d there. (stands_there w given i place d there).plays) no_match full full_for_look counts refused holds tended good (settled_once_installed o w list given led) (are_short o w list given led)
-            (are_to_be_woken sound o w list given (opening_sound o (none o.generation o.blocks)) led);
-        removed = good;
-        vacant = all_find_vacant for_good registry_law sound o w list given (opening_sound o (none o.generation o.blocks)) led;
-        forgets = all_take_their_rows for_good registry_law sound o w list given (opening_sound o (none o.generation o.blocks)) led;
-        tended = tended;
-        told = λ id before after t call whole removal has q. let f = i.fates call has in
-            told_so w given call f told (asked call.cred call.asked call.released (deeds_of call.who w.turns) f.state f.plays) good id before after t whole removal q;
-        once = All-weaker (Contains w.calls) (λ (c : Started). effects (deeds_of c.who w.turns) ≤ 1)
-            (λ c has. let f = i.fates c has in one_effect c.cred c.asked c.released (deeds_of c.who w.turns) f.state f.plays) w.calls (All-contains_itself w.calls);
-        under_way = i.doing;
+        lawful = shared;
+        parked = parked_rightly w i.sound.legal (λ place d there. (stands_there w given i place d there).plays)
+            no_match full full_for_look counts refused holds shared.tended shared.removed
+            (settled_once_installed o w list given led) (are_short o w list given led)
+            (are_to_be_woken sound o w list given first led);
       }

@@ -14,7 +14,7 @@
 -- list, with the answers of that run and no others.
 use Rattle.std.specs.Prelude.{◌≡◌, ◌≢◌, ◌⊎◌, ℕ, ◌≤◌, List, [], ◌∷◌, ◌++◌, map, All, AllPairs, Contains}
 use Rattle.sysv_model.specs.declared.limits.TheConstants.{WORN}
-use Rattle.sysv_model.specs.Turn.{slot_history, registry_history, pool_history, deeds_of}
+use Rattle.sysv_model.specs.Turn.{Turn, slot_history, registry_history, pool_history, deeds_of}
 use Rattle.sysv_pool.specs.PoolLaw.{PoolLaw}
 use Rattle.sysv_queue.specs.QueueLaw.{QueueLaw}
 use Rattle.sysv_keys.specs.RegistryLaw.{RegistryLaw}
@@ -35,8 +35,11 @@ use Rattle.sysv_core.specs.LastWords.{AreToldOfRemovals}
 use Rattle.sysv_core.specs.Tending.{AreTended}
 use Rattle.sysv_core.specs.Seen.{Seen, StandsFor, happening_of, TellAll, Gives}
 
--- The laws of a world that was opened in this way, and of the endings on the way to it.
-pub record Obeys (o : Opening) (w : World) (given : List Given) : Type 0 where
+-- The laws of a world that was opened in this way, and of the endings on the way to it, without the
+-- law of waits. Whose a turn may be differs between worlds with presets and worlds with threads, so
+-- it is a parameter: `owned` holds of the turns of these calls, and of those that need no call.
+pub record IsLawful (owned : List Started → Turn → Type 0)
+    (o : Opening) (w : World) (given : List Given) : Type 0 where
   -- The history of each slot obeys the queue law.
   pub queues : (slot : ℕ) → QueueLaw (slot_history slot w.turns)
   -- The history of the registry obeys the registry law: no identifier is made twice.
@@ -51,16 +54,15 @@ pub record Obeys (o : Opening) (w : World) (given : List Given) : Type 0 where
   pub calls : All (Fate w given) w.calls
   -- No two calls have the same name.
   pub apart : AllPairs (λ (c d : Started). c.who ≢ d.who) w.calls
-  -- Each turn is made by one of the calls, or is one of the three turns of a preset.
-  pub made : All (IsMade w.calls) w.turns
+  -- Each turn is owned.
+  pub made : All (owned w.calls) w.turns
   -- Each turn of a call requests what the call's arguments name, also if the call is under way.
   pub asked : All (AsksAsItWasAsked w) w.calls
   -- Each ending belongs to one of the calls.
   pub known : All (λ (g : Given). Contains w.calls g.call) given
   -- Each ending is right for the arguments of its call and for the turns of that call.
-  pub right : All (λ (g : Given). IsRightAnswer g.call.asked (deeds_of g.call.who w.turns) g.ending) given
-  -- Each call that waits below its goal has a reason to.
-  pub parked : AreParkedRightly w
+  pub right : All
+      (λ (g : Given). IsRightAnswer g.call.asked (deeds_of g.call.who w.turns) g.ending) given
   -- A row that is not settled, or whose queue is not live, is to be settled or forgotten by some
   -- actor's call.
   pub tended : AreTended w
@@ -79,9 +81,18 @@ pub record Obeys (o : Opening) (w : World) (given : List Given) : Type 0 where
   -- Each actor that is in a call is in one that it started, and that is one of the calls.
   pub under_way : AreInTheirCalls w
 
+-- All laws of a world that was opened in this way, and of the endings on the way to it.
+pub record Obeys (o : Opening) (w : World) (given : List Given) : Type 0 where
+  -- All laws above hold. Each turn is made by one of the calls, or is one of the three turns of a
+  -- preset.
+  pub lawful : IsLawful IsMade o w given
+  -- Each call that waits below its goal has a reason to.
+  pub parked : AreParkedRightly w
+
 -- Every list of happenings leads from every opening only to worlds that obey the laws.
 abbrev pub EveryRunObeys : Type 0
-EveryRunObeys = (o : Opening) (list : List Happening) (given : List Given) (w : World) → Leads (opening o) list given w → Obeys o w given
+EveryRunObeys = (o : Opening) (list : List Happening) (given : List Given) (w : World) →
+    Leads (opening o) list given w → Obeys o w given
 
 -- For every list for which the world stood, it now stands for that list and a preset.
 abbrev pub StandsWithPreset : Seen → Seen → Type 0
@@ -113,4 +124,5 @@ StandsWithEvents old events answers new = (o : Opening) (list : List Happening) 
 
 -- For every list for which the world stands, the world to which it leads obeys the laws.
 abbrev pub LawsHold : Seen → Type 0
-LawsHold seen = (o : Opening) (list : List Happening) (given : List Given) (s : StandsFor o list given seen) → Obeys o s.world given
+LawsHold seen = (o : Opening) (list : List Happening) (given : List Given)
+    (s : StandsFor o list given seen) → Obeys o s.world given

@@ -1,16 +1,13 @@
 -- Every list of moments leads only to worlds that obey the laws of threads.
 use Rattle.std.proofs.Common.{◌≡◌, ◌≤◌, inl, inr, ℕ, zero, suc, List, [], ◌∷◌, ◌++◌, None, Some, refl, sym, subst, ◌∙◌, arith, append_assoc, slice_get}
-use Rattle.std.specs.List.{All, Contains}
+use Rattle.std.specs.List.{All}
 use Rattle.std.proofs.Math.ListN.{get_or}
 use Rattle.std.proofs.lemmas.List.{append-nil}
-use Rattle.std.proofs.lemmas.List.Elements.{All-weaker, All-push, All-contains_itself}
+use Rattle.std.proofs.lemmas.List.Elements.{All-push}
 use Rattle.sysv_model.specs.declared.cred.Cred.{Cred}
-use Rattle.sysv_model.specs.History.{Who, Actor, ReadRow, History}
+use Rattle.sysv_model.specs.History.{Who, Actor, ReadRow}
 use Rattle.sysv_model.specs.Registry.{RegistryHistory}
-use Rattle.sysv_model.specs.Turn.{Deed, AtSlot, Turn, slot_history, registry_history, pool_history, deeds_of}
-use Rattle.sysv_pool.specs.PoolLaw.{PoolLaw}
-use Rattle.sysv_queue.specs.QueueLaw.{QueueLaw}
-use Rattle.sysv_queue.specs.LegalReply.{IsLegalHistory}
+use Rattle.sysv_model.specs.Turn.{Deed, AtSlot, Turn, registry_history}
 use Rattle.sysv_queue.specs.ForGood.{RemovedForGood}
 use Rattle.sysv_keys.specs.LegalReply.{IsLegalHistory as IsLegalRegistryHistory}
 use Rattle.sysv_keys.specs.RegistryLaw.{RegistryLaw}
@@ -20,25 +17,18 @@ use Rattle.sysv_steps.specs.State.{Phase, Wait, State, Goes, Waits}
 use Rattle.sysv_steps.specs.Begin.{is_refused}
 use Rattle.sysv_steps.specs.Resume.{goal_of, resume}
 use Rattle.sysv_steps.specs.Played.{resumes}
-use Rattle.sysv_steps.specs.AsksFor.{EachDeedIsAskedFor}
-use Rattle.sysv_steps.specs.Answers.{IsRightAnswer, EachAnswerIsRight}
-use Rattle.sysv_steps.specs.Effects.{effects, EachHasOneEffect}
-use Rattle.sysv_steps.specs.AfterRemoval.{EachIsToldOfRemoval}
 use Rattle.sysv_core.specs.Kinds.{kind_of}
 use Rattle.sysv_core.specs.World.{World, Opening, Started, Doing, Given, opening, doing_in, given_in, begun, in_state, with_call, Turns}
-use Rattle.sysv_core.specs.AnswerLaw.{Fate, AsksAsItWasAsked}
-use Rattle.sysv_core.specs.Conserved.{AreConserved}
 use Rattle.sysv_core.specs.Sound.{IsSound, StaysSound}
 use Rattle.sysv_core.proofs.Histories.{turn_of}
 use Rattle.sysv_core.proofs.Conserving.{BlockLaws, stands_conserves, resumed_holds, begun_holds}
 use Rattle.sysv_core.proofs.Following.{later_of, blocks_later, begun_later, resumed_later}
 use Rattle.sysv_core.proofs.Sounding.{own_still, later_installs, turn_sound, look_sound}
-use Rattle.sysv_core.proofs.Installing.{stand_counts, continues_counts, not_held, good_of}
+use Rattle.sysv_core.proofs.Installing.{stand_counts, continues_counts, not_held}
 use Rattle.sysv_core.proofs.Tending.{Tends, idle_move, turns_tend, waiting_state, each_row}
 use Rattle.sysv_core.proofs.Vacating.{IsKept, opening_kept, continues_holds, stand_fits, resumed_fits, begun_fits}
 use Rattle.sysv_core.proofs.Forgetting.{Owed, owed_idle, owed_spared, owed_turn, opening_owed, begun_none, resumed_none}
-use Rattle.sysv_core.proofs.Telling.{told_so}
-use Rattle.sysv_core.proofs.Obeying.{HasName, Inv, stands_there, goes_on, starts, turns_keep, opens, right_now}
+use Rattle.sysv_core.proofs.Obeying.{HasName, Inv, Laws, stands_there, goes_on, starts, turns_keep, opens, lawful}
 use Rattle.sysv_thread_laws.specs.FreeRun.{nobody, starting_with, Moment, Starts, TakesTurn, Wakes, Reads, StartsCall, TakesItsTurn, WakesUp, ReadsRow, Brings, LeadsOnThreads}
 use Rattle.sysv_thread_laws.specs.OnThreads.{IsRowRead, IsMadeOrRead, ObeysOnThreads}
 use Rattle.sysv_thread_laws.proofs.Reading.{row_counts, row_tends, row_facts, row_fits, row_keeps}
@@ -226,35 +216,13 @@ module _ (sound : StaysSound) (more : (generation blocks : ℕ) (turns : List Tu
 
   -- ---- the laws
 
-  pub run_obeys : ((generation blocks : ℕ) → AreLegal generation blocks []) → ((h : History) → IsLegalHistory h → QueueLaw h) → EachDeedIsAskedFor → EachAnswerIsRight → EachHasOneEffect → EachIsToldOfRemoval →
-      (o : Opening) (list : List Moment) (given : List Given) (w : World) → LeadsOnThreads (opening o) list given w → ObeysOnThreads o w given
-  run_obeys none law asked right one_effect told o list given w led =
-      let h : IsHeld w given = leads_held (opening o) w list [] given (opening_held o (none o.generation o.blocks)) led in
-      let i : Inv w given = h.inv in
+  pub run_obeys : ((generation blocks : ℕ) → AreLegal generation blocks []) → Laws →
+      (o : Opening) (list : List Moment) (given : List Given) (w : World) → LeadsOnThreads (opening o) list given w →
+      ObeysOnThreads o w given
+  run_obeys none laws o list given w led =
+      let first = opening_held o (none o.generation o.blocks) in
+      let h : IsHeld w given = leads_held (opening o) w list [] given first led in
       let opened = leads_opened (opening o) w list given led in
-      let of_registry = subst (λ g. RegistryLaw g (registry_history w.turns)) opened.0 (registry_law w.generation (registry_history w.turns) i.sound.legal.registry) in
-      let good = good_of for_good o.generation w.turns w.actors h.kept.counts of_registry i.sound.legal.slots in
-      record {
-        queues = λ slot. law (slot_history slot w.turns) (i.sound.legal.slots slot);
-        registry = of_registry;
-        pool = subst (λ n. PoolLaw n (pool_history w.turns)) opened.1 (b.law w.blocks (pool_history w.turns) i.sound.legal.pool);
-        conserved = subst (λ n. AreConserved n w.turns w.actors) opened.1 i.sound.blocks;
-        calls = All-weaker (Contains w.calls) (Fate w given) i.fates w.calls (All-contains_itself w.calls);
-        apart = i.apart;
-        made = λ k d low. made_so w.calls (get_or w.turns k d) (i.made k d low) (h.reads k d low);
-        asked = All-weaker (Contains w.calls) (AsksAsItWasAsked w)
-            (λ c has. let f = i.fates c has in asked c.cred c.asked c.released (deeds_of c.who w.turns) f.state f.plays) w.calls (All-contains_itself w.calls);
-        known = i.known;
-        right = All-weaker (Contains given) (λ (g : Given). IsRightAnswer g.call.asked (deeds_of g.call.who w.turns) g.ending)
-            (λ g has. right_now w given i right g has) given (All-contains_itself given);
-        tended = each_row w h.tends;
-        vacant = h.kept.facts.vacant;
-        forgets = h.owed.taken;
-        removed = good;
-        told = λ id before after t call whole removal has q.
-            let f = i.fates call has in
-            told_so w given call f told (asked call.cred call.asked call.released (deeds_of call.who w.turns) f.state f.plays) good id before after t whole removal q;
-        once = All-weaker (Contains w.calls) (λ (c : Started). effects (deeds_of c.who w.turns) ≤ 1)
-            (λ c has. let f = i.fates c has in one_effect c.cred c.asked c.released (deeds_of c.who w.turns) f.state f.plays) w.calls (All-contains_itself w.calls);
-        under_way = i.doing;
-      }
+      lawful laws o w given h.inv opened.0 opened.1 IsMadeOrRead
+      (λ k d low. made_so w.calls (get_or w.turns k d) (h.inv.made k d low) (h.reads k d low))
+      h.kept.counts (each_row w h.tends) h.kept.facts.vacant h.owed.taken

@@ -21,6 +21,7 @@ pub use Rattle.sysv_core.specs.Vacant
 pub use Rattle.sysv_core.specs.Forgotten
 pub use Rattle.sysv_core.specs.Removed
 pub use Rattle.sysv_core.specs.LastWords
+pub use Rattle.sysv_core.specs.Headline
 pub mod FreeRun
 pub mod OnThreads
 pub mod RunIsFree
