@@ -70,10 +70,7 @@ pub(crate) const fn closed(waiting: u64, free: u32) -> Closed {
 pub(crate) fn empty_body(rt: &impl Abort, alloc: Global) -> Body
     ensures { result ≡ [] }
 {
-    match tests_kit::open_body(alloc) {
-        Some(body) => body,
-        None => panic!(rt; "a second try"),
-    }
+    tests_kit::open_body(rt, alloc)
 }
 
 /// Returns a body with these bytes.
