@@ -1,5 +1,5 @@
-//! Tests of the steps of each call, of a world of queues and actors, and of the script language
-//! from its words to whole scripts.
+//! Tests of a world of queues and actors, and of the script language from its words to whole
+//! scripts.
 #![tactic(auto)]
 
 #[cfg(test)]
@@ -9,13 +9,9 @@ mod growths;
 #[cfg(test)]
 mod lines;
 #[cfg(test)]
-mod parts;
-#[cfg(test)]
 mod script;
 #[cfg(test)]
 mod stage;
-#[cfg(test)]
-mod steps;
 #[cfg(test)]
 mod streams;
 #[cfg(test)]

@@ -1,25 +1,10 @@
-//! Each call that allocates, with a growth of it refused: the call then returns `NoMemory`. The
-//! growths of clients are tested with the other tests of clients.
+//! Each call that allocates, with a growth of it refused: the call then returns `NoMemory`.
 
-use crate::parts::assert_is;
 use sysv_keys::{Begun, Registry, RegistryRefused};
-use sysv_model::{BODY_ROOM, Body, NoMemory};
+use sysv_model::NoMemory;
 use sysv_pool::{Pool, PoolRefused};
 use sysv_queue::{Look, QueueSlot};
-use tests_kit::{USER, creating, mark};
-
-#[test]
-fn body_open(rt: HostRuntime) {
-    let text = [b'x'; BODY_ROOM];
-    let _marked = mark(rt.alloc());
-    match Body::open(rt.alloc()) {
-        Ok(mut body) => {
-            assert!(rt; body.push_piece(&text));
-            assert_is(&rt, body.len(), BODY_ROOM);
-        }
-        Err(why) => assert_is(&rt, why, NoMemory),
-    }
-}
+use tests_kit::{USER, assert_is, creating, mark};
 
 #[test]
 fn registry_open(rt: HostRuntime) {

@@ -1,15 +1,8 @@
 //! Helpers of all of these tests.
-use std::fmt::Debug;
-use std::process::Abort;
 use std::time::Clock;
 
 /// The number of turns, of items or of counts at which an object is worn out.
 pub(crate) const LIMIT: u64 = 1 << 62;
-
-/// Asserts that the found value is the wanted value.
-pub(crate) fn assert_is<T: PartialEq + Debug + Drop>(rt: &impl Abort, found: T, wanted: T) {
-    assert_eq!(rt; found, wanted);
-}
 
 /// The time on the clock that never goes back, in milliseconds.
 pub(crate) fn millis(rt: &impl Clock) -> Option<u64> {

@@ -37,7 +37,7 @@ impl Shelf {
             Ok(registry) => registry,
             Err(_) => Registry::open(alloc).ok().expect(rt, "a second try"),
         };
-        let pool = open_pool(alloc, 128).expect(rt, "a second try");
+        let pool = open_pool(rt, alloc, 128);
         let slot = match QueueSlot::open(alloc) {
             Ok(slot) => slot,
             Err(_) => QueueSlot::open(alloc).ok().expect(rt, "a second try"),

@@ -1,5 +1,5 @@
-use Rattle.tests_objects.proofs.Counts.{rises}
-use Rattle.tests_objects.proofs.objects.turn.Goals as goal
+use Rattle.tests_steps.proofs.Counts.{rises}
+use Rattle.tests_steps.proofs.objects.turn.Goals as goal
 
 pub returns-clause-counts : goal.returns-clause-counts
 returns-clause-counts c = rises c.args.raised c.args.objects.now c.make.new.self c.args.call c.make.result c.make.ensures.turn c.requires.low

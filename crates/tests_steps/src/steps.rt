@@ -6,7 +6,6 @@ ghost use Rattle.sysv_driver.specs.Kinds.{Gets, Receives, Removes, Sends, Sets};
 ghost use Rattle.sysv_objects.specs.Objects.{CountsUpTo};
 
 use crate::objects::{end, objects_at, turn};
-use crate::parts::{assert_holds, assert_is, open_body};
 use std::alloc::Global;
 use std::process::Abort;
 use sysv_driver::{Clock, get_step, receive_step, remove_step, send_step, set_step, stat_step};
@@ -15,7 +14,7 @@ use sysv_objects::{ObjectCall, ObjectReply, Objects, Turns};
 use sysv_pool::Chain;
 use sysv_queue::Tally;
 use sysv_steps::{Ending, Getting, Phase, Receiving, Sending, State};
-use tests_kit::{USER, creating};
+use tests_kit::{USER, assert_holds, assert_is, creating, open_body};
 
 pub(crate) const SEND: Sending = Sending {
     cred: USER,

@@ -3,7 +3,6 @@
 ghost use Rattle.std.specs.Prelude.{◌≡◌};
 ghost use Rattle.sysv_model.specs.Pool.{blocks_for};
 
-use crate::parts::{assert_is, open_body, open_pool};
 use bitflags::Flags as _;
 use std::alloc::Global;
 use std::process::Abort;
@@ -15,7 +14,7 @@ use sysv_steps::{
     Afterwards, Ending, Getting, Phase, Receiving, Sending, State, Wait, begin_remove, begin_set,
     begin_stat, forgotten, given_back, removed, set_done, stat_told,
 };
-use tests_kit::USER;
+use tests_kit::{USER, assert_is, open_body, open_pool};
 
 /// Returns a send before its look, which has found the queue live before or not.
 fn sending(live_seen: bool) -> Sending {
@@ -294,7 +293,7 @@ fn a_queue_is_changed(rt: HostRuntime) {
     assert!(rt; show(begin_set(USER, -1, to)) == Shown::Refused(Errno::EINVAL));
     assert!(rt; show(set_done(Ok(()))) == Shown::SetGiveback);
     assert!(rt; show(set_done(Err(Errno::EPERM))) == Shown::Refused(Errno::EPERM));
-    let mut pool = open_pool(&rt, rt.alloc());
+    let mut pool = open_pool(&rt, rt.alloc(), 128);
     assert!(rt; release(&rt, &mut pool, set_done(Ok(()))) == Shown::Zero);
     assert_is(&rt, pool.free(), 128);
     pool.end();
@@ -313,7 +312,7 @@ fn a_removal_begins(rt: HostRuntime) {
 
 #[test]
 fn a_removal_gives_back_what_it_discarded(rt: HostRuntime) {
-    let mut pool = open_pool(&rt, rt.alloc());
+    let mut pool = open_pool(&rt, rt.alloc(), 128);
     let mut slot = open_queue(&rt, rt.alloc());
     send_text(&rt, &mut slot, &mut pool, rt.alloc());
     let (arrived, freed) = slot.counts();
@@ -380,7 +379,7 @@ fn a_send_waits_for_room(rt: HostRuntime) {
     };
     let full = Look::Full { freed: 3 };
     assert!(rt; show(waiting(false).looked(full)) == Shown::Waits(wait));
-    let mut pool = open_pool(&rt, rt.alloc());
+    let mut pool = open_pool(&rt, rt.alloc(), 128);
     let chain = three_blocks(&rt, &mut pool);
     let refused = waiting(true).unplaced(Unplaced::Full { freed: 3 }, chain);
     assert!(rt; release(&rt, &mut pool, refused) == Shown::Waits(wait));
@@ -400,7 +399,7 @@ fn a_send_waits_for_blocks(rt: HostRuntime) {
     };
     assert!(rt; show(waiting.reserved(None)) == Shown::Waits(wait));
     assert!(rt; show(sending(true).reserved(None)) == Shown::Refused(Errno::EAGAIN));
-    let mut pool = open_pool(&rt, rt.alloc());
+    let mut pool = open_pool(&rt, rt.alloc(), 128);
     let chain = three_blocks(&rt, &mut pool);
     let place = Shown::Place {
         send: waiting,
@@ -453,7 +452,7 @@ fn a_send_is_refused_at_its_place(rt: HostRuntime) {
         (Unplaced::Denied, Errno::EACCES),
         (Unplaced::Full { freed: 3 }, Errno::EAGAIN),
     ];
-    let mut pool = open_pool(&rt, rt.alloc());
+    let mut pool = open_pool(&rt, rt.alloc(), 128);
     for (why, errno) in table {
         let chain = three_blocks(&rt, &mut pool);
         let refused = sending(true).unplaced(why, chain);
@@ -488,7 +487,7 @@ fn a_receive_begins(rt: HostRuntime) {
 
 #[test]
 fn a_receive_gives_back_what_it_took(rt: HostRuntime) {
-    let mut pool = open_pool(&rt, rt.alloc());
+    let mut pool = open_pool(&rt, rt.alloc(), 128);
     let mut slot = open_queue(&rt, rt.alloc());
     send_text(&rt, &mut slot, &mut pool, rt.alloc());
     let mut out = open_body(&rt, rt.alloc());

@@ -1,0 +1,15 @@
+//! Tests of the words of all calls, of the rules, of watched streams, of frames and of clients.
+#![tactic(auto)]
+
+#[cfg(test)]
+mod clients;
+#[cfg(test)]
+mod examples;
+#[cfg(test)]
+mod model;
+#[cfg(test)]
+mod rules;
+#[cfg(test)]
+mod watched;
+#[cfg(test)]
+mod wire;

@@ -1,0 +1,12 @@
+//! Tests of the steps of calls: the rows of the step table, and the steps at objects and at worn
+//! gates. With them tests of all objects together.
+#![tactic(auto)]
+
+#[cfg(test)]
+mod objects;
+#[cfg(test)]
+mod rows;
+#[cfg(test)]
+mod steps;
+#[cfg(test)]
+mod worn_gates;
