@@ -17,9 +17,9 @@ use crate::service::Service;
 use std::mem;
 use std::sync::Wait as MayWait;
 use sysv_gate::Awaited;
-use sysv_shared::SharedCount;
 use sysv_model::Errno;
 use sysv_pool::Chain;
+use sysv_shared::SharedCount;
 use sysv_steps::{Ending, State, Wait};
 
 /// Returns the end of a call whose turn was due at a worn gate.

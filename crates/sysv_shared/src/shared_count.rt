@@ -30,7 +30,8 @@ impl SharedCount {
         match self {
             SharedCount::Settled => REGISTRY,
             SharedCount::Released => POOL,
-            SharedCount::Arrived { id } | SharedCount::Freed { id } => slot_of_id(id) + FIRST_SLOT,
+            SharedCount::Arrived { id } => slot_of_id(id) + FIRST_SLOT,
+            SharedCount::Freed { id } => slot_of_id(id) + FIRST_SLOT,
         }
     }
 

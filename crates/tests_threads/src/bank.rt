@@ -40,12 +40,18 @@ fn each_place_has_its_own_turns(rt: HostRuntime) -> Result<(), Fail> {
     bank.wake(&rt, 1);
     assert_is(
         &rt,
-        (bank.count(0, &mut seat, Count::Arrived), bank.count(0, &mut seat, Count::Freed)),
+        (
+            bank.count(0, &mut seat, Count::Arrived),
+            bank.count(0, &mut seat, Count::Freed),
+        ),
         (0, 0),
     );
     assert_is(
         &rt,
-        (bank.count(1, &mut seat, Count::Arrived), bank.count(1, &mut seat, Count::Freed)),
+        (
+            bank.count(1, &mut seat, Count::Arrived),
+            bank.count(1, &mut seat, Count::Freed),
+        ),
         (1, 1),
     );
     assert_is(
@@ -78,13 +84,21 @@ fn a_bounded_wait_at_a_place_comes_back(rt: HostRuntime) -> Result<(), Fail> {
         bank.await_within(&rt, 1, &mut seat, Count::Arrived, 1),
         Some(Awaited::Reached(1)),
     );
-    assert_is(&rt, bank.await_within(&rt, 2, &mut seat, Count::Arrived, 1), None);
+    assert_is(
+        &rt,
+        bank.await_within(&rt, 2, &mut seat, Count::Arrived, 1),
+        None,
+    );
     assert_is(
         &rt,
         bank.await_within(&rt, 2, &mut seat, Count::Freed, 1),
         Some(Awaited::Reached(1)),
     );
-    assert_is(&rt, bank.await_within(&rt, 1, &mut seat, Count::Freed, 1), None);
+    assert_is(
+        &rt,
+        bank.await_within(&rt, 1, &mut seat, Count::Freed, 1),
+        None,
+    );
     assert_is(&rt, turns_of(bank.close(seat)), 2);
     Ok(())
 }
@@ -108,7 +122,12 @@ fn a_worn_place_serves_nothing(rt: HostRuntime) -> Result<(), Fail> {
     assert!(rt; matches!(&bank.call(&rt, 2, &mut seat, 5), Ok(30)));
     assert!(rt; matches!(&bank.call(&rt, 2, &mut seat, 5), Err(worn) if worn.call == 5));
     assert!(rt; matches!(&bank.try_call(2, &mut seat, 6), Err(TryRefused::Worn(6))));
-    assert!(rt; matches!(&bank.await_count(&rt, 2, &mut seat, Count::Freed, 1), Awaited::Worn));
+    assert!(rt;
+        matches!(
+            &bank.await_count(&rt, 2, &mut seat, Count::Freed, 1),
+            Awaited::Worn
+        )
+    );
     assert!(rt; matches!(&bank.try_call(1, &mut seat, 6), Ok(20)));
     assert_is(&rt, turns_of(bank.close(seat)), 2);
     Ok(())
