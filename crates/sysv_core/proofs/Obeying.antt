@@ -580,14 +580,14 @@ module _ (sound : StaysSound) where
       let nothing : All OwnIfPreset [] = λ k d low. absurd (omega (arith, low)) in
       let own : All OwnIfPreset w.turns = leads_own (opening o) w list [] given opened led nothing in
       let shared = lawful laws o w given i
-          (leads_generation (opening o) w list given led)
-          (leads_blocks (opening o) w list given led)
-          IsMade
-          (λ k d low. made_so w.calls (get_or w.turns k d) (i.made k d low) (own k d low))
-          (run_counts sound o w list given first led)
-          (are_tended sound o w list given first led)
-          (all_find_vacant laws.for_good laws.registry sound o w list given first led)
-          (all_take_their_rows laws.for_good laws.registry sound o w list given first led) in
+      (leads_generation (opening o) w list given led)
+      (leads_blocks (opening o) w list given led)
+      IsMade
+      (λ k d low. made_so w.calls (get_or w.turns k d) (i.made k d low) (own k d low))
+      (run_counts sound o w list given first led)
+      (are_tended sound o w list given first led)
+      (all_find_vacant laws.for_good laws.registry sound o w list given first led)
+      (all_take_their_rows laws.for_good laws.registry sound o w list given first led) in
       record {
         lawful = shared;
         parked = parked_rightly w i.sound.legal (λ place d there. (stands_there w given i place d there).plays)
