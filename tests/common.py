@@ -209,10 +209,12 @@ class Trial:
         self.report = report
         self.started = []
 
-    def serve(self, *words, **how):
-        """A server at the path."""
+    def serve(self, *words, listens=True, **how):
+        """A server at the path, which listens, or need not."""
         server = Server(self.program, self.path, *words, **how)
         self.started.append(server.process)
+        if listens and not server.listening.startswith("sysvmsg: serving "):
+            raise RuntimeError("the server does not listen: " + server.listening)
         return server
 
     def session(self, **whose):
