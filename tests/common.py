@@ -1,5 +1,5 @@
 """What the Python scripts of this folder share: the program that is tried, connections to a server, and the lines that
-say how it went. The program is $SYSVMSG; without it, the one that `./run` proves and builds."""
+say how it went. The program is $SYSVMSG; without it, the one that tools/prove builds."""
 import ctypes
 import os
 import signal
@@ -28,8 +28,8 @@ def built_program():
     given = os.environ.get("SYSVMSG")
     if given:
         return given
-    subprocess.run([os.path.join(TOP, "run"), "script"], stdin=subprocess.DEVNULL, check=True)
-    return os.path.join(TOP, "crates/sysvmsg/out/sysvmsg")
+    prove = os.path.join(TOP, "tools/prove")
+    return subprocess.run([prove], stdin=subprocess.DEVNULL, stdout=subprocess.PIPE, check=True, text=True).stdout.strip()
 
 
 def is_checked(program):
