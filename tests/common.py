@@ -1,10 +1,15 @@
 """What the Python scripts of this folder share: the program that is tried, connections to a server, and the lines that
-say how it went. The program is $SYSVMSG; without it, the one that `./run` proves and builds."""
+say how it went. The program is $SYSVMSG; without it, the one that tools/prove builds."""
+import ctypes
 import os
+import signal
 import socket
 import struct
 import subprocess
+import sys
+import tempfile
 import time
+import traceback
 
 TOP = os.path.dirname(os.path.dirname(os.path.abspath(__file__)))
 ERRORS = {
@@ -14,6 +19,8 @@ ERRORS = {
 CREAT, EXCL, NOWAIT, NOERROR, EXCEPT = 512, 1024, 2048, 4096, 8192
 HELLO, GET, SND, RCV, STAT, SET, RM, ROW = range(8)
 SLOTS = 256
+LIBC = ctypes.CDLL(None)
+PR_SET_PDEATHSIG = 1
 
 
 def built_program():
@@ -21,8 +28,33 @@ def built_program():
     given = os.environ.get("SYSVMSG")
     if given:
         return given
-    subprocess.run([os.path.join(TOP, "run"), "script"], stdin=subprocess.DEVNULL, check=True)
-    return os.path.join(TOP, "crates/sysvmsg/out/sysvmsg")
+    prove = os.path.join(TOP, "tools/prove")
+    return subprocess.run([prove], stdin=subprocess.DEVNULL, stdout=subprocess.PIPE, check=True, text=True).stdout.strip()
+
+
+def is_checked(program):
+    """Whether the program is one that `rt try` built: its allocator checks each use and keeps freed memory."""
+    with open(program, "rb") as file:
+        return b"__asan_init" in file.read()
+
+
+def end_with_parent():
+    """Has the system kill this process, which another one starts, when the thread that starts it ends."""
+    LIBC.prctl(PR_SET_PDEATHSIG, signal.SIGKILL)
+
+
+def start(words, **how):
+    """Starts a process, which ends with this one at the latest."""
+    return subprocess.Popen(list(map(str, words)), **{"preexec_fn": end_with_parent, **how})
+
+
+def finished(process, seconds=60):
+    """What a process prints and its status, once it ends. After that many seconds it is killed, and the status says so."""
+    try:
+        return process.communicate(timeout=seconds)[0].decode(), process.returncode
+    except subprocess.TimeoutExpired:
+        process.kill()
+        return process.communicate()[0].decode(), "none after %d seconds" % seconds
 
 
 def frame(operation, fields, version=2):
@@ -97,9 +129,13 @@ class Server:
 
     def __init__(self, program, path, *words, **how):
         self.path = path
-        words = [program, "serve", path, *map(str, words)]
-        self.process = subprocess.Popen(words, stdout=subprocess.PIPE, stderr=subprocess.PIPE, **how)
-        self.listening = self.process.stderr.readline().decode()
+        words = [program, "serve", path, *words]
+        self.process = start(words, stdout=subprocess.PIPE, stderr=subprocess.PIPE, **how)
+        try:
+            self.listening = self.process.stderr.readline().decode()
+        except BaseException:
+            self.process.kill()
+            raise
 
     def is_asleep(self):
         """Whether all its threads sleep: what was asked of it is answered, or waits. A thread that ends meanwhile is awake."""
@@ -113,10 +149,9 @@ class Server:
             return False
         return True
 
-    def ended(self):
+    def ended(self, seconds=60):
         """What it printed and its status, once it ends by itself."""
-        printed = self.process.communicate(timeout=60)[0].decode()
-        return printed, self.process.returncode
+        return finished(self.process, seconds)
 
     def __enter__(self):
         return self
@@ -134,12 +169,21 @@ class Report:
     def __init__(self):
         self.failed = False
 
+    def ok(self, name):
+        print("ok " + name, flush=True)
+
+    def fail(self, name, why):
+        self.failed = True
+        print("FAILED %s: %s" % (name, why), flush=True)
+
+    def skip(self, name, why):
+        print("skipped %s: %s" % (name, why), flush=True)
+
     def same(self, name, wanted, got):
         if wanted == got:
-            print("ok " + name, flush=True)
+            self.ok(name)
         else:
-            self.failed = True
-            print("FAILED %s: wanted %.400r, got %.400r" % (name, wanted, got), flush=True)
+            self.fail(name, "wanted %.400r, got %.400r" % (wanted, got))
 
     def status(self):
         return 1 if self.failed else 0
@@ -153,3 +197,101 @@ def becomes(wanted, look, seconds=20):
             return True
         time.sleep(0.02)
     return False
+
+
+class Trial:
+    """What one trial has of its own: a folder, the path of a socket in it, and the processes that it starts."""
+
+    def __init__(self, program, folder, report):
+        self.program = program
+        self.folder = folder
+        self.path = os.path.join(folder, "q")
+        self.report = report
+        self.started = []
+
+    def serve(self, *words, listens=True, **how):
+        """A server at the path, which listens, or need not."""
+        server = Server(self.program, self.path, *words, **how)
+        self.started.append(server.process)
+        if listens and not server.listening.startswith("sysvmsg: serving "):
+            raise RuntimeError("the server does not listen: " + server.listening)
+        return server
+
+    def session(self, **whose):
+        """A connection to the server at the path."""
+        return Session(self.path, **whose)
+
+    def start(self, *words):
+        """Starts the program, whose results can be read."""
+        process = start([self.program, *words], stdin=subprocess.DEVNULL, stdout=subprocess.PIPE, stderr=subprocess.DEVNULL)
+        self.started.append(process)
+        return process
+
+    def said(self, *words, seconds=60):
+        """What the program prints, and its status."""
+        return finished(self.start(*words), seconds)
+
+    def same(self, name, wanted, got):
+        """Prints a line of its own for a part of the trial."""
+        self.report.same(name, wanted, got)
+
+    def end(self):
+        """Ends all that was started."""
+        for process in self.started:
+            process.kill()
+        for process in self.started:
+            process.wait()
+
+
+TRIALS = []
+
+
+def trial(name=None):
+    """A trial of the script: a function of a `Trial`. It fails by an exception, mostly of an `assert`. With a name it prints
+    one line, of that name; without one it prints a line for each of its parts."""
+    def keep(function):
+        TRIALS.append((name, function))
+        return function
+    return keep
+
+
+def why(error):
+    """Where in the script a trial failed, and how."""
+    places = [place for place in traceback.extract_tb(error.__traceback__) if place.filename != __file__]
+    own = [place for place in places if os.path.abspath(place.filename).startswith(TOP)]
+    place = (own or places)[-1]
+    how = type(error).__name__ + ": " * bool(str(error)) + str(error)
+    return "line %d: %s: %s" % (place.lineno, place.line, " ".join(how.split()))
+
+
+def run_trial(name, function, trial, seconds):
+    """Runs a trial. If it lasts longer than that many seconds, its processes are ended, and it has failed."""
+    def too_long(*_):
+        trial.end()
+        raise TimeoutError("it lasted more than %d seconds" % seconds)
+
+    signal.signal(signal.SIGALRM, too_long)
+    signal.alarm(seconds)
+    try:
+        function(trial)
+        if name:
+            trial.report.ok(name)
+    except Exception as error:
+        trial.report.fail(name or function.__name__.replace("_", " "), why(error))
+    finally:
+        signal.alarm(0)
+        trial.end()
+
+
+def run_trials(seconds=150):
+    """Runs the script's trials one after another: those whose names have the words of the command line in them, all if
+    there are none. Returns the status with which the script ends. Whatever ends it, it leaves no process and no folder."""
+    for number in signal.SIGTERM, signal.SIGHUP:
+        signal.signal(number, lambda *_: sys.exit(1))
+    program, report = os.path.realpath(built_program()), Report()
+    for name, function in TRIALS:
+        if all(word in (name or function.__name__) for word in sys.argv[1:]):
+            with tempfile.TemporaryDirectory() as folder:
+                os.chmod(folder, 0o755)
+                run_trial(name, function, Trial(program, folder, report), seconds)
+    return report.status()

@@ -1,12 +1,9 @@
 # shellcheck shell=bash disable=SC2034
 # What the scripts of this folder share: the program that is tried, a folder to work in, and the lines that say how it went.
-# The program is $SYSVMSG; without it, the one that `./run` proves and builds.
+# The program is $SYSVMSG; without it, the one that tools/prove builds.
 top=$(cd "$(dirname "$0")/.." && pwd)
-if [ -z "$SYSVMSG" ]; then
-    "$top/run" script </dev/null || exit 1
-    SYSVMSG=$top/crates/sysvmsg/out/sysvmsg
-fi
-program=$SYSVMSG
+program=${SYSVMSG:-$("$top/tools/prove" </dev/null)}
+[ -n "$program" ] || exit 1
 work=$(mktemp -d)
 chmod 755 "$work"
 failed=0
