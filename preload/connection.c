@@ -210,30 +210,56 @@ static void abandon(void *connection)
         in_call = 0;
 }
 
+/* Takes bytes off the front of two pieces. */
+static void skip(struct iovec pieces[2], size_t count)
+{
+    for (int i = 0; i < 2; i++) {
+        size_t here = count < pieces[i].iov_len ? count : pieces[i].iov_len;
+        pieces[i].iov_base = (char *)pieces[i].iov_base + here;
+        pieces[i].iov_len -= here;
+        count -= here;
+    }
+}
+
+/* Most frames are in one piece, and then these two cost less without a list of pieces. */
+static ssize_t send_pieces(int fd, struct iovec pieces[2])
+{
+    if (pieces[1].iov_len == 0)
+        return send(fd, pieces[0].iov_base, pieces[0].iov_len, MSG_NOSIGNAL);
+    return sendmsg(fd, &(struct msghdr){.msg_iov = pieces, .msg_iovlen = 2}, MSG_NOSIGNAL);
+}
+
+static ssize_t receive_pieces(int fd, struct iovec pieces[2], int flags)
+{
+    if (pieces[1].iov_len == 0)
+        return recv(fd, pieces[0].iov_base, pieces[0].iov_len, flags);
+    return recvmsg(fd, &(struct msghdr){.msg_iov = pieces, .msg_iovlen = 2}, flags);
+}
+
 /* Waits for the beginning of a reply, and returns what recv returns. If `by_signals`, a handled
  * signal ends the wait. That takes a poll, which every handled signal ends: recv is restarted if
  * the handler has SA_RESTART. */
-static ssize_t await_bytes(int fd, struct frame *reply, bool by_signals)
+static ssize_t await_bytes(int fd, struct iovec pieces[2], bool by_signals)
 {
     ssize_t got;
     if (by_signals && poll(&(struct pollfd){.fd = fd, .events = POLLIN}, 1, -1) < 0) {
-        got = recv(fd, reply->bytes, reply->room, MSG_DONTWAIT);
-        if (got < 0)
+        got = receive_pieces(fd, pieces, MSG_DONTWAIT);
+        if (got < 0 && errno != EFAULT)
             errno = EINTR;
         return got;
     }
     do
-        got = recv(fd, reply->bytes, reply->room, 0);
+        got = receive_pieces(fd, pieces, 0);
     while (got < 0 && errno == EINTR);
     return got;
 }
 
-static ssize_t await_cancellable(struct connection *connection, struct frame *reply)
+static ssize_t await_cancellable(struct connection *connection, struct iovec pieces[2])
 {
     ssize_t got;
     pthread_cleanup_push(abandon, connection);
     pthread_setcancelstate(PTHREAD_CANCEL_ENABLE, NULL);
-    got = await_bytes(connection->fd, reply, ends_by_signals);
+    got = await_bytes(connection->fd, pieces, ends_by_signals);
     pthread_setcancelstate(PTHREAD_CANCEL_DISABLE, NULL);
     pthread_cleanup_pop(0);
     return got;
@@ -246,77 +272,112 @@ static long milliseconds(void)
     return now.tv_sec * 1000L + now.tv_nsec / 1000000L;
 }
 
-/* Waits for more of a reply. Returns what recv returns, or -1 if nothing came until `deadline`. */
-static ssize_t await_rest(int fd, void *bytes, size_t room, long deadline)
+/* Waits for more of a reply. Returns what recv returns, or 0 if nothing came until `deadline`. */
+static ssize_t await_rest(int fd, struct iovec pieces[2], long deadline)
 {
     for (;;) {
         long left = deadline - milliseconds();
         int ready =
             left <= 0 ? 0 : poll(&(struct pollfd){.fd = fd, .events = POLLIN}, 1, (int)left);
         if (ready == 0)
-            return -1;
+            return 0;
         if (ready > 0)
-            return recv(fd, bytes, room, MSG_DONTWAIT);
+            return receive_pieces(fd, pieces, MSG_DONTWAIT);
         if (errno != EINTR)
             return -1;
     }
 }
 
-/* Returns the length of a frame of which the first `got` bytes have arrived. While that is unknown
- * it is `got + 1`. */
-static size_t wanted(const struct frame *frame, size_t got)
+/* Whether a reply goes on after the bytes that have arrived, within the room that is left. */
+static bool goes_on(const struct frame *frame, const struct iovec pieces[2])
 {
-    return got < LENGTH_BYTES ? got + 1 : frame_length(frame->bytes);
+    if (frame->length < LENGTH_BYTES)
+        return true;
+    size_t whole = frame_length(frame->bytes), room = pieces[0].iov_len + pieces[1].iov_len;
+    return whole > frame->length && whole - frame->length <= room;
 }
 
-/* Reads the rest of a reply. Returns whether exactly one frame arrived. */
-static bool read_rest(int fd, struct frame *frame)
+/* Waits for the beginning of a reply as its call may wait. */
+static ssize_t await_reply(
+    struct connection *connection, struct iovec pieces[2], const struct call *call)
 {
-    long deadline =
-        frame->length == wanted(frame, frame->length) ? 0 : milliseconds() + REST_SECONDS * 1000L;
-    while (frame->length < wanted(frame, frame->length)) {
-        if (wanted(frame, frame->length) > frame->room)
-            return false;
-        ssize_t got =
-            await_rest(fd, frame->bytes + frame->length, frame->room - frame->length, deadline);
-        if (got <= 0)
-            return false;
+    if (call->may_wait && call->may_be_cancelled)
+        return await_cancellable(connection, pieces);
+    return await_bytes(connection->fd, pieces, call->may_wait && ends_by_signals);
+}
+
+/* Reads a reply. Returns what recv returned last: if that is above 0, no more is to come. */
+static ssize_t read_reply(
+    struct connection *connection, struct frame *frame, const struct call *call)
+{
+    struct iovec pieces[2];
+    long deadline = 0;
+    frame_reply(frame, pieces);
+    frame->length = 0;
+    ssize_t got = await_reply(connection, pieces, call);
+    while (got > 0) {
         frame->length += (size_t)got;
+        skip(pieces, (size_t)got);
+        if (!goes_on(frame, pieces))
+            break;
+        if (deadline == 0)
+            deadline = milliseconds() + REST_SECONDS * 1000L;
+        got = await_rest(connection->fd, pieces, deadline);
     }
-    return frame->length == wanted(frame, frame->length);
+    return got;
 }
 
-static bool write_all(int fd, const struct frame *frame)
+/* Sends a request. Returns how many of its bytes were sent. If not all were, errno says why. */
+static size_t write_request(int fd, struct frame *frame)
 {
+    struct iovec pieces[2];
     size_t sent = 0;
+    frame_request(frame, pieces);
     while (sent < frame->length) {
-        ssize_t count = send(fd, frame->bytes + sent, frame->length - sent, MSG_NOSIGNAL);
+        ssize_t count = send_pieces(fd, pieces);
         if (count < 0 && errno != EINTR)
-            return false;
-        sent += count > 0 ? (size_t)count : 0;
+            break;
+        count = count > 0 ? count : 0;
+        skip(pieces, (size_t)count);
+        sent += (size_t)count;
     }
-    return true;
+    return sent;
+}
+
+/* Ends a call whose request was not sent as a whole. If its text isn't there, the session goes on
+ * unless it has a part of the request. */
+static int unsent(struct connection *connection, const struct call *call, size_t sent)
+{
+    if (errno != EFAULT)
+        return broken(connection, call, "the server closed the connection");
+    if (sent > 0)
+        end_session(connection);
+    return EFAULT;
+}
+
+/* Ends a call whose reply did not come as a whole: `got` is what recv returned last. */
+static int unanswered(
+    struct connection *connection, const struct frame *frame, const struct call *call, ssize_t got)
+{
+    if (got < 0 && (errno == EINTR || errno == EFAULT)) {
+        int error = errno;
+        end_session(connection);
+        return error;
+    }
+    return broken(connection, call,
+        frame->length == 0 ? "the server closed the connection"
+                           : "the server did not complete a reply");
 }
 
 /* Sends a request and reads its reply. */
 static int exchange(struct connection *connection, struct frame *frame, const struct call *call)
 {
-    ssize_t got;
-    if (!write_all(connection->fd, frame))
-        return broken(connection, call, "the server closed the connection");
-    if (call->may_wait && call->may_be_cancelled)
-        got = await_cancellable(connection, frame);
-    else
-        got = await_bytes(connection->fd, frame, call->may_wait && ends_by_signals);
-    if (got < 0 && errno == EINTR) {
-        end_session(connection);
-        return EINTR;
-    }
+    size_t sent = write_request(connection->fd, frame);
+    if (sent < frame->length)
+        return unsent(connection, call, sent);
+    ssize_t got = read_reply(connection, frame, call);
     if (got <= 0)
-        return broken(connection, call, "the server closed the connection");
-    frame->length = (size_t)got;
-    if (!read_rest(connection->fd, frame))
-        return broken(connection, call, "the server did not complete a reply");
+        return unanswered(connection, frame, call, got);
     int error = frame_judge(frame);
     return error >= 0 ? error : broken(connection, call, "a reply of the server is malformed");
 }
@@ -371,9 +432,8 @@ static bool connect_server(int fd)
 
 static int say_hello(struct connection *connection, const struct call *call)
 {
-    unsigned char bytes[SMALL_ROOM];
     struct frame hello;
-    frame_begin(&hello, HELLO, bytes, sizeof bytes);
+    frame_begin(&hello, HELLO);
     frame_put_u32(&hello, connection->user);
     frame_put_u32(&hello, connection->group);
     frame_put_u32(&hello, (uint32_t)call->process);
@@ -382,10 +442,7 @@ static int say_hello(struct connection *connection, const struct call *call)
     if (error != 0)
         return connection->fd < 0 ? error
                                   : broken(connection, call, "the server refused the hello");
-    uint32_t slots = frame_take_u32(&hello);
-    if (slots > SLOTS_MAX)
-        return broken(connection, call, "a reply of the server is malformed");
-    connection->slots = (int)slots;
+    connection->slots = (int)frame_take_u32(&hello);
     return 0;
 }
 
