@@ -23,12 +23,17 @@ enum {
     REST_SECONDS = 10,     /* how long the rest of a reply may take that has begun */
 };
 
+/* Tells whether a descriptor still is the file that it was. */
+struct file {
+    dev_t device;
+    ino_t inode;
+};
+
 /* The connection of a thread or of a single call. */
 struct connection {
     atomic_bool taken;
-    int fd;       /* -1: it is not open */
-    dev_t device; /* these two tell whether the descriptor still is the connection */
-    ino_t inode;
+    int fd; /* -1: it is not open */
+    struct file file;
     uid_t user; /* of the hello */
     gid_t group;
     int slots; /* of the reply to the hello */
@@ -52,6 +57,10 @@ static bool serves;
 static bool keeps; /* connections after a call */
 static bool ends_by_signals;
 static struct sockaddr_un server = {.sun_family = AF_UNIX}; /* without a path if that is too long */
+
+/* Standard error as it was when the library was loaded. */
+static bool has_standard_error;
+static struct file standard_error;
 
 /* Held while a descriptor is opened or closed and `connections` is told. fork waits for it, so that
  * its child finds all its copies there. Signals are blocked meanwhile: a handler may fork. */
@@ -86,13 +95,27 @@ static void release_descriptors(const struct hold *hold)
     pthread_sigmask(SIG_SETMASK, &hold->mask, NULL);
 }
 
+/* Notes which file a descriptor is. Returns whether it is open. */
+static bool note_file(int fd, struct file *file)
+{
+    struct stat found;
+    if (fstat(fd, &found) != 0)
+        return false;
+    *file = (struct file){found.st_dev, found.st_ino};
+    return true;
+}
+
+static bool is_file(int fd, const struct file *file)
+{
+    struct file found;
+    return note_file(fd, &found) && found.device == file->device && found.inode == file->inode;
+}
+
 /* Whether the descriptor still is the connection. The program may have closed it, and its number
  * may be another file. */
 static bool is_open(const struct connection *connection)
 {
-    struct stat found;
-    return connection->fd >= 0 && fstat(connection->fd, &found) == 0
-           && found.st_dev == connection->device && found.st_ino == connection->inode;
+    return connection->fd >= 0 && is_file(connection->fd, &connection->file);
 }
 
 /* Closes the connection. A shutdown ends the session even if another process has a copy of the
@@ -148,6 +171,7 @@ static void begin(void)
         return;
     if (strlen(word) < sizeof server.sun_path)
         strcpy(server.sun_path, word);
+    has_standard_error = note_file(STDERR_FILENO, &standard_error);
     process = getpid();
     keeps = pthread_key_create(&at_thread_end, end_thread) == 0
             && pthread_atfork(before_fork, after_fork, begin_child) == 0;
@@ -177,11 +201,13 @@ static void write_line(const struct iovec *pieces, int count)
 
 static struct iovec piece(const char *text) { return (struct iovec){(void *)text, strlen(text)}; }
 
-/* Reports on standard error why calls fail, once per process. */
+/* Reports on standard error why calls fail, once per process. If the program has put another file
+ * in its place, that may be one of data. */
 static void say_once(const char *why)
 {
     static atomic_flag said = ATOMIC_FLAG_INIT;
-    if (atomic_flag_test_and_set(&said))
+    if (atomic_flag_test_and_set(&said) || !has_standard_error
+        || !is_file(STDERR_FILENO, &standard_error))
         return;
     struct iovec line[] = {piece("libsysvmsg_preload: "),
         piece(*server.sun_path ? server.sun_path : "SYSVMSG_PATH"), piece(": "), piece(why),
@@ -398,17 +424,14 @@ static int move_up(int fd)
 /* Opens the connection's socket, and notes which file it is. */
 static bool open_held(struct connection *connection)
 {
-    struct stat found;
     int fd = socket(AF_UNIX, SOCK_STREAM | SOCK_CLOEXEC, 0);
     if (fd < 0)
         return false;
     fd = move_up(fd);
-    if (fstat(fd, &found) != 0) {
+    if (!note_file(fd, &connection->file)) {
         close(fd);
         return false;
     }
-    connection->device = found.st_dev;
-    connection->inode = found.st_ino;
     connection->fd = fd;
     return true;
 }

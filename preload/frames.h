@@ -21,7 +21,7 @@ enum {
     STAT_FIELDS = 66,
     ROW_FIELDS = 23,
     MODE_MAX = 0777,
-    FRAME_ROOM = REPLY_HEAD + STAT_FIELDS, /* holds every frame but for a message */
+    FRAME_ROOM = REPLY_HEAD + STAT_FIELDS + 1, /* more than each frame but for a message */
 };
 
 struct frame {
