@@ -3,6 +3,7 @@
 
 #include <errno.h>
 #include <fcntl.h>
+#include <linux/capability.h>
 #include <poll.h>
 #include <pthread.h>
 #include <signal.h>
@@ -12,6 +13,7 @@
 #include <sys/resource.h>
 #include <sys/socket.h>
 #include <sys/stat.h>
+#include <sys/syscall.h>
 #include <sys/uio.h>
 #include <sys/un.h>
 #include <time.h>
@@ -36,7 +38,8 @@ struct connection {
     struct file file;
     uid_t user; /* of the hello */
     gid_t group;
-    int slots; /* of the reply to the hello */
+    bool has_fixed_ids; /* these two can't change any more */
+    int slots;          /* of the reply to the hello */
 };
 
 /* How a call was made. */
@@ -488,16 +491,42 @@ static int begin_session(struct connection *connection, const struct call *call)
     return say_hello(connection, call);
 }
 
+/* Whether the thread lacks the capabilities to become any user or group. Only a new program or user
+ * namespace can give it these. */
+static bool is_confined(void)
+{
+    struct __user_cap_header_struct self = {.version = _LINUX_CAPABILITY_VERSION_3};
+    struct __user_cap_data_struct sets[_LINUX_CAPABILITY_U32S_3];
+    return syscall(SYS_capget, &self, sets) == 0
+           && !(sets[0].permitted & (CAP_TO_MASK(CAP_SETUID) | CAP_TO_MASK(CAP_SETGID)));
+}
+
+/* Notes the effective user and group. If the real and the saved ones are the same, there are no
+ * others that a confined thread can change to. */
+static void note_ids(struct connection *connection)
+{
+    uid_t real_user, saved_user;
+    gid_t real_group, saved_group;
+    getresuid(&real_user, &connection->user, &saved_user);
+    getresgid(&real_group, &connection->group, &saved_group);
+    connection->has_fixed_ids = real_user == connection->user && saved_user == connection->user
+                                && real_group == connection->group
+                                && saved_group == connection->group && is_confined();
+}
+
+static bool has_present_ids(const struct connection *connection)
+{
+    return connection->has_fixed_ids
+           || (connection->user == geteuid() && connection->group == getegid());
+}
+
 /* Opens the connection unless it is open and its hello had the present effective user and group. */
 static int make_ready(struct connection *connection, const struct call *call)
 {
-    uid_t user = geteuid();
-    gid_t group = getegid();
-    if (is_open(connection) && connection->user == user && connection->group == group)
+    if (is_open(connection) && has_present_ids(connection))
         return 0;
     end_session(connection);
-    connection->user = user;
-    connection->group = group;
+    note_ids(connection);
     return begin_session(connection, call);
 }
 

@@ -489,7 +489,20 @@ static void changes_user(void)
     expect(seteuid(0) == 0 && syscall(SYS_setresuid, -1, 1000, -1) == 0, "setresuid");
     expect(refused(msgctl(id, IPC_RMID, NULL), EPERM), "the user isn't that of the system call");
     expect(seteuid(0) == 0 && msgctl(id, IPC_RMID, NULL) == 0, "root is root again");
+    expect(setresgid(1001, 1001, 1001) == 0 && setresuid(1000, 1000, 1000) == 0, "setresuid");
+    expect(stat_of(own).msg_perm.cuid == 1000 && msgctl(own, IPC_RMID, NULL) == 0,
+        "it isn't that user's for good");
     expect(count_descriptors(is_socket) == 1, "connections are left");
+}
+
+/* A user who lacks all privileges, but can change between two users and two groups. */
+static void changes_between_users(void)
+{
+    expect(setresgid(2001, 1001, 1001) == 0 && setresuid(2000, 1000, 1000) == 0, "only root can");
+    int one = new_queue();
+    expect(seteuid(2000) == 0 && refused(msgctl(one, IPC_RMID, NULL), EPERM), "seteuid");
+    expect(setegid(2001) == 0 && stat_of(new_queue()).msg_perm.cgid == 2001, "setegid");
+    expect(seteuid(1000) == 0 && msgctl(one, IPC_RMID, NULL) == 0, "it isn't the first user again");
 }
 
 /* The last 16 bytes of a page, and the page after it may not be touched. */
@@ -706,6 +719,7 @@ static const struct {
     {"descriptors", descriptors},
     {"few-descriptors", few_descriptors},
     {"user", changes_user},
+    {"two-users", changes_between_users},
     {"bad-pointers", bad_pointers},
     {"tables", tables},
     {"idle", idle},
