@@ -3,20 +3,18 @@
 
 #include <errno.h>
 #include <string.h>
-#include <sys/syscall.h>
+#include <sys/signalfd.h>
 #include <unistd.h>
 
-enum { NO_OPERATION = -1, SET_BYTES = 8 };
+enum { NO_SUCH_FLAGS = -1 };
 
-/* The system reads a set of signals before it refuses an operation that does not exist. That costs
- * less than a copy, and changes nothing. */
+/* The system reads a set of signals before it refuses flags that do not exist. That costs less than
+ * a copy, and changes nothing. */
 bool is_readable(const void *address)
 {
     int errno_before = errno;
-    if (!address)
-        return false;
     errno = 0;
-    syscall(SYS_rt_sigprocmask, NO_OPERATION, address, NULL, SET_BYTES);
+    signalfd(-1, address, NO_SUCH_FLAGS);
     bool is_there = errno != EFAULT;
     errno = errno_before;
     return is_there;

@@ -127,8 +127,8 @@ EXPORTED ssize_t msgrcv(int id, void *message, size_t size, long type, int flags
     pthread_testcancel();
     if (size > SSIZE_MAX || flags & MSG_COPY)
         return outcome(EINVAL);
-    /* A pointer to nowhere is refused before a message is taken that could not be given. */
-    if (!is_readable(message))
+    /* It is refused before a message is taken that could not be given. */
+    if (!message)
         return outcome(EFAULT);
     size = size < TEXT_MAX ? size : TEXT_MAX;
     frame_begin(&frame, RCV);
