@@ -1,7 +1,7 @@
 /* Makes calls of libsysvmsg_preload.so, which is linked with it, to a server that it plays itself
  * and that replies with anything: right replies with extreme numbers, and replies that are one
  * mistake away from a right one. What a call must return is computed from the bytes of the replies,
- * by the tables of docs/wire.md.
+ * by the tables of docs/wire.md and the limits of docs/preload.md.
  *   hostile SESSIONS SECONDS SEED    ends after so many sessions, or else after so many seconds
  * SYSVMSG_PATH is the socket. It prints how many sessions there were, and ends with status 0 if all
  * was as it should be, and else prints what was not, with status 1. */
@@ -53,7 +53,7 @@ static struct shared {
     bool hangs_up; /* after the hello */
     uint32_t asked;
     unsigned char request[LARGE];
-} * shared;
+} *shared;
 
 static uint64_t state;
 static unsigned long sessions, calls;
