@@ -6,11 +6,7 @@ use Rattle.std.proofs.lemmas.List.{append-nil}
 use Rattle.std.proofs.lemmas.List.Elements.{All-push}
 use Rattle.sysv_model.specs.declared.cred.Cred.{Cred}
 use Rattle.sysv_model.specs.History.{Who, Actor, ReadRow}
-use Rattle.sysv_model.specs.Registry.{RegistryHistory}
 use Rattle.sysv_model.specs.Turn.{Deed, AtSlot, Turn, registry_history}
-use Rattle.sysv_queue.specs.ForGood.{RemovedForGood}
-use Rattle.sysv_keys.specs.LegalReply.{IsLegalHistory as IsLegalRegistryHistory}
-use Rattle.sysv_keys.specs.RegistryLaw.{RegistryLaw}
 use Rattle.sysv_objects.specs.LegalDeed.{IsLegalDeed, AreLegal}
 use Rattle.sysv_steps.specs.Call.{SystemCall}
 use Rattle.sysv_steps.specs.State.{Phase, Wait, State, Goes, Waits}
@@ -53,8 +49,10 @@ made_so calls t (inr by) reads = inr by
 same_held : (w after : World) (given : List Given) → after ≡ w → IsHeld w given → IsHeld after given
 same_held w after given e h = subst (λ (v : World). IsHeld v given) (sym e) h
 
-module _ (sound : StaysSound) (more : (generation blocks : ℕ) (turns : List Turn) (who : Who) (deed : Deed) → AreLegal generation blocks turns → IsLegalDeed generation blocks turns deed → AreLegal generation blocks (turns ++ turn_of who deed ∷ [])) (b : BlockLaws)
-    (for_good : RemovedForGood) (registry_law : (generation : ℕ) (h : RegistryHistory) → IsLegalRegistryHistory generation h → RegistryLaw generation h) where
+module _ (sound : StaysSound)
+    (more : (generation blocks : ℕ) (turns : List Turn) (who : Who) (deed : Deed) → AreLegal generation blocks turns →
+    IsLegalDeed generation blocks turns deed → AreLegal generation blocks (turns ++ turn_of who deed ∷ []))
+    (b : BlockLaws) (laws : Laws) where
   -- ---- a call starts
 
   module _ (w : World) (place : ℕ) (cred : Cred) (asked : SystemCall) (released : ℕ) (there : slice_get w.actors place ≡ Some None) where
@@ -82,7 +80,8 @@ module _ (sound : StaysSound) (more : (generation blocks : ℕ) (turns : List Tu
       kept = record {
         counts = stand_counts w h.inv.sound h.kept.counts place new_call None (begun new_call) there (λ id. not_held id (kind_of asked) (begun new_call) (begun_later cred asked released));
         facts = h.kept.facts;
-        fit = stand_fits for_good registry_law w h.kept place None new_call (begun new_call) there (begun_fits for_good registry_law w.turns cred asked released (is_refused asked));
+        fit = stand_fits laws.for_good laws.registry w h.kept place None new_call (begun new_call) there
+            (begun_fits laws.for_good laws.registry w.turns cred asked released (is_refused asked));
       };
       reads = h.reads;
       owed = owed_idle w.turns w.actors place None new_call (begun new_call) there (begun_none cred asked released) h.owed;
@@ -107,14 +106,16 @@ module _ (sound : StaysSound) (more : (generation blocks : ℕ) (turns : List Tu
     turn_held after one t =
         let s = h.inv.sound in
         let ok : IsSound after = subst IsSound (sym t.6) (turn_sound more b w s place call phase now t.0 t.1 there t.2 t.3 t.4) in
-        let holds = continues_holds for_good registry_law w after one place now call (Goes phase) s h.kept there t in
+        let holds =
+        continues_holds laws.for_good laws.registry w after one place now call (Goes phase) s h.kept there t in
         record {
           inv = turns_keep sound w after given one place call phase now h.inv there t ok;
           tends = turns_tend w after one place now call phase h.tends there t;
           kept = record { counts = continues_counts w after one place now call (Goes phase) s h.kept.counts there t; facts = holds.facts; fit = holds.fit };
           reads = subst (λ (v : World). All ReadsIfNobody v.turns) (sym t.6) (All-push ReadsIfNobody w.turns (turn_of call.who t.0) h.reads (own_turn t.0));
           owed = subst (λ (v : World). Owed v.turns v.actors) (sym t.6)
-              (owed_turn for_good w s (registry_law w.generation (registry_history w.turns) s.legal.registry) h.kept.counts h.kept.facts h.kept.fit h.owed place call phase there now t.0 t.1 t.2 t.3 t.4);
+              (owed_turn laws.for_good w s (laws.registry w.generation (registry_history w.turns) s.legal.registry)
+              h.kept.counts h.kept.facts h.kept.fit h.owed place call phase there now t.0 t.1 t.2 t.3 t.4);
         }
 
   turns_held : (w after : World) (given one : List Given) (actor now : ℕ) → IsHeld w given → TakesItsTurn w actor now one after → IsHeld after (given ++ one)
@@ -144,7 +145,8 @@ module _ (sound : StaysSound) (more : (generation blocks : ℕ) (turns : List Tu
           kept = record {
             counts = stand_counts w s h.kept.counts place call (Some d) on there (λ id. not_held id kind on l);
             facts = h.kept.facts;
-            fit = stand_fits for_good registry_law w h.kept place (Some d) call on there (resumed_fits for_good registry_law w.turns wait value);
+            fit = stand_fits laws.for_good laws.registry w h.kept place (Some d) call on there
+                (resumed_fits laws.for_good laws.registry w.turns wait value);
           };
           reads = h.reads;
           owed = owed_idle w.turns w.actors place (Some d) call on there (resumed_none wait value) h.owed;
@@ -216,10 +218,10 @@ module _ (sound : StaysSound) (more : (generation blocks : ℕ) (turns : List Tu
 
   -- ---- the laws
 
-  pub run_obeys : ((generation blocks : ℕ) → AreLegal generation blocks []) → Laws →
+  pub run_obeys : ((generation blocks : ℕ) → AreLegal generation blocks []) →
       (o : Opening) (list : List Moment) (given : List Given) (w : World) → LeadsOnThreads (opening o) list given w →
       ObeysOnThreads o w given
-  run_obeys none laws o list given w led =
+  run_obeys none o list given w led =
       let first = opening_held o (none o.generation o.blocks) in
       let h : IsHeld w given = leads_held (opening o) w list [] given first led in
       let opened = leads_opened (opening o) w list given led in
