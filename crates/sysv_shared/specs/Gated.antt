@@ -23,11 +23,11 @@ use Rattle.sysv_objects.specs.declared.object.ObjectCall.TheVariants as asked
 use Rattle.sysv_objects.specs.declared.object.ObjectReply.{ObjectReply}
 use Rattle.sysv_objects.specs.declared.object.ObjectReply.TheVariants as told
 use Rattle.sysv_objects.specs.SlotTurns.{slot_asked, SlotMoves}
-use Rattle.sysv_shared.specs.Counts.{slot_counts}
+use Rattle.sysv_shared.specs.Counts.{SlotStands, slot_counts}
 use Rattle.sysv_objects.specs.RegistryTurns.{RegistryMoves}
-use Rattle.sysv_shared.specs.Counts.{registry_counts}
+use Rattle.sysv_shared.specs.Counts.{RegistryStands, registry_counts}
 use Rattle.sysv_objects.specs.PoolTurns.{PoolMoves}
-use Rattle.sysv_shared.specs.Counts.{pool_counts}
+use Rattle.sysv_shared.specs.Counts.{PoolStands, pool_counts}
 use Rattle.sysv_shared.specs.Kinds.{Kind}
 
 -- ---- the kind of an object
@@ -121,6 +121,12 @@ abbrev pub as_pool : Kind Gated ObjectCall ObjectReply State PoolCall PoolReply
 as_pool = record { object = pool_in; call = pool_call_in; reply = pool_reply_in }
 
 -- ---- turns
+
+-- The object stands for some history of its kind.
+abbrev pub Stands : Gated → Type 0
+Stands (gated.Slot slot) = SlotStands slot
+Stands (gated.Registry registry) = RegistryStands registry
+Stands (gated.Pool pool) = PoolStands pool
 
 -- An object accepts the calls of its own kind.
 abbrev pub Accepts : Gated → ObjectCall → Type 0

@@ -7,12 +7,10 @@ mod gates;
 mod kinds;
 mod laws;
 mod making;
+mod object;
 mod opening;
-mod pool;
-mod registry;
 mod seats;
 mod sharing;
-mod slot;
 
 pub use gates::Gates;
 pub use laws::{
@@ -20,7 +18,4 @@ pub use laws::{
 };
 pub use making::AtGates;
 pub use opening::{GatesClosed, OpenRefused};
-pub use pool::GatedPool;
-pub use registry::GatedRegistry;
 pub use seats::Seats;
-pub use slot::GatedSlot;
