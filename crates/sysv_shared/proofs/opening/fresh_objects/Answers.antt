@@ -1,6 +1,5 @@
 use Rattle.std.proofs.Common.{◌+◌, [], sym, subst, arith}
 use Rattle.sysv_queue.specs.StandsFor.{StandsFor}
-use Rattle.sysv_shared.specs.declared.kinds.Gated.TheVariants as gated
 use Rattle.sysv_shared.specs.Fresh.{AreFreshUpTo}
 use Rattle.sysv_shared.specs.Gated.{IsSlot, slot_in}
 use Rattle.sysv_shared.proofs.Beginning.{fresh_snoc}

@@ -2,8 +2,11 @@ use Rattle.std.proofs.Common.{sym, subst}
 use Rattle.sysv_gate.specs.History.{RiseByOneAtMost}
 use Rattle.sysv_shared.specs.Counts.{slot_counts, registry_counts, pool_counts}
 use Rattle.sysv_shared.specs.Gated.{Stands, gated_counts}
-use Rattle.sysv_shared.proofs.Rising.{slot_stands, slot_rises, registry_stands, registry_rises, pool_stands, pool_rises}
-use Rattle.sysv_shared.proofs.object.SharedObjectObject.apply.Goals.{in-Slot+in-Slot-call, in-Registry+in-Registry-call, in-Pool+in-Pool-call}
+use Rattle.sysv_shared.proofs.Rising.{slot_stands, slot_rises}
+use Rattle.sysv_shared.proofs.Rising.{registry_stands, registry_rises}
+use Rattle.sysv_shared.proofs.Rising.{pool_stands, pool_rises}
+use Rattle.sysv_shared.proofs.object.SharedObjectObject.apply.Goals.{in-Slot+in-Slot-call, in-Registry+in-Registry-call}
+use Rattle.sysv_shared.proofs.object.SharedObjectObject.apply.Goals.{in-Pool+in-Pool-call}
 use Rattle.sysv_shared.proofs.object.SharedObjectObject.apply.Goals as goal
 
 pub invariant_of-self : goal.invariant_of-self
@@ -18,8 +21,10 @@ invariant_of-self c =
           let stands = subst Stands w.in-Registry.is c.self.invariant in
           rw w.self-inside-is (registry_stands old new _ _ stands w.make-in-Registry.ensures.turn)
       | in-Pool+in-Pool-call w ↦
+          let old = w.in-Pool.pool in
+          let new = w.make-in-Pool.new.pool in
           let stands = subst Stands w.in-Pool.is c.self.invariant in
-          rw w.self-inside-is (pool_stands w.in-Pool.pool w.make-in-Pool.new.pool _ _ stands w.make-in-Pool.ensures.turn)
+          rw w.self-inside-is (pool_stands old new _ _ stands w.make-in-Pool.ensures.turn)
     ]
 
 pub returns-clause-counts : goal.returns-clause-counts
