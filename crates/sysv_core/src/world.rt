@@ -11,8 +11,8 @@ ghost use Rattle.sysv_queue.specs.Tally.{taken_in};
 ghost use Rattle.sysv_core.specs.Standing.{state_at, StandsNowhere, StandsThere};
 ghost use Rattle.sysv_core.specs.declared.event.Event.TheVariants.{Start, Step};
 
+use crate::actor_steps::{advance, begin, counted};
 use crate::doing::{Doing, Ended, Led};
-use crate::driver::{advance, begin, counted};
 use crate::event::{Answer, Call, Event, Standing, Stepped};
 use crate::giveback::{chain_in, end_all};
 use crate::laws::{each_world_is_sound, every_run_obeys};

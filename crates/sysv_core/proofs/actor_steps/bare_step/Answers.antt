@@ -3,7 +3,7 @@ use Rattle.sysv_objects.specs.StandsFor.{MakesTurn}
 use Rattle.sysv_steps.specs.Seen.{phase_of, state_of}
 use Rattle.sysv_driver.specs.Stepping.{lifts}
 use Rattle.sysv_core.proofs.Holding.{held_get}
-use Rattle.sysv_core.proofs.driver.bare_step.Goals as goal
+use Rattle.sysv_core.proofs.actor_steps.bare_step.Goals as goal
 
 pub returns-in-Stat-clause-steps : goal.returns-in-Stat-clause-steps
 returns-in-Stat-clause-steps c =

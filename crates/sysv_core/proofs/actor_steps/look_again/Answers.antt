@@ -6,7 +6,7 @@ use Rattle.sysv_core.specs.Held.{text_in}
 use Rattle.sysv_core.specs.World.{value_of}
 use Rattle.sysv_core.proofs.Following.{not_over}
 use Rattle.sysv_core.proofs.Holding.{resumed_held}
-use Rattle.sysv_core.proofs.driver.look_again.Goals as goal
+use Rattle.sysv_core.proofs.actor_steps.look_again.Goals as goal
 
 pub invariant_of-result : goal.invariant_of-result
 invariant_of-result c =

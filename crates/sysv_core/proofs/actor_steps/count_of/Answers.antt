@@ -1,7 +1,7 @@
 use Rattle.std.proofs.Common.{rules, w32}
 use Rattle.std.specs.Prelude.{FitsSigned}
 use Rattle.std.proofs.lemmas.Int.{to_z-of_z}
-use Rattle.sysv_core.proofs.driver.count_of.Goals as goal
+use Rattle.sysv_core.proofs.actor_steps.count_of.Goals as goal
 
 pub returns-in-Settled : goal.returns-in-Settled
 returns-in-Settled c = λ text generation turns s. rw c.in-Settled.is (c.settled.ensures generation turns s)
