@@ -27,7 +27,7 @@ use Rattle.sysv_gate.specs.Held.{holding}
 use Rattle.sysv_bank.specs.Passes.{holdings}
 use Rattle.sysv_bank.specs.Resting.{pass_of, Rests}
 use Rattle.sysv_bank.specs.Closing.{ClosesInOrder}
-use Rattle.sysv_bank.proofs.Owning.{goes_without, all_made, ends_there}
+use Rattle.sysv_bank.proofs.OwnTurns.{goes_without, all_made, ends_there}
 use Rattle.sysv_bank.proofs.Passes.{from_view, own_named}
 
 -- Two lists of one length, and the fact at each place.

@@ -34,7 +34,7 @@ use Rattle.sysv_gate.specs.Held.{holding, RestsAt, RestsThere}
 use Rattle.sysv_gate.proofs.Coming.{Told, none_own, parted_view, parted_there, newcomer_view, newcomer_there, joined_one, joined_view, joined_told, joined_there}
 use Rattle.sysv_bank.specs.Passes.{holdings, SplitsOff, JoinsOrders}
 use Rattle.sysv_bank.specs.Resting.{pass_of, Rests, gateways}
-use Rattle.sysv_bank.proofs.Owning.{made_at-longer, none_made, goes_without}
+use Rattle.sysv_bank.proofs.OwnTurns.{made_at-longer, none_made, goes_without}
 use Rattle.sysv_bank.proofs.Passes.{read_at, own_named}
 
 -- ---- the first seat
