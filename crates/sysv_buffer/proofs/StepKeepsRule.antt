@@ -10,7 +10,7 @@ use Rattle.sysv_buffer.specs.declared.view.Role.TheVariants.{Both, Producer, Con
 use Rattle.sysv_buffer.specs.Ring.{Homes, Runs, Going, Kept, start}
 use Rattle.sysv_buffer.specs.Steps.{Mine, holding, seeing, CountsIn, Reaches, Puts, CountsOut, Looks, Takes}
 use Rattle.sysv_lists.proofs.Orders.{at_most}
-use Rattle.sysv_buffer.proofs.Running.{saw, reached, put_in, grabbed, emptied}
+use Rattle.sysv_buffer.proofs.CellsOutAndBack.{saw, reached, put_in, grabbed, emptied}
 
 unlike : (a b : Role) → a ≡ b → a ≡ Consumer → b ≡ Producer → ⊥
 unlike a b same x y = cc

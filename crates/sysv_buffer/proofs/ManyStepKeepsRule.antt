@@ -18,7 +18,7 @@ use Rattle.sysv_lists.specs.Numbers.{times}
 use Rattle.sysv_buffer.specs.ManyRing.{put_at, taken_at, filling, emptying, Seated, Crowded}
 use Rattle.sysv_buffer.specs.ManySteps.{Own, DrawsPut, DrawsTake, CountsPut, CountsTaken, ReachesRoom, ReachesItem, Places, Removes}
 use Rattle.sysv_lists.proofs.Orders.{at_most}
-use Rattle.sysv_buffer.proofs.Running.{reached, put_in, grabbed, emptied}
+use Rattle.sysv_buffer.proofs.CellsOutAndBack.{reached, put_in, grabbed, emptied}
 use Rattle.sysv_lists.proofs.Places.{one_there}
 use Rattle.sysv_lists.proofs.Counting.{times-append, times-one-le, the-one, has, only, none_of}
 use Rattle.sysv_lists.proofs.Sums.{at-le-sum_by, some_part}

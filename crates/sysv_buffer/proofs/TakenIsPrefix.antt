@@ -5,7 +5,7 @@ use mathlib.Core.Option.{some, some-injective}
 use lib.ListN.{get_elem?}
 use Rattle.sysv_buffer.specs.declared.view.View.{View}
 use Rattle.sysv_buffer.specs.Laws.{TakenIsABeginning}
-use Rattle.sysv_buffer.proofs.Stepping.{at_producer, at_consumer}
+use Rattle.sysv_buffer.proofs.StepKeepsRule.{at_producer, at_consumer}
 
 module _ (T : Type 0) where
   pub taken_is_a_beginning : TakenIsABeginning T

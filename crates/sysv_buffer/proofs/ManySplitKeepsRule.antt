@@ -16,7 +16,7 @@ use Rattle.sysv_buffer.specs.declared.many_view.Sight.{Sight}
 use Rattle.sysv_lists.specs.Numbers.{times}
 use Rattle.sysv_buffer.specs.ManyRing.{put_at, taken_at, filling, emptying, Knows, Seated, Crowded, first_sight}
 use Rattle.sysv_buffer.specs.ManySteps.{beside, both_of}
-use Rattle.sysv_buffer.proofs.Opening.{all_cells, empty_cell}
+use Rattle.sysv_buffer.proofs.OpenedMeetsRule.{all_cells, empty_cell}
 use Rattle.sysv_lists.proofs.Places.{each_set}
 use Rattle.sysv_lists.proofs.Counting.{times-append, none_of}
 use Rattle.sysv_lists.proofs.Sums.{sum_by-set_at}

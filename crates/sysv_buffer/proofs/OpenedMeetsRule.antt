@@ -9,7 +9,7 @@ use Rattle.sysv_buffer.specs.declared.view.View.{View}
 use Rattle.sysv_buffer.specs.declared.view.Role.TheVariants.{Both}
 use Rattle.sysv_buffer.specs.Ring.{Kept, start}
 use Rattle.sysv_buffer.specs.Steps.{first_producer, first_consumer}
-use Rattle.sysv_buffer.proofs.Stepping.{which, alone, both_producer, both_consumer}
+use Rattle.sysv_buffer.proofs.StepKeepsRule.{which, alone, both_producer, both_consumer}
 
 pub all_cells : (T : Type 0) (n : ℕ) → length (map some (replicate {A = Option T} n None)) ≡ n
 all_cells T zero = refl
