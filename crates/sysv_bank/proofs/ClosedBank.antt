@@ -16,8 +16,8 @@ use Rattle.sysv_gate.specs.Closings.{IsBack, Closes}
 use Rattle.sysv_gate.specs.Ending.{IsReadAt}
 use Rattle.sysv_gate.specs.History.{made_at}
 use Rattle.sysv_gate.specs.Orders.{turns_at, AreBelow, NoneMadeUnder, AllMadeUnder}
-use Rattle.sysv_gate.proofs.Keeping.{numbers_once}
-use Rattle.sysv_gate.proofs.Sharing.{all_mine}
+use Rattle.sysv_gate.proofs.OneViewKeepsRule.{numbers_once}
+use Rattle.sysv_gate.proofs.TableShares.{all_mine}
 use Rattle.sysv_gate.specs.Shares.{IsWhole}
 use Rattle.sysv_gate.specs.Halls.{view_at, state_at, InOrder}
 use Rattle.sysv_gate.proofs.AtTheEnd as end

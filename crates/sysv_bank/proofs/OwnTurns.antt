@@ -13,8 +13,8 @@ use Rattle.sysv_gate.specs.declared.view.Turn.{Turn}
 use Rattle.sysv_gate.specs.declared.view.Placed.{Placed}
 use Rattle.sysv_gate.specs.History.{made_at}
 use Rattle.sysv_gate.specs.Orders.{turns_at, AreBelow, NoneMadeUnder, AllMadeUnder}
-use Rattle.sysv_gate.proofs.Counting.{another}
-use Rattle.sysv_gate.proofs.Ordering.{turns_append, turns_here, turns_else, below_back}
+use Rattle.sysv_gate.proofs.MarksAndCounts.{another}
+use Rattle.sysv_gate.proofs.OrderByPlace.{turns_append, turns_here, turns_else, below_back}
 
 other_number : (n k : ℕ) → n ≢ k → (n == k) ≡ false
 other_number n k apart = grind (arith, nat_tests)

@@ -23,7 +23,7 @@ use Rattle.sysv_gate.specs.History.{made_at}
 use Rattle.sysv_gate.specs.Orders.{turns_at, AreBelow, NoneMadeUnder}
 use Rattle.sysv_gate.specs.Halls.{view_at, me_at}
 use Rattle.sysv_gate.specs.Doors.{Doorway, IsDoorOf, IsAt, IsSame, Idles, EndsOrder}
-use Rattle.sysv_gate.proofs.Ordering.{turns_append, turns_here, turns_longer, below_front}
+use Rattle.sysv_gate.proofs.OrderByPlace.{turns_append, turns_here, turns_longer, below_front}
 use Rattle.sysv_bank.specs.declared.seat.BankSeat.TheInside.{Inside}
 use Rattle.sysv_bank.specs.declared.bank.Bank.TheInside.{Inside as BankInside}
 use Rattle.sysv_bank.specs.Banks.{ChangesAt, gates_of, EachKnowsItsOwn}

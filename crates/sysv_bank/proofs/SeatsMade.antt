@@ -20,18 +20,18 @@ use Rattle.sysv_gate.specs.Steps as step
 use Rattle.sysv_gate.specs.Steps.{spent, named, merged, Gathers}
 use Rattle.sysv_gate.specs.Gates.{Gateway, Holding, opened, parted, IsSplit, Joins}
 use Rattle.sysv_gate.specs.Orders.{turns_at, AreBelow, NoneMadeUnder}
-use Rattle.sysv_gate.proofs.Ordering.{turns_longer}
+use Rattle.sysv_gate.proofs.OrderByPlace.{turns_longer}
 use Rattle.sysv_gate.proofs.Histories.{made_at-append}
 use Rattle.sysv_gate.specs.Halls.{view_at, Passing, outset}
 use Rattle.sysv_gate.specs.Plays.{halved, both_views, both_of, merged_from, Merges}
 use Rattle.sysv_gate.specs.Doors.{IsNewcomer, KnowsAll}
 use Rattle.std.specs.declared.snapshot.Snapshot.{Snapshot}
 use Rattle.sysv_gate.specs.declared.hall.HallKey.{HallKey}
-use Rattle.sysv_gate.proofs.Passing.{both_length, merged_length}
+use Rattle.sysv_gate.proofs.PassSplitKeepsRule.{both_length, merged_length}
 use Rattle.sysv_bank.specs.declared.seat.BankSeat.TheInside.{Inside}
 use Rattle.sysv_bank.specs.Banks.{Each2, Each3, AreOpened}
 use Rattle.sysv_gate.specs.Held.{holding, RestsAt, RestsThere}
-use Rattle.sysv_gate.proofs.Coming.{Told, none_own, parted_view, parted_there, newcomer_view, newcomer_there, joined_one, joined_view, joined_told, joined_there}
+use Rattle.sysv_gate.proofs.RestingViews.{Told, none_own, parted_view, parted_there, newcomer_view, newcomer_there, joined_one, joined_view, joined_told, joined_there}
 use Rattle.sysv_bank.specs.Passes.{holdings, SplitsOff, JoinsOrders}
 use Rattle.sysv_bank.specs.Resting.{pass_of, Rests, gateways}
 use Rattle.sysv_bank.proofs.OwnTurns.{made_at-longer, none_made, goes_without}

@@ -18,7 +18,7 @@ use Rattle.sysv_gate.specs.Steps.{turn_of, ended}
 use Rattle.sysv_lists.proofs.Places.{set_at, at_below, one_there, each_set, each_before}
 use Rattle.sysv_lists.proofs.Sums.{sum_by-set_at, at-le-sum_by, two-le-sum_by}
 use Rattle.sysv_lists.proofs.Counting.{times-snoc, times-one, the-one, once_between-drop, once_between-le, first_between}
-use Rattle.sysv_gate.proofs.Counting.{not_true, another}
+use Rattle.sysv_gate.proofs.MarksAndCounts.{not_true, another}
 use Rattle.sysv_lists.proofs.Prefixes.{prefix_self, prefix_snoc}
 use Rattle.sysv_gate.proofs.Histories.{after_all-snoc, legal-snoc, made_at-le, made_at-mine, made_at-theirs}
 

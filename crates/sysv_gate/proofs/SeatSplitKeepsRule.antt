@@ -18,12 +18,12 @@ use Rattle.sysv_gate.specs.Steps.{Mine, parted, newcomer, named, both_of, spent,
 use Rattle.sysv_lists.proofs.Places.{at_snoc_place, set_at, at_below, each_set, each_before}
 use Rattle.sysv_lists.proofs.Sums.{sum_by-set_at}
 use Rattle.sysv_lists.proofs.Counting.{times-one, times-append, times-one-le}
-use Rattle.sysv_gate.proofs.Counting.{another}
+use Rattle.sysv_gate.proofs.MarksAndCounts.{another}
 use Rattle.sysv_lists.proofs.Prefixes.{prefix_self}
 use Rattle.sysv_gate.proofs.Histories.{made_at-nobody, made_at-front, made_at-append}
-use Rattle.sysv_gate.proofs.Keeping.{own_turns, stays, still_alone, not_alone}
-use Rattle.sysv_gate.proofs.Announcing.{none_yet, larger_up_to, counts_on, counts_more}
-use Rattle.sysv_gate.proofs.Stepping.{told_on}
+use Rattle.sysv_gate.proofs.OneViewKeepsRule.{own_turns, stays, still_alone, not_alone}
+use Rattle.sysv_gate.proofs.CountsStayAnnounced.{none_yet, larger_up_to, counts_on, counts_more}
+use Rattle.sysv_gate.proofs.StepKeepsRule.{told_on}
 
 module _ {O C R : Type 0} (moves : O → C → R → O → Type 0) (counted : O → ℕ × ℕ) (opening : O) (first : ℕ) where
   abbrev V : Type 0

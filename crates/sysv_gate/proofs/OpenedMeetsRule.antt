@@ -13,7 +13,7 @@ use Rattle.sysv_gate.specs.Rule.{Spot, put, bearers, Fits, IsKept, IsAnnounced, 
 use Rattle.sysv_gate.specs.declared.count.Count.{Count}
 use Rattle.sysv_gate.specs.declared.count.Count.TheVariants.{Arrived, Freed}
 use Rattle.sysv_gate.specs.Counts.{of_count}
-use Rattle.sysv_gate.proofs.Announcing.{none_yet}
+use Rattle.sysv_gate.proofs.CountsStayAnnounced.{none_yet}
 use Rattle.sysv_lists.proofs.Counting.{once_between-same, times-one, times-one-le}
 
 -- An element was appended to an empty list.

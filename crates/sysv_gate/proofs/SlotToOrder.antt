@@ -19,9 +19,9 @@ use Rattle.sysv_gate.specs.Orders.{turns_at, placed}
 use Rattle.sysv_gate.specs.Halls.{view_at, Passing, me_at, Carries}
 use Rattle.sysv_gate.specs.Plays.{StepsAt, turns_told}
 use Rattle.sysv_gate.specs.Doors.{Only, EndsOrder}
-use Rattle.sysv_gate.proofs.Ordering.{turns_append, turns_here}
-use Rattle.sysv_gate.proofs.Touching.{AllowsTo}
-use Rattle.sysv_gate.proofs.Stepping.{ends}
+use Rattle.sysv_gate.proofs.OrderByPlace.{turns_append, turns_here}
+use Rattle.sysv_gate.proofs.OneSlotStep.{AllowsTo}
+use Rattle.sysv_gate.proofs.StepKeepsRule.{ends}
 
 module _ {O C R : Type 0} where
   -- The only slot that the pass holds is that of the place.

@@ -11,7 +11,7 @@ use Rattle.sysv_gate.specs.Plays.{StepsAt}
 use Rattle.sysv_gate.specs.Doors.{Doorway, IsAt, Only, IsSame}
 use Rattle.atomic_table.specs.Seated.{TableId}
 use Rattle.sysv_gate.specs.Turns.{Looked, TurnCame, SawMore}
-use Rattle.sysv_gate.proofs.Turning.{not_held, turn_later, saw_later}
+use Rattle.sysv_gate.proofs.LearnedInCall.{not_held, turn_later, saw_later}
 use Rattle.sysv_gate.specs.Rule.{Spot}
 use Rattle.sysv_gate.specs.declared.view.Sight.{Sight}
 use Rattle.sysv_gate.specs.declared.view.View.{View}

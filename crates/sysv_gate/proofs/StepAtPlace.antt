@@ -21,9 +21,9 @@ use Rattle.sysv_gate.specs.Orders.{turns_at, placed, AreBelow}
 use Rattle.sysv_gate.specs.Halls.{block, view_at, state_at, IsFull, InOrder, Passing, me_at, Carries}
 use Rattle.sysv_gate.specs.Plays.{StepsAt, AtAPlace}
 use Rattle.sysv_gate.proofs.Blocks.{block_read, block_set, block_else}
-use Rattle.sysv_gate.proofs.Ordering.{turns_append, turns_here, turns_else, below_more, below_placed}
-use Rattle.sysv_gate.proofs.Sharing.{still_whole}
-use Rattle.sysv_gate.proofs.Touching.{Touch, leaves, takes, gives, act_at, AllowsTo}
+use Rattle.sysv_gate.proofs.OrderByPlace.{turns_append, turns_here, turns_else, below_more, below_placed}
+use Rattle.sysv_gate.proofs.TableShares.{still_whole}
+use Rattle.sysv_gate.proofs.OneSlotStep.{Touch, leaves, takes, gives, act_at, AllowsTo}
 
 -- The element at an index within the list.
 pub read_there : {A : Type 0} (xs : List A) (i : ℕ) (d a : A) → i < length xs → get_or xs i d ≡ a → get_elem? xs i ≡ some a

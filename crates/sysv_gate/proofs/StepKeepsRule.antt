@@ -22,12 +22,12 @@ use Rattle.sysv_gate.specs.Counts.{word_of, of_count}
 use Rattle.sysv_gate.specs.Steps.{weighed, drew, looked, entered, turn_of, announced_by, read_to, ended, Mine, Weighs, Draws, Turns, Enters, Announces, Reads, Ends}
 use Rattle.sysv_lists.proofs.Places.{set_at, one_there}
 use Rattle.sysv_lists.proofs.Counting.{times-one, times-same, once_between-next}
-use Rattle.sysv_gate.proofs.Counting.{holds_some, marked_by, not_true}
+use Rattle.sysv_gate.proofs.MarksAndCounts.{holds_some, marked_by, not_true}
 use Rattle.sysv_lists.proofs.Prefixes.{prefix_self, prefix_whole}
 use Rattle.sysv_gate.proofs.Histories.{after_all-snoc, grows_on}
-use Rattle.sysv_gate.proofs.Announcing.{put_in, of_other, none_yet, from_48, below_80, same_count, counts_on, counts_stay, set_aside, exactly}
-use Rattle.sysv_gate.proofs.Touching.{Touch, leaves, takes, gives, act_at, AllowsTo}
-use Rattle.sysv_gate.proofs.Keeping.{served_alone, nobody_in_turn, no_ticket_no_turn, own_turns, stays, grows}
+use Rattle.sysv_gate.proofs.CountsStayAnnounced.{put_in, of_other, none_yet, from_48, below_80, same_count, counts_on, counts_stay, set_aside, exactly}
+use Rattle.sysv_gate.proofs.OneSlotStep.{Touch, leaves, takes, gives, act_at, AllowsTo}
+use Rattle.sysv_gate.proofs.OneViewKeepsRule.{served_alone, nobody_in_turn, no_ticket_no_turn, own_turns, stays, grows}
 
 module _ {O C R : Type 0} (moves : O → C → R → O → Type 0) (counted : O → ℕ × ℕ) (opening : O) (first : ℕ) where
   abbrev V : Type 0

@@ -24,9 +24,9 @@ use Rattle.sysv_gate.specs.Halls.{block, view_at, state_at, IsFull, AreTheWhole,
 use Rattle.sysv_gate.specs.Plays.{at_each, halved, newcomer, both_views, both_of, spent, merged_from, Names, Merges}
 use Rattle.sysv_gate.specs.Doors.{IsNewcomer}
 use Rattle.sysv_gate.proofs.Histories.{made_at-front}
-use Rattle.sysv_gate.proofs.Ordering.{turns_longer}
-use Rattle.sysv_gate.proofs.Sharing.{half_none, front_none, still_whole, split_whole, joined_whole}
-use Rattle.sysv_gate.proofs.Seating.{splits, joins, names_here, merges_here}
+use Rattle.sysv_gate.proofs.OrderByPlace.{turns_longer}
+use Rattle.sysv_gate.proofs.TableShares.{half_none, front_none, still_whole, split_whole, joined_whole}
+use Rattle.sysv_gate.proofs.SeatSplitKeepsRule.{splits, joins, names_here, merges_here}
 
 module _ {O C R : Type 0} where
   view_each : (change : View O C R → View O C R) (sight : Sight O C R) (place : ℕ) → place < length sight.views → view_at place (at_each change sight) ≡ change (view_at place sight)

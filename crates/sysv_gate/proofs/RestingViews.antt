@@ -18,8 +18,8 @@ use Rattle.sysv_gate.specs.Orders.{turns_at}
 use Rattle.sysv_gate.specs.Halls.{view_at, Passing, me_at}
 use Rattle.sysv_gate.specs.Plays.{at_each, halved, newcomer, both_views, both_of, Merges}
 use Rattle.sysv_gate.specs.Held.{holding, RestsAt, RestsThere}
-use Rattle.sysv_gate.proofs.Passing.{both_there, both_length, merged_there}
-use Rattle.sysv_gate.proofs.Seating.{still_named}
+use Rattle.sysv_gate.proofs.PassSplitKeepsRule.{both_there, both_length, merged_there}
+use Rattle.sysv_gate.proofs.SeatSplitKeepsRule.{still_named}
 
 -- A seat that has made no turn has no own turn.
 pub none_own : {O C R : Type 0} (n : ℕ) (seen : List (Turn O C R)) → ((k : ℕ) → made_at (n ∷ []) seen k ≡ 0) → HasItsOwn (n ∷ []) [] seen

@@ -22,10 +22,10 @@ use Rattle.sysv_gate.specs.Steps.{Mine, weighed, looked, entered, turn_of, annou
 use Rattle.sysv_gate.specs.Turns.{Looked, TurnCame, SawMore, HasMade, rise, Applied, HasRead, ReadMore, HasWaited, HasWaitedWithin, HasReadBelow}
 use Rattle.atomic_table.specs.Table.{step, rest}
 use Rattle.sysv_lists.proofs.Counting.{times-one}
-use Rattle.sysv_gate.proofs.Counting.{low_mark}
+use Rattle.sysv_gate.proofs.MarksAndCounts.{low_mark}
 use Rattle.sysv_lists.proofs.Prefixes.{prefix_self, prefix_trans}
 use Rattle.sysv_gate.proofs.Histories.{legal-snoc, rises}
-use Rattle.sysv_gate.proofs.Announcing.{put_in, put_twice, put_same}
+use Rattle.sysv_gate.proofs.CountsStayAnnounced.{put_in, put_twice, put_same}
 
 one_held : (n : ℕ) (tickets : List ℕ) → tickets ≡ n ∷ [] → nat_lt 0 (times n tickets) ≡ true
 one_held n tickets is = let e : times n tickets ≡ times n (n ∷ []) = ap (times n) is in grind (arith, nat_tests, times-one n n)

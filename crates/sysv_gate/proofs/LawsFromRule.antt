@@ -9,8 +9,8 @@ use Rattle.sysv_gate.specs.Laws.{OneTurnAtATime, NoTurnOfTwoSeats, OneHistory, M
 use Rattle.sysv_lists.proofs.Sums.{two-le-sum_by}
 use Rattle.sysv_gate.specs.Counts.{word_of, of_count}
 use Rattle.sysv_gate.specs.History.{after_all}
-use Rattle.sysv_gate.proofs.Announcing.{exactly}
-use Rattle.sysv_gate.proofs.Keeping.{served_alone}
+use Rattle.sysv_gate.proofs.CountsStayAnnounced.{exactly}
+use Rattle.sysv_gate.proofs.OneViewKeepsRule.{served_alone}
 
 -- Of two prefixes of one list, one is a prefix of the other.
 pub prefix_either : {A : Type 0} (xs ys xs' ys' : List A) → xs ++ xs' ≡ ys ++ ys' → IsPrefixOf ys xs ⊎ IsPrefixOf xs ys

@@ -14,7 +14,7 @@ use Rattle.sysv_gate.specs.History.{RiseByOneAtMost}
 use Rattle.sysv_gate.specs.Turns.{rise}
 use Rattle.sysv_gate.specs.Counts.{word_of, of_count, with_count, larger}
 use Rattle.sysv_gate.specs.Rule.{IsAnnounced, AreAnnounced}
-use Rattle.sysv_gate.proofs.Counting.{risen_by}
+use Rattle.sysv_gate.proofs.MarksAndCounts.{risen_by}
 use Rattle.sysv_lists.proofs.Places.{each_set}
 use Rattle.sysv_lists.proofs.Sums.{sum_by-set_at, some_part}
 
