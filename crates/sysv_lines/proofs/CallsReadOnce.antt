@@ -15,7 +15,7 @@ use Rattle.sysv_steps.specs.Call.{SystemCall, Msgget, Msgsnd, Msgrcv, MsgctlStat
 use Rattle.sysv_lines.specs.declared.actor.Actor.{Actor}
 use Rattle.sysv_lines.specs.declared.blocks.Blocks.{Blocks}
 use Rattle.sysv_lines.specs.Lines.{IsActor, actor, IsBlocks, of_blocks, SaysText, octal, call_name, SaysArguments, SaysNamed, SaysCall}
-use Rattle.sysv_lines.proofs.Naming.{first_bytes, call_named, named_call, call_unsplit}
+use Rattle.sysv_lines.proofs.CallNames.{first_bytes, call_named, named_call, call_unsplit}
 
 -- ---- actors
 
