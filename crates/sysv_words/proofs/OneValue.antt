@@ -9,8 +9,8 @@ use Rattle.sysv_words.specs.FlagNames.{IsFlagList}
 use Rattle.sysv_words.specs.Octal.{IsOctal}
 use Rattle.sysv_words.specs.Readings.{SaysOnce, IsDecided, IsReading, WordsAreRead}
 use Rattle.sysv_words.specs.Deciding.{Decided, four, at_most_or_not}
-use Rattle.sysv_words.proofs.DecidingWords.{digits_or_not, signed_or_not, number_between_or_not, number_between, numeral_between}
-use Rattle.sysv_words.proofs.DecidingFlags.{flags_or_not}
+use Rattle.sysv_words.proofs.NumeralsOrNot.{digits_or_not, signed_or_not, number_between_or_not, number_between, numeral_between}
+use Rattle.sysv_words.proofs.FlagsOrNot.{flags_or_not}
 use Rattle.sysv_words.proofs.FlagLists.{flag_list_once}
 
 -- ---- numerals

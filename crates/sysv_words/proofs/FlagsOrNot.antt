@@ -6,7 +6,7 @@ use Rattle.sysv_words.specs.Words.{SplitsAt}
 use Rattle.sysv_words.specs.FlagNames.{IsMode, NamesMode, NamesFlag, AddsFlags, IsFlags, One, More}
 use Rattle.sysv_words.proofs.FlagLists.{AddsFlags-split, AddsFlags-last, NamesFlag-once}
 use Rattle.sysv_words.specs.Deciding.{Decided, decided_as, two, either, at_most_or_not, same_or_not, behind_or_not, splits_or_not, splits_shorter}
-use Rattle.sysv_words.proofs.DecidingWords.{digits_or_not}
+use Rattle.sysv_words.proofs.NumeralsOrNot.{digits_or_not}
 
 -- A text is at most three octal digits, or it is not.
 mode_or_not : (digits : List ℕ) → Decided (IsMode digits)
