@@ -17,8 +17,8 @@ use Rattle.sysv_workers.specs.Sources.{GivesAll, Returned}
 use Rattle.sysv_workers.specs.declared.refusals.WorkersFault.{WorkersFault}
 use Rattle.sysv_workers.specs.declared.refusals.WorkersFault.TheVariants.{BadCount, NoMemory, Thread, Worn, Missed}
 use Rattle.sysv_workers.proofs.Feeds.{reads_longer, reads_length, looks_longer}
-use Rattle.sysv_workers.proofs.Crewing.{map_length}
-use Rattle.sysv_workers.proofs.Dealing.{apart, all_dealt, items_fed}
+use Rattle.sysv_workers.proofs.RunningThreads.{map_length}
+use Rattle.sysv_workers.proofs.AllPlacesRead.{apart, all_dealt, items_fed}
 
 pub at_some : {A : Type 0} (P : A → Type 0) (o : Option A) (x : A) → o ≡ Some x → IfSome o P → P x
 at_some P o x is p = subst (λ (r : Option _). IfSome r P) is p
