@@ -106,7 +106,7 @@ impl SlotAsk {
         slot_of_id(id)
     }
 
-    // Makes the turn at this slot. Its counts must be below 2^63 if the turn may raise one.
+    /// Makes the turn at this slot. Its counts must be below 2^63 if the turn may raise one.
     #[inline(always)]
     fn make(self, slot: &mut QueueSlot) -> SlotReply
         requires arrived { MayRaise (SlotCall.Ask self) → slot.old.arrived < 2 ^ 63 }

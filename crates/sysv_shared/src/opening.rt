@@ -92,8 +92,8 @@ impl Gates {
     }
 }
 
-// Makes the objects: a registry without rows, whose slots have this generation, a pool of this
-// number of blocks, and the vacant slots. Returns `None` if memory is refused.
+/// Makes the objects: a registry without rows, whose slots have this generation, a pool of this
+/// number of blocks, and the vacant slots. Returns `None` if memory is refused.
 fn fresh_objects(alloc: Global, blocks: u32, generation: u32) -> Option<Vec<Gated>>
     requires blocks { (least_blocks ≤ blocks) × (blocks ≤ most_blocks) }
     requires generation { generation ≤ GENERATION_LAST }
@@ -122,7 +122,7 @@ fn fresh_objects(alloc: Global, blocks: u32, generation: u32) -> Option<Vec<Gate
     Some(objects)
 }
 
-// Frees the objects.
+/// Frees the objects.
 fn end_all(mut objects: Vec<Gated>) {
     while let Some(object) = objects.pop() {
         end_object(object);
@@ -130,7 +130,7 @@ fn end_all(mut objects: Vec<Gated>) {
     objects.destroy_empty();
 }
 
-// Frees the object.
+/// Frees the object.
 pub(crate) fn end_object(object: Gated) {
     match object {
         Gated::Slot(slot) => {
